@@ -1,0 +1,7 @@
+pub mod Kinds
+pub mod Spelling
+pub mod Faults
+pub mod Datagram
+pub mod Reading
+pub mod View
+pub mod Examples

@@ -1,0 +1,24 @@
+//! Why bytes are no message.
+
+use thiserror::Error;
+
+/// The fault that ends a datagram, with the place at which it shows: a number of bytes from the
+/// datagram's first one. Printed, it is the name and the place, as in `Truncated at 47`.
+///
+/// The faults of one message are judged in this order: fewer than 16 bytes, the Length field, the
+/// Protocol Version, the Message Type, a payload that passes the datagram's end.
+#[derive(Clone, Copy, Debug, PartialEq, Eq, Error)]
+pub enum WireError {
+    /// The datagram ends before the header or the payload does. The place is the datagram's end.
+    #[error("Truncated at {0}")]
+    Truncated(usize),
+    /// The Length field is below 8, the bytes that it counts of the header. Its first byte's place.
+    #[error("LengthTooSmall at {0}")]
+    LengthTooSmall(usize),
+    /// The Protocol Version is not 01. That byte's place.
+    #[error("WrongProtocolVersion at {0}")]
+    WrongProtocolVersion(usize),
+    /// The Message Type is none of the ten. That byte's place.
+    #[error("UnknownMessageType at {0}")]
+    UnknownMessageType(usize),
+}

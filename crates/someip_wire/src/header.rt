@@ -1,0 +1,97 @@
+//! The header of a message (SOME/IP Protocol, "Header").
+ghost use Rattle.std.specs.Prelude.{◌≡◌};
+ghost use Rattle.someip_wire.specs.Kinds.{kind_of};
+
+/// What a message is for (SOME/IP Protocol, "Message Type"). The five with `Tp` have the TP flag,
+/// hex 20: they are segments of such a message.
+#[derive(Clone, Copy, Debug, PartialEq, Eq)]
+pub enum MessageType {
+    /// 00, a call that waits for an answer.
+    Request,
+    /// 01, a call without an answer.
+    RequestNoReturn,
+    /// 02, an event.
+    Notification,
+    /// 80, the answer to a call.
+    Response,
+    /// 81, the answer to a call that failed.
+    Error,
+    /// 20, a segment of a REQUEST.
+    TpRequest,
+    /// 21, a segment of a REQUEST_NO_RETURN.
+    TpRequestNoReturn,
+    /// 22, a segment of a NOTIFICATION.
+    TpNotification,
+    /// A0, a segment of a RESPONSE.
+    TpResponse,
+    /// A1, a segment of an ERROR.
+    TpError,
+}
+
+/// A return code (SOME/IP Protocol, "Return Code"). Codes without a name are kept as numbers.
+#[derive(Clone, Copy, Debug, PartialEq, Eq)]
+pub struct ReturnCode(pub u8);
+
+impl ReturnCode {
+    /// No error.
+    pub const E_OK: ReturnCode = ReturnCode(0x00);
+    /// An error without a name of its own.
+    pub const E_NOT_OK: ReturnCode = ReturnCode(0x01);
+    /// The Service ID is not known.
+    pub const E_UNKNOWN_SERVICE: ReturnCode = ReturnCode(0x02);
+    /// The Method ID is not known.
+    pub const E_UNKNOWN_METHOD: ReturnCode = ReturnCode(0x03);
+    /// The service is not ready.
+    pub const E_NOT_READY: ReturnCode = ReturnCode(0x04);
+    /// The service cannot be reached.
+    pub const E_NOT_REACHABLE: ReturnCode = ReturnCode(0x05);
+    /// No answer came in time.
+    pub const E_TIMEOUT: ReturnCode = ReturnCode(0x06);
+    /// The Protocol Version is not supported.
+    pub const E_WRONG_PROTOCOL_VERSION: ReturnCode = ReturnCode(0x07);
+    /// The Interface Version does not fit.
+    pub const E_WRONG_INTERFACE_VERSION: ReturnCode = ReturnCode(0x08);
+    /// The payload cannot be read.
+    pub const E_MALFORMED_MESSAGE: ReturnCode = ReturnCode(0x09);
+    /// The Message Type does not fit.
+    pub const E_WRONG_MESSAGE_TYPE: ReturnCode = ReturnCode(0x0a);
+}
+
+/// The header of a message. Its Length field follows from the payload, and its Protocol Version is
+/// always 01, so neither is a field here.
+#[derive(Clone, Copy, Debug, PartialEq, Eq)]
+pub struct Header {
+    /// Service ID, the first half of the Message ID.
+    pub service: u16,
+    /// Method ID, the second half of the Message ID. The top bit is set for an event.
+    pub method: u16,
+    /// Client ID, the first half of the Request ID.
+    pub client: u16,
+    /// Session ID, the second half of the Request ID.
+    pub session: u16,
+    /// Interface Version: the service's major version.
+    pub interface: u8,
+    /// Message Type.
+    pub kind: MessageType,
+    /// Return Code.
+    pub code: ReturnCode,
+}
+
+/// The type with this number, if it is one of the ten.
+pub(crate) fn kind_of_byte(byte: u8) -> Option<MessageType>
+    ensures { result ≡ kind_of byte }
+{
+    match byte {
+        0x00 => Some(MessageType::Request),
+        0x01 => Some(MessageType::RequestNoReturn),
+        0x02 => Some(MessageType::Notification),
+        0x80 => Some(MessageType::Response),
+        0x81 => Some(MessageType::Error),
+        0x20 => Some(MessageType::TpRequest),
+        0x21 => Some(MessageType::TpRequestNoReturn),
+        0x22 => Some(MessageType::TpNotification),
+        0xa0 => Some(MessageType::TpResponse),
+        0xa1 => Some(MessageType::TpError),
+        _ => None,
+    }
+}

@@ -1,0 +1,45 @@
+//! Laws of the definitions behind the contracts. Each is the contract of a function that does
+//! nothing: it says what holds of messages and datagrams, whatever code reads them.
+ghost use Rattle.std.specs.Prelude.{◌≡◌, ◌↔◌, ◌++◌, ℕ, List, [], ◌∷◌, Option, Some, None, take};
+ghost use Rattle.someip_wire.specs.declared.error.WireError.{WireError};
+ghost use Rattle.someip_wire.specs.declared.error.WireError.TheVariants.{Truncated, LengthTooSmall};
+ghost use Rattle.someip_wire.specs.Spelling.{MessageValue, IsBytes, Spells, BeginsWith};
+ghost use Rattle.someip_wire.specs.Faults.{fault_at};
+ghost use Rattle.someip_wire.specs.Datagram.{Datagram, items};
+ghost use Rattle.someip_wire.specs.Reading.{items_of};
+ghost use Rattle.someip_wire.specs.Examples.{request, request_bytes, length_seven_bytes, cut_bytes};
+
+/// No spelling of a message is a proper beginning of another: bytes that begin with a message begin
+/// with one message only.
+pub fn no_spelling_begins_another()
+    ensures { (message other : MessageValue) (bytes rest : List ℕ) → Spells message bytes
+        → Spells other (bytes ++ rest) → (rest ≡ []) × (message ≡ other) }
+{}
+
+/// Bytes have a fault exactly where they begin with no message.
+pub fn a_fault_is_where_no_message_begins()
+    ensures { (place : ℕ) (bytes : List ℕ) → IsBytes bytes
+        → (fault_at place bytes ≡ None) ↔ ((message : MessageValue) × (size : ℕ) × BeginsWith message size bytes) }
+{}
+
+/// All bytes are a datagram, in one way, and that way is the one that the plain program reads.
+pub fn each_datagram_is_read_in_one_way()
+    ensures some { (bytes : List ℕ) → IsBytes bytes
+        → (messages : List MessageValue) × (end : Option WireError) × Datagram messages end bytes }
+    ensures one { (bytes : List ℕ) (messages others : List MessageValue) (end other : Option WireError)
+        → Datagram messages end bytes → Datagram others other bytes → (messages ≡ others) × (end ≡ other) }
+    ensures read { (bytes : List ℕ) (messages : List MessageValue) (end : Option WireError)
+        → Datagram messages end bytes → items_of bytes ≡ items messages end }
+{}
+
+/// Examples: a request of 16 bytes, the same with a Length of 7, and the request twice with 15 bytes
+/// of a third one behind.
+pub fn worked_datagrams()
+    ensures request { Spells request request_bytes }
+    ensures no_other { (size : ℕ) → BeginsWith request size request_bytes → size ≡ 16 }
+    ensures length_seven { fault_at 0 length_seven_bytes ≡ Some (LengthTooSmall 4) }
+    ensures length_seven_is_none { (message : MessageValue) (size : ℕ) → BeginsWith message size length_seven_bytes → ⊥ }
+    ensures cut { Datagram (request ∷ request ∷ []) (Some (Truncated 47)) cut_bytes }
+    ensures cut_has_a_fault { Datagram (request ∷ request ∷ []) None cut_bytes → ⊥ }
+    ensures empty { Datagram [] None [] }
+{}

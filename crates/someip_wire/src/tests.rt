@@ -1,0 +1,154 @@
+//! The worked rows of messages and datagrams, and what callers of `Messages` know.
+ghost use Rattle.std.specs.Prelude.{◌≡◌, List, Option, map, IfOk};
+ghost use Rattle.someip_wire.specs.View.{view_item};
+ghost use Rattle.someip_wire.specs.Reading.{items_of};
+
+use crate::{Header, Message, MessageType, Messages, ReturnCode, WireError, laws, read_message};
+use std::alloc::{AllocError, Global};
+use std::test::Fail;
+
+const REQUEST: [u8; 16] = [0x12, 0x34, 0x04, 0x21, 0, 0, 0, 8, 0, 1, 0, 1, 1, 1, 0, 0];
+
+const HEADER: Header = Header {
+    service: 0x1234,
+    method: 0x0421,
+    client: 1,
+    session: 1,
+    interface: 1,
+    kind: MessageType::Request,
+    code: ReturnCode::E_OK,
+};
+
+/// The items of a datagram by a chain, as a caller would collect them.
+fn all_items(
+    alloc: Global,
+    datagram: &[u8],
+) -> Result<Vec<Result<Message<'_>, WireError>>, AllocError>
+    ensures { IfOk result (λ found. map view_item found.items ≡ items_of datagram.now) }
+{
+    Messages::new(datagram).collect(alloc)
+}
+
+/// The request with one byte changed.
+fn changed(at: usize, byte: u8) -> [u8; 16] {
+    let mut bytes = REQUEST;
+    if let Some(place) = bytes.get_mut(at) {
+        *place = byte;
+    }
+    bytes
+}
+
+#[test]
+fn one_message(rt: HostRuntime) {
+    laws::no_spelling_begins_another();
+    laws::a_fault_is_where_no_message_begins();
+    laws::each_datagram_is_read_in_one_way();
+    laws::worked_datagrams();
+    let request = Message {
+        header: HEADER,
+        payload: &[],
+    };
+    assert_eq!(rt; read_message(&REQUEST), Ok((request, 16)));
+    let event = [
+        0x11, 0x11, 0x80, 0x01, 0, 0, 0, 9, 0, 0, 0, 1, 1, 1, 2, 0x0b, 0x2a, 0xff,
+    ];
+    let header = Header {
+        service: 0x1111,
+        method: 0x8001,
+        client: 0,
+        session: 1,
+        interface: 1,
+        kind: MessageType::Notification,
+        code: ReturnCode(0x0b),
+    };
+    let payload = [0x2a].as_slice();
+    assert_eq!(rt; read_message(&event), Ok((Message { header, payload }, 17)));
+}
+
+#[test]
+fn first_fault(rt: HostRuntime) {
+    let rows = [
+        (changed(7, 7), WireError::LengthTooSmall(4)),
+        (changed(12, 0), WireError::WrongProtocolVersion(12)),
+        (changed(12, 2), WireError::WrongProtocolVersion(12)),
+        (changed(14, 3), WireError::UnknownMessageType(14)),
+        (changed(14, 0x23), WireError::UnknownMessageType(14)),
+        (changed(7, 9), WireError::Truncated(16)),
+        (changed(4, 0xff), WireError::Truncated(16)),
+    ];
+    for (bytes, fault) in rows {
+        assert_eq!(rt; read_message(&bytes).err(), Some(fault));
+    }
+    assert_eq!(rt; read_message(&[]).err(), Some(WireError::Truncated(0)));
+    assert_eq!(rt;
+        read_message(&REQUEST[..15]).err(),
+        Some(WireError::Truncated(15))
+    );
+}
+
+#[test]
+fn ten_types(rt: HostRuntime) {
+    let rows = [
+        (0x00, MessageType::Request),
+        (0x01, MessageType::RequestNoReturn),
+        (0x02, MessageType::Notification),
+        (0x80, MessageType::Response),
+        (0x81, MessageType::Error),
+        (0x20, MessageType::TpRequest),
+        (0x21, MessageType::TpRequestNoReturn),
+        (0x22, MessageType::TpNotification),
+        (0xa0, MessageType::TpResponse),
+        (0xa1, MessageType::TpError),
+    ];
+    for (byte, kind) in rows {
+        let bytes = changed(14, byte);
+        let found = read_message(&bytes).map(|(message, _)| message.header.kind);
+        assert_eq!(rt; found, Ok(kind));
+    }
+}
+
+#[test]
+fn datagrams(rt: HostRuntime) -> Result<(), Fail> {
+    let request = Message {
+        header: HEADER,
+        payload: &[],
+    };
+    let alloc = rt.alloc();
+    let none = all_items(alloc, &[])?;
+    assert!(rt; none.is_empty());
+    let twice = [REQUEST, REQUEST].concat(alloc)?;
+    let items = all_items(alloc, &twice)?;
+    assert_eq!(rt; items.as_slice(), [Ok(request), Ok(request)].as_slice());
+    let mut cut = [REQUEST, REQUEST, REQUEST].concat(alloc)?;
+    cut.truncate(47);
+    let items = all_items(alloc, &cut)?;
+    let expected = [Ok(request), Ok(request), Err(WireError::Truncated(47))];
+    assert_eq!(rt; items.as_slice(), expected.as_slice());
+    let short = changed(7, 7);
+    let items = all_items(alloc, &short)?;
+    assert_eq!(rt;
+        items.as_slice(),
+        [Err(WireError::LengthTooSmall(4))].as_slice()
+    );
+    Ok(())
+}
+
+#[test]
+fn codes(rt: HostRuntime) {
+    let rows = [
+        ReturnCode::E_OK,
+        ReturnCode::E_NOT_OK,
+        ReturnCode::E_UNKNOWN_SERVICE,
+        ReturnCode::E_UNKNOWN_METHOD,
+        ReturnCode::E_NOT_READY,
+        ReturnCode::E_NOT_REACHABLE,
+        ReturnCode::E_TIMEOUT,
+        ReturnCode::E_WRONG_PROTOCOL_VERSION,
+        ReturnCode::E_WRONG_INTERFACE_VERSION,
+        ReturnCode::E_MALFORMED_MESSAGE,
+        ReturnCode::E_WRONG_MESSAGE_TYPE,
+    ];
+    for (code, number) in rows.iter().zip([0u8, 1, 2, 3, 4, 5, 6, 7, 8, 9, 10]) {
+        assert_eq!(rt; code.0, number);
+    }
+}
