@@ -1,0 +1,9 @@
+//! The command line program of the SOME/IP stack.
+#![tactic(auto)]
+
+mod output;
+mod parts;
+
+fn main(rt: HostRuntime) -> std::io::Result<()> {
+    println!(rt; "nothing yet")
+}
