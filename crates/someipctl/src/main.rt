@@ -1,6 +1,7 @@
 //! The command line program of the SOME/IP stack.
 #![tactic(auto)]
 
+mod lines;
 mod output;
 mod parts;
 

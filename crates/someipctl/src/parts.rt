@@ -15,8 +15,11 @@ pub enum Part<'p> {
     Text(&'p str),
     /// A number in decimal digits.
     Number(usize),
-    /// Bytes as two lower-case hex digits each: the bytes of a number from the highest on are the
-    /// number in hex.
+    /// An ID of 16 bits as four lower-case hex digits.
+    Id(u16),
+    /// A byte as two lower-case hex digits.
+    Byte(u8),
+    /// Bytes as two lower-case hex digits each.
     Hex(&'p [u8]),
 }
 
@@ -55,6 +58,8 @@ fn put_part<W: Write>(
             let mut digits = itoa::Buffer::new();
             buffer.put(writer, digits.format(number).as_bytes())
         }
+        Part::Id(id) => put_few_in_hex(buffer, writer, &id.to_be_bytes()),
+        Part::Byte(byte) => put_few_in_hex(buffer, writer, &[byte]),
         Part::Hex(bytes) => put_hex(buffer, writer, bytes),
     }
 }
