@@ -1,2 +1,3 @@
 pub mod SendingLemmas
 pub mod HexLemmas
+pub mod ShowLemmas

@@ -1,3 +1,5 @@
 pub mod Sending
 pub mod Parts
 pub mod Lines
+pub mod Outcomes
+pub mod Show

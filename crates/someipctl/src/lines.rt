@@ -27,11 +27,7 @@ pub fn put_item<W: Write>(
 }
 
 /// Prints the line of the k-th datagram where that has no bytes.
-pub fn put_empty<W: Write>(
-    buffer: &mut Buffer,
-    writer: &mut W,
-    k: usize,
-) -> Result<(), CannotWrite>
+pub fn put_empty<W: Write>(buffer: &mut Buffer, writer: &mut W, k: usize) -> Result<(), CannotWrite>
     ensures ok { OnOk result (Sends (W.contents writer.old) buffer.old (W.contents writer.new) buffer.new (empty_line k)) }
     ensures err { OnErr result (Stops (W.contents writer.old) buffer.old (W.contents writer.new) (empty_line k)) }
 {

@@ -2,8 +2,10 @@
 #![tactic(auto)]
 
 mod lines;
+mod outcome;
 mod output;
 mod parts;
+mod show;
 
 fn main(rt: HostRuntime) -> std::io::Result<()> {
     println!(rt; "nothing yet")

@@ -65,11 +65,7 @@ fn put_part<W: Write>(
 }
 
 /// Prints bytes in hex, however many they are.
-fn put_hex<W: Write>(
-    buffer: &mut Buffer,
-    writer: &mut W,
-    bytes: &[u8],
-) -> Result<(), CannotWrite>
+fn put_hex<W: Write>(buffer: &mut Buffer, writer: &mut W, bytes: &[u8]) -> Result<(), CannotWrite>
     ensures ok { OnOk result (Sends (W.contents writer.old) buffer.old (W.contents writer.new) buffer.new (encode_lower bytes.now)) }
     ensures err { OnErr result (Stops (W.contents writer.old) buffer.old (W.contents writer.new) (encode_lower bytes.now)) }
 {

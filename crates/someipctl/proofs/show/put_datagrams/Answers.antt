@@ -1,0 +1,17 @@
+use Rattle.std.proofs.Common.{◌+◌, ap, rules}
+use Rattle.someipctl.specs.Show.{text_from, has_fault}
+use Rattle.someipctl.proofs.SendingLemmas.{OnErr-any, IsSending-more, IsSending-stop}
+use Rattle.someipctl.proofs.ShowLemmas.{next_datagram, any_more}
+use Rattle.someipctl.proofs.show.put_datagrams.Goals as goal
+
+pub returns-in_err-faulty-clause-err : goal.returns-in_err-faulty-clause-err
+returns-in_err-faulty-clause-err g c =
+    let next = next_datagram c.args.datagrams.now c.loop-i.i c.index-datagrams-i.result c.deref.result.now c.loop-i-test.true (search rules) in
+    OnErr-any c.from_residual.result (IsSending-stop _ _ _ _ _ _ _ _ _ c.loop-i.invariant.0 (ap (text_from (c.loop-i.i + 1)) next) c.in_err-faulty.ensures.err)
+
+pub loop-i-preserved : goal.loop-i-preserved
+loop-i-preserved g c =
+    let next = next_datagram c.args.datagrams.now c.loop-i.i c.index-datagrams-i.result c.deref.result.now c.loop-i-test.true (search rules) in (
+      IsSending-more _ _ _ _ _ _ _ _ _ _ c.loop-i.invariant.0 (ap (text_from (c.loop-i.i + 1)) next) c.in_ok-faulty.ensures.ok,
+      rw c.in_ok-faulty.ensures.faulty (any_more has_fault c.loop-i.fault_shown _ _ c.deref.result.now _ next c.loop-i.invariant.1),
+    )

@@ -1,0 +1,23 @@
+-- The text that `show` prints for a capture.
+use Rattle.std.specs.Prelude.{ℕ, ◌+◌, Bool, List, [], ◌∷◌, ◌++◌, is_err}
+use Rattle.std.specs.List.{flat_map, list_any}
+use Rattle.someip_wire.specs.Reading.{items_of}
+use Rattle.someipctl.specs.Lines.{item_line, empty_line}
+
+-- the text of the k-th datagram: a line for each message and for the fault, if there is one
+abbrev pub datagram_text : ℕ → List ℕ → List ℕ
+datagram_text k [] = empty_line k
+datagram_text k (b ∷ bytes) = flat_map (item_line k) (items_of (b ∷ bytes))
+
+-- the texts of these datagrams in order, the first of which is the k-th
+abbrev pub text_from : ℕ → List (List ℕ) → List ℕ
+text_from k [] = []
+text_from k (datagram ∷ others) = datagram_text k datagram ++ text_from (k + 1) others
+
+-- the text of a capture's datagrams, which count from 1
+abbrev pub shown_text : List (List ℕ) → List ℕ
+shown_text datagrams = text_from 1 datagrams
+
+-- a datagram ends in a fault
+abbrev pub has_fault : List ℕ → Bool
+has_fault datagram = list_any is_err (items_of datagram)
