@@ -100,3 +100,15 @@ IsSending-last a b c held waits new rest all s sends =
 
 pub IsSending-last_stop : (a b c : Option (List ℕ)) (held waits rest all : List ℕ) → IsSending a held b waits rest all → Stops b waits c rest → Stops a held c all
 IsSending-last_stop a b c held waits rest all s stops = IsSending-stop a b c held waits rest rest [] all s (sym (append-nil rest)) stops
+
+-- a text of which nothing waits is written whole
+pub Sends-all : (a b : Option (List ℕ)) (held waits text : List ℕ) → Sends a held b waits text → held ≡ [] → waits ≡ [] → Appends a b text
+Sends-all a b held waits text s none_held none =
+    subst (Appends a b) (sym (append-nil s.sent) ∙ ap (λ (t : List ℕ). s.sent ++ t) (sym none) ∙ s.rest ∙ ap (λ (t : List ℕ). t ++ text) none_held) s.wrote
+
+-- a text, and then all that is held
+pub Sends-flush : (a b c : Option (List ℕ)) (held waits new text : List ℕ) → Sends a held b waits text → Sends b waits c new [] → Sends a held c new text
+Sends-flush a b c held waits new text one other = subst (Sends a held c new) (append-nil text) (Sends-trans a b c held waits new text [] one other)
+
+pub Stops-flush : (a b c : Option (List ℕ)) (held waits text : List ℕ) → Sends a held b waits text → Stops b waits c [] → Stops a held c text
+Stops-flush a b c held waits text one other = subst (Stops a held c) (append-nil text) (Stops-after a b c held waits text [] one other)

@@ -1,6 +1,8 @@
 //! The command line program of the SOME/IP stack.
 #![tactic(auto)]
 
+mod capture;
+mod input;
 mod lines;
 mod outcome;
 mod output;

@@ -1,24 +1,96 @@
-//! The command `show`.
-ghost use Rattle.std.specs.Prelude.{◌≡◌, ◌≢◌, OnOk, OnErr, IfOk, IfErr, map};
+//! The command `show`: a capture's datagrams, message by message.
+ghost use Rattle.std.specs.Prelude.{◌≡◌, [], OnOk, OnErr, IfOk, IfErr, map};
 ghost use Rattle.std.specs.List.{list_any, flat_map};
+ghost use Rattle.std.specs.Io.KnownBytes.{Appends};
 ghost use Rattle.someip_wire.specs.Reading.{items_of};
+ghost use Rattle.someipctl.specs.declared.show.ShowError.TheVariants.{CannotWrite, OutOfMemory};
 ghost use Rattle.someipctl.specs.Sending.{Sends, Stops};
 ghost use Rattle.someipctl.specs.Lines.{item_line};
 ghost use Rattle.someipctl.specs.Outcomes.{outcome_of};
 ghost use Rattle.someipctl.specs.Show.{datagram_text, shown_text, has_fault};
+ghost use Rattle.someipctl.specs.Shown.{Shows, Refuses, IfKnownShows, IfKnownRefuses, error_of_capture, error_of_input};
 
+use crate::capture::{CaptureError, read_capture};
+use crate::input::{ReadFault, read_all};
 use crate::lines::{put_empty, put_item};
 use crate::outcome::Outcome;
-use crate::output::{Buffer, CannotWrite};
+use crate::output::{self, Buffer};
 use someip_wire::Messages;
-use std::io::Write;
+use std::alloc::{AllocError, Global};
+use std::io::{Read, Write};
+use thiserror::Error;
+
+/// Why a capture was not shown whole.
+#[derive(Clone, Copy, Debug, PartialEq, Eq, Error)]
+pub enum ShowError {
+    /// The line of this number, counted from 1, is no hex. Nothing was written.
+    #[error("line {0}: bad hex")]
+    BadHex(usize),
+    /// The capture could not be read. Nothing was written.
+    #[error("cannot read")]
+    CannotRead,
+    /// Writing failed, or took nothing. A beginning of the text was written.
+    #[error("cannot write")]
+    CannotWrite,
+    /// Memory ran out. Nothing was written.
+    #[error("out of memory")]
+    OutOfMemory,
+}
+
+/// Reads a capture whole, checks every line, and then writes what it shows: for each datagram its
+/// messages and the fault that ends it, a line each, or one line where it is empty.
+pub fn show<R: Read, W: Write>(
+    alloc: Global,
+    reader: &mut R,
+    writer: &mut W,
+) -> Result<Outcome, ShowError>
+    // The text of all datagrams was written, and the outcome says whether a fault is in it.
+    ensures shown { IfOk result (λ outcome. IfKnownShows (R.remaining reader.old) outcome (W.contents writer.old) (W.contents writer.new)) }
+    // An error names the first bad line, and leaves nothing written, but for one of writing: that
+    // leaves a beginning of the text.
+    ensures refused { IfErr result (λ error. IfKnownRefuses (R.remaining reader.old) error (W.contents writer.old) (W.contents writer.new)) }
+{
+    let text = read_all(alloc, reader)?;
+    show_capture(alloc, &text, writer)
+}
+
+/// Checks every line of a capture, and then writes what it shows, as `show` does.
+pub fn show_capture<W: Write>(
+    alloc: Global,
+    text: &[u8],
+    writer: &mut W,
+) -> Result<Outcome, ShowError>
+    ensures shown { IfOk result (λ outcome. Shows text.now outcome (W.contents writer.old) (W.contents writer.new)) }
+    ensures refused { IfErr result (λ error. Refuses text.now error (W.contents writer.old) (W.contents writer.new)) }
+{
+    let datagrams = read_capture(alloc, text)?;
+    let mut buffer = Buffer::new(alloc)?;
+    let outcome = write_datagrams(&mut buffer, writer, &datagrams)?;
+    Ok(outcome)
+}
+
+/// Writes the text of all datagrams through an empty buffer.
+fn write_datagrams<W: Write>(
+    buffer: &mut Buffer,
+    writer: &mut W,
+    datagrams: &[Vec<u8>],
+) -> Result<Outcome, output::CannotWrite>
+    requires { buffer.old ≡ [] }
+    ensures ok { OnOk result (Appends (W.contents writer.old) (W.contents writer.new) (shown_text (map (λ d. d.items) datagrams.now))) }
+    ensures outcome { IfOk result (λ outcome. outcome ≡ outcome_of (list_any has_fault (map (λ d. d.items) datagrams.now))) }
+    ensures err { OnErr result (Stops (W.contents writer.old) [] (W.contents writer.new) (shown_text (map (λ d. d.items) datagrams.now))) }
+{
+    let outcome = put_datagrams(buffer, writer, datagrams)?;
+    buffer.flush(writer)?;
+    Ok(outcome)
+}
 
 /// Prints the text of all datagrams of a capture, in order.
 fn put_datagrams<W: Write>(
     buffer: &mut Buffer,
     writer: &mut W,
     datagrams: &[Vec<u8>],
-) -> Result<Outcome, CannotWrite>
+) -> Result<Outcome, output::CannotWrite>
     ensures ok { OnOk result (Sends (W.contents writer.old) buffer.old (W.contents writer.new) buffer.new (shown_text (map (λ d. d.items) datagrams.now))) }
     ensures outcome { IfOk result (λ outcome. outcome ≡ outcome_of (list_any has_fault (map (λ d. d.items) datagrams.now))) }
     ensures err { OnErr result (Stops (W.contents writer.old) buffer.old (W.contents writer.new) (shown_text (map (λ d. d.items) datagrams.now))) }
@@ -37,7 +109,7 @@ fn put_datagram<W: Write>(
     writer: &mut W,
     k: usize,
     datagram: &[u8],
-) -> Result<bool, CannotWrite>
+) -> Result<bool, output::CannotWrite>
     ensures ok { OnOk result (Sends (W.contents writer.old) buffer.old (W.contents writer.new) buffer.new (datagram_text k datagram.now)) }
     ensures faulty { IfOk result (λ faulty. faulty ≡ has_fault datagram.now) }
     ensures err { OnErr result (Stops (W.contents writer.old) buffer.old (W.contents writer.new) (datagram_text k datagram.now)) }
@@ -55,7 +127,7 @@ fn put_items<W: Write>(
     writer: &mut W,
     k: usize,
     datagram: &[u8],
-) -> Result<bool, CannotWrite>
+) -> Result<bool, output::CannotWrite>
     ensures ok { OnOk result (Sends (W.contents writer.old) buffer.old (W.contents writer.new) buffer.new (flat_map (item_line k) (items_of datagram.now))) }
     ensures faulty { IfOk result (λ faulty. faulty ≡ has_fault datagram.now) }
     ensures err { OnErr result (Stops (W.contents writer.old) buffer.old (W.contents writer.new) (flat_map (item_line k) (items_of datagram.now))) }
@@ -66,4 +138,42 @@ fn put_items<W: Write>(
         faulty |= item.is_err();
     }
     Ok(faulty)
+}
+
+impl From<CaptureError> for ShowError {
+    ghost from_gives = { λ error e. e ≡ error_of_capture error };
+
+    fn from(error: CaptureError) -> ShowError {
+        match error {
+            CaptureError::BadHex(line) => ShowError::BadHex(line),
+            CaptureError::OutOfMemory => ShowError::OutOfMemory,
+        }
+    }
+}
+
+impl From<ReadFault> for ShowError {
+    ghost from_gives = { λ fault e. e ≡ error_of_input fault };
+
+    fn from(fault: ReadFault) -> ShowError {
+        match fault {
+            ReadFault::CannotRead => ShowError::CannotRead,
+            ReadFault::OutOfMemory => ShowError::OutOfMemory,
+        }
+    }
+}
+
+impl From<output::CannotWrite> for ShowError {
+    ghost from_gives = { λ _ e. e ≡ CannotWrite };
+
+    fn from(_error: output::CannotWrite) -> ShowError {
+        ShowError::CannotWrite
+    }
+}
+
+impl From<AllocError> for ShowError {
+    ghost from_gives = { λ _ e. e ≡ OutOfMemory };
+
+    fn from(_error: AllocError) -> ShowError {
+        ShowError::OutOfMemory
+    }
 }

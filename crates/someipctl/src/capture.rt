@@ -1,0 +1,135 @@
+//! Captures: one datagram a line, in hex.
+ghost use Rattle.std.specs.Prelude.{◌≡◌, ◌==◌, [], ◌∷◌, codes, true, None, Some, ℕ, List, map, IfErr, IfOk, IsOk, OnOk};
+ghost use Rattle.std.specs.List.{list_all};
+ghost use Rattle.std.specs.Option.{option_map};
+ghost use Rattle.std.specs.Result.{result_ok};
+ghost use Rattle.hex.specs.Hex.{decode_of, encode_lower, IsBytes};
+ghost use Rattle.someipctl.specs.declared.capture.CaptureError.TheVariants.{OutOfMemory};
+ghost use Rattle.someipctl.specs.Capture.{bytes_of, datagrams_of, first_bad, is_bad, is_skipped, without_blanks, Refuses};
+
+use hex::FromHexError;
+use std::alloc::{AllocError, AllocFailed, Global};
+use thiserror::Error;
+
+#[cfg(test)]
+mod tests;
+
+/// Why a capture was refused.
+#[derive(Clone, Copy, Debug, PartialEq, Eq, Error)]
+pub enum CaptureError {
+    /// The line of this number, counted from 1, says no bytes.
+    #[error("line {0}: bad hex")]
+    BadHex(usize),
+    /// The allocator gave no memory.
+    #[error("out of memory")]
+    OutOfMemory,
+}
+
+impl From<AllocError> for CaptureError {
+    ghost from_gives = { λ _ e. e ≡ OutOfMemory };
+
+    fn from(_e: AllocError) -> CaptureError {
+        CaptureError::OutOfMemory
+    }
+}
+
+impl<T: Drop> From<AllocFailed<T>> for CaptureError {
+    ghost from_gives = { λ _ e. e ≡ OutOfMemory };
+
+    fn from(_e: AllocFailed<T>) -> CaptureError {
+        CaptureError::OutOfMemory
+    }
+}
+
+/// Reads a capture: the bytes of one datagram a line, in hex of either case. `-` is the empty
+/// datagram, blanks are ignored, and empty lines and lines that begin with `#` are skipped.
+pub fn read_capture(alloc: Global, text: &[u8]) -> Result<Vec<Vec<u8>>, CaptureError>
+    // The datagrams are what the lines say, in order, and no line is bad.
+    ensures found { IfOk result (λ datagrams.
+        map (λ d. Some d.items) datagrams.items ≡ datagrams_of text.now) }
+    ensures only { OnOk result (first_bad text.now ≡ None) }
+
+    // The error names the first bad line.
+    ensures fault { IfErr result (Refuses text.now) }
+
+    // A text with no line to read needs no memory.
+    ensures idle { datagrams_of text.now ≡ [] → IsOk result }
+{
+    let mut datagrams = Vec::new(alloc);
+    let mut digits = Vec::new(alloc);
+    for (i, line) in text.split(|b| *b == b'\n').enumerate() {
+        if says_nothing(line) {
+            continue;
+        }
+        match datagram_of(alloc, line, &mut digits)? {
+            Some(bytes) => datagrams.push(bytes)?,
+            None => return Err(CaptureError::BadHex(i + 1)),
+        }
+    }
+    Ok(datagrams)
+}
+
+/// What lines say: each datagram's hex says that datagram, and then examples.
+pub fn what_lines_say()
+    ensures spelled { (bytes : List ℕ) → IsBytes bytes → bytes_of (encode_lower bytes) ≡ Some bytes }
+    ensures blanks { bytes_of (codes "12 3 4") ≡ Some (0x12 ∷ 0x34 ∷ []) }
+    ensures cases { bytes_of (codes "aF") ≡ Some (0xaf ∷ []) }
+    ensures dash { bytes_of (codes " - ") ≡ Some [] }
+    ensures odd { is_bad (codes "123") ≡ true }
+    ensures late_comment { is_bad (codes " #") ≡ true }
+    ensures comment { is_skipped (codes "#") ≡ true }
+    ensures blank { is_skipped (codes "  ") ≡ true }
+{}
+
+/// Whether a line is left out: it is blank, or a comment.
+fn says_nothing(line: &[u8]) -> bool
+    ensures { result ≡ is_skipped line.now }
+{
+    line.starts_with(b"#") || is_blank(line)
+}
+
+fn is_blank(line: &[u8]) -> bool
+    ensures { result ≡ list_all (λ b. b == 0x20) line.now }
+{
+    line.iter().all(|b| *b == b' ')
+}
+
+/// The bytes that a line says, if it says any. Most lines have no blank, so each is decoded as it
+/// stands first. `digits` is room for the digits of those that do not decode so.
+fn datagram_of(
+    alloc: Global,
+    line: &[u8],
+    digits: &mut Vec<u8>,
+) -> Result<Option<Vec<u8>>, AllocError>
+    ensures { IfOk result (λ found. option_map (λ bytes. bytes.items) found ≡ bytes_of line.now) }
+{
+    if let Some(bytes) = decoded(alloc, line)? {
+        return Ok(Some(bytes));
+    }
+    copy_digits(line, digits)?;
+    if let [b'-'] = digits.as_slice() {
+        return Ok(Some(Vec::new(alloc)));
+    }
+    decoded(alloc, digits.as_slice())
+}
+
+fn decoded(alloc: Global, digits: &[u8]) -> Result<Option<Vec<u8>>, AllocError>
+    ensures { IfOk result (λ found.
+        option_map (λ bytes. bytes.items) found ≡ result_ok (decode_of digits.now)) }
+{
+    match hex::decode(alloc, digits) {
+        Ok(bytes) => Ok(Some(bytes)),
+        Err(FromHexError::OutOfMemory) => Err(AllocError),
+        Err(_) => Ok(None),
+    }
+}
+
+/// Leaves in `digits` the line without its blanks.
+fn copy_digits(line: &[u8], digits: &mut Vec<u8>) -> Result<(), AllocError>
+    ensures { OnOk result (digits.new.items ≡ without_blanks line.now) }
+{
+    digits.clear();
+    digits.extend_from_slice(line)?;
+    digits.retain(|b| *b != b' ');
+    Ok(())
+}

@@ -1,0 +1,28 @@
+//! Reading an input whole.
+ghost use Rattle.std.specs.Prelude.{◌≡◌, IfOk, IfSome};
+
+use std::alloc::Global;
+use std::io::{ErrorKind, Read};
+
+/// Why an input was not read.
+#[derive(Clone, Copy, Debug, PartialEq, Eq)]
+pub enum ReadFault {
+    /// A read failed.
+    CannotRead,
+    /// There was no memory for what was read.
+    OutOfMemory,
+}
+
+/// All that the reader has left.
+pub fn read_all<R: Read>(alloc: Global, reader: &mut R) -> Result<Vec<u8>, ReadFault>
+    ensures { IfOk result (λ bytes. IfSome (R.remaining reader.old) (λ input. bytes.items ≡ input)) }
+{
+    let mut bytes = Vec::new(alloc);
+    match reader.read_to_end(&mut bytes) {
+        Ok(_) => Ok(bytes),
+        Err(error) => match error.kind() {
+            ErrorKind::OutOfMemory => Err(ReadFault::OutOfMemory),
+            _ => Err(ReadFault::CannotRead),
+        },
+    }
+}
