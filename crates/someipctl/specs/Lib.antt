@@ -1,7 +1,9 @@
 pub mod Capture
+pub mod CommandLine
 pub mod Sending
 pub mod Parts
 pub mod Lines
 pub mod Outcomes
 pub mod Show
 pub mod Shown
+pub mod Failures

@@ -1,4 +1,11 @@
 //! Captures: one datagram a line, in hex.
+//!
+//! ```text
+//! # a comment, two datagrams of two bytes, and an empty one
+//! 12ff
+//! 12 f F
+//! -
+//! ```
 ghost use Rattle.std.specs.Prelude.{◌≡◌, ◌==◌, [], ◌∷◌, codes, true, None, Some, ℕ, List, map, IfErr, IfOk, IsOk, OnOk};
 ghost use Rattle.std.specs.List.{list_all};
 ghost use Rattle.std.specs.Option.{option_map};
@@ -10,9 +17,6 @@ ghost use Rattle.someipctl.specs.Capture.{bytes_of, datagrams_of, first_bad, is_
 use hex::FromHexError;
 use std::alloc::{AllocError, AllocFailed, Global};
 use thiserror::Error;
-
-#[cfg(test)]
-mod tests;
 
 /// Why a capture was refused.
 #[derive(Clone, Copy, Debug, PartialEq, Eq, Error)]
@@ -43,6 +47,9 @@ impl<T: Drop> From<AllocFailed<T>> for CaptureError {
 
 /// Reads a capture: the bytes of one datagram a line, in hex of either case. `-` is the empty
 /// datagram, blanks are ignored, and empty lines and lines that begin with `#` are skipped.
+///
+/// Beside the datagrams it holds at most one line's digits at a time, so that a capture of many
+/// lines needs little more than what it says.
 pub fn read_capture(alloc: Global, text: &[u8]) -> Result<Vec<Vec<u8>>, CaptureError>
     // The datagrams are what the lines say, in order, and no line is bad.
     ensures found { IfOk result (λ datagrams.

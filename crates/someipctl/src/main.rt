@@ -1,7 +1,14 @@
-//! The command line program of the SOME/IP stack.
+//! `someipctl`: SOME/IP messages on the command line.
+//!
+//! - `command`: what the words of the command line ask for;
+//! - `capture`, `lines`, `show`: the command `show`;
+//! - `input`, `output`, `parts`: reading an input whole, and printing in parts through a buffer;
+//! - `outcome`, `failure`: the exit statuses and the texts of faults.
 #![tactic(auto)]
 
 mod capture;
+mod command;
+mod failure;
 mod input;
 mod lines;
 mod outcome;
@@ -9,6 +16,109 @@ mod output;
 mod parts;
 mod show;
 
-fn main(rt: HostRuntime) -> std::io::Result<()> {
-    println!(rt; "nothing yet")
+use command::{Command, LineError, command_of};
+use failure::Failure;
+use outcome::Outcome;
+use output::write_text;
+use std::io::ErrorKind;
+use std::process::ExitCode;
+use std::rt::{Env, Files};
+use std::{env, fs, io};
+
+fn main(rt: HostRuntime) -> ExitCode {
+    let words = match words_of(&rt) {
+        Ok(words) => words,
+        Err(failure) => return ExitCode::from(report(&rt, failure)),
+    };
+    match run(&rt, &words) {
+        Ok(outcome) => ExitCode::from(outcome.status()),
+        Err(failure) => ExitCode::from(report(&rt, failure)),
+    }
 }
+
+/// Prints why the program failed, and gives its exit status.
+fn report<R: Eprint>(rt: &R, failure: Failure<'_>) -> u8 {
+    let status = failure.status();
+    // Where standard error can't be written, the status is all that is left to say.
+    let _ = match failure {
+        // The text of a usage fault is whole lines.
+        Failure::Usage(error) => eprint!(rt; "{error}"),
+        other => rt.eprintln(other),
+    };
+    status
+}
+
+/// The words of the command line, the program's name among them.
+fn words_of<R: Env + AllocGlobal>(rt: &R) -> Result<Vec<String>, Failure<'static>> {
+    match env::args(rt) {
+        Ok(words) => words.collect(rt.alloc()).map_err(|_| Failure::OutOfMemory),
+        Err(error) => match error.kind() {
+            ErrorKind::OutOfMemory => Err(Failure::OutOfMemory),
+            _ => Err(Failure::NotText),
+        },
+    }
+}
+
+/// Does what the words ask for.
+fn run<'w, R: Files + Print + AllocGlobal>(
+    rt: &R,
+    words: &'w [String],
+) -> Result<Outcome, Failure<'w>> {
+    match command_of(rt.alloc(), words) {
+        Ok(command) => run_command(rt, command),
+        Err(error) => answer_error(rt, error),
+    }
+}
+
+fn run_command<'w, R: Files + Print + AllocGlobal>(
+    rt: &R,
+    command: Command<'w>,
+) -> Result<Outcome, Failure<'w>> {
+    match command {
+        Command::Show { capture } => show_file(rt, capture),
+    }
+}
+
+/// Prints the help that was asked for; other words without a command are a failure.
+fn answer_error<R: Print + AllocGlobal>(
+    rt: &R,
+    error: LineError,
+) -> Result<Outcome, Failure<'static>> {
+    match error {
+        LineError::Help(help) => print_help(rt, help),
+        LineError::Usage(error) => Err(Failure::Usage(error)),
+        LineError::OutOfMemory => Err(Failure::OutOfMemory),
+    }
+}
+
+fn show_file<'p, R: Files + Print + AllocGlobal>(
+    rt: &R,
+    path: &'p str,
+) -> Result<Outcome, Failure<'p>> {
+    let mut file = match fs::open(rt, path) {
+        Ok(file) => file,
+        Err(error) => match error.kind() {
+            ErrorKind::OutOfMemory => return Err(Failure::OutOfMemory),
+            _ => return Err(Failure::CannotRead(path)),
+        },
+    };
+    show::show(rt.alloc(), &mut file, &mut io::writer(rt)).map_err(|error| Failure::of_show(
+        error, path,
+    ))
+}
+
+fn print_help<R: Print + AllocGlobal>(
+    rt: &R,
+    help: clap::Error,
+) -> Result<Outcome, Failure<'static>> {
+    let Ok(text) = help.to_string(rt.alloc()) else {
+        return Err(Failure::OutOfMemory);
+    };
+    match write_text(&mut io::writer(rt), text.as_bytes()) {
+        Ok(()) => Ok(Outcome::Done),
+        Err(output::CannotWrite) => Err(Failure::CannotWrite),
+    }
+}
+
+#[cfg(test)]
+mod tests;

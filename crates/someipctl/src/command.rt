@@ -1,0 +1,163 @@
+//! What the words of the command line ask for: a command, help, or nothing that there is.
+ghost use Rattle.std.specs.Prelude.{◌≡◌, ◌∷◌, IfErr, IfOk, IsSome, List, OnOk, Some, [], codes};
+ghost use Rattle.std.specs.Prelude.{false, map, option_map, ℕ};
+ghost use Rattle.clap.specs.Words.{app_of, first_value, found_of, shape_of, subcommand_rows_of};
+ghost use Rattle.clap.specs.declared.builder.Command.TheViews.{out-Command};
+ghost use Rattle.someipctl.specs.declared.command.LineError.TheVariants.{OutOfMemory};
+ghost use Rattle.someipctl.specs.CommandLine.{CallsForHelp, IsErrorOf, IsRefused, IsTaken, Refuses};
+ghost use Rattle.someipctl.specs.CommandLine.{cli, is_flag, line, request_in, request_of, requested};
+ghost use Rattle.someipctl.specs.CommandLine.{show, show_of, show_request};
+
+use clap::error::ErrorKind;
+use clap::{Arg, ArgMatches};
+use std::alloc::{AllocError, Global};
+use std::convert::AsStr;
+use thiserror::Error;
+
+/// What the words ask for.
+#[derive(Clone, Copy, Debug, PartialEq, Eq)]
+pub enum Command<'w> {
+    /// Print the messages of the capture at this path.
+    Show { capture: &'w str },
+}
+
+/// Why the words give no command. `Usage` and `Help` print as the whole text for the user, to the
+/// end of its last line.
+#[derive(Debug, Drop, Error)]
+pub enum LineError {
+    /// The words are no call of the program: the fault, and the form of a call.
+    #[error("{0}")]
+    Usage(clap::Error),
+    /// The words ask for help, and this is the help.
+    #[error("{0}")]
+    Help(clap::Error),
+    /// Memory ran out before the words were read.
+    #[error("out of memory")]
+    OutOfMemory,
+}
+
+/// The command that the words give. The first word is the program's own name.
+///
+/// The error is `Help` where they ask for help, as `someipctl help show`, `Usage` where they are no
+/// call of the program, and `OutOfMemory` where memory ran out first.
+pub fn command_of<'w, S: AsStr>(alloc: Global, words: &'w [S]) -> Result<Command<'w>, LineError>
+    // Only words without a fault give a command, and it is the one that they match.
+    ensures taken { OnOk result (IsTaken (map S.text words.entry.now)) }
+    ensures matched { IfOk result (λ command.
+        requested (map S.text words.entry.now) ≡ Some (request_of command)) }
+
+    // Help answers only a call for help, and usage only another fault.
+    ensures refused { IfErr result (Refuses (map S.text words.entry.now)) }
+{
+    let matches = definition(alloc)?.try_get_matches_from(words)?;
+    match matched(&matches) {
+        Some(command) => Ok(command),
+        None => unreachable!(),
+    }
+}
+
+/// Words that have no fault match a command, so a parse that succeeds leaves nothing to refuse.
+pub fn words_without_fault_match()
+    ensures { (words : List (List ℕ)) → IsTaken words → IsSome (requested words) }
+{}
+
+/// After `show`, any one word that is no flag is a capture, and the words have no fault.
+pub fn words_show_any_capture()
+    ensures taken { (program capture : List ℕ) → is_flag capture ≡ false
+        → IsTaken (program ∷ codes "show" ∷ capture ∷ []) }
+    ensures matched { (program capture : List ℕ) → is_flag capture ≡ false
+        → requested (program ∷ codes "show" ∷ capture ∷ []) ≡ Some (show_request capture) }
+{}
+
+/// What some calls of the program come to.
+pub fn calls_by_example()
+    ensures show { requested (line (codes "show" ∷ codes "x" ∷ []))
+        ≡ Some (show_request (codes "x")) }
+
+    // No command, or no capture.
+    ensures bare { IsRefused (line []) ErrorKind.MissingSubcommand }
+    ensures bare_show { IsRefused (line (codes "show" ∷ [])) ErrorKind.MissingRequiredArgument }
+
+    // Four ways to ask for help.
+    ensures help_flag { CallsForHelp (line (codes "--help" ∷ [])) }
+    ensures help { CallsForHelp (line (codes "help" ∷ [])) }
+    ensures show_help_flag { CallsForHelp (line (codes "show" ∷ codes "--help" ∷ [])) }
+    ensures help_show { CallsForHelp (line (codes "help" ∷ codes "show" ∷ [])) }
+{}
+
+impl From<AllocError> for LineError {
+    ghost from_gives = { λ _ error. error ≡ OutOfMemory };
+
+    fn from(_error: AllocError) -> LineError {
+        LineError::OutOfMemory
+    }
+}
+
+impl From<clap::Error> for LineError {
+    ghost from_gives = { IsErrorOf };
+
+    fn from(error: clap::Error) -> LineError {
+        match error.kind() {
+            ErrorKind::OutOfMemory => LineError::OutOfMemory,
+            ErrorKind::DisplayHelp => LineError::Help(error),
+            _ => LineError::Usage(error),
+        }
+    }
+}
+
+const PROGRAM_EXAMPLE: &str = "\
+Example:
+  someipctl show examples/one.txt
+
+The help of a command shows the form of its input, as `someipctl help show` does.";
+
+const SHOW_EXAMPLE: &str = "\
+A capture has one datagram a line, in hex. `-` is the empty datagram, blanks are ignored,
+and lines that begin with # are comments. So the line
+  12340421 00000008 00010001 01010000
+prints
+  1 message 1234.0421 length 8 client 0001 session 0001 interface 01 type REQUEST code 00 payload -";
+
+/// The command line, as `clap` is told of it.
+fn definition<'d>(alloc: Global) -> Result<clap::Command<'d>, AllocError>
+    ensures { IfOk result (λ command. app_of command ≡ cli) }
+{
+    clap::Command::new(alloc, "someipctl")
+        .about("Shows SOME/IP messages")
+        .after_help(PROGRAM_EXAMPLE)
+        .subcommand_required(true)
+        .subcommand(show_definition(alloc)?)
+}
+
+fn show_definition<'d>(alloc: Global) -> Result<clap::Command<'d>, AllocError>
+    ensures shape { IfOk result (λ command. shape_of command ≡ show) }
+    ensures local { IfOk result (λ command. (out-Command command).has_globals ≡ false) }
+{
+    let capture = Arg::new(alloc, "capture")
+        .value_name("CAPTURE")
+        .help("The path of a capture")
+        .required(true);
+    clap::Command::new(alloc, "show")
+        .about("Prints the messages of a capture, one a line")
+        .after_help(SHOW_EXAMPLE)
+        .arg(capture)
+}
+
+/// The command that the matches say.
+fn matched<'w>(matches: &ArgMatches<'w>) -> Option<Command<'w>>
+    ensures { option_map request_of result ≡ request_in (subcommand_rows_of matches.now) }
+{
+    let (name, rest) = matches.subcommand()?;
+    match name {
+        "show" => show_matched(rest),
+        _ => None,
+    }
+}
+
+fn show_matched<'w>(matches: &ArgMatches<'w>) -> Option<Command<'w>>
+    ensures { option_map request_of result
+        ≡ show_of (first_value (found_of matches.now) (codes "capture")) }
+{
+    let capture = matches.get_str("capture")?;
+    Some(Command::Show { capture })
+}

@@ -1,0 +1,56 @@
+//! Why the program did not do its work.
+ghost use Rattle.std.specs.Prelude.{◌≡◌};
+ghost use Rattle.someipctl.specs.Failures.{status_of_failure, failure_of_show};
+
+use crate::show::ShowError;
+use thiserror::Error;
+
+/// Why the program did not do its work. Printed, it is the text for standard error.
+#[derive(Debug, Drop, Error)]
+pub enum Failure<'p> {
+    /// The line of this number of a capture, counted from 1, is no hex.
+    #[error("line {0}: bad hex")]
+    BadHex(usize),
+    /// The words of the command line are no call of the program.
+    #[error("{0}")]
+    Usage(clap::Error),
+    /// A word of the command line is no UTF-8.
+    #[error("error: a word is no UTF-8\n\nUsage: someipctl <COMMAND>")]
+    NotText,
+    /// Memory ran out.
+    #[error("out of memory")]
+    OutOfMemory,
+    /// The file at this path could not be read.
+    #[error("cannot read {0}")]
+    CannotRead(&'p str),
+    /// Standard output could not be written.
+    #[error("cannot write")]
+    CannotWrite,
+}
+
+impl<'p> Failure<'p> {
+    /// The program's exit status: 1 where an input is refused, 2 for usage, 3 for want of memory,
+    /// 4 where reading or writing failed.
+    pub fn status(&self) -> u8
+        ensures { result ≡ status_of_failure self.now }
+    {
+        match self {
+            Failure::BadHex(_) => 1,
+            Failure::Usage(_) | Failure::NotText => 2,
+            Failure::OutOfMemory => 3,
+            Failure::CannotRead(_) | Failure::CannotWrite => 4,
+        }
+    }
+
+    /// Why the capture at a path was not shown.
+    pub fn of_show(error: ShowError, path: &'p str) -> Failure<'p>
+        ensures { result ≡ failure_of_show error path.entry }
+    {
+        match error {
+            ShowError::BadHex(line) => Failure::BadHex(line),
+            ShowError::CannotRead => Failure::CannotRead(path),
+            ShowError::CannotWrite => Failure::CannotWrite,
+            ShowError::OutOfMemory => Failure::OutOfMemory,
+        }
+    }
+}
