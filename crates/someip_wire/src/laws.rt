@@ -2,7 +2,8 @@
 //! nothing: it says what holds of messages and datagrams, whatever code reads them.
 ghost use Rattle.std.specs.Prelude.{◌≡◌, ◌↔◌, ◌++◌, ℕ, List, [], ◌∷◌, Option, Some, None, take};
 ghost use Rattle.someip_wire.specs.declared.error.WireError.{WireError};
-ghost use Rattle.someip_wire.specs.declared.error.WireError.TheVariants.{Truncated, LengthTooSmall};
+ghost use Rattle.someip_wire.specs.declared.error.WireError.TheVariants.{Truncated};
+ghost use Rattle.someip_wire.specs.declared.error.WireError.TheVariants.{LengthTooSmall};
 ghost use Rattle.someip_wire.specs.Spelling.{MessageValue, IsBytes, Spells, BeginsWith};
 ghost use Rattle.someip_wire.specs.Faults.{fault_at};
 ghost use Rattle.someip_wire.specs.Datagram.{Datagram, items};
@@ -19,15 +20,18 @@ pub fn no_spelling_begins_another()
 /// Bytes have a fault exactly where they begin with no message.
 pub fn a_fault_is_where_no_message_begins()
     ensures { (place : ℕ) (bytes : List ℕ) → IsBytes bytes
-        → (fault_at place bytes ≡ None) ↔ ((message : MessageValue) × (size : ℕ) × BeginsWith message size bytes) }
+        → (fault_at place bytes ≡ None)
+        ↔ ((message : MessageValue) × (size : ℕ) × BeginsWith message size bytes) }
 {}
 
 /// All bytes are a datagram, in one way, and that way is the one that the plain program reads.
 pub fn each_datagram_is_read_in_one_way()
     ensures some { (bytes : List ℕ) → IsBytes bytes
         → (messages : List MessageValue) × (end : Option WireError) × Datagram messages end bytes }
-    ensures one { (bytes : List ℕ) (messages others : List MessageValue) (end other : Option WireError)
-        → Datagram messages end bytes → Datagram others other bytes → (messages ≡ others) × (end ≡ other) }
+    ensures one { (bytes : List ℕ) (messages others : List MessageValue)
+        (end other : Option WireError)
+        → Datagram messages end bytes → Datagram others other bytes
+        → (messages ≡ others) × (end ≡ other) }
     ensures read { (bytes : List ℕ) (messages : List MessageValue) (end : Option WireError)
         → Datagram messages end bytes → items_of bytes ≡ items messages end }
 {}
@@ -38,7 +42,8 @@ pub fn worked_datagrams()
     ensures request { Spells request request_bytes }
     ensures no_other { (size : ℕ) → BeginsWith request size request_bytes → size ≡ 16 }
     ensures length_seven { fault_at 0 length_seven_bytes ≡ Some (LengthTooSmall 4) }
-    ensures length_seven_is_none { (message : MessageValue) (size : ℕ) → BeginsWith message size length_seven_bytes → ⊥ }
+    ensures length_seven_is_none { (message : MessageValue) (size : ℕ)
+        → BeginsWith message size length_seven_bytes → ⊥ }
     ensures cut { Datagram (request ∷ request ∷ []) (Some (Truncated 47)) cut_bytes }
     ensures cut_has_a_fault { Datagram (request ∷ request ∷ []) None cut_bytes → ⊥ }
     ensures empty { Datagram [] None [] }

@@ -1,5 +1,6 @@
 //! One message: its header and its payload (SOME/IP Protocol, "Header" and "Payload").
-ghost use Rattle.std.specs.Prelude.{◌≡◌, ◌≤◌, ◌+◌, ◌↔◌, ℕ, length, slice_range, slice_index, drop, OnOk, IfOk, IfErr, IsOkAnd, Some, None};
+ghost use Rattle.std.specs.Prelude.{◌≡◌, ◌≤◌, ◌+◌, ◌↔◌, ℕ, length, slice_range, slice_index, drop};
+ghost use Rattle.std.specs.Prelude.{OnOk, IfOk, IfErr, IsOkAnd, Some, None};
 ghost use Rattle.std.specs.Int.{w16, w32, from_be_bytes};
 ghost use Rattle.someip_wire.specs.declared.error.WireError.{WireError};
 ghost use Rattle.someip_wire.specs.Kinds.{kind_of};
@@ -47,7 +48,8 @@ pub(crate) fn message_at(datagram: &[u8], place: usize) -> Result<(Message<'_>, 
     ensures fault { IfErr result (λ e. fault_at place (drop place datagram.now) ≡ Some e) }
     ensures none { OnOk result (fault_at place (drop place datagram.now) ≡ None) }
     ensures message { IfOk result (λ r. view r.0 ≡ message_in (drop place datagram.now)) }
-    ensures end { IfOk result (λ r. (r.1 ≡ place + (length_field (drop place datagram.now) + 8)) × (r.1 ≤ length datagram.now)) }
+    ensures end { IfOk result (λ r.
+        (r.1 ≡ place + (length_field (drop place datagram.now) + 8)) × (r.1 ≤ length datagram.now)) }
 {
     let rest = &datagram[place..];
     if rest.len() < 16 {

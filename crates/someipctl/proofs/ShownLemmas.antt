@@ -1,10 +1,9 @@
 -- From what was read and written to what `show` promises.
-use Rattle.std.proofs.Common.{◌≡◌, ℕ, List, [], ◌∷◌, ◌++◌, map, Option, Some, Vec, Global, Result, Ok, Err, refl, ap, ◌∙◌}
-use Rattle.someipctl.specs.declared.outcome.Outcome.{Outcome}
+use Rattle.std.proofs.Common.{◌≡◌, ℕ, List, [], ◌∷◌, map, Option, Some, Vec, Global, refl, ap, ◌∙◌}
 use Rattle.someipctl.specs.Capture.{datagrams_of}
-use Rattle.someipctl.specs.Sending.{Sends, Stops}
+use Rattle.someipctl.specs.Sending.{Stops}
 use Rattle.someipctl.specs.Show.{shown_text}
-use Rattle.someipctl.specs.Shown.{Says, Shows, ShowsBeginning}
+use Rattle.someipctl.specs.Shown.{Says, ShowsBeginning}
 use Rattle.someipctl.proofs.ShowLemmas.{bytes_of_each}
 
 map_some : (datagrams : List (Vec ℕ Global)) → map (λ (t : List ℕ). Some t) (bytes_of_each datagrams) ≡ map (λ d. Some d.items) datagrams

@@ -2,6 +2,8 @@
 use Rattle.std.specs.Prelude.{ℕ, ◌+◌, Bool, List, [], ◌∷◌, ◌++◌, is_err}
 use Rattle.std.specs.List.{flat_map, list_any}
 use Rattle.someip_wire.specs.Reading.{items_of}
+use Rattle.someipctl.specs.declared.outcome.Outcome.{Outcome}
+use Rattle.someipctl.specs.Outcomes.{outcome_of}
 use Rattle.someipctl.specs.Lines.{item_line, empty_line}
 
 -- the text of the k-th datagram: a line for each message and for the fault, if there is one
@@ -21,3 +23,7 @@ shown_text datagrams = text_from 1 datagrams
 -- a datagram ends in a fault
 abbrev pub has_fault : List ℕ → Bool
 has_fault datagram = list_any is_err (items_of datagram)
+
+-- the outcome of showing these datagrams: a fault was shown exactly where one of them ends in one
+abbrev pub shown_outcome : List (List ℕ) → Outcome
+shown_outcome datagrams = outcome_of (list_any has_fault datagrams)

@@ -1,6 +1,5 @@
 -- What `show` does with a capture.
 use Rattle.std.specs.Prelude.{ℕ, ◌≡◌, List, ◌++◌, map, Option, Some, IfSome}
-use Rattle.std.specs.List.{list_any}
 use Rattle.std.specs.Io.KnownBytes.{Appends, Keeps}
 use Rattle.someipctl.specs.declared.outcome.Outcome.{Outcome}
 use Rattle.someipctl.specs.declared.capture.CaptureError.{CaptureError}
@@ -10,8 +9,7 @@ use Rattle.someipctl.specs.declared.input.ReadFault.TheVariants as inputs
 use Rattle.someipctl.specs.declared.show.ShowError.{ShowError}
 use Rattle.someipctl.specs.declared.show.ShowError.TheVariants.{BadHex, CannotRead, CannotWrite, OutOfMemory}
 use Rattle.someipctl.specs.Capture.{datagrams_of, first_bad}
-use Rattle.someipctl.specs.Outcomes.{outcome_of}
-use Rattle.someipctl.specs.Show.{shown_text, has_fault}
+use Rattle.someipctl.specs.Show.{shown_text, shown_outcome}
 
 -- the capture says these datagrams, in order: none of its lines is bad
 abbrev pub Says : List ℕ → List (List ℕ) → Type 0
@@ -22,7 +20,7 @@ pub record Shows (capture : List ℕ) (outcome : Outcome) (before after : Option
   pub datagrams : List (List ℕ)
   pub says : Says capture datagrams
   pub wrote : Appends before after (shown_text datagrams)
-  pub tells : outcome ≡ outcome_of (list_any has_fault datagrams)
+  pub tells : outcome ≡ shown_outcome datagrams
 
 -- a beginning of the text of a capture was written
 pub record ShowsBeginning (capture : List ℕ) (before after : Option (List ℕ)) : Type 0 where

@@ -15,7 +15,8 @@ pub enum ReadFault {
 
 /// All that the reader has left.
 pub fn read_all<R: Read>(alloc: Global, reader: &mut R) -> Result<Vec<u8>, ReadFault>
-    ensures { IfOk result (λ bytes. IfSome (R.remaining reader.old) (λ input. bytes.items ≡ input)) }
+    ensures { IfOk result (λ bytes.
+        IfSome (R.remaining reader.old) (λ input. bytes.items ≡ input)) }
 {
     let mut bytes = Vec::new(alloc);
     match reader.read_to_end(&mut bytes) {

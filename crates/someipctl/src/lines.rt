@@ -3,7 +3,8 @@ ghost use Rattle.std.specs.Prelude.{◌≡◌, OnOk, OnErr};
 ghost use Rattle.someip_wire.specs.View.{view, view_item};
 ghost use Rattle.someipctl.specs.Sending.{Sends, Stops};
 ghost use Rattle.someipctl.specs.Parts.{part_text};
-ghost use Rattle.someipctl.specs.Lines.{type_name, payload_text, fault_name, fault_place, message_line, fault_line, item_line, empty_line};
+ghost use Rattle.someipctl.specs.Lines.{type_name, payload_text, fault_name, fault_place};
+ghost use Rattle.someipctl.specs.Lines.{message_line, fault_line, item_line, empty_line};
 
 use crate::output::{Buffer, CannotWrite};
 use crate::parts::{Part, put_parts};
@@ -17,8 +18,10 @@ pub fn put_item<W: Write>(
     k: usize,
     item: &Result<Message<'_>, WireError>,
 ) -> Result<(), CannotWrite>
-    ensures ok { OnOk result (Sends (W.contents writer.old) buffer.old (W.contents writer.new) buffer.new (item_line k (view_item item.now))) }
-    ensures err { OnErr result (Stops (W.contents writer.old) buffer.old (W.contents writer.new) (item_line k (view_item item.now))) }
+    ensures ok { OnOk result (Sends (W.contents writer.old) buffer.old
+        (W.contents writer.new) buffer.new (item_line k (view_item item.now))) }
+    ensures err { OnErr result (Stops (W.contents writer.old) buffer.old
+        (W.contents writer.new) (item_line k (view_item item.now))) }
 {
     match item {
         Ok(message) => put_message(buffer, writer, k, message),
@@ -28,8 +31,10 @@ pub fn put_item<W: Write>(
 
 /// Prints the line of the k-th datagram where that has no bytes.
 pub fn put_empty<W: Write>(buffer: &mut Buffer, writer: &mut W, k: usize) -> Result<(), CannotWrite>
-    ensures ok { OnOk result (Sends (W.contents writer.old) buffer.old (W.contents writer.new) buffer.new (empty_line k)) }
-    ensures err { OnErr result (Stops (W.contents writer.old) buffer.old (W.contents writer.new) (empty_line k)) }
+    ensures ok { OnOk result (Sends (W.contents writer.old) buffer.old
+        (W.contents writer.new) buffer.new (empty_line k)) }
+    ensures err { OnErr result (Stops (W.contents writer.old) buffer.old
+        (W.contents writer.new) (empty_line k)) }
 {
     put_parts(buffer, writer, &[Part::Number(k), Part::Text(" empty\n")])
 }
@@ -40,8 +45,10 @@ fn put_message<W: Write>(
     k: usize,
     message: &Message<'_>,
 ) -> Result<(), CannotWrite>
-    ensures ok { OnOk result (Sends (W.contents writer.old) buffer.old (W.contents writer.new) buffer.new (message_line k (view message.now))) }
-    ensures err { OnErr result (Stops (W.contents writer.old) buffer.old (W.contents writer.new) (message_line k (view message.now))) }
+    ensures ok { OnOk result (Sends (W.contents writer.old) buffer.old
+        (W.contents writer.new) buffer.new (message_line k (view message.now))) }
+    ensures err { OnErr result (Stops (W.contents writer.old) buffer.old
+        (W.contents writer.new) (message_line k (view message.now))) }
 {
     let header = message.header;
     put_parts(
@@ -78,8 +85,10 @@ fn put_fault<W: Write>(
     k: usize,
     fault: WireError,
 ) -> Result<(), CannotWrite>
-    ensures ok { OnOk result (Sends (W.contents writer.old) buffer.old (W.contents writer.new) buffer.new (fault_line k fault)) }
-    ensures err { OnErr result (Stops (W.contents writer.old) buffer.old (W.contents writer.new) (fault_line k fault)) }
+    ensures ok { OnOk result (Sends (W.contents writer.old) buffer.old
+        (W.contents writer.new) buffer.new (fault_line k fault)) }
+    ensures err { OnErr result (Stops (W.contents writer.old) buffer.old
+        (W.contents writer.new) (fault_line k fault)) }
 {
     let (name, place) = name_and_place(fault);
     put_parts(

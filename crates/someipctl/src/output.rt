@@ -1,5 +1,6 @@
 //! Text on its way out: a buffer of fixed size in front of a writer, and the loop over `write`.
-ghost use Rattle.std.specs.Prelude.{◌≡◌, ◌+◌, ◌≤◌, ◌++◌, ℕ, [], length, vec_len, vec_capacity, take, OnOk, OnErr, IfOk};
+ghost use Rattle.std.specs.Prelude.{◌≡◌, ◌+◌, ◌≤◌, ◌++◌, ℕ, [], length, take, OnOk, OnErr, IfOk};
+ghost use Rattle.std.specs.Prelude.{vec_len, vec_capacity};
 ghost use Rattle.std.specs.Io.KnownBytes.{Appends};
 ghost use Rattle.someipctl.specs.Sending.{Sends, Stops};
 
@@ -39,8 +40,10 @@ impl Buffer {
 
     /// Prints bytes as they are. They are held back where there is room for them.
     pub fn put<W: Write>(&mut self, writer: &mut W, bytes: &[u8]) -> Result<(), CannotWrite>
-        ensures ok { OnOk result (Sends (W.contents writer.old) self.old (W.contents writer.new) self.new bytes.now) }
-        ensures err { OnErr result (Stops (W.contents writer.old) self.old (W.contents writer.new) bytes.now) }
+        ensures ok { OnOk result (Sends (W.contents writer.old) self.old
+            (W.contents writer.new) self.new bytes.now) }
+        ensures err { OnErr result (Stops (W.contents writer.old) self.old
+            (W.contents writer.new) bytes.now) }
     {
         if self.held.capacity() - self.held.len() < bytes.len() {
             return self.put_behind(writer, bytes);
@@ -52,8 +55,10 @@ impl Buffer {
     /// Prints bytes after all that is held was written. They are written too where they are longer
     /// than the buffer.
     fn put_behind<W: Write>(&mut self, writer: &mut W, bytes: &[u8]) -> Result<(), CannotWrite>
-        ensures ok { OnOk result (Sends (W.contents writer.old) self.old (W.contents writer.new) self.new bytes.now) }
-        ensures err { OnErr result (Stops (W.contents writer.old) self.old (W.contents writer.new) bytes.now) }
+        ensures ok { OnOk result (Sends (W.contents writer.old) self.old
+            (W.contents writer.new) self.new bytes.now) }
+        ensures err { OnErr result (Stops (W.contents writer.old) self.old
+            (W.contents writer.new) bytes.now) }
     {
         self.flush(writer)?;
         if self.held.capacity() - self.held.len() < bytes.len() {
@@ -65,9 +70,11 @@ impl Buffer {
 
     /// Writes all that is held.
     pub fn flush<W: Write>(&mut self, writer: &mut W) -> Result<(), CannotWrite>
-        ensures ok { OnOk result (Sends (W.contents writer.old) self.old (W.contents writer.new) self.new []) }
+        ensures ok { OnOk result (Sends (W.contents writer.old) self.old
+            (W.contents writer.new) self.new []) }
         ensures empty { OnOk result (self.new ≡ []) }
-        ensures err { OnErr result (Stops (W.contents writer.old) self.old (W.contents writer.new) []) }
+        ensures err { OnErr result (Stops (W.contents writer.old) self.old
+            (W.contents writer.new) []) }
     {
         write_text(writer, &self.held)?;
         self.held.clear();
@@ -89,7 +96,8 @@ fn hold(held: &mut Vec<u8>, bytes: &[u8])
 /// the rest; one that takes nothing or fails ends it.
 pub fn write_text<W: Write>(writer: &mut W, text: &[u8]) -> Result<(), CannotWrite>
     ensures ok { OnOk result (Appends (W.contents writer.old) (W.contents writer.new) text.now) }
-    ensures err { OnErr result ((n : ℕ) × Appends (W.contents writer.old) (W.contents writer.new) (take n text.now)) }
+    ensures err { OnErr result ((n : ℕ)
+        × Appends (W.contents writer.old) (W.contents writer.new) (take n text.now)) }
 {
     let mut done = 0;
     while done < text.len() {

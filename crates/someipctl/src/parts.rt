@@ -35,8 +35,10 @@ pub fn put_parts<W: Write>(
     writer: &mut W,
     parts: &[Part<'_>],
 ) -> Result<(), CannotWrite>
-    ensures ok { OnOk result (Sends (W.contents writer.old) buffer.old (W.contents writer.new) buffer.new (flat_map part_text parts.now)) }
-    ensures err { OnErr result (Stops (W.contents writer.old) buffer.old (W.contents writer.new) (flat_map part_text parts.now)) }
+    ensures ok { OnOk result (Sends (W.contents writer.old) buffer.old
+        (W.contents writer.new) buffer.new (flat_map part_text parts.now)) }
+    ensures err { OnErr result (Stops (W.contents writer.old) buffer.old
+        (W.contents writer.new) (flat_map part_text parts.now)) }
 {
     for part in parts {
         put_part(buffer, writer, *part)?;
@@ -49,8 +51,10 @@ fn put_part<W: Write>(
     writer: &mut W,
     part: Part<'_>,
 ) -> Result<(), CannotWrite>
-    ensures ok { OnOk result (Sends (W.contents writer.old) buffer.old (W.contents writer.new) buffer.new (part_text part.entry)) }
-    ensures err { OnErr result (Stops (W.contents writer.old) buffer.old (W.contents writer.new) (part_text part.entry)) }
+    ensures ok { OnOk result (Sends (W.contents writer.old) buffer.old
+        (W.contents writer.new) buffer.new (part_text part.entry)) }
+    ensures err { OnErr result (Stops (W.contents writer.old) buffer.old
+        (W.contents writer.new) (part_text part.entry)) }
 {
     match part {
         Part::Text(text) => buffer.put(writer, text.as_bytes()),
@@ -66,8 +70,10 @@ fn put_part<W: Write>(
 
 /// Prints bytes in hex, however many they are.
 fn put_hex<W: Write>(buffer: &mut Buffer, writer: &mut W, bytes: &[u8]) -> Result<(), CannotWrite>
-    ensures ok { OnOk result (Sends (W.contents writer.old) buffer.old (W.contents writer.new) buffer.new (encode_lower bytes.now)) }
-    ensures err { OnErr result (Stops (W.contents writer.old) buffer.old (W.contents writer.new) (encode_lower bytes.now)) }
+    ensures ok { OnOk result (Sends (W.contents writer.old) buffer.old
+        (W.contents writer.new) buffer.new (encode_lower bytes.now)) }
+    ensures err { OnErr result (Stops (W.contents writer.old) buffer.old
+        (W.contents writer.new) (encode_lower bytes.now)) }
 {
     let mut rest = bytes;
     while rest.len() > HEX_BYTES {
@@ -84,8 +90,10 @@ fn put_few_in_hex<W: Write>(
     bytes: &[u8],
 ) -> Result<(), CannotWrite>
     requires { length bytes.now ≤ HEX_BYTES }
-    ensures ok { OnOk result (Sends (W.contents writer.old) buffer.old (W.contents writer.new) buffer.new (encode_lower bytes.now)) }
-    ensures err { OnErr result (Stops (W.contents writer.old) buffer.old (W.contents writer.new) (encode_lower bytes.now)) }
+    ensures ok { OnOk result (Sends (W.contents writer.old) buffer.old
+        (W.contents writer.new) buffer.new (encode_lower bytes.now)) }
+    ensures err { OnErr result (Stops (W.contents writer.old) buffer.old
+        (W.contents writer.new) (encode_lower bytes.now)) }
 {
     let mut digits = [0; HEX_DIGITS];
     let text = &mut digits[..2 * bytes.len()];

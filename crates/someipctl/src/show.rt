@@ -1,14 +1,14 @@
 //! The command `show`: a capture's datagrams, message by message.
 ghost use Rattle.std.specs.Prelude.{◌≡◌, [], OnOk, OnErr, IfOk, IfErr, map};
-ghost use Rattle.std.specs.List.{list_any, flat_map};
+ghost use Rattle.std.specs.List.{flat_map};
 ghost use Rattle.std.specs.Io.KnownBytes.{Appends};
 ghost use Rattle.someip_wire.specs.Reading.{items_of};
 ghost use Rattle.someipctl.specs.declared.show.ShowError.TheVariants.{CannotWrite, OutOfMemory};
 ghost use Rattle.someipctl.specs.Sending.{Sends, Stops};
 ghost use Rattle.someipctl.specs.Lines.{item_line};
-ghost use Rattle.someipctl.specs.Outcomes.{outcome_of};
-ghost use Rattle.someipctl.specs.Show.{datagram_text, shown_text, has_fault};
-ghost use Rattle.someipctl.specs.Shown.{Shows, Refuses, IfKnownShows, IfKnownRefuses, error_of_capture, error_of_input};
+ghost use Rattle.someipctl.specs.Show.{datagram_text, shown_text, shown_outcome, has_fault};
+ghost use Rattle.someipctl.specs.Shown.{Shows, Refuses, IfKnownShows, IfKnownRefuses};
+ghost use Rattle.someipctl.specs.Shown.{error_of_capture, error_of_input};
 
 use crate::capture::{CaptureError, read_capture};
 use crate::input::{ReadFault, read_all};
@@ -45,10 +45,12 @@ pub fn show<R: Read, W: Write>(
     writer: &mut W,
 ) -> Result<Outcome, ShowError>
     // The text of all datagrams was written, and the outcome says whether a fault is in it.
-    ensures shown { IfOk result (λ outcome. IfKnownShows (R.remaining reader.old) outcome (W.contents writer.old) (W.contents writer.new)) }
+    ensures shown { IfOk result (λ outcome. IfKnownShows (R.remaining reader.old) outcome
+        (W.contents writer.old) (W.contents writer.new)) }
     // An error names the first bad line, and leaves nothing written, but for one of writing: that
     // leaves a beginning of the text.
-    ensures refused { IfErr result (λ error. IfKnownRefuses (R.remaining reader.old) error (W.contents writer.old) (W.contents writer.new)) }
+    ensures refused { IfErr result (λ error. IfKnownRefuses (R.remaining reader.old) error
+        (W.contents writer.old) (W.contents writer.new)) }
 {
     let text = read_all(alloc, reader)?;
     show_capture(alloc, &text, writer)
@@ -60,8 +62,10 @@ pub fn show_capture<W: Write>(
     text: &[u8],
     writer: &mut W,
 ) -> Result<Outcome, ShowError>
-    ensures shown { IfOk result (λ outcome. Shows text.now outcome (W.contents writer.old) (W.contents writer.new)) }
-    ensures refused { IfErr result (λ error. Refuses text.now error (W.contents writer.old) (W.contents writer.new)) }
+    ensures shown { IfOk result (λ outcome. Shows text.now outcome (W.contents writer.old)
+        (W.contents writer.new)) }
+    ensures refused { IfErr result (λ error. Refuses text.now error (W.contents writer.old)
+        (W.contents writer.new)) }
 {
     let datagrams = read_capture(alloc, text)?;
     let mut buffer = Buffer::new(alloc)?;
@@ -76,9 +80,12 @@ fn write_datagrams<W: Write>(
     datagrams: &[Vec<u8>],
 ) -> Result<Outcome, output::CannotWrite>
     requires { buffer.old ≡ [] }
-    ensures ok { OnOk result (Appends (W.contents writer.old) (W.contents writer.new) (shown_text (map (λ d. d.items) datagrams.now))) }
-    ensures outcome { IfOk result (λ outcome. outcome ≡ outcome_of (list_any has_fault (map (λ d. d.items) datagrams.now))) }
-    ensures err { OnErr result (Stops (W.contents writer.old) [] (W.contents writer.new) (shown_text (map (λ d. d.items) datagrams.now))) }
+    ensures ok { OnOk result (Appends (W.contents writer.old)
+        (W.contents writer.new) (shown_text (map (λ d. d.items) datagrams.now))) }
+    ensures outcome { IfOk result (λ outcome.
+        outcome ≡ shown_outcome (map (λ d. d.items) datagrams.now)) }
+    ensures err { OnErr result (Stops (W.contents writer.old) []
+        (W.contents writer.new) (shown_text (map (λ d. d.items) datagrams.now))) }
 {
     let outcome = put_datagrams(buffer, writer, datagrams)?;
     buffer.flush(writer)?;
@@ -91,9 +98,12 @@ fn put_datagrams<W: Write>(
     writer: &mut W,
     datagrams: &[Vec<u8>],
 ) -> Result<Outcome, output::CannotWrite>
-    ensures ok { OnOk result (Sends (W.contents writer.old) buffer.old (W.contents writer.new) buffer.new (shown_text (map (λ d. d.items) datagrams.now))) }
-    ensures outcome { IfOk result (λ outcome. outcome ≡ outcome_of (list_any has_fault (map (λ d. d.items) datagrams.now))) }
-    ensures err { OnErr result (Stops (W.contents writer.old) buffer.old (W.contents writer.new) (shown_text (map (λ d. d.items) datagrams.now))) }
+    ensures ok { OnOk result (Sends (W.contents writer.old) buffer.old
+        (W.contents writer.new) buffer.new (shown_text (map (λ d. d.items) datagrams.now))) }
+    ensures outcome { IfOk result (λ outcome.
+        outcome ≡ shown_outcome (map (λ d. d.items) datagrams.now)) }
+    ensures err { OnErr result (Stops (W.contents writer.old) buffer.old
+        (W.contents writer.new) (shown_text (map (λ d. d.items) datagrams.now))) }
 {
     let mut fault_shown = false;
     for (i, datagram) in datagrams.iter().enumerate() {
@@ -110,9 +120,11 @@ fn put_datagram<W: Write>(
     k: usize,
     datagram: &[u8],
 ) -> Result<bool, output::CannotWrite>
-    ensures ok { OnOk result (Sends (W.contents writer.old) buffer.old (W.contents writer.new) buffer.new (datagram_text k datagram.now)) }
+    ensures ok { OnOk result (Sends (W.contents writer.old) buffer.old
+        (W.contents writer.new) buffer.new (datagram_text k datagram.now)) }
     ensures faulty { IfOk result (λ faulty. faulty ≡ has_fault datagram.now) }
-    ensures err { OnErr result (Stops (W.contents writer.old) buffer.old (W.contents writer.new) (datagram_text k datagram.now)) }
+    ensures err { OnErr result (Stops (W.contents writer.old) buffer.old
+        (W.contents writer.new) (datagram_text k datagram.now)) }
 {
     if datagram.is_empty() {
         put_empty(buffer, writer, k)?;
@@ -128,9 +140,11 @@ fn put_items<W: Write>(
     k: usize,
     datagram: &[u8],
 ) -> Result<bool, output::CannotWrite>
-    ensures ok { OnOk result (Sends (W.contents writer.old) buffer.old (W.contents writer.new) buffer.new (flat_map (item_line k) (items_of datagram.now))) }
+    ensures ok { OnOk result (Sends (W.contents writer.old) buffer.old
+        (W.contents writer.new) buffer.new (flat_map (item_line k) (items_of datagram.now))) }
     ensures faulty { IfOk result (λ faulty. faulty ≡ has_fault datagram.now) }
-    ensures err { OnErr result (Stops (W.contents writer.old) buffer.old (W.contents writer.new) (flat_map (item_line k) (items_of datagram.now))) }
+    ensures err { OnErr result (Stops (W.contents writer.old) buffer.old
+        (W.contents writer.new) (flat_map (item_line k) (items_of datagram.now))) }
 {
     let mut faulty = false;
     for item in Messages::new(datagram) {

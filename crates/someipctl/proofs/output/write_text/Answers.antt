@@ -1,9 +1,7 @@
-use Rattle.std.proofs.Common.{◌≡◌, ◌+◌, ◌++◌, take, drop, sym, subst, rules}
+use Rattle.std.proofs.Common.{rules}
 use Rattle.std.proofs.lemmas.List.{take_rest}
 use Rattle.std.proofs.Math.Seq.{take-add}
-use Rattle.std.specs.Io.KnownBytes.{Appends}
-use Rattle.std.proofs.KnownBytes.{Appends-trans, Appends-kept}
-use Rattle.someipctl.proofs.SendingLemmas.{Stops-at, Appends-more}
+use Rattle.someipctl.proofs.SendingLemmas.{Appends-more}
 use Rattle.someipctl.proofs.output.write_text.Goals as goal
 
 pub loop-done-preserved : goal.loop-done-preserved

@@ -1,7 +1,4 @@
-use Rattle.std.proofs.Common.{◌≡◌, ◌++◌, ap, ◌∙◌}
 use Rattle.std.proofs.lemmas.Result.{on_ok_weaker, on_err_weaker}
-use Rattle.std.proofs.lemmas.List.{take-append-drop}
-use Rattle.hex.specs.Hex.{encode_lower}
 use Rattle.someipctl.proofs.HexLemmas.{encode_lower-split}
 use Rattle.someipctl.proofs.SendingLemmas.{OnErr-any, IsSending-more, IsSending-stop, IsSending-last, IsSending-last_stop}
 use Rattle.someipctl.proofs.parts.put_hex.Goals as goal

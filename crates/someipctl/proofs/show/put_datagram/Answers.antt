@@ -1,5 +1,4 @@
-use Rattle.std.proofs.Common.{◌≡◌, [], sym, ap, ◌∙◌, rules}
-use Rattle.std.proofs.lemmas.Result.{on_ok_weaker, on_err_weaker}
+use Rattle.std.proofs.Common.{sym, rules}
 use Rattle.someipctl.proofs.SendingLemmas.{OnErr-any}
 use Rattle.someipctl.proofs.ShowLemmas.{datagram_text-empty, datagram_text-some, has_fault-empty}
 use Rattle.someipctl.proofs.show.put_datagram.Goals as goal

@@ -4,7 +4,7 @@ use Rattle.std.specs.List.{flat_map}
 use Rattle.someip_wire.specs.Reading.{items_of}
 use Rattle.someip_wire.specs.View.{view_item}
 use Rattle.someipctl.specs.Lines.{item_line}
-use Rattle.someipctl.proofs.SendingLemmas.{OnErr-any, IsSending-more, IsSending-stop, IsSending-end}
+use Rattle.someipctl.proofs.SendingLemmas.{OnErr-any, IsSending-more, IsSending-stop}
 use Rattle.someipctl.proofs.ShowLemmas.{any_more, is_err-view_item}
 use Rattle.someipctl.proofs.show.put_items.Goals as goal
 

@@ -1,5 +1,4 @@
-use Rattle.std.proofs.Common.{◌≡◌, ap, ◌∙◌, rules, subst, take}
-use Rattle.std.specs.Io.KnownBytes.{Appends}
+use Rattle.std.proofs.Common.{◌≡◌, rules}
 use Rattle.someipctl.proofs.SendingLemmas.{OnErr-any, Stops-flushing}
 use Rattle.someipctl.proofs.output.Buffer.flush.Goals as goal
 

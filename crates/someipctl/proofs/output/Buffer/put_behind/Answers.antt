@@ -1,4 +1,3 @@
-use Rattle.std.proofs.Common.{rules}
 use Rattle.std.proofs.lemmas.Result.{on_ok_weaker, on_err_weaker}
 use Rattle.someipctl.proofs.SendingLemmas.{OnErr-any, Sends-trans, Sends-written, Stops-after, Stops-at, Stops-before}
 use Rattle.someipctl.proofs.output.Buffer.put_behind.Goals as goal
