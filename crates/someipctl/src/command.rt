@@ -123,6 +123,7 @@ fn definition<'d>(alloc: Global) -> Result<clap::Command<'d>, AllocError>
     ensures { IfOk result (λ command. app_of command ≡ cli) }
 {
     clap::Command::new(alloc, "someipctl")
+        .bin_name("someipctl")?
         .about("Shows SOME/IP messages")
         .after_help(PROGRAM_EXAMPLE)
         .subcommand_required(true)

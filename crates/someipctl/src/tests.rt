@@ -334,7 +334,7 @@ fn rows() -> [Row; 22] {
             "usage",
             "requires a subcommand but one was not provided",
         ),
-        (&["someipctl"], "usage", "Usage: someipctl <COMMAND>\n"),
+        (&["/bin/other"], "usage", "Usage: someipctl <COMMAND>\n"),
         (
             &["someipctl", "list"],
             "usage",
