@@ -17,7 +17,7 @@ use Rattle.clap.specs.declared.parser.matches.SubCommand.{SubCommand}
 use Rattle.clap.proofs.WalkLemmas.{first_value-rows}
 use Rattle.clap.proofs.OnLiterals.{clap_on_literals}
 use Rattle.someipctl.specs.CommandLine.{IsTaken, cli, is_flag, request_by, request_in, requested, show_of, show_request}
-use Rattle.someipctl.proofs.WalkLemmas.{EntersNoHelp, enters_subcommand, has_value, is_wanted, wanted_value}
+use Rattle.someipctl.proofs.ClapWalkLemmas.{EntersNoHelp, enters_subcommand, has_value, is_wanted, wanted_value}
 
 pub cli_is_free : is_simple_and_free cli ≡ true
 unfolding clap_on_literals

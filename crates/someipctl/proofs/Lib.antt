@@ -1,7 +1,7 @@
 pub mod CaptureLemmas
 pub mod CommandLineLemmas
-pub mod WalkLemmas
+pub mod ClapWalkLemmas
 pub mod SendingLemmas
 pub mod HexLemmas
-pub mod ShowLemmas
-pub mod ShownLemmas
+pub mod ShownTextLemmas
+pub mod ShowResultLemmas

@@ -4,6 +4,6 @@ pub mod Sending
 pub mod Parts
 pub mod Lines
 pub mod Outcomes
-pub mod Show
-pub mod Shown
+pub mod ShownText
+pub mod ShowResult
 pub mod Failures

@@ -1,14 +1,14 @@
 //! The command `show`: a capture's datagrams, message by message.
-ghost use Rattle.std.specs.Prelude.{◌≡◌, [], OnOk, OnErr, IfOk, IfErr, map};
+ghost use Rattle.std.specs.Prelude.{◌≡◌, ◌≢◌, [], Some, OnOk, OnErr, IfOk, IfErr, map};
 ghost use Rattle.std.specs.List.{flat_map};
 ghost use Rattle.std.specs.Io.KnownBytes.{Appends};
 ghost use Rattle.someip_wire.specs.Reading.{items_of};
 ghost use Rattle.someipctl.specs.declared.show.ShowError.TheVariants.{CannotWrite, OutOfMemory};
 ghost use Rattle.someipctl.specs.Sending.{Sends, Stops};
 ghost use Rattle.someipctl.specs.Lines.{item_line};
-ghost use Rattle.someipctl.specs.Show.{datagram_text, shown_text, shown_outcome, has_fault};
-ghost use Rattle.someipctl.specs.Shown.{Shows, Refuses, IfKnownShows, IfKnownRefuses};
-ghost use Rattle.someipctl.specs.Shown.{error_of_capture, error_of_input};
+ghost use Rattle.someipctl.specs.ShownText.{datagram_text, shown_text, shown_outcome, has_fault};
+ghost use Rattle.someipctl.specs.ShowResult.{Shows, RefusesShow};
+ghost use Rattle.someipctl.specs.ShowResult.{error_of_capture, error_of_input};
 
 use crate::capture::{CaptureError, read_capture};
 use crate::input::{ReadFault, read_all};
@@ -45,11 +45,11 @@ pub fn show<R: Read, W: Write>(
     writer: &mut W,
 ) -> Result<Outcome, ShowError>
     // The text of all datagrams was written, and the outcome says whether a fault is in it.
-    ensures shown { IfOk result (λ outcome. IfKnownShows (R.remaining reader.old) outcome
+    ensures shown { IfOk result (λ outcome. Shows (R.remaining reader.old) outcome
         (W.contents writer.old) (W.contents writer.new)) }
     // An error names the first bad line, and leaves nothing written, but for one of writing: that
     // leaves a beginning of the text.
-    ensures refused { IfErr result (λ error. IfKnownRefuses (R.remaining reader.old) error
+    ensures refused { IfErr result (λ error. RefusesShow (R.remaining reader.old) error
         (W.contents writer.old) (W.contents writer.new)) }
 {
     let text = read_all(alloc, reader)?;
@@ -62,10 +62,12 @@ pub fn show_capture<W: Write>(
     text: &[u8],
     writer: &mut W,
 ) -> Result<Outcome, ShowError>
-    ensures shown { IfOk result (λ outcome. Shows text.now outcome (W.contents writer.old)
-        (W.contents writer.new)) }
-    ensures refused { IfErr result (λ error. Refuses text.now error (W.contents writer.old)
-        (W.contents writer.new)) }
+    ensures shown { IfOk result (λ outcome. Shows (Some text.now) outcome
+        (W.contents writer.old) (W.contents writer.new)) }
+    ensures refused { IfErr result (λ error. RefusesShow (Some text.now) error
+        (W.contents writer.old) (W.contents writer.new)) }
+    // A capture that is there cannot fail to be read.
+    ensures there { result ≢ Err ShowError.CannotRead }
 {
     let datagrams = read_capture(alloc, text)?;
     let mut buffer = Buffer::new(alloc)?;

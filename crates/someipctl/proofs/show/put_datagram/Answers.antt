@@ -1,6 +1,6 @@
 use Rattle.std.proofs.Common.{sym, rules}
 use Rattle.someipctl.proofs.SendingLemmas.{OnErr-any}
-use Rattle.someipctl.proofs.ShowLemmas.{datagram_text-empty, datagram_text-some, has_fault-empty}
+use Rattle.someipctl.proofs.ShownTextLemmas.{datagram_text-empty, datagram_text-some, has_fault-empty}
 use Rattle.someipctl.proofs.show.put_datagram.Goals as goal
 
 pub returns-in_err-put_empty-clause-err : goal.returns-in_err-put_empty-clause-err

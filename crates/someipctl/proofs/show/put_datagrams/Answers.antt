@@ -1,7 +1,7 @@
 use Rattle.std.proofs.Common.{◌+◌, ap, rules}
-use Rattle.someipctl.specs.Show.{text_from, has_fault}
+use Rattle.someipctl.specs.ShownText.{text_from, has_fault}
 use Rattle.someipctl.proofs.SendingLemmas.{OnErr-any, IsSending-more, IsSending-stop}
-use Rattle.someipctl.proofs.ShowLemmas.{next_datagram, any_more}
+use Rattle.someipctl.proofs.ShownTextLemmas.{next_datagram, any_more}
 use Rattle.someipctl.proofs.show.put_datagrams.Goals as goal
 
 pub returns-in_err-faulty-clause-err : goal.returns-in_err-faulty-clause-err

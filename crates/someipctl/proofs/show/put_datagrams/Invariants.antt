@@ -1,6 +1,6 @@
 use Rattle.std.proofs.Common.{◌≡◌, ◌+◌, ◌||◌, drop, map}
 use Rattle.std.specs.List.{list_any}
-use Rattle.someipctl.specs.Show.{text_from, has_fault}
+use Rattle.someipctl.specs.ShownText.{text_from, has_fault}
 use Rattle.someipctl.proofs.SendingLemmas.{IsSending}
 use Rattle.someipctl.proofs.show.put_datagrams.Given as goal
 

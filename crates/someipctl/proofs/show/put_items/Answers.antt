@@ -5,7 +5,7 @@ use Rattle.someip_wire.specs.Reading.{items_of}
 use Rattle.someip_wire.specs.View.{view_item}
 use Rattle.someipctl.specs.Lines.{item_line}
 use Rattle.someipctl.proofs.SendingLemmas.{OnErr-any, IsSending-more, IsSending-stop}
-use Rattle.someipctl.proofs.ShowLemmas.{any_more, is_err-view_item}
+use Rattle.someipctl.proofs.ShownTextLemmas.{any_more, is_err-view_item}
 use Rattle.someipctl.proofs.show.put_items.Goals as goal
 
 pub returns-in_err-put_item-clause-err : goal.returns-in_err-put_item-clause-err

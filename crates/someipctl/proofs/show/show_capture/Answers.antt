@@ -1,6 +1,7 @@
+use Rattle.std.proofs.Common.{refl}
 use Rattle.std.proofs.lemmas.Result.{err_from_is_err_and}
-use Rattle.someipctl.proofs.ShowLemmas.{bytes_of_each}
-use Rattle.someipctl.proofs.ShownLemmas.{says, shows_beginning}
+use Rattle.someipctl.proofs.ShownTextLemmas.{bytes_of_each}
+use Rattle.someipctl.proofs.ShowResultLemmas.{says, shows_beginning}
 use Rattle.someipctl.proofs.show.show_capture.Goals as goal
 
 pub returns-in_err-outcome-clause-refused : goal.returns-in_err-outcome-clause-refused
@@ -10,6 +11,8 @@ returns-in_err-outcome-clause-refused g c =
 
 pub returns-clause-shown : goal.returns-clause-shown
 returns-clause-shown g c = record {
+  capture = c.args.text.now;
+  left = refl;
   datagrams = bytes_of_each c.in_ok-datagrams.datagrams.items;
   says = says c.args.text.now c.in_ok-datagrams.datagrams.items c.in_ok-datagrams.ensures.found;
   wrote = rw c.deref.ensures.value at c.in_ok-outcome.ensures.ok;

@@ -9,21 +9,29 @@ use Rattle.someipctl.specs.declared.input.ReadFault.TheVariants as inputs
 use Rattle.someipctl.specs.declared.show.ShowError.{ShowError}
 use Rattle.someipctl.specs.declared.show.ShowError.TheVariants.{BadHex, CannotRead, CannotWrite, OutOfMemory}
 use Rattle.someipctl.specs.Capture.{datagrams_of, first_bad}
-use Rattle.someipctl.specs.Show.{shown_text, shown_outcome}
+use Rattle.someipctl.specs.ShownText.{shown_text, shown_outcome}
 
 -- the capture says these datagrams, in order: none of its lines is bad
 abbrev pub Says : List ℕ → List (List ℕ) → Type 0
 Says capture datagrams = map (λ datagram. Some datagram) datagrams ≡ datagrams_of capture
 
--- the text of a capture was written whole, and the outcome says whether a fault is in it
-pub record Shows (capture : List ℕ) (outcome : Outcome) (before after : Option (List ℕ)) : Type 0 where
+-- the capture is what the reader had left, where that is known
+abbrev pub WasLeft : Option (List ℕ) → List ℕ → Type 0
+WasLeft input capture = IfSome input (λ known. capture ≡ known)
+
+-- the text of the capture was written whole, and the outcome says whether a fault is in it
+pub record Shows (input : Option (List ℕ)) (outcome : Outcome) (before after : Option (List ℕ)) : Type 0 where
+  pub capture : List ℕ
+  pub left : WasLeft input capture
   pub datagrams : List (List ℕ)
   pub says : Says capture datagrams
   pub wrote : Appends before after (shown_text datagrams)
   pub tells : outcome ≡ shown_outcome datagrams
 
--- a beginning of the text of a capture was written
-pub record ShowsBeginning (capture : List ℕ) (before after : Option (List ℕ)) : Type 0 where
+-- a beginning of the text of the capture was written
+pub record ShowsBeginning (input before after : Option (List ℕ)) : Type 0 where
+  pub capture : List ℕ
+  pub left : WasLeft input capture
   pub datagrams : List (List ℕ)
   pub says : Says capture datagrams
   pub sent : List ℕ
@@ -31,22 +39,16 @@ pub record ShowsBeginning (capture : List ℕ) (before after : Option (List ℕ)
   pub wrote : Appends before after sent
   pub beginning : sent ++ unsent ≡ shown_text datagrams
 
--- what an error says of a capture, and of what was written. A capture that is there cannot fail to be read
-abbrev pub Refuses : List ℕ → ShowError → Option (List ℕ) → Option (List ℕ) → Type 0
-Refuses capture (BadHex line) before after = (first_bad capture ≡ Some line) × Keeps before after
-Refuses capture CannotRead before after = ⊥
-Refuses capture CannotWrite before after = ShowsBeginning capture before after
-Refuses capture OutOfMemory before after = Keeps before after
+-- the line of this number is the first bad one of the capture
+abbrev pub IsFirstBad : Option (List ℕ) → ℕ → Type 0
+IsFirstBad input line = (capture : List ℕ) × WasLeft input capture × (first_bad capture ≡ Some line)
 
--- the same of a capture that comes from a reader, where it is known what that has left
-abbrev pub IfKnownShows : Option (List ℕ) → Outcome → Option (List ℕ) → Option (List ℕ) → Type 0
-IfKnownShows input outcome before after = IfSome input (λ capture. Shows capture outcome before after)
-
-abbrev pub IfKnownRefuses : Option (List ℕ) → ShowError → Option (List ℕ) → Option (List ℕ) → Type 0
-IfKnownRefuses input (BadHex line) before after = IfSome input (λ capture. first_bad capture ≡ Some line) × Keeps before after
-IfKnownRefuses input CannotRead before after = Keeps before after
-IfKnownRefuses input CannotWrite before after = IfSome input (λ capture. ShowsBeginning capture before after)
-IfKnownRefuses input OutOfMemory before after = Keeps before after
+-- what an error says of a capture, and of what was written
+abbrev pub RefusesShow : Option (List ℕ) → ShowError → Option (List ℕ) → Option (List ℕ) → Type 0
+RefusesShow input (BadHex line) before after = IsFirstBad input line × Keeps before after
+RefusesShow input CannotRead before after = Keeps before after
+RefusesShow input CannotWrite before after = ShowsBeginning input before after
+RefusesShow input OutOfMemory before after = Keeps before after
 
 -- the error of a capture that was refused
 abbrev pub error_of_capture : CaptureError → ShowError

@@ -9,7 +9,7 @@ use Rattle.someip_wire.specs.View.{view_item}
 use Rattle.someip_wire.specs.Reading.{items_of}
 use Rattle.someip_wire.proofs.DatagramLemmas.{items_from-nil}
 use Rattle.someipctl.specs.Lines.{item_line, empty_line}
-use Rattle.someipctl.specs.Show.{datagram_text, has_fault}
+use Rattle.someipctl.specs.ShownText.{datagram_text, has_fault}
 
 pub datagram_text-empty : (k : ℕ) (datagram : List ℕ) → length datagram ≡ 0 → datagram_text k datagram ≡ empty_line k
 datagram_text-empty k datagram none = ap (datagram_text k) (nil_from_length datagram none)
