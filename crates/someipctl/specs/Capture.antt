@@ -50,6 +50,6 @@ abbrev pub first_bad : List ℕ → Option ℕ
 first_bad text = position_from is_bad 1 (lines_of text)
 
 -- an error names the first bad line of the text, or says that memory ran out
-abbrev pub Refuses : List ℕ → CaptureError → Type 0
-Refuses text (BadHex n) = first_bad text ≡ Some n
-Refuses text OutOfMemory = Unit {0}
+abbrev pub RefusesCapture : List ℕ → CaptureError → Type 0
+RefusesCapture text (BadHex n) = first_bad text ≡ Some n
+RefusesCapture text OutOfMemory = Unit {0}

@@ -74,10 +74,10 @@ abbrev pub IsRefused : List Text → ErrorKind → Type 0
 IsRefused words k = (k ≢ kind.DisplayHelp) × IsAmong k (fault_of cli words)
 
 -- help comes for a call for help, and usage for another fault
-abbrev pub Refuses : List Text → LineError → Type 0
-Refuses words (Help e) = (kind_of e ≡ kind.DisplayHelp) × CallsForHelp words
-Refuses words (Usage e) = IsRefused words (kind_of e)
-Refuses words OutOfMemory = Unit {0}
+abbrev pub RefusesWords : List Text → LineError → Type 0
+RefusesWords words (Help e) = (kind_of e ≡ kind.DisplayHelp) × CallsForHelp words
+RefusesWords words (Usage e) = IsRefused words (kind_of e)
+RefusesWords words OutOfMemory = Unit {0}
 
 -- what becomes of an error of the parse: help, want of memory, or else usage
 abbrev pub IsErrorOf : Error → LineError → Type 0

@@ -1,5 +1,10 @@
--- Exit statuses, and why a command failed.
-use Rattle.std.specs.Prelude.{ℕ, List}
+-- Exit statuses, why a command failed, and the answer to words that give none.
+use Rattle.std.specs.Prelude.{◌≡◌, ℕ, List, Option, Result, Ok, Err}
+use Rattle.std.specs.Io.KnownBytes.{Keeps}
+use Rattle.someipctl.specs.declared.command.LineError.{LineError}
+use Rattle.someipctl.specs.declared.command.LineError.TheVariants as words
+use Rattle.someipctl.specs.declared.outcome.Outcome.{Outcome}
+use Rattle.someipctl.specs.declared.outcome.Outcome.TheVariants.{Done}
 use Rattle.std.specs.Borrow.{Bor}
 use Rattle.someipctl.specs.declared.failure.Failure.{Failure}
 use Rattle.someipctl.specs.declared.failure.Failure.TheVariants.{BadHex, Usage, NotText, OutOfMemory, CannotRead, CannotWrite}
@@ -21,3 +26,16 @@ failure_of_show (shows.BadHex line) path = BadHex line
 failure_of_show shows.CannotRead path = CannotRead path
 failure_of_show shows.CannotWrite path = CannotWrite
 failure_of_show shows.OutOfMemory path = OutOfMemory
+
+-- the answer to a call for help: its text was printed, or memory ran out before, or writing failed
+abbrev pub AnswersHelp : Result Outcome Failure → Option (List ℕ) → Option (List ℕ) → Type 0
+AnswersHelp (Ok outcome) before after = outcome ≡ Done
+AnswersHelp (Err OutOfMemory) before after = Keeps before after
+AnswersHelp (Err CannotWrite) before after = Unit {0}
+AnswersHelp (Err _) before after = ⊥
+
+-- the answer to words that give no command: help, or the fault of the words, which prints nothing
+abbrev pub Answers : LineError → Result Outcome Failure → Option (List ℕ) → Option (List ℕ) → Type 0
+Answers (words.Help help) result before after = AnswersHelp result before after
+Answers (words.Usage error) result before after = (result ≡ Err (Usage error)) × Keeps before after
+Answers words.OutOfMemory result before after = (result ≡ Err OutOfMemory) × Keeps before after

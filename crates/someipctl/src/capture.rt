@@ -13,7 +13,7 @@ ghost use Rattle.std.specs.Option.{option_map};
 ghost use Rattle.std.specs.Result.{result_ok};
 ghost use Rattle.hex.specs.Hex.{decode_of, encode_lower, IsBytes};
 ghost use Rattle.someipctl.specs.declared.capture.CaptureError.TheVariants.{OutOfMemory};
-ghost use Rattle.someipctl.specs.Capture.{bytes_of, datagrams_of, first_bad, Refuses};
+ghost use Rattle.someipctl.specs.Capture.{bytes_of, datagrams_of, first_bad, RefusesCapture};
 ghost use Rattle.someipctl.specs.Capture.{is_bad, is_skipped, without_blanks};
 
 use hex::FromHexError;
@@ -59,7 +59,7 @@ pub fn read_capture(alloc: Global, text: &[u8]) -> Result<Vec<Vec<u8>>, CaptureE
     ensures only { OnOk result (first_bad text.now ≡ None) }
 
     // The error names the first bad line.
-    ensures fault { IfErr result (Refuses text.now) }
+    ensures fault { IfErr result (RefusesCapture text.now) }
 
     // A text with no line to read needs no memory.
     ensures idle { datagrams_of text.now ≡ [] → IsOk result }
@@ -78,18 +78,6 @@ pub fn read_capture(alloc: Global, text: &[u8]) -> Result<Vec<Vec<u8>>, CaptureE
     Ok(datagrams)
 }
 
-/// What lines say: each datagram's hex says that datagram, and then examples.
-pub fn what_lines_say()
-    ensures spelled { (bytes : List ℕ) → IsBytes bytes → bytes_of (encode_lower bytes) ≡ Some bytes }
-    ensures blanks { bytes_of (codes "12 3 4") ≡ Some (0x12 ∷ 0x34 ∷ []) }
-    ensures cases { bytes_of (codes "aF") ≡ Some (0xaf ∷ []) }
-    ensures dash { bytes_of (codes " - ") ≡ Some [] }
-    ensures odd { is_bad (codes "123") ≡ true }
-    ensures late_comment { is_bad (codes " #") ≡ true }
-    ensures comment { is_skipped (codes "#") ≡ true }
-    ensures blank { is_skipped (codes "  ") ≡ true }
-{}
-
 /// Whether a line is left out: it is blank, or a comment.
 fn says_nothing(line: &[u8]) -> bool
     ensures { result ≡ is_skipped line.now }
@@ -103,8 +91,8 @@ fn is_blank(line: &[u8]) -> bool
     line.iter().all(|b| *b == b' ')
 }
 
-/// The bytes that a line says, if it says any. Most lines have no blank, so each is decoded as it
-/// stands first. `digits` is room for the digits of those that do not decode so.
+/// The bytes that a line says, if it says any. A line is first decoded as it stands, which is all
+/// that one without blanks needs. `digits` is room for the digits of the others.
 fn datagram_of(
     alloc: Global,
     line: &[u8],

@@ -4,7 +4,7 @@ ghost use Rattle.std.specs.Prelude.{false, map, option_map, ℕ};
 ghost use Rattle.clap.specs.Words.{app_of, first_value, found_of, shape_of, subcommand_rows_of};
 ghost use Rattle.clap.specs.declared.builder.Command.TheViews.{out-Command};
 ghost use Rattle.someipctl.specs.declared.command.LineError.TheVariants.{OutOfMemory};
-ghost use Rattle.someipctl.specs.CommandLine.{CallsForHelp, IsErrorOf, IsRefused, IsTaken, Refuses};
+ghost use Rattle.someipctl.specs.CommandLine.{CallsForHelp, IsErrorOf, IsRefused, IsTaken, RefusesWords};
 ghost use Rattle.someipctl.specs.CommandLine.{cli, is_flag, line, request_in, request_of, requested};
 ghost use Rattle.someipctl.specs.CommandLine.{show, show_of, show_request};
 
@@ -17,8 +17,11 @@ use thiserror::Error;
 /// What the words ask for.
 #[derive(Clone, Copy, Debug, PartialEq, Eq)]
 pub enum Command<'w> {
-    /// Print the messages of the capture at this path.
-    Show { capture: &'w str },
+    /// Print the messages of a capture.
+    Show {
+        /// The capture's path, as it was given.
+        capture: &'w str,
+    },
 }
 
 /// Why the words give no command. `Usage` and `Help` print as the whole text for the user, to the
@@ -47,7 +50,7 @@ pub fn command_of<'w, S: AsStr>(alloc: Global, words: &'w [S]) -> Result<Command
         requested (map S.text words.entry.now) ≡ Some (request_of command)) }
 
     // Help answers only a call for help, and usage only another fault.
-    ensures refused { IfErr result (Refuses (map S.text words.entry.now)) }
+    ensures refused { IfErr result (RefusesWords (map S.text words.entry.now)) }
 {
     let matches = definition(alloc)?.try_get_matches_from(words)?;
     match matched(&matches) {
@@ -55,35 +58,6 @@ pub fn command_of<'w, S: AsStr>(alloc: Global, words: &'w [S]) -> Result<Command
         None => unreachable!(),
     }
 }
-
-/// Words that have no fault match a command, so a parse that succeeds leaves nothing to refuse.
-pub fn words_without_fault_match()
-    ensures { (words : List (List ℕ)) → IsTaken words → IsSome (requested words) }
-{}
-
-/// After `show`, any one word that is no flag is a capture, and the words have no fault.
-pub fn words_show_any_capture()
-    ensures taken { (program capture : List ℕ) → is_flag capture ≡ false
-        → IsTaken (program ∷ codes "show" ∷ capture ∷ []) }
-    ensures matched { (program capture : List ℕ) → is_flag capture ≡ false
-        → requested (program ∷ codes "show" ∷ capture ∷ []) ≡ Some (show_request capture) }
-{}
-
-/// What some calls of the program come to.
-pub fn calls_by_example()
-    ensures show { requested (line (codes "show" ∷ codes "x" ∷ []))
-        ≡ Some (show_request (codes "x")) }
-
-    // No command, or no capture.
-    ensures bare { IsRefused (line []) ErrorKind.MissingSubcommand }
-    ensures bare_show { IsRefused (line (codes "show" ∷ [])) ErrorKind.MissingRequiredArgument }
-
-    // Four ways to ask for help.
-    ensures help_flag { CallsForHelp (line (codes "--help" ∷ [])) }
-    ensures help { CallsForHelp (line (codes "help" ∷ [])) }
-    ensures show_help_flag { CallsForHelp (line (codes "show" ∷ codes "--help" ∷ [])) }
-    ensures help_show { CallsForHelp (line (codes "help" ∷ codes "show" ∷ [])) }
-{}
 
 impl From<AllocError> for LineError {
     ghost from_gives = { λ _ error. error ≡ OutOfMemory };

@@ -3,13 +3,16 @@ ghost use Rattle.std.specs.Prelude.{◌≡◌, IfOk, IfSome};
 
 use std::alloc::Global;
 use std::io::{ErrorKind, Read};
+use thiserror::Error;
 
 /// Why an input was not read.
-#[derive(Clone, Copy, Debug, PartialEq, Eq)]
+#[derive(Clone, Copy, Debug, PartialEq, Eq, Error)]
 pub enum ReadFault {
     /// A read failed.
+    #[error("cannot read")]
     CannotRead,
     /// There was no memory for what was read.
+    #[error("out of memory")]
     OutOfMemory,
 }
 

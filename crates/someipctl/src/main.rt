@@ -1,25 +1,31 @@
 //! `someipctl`: SOME/IP messages on the command line.
 //!
-//! - `command`: what the words of the command line ask for;
+//! - `command`, `help`: what the words of the command line ask for, and the answer to others;
 //! - `capture`, `lines`, `show`: the command `show`;
 //! - `input`, `output`, `parts`: reading an input whole, and printing in parts through a buffer;
-//! - `outcome`, `failure`: the exit statuses and the texts of faults.
+//! - `outcome`, `failure`: the exit statuses and the texts of faults;
+//! - `laws`: what the definitions behind the contracts promise.
 #![tactic(auto)]
+
+ghost use Rattle.std.specs.Prelude.{◌≡◌};
+ghost use Rattle.someipctl.specs.Failures.{status_of_failure};
 
 mod capture;
 mod command;
 mod failure;
+mod help;
 mod input;
+mod laws;
 mod lines;
 mod outcome;
 mod output;
 mod parts;
 mod show;
 
-use command::{Command, LineError, command_of};
+use command::{Command, command_of};
 use failure::Failure;
+use help::answer_error;
 use outcome::Outcome;
-use output::write_text;
 use std::io::ErrorKind;
 use std::process::ExitCode;
 use std::rt::{Env, Files};
@@ -37,7 +43,9 @@ fn main(rt: HostRuntime) -> ExitCode {
 }
 
 /// Prints why the program failed, and gives its exit status.
-fn report<R: Eprint>(rt: &R, failure: Failure<'_>) -> u8 {
+fn report<R: Eprint>(rt: &R, failure: Failure<'_>) -> u8
+    ensures { result ≡ status_of_failure failure.entry }
+{
     let status = failure.status();
     // Where standard error can't be written, the status is all that is left to say.
     let _ = match failure {
@@ -66,7 +74,7 @@ fn run<'w, R: Files + Print + AllocGlobal>(
 ) -> Result<Outcome, Failure<'w>> {
     match command_of(rt.alloc(), words) {
         Ok(command) => run_command(rt, command),
-        Err(error) => answer_error(rt, error),
+        Err(error) => answer_error(rt.alloc(), error, &mut io::writer(rt)),
     }
 }
 
@@ -76,18 +84,6 @@ fn run_command<'w, R: Files + Print + AllocGlobal>(
 ) -> Result<Outcome, Failure<'w>> {
     match command {
         Command::Show { capture } => show_file(rt, capture),
-    }
-}
-
-/// Prints the help that was asked for; other words without a command are a failure.
-fn answer_error<R: Print + AllocGlobal>(
-    rt: &R,
-    error: LineError,
-) -> Result<Outcome, Failure<'static>> {
-    match error {
-        LineError::Help(help) => print_help(rt, help),
-        LineError::Usage(error) => Err(Failure::Usage(error)),
-        LineError::OutOfMemory => Err(Failure::OutOfMemory),
     }
 }
 
@@ -105,19 +101,6 @@ fn show_file<'p, R: Files + Print + AllocGlobal>(
     show::show(rt.alloc(), &mut file, &mut io::writer(rt)).map_err(|error| Failure::of_show(
         error, path,
     ))
-}
-
-fn print_help<R: Print + AllocGlobal>(
-    rt: &R,
-    help: clap::Error,
-) -> Result<Outcome, Failure<'static>> {
-    let Ok(text) = help.to_string(rt.alloc()) else {
-        return Err(Failure::OutOfMemory);
-    };
-    match write_text(&mut io::writer(rt), text.as_bytes()) {
-        Ok(()) => Ok(Outcome::Done),
-        Err(output::CannotWrite) => Err(Failure::CannotWrite),
-    }
 }
 
 #[cfg(test)]

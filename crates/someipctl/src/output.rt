@@ -7,13 +7,15 @@ ghost use Rattle.someipctl.specs.Sending.{Sends, Stops};
 use std::alloc::{AllocError, Global};
 use std::io::Write;
 use std::marker::Model;
+use thiserror::Error;
 
 /// A write that failed or took nothing. What was written until then stays.
-#[derive(Clone, Copy, Debug, PartialEq, Eq)]
+#[derive(Clone, Copy, Debug, PartialEq, Eq, Error)]
+#[error("cannot write")]
 pub struct CannotWrite;
 
 /// The bytes that the buffer holds back until it is full.
-pub const CAPACITY: usize = 16384;
+const CAPACITY: usize = 16384;
 
 /// What is printed and not yet written. Contracts see these bytes.
 #[derive(Drop)]

@@ -27,7 +27,7 @@ pub enum Part<'p> {
 const HEX_BYTES: usize = 64;
 
 /// The digits of so many bytes.
-const HEX_DIGITS: usize = 128;
+const HEX_DIGITS: usize = 2 * HEX_BYTES;
 
 /// Prints the parts of a line, one after the other.
 pub fn put_parts<W: Write>(

@@ -1,10 +1,8 @@
 //! Captures, words and what is shown, each as a table; and readers and writers that fail.
-use crate::capture::{CaptureError, read_capture, what_lines_say};
-use crate::command::{
-    Command, LineError, calls_by_example, command_of, words_show_any_capture,
-    words_without_fault_match,
-};
+use crate::capture::{CaptureError, read_capture};
+use crate::command::{Command, LineError, command_of};
 use crate::failure::Failure;
+use crate::laws;
 use crate::outcome::Outcome;
 use crate::show::{ShowError, show};
 use std::alloc::{AllocError, Global};
@@ -221,10 +219,10 @@ fn a_write_that_fails_leaves_a_beginning(rt: HostRuntime) {
 
 #[test]
 fn laws_hold() {
-    what_lines_say();
-    words_without_fault_match();
-    words_show_any_capture();
-    calls_by_example();
+    laws::what_lines_say();
+    laws::words_without_fault_match();
+    laws::words_show_any_capture();
+    laws::calls_by_example();
 }
 
 /// The bytes of each datagram, and `|` after each.

@@ -4,7 +4,7 @@ use Rattle.hex.specs.Hex.{encode_lower}
 use Rattle.hex.proofs.HexLemmas.{decode_of-encode_lower}
 use Rattle.hex.proofs.OnLiterals.{hex_on_literals}
 use Rattle.someipctl.proofs.CaptureLemmas.{bytes_of-decoded}
-use Rattle.someipctl.proofs.capture.what_lines_say.Goals as goal
+use Rattle.someipctl.proofs.laws.what_lines_say.Goals as goal
 
 pub returns-clause-spelled : goal.returns-clause-spelled
 returns-clause-spelled c bytes h =

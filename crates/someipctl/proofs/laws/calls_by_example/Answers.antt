@@ -1,6 +1,6 @@
 use Rattle.std.proofs.Common.{inl, refl}
 use Rattle.clap.proofs.OnLiterals.{clap_on_literals}
-use Rattle.someipctl.proofs.command.calls_by_example.Goals as goal
+use Rattle.someipctl.proofs.laws.calls_by_example.Goals as goal
 
 pub returns : goal.returns
 unfolding clap_on_literals

@@ -1,0 +1,50 @@
+//! Laws of the definitions behind the contracts: what the lines of a capture say, and what words ask
+//! for. Each is the contract of a function that does nothing.
+ghost use Rattle.std.specs.Prelude.{◌≡◌, [], ◌∷◌, codes, true, false, Some, IsSome, ℕ, List};
+ghost use Rattle.hex.specs.Hex.{encode_lower, IsBytes};
+ghost use Rattle.someipctl.specs.Capture.{bytes_of, is_bad, is_skipped};
+ghost use Rattle.someipctl.specs.CommandLine.{CallsForHelp, IsRefused, IsTaken, is_flag, line};
+ghost use Rattle.someipctl.specs.CommandLine.{requested, show_request};
+
+use clap::error::ErrorKind;
+
+/// What lines say: each datagram's hex says that datagram, and then examples.
+pub fn what_lines_say()
+    ensures spelled { (bytes : List ℕ) → IsBytes bytes → bytes_of (encode_lower bytes) ≡ Some bytes }
+    ensures blanks { bytes_of (codes "12 3 4") ≡ Some (0x12 ∷ 0x34 ∷ []) }
+    ensures cases { bytes_of (codes "aF") ≡ Some (0xaf ∷ []) }
+    ensures dash { bytes_of (codes " - ") ≡ Some [] }
+    ensures odd { is_bad (codes "123") ≡ true }
+    ensures late_comment { is_bad (codes " #") ≡ true }
+    ensures comment { is_skipped (codes "#") ≡ true }
+    ensures blank { is_skipped (codes "  ") ≡ true }
+{}
+
+/// Words that have no fault match a command, so a parse that succeeds leaves nothing to refuse.
+pub fn words_without_fault_match()
+    ensures { (words : List (List ℕ)) → IsTaken words → IsSome (requested words) }
+{}
+
+/// After `show`, any one word that is no flag is a capture, and the words have no fault.
+pub fn words_show_any_capture()
+    ensures taken { (program capture : List ℕ) → is_flag capture ≡ false
+        → IsTaken (program ∷ codes "show" ∷ capture ∷ []) }
+    ensures matched { (program capture : List ℕ) → is_flag capture ≡ false
+        → requested (program ∷ codes "show" ∷ capture ∷ []) ≡ Some (show_request capture) }
+{}
+
+/// What some calls of the program come to.
+pub fn calls_by_example()
+    ensures show { requested (line (codes "show" ∷ codes "x" ∷ []))
+        ≡ Some (show_request (codes "x")) }
+
+    // No command, or no capture.
+    ensures bare { IsRefused (line []) ErrorKind.MissingSubcommand }
+    ensures bare_show { IsRefused (line (codes "show" ∷ [])) ErrorKind.MissingRequiredArgument }
+
+    // Four ways to ask for help.
+    ensures help_flag { CallsForHelp (line (codes "--help" ∷ [])) }
+    ensures help { CallsForHelp (line (codes "help" ∷ [])) }
+    ensures show_help_flag { CallsForHelp (line (codes "show" ∷ codes "--help" ∷ [])) }
+    ensures help_show { CallsForHelp (line (codes "help" ∷ codes "show" ∷ [])) }
+{}
