@@ -2,6 +2,7 @@
 use crate::capture::{CaptureError, read_capture};
 use crate::command::{Command, LineError, command_of};
 use crate::failure::Failure;
+use crate::help::answer_error;
 use crate::laws;
 use crate::outcome::Outcome;
 use crate::show::{ShowError, show};
@@ -10,26 +11,28 @@ use std::io;
 use std::io::{ErrorKind, Read, Write};
 use std::test::Fail;
 
-/// One request, and a datagram with one message twice and 15 bytes of a third.
+/// One request.
 const REQUEST: &[u8] = b"12340421 00000008 00010001 01010000\n";
 
 const REQUEST_LINE: &str =
     "1 message 1234.0421 length 8 client 0001 session 0001 interface 01 type REQUEST code 00 payload -\n";
 
-/// Gives one byte a call, and fails at a call.
+/// Gives at most so many bytes a call, and fails at one call, by an error of a kind.
 #[derive(Drop)]
 struct SlowReader<'a> {
     rest: &'a [u8],
     calls: usize,
     fails_at: usize,
+    kind: ErrorKind,
 }
 
 impl Read for SlowReader<'_> {
     fn read(&mut self, buf: &mut [u8]) -> io::Result<usize> {
-        if self.calls == self.fails_at {
-            return Err(io::Error::from(ErrorKind::Other));
+        let call = self.calls;
+        self.calls = call.saturating_add(1);
+        if call == self.fails_at {
+            return Err(io::Error::from(self.kind));
         }
-        self.calls = self.calls.saturating_add(1);
         let (Some((first, rest)), Some(place)) = (self.rest.split_first(), buf.first_mut()) else {
             return Ok(0);
         };
@@ -39,10 +42,11 @@ impl Read for SlowReader<'_> {
     }
 }
 
-/// Takes one byte a call, and fails or takes nothing at a call.
+/// Takes at most so many bytes a call, and at one call fails or takes nothing.
 #[derive(Drop)]
 struct SlowWriter {
     taken: Vec<u8>,
+    most: usize,
     calls: usize,
     fails_at: usize,
     takes_nothing: bool,
@@ -50,18 +54,17 @@ struct SlowWriter {
 
 impl Write for SlowWriter {
     fn write(&mut self, buf: &[u8]) -> io::Result<usize> {
-        if self.calls == self.fails_at {
+        let call = self.calls;
+        self.calls = call.saturating_add(1);
+        if call == self.fails_at {
             if self.takes_nothing {
                 return Ok(0);
             }
             return Err(io::Error::from(ErrorKind::Other));
         }
-        self.calls = self.calls.saturating_add(1);
-        let Some(first) = buf.first() else {
-            return Ok(0);
-        };
-        self.taken.push(*first)?;
-        Ok(1)
+        let count = buf.len().min(self.most);
+        self.taken.extend_from_slice(&buf[..count])?;
+        Ok(count)
     }
 
     fn flush(&mut self) -> io::Result<()> {
@@ -158,6 +161,11 @@ fn failures_have_texts_and_statuses(rt: HostRuntime) -> Result<(), Fail> {
         assert_eq!(rt; failure.status(), status);
         assert_eq!(rt; failure.to_string(rt.alloc())?.as_str(), text);
     }
+    let text = Failure::NotText.to_string(rt.alloc())?;
+    assert_eq!(rt;
+        text.as_str(),
+        "error: a word is no UTF-8\n\nUsage: someipctl <COMMAND>"
+    );
     assert_eq!(rt; Failure::NotText.status(), 2);
     assert_eq!(rt; Outcome::Done.status(), 0);
     assert_eq!(rt; Outcome::of(true).status(), 1);
@@ -166,55 +174,146 @@ fn failures_have_texts_and_statuses(rt: HostRuntime) -> Result<(), Fail> {
 
 #[test]
 fn a_read_that_fails_shows_nothing(rt: HostRuntime) {
-    for fails_at in 0..REQUEST.len() + 1 {
-        let mut reader = SlowReader {
-            rest: REQUEST,
-            calls: 0,
-            fails_at,
-        };
-        let mut out = Vec::new(rt.alloc());
-        let outcome = show(rt.alloc(), &mut reader, &mut out);
-        assert_eq!(rt; outcome, Err(ShowError::CannotRead));
-        assert!(rt; out.is_empty());
+    let kinds = [
+        (ErrorKind::Other, ShowError::CannotRead),
+        (ErrorKind::OutOfMemory, ShowError::OutOfMemory),
+    ];
+    for (kind, error) in kinds {
+        for fails_at in 0..REQUEST.len() + 2 {
+            let mut reader = SlowReader {
+                rest: REQUEST,
+                calls: 0,
+                fails_at,
+                kind,
+            };
+            let mut out = Vec::new(rt.alloc());
+            let outcome = show(rt.alloc(), &mut reader, &mut out);
+            if fails_at <= REQUEST.len() {
+                assert_eq!(rt; outcome, Err(error));
+                assert!(rt; out.is_empty());
+            } else {
+                assert_eq!(rt; outcome, Ok(Outcome::Done));
+                assert_eq!(rt; out.as_slice(), REQUEST_LINE.as_bytes());
+            }
+        }
     }
-    let mut reader = SlowReader {
-        rest: REQUEST,
+}
+
+/// Shows the capture through a writer that takes so many bytes a call and fails at a call.
+fn written(
+    alloc: Global,
+    mut capture: &[u8],
+    most: usize,
+    fails_at: usize,
+    takes_nothing: bool,
+) -> (Result<Outcome, ShowError>, Vec<u8>) {
+    let mut writer = SlowWriter {
+        taken: Vec::new(alloc),
+        most,
         calls: 0,
-        fails_at: REQUEST.len() + 1,
+        fails_at,
+        takes_nothing,
     };
-    let mut out = Vec::new(rt.alloc());
-    let outcome = show(rt.alloc(), &mut reader, &mut out);
-    assert_eq!(rt; outcome, Ok(Outcome::Done));
-    assert_eq!(rt; out.as_slice(), REQUEST_LINE.as_bytes());
+    let outcome = show(alloc, &mut capture, &mut writer);
+    (outcome, writer.taken)
 }
 
 #[test]
 fn a_write_that_fails_leaves_a_beginning(rt: HostRuntime) {
     for takes_nothing in [false, true] {
         for fails_at in 0..REQUEST_LINE.len() {
-            let mut reader = REQUEST;
-            let mut writer = SlowWriter {
-                taken: Vec::new(rt.alloc()),
-                calls: 0,
-                fails_at,
-                takes_nothing,
-            };
-            let outcome = show(rt.alloc(), &mut reader, &mut writer);
+            let (outcome, taken) = written(rt.alloc(), REQUEST, 1, fails_at, takes_nothing);
             assert_eq!(rt; outcome, Err(ShowError::CannotWrite));
-            assert_eq!(rt; writer.taken.len(), fails_at);
-            assert!(rt; REQUEST_LINE.as_bytes().starts_with(&writer.taken));
+            assert_eq!(rt; taken.len(), fails_at);
+            assert!(rt; REQUEST_LINE.as_bytes().starts_with(&taken));
         }
     }
-    let mut reader = REQUEST;
+    let (outcome, taken) = written(rt.alloc(), REQUEST, 1, REQUEST_LINE.len(), false);
+    assert_eq!(rt; outcome, Ok(Outcome::Done));
+    assert_eq!(rt; taken.as_slice(), REQUEST_LINE.as_bytes());
+}
+
+/// A capture with payloads of these lengths, of bytes 5a, and the text that it shows.
+fn long_payloads(alloc: Global, lengths: &[u16]) -> Result<(String, String), AllocError> {
+    let mut capture = String::new(alloc);
+    let mut text = String::new(alloc);
+    let mut k = 0usize;
+    for length in lengths {
+        k = k.saturating_add(1);
+        let counted = u32::from(*length) + 8;
+        write!(capture, "12340421{counted:08x}0001000101010000")?;
+        write!(
+            text,
+            "{k} message 1234.0421 length {counted} client 0001 session 0001 "
+        )?;
+        text.push_str("interface 01 type REQUEST code 00 payload ")?;
+        for _ in 0..*length {
+            capture.push_str("5A")?;
+            text.push_str("5a")?;
+        }
+        capture.push_str("\n")?;
+        text.push_str("\n")?;
+    }
+    Ok((capture, text))
+}
+
+/// Payloads at the edges of what is turned into hex and held back at once.
+#[test]
+fn long_texts_are_written_whole(rt: HostRuntime) -> Result<(), Fail> {
+    let lengths = [
+        63, 64, 65, 127, 128, 129, 8100, 8140, 8191, 8192, 8193, 20000,
+    ];
+    let (capture, text) = long_payloads(rt.alloc(), &lengths)?;
+    let (outcome, taken) = written(rt.alloc(), capture.as_bytes(), 60000, 60000, false);
+    assert_eq!(rt; outcome, Ok(Outcome::Done));
+    assert_eq!(rt; taken.as_slice(), text.as_bytes());
+    let (outcome, taken) = written(rt.alloc(), capture.as_bytes(), 7, 60000, false);
+    assert_eq!(rt; outcome, Ok(Outcome::Done));
+    assert_eq!(rt; taken.as_slice(), text.as_bytes());
+    for fails_at in 0..40 {
+        let (outcome, taken) = written(rt.alloc(), capture.as_bytes(), 5000, fails_at, true);
+        if outcome == Ok(Outcome::Done) {
+            assert_eq!(rt; taken.as_slice(), text.as_bytes());
+        } else {
+            assert_eq!(rt; outcome, Err(ShowError::CannotWrite));
+            assert!(rt; text.as_bytes().starts_with(&taken));
+        }
+    }
+    Ok(())
+}
+
+/// The answer to words without a command: what was printed, and the exit status.
+fn answered(alloc: Global, words: &[&str], fails_at: usize) -> (Vec<u8>, u8) {
     let mut writer = SlowWriter {
-        taken: Vec::new(rt.alloc()),
+        taken: Vec::new(alloc),
+        most: 100,
         calls: 0,
-        fails_at: REQUEST_LINE.len(),
+        fails_at,
         takes_nothing: false,
     };
-    let outcome = show(rt.alloc(), &mut reader, &mut writer);
-    assert_eq!(rt; outcome, Ok(Outcome::Done));
-    assert_eq!(rt; writer.taken.as_slice(), REQUEST_LINE.as_bytes());
+    let status = match command_of(alloc, words) {
+        Ok(_) => 99,
+        Err(error) => match answer_error(alloc, error, &mut writer) {
+            Ok(outcome) => outcome.status(),
+            Err(failure) => failure.status(),
+        },
+    };
+    (writer.taken, status)
+}
+
+#[test]
+fn help_is_printed_and_usage_is_not(rt: HostRuntime) {
+    let (help, status) = answered(rt.alloc(), &["someipctl", "help", "show"], 1000);
+    assert_eq!(rt; status, 0);
+    assert!(rt; help.starts_with(b"Prints the messages of a capture, one a line\n\nUsage: "));
+    let (_, status) = answered(rt.alloc(), &["someipctl", "help", "show"], 0);
+    assert_eq!(rt; status, 4);
+    let (none, status) = answered(rt.alloc(), &["someipctl", "list"], 1000);
+    assert_eq!(rt; status, 2);
+    assert!(rt; none.is_empty());
+    let (none, status) = answered(rt.alloc(), &["someipctl"], 1000);
+    assert_eq!(rt; status, 2);
+    assert!(rt; none.is_empty());
 }
 
 #[test]
@@ -393,7 +492,12 @@ fn outcome(
 fn words_come_to_a_command_or_a_text(rt: HostRuntime) -> Result<(), Fail> {
     for (words, wanted, part) in rows() {
         let (outcome, text) = outcome(rt.alloc(), command_of(rt.alloc(), words))?;
-        assert!(rt; outcome == wanted && text.contains(part), "{words:?}");
+        let found = if wanted == "show" {
+            text.as_str() == part
+        } else {
+            text.contains(part)
+        };
+        assert!(rt; outcome == wanted && found, "{words:?}");
     }
     Ok(())
 }
