@@ -39,11 +39,15 @@ fn changed(at: usize, byte: u8) -> [u8; 16] {
 }
 
 #[test]
-fn one_message(rt: HostRuntime) {
+fn laws_hold() {
     laws::no_spelling_begins_another();
     laws::a_fault_is_where_no_message_begins();
     laws::each_datagram_is_read_in_one_way();
     laws::worked_datagrams();
+}
+
+#[test]
+fn one_message(rt: HostRuntime) {
     let request = Message {
         header: HEADER,
         payload: &[],
@@ -84,6 +88,26 @@ fn first_fault(rt: HostRuntime) {
         read_message(&REQUEST[..15]).err(),
         Some(WireError::Truncated(15))
     );
+}
+
+#[test]
+fn faults_are_printed(rt: HostRuntime) -> Result<(), Fail> {
+    let rows = [
+        (WireError::Truncated(47), "Truncated at 47"),
+        (WireError::LengthTooSmall(4), "LengthTooSmall at 4"),
+        (
+            WireError::WrongProtocolVersion(12),
+            "WrongProtocolVersion at 12",
+        ),
+        (
+            WireError::UnknownMessageType(14),
+            "UnknownMessageType at 14",
+        ),
+    ];
+    for (fault, text) in rows {
+        assert_eq!(rt; fault.to_string(rt.alloc())?.as_str(), text);
+    }
+    Ok(())
 }
 
 #[test]
