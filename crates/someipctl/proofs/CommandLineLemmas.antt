@@ -1,5 +1,5 @@
 -- What clap's matches say of the command line.
-use Rattle.std.proofs.Common.{◌≡◌, ◌∙◌, ◌||◌, ◌==◌, Bool, cond, true, false, true≢false, refl, sym, ap, subst, List, [], ◌∷◌, Option, Some, None, IsSome, is_some, codes, find, option_map, drop, Box}
+use Rattle.std.proofs.Common.{◌≡◌, ◌∙◌, ◌||◌, ◌==◌, Bool, cond, true, false, true≢false, refl, sym, ap, ap₂, subst, List, [], ◌∷◌, Option, Some, None, IsSome, is_some, codes, find, option_map, drop, Box}
 use Rattle.std.specs.List.{list_all}
 use Rattle.std.specs.Option.{option_map_or}
 use Rattle.std.specs.Str.{bytes_eq}
@@ -16,7 +16,7 @@ use Rattle.clap.specs.declared.parser.matches.Found.{Found}
 use Rattle.clap.specs.declared.parser.matches.SubCommand.{SubCommand}
 use Rattle.clap.proofs.WalkLemmas.{first_value-rows}
 use Rattle.clap.proofs.OnLiterals.{clap_on_literals}
-use Rattle.someipctl.specs.CommandLine.{IsTaken, cli, is_flag, request_by, request_in, requested, show_of, show_request}
+use Rattle.someipctl.specs.CommandLine.{IsTaken, cli, is_flag, request_by, request_in, requested, show_of, show_request, payload_of}
 use Rattle.someipctl.proofs.ClapWalkLemmas.{EntersNoHelp, enters_subcommand, has_value, is_wanted, wanted_value}
 
 pub cli_is_free : is_simple_and_free cli ≡ true
@@ -68,6 +68,16 @@ show_some (Some capture) some = refl
 show_asks : (s : Shape) → bytes_eq s.name (codes "show") ≡ true → list_all has_value s.rules ≡ true → is_wanted (codes "capture") s ≡ true → Asks s
 show_asks s is valued wanted name met named words none = rw is (show_some _ (wanted_value s (codes "capture") valued wanted words none))
 
+payload_some : (shape hex : Option Text) → is_some shape ≡ true → is_some hex ≡ true → IsSome (payload_of shape hex)
+payload_some None hex some more = absurd (true≢false (sym some))
+payload_some (Some shape) None some more = absurd (true≢false (sym more))
+payload_some (Some shape) (Some hex) some more = refl
+
+payload_asks : (s : Shape) → bytes_eq s.name (codes "show") ≡ false → bytes_eq s.name (codes "payload") ≡ true → list_all has_value s.rules ≡ true
+    → is_wanted (codes "shape") s ≡ true → is_wanted (codes "hex") s ≡ true → Asks s
+payload_asks s other is valued shape hex name met named words none =
+    rw (other, is) (payload_some _ _ (wanted_value s (codes "shape") valued shape words none) (wanted_value s (codes "hex") valued hex words none))
+
 -- no other name is that of `help`
 help_asks : (s : Shape) → label_of s ≡ (codes "help", []) → Asks s
 help_asks s is name met named words none = go (bytes_eq (codes "help") name) refl (subst (λ label. answers_to name label ≡ true) is met)
@@ -80,7 +90,7 @@ help_asks s is name met named words none = go (bytes_eq (codes "help") name) ref
     go false e t = absurd (true≢false (sym t))
 
 cli_asks : EachAsks (built cli).subs
-cli_asks = (show_asks _ refl refl refl, (help_asks _ refl, tt))
+cli_asks = (show_asks _ refl refl refl, (payload_asks _ refl refl refl refl refl, (help_asks _ refl, tt)))
 
 pub taken_matches : (words : List Text) → IsTaken words → IsSome (requested words)
 taken_matches words none =
@@ -147,3 +157,9 @@ pub show_in : (m : ArgMatches) (name : Text) (f : Found) → subcommand_rows_of 
 show_in m name f is show =
     let there : request_by name (rows_of f) ≡ show_of (first_of (codes "capture") (rows_of f)) = rw show refl in
     ap show_of (first_value-rows f (codes "capture")) ∙ sym there ∙ sym (ap request_in is)
+
+pub payload_in : (m : ArgMatches) (name : Text) (f : Found) → subcommand_rows_of m ≡ Some (name, rows_of f) → bytes_eq name (codes "show") ≡ false → bytes_eq name (codes "payload") ≡ true
+    → payload_of (first_value f (codes "shape")) (first_value f (codes "hex")) ≡ request_in (subcommand_rows_of m)
+payload_in m name f is other payload =
+    let there : request_by name (rows_of f) ≡ payload_of (first_of (codes "shape") (rows_of f)) (first_of (codes "hex") (rows_of f)) = rw (other, payload) refl in
+    ap₂ payload_of (first_value-rows f (codes "shape")) (first_value-rows f (codes "hex")) ∙ sym there ∙ sym (ap request_in is)

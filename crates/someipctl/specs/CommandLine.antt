@@ -8,7 +8,7 @@ use Rattle.clap.specs.declared.Error.{Error}
 use Rattle.clap.specs.declared.error.ErrorKind.{ErrorKind}
 use Rattle.clap.specs.declared.error.ErrorKind.TheVariants as kind
 use Rattle.someipctl.specs.declared.command.Command.{Command}
-use Rattle.someipctl.specs.declared.command.Command.TheVariants.{Show}
+use Rattle.someipctl.specs.declared.command.Command.TheVariants.{Show, Payload}
 use Rattle.someipctl.specs.declared.command.LineError.{LineError}
 use Rattle.someipctl.specs.declared.command.LineError.TheVariants.{Usage, Help, OutOfMemory}
 
@@ -22,33 +22,47 @@ required id = record (new_rule id) { value_names = 1; required = true }
 abbrev pub show : Shape
 show = (with_rule (new_app (codes "show")) (required (codes "capture"))).top
 
+-- `payload SHAPE HEX`
+abbrev pub payload : Shape
+payload = (with_rule (with_rule (new_app (codes "payload")) (required (codes "shape"))) (required (codes "hex"))).top
+
 -- the program alone, which asks for a subcommand
 abbrev pub program : App
 program = on_top (λ top. record top { subcommand_required = true }) (new_app (codes "someipctl"))
 
 -- the command line
 abbrev pub cli : App
-cli = with_subcommand program show
+cli = with_subcommand (with_subcommand program show) payload
 
 -- ---- what words ask for
 
 -- a command, without where its words lie in memory
 pub data Request : Type 0 where
   show_request : Text → Request
+  payload_request : Text → Text → Request
 
 -- what a command asks for
 abbrev pub request_of : Command → Request
 request_of (Show capture) = show_request capture.now
+request_of (Payload shape hex) = payload_request shape.now hex.now
 
 -- what `show` asks for, by its argument
 abbrev pub show_of : Option Text → Option Request
 show_of None = None
 show_of (Some capture) = Some (show_request capture)
 
+-- what `payload` asks for, by its arguments
+abbrev pub payload_of : Option Text → Option Text → Option Request
+payload_of None hex = None
+payload_of (Some shape) None = None
+payload_of (Some shape) (Some hex) = Some (payload_request shape hex)
+
 -- what a subcommand asks for, by its name and what its arguments matched
 abbrev pub request_by : Text → List Row → Option Request
 request_by name rows =
-    if bytes_eq name (codes "show") then show_of (first_of (codes "capture") rows) else None
+    if bytes_eq name (codes "show") then show_of (first_of (codes "capture") rows)
+    else (if bytes_eq name (codes "payload")
+    then payload_of (first_of (codes "shape") rows) (first_of (codes "hex") rows) else None)
 
 -- what the subcommand that was entered asks for, where one was
 abbrev pub request_in : Option (Text × List Row) → Option Request

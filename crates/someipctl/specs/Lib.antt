@@ -6,4 +6,5 @@ pub mod Lines
 pub mod Outcomes
 pub mod ShownText
 pub mod ShowResult
+pub mod Payload
 pub mod Failures

@@ -6,7 +6,7 @@ ghost use Rattle.clap.specs.declared.builder.Command.TheViews.{out-Command};
 ghost use Rattle.someipctl.specs.declared.command.LineError.TheVariants.{OutOfMemory};
 ghost use Rattle.someipctl.specs.CommandLine.{CallsForHelp, IsErrorOf, IsRefused, IsTaken, RefusesWords};
 ghost use Rattle.someipctl.specs.CommandLine.{cli, is_flag, line, request_in, request_of, requested};
-ghost use Rattle.someipctl.specs.CommandLine.{show, show_of, show_request};
+ghost use Rattle.someipctl.specs.CommandLine.{payload, payload_of, show, show_of, show_request};
 
 use clap::error::ErrorKind;
 use clap::{Arg, ArgMatches};
@@ -21,6 +21,13 @@ pub enum Command<'w> {
     Show {
         /// The capture's path, as it was given.
         capture: &'w str,
+    },
+    /// Read a payload by its shape.
+    Payload {
+        /// The shape's text.
+        shape: &'w str,
+        /// The payload in hex, `-` for no bytes.
+        hex: &'w str,
     },
 }
 
@@ -92,6 +99,16 @@ and lines that begin with # are comments. So the line
 prints
   1 message 1234.0421 length 8 client 0001 session 0001 interface 01 type REQUEST code 00 payload -";
 
+const PAYLOAD_EXAMPLE: &str = "\
+SHAPE says what the payload looks like, HEX is the payload in hex without blanks, - for no bytes.
+A shape is bool, u8, u16, u32, u64, i8, i16, i32 or i64; utf8, utf16, array<MAX,shape> or
+struct(shape,..), with /8, /16 or /32 behind the word for the width of the length field;
+fixed<N,shape>; or union(NUMBER:shape,..). So the call
+  someipctl payload 'array<2,u16>' 0000000400010002
+prints
+  value [1,2]
+  used 8 of 8";
+
 /// The command line, as `clap` is told of it.
 fn definition<'d>(alloc: Global) -> Result<clap::Command<'d>, AllocError>
     ensures { IfOk result (λ command. app_of command ≡ cli) }
@@ -101,7 +118,8 @@ fn definition<'d>(alloc: Global) -> Result<clap::Command<'d>, AllocError>
         .about("Shows SOME/IP messages")
         .after_help(PROGRAM_EXAMPLE)
         .subcommand_required(true)
-        .subcommand(show_definition(alloc)?)
+        .subcommand(show_definition(alloc)?)?
+        .subcommand(payload_definition(alloc)?)
 }
 
 fn show_definition<'d>(alloc: Global) -> Result<clap::Command<'d>, AllocError>
@@ -125,6 +143,7 @@ fn matched<'w>(matches: &ArgMatches<'w>) -> Option<Command<'w>>
     let (name, rest) = matches.subcommand()?;
     match name {
         "show" => show_matched(rest),
+        "payload" => payload_matched(rest),
         _ => None,
     }
 }
@@ -135,4 +154,27 @@ fn show_matched<'w>(matches: &ArgMatches<'w>) -> Option<Command<'w>>
 {
     let capture = matches.get_str("capture")?;
     Some(Command::Show { capture })
+}
+
+fn payload_definition<'d>(alloc: Global) -> Result<clap::Command<'d>, AllocError>
+    ensures shape { IfOk result (λ command. shape_of command ≡ payload) }
+    ensures local { IfOk result (λ command. (out-Command command).has_globals ≡ false) }
+{
+    let shape = Arg::new(alloc, "shape").value_name("SHAPE").required(true);
+    let hex = Arg::new(alloc, "hex").value_name("HEX").required(true);
+    clap::Command::new(alloc, "payload")
+        .about("Reads a payload by its shape")
+        .after_help(PAYLOAD_EXAMPLE)
+        .arg(shape)?
+        .arg(hex)
+}
+
+fn payload_matched<'w>(matches: &ArgMatches<'w>) -> Option<Command<'w>>
+    ensures { option_map request_of result
+        ≡ payload_of (first_value (found_of matches.now) (codes "shape"))
+        (first_value (found_of matches.now) (codes "hex")) }
+{
+    let shape = matches.get_str("shape")?;
+    let hex = matches.get_str("hex")?;
+    Some(Command::Payload { shape, hex })
 }

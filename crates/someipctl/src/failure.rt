@@ -1,7 +1,8 @@
 //! Why the program did not do its work.
 ghost use Rattle.std.specs.Prelude.{◌≡◌};
-ghost use Rattle.someipctl.specs.Failures.{status_of_failure, failure_of_show};
+ghost use Rattle.someipctl.specs.Failures.{status_of_failure, failure_of_show, failure_of_payload};
 
+use crate::payload::PayloadRefusal;
 use crate::show::ShowError;
 use thiserror::Error;
 
@@ -11,6 +12,12 @@ pub enum Failure<'p> {
     /// The line of this number of a capture, counted from 1, is no hex.
     #[error("line {0}: bad hex")]
     BadHex(usize),
+    /// The text of a shape is none from this byte on.
+    #[error("bad shape at {0}")]
+    BadShape(usize),
+    /// A payload is no hex.
+    #[error("bad hex")]
+    BadPayloadHex,
     /// The words of the command line are no call of the program.
     #[error("{0}")]
     Usage(clap::Error),
@@ -35,7 +42,7 @@ impl<'p> Failure<'p> {
         ensures { result ≡ status_of_failure self.now }
     {
         match self {
-            Failure::BadHex(_) => 1,
+            Failure::BadHex(_) | Failure::BadShape(_) | Failure::BadPayloadHex => 1,
             Failure::Usage(_) | Failure::NotText => 2,
             Failure::OutOfMemory => 3,
             Failure::CannotRead(_) | Failure::CannotWrite => 4,
@@ -51,6 +58,18 @@ impl<'p> Failure<'p> {
             ShowError::CannotRead => Failure::CannotRead(path),
             ShowError::CannotWrite => Failure::CannotWrite,
             ShowError::OutOfMemory => Failure::OutOfMemory,
+        }
+    }
+
+    /// Why a payload was not read.
+    pub fn of_payload(refusal: PayloadRefusal) -> Failure<'static>
+        ensures { result ≡ failure_of_payload refusal }
+    {
+        match refusal {
+            PayloadRefusal::BadShape(place) => Failure::BadShape(place),
+            PayloadRefusal::BadHex => Failure::BadPayloadHex,
+            PayloadRefusal::CannotWrite => Failure::CannotWrite,
+            PayloadRefusal::OutOfMemory => Failure::OutOfMemory,
         }
     }
 }

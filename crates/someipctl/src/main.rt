@@ -2,6 +2,7 @@
 //!
 //! - `command`, `help`: what the words of the command line ask for, and the answer to others;
 //! - `capture`, `lines`, `show`: the command `show`;
+//! - `payload`: the command `payload`;
 //! - `input`, `output`, `parts`: reading an input whole, and printing in parts through a buffer;
 //! - `outcome`, `failure`: the exit statuses and the texts of faults;
 //! - `laws`: what the definitions behind the contracts promise.
@@ -20,6 +21,7 @@ mod lines;
 mod outcome;
 mod output;
 mod parts;
+mod payload;
 mod show;
 
 use command::{Command, command_of};
@@ -84,6 +86,11 @@ fn run_command<'w, R: Files + Print + AllocGlobal>(
 ) -> Result<Outcome, Failure<'w>> {
     match command {
         Command::Show { capture } => show_file(rt, capture),
+        Command::Payload { shape, hex } => {
+            payload::payload(rt.alloc(), shape, hex, &mut io::writer(rt)).map_err(
+                Failure::of_payload,
+            )
+        }
     }
 }
 

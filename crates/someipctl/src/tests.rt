@@ -5,11 +5,15 @@ use crate::failure::Failure;
 use crate::help::answer_error;
 use crate::laws;
 use crate::outcome::Outcome;
+use crate::payload::{PayloadRefusal, payload};
 use crate::show::{ShowError, show};
 use std::alloc::{AllocError, Global};
 use std::io;
 use std::io::{ErrorKind, Read, Write};
 use std::test::Fail;
+use tables::{captures, payloads, rows};
+
+mod tables;
 
 /// One request.
 const REQUEST: &[u8] = b"12340421 00000008 00010001 01010000\n";
@@ -70,61 +74,6 @@ impl Write for SlowWriter {
     fn flush(&mut self) -> io::Result<()> {
         Ok(())
     }
-}
-
-/// A capture, the text that it shows, and the exit status.
-type Shown = (&'static [u8], &'static str, u8);
-
-fn captures() -> [Shown; 12] {
-    [
-        (REQUEST, REQUEST_LINE, 0),
-        (
-            b"12340421 00000008 00010001 01010000 12340421 00000008 00010001 01010000 12340421 00000008 00010001 010100",
-            "1 message 1234.0421 length 8 client 0001 session 0001 interface 01 type REQUEST code 00 payload -\n\
-             1 message 1234.0421 length 8 client 0001 session 0001 interface 01 type REQUEST code 00 payload -\n\
-             1 fault Truncated at 47\n",
-            1,
-        ),
-        (b"", "", 0),
-        (b"# nothing\n\n   \n", "", 0),
-        (b"-", "1 empty\n", 0),
-        (
-            b"12340421 00000007 00010001 01010000\n- \n",
-            "1 fault LengthTooSmall at 4\n2 empty\n",
-            1,
-        ),
-        (
-            b"12340421 00000008 00010001 02010000\n",
-            "1 fault WrongProtocolVersion at 12\n",
-            1,
-        ),
-        (
-            b"12340421 00000008 00010001 01010300\n",
-            "1 fault UnknownMessageType at 14\n",
-            1,
-        ),
-        (
-            b"12340421 00000009 00010001 01010000\n",
-            "1 fault Truncated at 16\n",
-            1,
-        ),
-        (
-            b"# an event, in digits of both cases\n11118001 0000000A 00000001 0101020b 2AfF\n",
-            "1 message 1111.8001 length 10 client 0000 session 0001 interface 01 type NOTIFICATION code 0b payload 2aff\n",
-            0,
-        ),
-        (
-            b"11110421 0000000c 00010002 010120 00 00000000\n",
-            "1 message 1111.0421 length 12 client 0001 session 0002 interface 01 type TP_REQUEST code 00 payload 00000000\n",
-            0,
-        ),
-        (
-            b"ffff8100 00000008 00000001 01010200\n11110421 00000008 00010002 0102a101\n",
-            "1 message ffff.8100 length 8 client 0000 session 0001 interface 01 type NOTIFICATION code 00 payload -\n\
-             2 message 1111.0421 length 8 client 0001 session 0002 interface 02 type TP_ERROR code 01 payload -\n",
-            0,
-        ),
-    ]
 }
 
 #[test]
@@ -385,94 +334,59 @@ fn captures_are_read(rt: HostRuntime) -> Result<(), CaptureError> {
     Ok(())
 }
 
-/// Words, what they come to, and what is printed of that: a capture's path, or a part of a text.
-type Row = (&'static [&'static str], &'static str, &'static str);
+#[test]
+fn payloads_are_read(rt: HostRuntime) {
+    for (shape, hex, wanted, status) in payloads() {
+        let mut out = Vec::new(rt.alloc());
+        let outcome = payload(rt.alloc(), shape, hex, &mut out).map(|outcome| outcome.status());
+        assert_eq!(rt; outcome, Ok(status), "{shape} {hex}");
+        assert_eq!(rt; out.as_slice(), wanted.as_bytes(), "{shape} {hex}");
+    }
+}
 
-fn rows() -> [Row; 22] {
-    [
-        (&["someipctl", "show", "x"], "show", "x"),
-        (&["someipctl", "show", "-"], "show", "-"),
-        (&["someipctl", "show", ""], "show", ""),
-        (&["someipctl", "show", "help"], "show", "help"),
-        (&["someipctl", "show", "--", "-x"], "show", "-x"),
-        (&["other", "show", "a b"], "show", "a b"),
-        (
-            &["someipctl", "--help"],
-            "help",
-            "someipctl show examples/one.txt\n",
-        ),
-        (
-            &["someipctl", "-h"],
-            "help",
-            "  show  Prints the messages of a capture",
-        ),
-        (
-            &["someipctl", "help"],
-            "help",
-            "Usage: someipctl <COMMAND>\n",
-        ),
-        (
-            &["someipctl", "help", "show"],
-            "help",
-            "Usage: someipctl show <CAPTURE>\n",
-        ),
-        (
-            &["someipctl", "show", "--help"],
-            "help",
-            "  12340421 00000008 00010001 01010000\n",
-        ),
-        (
-            &["someipctl", "show", "-h"],
-            "help",
-            " type REQUEST code 00 payload -\n",
-        ),
-        (
-            &[],
-            "usage",
-            "requires a subcommand but one was not provided",
-        ),
-        (&["/bin/other"], "usage", "Usage: someipctl <COMMAND>\n"),
-        (
-            &["someipctl", "list"],
-            "usage",
-            "error: unrecognized subcommand 'list'\n",
-        ),
-        (
-            &["someipctl", "help", "list"],
-            "usage",
-            "error: unrecognized subcommand 'list'\n",
-        ),
-        (
-            &["someipctl", "--version"],
-            "usage",
-            "error: unexpected argument '--version' found\n",
-        ),
-        (
-            &["someipctl", "-V"],
-            "usage",
-            "error: unexpected argument '-V' found\n",
-        ),
-        (
-            &["someipctl", "show"],
-            "usage",
-            "Usage: someipctl show <CAPTURE>\n",
-        ),
-        (
-            &["someipctl", "show", "x", "y"],
-            "usage",
-            "error: unexpected argument 'y' found\n",
-        ),
-        (
-            &["someipctl", "show", "-x"],
-            "usage",
-            "error: unexpected argument '-x' found\n",
-        ),
-        (
-            &["someipctl", "show", "--all", "x"],
-            "usage",
-            "error: unexpected argument '--all' found\n",
-        ),
-    ]
+#[test]
+fn payloads_are_refused(rt: HostRuntime) -> Result<(), Fail> {
+    let rows = [
+        ("u9", "00", "bad shape at 1", 1),
+        ("struct()", "0g", "bad shape at 7", 1),
+        ("u8", "0g", "bad hex", 1),
+        ("u8", "000", "bad hex", 1),
+        ("u8", "00 00", "bad hex", 1),
+        ("u8", "", "bad hex", 1),
+        ("fixed<0,u8>", "", "bad hex", 1),
+    ];
+    for (shape, hex, wanted, status) in rows {
+        let mut out = Vec::new(rt.alloc());
+        match payload(rt.alloc(), shape, hex, &mut out) {
+            Ok(_) => assert!(rt; false, "{shape} {hex}"),
+            Err(refusal) => {
+                let failure = Failure::of_payload(refusal);
+                assert_eq!(rt; failure.to_string(rt.alloc())?.as_str(), wanted);
+                assert_eq!(rt; failure.status(), status);
+            }
+        }
+        assert!(rt; out.is_empty());
+    }
+    let rows = [
+        (PayloadRefusal::CannotWrite, "cannot write", 4),
+        (PayloadRefusal::OutOfMemory, "out of memory", 3),
+    ];
+    for (refusal, text, status) in rows {
+        let failure = Failure::of_payload(refusal);
+        assert_eq!(rt; failure.to_string(rt.alloc())?.as_str(), text);
+        assert_eq!(rt; failure.status(), status);
+    }
+    let mut writer = SlowWriter {
+        taken: Vec::new(rt.alloc()),
+        most: 1,
+        calls: 0,
+        fails_at: 5,
+        takes_nothing: false,
+    };
+    let outcome = payload(rt.alloc(), "u8", "07", &mut writer);
+    assert_eq!(rt; outcome, Err(PayloadRefusal::CannotWrite));
+    assert_eq!(rt; writer.taken.as_slice(), b"value".as_slice());
+    Ok(())
 }
 
 /// What came of words: the outcome's name, and what is printed of it.
@@ -482,6 +396,9 @@ fn outcome(
 ) -> Result<(&'static str, String), AllocError> {
     match answer {
         Ok(Command::Show { capture }) => Ok(("show", String::from_str(alloc, capture)?)),
+        Ok(Command::Payload { shape, hex }) => {
+            Ok(("payload", format!(in alloc; "{shape} {hex}")?))
+        }
         Err(LineError::Help(text)) => Ok(("help", format!(in alloc; "{text}")?)),
         Err(LineError::Usage(text)) => Ok(("usage", format!(in alloc; "{text}")?)),
         Err(LineError::OutOfMemory) => Err(AllocError),
@@ -492,7 +409,7 @@ fn outcome(
 fn words_come_to_a_command_or_a_text(rt: HostRuntime) -> Result<(), Fail> {
     for (words, wanted, part) in rows() {
         let (outcome, text) = outcome(rt.alloc(), command_of(rt.alloc(), words))?;
-        let found = if wanted == "show" {
+        let found = if wanted == "show" || wanted == "payload" {
             text.as_str() == part
         } else {
             text.contains(part)

@@ -1,0 +1,107 @@
+-- Shapes of which the parts were read one after the other.
+use Rattle.std.proofs.Common.{rules, ◌≡◌, ℕ, ◌<◌, ◌≤◌, List, ◌++◌, length, Option, Vec, Global, slice_range, codes, arith}
+use Rattle.std.specs.Prelude.{Result, Ok, Err, IfOk}
+use Rattle.std.specs.Fmt.{decimal}
+use Rattle.std.specs.declared.boxed.Box.{Box}
+use Rattle.someip_payload.specs.declared.number.Size.TheVariants.{S8, S16, S32, S64}
+use Rattle.someip_payload.specs.declared.shape_text_error.ShapeTextError.{ShapeTextError}
+use Rattle.someip_payload.specs.declared.shape.Shape.{Shape, Bool, U8, U16, U32, U64, I8, I16, I32, I64, Text, Array, Fixed, Struct, Union, the_lemmas}
+use Rattle.someip_payload.specs.declared.shape.Encoding.{Encoding}
+use Rattle.someip_payload.specs.declared.shape.Encoding.TheVariants.{Utf8, Utf16}
+use Rattle.someip_payload.specs.declared.shape.Width.{Width}
+use Rattle.someip_payload.specs.Data.{bool, unsigned, signed, string, array, fixed, «struct», union}
+use Rattle.someip_payload.specs.View.{form, forms, all_variants}
+use Rattle.someip_payload.specs.ShapeText.{IsTextOf, IsTextOfMembers, IsTextOfVariants, bool_text, u8_text, u16_text, u32_text, u64_text, i8_text, i16_text, i32_text, i64_text, utf8_text, utf16_text, array_text, fixed_text, struct_text, union_text, width_text, or_32, repeated_text}
+use Rattle.someip_payload.proofs.Pieces.{slice_range-append}
+
+form-Text : (e : Encoding) (w : Width) → form (Text e w) ≡ string e w
+form-Text e w = search (rules, the_lemmas)
+
+form-Array : (w : Width) (n : ℕ) (b : Box Shape Global) → form (Array w n b) ≡ array w n (form b.value)
+form-Array w n b = search (rules, the_lemmas)
+
+form-Fixed : (n : ℕ) (b : Box Shape Global) → form (Fixed n b) ≡ fixed n (form b.value)
+form-Fixed n b = search (rules, the_lemmas)
+
+form-Struct : (w : Option Width) (ss : Vec Shape Global) → form (Struct w ss) ≡ «struct» w (forms ss.items)
+form-Struct w ss = search (rules, the_lemmas)
+
+form-Union : (vs : Vec (ℕ × Shape) Global) → form (Union vs) ≡ union (all_variants vs.items)
+form-Union vs = search (rules, the_lemmas)
+
+pub bool_shape : (piece : List ℕ) → piece ≡ codes "bool" → IsTextOf (form Bool) piece
+bool_shape piece is = let e : form Bool ≡ bool = search (rules, the_lemmas) in rw (e, is) bool_text
+
+pub u8_shape : (piece : List ℕ) → piece ≡ codes "u8" → IsTextOf (form U8) piece
+u8_shape piece is = let e : form U8 ≡ unsigned S8 = search (rules, the_lemmas) in rw (e, is) u8_text
+
+pub u16_shape : (piece : List ℕ) → piece ≡ codes "u16" → IsTextOf (form U16) piece
+u16_shape piece is = let e : form U16 ≡ unsigned S16 = search (rules, the_lemmas) in rw (e, is) u16_text
+
+pub u32_shape : (piece : List ℕ) → piece ≡ codes "u32" → IsTextOf (form U32) piece
+u32_shape piece is = let e : form U32 ≡ unsigned S32 = search (rules, the_lemmas) in rw (e, is) u32_text
+
+pub u64_shape : (piece : List ℕ) → piece ≡ codes "u64" → IsTextOf (form U64) piece
+u64_shape piece is = let e : form U64 ≡ unsigned S64 = search (rules, the_lemmas) in rw (e, is) u64_text
+
+pub i8_shape : (piece : List ℕ) → piece ≡ codes "i8" → IsTextOf (form I8) piece
+i8_shape piece is = let e : form I8 ≡ signed S8 = search (rules, the_lemmas) in rw (e, is) i8_text
+
+pub i16_shape : (piece : List ℕ) → piece ≡ codes "i16" → IsTextOf (form I16) piece
+i16_shape piece is = let e : form I16 ≡ signed S16 = search (rules, the_lemmas) in rw (e, is) i16_text
+
+pub i32_shape : (piece : List ℕ) → piece ≡ codes "i32" → IsTextOf (form I32) piece
+i32_shape piece is = let e : form I32 ≡ signed S32 = search (rules, the_lemmas) in rw (e, is) i32_text
+
+pub i64_shape : (piece : List ℕ) → piece ≡ codes "i64" → IsTextOf (form I64) piece
+i64_shape piece is = let e : form I64 ≡ signed S64 = search (rules, the_lemmas) in rw (e, is) i64_text
+
+pub utf8_shape : (w : Option Width) (meant : Width) (piece : List ℕ) → meant ≡ or_32 w → piece ≡ width_text w → IsTextOf (form (Text Utf8 meant)) (codes "utf8" ++ piece)
+utf8_shape w meant piece is is_piece = rw (form-Text Utf8 meant, is, is_piece) (utf8_text w)
+
+pub utf16_shape : (w : Option Width) (meant : Width) (piece : List ℕ) → meant ≡ or_32 w → piece ≡ width_text w → IsTextOf (form (Text Utf16 meant)) (codes "utf16" ++ piece)
+utf16_shape w meant piece is is_piece = rw (form-Text Utf16 meant, is, is_piece) (utf16_text w)
+
+pub array_shape : (w : Option Width) (meant : Width) (n : ℕ) (b : Box Shape Global) (text element : List ℕ) (at from end : ℕ) → at ≤ from → from ≤ end
+    → meant ≡ or_32 w → slice_range text at from ≡ width_text w → IsTextOf (form b.value) element → slice_range text from end ≡ repeated_text n element
+    → IsTextOf (form (Array meant n b)) (codes "array" ++ slice_range text at end)
+array_shape w meant n b text element at from end le le2 is width is_element repeated =
+    rw (form-Array meant n b, is, ← slice_range-append text at from end le le2, width, repeated) (array_text w n (form b.value) element is_element)
+
+pub fixed_shape : (n : ℕ) (b : Box Shape Global) (piece element : List ℕ) → IsTextOf (form b.value) element → piece ≡ repeated_text n element
+    → IsTextOf (form (Fixed n b)) (codes "fixed" ++ piece)
+fixed_shape n b piece element is repeated = rw (form-Fixed n b, repeated) (fixed_text n (form b.value) element is)
+
+pub struct_shape : (w : Option Width) (ss : Vec Shape Global) (text members : List ℕ) (at from first end : ℕ) → at ≤ from → from ≤ first → first ≤ end
+    → slice_range text at from ≡ width_text w → slice_range text from first ≡ codes "(" → IsTextOfMembers (forms ss.items) members → slice_range text first end ≡ members ++ codes ")"
+    → IsTextOf (form (Struct w ss)) (codes "struct" ++ slice_range text at end)
+struct_shape w ss text members at from first end le le2 le3 width bracket are all =
+    rw (form-Struct w ss, ← slice_range-append text at from end le (omega arith), width, ← slice_range-append text from first end le2 le3, bracket, all) (struct_text w (forms ss.items) members are)
+
+pub union_shape : (vs : Vec (ℕ × Shape) Global) (text variants : List ℕ) (at first end : ℕ) → at ≤ first → first ≤ end
+    → slice_range text at first ≡ codes "(" → IsTextOfVariants (all_variants vs.items) variants → slice_range text first end ≡ variants ++ codes ")"
+    → IsTextOf (form (Union vs)) (codes "union" ++ slice_range text at end)
+union_shape vs text variants at first end le le2 bracket are all =
+    rw (form-Union vs, ← slice_range-append text at first end le le2, bracket, all) (union_text (all_variants vs.items) variants are)
+
+pub repeated_piece : (text : List ℕ) (n at from comma first last end : ℕ) → at ≤ from → from ≤ comma → comma ≤ first → first ≤ last → last ≤ end
+    → slice_range text at from ≡ codes "<" → slice_range text from comma ≡ decimal n → slice_range text comma first ≡ codes "," → slice_range text last end ≡ codes ">"
+    → slice_range text at end ≡ repeated_text n (slice_range text first last)
+repeated_piece text n at from comma first last end le le2 le3 le4 le5 before number middle behind =
+    rw (
+      ← slice_range-append text at from end le (omega arith),
+      ← slice_range-append text from comma end le2 (omega arith),
+      ← slice_range-append text comma first end le3 (omega arith),
+      ← slice_range-append text first last end le4 le5,
+      before,
+      number,
+      middle,
+      behind,
+    )
+
+-- a word and what was read behind it
+pub behind_word : (r : Result (Shape × ℕ) ShapeTextError) (text word : List ℕ) (at end : ℕ) → at < end → slice_range text at end ≡ word
+    → IfOk r (λ x. (end ≤ x.1) × (x.1 ≤ length text)) → IfOk r (λ x. IsTextOf (form x.0) (word ++ slice_range text end x.1))
+    → IfOk r (λ x. IsTextOf (form x.0) (slice_range text at x.1))
+behind_word (Ok x) text word at end lt is bounds found = rw (← slice_range-append text at end x.1 (omega arith) bounds.0, is) found
+behind_word (Err e) text word at end lt is bounds found = tt

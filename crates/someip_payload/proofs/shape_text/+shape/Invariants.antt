@@ -1,0 +1,39 @@
+use Rattle.std.proofs.Common.{◌≤◌, ◌+◌, ◌-◌, ◌*◌, length, slice_range}
+use Rattle.someip_payload.proofs.Members.{MembersSoFar, VariantsSoFar}
+use Rattle.someip_payload.proofs.shape_text.+shape.Given as goal
+
+abbrev pub decreases-shape_at : goal.decreases-shape_at
+decreases-shape_at l = 3 * l.left
+
+abbrev pub decreases-repeated_at : goal.decreases-repeated_at
+decreases-repeated_at l = 3 * l.left + 1
+
+abbrev pub decreases-members_at : goal.decreases-members_at
+decreases-members_at l = 3 * l.left + 1
+
+abbrev pub decreases-variants_at : goal.decreases-variants_at
+decreases-variants_at l = 3 * l.left + 1
+
+abbrev pub decreases-array_at : goal.decreases-array_at
+decreases-array_at l = 3 * l.left + 2
+
+abbrev pub decreases-fixed_at : goal.decreases-fixed_at
+decreases-fixed_at l = 3 * l.left + 2
+
+abbrev pub decreases-struct_at : goal.decreases-struct_at
+decreases-struct_at l = 3 * l.left + 2
+
+abbrev pub decreases-union_at : goal.decreases-union_at
+decreases-union_at l = 3 * l.left + 2
+
+abbrev pub invariant-members_at-loop-members : goal.invariant-members_at-loop-members
+invariant-members_at-loop-members l = (l.at ≤ l.next) × (l.next ≤ length l.text) × MembersSoFar l.members.items (slice_range l.text l.at l.next)
+
+abbrev pub decreases-members_at-loop-members : goal.decreases-members_at-loop-members
+decreases-members_at-loop-members l = length l.text - l.next
+
+abbrev pub invariant-variants_at-loop-variants : goal.invariant-variants_at-loop-variants
+invariant-variants_at-loop-variants l = (l.at ≤ l.next) × (l.next ≤ length l.text) × VariantsSoFar l.variants.items (slice_range l.text l.at l.next)
+
+abbrev pub decreases-variants_at-loop-variants : goal.decreases-variants_at-loop-variants
+decreases-variants_at-loop-variants l = length l.text - l.next

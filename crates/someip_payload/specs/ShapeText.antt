@@ -1,0 +1,75 @@
+-- The texts of shapes.
+use Rattle.std.specs.Prelude.{ℕ, ◌≤◌, ◌==◌, Bool, false, ⊤, List, [], ◌∷◌, ◌++◌, Option, Some, None, codes}
+use Rattle.std.specs.List.{list_any}
+use Rattle.std.specs.Fmt.{decimal}
+use Rattle.someip_payload.specs.Data.{Form, bool, unsigned, signed, string, array, fixed, «struct», union, Forms, no_forms, form_then, Variants, no_variants, variant}
+use Rattle.someip_payload.specs.declared.number.Size.TheVariants.{S8, S16, S32, S64}
+use Rattle.someip_payload.specs.declared.shape.Encoding.TheVariants.{Utf8, Utf16}
+use Rattle.someip_payload.specs.declared.shape.Width.{Width}
+use Rattle.someip_payload.specs.declared.shape.Width.TheVariants.{W8, W16, W32}
+use Rattle.someip_payload.specs.declared.shape_text_error.ShapeTextError.{ShapeTextError}
+use Rattle.someip_payload.specs.declared.shape_text_error.ShapeTextError.TheVariants.{BadShape, OutOfMemory}
+
+-- a width as it is written, or nothing
+abbrev pub width_text : Option Width → List ℕ
+width_text None = []
+width_text (Some W8) = codes "/8"
+width_text (Some W16) = codes "/16"
+width_text (Some W32) = codes "/32"
+
+-- the width that is meant where nothing is written
+abbrev pub or_32 : Option Width → Width
+or_32 None = W32
+or_32 (Some w) = w
+
+-- a number of repetitions, and what is repeated
+abbrev pub repeated_text : ℕ → List ℕ → List ℕ
+repeated_text n element = codes "<" ++ (decimal n ++ (codes "," ++ (element ++ codes ">")))
+
+mutual
+  -- the form has the text
+  pub data IsTextOf : Form → List ℕ → Type 0 where
+    bool_text : IsTextOf bool (codes "bool")
+    u8_text : IsTextOf (unsigned S8) (codes "u8")
+    u16_text : IsTextOf (unsigned S16) (codes "u16")
+    u32_text : IsTextOf (unsigned S32) (codes "u32")
+    u64_text : IsTextOf (unsigned S64) (codes "u64")
+    i8_text : IsTextOf (signed S8) (codes "i8")
+    i16_text : IsTextOf (signed S16) (codes "i16")
+    i32_text : IsTextOf (signed S32) (codes "i32")
+    i64_text : IsTextOf (signed S64) (codes "i64")
+    utf8_text : (w : Option Width) → IsTextOf (string Utf8 (or_32 w)) (codes "utf8" ++ width_text w)
+    utf16_text : (w : Option Width) → IsTextOf (string Utf16 (or_32 w)) (codes "utf16" ++ width_text w)
+    array_text : (w : Option Width) (n : ℕ) (f : Form) (text : List ℕ) → IsTextOf f text
+        → IsTextOf (array (or_32 w) n f) (codes "array" ++ (width_text w ++ repeated_text n text))
+    fixed_text : (n : ℕ) (f : Form) (text : List ℕ) → IsTextOf f text → IsTextOf (fixed n f) (codes "fixed" ++ repeated_text n text)
+    struct_text : (w : Option Width) (fs : Forms) (text : List ℕ) → IsTextOfMembers fs text
+        → IsTextOf («struct» w fs) (codes "struct" ++ (width_text w ++ (codes "(" ++ (text ++ codes ")"))))
+    union_text : (vs : Variants) (text : List ℕ) → IsTextOfVariants vs text → IsTextOf (union vs) (codes "union" ++ (codes "(" ++ (text ++ codes ")")))
+
+  -- members, of which there is at least one, with commas between them
+  pub data IsTextOfMembers : Forms → List ℕ → Type 0 where
+    last_member : (f : Form) (text : List ℕ) → IsTextOf f text → IsTextOfMembers (form_then f no_forms) text
+    next_member : (f : Form) (fs : Forms) (text others : List ℕ) → IsTextOf f text → IsTextOfMembers fs others
+        → IsTextOfMembers (form_then f fs) (text ++ (codes "," ++ others))
+
+  -- variants, of which there is at least one, each behind its type number, with commas between them
+  pub data IsTextOfVariants : Variants → List ℕ → Type 0 where
+    last_variant : (n : ℕ) (f : Form) (text : List ℕ) → IsTextOf f text → IsTextOfVariants (variant n f no_variants) (decimal n ++ (codes ":" ++ text))
+    next_variant : (n : ℕ) (f : Form) (vs : Variants) (text others : List ℕ) → IsTextOf f text → IsTextOfVariants vs others
+        → IsTextOfVariants (variant n f vs) ((decimal n ++ (codes ":" ++ text)) ++ (codes "," ++ others))
+
+-- a fault's place lies between two places; memory may run out at any
+abbrev pub IsFaultWithin : ℕ → ℕ → ShapeTextError → Type 0
+IsFaultWithin low high (BadShape place) = (low ≤ place) × (place ≤ high)
+IsFaultWithin low high OutOfMemory = ⊤
+
+-- whether two texts begin with the same byte
+abbrev pub begin_alike : List ℕ → List ℕ → Bool
+begin_alike [] bs = false
+begin_alike (a ∷ others) [] = false
+begin_alike (a ∷ others) (b ∷ bs) = a == b
+
+-- whether a text begins with a byte with which the text of some shape begins
+abbrev pub begins_like_a_shape : List ℕ → Bool
+begins_like_a_shape text = list_any (λ letter. begin_alike (letter ∷ []) text) (codes "abfisu")

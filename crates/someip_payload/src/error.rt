@@ -1,0 +1,62 @@
+//! Why a payload could not be read or written.
+
+ghost use Rattle.std.specs.Prelude.{◌≡◌};
+ghost use Rattle.someip_payload.specs.declared.error.PayloadError.TheVariants.{OutOfMemory};
+
+use std::alloc::{AllocError, AllocFailed};
+use thiserror::Error;
+
+/// Why a payload could not be read or written. The place is the index of a byte of the input, and
+/// 0 where a value or a shape is at fault.
+#[derive(Debug, Drop, Error, PartialEq, Eq)]
+pub enum PayloadError {
+    /// A value passes the end of the input.
+    #[error("Truncated at {0}")]
+    Truncated(usize),
+    /// A text has no byte order mark where it needs one, or is not in its encoding.
+    #[error("BadText at {0}")]
+    BadText(usize),
+    /// A text does not end in a zero character.
+    #[error("NoTerminator at {0}")]
+    NoTerminator(usize),
+    /// A union has no variant of this type number.
+    #[error("UnknownVariant at {0}")]
+    UnknownVariant(usize),
+    /// A value passes the end that a length field sets, or a union without a value has a length.
+    #[error("LengthMismatch at {0}")]
+    LengthMismatch(usize),
+    /// An array has more elements than its shape allows.
+    #[error("TooMany at {0}")]
+    TooMany(usize),
+    /// More than 16 shapes lie inside each other.
+    #[error("TooDeep at {0}")]
+    TooDeep(usize),
+    /// The value is not one of the shape.
+    #[error("NotOfShape at {0}")]
+    NotOfShape(usize),
+    /// A body is longer than its length field can say.
+    #[error("TooLong at {0}")]
+    TooLong(usize),
+    /// Memory ran out.
+    #[error("out of memory")]
+    OutOfMemory,
+    /// The shape has a part that no value can have, or that says a thing twice.
+    #[error("BadShape at {0}")]
+    BadShape(usize),
+}
+
+impl From<AllocError> for PayloadError {
+    ghost from_gives = { λ _ e. e ≡ OutOfMemory };
+
+    fn from(_e: AllocError) -> PayloadError {
+        PayloadError::OutOfMemory
+    }
+}
+
+impl<T: Drop> From<AllocFailed<T>> for PayloadError {
+    ghost from_gives = { λ _ e. e ≡ OutOfMemory };
+
+    fn from(_e: AllocFailed<T>) -> PayloadError {
+        PayloadError::OutOfMemory
+    }
+}

@@ -1,0 +1,43 @@
+//! What a payload may look like.
+
+/// How many bits a length field has.
+#[derive(Clone, Copy, Debug, PartialEq, Eq)]
+pub enum Width {
+    W8,
+    W16,
+    W32,
+}
+
+/// How the characters of a text are written.
+#[derive(Clone, Copy, Debug, PartialEq, Eq)]
+pub enum Encoding {
+    Utf8,
+    Utf16,
+}
+
+/// A shape of payload: which values it has and how each is written (SOME/IP Protocol, payload
+/// serialization). Numbers are big-endian, and signed ones in two's complement.
+#[derive(Debug, Drop)]
+pub enum Shape {
+    /// One byte, of which the lowest bit counts.
+    Bool,
+    U8,
+    U16,
+    U32,
+    U64,
+    I8,
+    I16,
+    I32,
+    I64,
+    /// A text behind a length field in bytes, with a byte order mark and a terminator.
+    Text(Encoding, Width),
+    /// At most so many elements, behind a length field in bytes.
+    Array(Width, u32, Box<Shape>),
+    /// Exactly so many elements, without a length field.
+    Fixed(u32, Box<Shape>),
+    /// Members in order, perhaps behind a length field in bytes.
+    Struct(Option<Width>, Vec<Shape>),
+    /// One of several variants, each with its type number, behind a length field in bytes and a
+    /// type field, each of 32 bits. Type number 0 stands for no value.
+    Union(Vec<(u32, Shape)>),
+}

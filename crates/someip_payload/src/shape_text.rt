@@ -1,0 +1,422 @@
+//! Shapes from their texts.
+
+ghost use Rattle.std.specs.Prelude.{◌≡◌, ◌≢◌, ◌+◌, ◌*◌, ◌<◌, ◌≤◌, ◌++◌, [], ◌∷◌, ℕ, List, Some, None, length, take, drop, false, slice_range, slice_index, codes, IsTrue, IsErrOf, IfOk, IfErr, IfSome};
+ghost use Rattle.std.specs.List.{AllByRecursion};
+ghost use Rattle.std.specs.Fmt.{decimal};
+ghost use Rattle.someip_payload.specs.ShapeText.{IsTextOf, IsTextOfMembers, IsTextOfVariants, IsFaultWithin, begin_alike, begins_like_a_shape, width_text, or_32, repeated_text};
+ghost use Rattle.someip_payload.specs.View.{form, forms, all_variants};
+ghost use Rattle.someip_payload.specs.Words.{word_text};
+
+use crate::shape::{Encoding, Shape, Width};
+use crate::shape_text_error::ShapeTextError;
+use std::alloc::Global;
+
+// How many shapes may lie around a shape in a text.
+const MOST_AROUND: u32 = 64;
+
+#[derive(Clone, Copy)]
+enum Word {
+    Bool,
+    U8,
+    U16,
+    U32,
+    U64,
+    I8,
+    I16,
+    I32,
+    I64,
+    Utf8,
+    Utf16,
+    Array,
+    Fixed,
+    Struct,
+    Union,
+}
+
+// What a shape's text begins with. No word begins another one.
+const WORDS: [(&str, Word); 15] = [
+    ("bool", Word::Bool),
+    ("u8", Word::U8),
+    ("u16", Word::U16),
+    ("u32", Word::U32),
+    ("u64", Word::U64),
+    ("i8", Word::I8),
+    ("i16", Word::I16),
+    ("i32", Word::I32),
+    ("i64", Word::I64),
+    ("utf8", Word::Utf8),
+    ("utf16", Word::Utf16),
+    ("array", Word::Array),
+    ("fixed", Word::Fixed),
+    ("struct", Word::Struct),
+    ("union", Word::Union),
+];
+
+const WIDTHS: [(&str, Width); 3] = [("/8", Width::W8), ("/16", Width::W16), ("/32", Width::W32)];
+
+/// The shape of this text, as `array<8,struct(u8,utf16/8)>`. A fault's place is that of the first
+/// byte at which no text of a shape goes on, which is the length of a text that ends too early. A
+/// shape inside 64 others is a fault at its first byte.
+pub fn read_shape(alloc: Global, text: &str) -> Result<Shape, ShapeTextError>
+    ensures found { IfOk result (λ shape. IsTextOf (form shape) text.now) }
+    ensures fault { IfErr result (IsFaultWithin 0 (length text.now)) }
+    ensures start { IsErrOf result (ShapeTextError.BadShape 0) → begins_like_a_shape text.now ≡ false }
+{
+    let text = text.as_bytes();
+    let (shape, end) = shape_at(alloc, text, 0, MOST_AROUND)?;
+    if end < text.len() {
+        return Err(ShapeTextError::BadShape(end));
+    }
+    Ok(shape)
+}
+
+// The shape at a place, inside which so many others may lie, and the place behind it.
+#[cycle(shape)]
+fn shape_at(
+    alloc: Global,
+    text: &[u8],
+    at: usize,
+    left: u32,
+) -> Result<(Shape, usize), ShapeTextError>
+    requires { at ≤ length text.now }
+    ensures found { IfOk result (λ x. IsTextOf (form x.0) (slice_range text.now at x.1)) }
+    ensures end { IfOk result (λ x. (at < x.1) × (x.1 ≤ length text.now)) }
+    ensures fault { IfErr result (IsFaultWithin at (length text.now)) }
+    ensures start { 0 < left → IsErrOf result (ShapeTextError.BadShape at) → begins_like_a_shape (drop at text.now) ≡ false }
+{
+    if left == 0 {
+        return Err(ShapeTextError::BadShape(at));
+    }
+    let (word, end) = first_word(text, at)?;
+    match word {
+        Word::Bool => Ok((Shape::Bool, end)),
+        Word::U8 => Ok((Shape::U8, end)),
+        Word::U16 => Ok((Shape::U16, end)),
+        Word::U32 => Ok((Shape::U32, end)),
+        Word::U64 => Ok((Shape::U64, end)),
+        Word::I8 => Ok((Shape::I8, end)),
+        Word::I16 => Ok((Shape::I16, end)),
+        Word::I32 => Ok((Shape::I32, end)),
+        Word::I64 => Ok((Shape::I64, end)),
+        Word::Utf8 => utf8_at(text, end),
+        Word::Utf16 => utf16_at(text, end),
+        Word::Array => array_at(alloc, text, end, left - 1),
+        Word::Fixed => fixed_at(alloc, text, end, left - 1),
+        Word::Struct => struct_at(alloc, text, end, left - 1),
+        Word::Union => union_at(alloc, text, end, left - 1),
+    }
+}
+
+// The rest of a shape behind the word `utf8`.
+fn utf8_at(text: &[u8], at: usize) -> Result<(Shape, usize), ShapeTextError>
+    requires { at ≤ length text.now }
+    ensures found { IfOk result (λ x. IsTextOf (form x.0) (codes "utf8" ++ slice_range text.now at x.1)) }
+    ensures end { IfOk result (λ x. (at ≤ x.1) × (x.1 ≤ length text.now)) }
+    ensures fault { IfErr result (IsFaultWithin at (length text.now)) }
+{
+    let (width, end) = width_at(text, at)?;
+    Ok((Shape::Text(Encoding::Utf8, or_32(width)), end))
+}
+
+// The rest of a shape behind the word `utf16`.
+fn utf16_at(text: &[u8], at: usize) -> Result<(Shape, usize), ShapeTextError>
+    requires { at ≤ length text.now }
+    ensures found { IfOk result (λ x. IsTextOf (form x.0) (codes "utf16" ++ slice_range text.now at x.1)) }
+    ensures end { IfOk result (λ x. (at ≤ x.1) × (x.1 ≤ length text.now)) }
+    ensures fault { IfErr result (IsFaultWithin at (length text.now)) }
+{
+    let (width, end) = width_at(text, at)?;
+    Ok((Shape::Text(Encoding::Utf16, or_32(width)), end))
+}
+
+// The rest of a shape behind the word `array`.
+#[cycle(shape)]
+fn array_at(
+    alloc: Global,
+    text: &[u8],
+    at: usize,
+    left: u32,
+) -> Result<(Shape, usize), ShapeTextError>
+    requires { at ≤ length text.now }
+    ensures found { IfOk result (λ x. IsTextOf (form x.0) (codes "array" ++ slice_range text.now at x.1)) }
+    ensures end { IfOk result (λ x. (at ≤ x.1) × (x.1 ≤ length text.now)) }
+    ensures fault { IfErr result (IsFaultWithin at (length text.now)) }
+{
+    let (width, from) = width_at(text, at)?;
+    let (max, element, end) = repeated_at(alloc, text, from, left)?;
+    Ok((Shape::Array(or_32(width), max, element), end))
+}
+
+// The rest of a shape behind the word `fixed`.
+#[cycle(shape)]
+fn fixed_at(
+    alloc: Global,
+    text: &[u8],
+    at: usize,
+    left: u32,
+) -> Result<(Shape, usize), ShapeTextError>
+    requires { at ≤ length text.now }
+    ensures found { IfOk result (λ x. IsTextOf (form x.0) (codes "fixed" ++ slice_range text.now at x.1)) }
+    ensures end { IfOk result (λ x. (at ≤ x.1) × (x.1 ≤ length text.now)) }
+    ensures fault { IfErr result (IsFaultWithin at (length text.now)) }
+{
+    let (count, element, end) = repeated_at(alloc, text, at, left)?;
+    Ok((Shape::Fixed(count, element), end))
+}
+
+// A number of repetitions and the shape of what is repeated, in angle brackets.
+#[cycle(shape)]
+fn repeated_at(
+    alloc: Global,
+    text: &[u8],
+    at: usize,
+    left: u32,
+) -> Result<(u32, Box<Shape>, usize), ShapeTextError>
+    requires { at ≤ length text.now }
+    ensures found { IfOk result (λ x. (element : List ℕ) × IsTextOf (form x.1.value) element
+        × (slice_range text.now at x.2 ≡ repeated_text x.0 element)) }
+    ensures end { IfOk result (λ x. (at ≤ x.2) × (x.2 ≤ length text.now)) }
+    ensures fault { IfErr result (IsFaultWithin at (length text.now)) }
+{
+    let from = byte_at(b'<', text, at)?;
+    let (number, comma) = number_at(text, from)?;
+    let first = byte_at(b',', text, comma)?;
+    let (element, last) = shape_at(alloc, text, first, left)?;
+    let end = byte_at(b'>', text, last)?;
+    Ok((number, Box::new(alloc, element)?, end))
+}
+
+// The rest of a shape behind the word `struct`.
+#[cycle(shape)]
+fn struct_at(
+    alloc: Global,
+    text: &[u8],
+    at: usize,
+    left: u32,
+) -> Result<(Shape, usize), ShapeTextError>
+    requires { at ≤ length text.now }
+    ensures found { IfOk result (λ x. IsTextOf (form x.0) (codes "struct" ++ slice_range text.now at x.1)) }
+    ensures end { IfOk result (λ x. (at ≤ x.1) × (x.1 ≤ length text.now)) }
+    ensures fault { IfErr result (IsFaultWithin at (length text.now)) }
+{
+    let (width, from) = width_at(text, at)?;
+    let first = byte_at(b'(', text, from)?;
+    let (members, end) = members_at(alloc, text, first, left)?;
+    Ok((Shape::Struct(width, members), end))
+}
+
+// Members with commas between them, and a bracket behind the last.
+#[cycle(shape)]
+fn members_at(
+    alloc: Global,
+    text: &[u8],
+    at: usize,
+    left: u32,
+) -> Result<(Vec<Shape>, usize), ShapeTextError>
+    requires { at ≤ length text.now }
+    ensures found { IfOk result (λ x. (members : List ℕ) × IsTextOfMembers (forms x.0.items) members
+        × (slice_range text.now at x.1 ≡ members ++ codes ")")) }
+    ensures end { IfOk result (λ x. (at ≤ x.1) × (x.1 ≤ length text.now)) }
+    ensures fault { IfErr result (IsFaultWithin at (length text.now)) }
+{
+    let mut members = Vec::new(alloc);
+    let mut next = at;
+    loop {
+        let (member, end) = shape_at(alloc, text, next, left)?;
+        members.push(member)?;
+        if has_comma(text, end) {
+            next = end + 1;
+        } else {
+            let end = byte_at(b')', text, end)?;
+            return Ok((members, end));
+        }
+    }
+}
+
+// The rest of a shape behind the word `union`.
+#[cycle(shape)]
+fn union_at(
+    alloc: Global,
+    text: &[u8],
+    at: usize,
+    left: u32,
+) -> Result<(Shape, usize), ShapeTextError>
+    requires { at ≤ length text.now }
+    ensures found { IfOk result (λ x. IsTextOf (form x.0) (codes "union" ++ slice_range text.now at x.1)) }
+    ensures end { IfOk result (λ x. (at ≤ x.1) × (x.1 ≤ length text.now)) }
+    ensures fault { IfErr result (IsFaultWithin at (length text.now)) }
+{
+    let first = byte_at(b'(', text, at)?;
+    let (variants, end) = variants_at(alloc, text, first, left)?;
+    Ok((Shape::Union(variants), end))
+}
+
+// Variants with commas between them, and a bracket behind the last.
+#[cycle(shape)]
+fn variants_at(
+    alloc: Global,
+    text: &[u8],
+    at: usize,
+    left: u32,
+) -> Result<(Vec<(u32, Shape)>, usize), ShapeTextError>
+    requires { at ≤ length text.now }
+    ensures found { IfOk result (λ x. (variants : List ℕ) × IsTextOfVariants (all_variants x.0.items) variants
+        × (slice_range text.now at x.1 ≡ variants ++ codes ")")) }
+    ensures end { IfOk result (λ x. (at ≤ x.1) × (x.1 ≤ length text.now)) }
+    ensures fault { IfErr result (IsFaultWithin at (length text.now)) }
+{
+    let mut variants = Vec::new(alloc);
+    let mut next = at;
+    loop {
+        let (number, colon) = number_at(text, next)?;
+        let first = byte_at(b':', text, colon)?;
+        let (shape, end) = shape_at(alloc, text, first, left)?;
+        variants.push((number, shape))?;
+        if has_comma(text, end) {
+            next = end + 1;
+        } else {
+            let end = byte_at(b')', text, end)?;
+            return Ok((variants, end));
+        }
+    }
+}
+
+// The width of a length field, where one is written.
+fn width_at(text: &[u8], at: usize) -> Result<(Option<Width>, usize), ShapeTextError>
+    requires { at ≤ length text.now }
+    ensures found { IfOk result (λ x. slice_range text.now at x.1 ≡ width_text x.0) }
+    ensures end { IfOk result (λ x. (at ≤ x.1) × (x.1 ≤ length text.now)) }
+    ensures fault { IfErr result (IsFaultWithin at (length text.now)) }
+{
+    if text.get(at) != Some(&b'/') {
+        return Ok((None, at));
+    }
+    let (width, end) = word_at(&WIDTHS, text, at)?;
+    Ok((Some(width), end))
+}
+
+fn or_32(width: Option<Width>) -> Width
+    ensures { result ≡ or_32 width }
+{
+    width.unwrap_or(Width::W32)
+}
+
+// The word that a shape's text begins with, and the place behind it.
+fn first_word(text: &[u8], at: usize) -> Result<(Word, usize), ShapeTextError>
+    requires { at ≤ length text.now }
+    ensures found { IfOk result (λ x. slice_range text.now at x.1 ≡ word_text x.0) }
+    ensures end { IfOk result (λ x. (at < x.1) × (x.1 ≤ length text.now)) }
+    ensures fault { IfErr result (IsFaultWithin at (length text.now)) }
+    ensures start { IsErrOf result (ShapeTextError.BadShape at) → begins_like_a_shape (drop at text.now) ≡ false }
+{
+    word_at(&WORDS, text, at)
+}
+
+// The word at a place, and the place behind it. The fault is at the first byte at which none of
+// the words goes on.
+fn word_at<T: Copy>(
+    words: &[(&str, T)],
+    text: &[u8],
+    at: usize,
+) -> Result<(T, usize), ShapeTextError>
+    requires { at ≤ length text.now }
+    ensures found { (name : T → List ℕ) → AllByRecursion (λ word. word.0.now ≡ name word.1) words.now
+        → IfOk result (λ x. slice_range text.now at x.1 ≡ name x.0) }
+    ensures end { IfOk result (λ x. (at ≤ x.1) × (x.1 ≤ length text.now)) }
+    ensures fault { IfErr result (IsFaultWithin at (length text.now)) }
+    ensures start { IsErrOf result (ShapeTextError.BadShape at)
+        → AllByRecursion (λ word. begin_alike word.0.now (drop at text.now) ≡ false) words.now }
+{
+    let rest = &text[at..];
+    for (word, item) in words {
+        let count = common_len(word.as_bytes(), rest);
+        if count == word.len() {
+            return Ok((*item, at + count));
+        }
+    }
+    Err(ShapeTextError::BadShape(at + longest_front(words, rest)))
+}
+
+// How many bytes a text has in common with the word that goes on longest with it.
+fn longest_front<T: Copy>(words: &[(&str, T)], text: &[u8]) -> usize
+    ensures bound { result ≤ length text.now }
+    ensures start { result ≡ 0 → AllByRecursion (λ word. begin_alike word.0.now text.now ≡ false) words.now }
+{
+    let mut most = 0;
+    for (word, _) in words {
+        most = most.max(common_len(word.as_bytes(), text));
+    }
+    most
+}
+
+// How many bytes two texts have in common at their front.
+fn common_len(a: &[u8], b: &[u8]) -> usize
+    ensures bound_a { result ≤ length a.now }
+    ensures bound_b { result ≤ length b.now }
+    ensures same { take result a.now ≡ take result b.now }
+    ensures alike { IsTrue (begin_alike a.now b.now) → 0 < result }
+{
+    let mut count = 0;
+    while count < a.len() && count < b.len() && a[count] == b[count] {
+        count += 1;
+    }
+    count
+}
+
+fn has_comma(text: &[u8], at: usize) -> bool
+    ensures { IsTrue result → (at < length text.now) × (slice_index text.now at ≡ 44) }
+{
+    text.get(at) == Some(&b',')
+}
+
+fn byte_at(byte: u8, text: &[u8], at: usize) -> Result<usize, ShapeTextError>
+    requires { at ≤ length text.now }
+    ensures found { IfOk result (λ end. slice_range text.now at end ≡ byte ∷ []) }
+    ensures end { IfOk result (λ end. (end ≡ at + 1) × (end ≤ length text.now)) }
+    ensures fault { IfErr result (IsFaultWithin at (length text.now)) }
+{
+    if text.get(at) != Some(&byte) {
+        return Err(ShapeTextError::BadShape(at));
+    }
+    Ok(at + 1)
+}
+
+// A decimal number without leading zeros. The fault is at the first digit that is one too many.
+fn number_at(text: &[u8], at: usize) -> Result<(u32, usize), ShapeTextError>
+    requires { at ≤ length text.now }
+    ensures found { IfOk result (λ x. slice_range text.now at x.1 ≡ decimal x.0) }
+    ensures end { IfOk result (λ x. (at < x.1) × (x.1 ≤ length text.now)) }
+    ensures fault { IfErr result (IsFaultWithin at (length text.now)) }
+{
+    let mut number = 0;
+    let mut end = at;
+    while let Some(digit) = digit_at(text, end) {
+        if number == 0 && at < end {
+            return Err(ShapeTextError::BadShape(end));
+        }
+        number = with_digit(number, digit).ok_or(ShapeTextError::BadShape(end))?;
+        end += 1;
+    }
+    if end == at {
+        return Err(ShapeTextError::BadShape(at));
+    }
+    Ok((number, end))
+}
+
+fn digit_at(text: &[u8], at: usize) -> Option<u32>
+    ensures bound { IfSome result (λ digit. (digit < 10) × (at < length text.now)) }
+    ensures value { IfSome result (λ digit. slice_index text.now at ≡ 48 + digit) }
+{
+    let byte = *text.get(at)?;
+    if byte.is_ascii_digit() {
+        Some(u32::from(byte - b'0'))
+    } else {
+        None
+    }
+}
+
+fn with_digit(number: u32, digit: u32) -> Option<u32>
+    ensures { IfSome result (λ n. n ≡ number * 10 + digit) }
+{
+    number.checked_mul(10)?.checked_add(digit)
+}

@@ -1,0 +1,19 @@
+//! What a payload says.
+
+/// A value of a shape.
+#[derive(Debug, Drop, PartialEq)]
+pub enum Value {
+    Bool(bool),
+    /// A number of an unsigned shape.
+    Uint(u64),
+    /// A number of a signed shape.
+    Int(i64),
+    /// A text, whatever its encoding is.
+    Text(String),
+    /// The elements of an array, or of a fixed number of elements.
+    List(Vec<Value>),
+    /// The members of a structure.
+    Struct(Vec<Value>),
+    /// The variant of a union with its type number, or none.
+    Union(Option<(u32, Box<Value>)>),
+}

@@ -1,0 +1,122 @@
+//! The command `payload`: the value that bytes have by a shape.
+ghost use Rattle.std.specs.Prelude.{◌≡◌, ◌≢◌, None, Some, Err, IfErr, IfOk, string_bytes};
+ghost use Rattle.std.specs.Option.{option_map};
+ghost use Rattle.std.specs.Io.KnownBytes.{Keeps};
+ghost use Rattle.someipctl.specs.declared.payload.PayloadRefusal.TheVariants.{CannotWrite, OutOfMemory};
+ghost use Rattle.someip_payload.specs.View.{form};
+ghost use Rattle.someipctl.specs.Payload.{argument_bytes, refusal_of_shape, ShowsPayload, Told};
+
+use crate::outcome::Outcome;
+use crate::output::{self, write_text};
+use hex::FromHexError;
+use someip_payload::{PayloadError, Shape, ShapeTextError, decode, read_shape};
+use std::alloc::{AllocError, Global};
+use std::io::Write;
+use thiserror::Error;
+
+/// Why a payload was not read.
+#[derive(Clone, Copy, Debug, PartialEq, Eq, Error)]
+pub enum PayloadRefusal {
+    /// The shape's text is none from this byte on. Nothing was written.
+    #[error("bad shape at {0}")]
+    BadShape(usize),
+    /// The payload is no hex. Nothing was written.
+    #[error("bad hex")]
+    BadHex,
+    /// Writing failed, or took nothing. A beginning of the text was written.
+    #[error("cannot write")]
+    CannotWrite,
+    /// Memory ran out. Nothing was written.
+    #[error("out of memory")]
+    OutOfMemory,
+}
+
+/// Reads the payload by its shape, and writes its value and how many of its bytes that took, or the
+/// fault that it has.
+pub fn payload<W: Write>(
+    alloc: Global,
+    shape: &str,
+    hex: &str,
+    writer: &mut W,
+) -> Result<Outcome, PayloadRefusal>
+    // A value that the bytes are read as was written, or they have a fault.
+    ensures shown { IfOk result (λ outcome. ShowsPayload shape.now hex.now outcome
+        (W.contents writer.old) (W.contents writer.new)) }
+    ensures bad_hex { result ≡ Err PayloadRefusal.BadHex → argument_bytes hex.now ≡ None }
+    // A refusal writes nothing, but for one of writing.
+    ensures silent { IfErr result (λ error. error ≢ CannotWrite
+        → Keeps (W.contents writer.old) (W.contents writer.new)) }
+{
+    let shape = read_shape(alloc, shape)?;
+    let Some(bytes) = bytes_of_argument(alloc, hex)? else {
+        return Err(PayloadRefusal::BadHex);
+    };
+    let (text, outcome) = read_text(alloc, &shape, &bytes)?;
+    write_text(writer, text.as_bytes())?;
+    Ok(outcome)
+}
+
+/// The text of the value, or of the fault, and which of them it is.
+fn read_text(alloc: Global, shape: &Shape, bytes: &[u8]) -> Result<(String, Outcome), AllocError>
+    ensures { IfOk result (λ r. Told (form shape.now) bytes.now (string_bytes r.0) r.1) }
+{
+    let mut text = String::new(alloc);
+    match decode(alloc, shape, bytes) {
+        Ok((value, used)) => {
+            let all = bytes.len();
+            writeln!(text, "value {value}").map_err(|_| AllocError)?;
+            writeln!(text, "used {used} of {all}").map_err(|_| AllocError)?;
+            Ok((text, Outcome::Done))
+        }
+        Err(PayloadError::OutOfMemory) => Err(AllocError),
+        Err(fault) => {
+            writeln!(text, "fault {fault}").map_err(|_| AllocError)?;
+            Ok((text, Outcome::FaultShown))
+        }
+    }
+}
+
+/// The bytes that the argument says: none for `-`, else those of its hex digits.
+fn bytes_of_argument(alloc: Global, text: &str) -> Result<Option<Vec<u8>>, AllocError>
+    ensures { IfOk result (λ found. option_map (λ bytes. bytes.items) found ≡ argument_bytes text.now) }
+{
+    let text = text.as_bytes();
+    if text.is_empty() {
+        return Ok(None);
+    }
+    if let [b'-'] = text {
+        return Ok(Some(Vec::new(alloc)));
+    }
+    match hex::decode(alloc, text) {
+        Ok(bytes) => Ok(Some(bytes)),
+        Err(FromHexError::OutOfMemory) => Err(AllocError),
+        Err(_) => Ok(None),
+    }
+}
+
+impl From<ShapeTextError> for PayloadRefusal {
+    ghost from_gives = { λ error e. e ≡ refusal_of_shape error };
+
+    fn from(error: ShapeTextError) -> PayloadRefusal {
+        match error {
+            ShapeTextError::BadShape(place) => PayloadRefusal::BadShape(place),
+            ShapeTextError::OutOfMemory => PayloadRefusal::OutOfMemory,
+        }
+    }
+}
+
+impl From<AllocError> for PayloadRefusal {
+    ghost from_gives = { λ _ e. e ≡ OutOfMemory };
+
+    fn from(_error: AllocError) -> PayloadRefusal {
+        PayloadRefusal::OutOfMemory
+    }
+}
+
+impl From<output::CannotWrite> for PayloadRefusal {
+    ghost from_gives = { λ _ e. e ≡ CannotWrite };
+
+    fn from(_error: output::CannotWrite) -> PayloadRefusal {
+        PayloadRefusal::CannotWrite
+    }
+}

@@ -1,0 +1,233 @@
+//! The tables of the tests.
+use super::{REQUEST, REQUEST_LINE};
+
+/// A capture, the text that it shows, and the exit status.
+pub type Shown = (&'static [u8], &'static str, u8);
+
+pub fn captures() -> [Shown; 12] {
+    [
+        (REQUEST, REQUEST_LINE, 0),
+        (
+            b"12340421 00000008 00010001 01010000 12340421 00000008 00010001 01010000 12340421 00000008 00010001 010100",
+            "1 message 1234.0421 length 8 client 0001 session 0001 interface 01 type REQUEST code 00 payload -\n\
+             1 message 1234.0421 length 8 client 0001 session 0001 interface 01 type REQUEST code 00 payload -\n\
+             1 fault Truncated at 47\n",
+            1,
+        ),
+        (b"", "", 0),
+        (b"# nothing\n\n   \n", "", 0),
+        (b"-", "1 empty\n", 0),
+        (
+            b"12340421 00000007 00010001 01010000\n- \n",
+            "1 fault LengthTooSmall at 4\n2 empty\n",
+            1,
+        ),
+        (
+            b"12340421 00000008 00010001 02010000\n",
+            "1 fault WrongProtocolVersion at 12\n",
+            1,
+        ),
+        (
+            b"12340421 00000008 00010001 01010300\n",
+            "1 fault UnknownMessageType at 14\n",
+            1,
+        ),
+        (
+            b"12340421 00000009 00010001 01010000\n",
+            "1 fault Truncated at 16\n",
+            1,
+        ),
+        (
+            b"# an event, in digits of both cases\n11118001 0000000A 00000001 0101020b 2AfF\n",
+            "1 message 1111.8001 length 10 client 0000 session 0001 interface 01 type NOTIFICATION code 0b payload 2aff\n",
+            0,
+        ),
+        (
+            b"11110421 0000000c 00010002 010120 00 00000000\n",
+            "1 message 1111.0421 length 12 client 0001 session 0002 interface 01 type TP_REQUEST code 00 payload 00000000\n",
+            0,
+        ),
+        (
+            b"ffff8100 00000008 00000001 01010200\n11110421 00000008 00010002 0102a101\n",
+            "1 message ffff.8100 length 8 client 0000 session 0001 interface 01 type NOTIFICATION code 00 payload -\n\
+             2 message 1111.0421 length 8 client 0001 session 0002 interface 02 type TP_ERROR code 01 payload -\n",
+            0,
+        ),
+    ]
+}
+
+/// A shape, a payload in hex, the text that is printed, and the exit status.
+pub type PayloadRow = (&'static str, &'static str, &'static str, u8);
+
+pub fn payloads() -> [PayloadRow; 16] {
+    [
+        (
+            "struct/16(u8,utf16)",
+            "000b0700000006feff00410000",
+            "value (7,\"A\")\nused 13 of 13\n",
+            0,
+        ),
+        (
+            "struct/16(u8,utf16)",
+            "000D0700000006FEFF00410000AABB",
+            "value (7,\"A\")\nused 15 of 15\n",
+            0,
+        ),
+        (
+            "struct/16(u8,utf16)",
+            "000b0700000006fffe41000000",
+            "value (7,\"A\")\nused 13 of 13\n",
+            0,
+        ),
+        (
+            "struct/16(u8,utf16)",
+            "000c0700000007feff0041000055",
+            "value (7,\"A\")\nused 14 of 14\n",
+            0,
+        ),
+        (
+            "array<2,u16>",
+            "0000000400010002",
+            "value [1,2]\nused 8 of 8\n",
+            0,
+        ),
+        (
+            "array<2,u16>",
+            "00000006000100020003",
+            "fault TooMany at 8\n",
+            1,
+        ),
+        (
+            "array<2,u16>",
+            "00000003000100",
+            "fault LengthMismatch at 6\n",
+            1,
+        ),
+        ("i16", "8000", "value -32768\nused 2 of 2\n", 0),
+        ("u32", "000000", "fault Truncated at 0\n", 1),
+        ("u32", "-", "fault Truncated at 0\n", 1),
+        ("u8", "0700", "value 7\nused 1 of 2\n", 0),
+        (
+            "utf8",
+            "00000005efbbbf4100",
+            "value \"A\"\nused 9 of 9\n",
+            0,
+        ),
+        ("utf8", "0000000141", "fault NoTerminator at 0\n", 1),
+        (
+            "union(1:u8)",
+            "0000000000000000",
+            "value none\nused 8 of 8\n",
+            0,
+        ),
+        (
+            "union(1:u8)",
+            "0000000000000002",
+            "fault UnknownVariant at 4\n",
+            1,
+        ),
+        ("fixed<0,u8>", "-", "fault BadShape at 0\n", 1),
+    ]
+}
+
+/// Words, what they come to, and what is printed of that: a capture's path, or a part of a text.
+pub type Row = (&'static [&'static str], &'static str, &'static str);
+
+pub fn rows() -> [Row; 26] {
+    [
+        (&["someipctl", "show", "x"], "show", "x"),
+        (&["someipctl", "show", "-"], "show", "-"),
+        (&["someipctl", "show", ""], "show", ""),
+        (&["someipctl", "show", "help"], "show", "help"),
+        (&["someipctl", "show", "--", "-x"], "show", "-x"),
+        (&["other", "show", "a b"], "show", "a b"),
+        (&["someipctl", "payload", "u8", "-"], "payload", "u8 -"),
+        (&["someipctl", "payload", "u8", ""], "payload", "u8 "),
+        (
+            &["someipctl", "payload", "u8"],
+            "usage",
+            "Usage: someipctl payload <SHAPE> <HEX>\n",
+        ),
+        (
+            &["someipctl", "help", "payload"],
+            "help",
+            "  someipctl payload 'array<2,u16>' 0000000400010002\n",
+        ),
+        (
+            &["someipctl", "--help"],
+            "help",
+            "someipctl show examples/one.txt\n",
+        ),
+        (
+            &["someipctl", "-h"],
+            "help",
+            "Prints the messages of a capture, one a line",
+        ),
+        (
+            &["someipctl", "help"],
+            "help",
+            "Usage: someipctl <COMMAND>\n",
+        ),
+        (
+            &["someipctl", "help", "show"],
+            "help",
+            "Usage: someipctl show <CAPTURE>\n",
+        ),
+        (
+            &["someipctl", "show", "--help"],
+            "help",
+            "  12340421 00000008 00010001 01010000\n",
+        ),
+        (
+            &["someipctl", "show", "-h"],
+            "help",
+            " type REQUEST code 00 payload -\n",
+        ),
+        (
+            &[],
+            "usage",
+            "requires a subcommand but one was not provided",
+        ),
+        (&["/bin/other"], "usage", "Usage: someipctl <COMMAND>\n"),
+        (
+            &["someipctl", "list"],
+            "usage",
+            "error: unrecognized subcommand 'list'\n",
+        ),
+        (
+            &["someipctl", "help", "list"],
+            "usage",
+            "error: unrecognized subcommand 'list'\n",
+        ),
+        (
+            &["someipctl", "--version"],
+            "usage",
+            "error: unexpected argument '--version' found\n",
+        ),
+        (
+            &["someipctl", "-V"],
+            "usage",
+            "error: unexpected argument '-V' found\n",
+        ),
+        (
+            &["someipctl", "show"],
+            "usage",
+            "Usage: someipctl show <CAPTURE>\n",
+        ),
+        (
+            &["someipctl", "show", "x", "y"],
+            "usage",
+            "error: unexpected argument 'y' found\n",
+        ),
+        (
+            &["someipctl", "show", "-x"],
+            "usage",
+            "error: unexpected argument '-x' found\n",
+        ),
+        (
+            &["someipctl", "show", "--all", "x"],
+            "usage",
+            "error: unexpected argument '--all' found\n",
+        ),
+    ]
+}
