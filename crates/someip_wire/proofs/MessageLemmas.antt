@@ -197,6 +197,10 @@ begins_whole bytes fits w =
 pub begins_none : (p : ℕ) (m : MessageValue) (n : ℕ) (bytes : List ℕ) → BeginsWith m n bytes → fault_at p bytes ≡ None
 begins_none p m n bytes begins = ap (fault_at p) (begins_with m n bytes begins).0 ∙ fault_at_spelled p m (drop n bytes) begins.1.0
 
+-- bytes behind a spelling begin with it
+pub begins_spelled : (m : MessageValue) (rest : List ℕ) → Fits m → BeginsWith m (length (spelling m)) (spelling m ++ rest)
+begins_spelled m rest fits = (omega (arith, length-append (spelling m) rest), (fits, take_at (spelling m) rest _ refl))
+
 -- a spelling is no proper beginning of another
 pub prefix_same : (m other : MessageValue) (bytes rest : List ℕ) → Spells m bytes → Spells other (bytes ++ rest) → (rest ≡ []) × (m ≡ other)
 prefix_same m other bytes rest one longer =

@@ -1,5 +1,5 @@
 -- The ten message types and their numbers (SOME/IP Protocol, "Message Type").
-use Rattle.std.specs.Prelude.{ℕ, List, [], ◌∷◌, Option, ◌==◌, find}
+use Rattle.std.specs.Prelude.{ℕ, Bool, true, false, List, [], ◌∷◌, Option, ◌==◌, find}
 use Rattle.someip_wire.specs.declared.header.MessageType.{MessageType}
 use Rattle.someip_wire.specs.declared.header.MessageType.TheVariants.{Request, RequestNoReturn, Notification, Response, Error, TpRequest, TpRequestNoReturn, TpNotification, TpResponse, TpError}
 
@@ -23,3 +23,29 @@ all_kinds = Request ∷ RequestNoReturn ∷ Notification ∷ Response ∷ Error 
 -- the type with a number, if it is one of the ten
 abbrev pub kind_of : ℕ → Option MessageType
 kind_of b = find (λ kind. kind_byte kind == b) all_kinds
+
+-- a type has the TP flag, hex 20: the message is a segment
+abbrev pub has_tp_flag : MessageType → Bool
+has_tp_flag Request = false
+has_tp_flag RequestNoReturn = false
+has_tp_flag Notification = false
+has_tp_flag Response = false
+has_tp_flag Error = false
+has_tp_flag TpRequest = true
+has_tp_flag TpRequestNoReturn = true
+has_tp_flag TpNotification = true
+has_tp_flag TpResponse = true
+has_tp_flag TpError = true
+
+-- the same type with the TP flag set
+abbrev pub with_tp_flag : MessageType → MessageType
+with_tp_flag Request = TpRequest
+with_tp_flag RequestNoReturn = TpRequestNoReturn
+with_tp_flag Notification = TpNotification
+with_tp_flag Response = TpResponse
+with_tp_flag Error = TpError
+with_tp_flag TpRequest = TpRequest
+with_tp_flag TpRequestNoReturn = TpRequestNoReturn
+with_tp_flag TpNotification = TpNotification
+with_tp_flag TpResponse = TpResponse
+with_tp_flag TpError = TpError

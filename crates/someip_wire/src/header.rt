@@ -1,6 +1,6 @@
 //! The header of a message (SOME/IP Protocol, "Header").
 ghost use Rattle.std.specs.Prelude.{◌≡◌};
-ghost use Rattle.someip_wire.specs.Kinds.{kind_of};
+ghost use Rattle.someip_wire.specs.Kinds.{kind_of, has_tp_flag, with_tp_flag};
 
 /// What a message is for (SOME/IP Protocol, "Message Type"). The five with `Tp` have the TP flag,
 /// hex 20: they are segments of such a message.
@@ -26,6 +26,41 @@ pub enum MessageType {
     TpResponse,
     /// A1, a segment of an ERROR.
     TpError,
+}
+
+impl MessageType {
+    /// Whether the TP flag is set: the message is a segment.
+    pub fn has_tp_flag(self) -> bool
+        ensures { result ≡ has_tp_flag self }
+    {
+        match self {
+            MessageType::Request
+            | MessageType::RequestNoReturn
+            | MessageType::Notification
+            | MessageType::Response
+            | MessageType::Error => false,
+            MessageType::TpRequest
+            | MessageType::TpRequestNoReturn
+            | MessageType::TpNotification
+            | MessageType::TpResponse
+            | MessageType::TpError => true,
+        }
+    }
+
+    /// The type with the TP flag set.
+    pub fn with_tp_flag(self) -> MessageType
+        ensures { result ≡ with_tp_flag self }
+    {
+        match self {
+            MessageType::Request | MessageType::TpRequest => MessageType::TpRequest,
+            MessageType::RequestNoReturn | MessageType::TpRequestNoReturn => {
+                MessageType::TpRequestNoReturn
+            }
+            MessageType::Notification | MessageType::TpNotification => MessageType::TpNotification,
+            MessageType::Response | MessageType::TpResponse => MessageType::TpResponse,
+            MessageType::Error | MessageType::TpError => MessageType::TpError,
+        }
+    }
 }
 
 /// A return code (SOME/IP Protocol, "Return Code"). Codes without a name are kept as numbers.

@@ -1,10 +1,11 @@
 //! Laws of the definitions behind the contracts. Each is the contract of a function that does
 //! nothing: it says what holds of messages and datagrams, whatever code reads them.
-ghost use Rattle.std.specs.Prelude.{◌≡◌, ◌↔◌, ◌++◌, ℕ, List, [], ◌∷◌, Option, Some, None, take};
+ghost use Rattle.std.specs.Prelude.{◌≡◌, ◌↔◌, ◌++◌, ℕ, List, [], ◌∷◌, length, Option, Some, None, take};
 ghost use Rattle.someip_wire.specs.declared.error.WireError.{WireError};
 ghost use Rattle.someip_wire.specs.declared.error.WireError.TheVariants.{Truncated};
 ghost use Rattle.someip_wire.specs.declared.error.WireError.TheVariants.{LengthTooSmall};
-ghost use Rattle.someip_wire.specs.Spelling.{MessageValue, IsBytes, Spells, BeginsWith};
+ghost use Rattle.someip_wire.specs.Spelling.{MessageValue, IsBytes, Fits, Spells, BeginsWith};
+ghost use Rattle.someip_wire.specs.Spelling.{spelling};
 ghost use Rattle.someip_wire.specs.Faults.{fault_at};
 ghost use Rattle.someip_wire.specs.Datagram.{Datagram, items};
 ghost use Rattle.someip_wire.specs.Reading.{items_of};
@@ -34,6 +35,12 @@ pub fn each_datagram_is_read_in_one_way()
         → (messages ≡ others) × (end ≡ other) }
     ensures read { (bytes : List ℕ) (messages : List MessageValue) (end : Option WireError)
         → Datagram messages end bytes → items_of bytes ≡ items messages end }
+{}
+
+/// What is written is read: bytes that a message's spelling stands in front of begin with it.
+pub fn a_spelling_is_what_bytes_begin_with()
+    ensures { (message : MessageValue) (rest : List ℕ) → Fits message
+        → BeginsWith message (length (spelling message)) (spelling message ++ rest) }
 {}
 
 /// Examples: a request of 16 bytes, the same with a Length of 7, and the request twice with 15 bytes

@@ -3,7 +3,10 @@ ghost use Rattle.std.specs.Prelude.{◌≡◌, List, Option, map, IfOk};
 ghost use Rattle.someip_wire.specs.View.{view_item};
 ghost use Rattle.someip_wire.specs.Reading.{items_of};
 
-use crate::{Header, Message, MessageType, Messages, ReturnCode, WireError, laws, read_message};
+use crate::{
+    Header, Message, MessageType, Messages, ReturnCode, WireError, laws, read_message,
+    write_message, written_len,
+};
 use std::alloc::{AllocError, Global};
 use std::test::Fail;
 
@@ -44,6 +47,7 @@ fn laws_hold() {
     laws::a_fault_is_where_no_message_begins();
     laws::each_datagram_is_read_in_one_way();
     laws::worked_datagrams();
+    laws::a_spelling_is_what_bytes_begin_with();
 }
 
 #[test]
@@ -67,6 +71,41 @@ fn one_message(rt: HostRuntime) {
     };
     let payload = [0x2a].as_slice();
     assert_eq!(rt; read_message(&event), Ok((Message { header, payload }, 17)));
+}
+
+#[test]
+fn written_and_read_again(rt: HostRuntime) {
+    let request = Message {
+        header: HEADER,
+        payload: &[],
+    };
+    let mut out = [0xee; 20];
+    assert_eq!(rt; written_len(&request), 16);
+    assert_eq!(rt; write_message(&request, &mut out), 16);
+    let wanted = [
+        0x12, 0x34, 0x04, 0x21, 0, 0, 0, 8, 0, 1, 0, 1, 1, 1, 0, 0, 0xee, 0xee, 0xee, 0xee,
+    ];
+    assert_eq!(rt; out, wanted);
+    let payload = [0x2a, 0x2b].as_slice();
+    let event = Message {
+        header: Header {
+            service: 0x1111,
+            method: 0x8001,
+            client: 0x0203,
+            session: 0x0405,
+            interface: 6,
+            kind: MessageType::TpError,
+            code: ReturnCode(0x5e),
+        },
+        payload,
+    };
+    let mut out = [0; 18];
+    assert_eq!(rt; write_message(&event, &mut out), 18);
+    let wanted = [
+        0x11, 0x11, 0x80, 0x01, 0, 0, 0, 10, 2, 3, 4, 5, 1, 6, 0xa1, 0x5e, 0x2a, 0x2b,
+    ];
+    assert_eq!(rt; out, wanted);
+    assert_eq!(rt; read_message(&out), Ok((event, 18)));
 }
 
 #[test]
@@ -128,6 +167,8 @@ fn ten_types(rt: HostRuntime) {
         let bytes = changed(14, byte);
         let found = read_message(&bytes).map(|(message, _)| message.header.kind);
         assert_eq!(rt; found, Ok(kind));
+        assert_eq!(rt; kind.has_tp_flag(), byte % 0x80 >= 0x20);
+        assert!(rt; kind.with_tp_flag().has_tp_flag());
     }
 }
 

@@ -1,0 +1,26 @@
+//! Why a segment is refused.
+
+use thiserror::Error;
+
+/// Why a segment is refused, or a message is not put together.
+#[derive(Clone, Copy, Debug, PartialEq, Eq, Error)]
+pub enum TpError {
+    /// A slice that is not the last has a length that is no multiple of 16.
+    #[error("Unaligned")]
+    Unaligned,
+    /// The slice passes the message limit.
+    #[error("TooLong")]
+    TooLong,
+    /// The slice contradicts what is held: another byte at a place, or another total.
+    #[error("Conflict")]
+    Conflict,
+    /// The segment begins a new message, and all slots are taken.
+    #[error("NoSlot")]
+    NoSlot,
+    /// Memory ran out.
+    #[error("out of memory")]
+    OutOfMemory,
+    /// The payload has no room for the word of a segment.
+    #[error("NoHeader")]
+    NoHeader,
+}

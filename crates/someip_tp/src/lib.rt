@@ -1,0 +1,17 @@
+//! SOME/IP-TP: messages that are longer than a datagram are sent in segments, and put together
+//! again (SOME/IP Protocol, "Transporting large SOME/IP messages by UDP").
+//!
+//! - [`Segments`]: the segments of a message;
+//! - [`read_segment`]: the word and the slice of a segment's payload.
+#![tactic(auto)]
+
+mod error;
+mod segment;
+mod segments;
+
+pub use error::TpError;
+pub use segment::{Segment, read_segment};
+pub use segments::Segments;
+
+#[cfg(test)]
+mod tests;

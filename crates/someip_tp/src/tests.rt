@@ -1,0 +1,98 @@
+//! The worked rows of segments.
+use crate::{Segments, TpError, read_segment};
+use someip_wire::{Header, Message, MessageType, ReturnCode};
+use std::alloc::{AllocError, Global};
+use std::test::Fail;
+
+const HEADER: Header = Header {
+    service: 0x1234,
+    method: 0x0421,
+    client: 1,
+    session: 1,
+    interface: 1,
+    kind: MessageType::Response,
+    code: ReturnCode::E_OK,
+};
+
+/// So many bytes, of which each tells its place.
+fn payload_of(alloc: Global, len: u16) -> Result<Vec<u8>, AllocError> {
+    let mut bytes = Vec::new(alloc);
+    for i in 0..len {
+        bytes.push((i % 251) as u8)?;
+    }
+    Ok(bytes)
+}
+
+/// The words and the lengths of the slices of a message with this payload.
+fn words_and_lengths(alloc: Global, payload: &[u8]) -> Result<Vec<(u32, usize)>, AllocError> {
+    let message = Message {
+        header: HEADER,
+        payload,
+    };
+    let mut found = Vec::new(alloc);
+    if payload.len() < 100_000 {
+        for segment in Segments::new(&message) {
+            found.push((segment.word, segment.slice.len()))?;
+        }
+    }
+    Ok(found)
+}
+
+#[test]
+fn messages_in_segments(rt: HostRuntime) -> Result<(), Fail> {
+    let rows: [(u16, &[(u32, usize)]); 5] = [
+        (
+            5880,
+            &[
+                (0x0000_0001, 1392),
+                (0x0000_0571, 1392),
+                (0x0000_0ae1, 1392),
+                (0x0000_1051, 1392),
+                (0x0000_15c0, 312),
+            ],
+        ),
+        (1401, &[(1, 1392), (87 * 16, 9)]),
+        (2784, &[(1, 1392), (0x0000_0570, 1392)]),
+        (1, &[(0, 1)]),
+        (0, &[]),
+    ];
+    for (len, wanted) in rows {
+        let payload = payload_of(rt.alloc(), len)?;
+        let found = words_and_lengths(rt.alloc(), &payload)?;
+        assert_eq!(rt; found.as_slice(), wanted);
+    }
+    Ok(())
+}
+
+#[test]
+fn slices_lie_in_the_payload(rt: HostRuntime) -> Result<(), Fail> {
+    let payload = payload_of(rt.alloc(), 1401)?;
+    let message = Message {
+        header: HEADER,
+        payload: &payload,
+    };
+    if payload.len() == 1401 {
+        let mut joined = Vec::new(rt.alloc());
+        for segment in Segments::new(&message) {
+            assert_eq!(rt; segment.header.kind, MessageType::TpResponse);
+            assert_eq!(rt; segment.header.session, 1);
+            joined.extend_from_slice(segment.slice)?;
+        }
+        assert_eq!(rt; joined.as_slice(), payload.as_slice());
+    }
+    Ok(())
+}
+
+#[test]
+fn words_are_read(rt: HostRuntime) {
+    let none: &[u8] = &[];
+    assert_eq!(rt; read_segment(&[0, 0, 5, 0x7e]), Ok((1392, false, none)));
+    assert_eq!(rt; read_segment(&[0, 0, 5, 0x7f]), Ok((1392, true, none)));
+    assert_eq!(rt; read_segment(&[0, 0, 5]), Err(TpError::NoHeader));
+    assert_eq!(rt; read_segment(&[]), Err(TpError::NoHeader));
+    let slice: &[u8] = &[0x2a];
+    assert_eq!(rt;
+        read_segment(&[0xff, 0xff, 0xff, 0xf1, 0x2a]),
+        Ok((0xffff_fff0, true, slice))
+    );
+}

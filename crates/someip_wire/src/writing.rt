@@ -1,0 +1,68 @@
+//! The bytes of a message (SOME/IP Protocol, "Header" and "Payload").
+ghost use Rattle.std.specs.Prelude.{◌≡◌, ◌≤◌, ◌<◌, ◌+◌, ◌^◌, ◌++◌, [], ◌∷◌, length, drop};
+ghost use Rattle.someip_wire.specs.Kinds.{kind_byte};
+ghost use Rattle.someip_wire.specs.Spelling.{spelling, header_bytes};
+ghost use Rattle.someip_wire.specs.View.{view};
+
+use crate::header::{Header, MessageType};
+use crate::message::Message;
+use byteorder::{BigEndian, ByteOrder};
+
+/// The bytes of a header.
+const HEADER_LEN: usize = 16;
+
+/// How many bytes the message has: 16, and its payload.
+pub fn written_len(message: &Message<'_>) -> usize
+    ensures { result ≡ length (spelling (view message.now)) }
+{
+    HEADER_LEN + message.payload.len()
+}
+
+/// Writes the message to the front of the bytes, and says how many bytes it has. The bytes behind
+/// it stay as they are.
+pub fn write_message(message: &Message<'_>, out: &mut [u8]) -> usize
+    requires fits { 8 + length message.now.payload.now < 2 ^ 32 }
+    requires room { length (spelling (view message.now)) ≤ length out.old }
+    ensures written { out.new ≡ spelling (view message.now) ++ drop result out.old }
+    ensures size { result ≡ length (spelling (view message.now)) }
+{
+    let size = written_len(message);
+    write_header(&message.header, message.payload.len() as u32, out);
+    out[HEADER_LEN..size].copy_from_slice(message.payload);
+    size
+}
+
+/// Writes the header of a message with so many bytes of payload to the front of the bytes.
+fn write_header(header: &Header, payload_len: u32, out: &mut [u8])
+    requires fits { 8 + payload_len < 2 ^ 32 }
+    requires room { 16 ≤ length out.old }
+    ensures { out.new ≡ header_bytes header.now payload_len ++ drop 16 out.old }
+{
+    BigEndian::write_u16(out, header.service);
+    BigEndian::write_u16(&mut out[2..], header.method);
+    BigEndian::write_u32(&mut out[4..], 8 + payload_len);
+    BigEndian::write_u16(&mut out[8..], header.client);
+    BigEndian::write_u16(&mut out[10..], header.session);
+    out[12] = 1;
+    out[13] = header.interface;
+    out[14] = byte_of_kind(header.kind);
+    out[15] = header.code.0;
+}
+
+/// The number of a type.
+fn byte_of_kind(kind: MessageType) -> u8
+    ensures { result ≡ kind_byte kind }
+{
+    match kind {
+        MessageType::Request => 0x00,
+        MessageType::RequestNoReturn => 0x01,
+        MessageType::Notification => 0x02,
+        MessageType::Response => 0x80,
+        MessageType::Error => 0x81,
+        MessageType::TpRequest => 0x20,
+        MessageType::TpRequestNoReturn => 0x21,
+        MessageType::TpNotification => 0x22,
+        MessageType::TpResponse => 0xa0,
+        MessageType::TpError => 0xa1,
+    }
+}
