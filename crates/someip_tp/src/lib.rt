@@ -1,5 +1,6 @@
-//! SOME/IP-TP: messages that are longer than a datagram are sent in segments, and put together
-//! again (SOME/IP Protocol, "Transporting large SOME/IP messages by UDP").
+//! SOME/IP-TP: messages that are longer than a datagram are sent in segments (SOME/IP Protocol,
+//! "Transporting large SOME/IP messages by UDP"). Putting them together again is to come, and so are
+//! the calls that answer the other errors of [`TpError`].
 //!
 //! - [`Segments`]: the segments of a message;
 //! - [`read_segment`]: the word and the slice of a segment's payload.

@@ -1,8 +1,9 @@
 //! The command `payload`: the value that bytes have by a shape.
-ghost use Rattle.std.specs.Prelude.{◌≡◌, ◌≢◌, None, Some, Err, IfErr, IfOk, string_bytes};
+ghost use Rattle.std.specs.Prelude.{◌≡◌, ◌≢◌, false, None, Some, Err, IfErr, IfOk, string_bytes};
 ghost use Rattle.std.specs.Option.{option_map};
 ghost use Rattle.std.specs.Io.KnownBytes.{Keeps};
 ghost use Rattle.someipctl.specs.declared.payload.PayloadRefusal.TheVariants.{CannotWrite, OutOfMemory};
+ghost use Rattle.someip_payload.specs.ShapeText.{begins_like_a_shape};
 ghost use Rattle.someip_payload.specs.View.{form};
 ghost use Rattle.someipctl.specs.Payload.{argument_bytes, refusal_of_shape, ShowsPayload, Told};
 
@@ -42,6 +43,9 @@ pub fn payload<W: Write>(
     // A value that the bytes are read as was written, or they have a fault.
     ensures shown { IfOk result (λ outcome. ShowsPayload shape.now hex.now outcome
         (W.contents writer.old) (W.contents writer.new)) }
+    // A text that begins like a shape's is not refused at its front.
+    ensures bad_shape { result ≡ Err (PayloadRefusal.BadShape 0)
+        → begins_like_a_shape shape.now ≡ false }
     ensures bad_hex { result ≡ Err PayloadRefusal.BadHex → argument_bytes hex.now ≡ None }
     // A refusal writes nothing, but for one of writing.
     ensures silent { IfErr result (λ error. error ≢ CannotWrite
