@@ -1,1 +1,3 @@
 pub mod SegmentsLemmas
+pub mod PieceLemmas
+pub mod Placed

@@ -7,10 +7,15 @@
 #![tactic(auto)]
 
 mod error;
+mod key;
+mod pieces;
+mod reassembly;
 mod segment;
 mod segments;
 
 pub use error::TpError;
+pub use key::ReassemblyKey;
+pub use reassembly::{Offered, Reassembly};
 pub use segment::{Segment, read_segment};
 pub use segments::Segments;
 

@@ -1,0 +1,13 @@
+use Rattle.std.proofs.Common.{sym, arith}
+use Rattle.someip_tp.specs.Pieces.{byte_at, Agree}
+use Rattle.someip_tp.proofs.Placed.{none_differs}
+use Rattle.someip_tp.proofs.PieceLemmas.{all_agree, clashes_with}
+use Rattle.someip_tp.proofs.pieces.clash.Goals as goal
+
+pub returns-then-not-agree : goal.returns-then-not-agree
+returns-then-not-agree c =
+    clashes_with c.args.pieces.now c.args.offset c.args.bytes.now c.loop-piece.piece-index c.piece-item.result c.agree.result c.loop-piece-test.true c.piece-item.is c.requires
+    (λ h. c.agree.ensures.1 (rw c.deref.ensures.value h)) c.if-not-agree.true
+
+pub returns : goal.returns
+returns c = sym (none_differs _ c.args.offset c.args.bytes.now (all_agree c.args.pieces.now _ (λ k d lt. c.loop-piece.invariant k d (omega (arith, lt, c.loop-piece-test.false)))))

@@ -1,0 +1,67 @@
+-- The order of reassembly keys.
+use Rattle.std.specs.Prelude.{◌≡◌, ℕ, Bool, List, [], ◌∷◌, refl, slice_index, unwrap_or}
+use Rattle.std.proofs.Common.{ap}
+use Rattle.std.specs.declared.cmp.Ordering.{Ordering}
+use Rattle.std.specs.Ordering.{nat_cmp, ordering_then, eq_by_cmp}
+use Rattle.std.specs.Cmp.Lexicographic.{slice_cmp}
+use Rattle.std.specs.Coded.{Coded, code_by, coded×, coded_ℕ, coded_list}
+use Rattle.std.specs.declared.net.socket_addr.SocketAddrV4.{SocketAddrV4}
+use Rattle.std.specs.Net.Socket.{v4_ip, v4_port}
+use Rattle.std.specs.Net.Addr.{ipv4_octets}
+use Rattle.someip_wire.specs.declared.header.MessageType.{MessageType}
+use Rattle.someip_wire.specs.declared.header.MessageType.TheVariants.{Request, RequestNoReturn, Notification, Response, Error, TpRequest, TpRequestNoReturn, TpNotification, TpResponse, TpError}
+use Rattle.someip_wire.specs.Kinds.{kind_byte, kind_of}
+use Rattle.someip_tp.specs.declared.key.ReassemblyKey.{ReassemblyKey}
+
+-- by address, and then by port
+abbrev pub endpoint_cmp : SocketAddrV4 → SocketAddrV4 → Ordering
+endpoint_cmp a b = ordering_then (slice_cmp nat_cmp (ipv4_octets (v4_ip a)) (ipv4_octets (v4_ip b))) (nat_cmp (v4_port a) (v4_port b))
+
+-- what a key has beside its endpoints, as numbers: Message ID, Request ID, Interface Version, type and Return Code
+abbrev pub key_numbers : ReassemblyKey → List ℕ
+key_numbers k = k.service ∷ k.method ∷ k.client ∷ k.session ∷ k.interface ∷ kind_byte k.kind ∷ k.code.0 ∷ []
+
+-- by source, destination, and then by the numbers
+abbrev pub key_cmp : ReassemblyKey → ReassemblyKey → Ordering
+key_cmp a b = ordering_then (endpoint_cmp a.source b.source) (ordering_then (endpoint_cmp a.destination b.destination) (slice_cmp nat_cmp (key_numbers a) (key_numbers b)))
+
+-- the two are one key
+abbrev pub same_key : ReassemblyKey → ReassemblyKey → Bool
+same_key = eq_by_cmp key_cmp
+
+-- a key is stored as its endpoints and its numbers
+abbrev pub coded_endpoint : Coded SocketAddrV4
+coded_endpoint = code_by (List ℕ × ℕ) (coded× (coded_list coded_ℕ) coded_ℕ) (λ a. (ipv4_octets (v4_ip a), v4_port a)) (λ p. record { ip = record { octets = p.0 }; port = p.1 }) (λ _. refl)
+
+-- the key with these endpoints and numbers
+abbrev pub key_of : SocketAddrV4 × (SocketAddrV4 × List ℕ) → ReassemblyKey
+key_of p =
+    record {
+      source = p.0;
+      destination = p.1.0;
+      service = slice_index p.1.1 0;
+      method = slice_index p.1.1 1;
+      client = slice_index p.1.1 2;
+      session = slice_index p.1.1 3;
+      interface = slice_index p.1.1 4;
+      kind = unwrap_or (kind_of (slice_index p.1.1 5)) Request;
+      code = record { 0 = slice_index p.1.1 6 };
+    }
+
+pub kind_back : (kind : MessageType) → unwrap_or (kind_of (kind_byte kind)) Request ≡ kind
+kind_back Request = refl
+kind_back RequestNoReturn = refl
+kind_back Notification = refl
+kind_back Response = refl
+kind_back Error = refl
+kind_back TpRequest = refl
+kind_back TpRequestNoReturn = refl
+kind_back TpNotification = refl
+kind_back TpResponse = refl
+kind_back TpError = refl
+
+pub key_back : (k : ReassemblyKey) → key_of (k.source, (k.destination, key_numbers k)) ≡ k
+key_back k = ap (λ kind. record k { kind = kind }) (kind_back k.kind)
+
+abbrev pub coded_key : Coded ReassemblyKey
+coded_key = code_by (SocketAddrV4 × (SocketAddrV4 × List ℕ)) (coded× coded_endpoint (coded× coded_endpoint (coded_list coded_ℕ))) (λ k. (k.source, (k.destination, key_numbers k))) key_of key_back

@@ -1,0 +1,50 @@
+-- Messages that have come in part (SOME/IP Protocol, "SOME/IP-TP", reassembly; slots, limit and timeout are our own).
+use Rattle.std.specs.Prelude.{◌≡◌, ◌≤◌, ℕ, ◌+◌, Bool, false, not, nat_le, if◌then◌else◌, List, Option, None, Some, refl}
+use Rattle.std.specs.declared.cmp.Ordering.{Ordering}
+use Rattle.std.specs.Ordering.{nat_cmp}
+use Rattle.std.specs.Option.{option_map_or}
+use Rattle.std.specs.Coded.{Coded, code_by, coded×, coded_ℕ, coded_option}
+use Rattle.std.specs.FinMap.{FinMap, code, get, retain_keys}
+use Rattle.someip_tp.specs.declared.key.ReassemblyKey.{ReassemblyKey}
+use Rattle.someip_tp.specs.Keys.{key_cmp, coded_key}
+
+-- what bounds a store: how many parts it holds, the places that a message may have, and how long a part stands
+-- after its last segment
+pub record Limits : Type 0 where
+  pub slots : ℕ
+  pub limit : ℕ
+  pub timeout : ℕ
+
+-- a message that has come in part: the bytes at their places, its total if it is known, and the moment at which
+-- its last segment was accepted
+pub record Part : Type 0 where
+  pub bytes : FinMap nat_cmp ℕ
+  pub total : Option ℕ
+  pub last : ℕ
+
+-- the parts under their reassembly keys
+abbrev pub Parts : Type 0
+Parts = FinMap key_cmp Part
+
+-- a part's time is over
+abbrev pub is_gone : ℕ → ℕ → Part → Bool
+is_gone timeout now part = nat_le (part.last + timeout) now
+
+-- the entries of a map that pass a test
+abbrev pub retain : {K X : Type 0} {R : K → K → Ordering} → FinMap R X → (X → Bool) → FinMap R X
+retain m test = retain_keys m (λ k. option_map_or test (get m k) false)
+
+-- the parts that are left at a moment
+unfoldable pub parts_at : Limits → ℕ → Parts → Parts
+parts_at limits now parts = retain parts (λ part. not (is_gone limits.timeout now part))
+
+-- no part had a segment after this moment
+abbrev pub NoneAfter : ℕ → Parts → Type 0
+NoneAfter now parts = (key : ReassemblyKey) (part : Part) → get parts key ≡ Some part → part.last ≤ now
+
+-- codes, by which a proof tells values apart
+abbrev pub coded_part : Coded Part
+coded_part = code_by (FinMap nat_cmp ℕ × (Option ℕ × ℕ)) (coded× (code coded_ℕ coded_ℕ) (coded× (coded_option coded_ℕ) coded_ℕ)) (λ p. (p.bytes, (p.total, p.last))) (λ c. record { bytes = c.0; total = c.1.0; last = c.1.1 }) (λ _. refl)
+
+abbrev pub coded_parts : Coded Parts
+coded_parts = code coded_key coded_part

@@ -1,0 +1,53 @@
+-- Slices that lie over one another.
+use Rattle.std.specs.Prelude.{◌≡◌, ℕ, ◌+◌, ◌-◌, ◌<◌, nat_le, if◌then◌else◌, List, [], ◌∷◌, ◌++◌, length, slice_get, Option, Some, None, IsSome}
+use Rattle.std.specs.List.{All}
+use Rattle.std.specs.List.Sorted.{IsNonDecreasingBy}
+use Rattle.std.specs.Ordering.{nat_cmp}
+use Rattle.std.specs.FinMap.{FinMap, get, empty}
+use Rattle.someip_tp.specs.Offers.{placed, added}
+use Rattle.someip_tp.specs.declared.pieces.Piece.{Piece}
+
+-- the byte that a slice has at a place
+abbrev pub byte_at : ℕ → List ℕ → ℕ → Option ℕ
+byte_at offset bytes place = if nat_le offset place then slice_get bytes (place - offset) else None
+
+-- the bytes with those of the pieces
+abbrev pub with_pieces : FinMap nat_cmp ℕ → List Piece → FinMap nat_cmp ℕ
+with_pieces bytes [] = bytes
+with_pieces bytes (piece ∷ pieces) = with_pieces (added bytes (placed piece.offset piece.bytes.items)) pieces
+
+-- the bytes of pieces
+abbrev pub bytes_in : List Piece → FinMap nat_cmp ℕ
+bytes_in pieces = with_pieces empty pieces
+
+-- the place behind a piece
+abbrev pub end_of : Piece → ℕ
+end_of piece = piece.offset + length piece.bytes.items
+
+-- where both have a byte, it is the same
+abbrev pub Agree : (ℕ → Option ℕ) → (ℕ → Option ℕ) → Type 0
+Agree held new = (place a b : ℕ) → held place ≡ Some a → new place ≡ Some b → a ≡ b
+
+-- the bytes have each byte of the piece
+abbrev pub Holds : FinMap nat_cmp ℕ → Piece → Type 0
+Holds bytes piece = (place b : ℕ) → byte_at piece.offset piece.bytes.items place ≡ Some b → get bytes place ≡ Some b
+
+-- no two pieces have different bytes at a place
+abbrev pub AreOneText : List Piece → Type 0
+AreOneText pieces = All (Holds (bytes_in pieces)) pieces
+
+-- the pieces stand by rising offsets
+abbrev pub AreInOrder : List Piece → Type 0
+AreInOrder pieces = IsNonDecreasingBy (λ piece. piece.offset) pieces
+
+-- the first n places are held, and the next is not
+abbrev pub IsFront : FinMap nat_cmp ℕ → ℕ → Type 0
+IsFront bytes n = ((place : ℕ) → place < n → IsSome (get bytes place)) × (get bytes n ≡ None)
+
+-- these bytes are held from the first place on, and none behind them
+abbrev pub AreFront : FinMap nat_cmp ℕ → List ℕ → Type 0
+AreFront bytes front = ((place : ℕ) → place < length front → get bytes place ≡ slice_get front place) × (get bytes (length front) ≡ None)
+
+-- the bytes that are held from the first place on were appended
+abbrev pub AppendsFront : FinMap nat_cmp ℕ → List ℕ → List ℕ → Type 0
+AppendsFront bytes old new = (front : List ℕ) × (new ≡ old ++ front) × AreFront bytes front

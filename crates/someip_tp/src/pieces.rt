@@ -1,0 +1,126 @@
+//! The accepted slices of a message, by rising offsets.
+ghost use Rattle.std.specs.Prelude.{◌≡◌, ◌↔◌, ◌+◌, ◌-◌, ◌≤◌, ◌<◌, ◌++◌, ◌∷◌, [], true, length, slice_get, Some, Option, ℕ, OnOk, OnErr, IfOk, take};
+ghost use Rattle.std.specs.List.{list_any, insert};
+ghost use Rattle.std.specs.FinMap.{get};
+ghost use Rattle.someip_tp.specs.Offers.{differ, placed};
+ghost use Rattle.someip_tp.specs.declared.pieces.Piece.{Piece};
+ghost use Rattle.someip_tp.specs.Pieces.{byte_at, bytes_in, end_of, Agree, AreOneText, AreInOrder, IsFront, AppendsFront};
+
+use std::alloc::AllocError;
+
+/// A slice that was accepted.
+#[derive(Drop)]
+pub(crate) struct Piece {
+    pub(crate) offset: u32,
+    pub(crate) bytes: Vec<u8>,
+}
+
+impl Piece {
+    /// The place behind its last byte.
+    fn end(&self) -> usize
+        ensures { result ≡ end_of self.now }
+    {
+        self.offset as usize + self.bytes.len()
+    }
+}
+
+/// Whether two slices are the same as far as both go.
+fn begin_alike(a: &[u8], b: &[u8]) -> bool
+    ensures { (result ≡ true) ↔ Agree (slice_get a.now) (slice_get b.now) }
+{
+    let len = a.len().min(b.len());
+    a[..len] == b[..len]
+}
+
+/// What is left of a slice behind its first bytes.
+fn behind(bytes: &[u8], skipped: usize) -> &[u8]
+    ensures length { length result.now ≡ length bytes.now - skipped }
+    ensures bytes { (i : ℕ) → slice_get result.now i ≡ slice_get bytes.now (skipped + i) }
+{
+    &bytes[skipped.min(bytes.len())..]
+}
+
+/// Whether two slices have the same bytes where they lie over one another.
+fn agree(held_at: u32, held: &[u8], at: u32, bytes: &[u8]) -> bool
+    ensures { (result ≡ true) ↔ Agree (byte_at held_at held.now) (byte_at at bytes.now) }
+{
+    if held_at <= at {
+        let skipped = at - held_at;
+        begin_alike(behind(held, skipped as usize), bytes)
+    } else {
+        let skipped = held_at - at;
+        begin_alike(held, behind(bytes, skipped as usize))
+    }
+}
+
+/// Whether a slice has another byte than the pieces at some place.
+pub(crate) fn clash(pieces: &[Piece], offset: u32, bytes: &[u8]) -> bool
+    requires { AreOneText pieces.now }
+    ensures { result ≡ list_any (λ e. differ (get (bytes_in pieces.now) e.0) (Some e.1)) (placed offset bytes.now) }
+{
+    for piece in pieces {
+        if !agree(piece.offset, &piece.bytes, offset, bytes) {
+            return true;
+        }
+    }
+    false
+}
+
+/// How many places from the first one on are held without a gap.
+pub(crate) fn covered(pieces: &[Piece]) -> usize
+    requires { AreInOrder pieces.now }
+    ensures { IsFront (bytes_in pieces.now) result }
+{
+    let mut end = 0;
+    for piece in pieces {
+        if piece.offset as usize > end {
+            return end;
+        }
+        end = end.max(piece.end());
+    }
+    end
+}
+
+/// Where a piece at this offset goes, so that the offsets still rise.
+pub(crate) fn place_for(pieces: &[Piece], offset: u32) -> usize
+    requires { AreInOrder pieces.now }
+    ensures within { result ≤ length pieces.now }
+    ensures in_order { (piece : Piece) → piece.offset ≡ offset → AreInOrder (insert pieces.now result piece) }
+{
+    pieces.partition_point(|piece| piece.offset <= offset)
+}
+
+/// Appends the bytes that are held from the first place on without a gap.
+pub(crate) fn append_front(pieces: &[Piece], bytes: &mut Vec<u8>) -> Result<(), AllocError>
+    requires one_text { AreOneText pieces.now }
+    requires in_order { AreInOrder pieces.now }
+    ensures ok { OnOk result (AppendsFront (bytes_in pieces.now) bytes.old.items bytes.new.items) }
+    ensures err { OnErr result (bytes.new.items ≡ bytes.old.items) }
+{
+    let before = bytes.len();
+    let appended = append_pieces(pieces, bytes);
+    if appended.is_err() {
+        bytes.truncate(before);
+    }
+    appended
+}
+
+/// Appends what each piece has behind those before it, up to the first gap.
+fn append_pieces(pieces: &[Piece], bytes: &mut Vec<u8>) -> Result<(), AllocError>
+    requires one_text { AreOneText pieces.now }
+    requires in_order { AreInOrder pieces.now }
+    ensures ok { OnOk result (AppendsFront (bytes_in pieces.now) bytes.old.items bytes.new.items) }
+    ensures err { OnErr result (take (length bytes.old.items) bytes.new.items ≡ bytes.old.items) }
+{
+    let mut end = 0;
+    for piece in pieces {
+        let start = piece.offset as usize;
+        if start > end {
+            return Ok(());
+        }
+        let new = behind(&piece.bytes, end - start);
+        bytes.extend_from_slice(new)?;
+        end += new.len();
+    }
+    Ok(())
+}
