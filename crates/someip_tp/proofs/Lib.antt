@@ -1,3 +1,6 @@
 pub mod SegmentsLemmas
 pub mod PieceLemmas
 pub mod Placed
+pub mod KeyOrder
+pub mod PartialLemmas
+pub mod Entries

@@ -1,6 +1,9 @@
 pub mod Words
 pub mod Segments
 pub mod Keys
+pub mod Retained
+pub mod Distinct
 pub mod Parts
 pub mod Offers
 pub mod Pieces
+pub mod Partials

@@ -83,15 +83,28 @@ message_of part =
     (λ total. if are_exactly_below total part.bytes then Some (map (λ place. unwrap_or (get part.bytes place) 0) (range_with_len 0 total)) else None)
     part.total
 
+-- a slice that is not the last one has a length that is no multiple of 16
+abbrev pub is_unaligned : Offer → Bool
+is_unaligned o = o.more && not (length o.bytes % 16 == 0)
+
+-- a segment goes past the message limit
+abbrev pub is_too_long : ℕ → Offer → Bool
+is_too_long limit o = nat_lt limit (o.offset + length o.bytes)
+
+-- what a segment of fit length is judged to be among the parts that are left
+abbrev pub judged_among : ℕ → ℕ → Offer → Parts → Result Offered TpError
+judged_among slots now o parts =
+    if is_none (get parts o.key) && nat_le slots (len parts) then Err NoSlot
+    else (if conflicts (part_under parts o.key) o then Err Conflict
+    else (if is_some (message_of (with_offer (part_under parts o.key) now o)) then Ok Whole
+    else Ok InPart))
+
 -- what a segment is judged to be among the parts that are left
 abbrev pub judged : Limits → ℕ → Offer → Parts → Result Offered TpError
 judged limits now o parts =
-    if o.more && not (length o.bytes % 16 == 0) then Err Unaligned
-    else (if nat_lt limits.limit (o.offset + length o.bytes) then Err TooLong
-    else (if is_none (get parts o.key) && nat_le limits.slots (len parts) then Err NoSlot
-    else (if conflicts (part_under parts o.key) o then Err Conflict
-    else (if is_some (message_of (with_offer (part_under parts o.key) now o)) then Ok Whole
-    else Ok InPart))))
+    if is_unaligned o then Err Unaligned
+    else (if is_too_long limits.limit o then Err TooLong
+    else judged_among limits.slots now o parts)
 
 -- the parts after that judgement: an accepted segment is in its part, a conflict ends the part, and the other refusals
 -- leave all parts

@@ -1,12 +1,11 @@
 -- Messages that have come in part (SOME/IP Protocol, "SOME/IP-TP", reassembly; slots, limit and timeout are our own).
-use Rattle.std.specs.Prelude.{◌≡◌, ◌≤◌, ℕ, ◌+◌, Bool, false, not, nat_le, if◌then◌else◌, List, Option, None, Some, refl}
-use Rattle.std.specs.declared.cmp.Ordering.{Ordering}
+use Rattle.std.specs.Prelude.{◌≡◌, ◌≤◌, ℕ, ◌+◌, Bool, not, nat_le, Option, Some, refl}
 use Rattle.std.specs.Ordering.{nat_cmp}
-use Rattle.std.specs.Option.{option_map_or}
 use Rattle.std.specs.Coded.{Coded, code_by, coded×, coded_ℕ, coded_option}
-use Rattle.std.specs.FinMap.{FinMap, code, get, retain_keys}
+use Rattle.std.specs.FinMap.{FinMap, code, get}
 use Rattle.someip_tp.specs.declared.key.ReassemblyKey.{ReassemblyKey}
 use Rattle.someip_tp.specs.Keys.{key_cmp, coded_key}
+use Rattle.someip_tp.specs.Retained.{retain}
 
 -- what bounds a store: how many parts it holds, the places that a message may have, and how long a part stands
 -- after its last segment
@@ -30,13 +29,9 @@ Parts = FinMap key_cmp Part
 abbrev pub is_gone : ℕ → ℕ → Part → Bool
 is_gone timeout now part = nat_le (part.last + timeout) now
 
--- the entries of a map that pass a test
-abbrev pub retain : {K X : Type 0} {R : K → K → Ordering} → FinMap R X → (X → Bool) → FinMap R X
-retain m test = retain_keys m (λ k. option_map_or test (get m k) false)
-
 -- the parts that are left at a moment
 unfoldable pub parts_at : Limits → ℕ → Parts → Parts
-parts_at limits now parts = retain parts (λ part. not (is_gone limits.timeout now part))
+parts_at limits now parts = retain parts (λ key part. not (is_gone limits.timeout now part))
 
 -- no part had a segment after this moment
 abbrev pub NoneAfter : ℕ → Parts → Type 0

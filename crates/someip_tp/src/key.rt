@@ -1,4 +1,6 @@
 //! What tells one message that comes in segments from another.
+ghost use Rattle.std.specs.Prelude.{◌≡◌, ◌↔◌, ◌&&◌, ◌==◌, true};
+ghost use Rattle.someip_tp.specs.Keys.{same_key, key_numbers};
 
 use someip_wire::{Header, MessageType, ReturnCode};
 use std::net::SocketAddrV4;
@@ -25,4 +27,42 @@ pub struct ReassemblyKey {
     pub kind: MessageType,
     /// Return Code.
     pub code: ReturnCode,
+}
+
+/// Whether the two are one key.
+pub(crate) fn is_same(a: &ReassemblyKey, b: &ReassemblyKey) -> bool
+    ensures { result ≡ same_key a.now b.now }
+{
+    same_endpoints(a, b) && same_numbers(a, b)
+}
+
+fn same_endpoints(a: &ReassemblyKey, b: &ReassemblyKey) -> bool
+    ensures { (result ≡ true) ↔ ((a.now.source ≡ b.now.source) × (a.now.destination ≡ b.now.destination)) }
+{
+    same_endpoint(&a.source, &b.source) && same_endpoint(&a.destination, &b.destination)
+}
+
+fn same_endpoint(a: &SocketAddrV4, b: &SocketAddrV4) -> bool
+    ensures { (result ≡ true) ↔ (a.now ≡ b.now) }
+{
+    a == b
+}
+
+/// Whether all but the endpoints is the same.
+fn same_numbers(a: &ReassemblyKey, b: &ReassemblyKey) -> bool
+    ensures { (result ≡ true) ↔ (key_numbers a.now ≡ key_numbers b.now) }
+{
+    same_ids(a, b) && a.interface == b.interface && same_kind(a.kind, b.kind) && a.code.0 == b.code.0
+}
+
+fn same_ids(a: &ReassemblyKey, b: &ReassemblyKey) -> bool
+    ensures { result ≡ ((a.now.service == b.now.service) && (a.now.method == b.now.method)) && ((a.now.client == b.now.client) && (a.now.session == b.now.session)) }
+{
+    a.service == b.service && a.method == b.method && a.client == b.client && a.session == b.session
+}
+
+fn same_kind(a: MessageType, b: MessageType) -> bool
+    ensures { (result ≡ true) ↔ (a ≡ b) }
+{
+    a == b
 }

@@ -8,6 +8,7 @@
 
 mod error;
 mod key;
+mod partial;
 mod pieces;
 mod reassembly;
 mod segment;

@@ -1,8 +1,8 @@
 //! The accepted slices of a message, by rising offsets.
-ghost use Rattle.std.specs.Prelude.{◌≡◌, ◌↔◌, ◌+◌, ◌-◌, ◌≤◌, ◌<◌, ◌++◌, ◌∷◌, [], true, length, slice_get, Some, Option, ℕ, OnOk, OnErr, IfOk, take};
+ghost use Rattle.std.specs.Prelude.{◌&&◌, nat_lt, nat_le, ◌≡◌, ◌↔◌, ◌+◌, ◌-◌, ◌≤◌, ◌<◌, ◌++◌, ◌∷◌, [], true, length, slice_get, Some, Option, ℕ, OnOk, OnErr, IfOk, take};
 ghost use Rattle.std.specs.List.{list_any, insert};
-ghost use Rattle.std.specs.FinMap.{get};
-ghost use Rattle.someip_tp.specs.Offers.{differ, placed};
+ghost use Rattle.std.specs.FinMap.{get, keys};
+ghost use Rattle.someip_tp.specs.Offers.{differ, passes, placed};
 ghost use Rattle.someip_tp.specs.declared.pieces.Piece.{Piece};
 ghost use Rattle.someip_tp.specs.Pieces.{byte_at, bytes_in, end_of, Agree, AreOneText, AreInOrder, IsFront, AppendsFront};
 
@@ -21,6 +21,13 @@ impl Piece {
         ensures { result ≡ end_of self.now }
     {
         self.offset as usize + self.bytes.len()
+    }
+
+    /// Whether it has a byte at or past a place.
+    fn reaches(&self, place: usize) -> bool
+        ensures { result ≡ (nat_lt 0 (length self.now.bytes.items) && nat_lt place (end_of self.now)) }
+    {
+        !self.bytes.is_empty() && place < self.end()
     }
 }
 
@@ -60,6 +67,29 @@ pub(crate) fn clash(pieces: &[Piece], offset: u32, bytes: &[u8]) -> bool
 {
     for piece in pieces {
         if !agree(piece.offset, &piece.bytes, offset, bytes) {
+            return true;
+        }
+    }
+    false
+}
+
+/// Whether some byte is held at or past a total, if that is told.
+pub(crate) fn reach(pieces: &[Piece], total: Option<usize>) -> bool
+    requires { AreOneText pieces.now }
+    ensures { result ≡ passes total (keys (bytes_in pieces.now)) }
+{
+    match total {
+        Some(total) => any_reaches(pieces, total),
+        None => false,
+    }
+}
+
+fn any_reaches(pieces: &[Piece], total: usize) -> bool
+    requires { AreOneText pieces.now }
+    ensures { result ≡ list_any (nat_le total) (keys (bytes_in pieces.now)) }
+{
+    for piece in pieces {
+        if piece.reaches(total) {
             return true;
         }
     }

@@ -1,0 +1,28 @@
+-- A message that has come in part, as the list of its accepted slices.
+use Rattle.std.specs.Prelude.{◌≡◌, ℕ, ◌<◌, Bool, true, List, Option, Some, None, IsSome, length}
+use Rattle.std.specs.List.{slice_index_or}
+use Rattle.std.specs.Coded.{Coded, coded×}
+use Rattle.std.specs.FinMap.{FinMap, get, find}
+use Rattle.someip_tp.specs.declared.key.ReassemblyKey.{ReassemblyKey}
+use Rattle.someip_tp.specs.declared.partial.Partial.TheInside.{Inside}
+use Rattle.someip_tp.specs.Keys.{key_cmp, same_key, coded_key}
+use Rattle.someip_tp.specs.Parts.{Part, coded_part}
+use Rattle.someip_tp.specs.Pieces.{bytes_in, AreOneText, AreInOrder}
+
+-- a part under its key
+abbrev pub Entry : Type 0
+Entry = ReassemblyKey × Part
+
+abbrev pub coded_entry : Coded Entry
+coded_entry = coded× coded_key coded_part
+
+-- what contracts see of a partial
+abbrev pub entry_of : Inside → Entry
+entry_of p = (p.key, record { bytes = bytes_in p.pieces.items; total = p.total; last = p.last })
+
+-- what is true of every partial: its slices have one byte at a place, stand in order, and lie below its total
+pub record IsSound (p : Inside) : Type 0 where
+  pub one_text : AreOneText p.pieces.items
+  pub in_order : AreInOrder p.pieces.items
+  pub below : (total place : ℕ) → p.total ≡ Some total → IsSome (get (bytes_in p.pieces.items) place) → place < total
+

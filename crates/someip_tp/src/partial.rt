@@ -1,0 +1,178 @@
+//! One message that has come in part.
+ghost use Rattle.std.specs.Prelude.{◌≡◌, ◌+◌, ◌++◌, ◌<◌, if◌then◌else◌, None, ◌↔◌, ◌&&◌, [], false, true, Some, OnOk, OnErr, is_some, unwrap_or, map, length, nat_lt};
+ghost use Rattle.std.specs.FinMap.{get, keys};
+ghost use Rattle.someip_tp.specs.Keys.{same_key};
+ghost use Rattle.someip_tp.specs.Parts.{is_gone};
+ghost use Rattle.someip_tp.specs.Offers.{offer, no_part, placed, added, passes, differ, conflicts, with_offer, message_of};
+ghost use Rattle.someip_tp.specs.Pieces.{bytes_in, byte_at, AreOneText, AreInOrder, Agree};
+
+use crate::key::{ReassemblyKey, is_same};
+use crate::pieces::{Piece, append_front, clash, covered, place_for, reach};
+use std::alloc::{AllocError, Global};
+use std::marker::Model;
+
+/// A message that has come in part: its accepted slices, its total if the last one is among them,
+/// and when the latest was accepted.
+#[derive(Drop)]
+pub(crate) struct Partial {
+    key: ReassemblyKey,
+    pieces: Vec<Piece>,
+    total: Option<usize>,
+    last: u64,
+}
+
+impl Model for Partial {
+    ghost use Rattle.someip_tp.specs.Partials.{Entry, coded_entry, entry_of, IsSound};
+
+    ghost Value = { Entry };
+
+    ghost coded = { coded_entry };
+
+    ghost view = { entry_of };
+
+    ghost invariant = { IsSound };
+}
+
+impl Partial {
+    /// A part of which nothing has come.
+    pub(crate) fn new(alloc: Global, key: ReassemblyKey) -> Partial
+        ensures { result ≡ (key, no_part) }
+    {
+        Partial {
+            key,
+            pieces: Vec::new(alloc),
+            total: None,
+            last: 0,
+        }
+    }
+
+    /// Whether it is the part of this key.
+    pub(crate) fn is_for(&self, key: &ReassemblyKey) -> bool
+        ensures { result ≡ same_key key.now self.now.0 }
+    {
+        is_same(key, &self.key)
+    }
+
+    /// Whether its time is over at `now`.
+    pub(crate) fn is_gone(&self, timeout: u64, now: u64) -> bool
+        ensures { result ≡ is_gone timeout now self.now.1 }
+    {
+        match now.checked_sub(self.last) {
+            Some(age) => age >= timeout,
+            None => false,
+        }
+    }
+
+    /// Whether a segment contradicts what has come.
+    pub(crate) fn contradicts(&self, offset: u32, more: bool, bytes: &[u8]) -> bool
+        ensures { result ≡ conflicts self.now.1 (offer self.now.0 offset more bytes.now) }
+    {
+        let told = total_of(offset, more, bytes);
+        clash(&self.pieces, offset, bytes)
+            || passes(self.total, offset, bytes)
+            || differ(self.total, told)
+            || reach(&self.pieces, told)
+    }
+
+    /// Keeps the slice of a segment that contradicts nothing.
+    pub(crate) fn accept(
+        &mut self,
+        alloc: Global,
+        offset: u32,
+        more: bool,
+        bytes: &[u8],
+        now: u64,
+    ) -> Result<(), AllocError>
+        requires { conflicts self.old.1 (offer self.old.0 offset more bytes.now) ≡ false }
+        ensures ok { OnOk result (self.new
+            ≡ (self.old.0, with_offer self.old.1 now (offer self.old.0 offset more bytes.now))) }
+        ensures err { OnErr result (self.new ≡ self.old) }
+    {
+        put(&mut self.pieces, alloc, offset, bytes)?;
+        if !more {
+            self.total = total_of(offset, more, bytes);
+        }
+        self.last = now;
+        Ok(())
+    }
+
+    /// Whether the message is whole.
+    pub(crate) fn is_whole(&self) -> bool
+        ensures { result ≡ is_some (message_of self.now.1) }
+    {
+        match self.total {
+            Some(total) => covered(&self.pieces) == total,
+            None => false,
+        }
+    }
+
+    /// Appends the bytes of a whole message.
+    pub(crate) fn append_message(&self, bytes: &mut Vec<u8>) -> Result<(), AllocError>
+        requires { is_some (message_of self.now.1) ≡ true }
+        ensures ok { OnOk result
+            (bytes.new.items ≡ bytes.old.items ++ unwrap_or (message_of self.now.1) []) }
+        ensures err { OnErr result (bytes.new.items ≡ bytes.old.items) }
+    {
+        append_front(&self.pieces, bytes)
+    }
+}
+
+/// The total that a segment tells, which only the last one does.
+fn total_of(offset: u32, more: bool, bytes: &[u8]) -> Option<usize>
+    ensures { result ≡ (if more then None else Some (offset + length bytes.now)) }
+{
+    if more {
+        None
+    } else {
+        Some(offset as usize + bytes.len())
+    }
+}
+
+/// Whether a byte of the slice lies at or past the known total.
+fn passes(total: Option<usize>, offset: u32, bytes: &[u8]) -> bool
+    ensures { result ≡ passes total (map (λ e. e.0) (placed offset bytes.now)) }
+{
+    match total {
+        Some(total) => !bytes.is_empty() && total < offset as usize + bytes.len(),
+        None => false,
+    }
+}
+
+/// Whether both totals are known, and differ.
+fn differ(known: Option<usize>, told: Option<usize>) -> bool
+    ensures { result ≡ differ known told }
+{
+    match (known, told) {
+        (Some(known), Some(told)) => known != told,
+        _ => false,
+    }
+}
+
+/// Puts a slice among the pieces, at its place.
+fn put(
+    pieces: &mut Vec<Piece>,
+    alloc: Global,
+    offset: u32,
+    bytes: &[u8],
+) -> Result<(), AllocError>
+    requires one_text { AreOneText pieces.old.items }
+    requires in_order { AreInOrder pieces.old.items }
+    requires agree { Agree (get (bytes_in pieces.old.items)) (byte_at offset bytes.now) }
+    ensures one_text { AreOneText pieces.new.items }
+    ensures in_order { AreInOrder pieces.new.items }
+    ensures ok { OnOk result
+        (bytes_in pieces.new.items ≡ added (bytes_in pieces.old.items) (placed offset bytes.now)) }
+    ensures err { OnErr result (pieces.new.items ≡ pieces.old.items) }
+{
+    let mut kept = Vec::new(alloc);
+    kept.extend_from_slice(bytes)?;
+    let at = place_for(pieces, offset);
+    pieces.insert(
+        at,
+        Piece {
+            offset,
+            bytes: kept,
+        },
+    )?;
+    Ok(())
+}
