@@ -6,7 +6,8 @@ use Rattle.std.proofs.lemmas.Option.{slice_get_within, slice_get_past, slice_get
 use Rattle.std.specs.Option.{is_some}
 use Rattle.std.specs.Str.{bytes_eq}
 use Rattle.std.proofs.lemmas.List.{take-append-drop, take_more, take_all, get_or-drop, get_or_default, length-drop}
-use Rattle.std.specs.List.{insert, list_any}
+use Rattle.std.specs.List.{All, insert, list_any}
+use Rattle.std.proofs.lemmas.List.Elements.{All-weaker, All-same, All-append, All-take, All-drop, All-cons}
 use Rattle.std.specs.List.Sorted.{IsPartitionPoint}
 use Rattle.std.proofs.lemmas.List.Sorted.{IsNonDecreasingBy-insert}
 use Rattle.std.specs.Ordering.{nat_cmp}
@@ -271,3 +272,36 @@ longer_text bytes front new end start ps long from behind holds old place below 
         let at : (end - start) + (place - end) ≡ place - start = omega (arith, far, from) in
         holds place (get_or new (place - end) 0) (byte_from start ps place _ (omega (arith, far, from)) (ap (slice_get ps) (sym at) ∙ (sym (behind (place - end)) ∙ this)))
         ∙ (sym this ∙ (sym (slice_get-behind front new (place - end)) ∙ ap (slice_get (front ++ new)) split))
+
+-- ---- a slice is put among the pieces
+
+here : (offset at : ℕ) (bs bytes : List ℕ) (place b : ℕ) → at ≡ offset → bytes ≡ bs → byte_at at bytes place ≡ Some b → byte_at offset bs place ≡ Some b
+here offset at bs bytes place b same is this = sym (λ j. byte_at (same j) (is j) place) ∙ this
+
+pub bytes_once_put : (pieces new : List Piece) (i : ℕ) (p : Piece) (offset : ℕ) (bs : List ℕ) → new ≡ insert pieces i p → p.offset ≡ offset → p.bytes.items ≡ bs
+    → Agree (get (bytes_in pieces)) (byte_at offset bs) → bytes_in new ≡ added (bytes_in pieces) (placed offset bs)
+bytes_once_put pieces new i p offset bs is at bytes agree =
+    ap bytes_in is
+    ∙ (bytes_with_one_more pieces i p (λ place a b h k. agree place a b h (here offset p.offset bs p.bytes.items place b at bytes k))
+    ∙ λ j. added (bytes_in pieces) (placed (at j) (bytes j)))
+
+holds_still : (bytes more : FinMap nat_cmp ℕ) (offset : ℕ) (bs : List ℕ) (q : Piece) → more ≡ added bytes (placed offset bs) → Agree (get bytes) (byte_at offset bs) → Holds bytes q → Holds more q
+holds_still bytes more offset bs q is agree holds place b this =
+    ap (λ m. get m place) is ∙ (get-added bytes offset bs place ∙ cases (byte_at offset bs place) refl)
+  where
+    cases : (o : Option ℕ) → byte_at offset bs place ≡ o → over o (get bytes place) ≡ Some b
+    cases None none = holds place b this
+    cases (Some c) new = ap Some (sym (agree place b c (holds place b this) new))
+
+holds_new : (bytes more : FinMap nat_cmp ℕ) (q : Piece) → more ≡ added bytes (placed q.offset q.bytes.items) → Holds more q
+holds_new bytes more q is place b this = ap (λ m. get m place) is ∙ (get-added bytes q.offset q.bytes.items place ∙ ap (λ o. over o (get bytes place)) this)
+
+pub one_text_once_put : (pieces new : List Piece) (i : ℕ) (p : Piece) (offset : ℕ) (bs : List ℕ) → new ≡ insert pieces i p → p.offset ≡ offset → p.bytes.items ≡ bs
+    → Agree (get (bytes_in pieces)) (byte_at offset bs) → AreOneText pieces → AreOneText new
+one_text_once_put pieces new i p offset bs is at bytes agree one =
+    let more = bytes_once_put pieces new i p offset bs is at bytes agree in
+    let own : bytes_in new ≡ added (bytes_in pieces) (placed p.offset p.bytes.items) = more ∙ sym (λ j. added (bytes_in pieces) (placed (at j) (bytes j))) in
+    let all : All (Holds (bytes_in new)) pieces = All-weaker (Holds (bytes_in pieces)) (Holds (bytes_in new)) (λ q holds. holds_still (bytes_in pieces) (bytes_in new) offset bs q more agree holds) pieces one in
+    All-same (Holds (bytes_in new)) new (insert pieces i p) is
+    (All-append (Holds (bytes_in new)) (take i pieces) (p ∷ drop i pieces) (All-take (Holds (bytes_in new)) i pieces all)
+    (All-cons (Holds (bytes_in new)) p (drop i pieces) (holds_new (bytes_in pieces) (bytes_in new) p own) (All-drop (Holds (bytes_in new)) i pieces all)))

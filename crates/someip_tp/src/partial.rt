@@ -89,9 +89,7 @@ impl Partial {
         ensures err { OnErr result (self.new ≡ self.old) }
     {
         put(&mut self.pieces, alloc, offset, bytes)?;
-        if !more {
-            self.total = total_of(offset, more, bytes);
-        }
+        self.total = total_with(self.total, offset, more, bytes);
         self.last = now;
         Ok(())
     }
@@ -125,6 +123,17 @@ fn total_of(offset: u32, more: bool, bytes: &[u8]) -> Option<usize>
         None
     } else {
         Some(offset as usize + bytes.len())
+    }
+}
+
+/// The total once a segment was accepted: the one that it tells, or else the one before.
+fn total_with(known: Option<usize>, offset: u32, more: bool, bytes: &[u8]) -> Option<usize>
+    ensures { result ≡ (if more then known else Some (offset + length bytes.now)) }
+{
+    if more {
+        known
+    } else {
+        total_of(offset, more, bytes)
     }
 }
 
