@@ -4,3 +4,4 @@ pub mod Placed
 pub mod KeyOrder
 pub mod PartialLemmas
 pub mod Entries
+pub mod StoreLemmas

@@ -7,3 +7,4 @@ pub mod Parts
 pub mod Offers
 pub mod Pieces
 pub mod Partials
+pub mod Stores

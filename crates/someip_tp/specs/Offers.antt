@@ -83,6 +83,10 @@ message_of part =
     (λ total. if are_exactly_below total part.bytes then Some (map (λ place. unwrap_or (get part.bytes place) 0) (range_with_len 0 total)) else None)
     part.total
 
+-- what an accepted segment made of its message
+abbrev pub offered_as : Part → Offered
+offered_as part = if is_some (message_of part) then Whole else InPart
+
 -- a slice that is not the last one has a length that is no multiple of 16
 abbrev pub is_unaligned : Offer → Bool
 is_unaligned o = o.more && not (length o.bytes % 16 == 0)
@@ -96,8 +100,7 @@ abbrev pub judged_among : ℕ → ℕ → Offer → Parts → Result Offered TpE
 judged_among slots now o parts =
     if is_none (get parts o.key) && nat_le slots (len parts) then Err NoSlot
     else (if conflicts (part_under parts o.key) o then Err Conflict
-    else (if is_some (message_of (with_offer (part_under parts o.key) now o)) then Ok Whole
-    else Ok InPart))
+    else Ok (offered_as (with_offer (part_under parts o.key) now o)))
 
 -- what a segment is judged to be among the parts that are left
 abbrev pub judged : Limits → ℕ → Offer → Parts → Result Offered TpError

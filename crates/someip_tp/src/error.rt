@@ -1,5 +1,8 @@
 //! Why a segment is refused.
+ghost use Rattle.std.specs.Prelude.{◌≡◌};
+ghost use Rattle.someip_tp.specs.declared.error.TpError.TheVariants.{OutOfMemory};
 
+use std::alloc::AllocError;
 use thiserror::Error;
 
 /// Why a segment is refused, or a message is not put together.
@@ -23,4 +26,12 @@ pub enum TpError {
     /// The payload has no room for the word of a segment.
     #[error("NoHeader")]
     NoHeader,
+}
+
+impl From<AllocError> for TpError {
+    ghost from_gives = { λ _ e. e ≡ OutOfMemory };
+
+    fn from(_error: AllocError) -> TpError {
+        TpError::OutOfMemory
+    }
 }

@@ -9,15 +9,18 @@
 mod error;
 mod key;
 mod partial;
+mod partials;
 mod pieces;
 mod reassembly;
 mod segment;
+mod segment_list;
 mod segments;
 
 pub use error::TpError;
 pub use key::ReassemblyKey;
 pub use reassembly::{Offered, Reassembly};
 pub use segment::{Segment, read_segment};
+pub use segment_list::SegmentList;
 pub use segments::Segments;
 
 #[cfg(test)]

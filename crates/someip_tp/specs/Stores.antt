@@ -1,0 +1,51 @@
+-- What contracts see of a store of parts.
+use Rattle.std.specs.Prelude.{◌≡◌, ℕ, ◌<◌, Bool, true, false, List, length, Option, Some, None, Result, Ok, Err, is_ok, refl}
+use Rattle.std.specs.List.{slice_index_or}
+use Rattle.std.specs.Coded.{Coded, code_by, coded×, coded_ℕ}
+use Rattle.std.specs.FinMap.{FinMap, get, find, from_entries}
+use Rattle.someip_tp.specs.declared.key.ReassemblyKey.{ReassemblyKey}
+use Rattle.someip_tp.specs.declared.reassembly.Offered.{Offered}
+use Rattle.someip_tp.specs.declared.error.TpError.{TpError}
+use Rattle.someip_tp.specs.declared.error.TpError.TheVariants.{OutOfMemory}
+use Rattle.someip_tp.specs.Keys.{key_cmp, same_key}
+use Rattle.someip_tp.specs.Parts.{Limits, Parts, coded_parts}
+use Rattle.someip_tp.specs.declared.partials.Arrived.{Arrived}
+use Rattle.someip_tp.specs.Offers.{Offer, offer, judged_among, judged, kept}
+use Rattle.someip_tp.specs.Partials.{Entry}
+
+-- the parts, and what bounds them
+pub record Store : Type 0 where
+  pub parts : Parts
+  pub limits : Limits
+
+abbrev pub coded_limits : Coded Limits
+coded_limits = code_by (ℕ × (ℕ × ℕ)) (coded× coded_ℕ (coded× coded_ℕ coded_ℕ)) (λ l. (l.slots, (l.limit, l.timeout))) (λ c. record { slots = c.0; limit = c.1.0; timeout = c.1.1 }) (λ _. refl)
+
+abbrev pub coded_store : Coded Store
+coded_store = code_by (Parts × Limits) (coded× coded_parts coded_limits) (λ s. (s.parts, s.limits)) (λ c. record { parts = c.0; limits = c.1 }) (λ _. refl)
+
+-- the segment that arrived
+abbrev pub offer_of : Arrived → Offer
+offer_of a = offer a.key a.offset a.more a.bytes.now
+
+-- the parts with these entries
+abbrev pub parts_in : List Entry → Parts
+parts_in entries = from_entries entries
+
+-- where an entry of the key stands, if there is one
+abbrev pub StandsAt : ReassemblyKey → List Entry → Option ℕ → Type 0
+StandsAt key entries (Some i) = (i < length entries) × ((d : Entry) → same_key key (slice_index_or entries i d).0 ≡ true)
+StandsAt key entries None = find key_cmp key entries ≡ None
+
+-- a segment was judged so, and the parts changed so; where memory is wanting it was to be accepted, and is not kept
+abbrev pub Acts : Result Offered TpError → ℕ → Offer → Parts → Result Offered TpError → Parts → Type 0
+Acts judgement now o old (Err OutOfMemory) new = (is_ok judgement ≡ true) × (new ≡ old)
+Acts judgement now o old result new = (result ≡ judgement) × (new ≡ kept result now o old)
+
+-- a segment of fit length was offered to the parts that are left
+abbrev pub OffersAmong : ℕ → ℕ → Offer → Parts → Result Offered TpError → Parts → Type 0
+OffersAmong slots now o old result new = Acts (judged_among slots now o old) now o old result new
+
+-- a segment was offered to the parts that are left
+abbrev pub Offers : Limits → ℕ → Offer → Parts → Result Offered TpError → Parts → Type 0
+Offers limits now o old result new = Acts (judged limits now o old) now o old result new
