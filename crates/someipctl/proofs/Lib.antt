@@ -5,3 +5,4 @@ pub mod SendingLemmas
 pub mod HexLemmas
 pub mod ShownTextLemmas
 pub mod ShowResultLemmas
+pub mod LinesLemmas
