@@ -6,3 +6,4 @@ pub mod HexLemmas
 pub mod ShownTextLemmas
 pub mod ShowResultLemmas
 pub mod LinesLemmas
+pub mod PlaceLemmas
