@@ -5,3 +5,5 @@ pub mod SendingLemmas
 pub mod HexLemmas
 pub mod ShownTextLemmas
 pub mod ShowResultLemmas
+pub mod LinesLemmas
+pub mod PlaceLemmas

@@ -1,29 +1,45 @@
 -- The text of a datagram, and whether it ends in a fault.
-use Rattle.std.proofs.Common.{◌≡◌, ℕ, zero, suc, ◌+◌, ◌<◌, Bool, true, false, ◌||◌, List, [], ◌∷◌, length, get_or, drop, map, Vec, Global, Result, Ok, Err, refl, sym, ap, ◌∙◌, arith}
-use Rattle.std.specs.Prelude.{is_err}
+use Rattle.std.proofs.Common.{◌≡◌, ℕ, zero, suc, ◌+◌, ◌<◌, ◌≤◌, Bool, true, false, ◌||◌, List, [], ◌∷◌, length, get_or, drop, map, Option, Some, None, Vec, Global, Result, refl, sym, ap, ◌∙◌, length-append, arith}
 use Rattle.std.specs.List.{flat_map, list_any}
 use Rattle.std.proofs.lemmas.List.{nil_from_length}
-use Rattle.someip_wire.specs.declared.Message.{Message}
 use Rattle.someip_wire.specs.declared.WireError.{WireError}
-use Rattle.someip_wire.specs.View.{view_item}
+use Rattle.someip_wire.specs.Spelling.{MessageValue, spelling}
+use Rattle.someip_wire.specs.Datagram.{Datagram, items}
 use Rattle.someip_wire.specs.Reading.{items_of}
 use Rattle.someip_wire.proofs.DatagramLemmas.{items_from-nil}
-use Rattle.someipctl.specs.Lines.{item_line, empty_line}
+use Rattle.someipctl.specs.Lines.{lines_from, item_len, is_faulty, empty_line}
 use Rattle.someipctl.specs.ShownText.{datagram_text, has_fault}
 
 pub datagram_text-empty : (k : ℕ) (datagram : List ℕ) → length datagram ≡ 0 → datagram_text k datagram ≡ empty_line k
 datagram_text-empty k datagram none = ap (datagram_text k) (nil_from_length datagram none)
 
-pub datagram_text-some : (k : ℕ) (datagram : List ℕ) → 0 < length datagram → datagram_text k datagram ≡ flat_map (item_line k) (items_of datagram)
+pub datagram_text-some : (k : ℕ) (datagram : List ℕ) → 0 < length datagram → datagram_text k datagram ≡ lines_from k 0 (items_of datagram)
 datagram_text-some k [] lt = absurd (omega (arith, lt))
 datagram_text-some k (b ∷ bytes) lt = refl
 
 pub has_fault-empty : (datagram : List ℕ) → length datagram ≡ 0 → has_fault datagram ≡ false
-has_fault-empty datagram none = ap has_fault (nil_from_length datagram none) ∙ ap (list_any is_err) (items_from-nil 0)
+has_fault-empty datagram none = ap has_fault (nil_from_length datagram none) ∙ ap (list_any is_faulty) (items_from-nil 0)
 
-pub is_err-view_item : (item : Result Message WireError) → is_err (view_item item) ≡ is_err item
-is_err-view_item (Ok message) = refl
-is_err-view_item (Err fault) = refl
+-- how many bytes items take
+abbrev pub items_len : List (Result MessageValue WireError) → ℕ
+items_len [] = 0
+items_len (item ∷ given) = item_len item + items_len given
+
+-- the items of a datagram take its bytes up to the rest that ends it
+items_len-items : (messages : List MessageValue) (end : Option WireError) → items_len (items messages end) ≡ length (flat_map spelling messages)
+items_len-items [] None = refl
+items_len-items [] (Some fault) = refl
+items_len-items (m ∷ messages) end = ap (λ n. length (spelling m) + n) (items_len-items messages end) ∙ sym (length-append (spelling m) (flat_map spelling messages))
+
+-- so they take no more than it has
+pub items_within_datagram : (datagram : List ℕ) (given : List (Result MessageValue WireError))
+    → ((messages : List MessageValue) × (end : Option WireError) × Datagram messages end datagram × (given ≡ items messages end))
+    → items_len given ≤ length datagram
+items_within_datagram datagram given found =
+    let d = found.2 in
+    let own = ap items_len found.3 ∙ items_len-items found.0 found.1 in
+    let whole = ap length d.parts ∙ length-append (flat_map spelling found.0) d.rest in
+    omega (arith, own, whole)
 
 -- the bytes of datagrams
 abbrev pub bytes_of_each : List (Vec ℕ Global) → List (List ℕ)

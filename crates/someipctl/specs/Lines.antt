@@ -1,12 +1,15 @@
 -- The lines of `show`, byte for byte.
-use Rattle.std.specs.Prelude.{ℕ, ◌+◌, List, [], ◌∷◌, length, codes, decimal, Result, Ok, Err}
+use Rattle.std.specs.Prelude.{ℕ, ◌+◌, nat_lt, Bool, true, false, ◌&&◌, if◌then◌else◌, List, [], ◌∷◌, ◌++◌, length, take, drop, codes, decimal, Result, Ok, Err}
+use Rattle.std.specs.Int.{w32, from_be_bytes}
 use Rattle.std.specs.List.{flat_map}
 use Rattle.hex.specs.Hex.{encode_lower}
 use Rattle.someip_wire.specs.declared.WireError.{WireError}
 use Rattle.someip_wire.specs.declared.WireError.TheVariants.{Truncated, LengthTooSmall, WrongProtocolVersion, UnknownMessageType}
 use Rattle.someip_wire.specs.declared.MessageType.{MessageType}
 use Rattle.someip_wire.specs.declared.MessageType.TheVariants.{Request, RequestNoReturn, Notification, Response, Error, TpRequest, TpRequestNoReturn, TpNotification, TpResponse, TpError}
-use Rattle.someip_wire.specs.Spelling.{MessageValue}
+use Rattle.someip_wire.specs.Kinds.{has_tp_flag}
+use Rattle.someip_wire.specs.Spelling.{MessageValue, spelling}
+use Rattle.someip_tp.specs.Words.{offset_of, more_of}
 use Rattle.someipctl.specs.Parts.{hex4, hex2}
 
 -- the texts one after the other
@@ -54,15 +57,58 @@ fault_place (LengthTooSmall place) = place
 fault_place (WrongProtocolVersion place) = place
 fault_place (UnknownMessageType place) = place
 
--- the line of the fault that ends the k-th datagram
-abbrev pub fault_line : ℕ → WireError → List ℕ
-fault_line k fault = joined (decimal k ∷ codes " fault " ∷ fault_name fault ∷ codes " at " ∷ decimal (fault_place fault) ∷ codes "\n" ∷ [])
+-- the line of a fault of the k-th datagram: its name, and its place in the datagram
+abbrev pub fault_line : ℕ → List ℕ → ℕ → List ℕ
+fault_line k name place = joined (decimal k ∷ codes " fault " ∷ name ∷ codes " at " ∷ decimal place ∷ codes "\n" ∷ [])
 
 -- the line of the k-th datagram where that is empty
 abbrev pub empty_line : ℕ → List ℕ
 empty_line k = joined (decimal k ∷ codes " empty\n" ∷ [])
 
--- the line of an item of the k-th datagram
-abbrev pub item_line : ℕ → Result MessageValue WireError → List ℕ
-item_line k (Ok message) = message_line k message
-item_line k (Err fault) = fault_line k fault
+-- the word of a segment: the number in the first four bytes of its payload
+abbrev pub word_in : List ℕ → ℕ
+word_in payload = from_be_bytes w32 (take 4 payload)
+
+-- a flag as a digit
+abbrev pub flag_text : Bool → List ℕ
+flag_text true = codes "1"
+flag_text false = codes "0"
+
+-- the line of a segment with this payload: the offset in bytes and More Segments, which its word says, and the
+-- bytes of the slice behind the word
+abbrev pub segment_line : ℕ → List ℕ → List ℕ
+segment_line k payload = joined (
+    decimal k ∷ codes " segment offset " ∷ decimal (offset_of (word_in payload))
+    ∷ codes " more " ∷ flag_text (more_of (word_in payload))
+    ∷ codes " bytes " ∷ decimal (length (drop 4 payload)) ∷ codes "\n" ∷ [])
+
+-- a payload has no room for the word of a segment
+abbrev pub has_no_word : List ℕ → Bool
+has_no_word payload = nat_lt (length payload) 4
+
+-- what stands behind the line of a message whose payload begins at this place: nothing, or where the message is
+-- a segment its line, or the fault that its payload has no room for the word
+abbrev pub segment_lines : ℕ → ℕ → MessageValue → List ℕ
+segment_lines k place m =
+    if has_tp_flag m.header.kind then (if has_no_word m.payload then fault_line k (codes "NoHeader") place else segment_line k m.payload)
+    else []
+
+-- the lines of an item that begins at this place of the k-th datagram
+abbrev pub item_lines : ℕ → ℕ → Result MessageValue WireError → List ℕ
+item_lines k place (Ok message) = message_line k message ++ segment_lines k (place + 16) message
+item_lines k place (Err fault) = fault_line k (fault_name fault) (fault_place fault)
+
+-- how many bytes of its datagram an item takes: a message those of its spelling. Nothing comes behind a fault
+abbrev pub item_len : Result MessageValue WireError → ℕ
+item_len (Ok message) = length (spelling message)
+item_len (Err fault) = 0
+
+-- the lines of these items of the k-th datagram in order, the first of which begins at this place
+abbrev pub lines_from : ℕ → ℕ → List (Result MessageValue WireError) → List ℕ
+lines_from k place [] = []
+lines_from k place (item ∷ items) = item_lines k place item ++ lines_from k (place + item_len item) items
+
+-- a fault is shown of an item: the item is one, or it is a segment whose payload has no room for the word
+abbrev pub is_faulty : Result MessageValue WireError → Bool
+is_faulty (Ok message) = has_tp_flag message.header.kind && has_no_word message.payload
+is_faulty (Err fault) = true

@@ -1,15 +1,15 @@
 -- The text that `show` prints for a capture.
-use Rattle.std.specs.Prelude.{ℕ, ◌+◌, Bool, List, [], ◌∷◌, ◌++◌, is_err}
-use Rattle.std.specs.List.{flat_map, list_any}
+use Rattle.std.specs.Prelude.{ℕ, ◌+◌, Bool, List, [], ◌∷◌, ◌++◌}
+use Rattle.std.specs.List.{list_any}
 use Rattle.someip_wire.specs.Reading.{items_of}
 use Rattle.someipctl.specs.declared.outcome.Outcome.{Outcome}
 use Rattle.someipctl.specs.Outcomes.{outcome_of}
-use Rattle.someipctl.specs.Lines.{item_line, empty_line}
+use Rattle.someipctl.specs.Lines.{lines_from, empty_line, is_faulty}
 
--- the text of the k-th datagram: a line for each message and for the fault, if there is one
+-- the text of the k-th datagram: the lines of its messages, and of the fault that ends it, if there is one
 abbrev pub datagram_text : ℕ → List ℕ → List ℕ
 datagram_text k [] = empty_line k
-datagram_text k (b ∷ bytes) = flat_map (item_line k) (items_of (b ∷ bytes))
+datagram_text k (b ∷ bytes) = lines_from k 0 (items_of (b ∷ bytes))
 
 -- the texts of these datagrams in order, the first of which is the k-th
 abbrev pub text_from : ℕ → List (List ℕ) → List ℕ
@@ -20,10 +20,10 @@ text_from k (datagram ∷ others) = datagram_text k datagram ++ text_from (k + 1
 abbrev pub shown_text : List (List ℕ) → List ℕ
 shown_text datagrams = text_from 1 datagrams
 
--- a datagram ends in a fault
+-- a fault is shown of a datagram: one ends it, or a segment in it has no room for the word
 abbrev pub has_fault : List ℕ → Bool
-has_fault datagram = list_any is_err (items_of datagram)
+has_fault datagram = list_any is_faulty (items_of datagram)
 
--- the outcome of showing these datagrams: a fault was shown exactly where one of them ends in one
+-- the outcome of showing these datagrams: a fault was shown exactly where one of them has one
 abbrev pub shown_outcome : List (List ℕ) → Outcome
 shown_outcome datagrams = outcome_of (list_any has_fault datagrams)

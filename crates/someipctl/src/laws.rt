@@ -1,7 +1,14 @@
-//! Laws of the definitions behind the contracts: what the lines of a capture say, and what words ask
-//! for. Each is the contract of a function that does nothing.
-ghost use Rattle.std.specs.Prelude.{◌≡◌, [], ◌∷◌, codes, true, false, Some, IsSome, ℕ, List};
+//! Laws of the definitions behind the contracts: what the lines of a capture say, where a message
+//! begins in its datagram, and what words ask for. Each is the contract of a function that does
+//! nothing.
+ghost use Rattle.std.specs.Prelude.{◌≡◌, ◌+◌, ◌++◌, [], ◌∷◌, codes, true, false, Option, Some, None};
+ghost use Rattle.std.specs.Prelude.{IsSome, ℕ, List, drop, length};
+ghost use Rattle.std.specs.List.{flat_map};
 ghost use Rattle.hex.specs.Hex.{encode_lower, IsBytes};
+ghost use Rattle.someip_wire.specs.declared.WireError.{WireError};
+ghost use Rattle.someip_wire.specs.Spelling.{MessageValue, spelling};
+ghost use Rattle.someip_wire.specs.Datagram.{Datagram, items};
+ghost use Rattle.someipctl.specs.Lines.{lines_from};
 ghost use Rattle.someipctl.specs.Capture.{bytes_of, is_bad, is_skipped};
 ghost use Rattle.someipctl.specs.CommandLine.{CallsForHelp, IsRefused, IsTaken, is_flag, line};
 ghost use Rattle.someipctl.specs.CommandLine.{requested, show_request};
@@ -18,6 +25,20 @@ pub fn what_lines_say()
     ensures late_comment { is_bad (codes " #") ≡ true }
     ensures comment { is_skipped (codes "#") ≡ true }
     ensures blank { is_skipped (codes "  ") ≡ true }
+{}
+
+/// Where a message begins in its datagram: behind the bytes of the messages in front of it. That is
+/// the place from which its lines are told, and its payload stands 16 bytes further.
+pub fn messages_begin_behind_others()
+    // The lines of messages are those of the ones in front, and then of the others from there on.
+    ensures lines { (k : ℕ) (front others : List MessageValue) (end : Option WireError)
+        → lines_from k 0 (items (front ++ others) end) ≡ lines_from k 0 (items front None)
+        ++ lines_from k (length (flat_map spelling front)) (items others end) }
+    // 16 bytes behind the ones in front, its payload stands in the datagram.
+    ensures payload { (front others : List MessageValue) (message : MessageValue)
+        (end : Option WireError) (bytes : List ℕ) → Datagram (front ++ message ∷ others) end bytes
+        → (rest : List ℕ)
+        × (drop (length (flat_map spelling front) + 16) bytes ≡ message.payload ++ rest) }
 {}
 
 /// Words that have no fault match a command, so a parse that succeeds leaves nothing to refuse.

@@ -1,31 +1,59 @@
 //! The lines that `show` prints.
-ghost use Rattle.std.specs.Prelude.{◌≡◌, OnOk, OnErr};
+ghost use Rattle.std.specs.Prelude.{◌≡◌, ◌≤◌, ◌+◌, ◌&&◌, OnOk, OnErr, IfOk};
+ghost use Rattle.someip_wire.specs.Kinds.{has_tp_flag};
 ghost use Rattle.someip_wire.specs.View.{view, view_item};
 ghost use Rattle.someipctl.specs.Sending.{Sends, Stops};
 ghost use Rattle.someipctl.specs.Parts.{part_text};
 ghost use Rattle.someipctl.specs.Lines.{type_name, payload_text, fault_name, fault_place};
-ghost use Rattle.someipctl.specs.Lines.{message_line, fault_line, item_line, empty_line};
+ghost use Rattle.someipctl.specs.Lines.{message_line, fault_line, empty_line, flag_text};
+ghost use Rattle.someipctl.specs.Lines.{segment_lines, has_no_word, item_lines, item_len, is_faulty};
 
 use crate::output::{Buffer, CannotWrite};
 use crate::parts::{Part, put_parts};
-use someip_wire::{Message, MessageType, WireError};
+use someip_tp::read_segment;
+use someip_wire::{Message, MessageType, WireError, written_len};
 use std::io::Write;
 
-/// Prints the line of an item of the k-th datagram: a message, or the fault that ends it.
+/// The bytes of a header, which stand in front of a payload.
+const HEADER_LEN: usize = 16;
+
+/// Prints the lines of an item that begins at a place of the k-th datagram: a message, and behind it
+/// what the word says where it is a segment; or the fault that ends the datagram. Says whether a
+/// fault is among them.
 pub fn put_item<W: Write>(
     buffer: &mut Buffer,
     writer: &mut W,
     k: usize,
+    place: usize,
     item: &Result<Message<'_>, WireError>,
-) -> Result<(), CannotWrite>
+) -> Result<bool, CannotWrite>
+    requires { place + 16 ≤ usize.MAX }
     ensures ok { OnOk result (Sends (W.contents writer.old) buffer.old
-        (W.contents writer.new) buffer.new (item_line k (view_item item.now))) }
+        (W.contents writer.new) buffer.new (item_lines k place (view_item item.now))) }
+    ensures faulty { IfOk result (λ faulty. faulty ≡ is_faulty (view_item item.now)) }
     ensures err { OnErr result (Stops (W.contents writer.old) buffer.old
-        (W.contents writer.new) (item_line k (view_item item.now))) }
+        (W.contents writer.new) (item_lines k place (view_item item.now))) }
 {
     match item {
-        Ok(message) => put_message(buffer, writer, k, message),
-        Err(fault) => put_fault(buffer, writer, k, *fault),
+        Ok(message) => {
+            put_message(buffer, writer, k, message)?;
+            put_segment(buffer, writer, k, place + HEADER_LEN, message)
+        }
+        Err(fault) => {
+            let (name, place) = name_and_place(*fault);
+            put_fault(buffer, writer, k, name, place)?;
+            Ok(true)
+        }
+    }
+}
+
+/// How many bytes of its datagram an item takes. Nothing comes behind a fault.
+pub fn item_len(item: &Result<Message<'_>, WireError>) -> usize
+    ensures { result ≡ item_len (view_item item.now) }
+{
+    match item {
+        Ok(message) => written_len(message),
+        Err(_) => 0,
     }
 }
 
@@ -79,18 +107,60 @@ fn put_message<W: Write>(
     )
 }
 
+/// Prints what stands behind the line of a message whose payload begins at a place of the k-th
+/// datagram: what the word of a segment says, or the fault that there is no room for it, or nothing
+/// where the message is no segment. Says whether it was the fault.
+fn put_segment<W: Write>(
+    buffer: &mut Buffer,
+    writer: &mut W,
+    k: usize,
+    place: usize,
+    message: &Message<'_>,
+) -> Result<bool, CannotWrite>
+    ensures ok { OnOk result (Sends (W.contents writer.old) buffer.old
+        (W.contents writer.new) buffer.new (segment_lines k place (view message.now))) }
+    ensures faulty { IfOk result (λ faulty. faulty
+        ≡ (has_tp_flag message.now.header.kind && has_no_word message.now.payload.now)) }
+    ensures err { OnErr result (Stops (W.contents writer.old) buffer.old
+        (W.contents writer.new) (segment_lines k place (view message.now))) }
+{
+    if !message.header.kind.has_tp_flag() {
+        return Ok(false);
+    }
+    let Ok((offset, more, slice)) = read_segment(message.payload) else {
+        put_fault(buffer, writer, k, "NoHeader", place)?;
+        return Ok(true);
+    };
+    put_parts(
+        buffer,
+        writer,
+        &[
+            Part::Number(k),
+            Part::Text(" segment offset "),
+            Part::Number(offset as usize),
+            Part::Text(" more "),
+            Part::Text(digit_of_flag(more)),
+            Part::Text(" bytes "),
+            Part::Number(slice.len()),
+            Part::Text("\n"),
+        ],
+    )?;
+    Ok(false)
+}
+
+/// Prints the line of a fault: its name, and its place in the k-th datagram.
 fn put_fault<W: Write>(
     buffer: &mut Buffer,
     writer: &mut W,
     k: usize,
-    fault: WireError,
+    name: &str,
+    place: usize,
 ) -> Result<(), CannotWrite>
     ensures ok { OnOk result (Sends (W.contents writer.old) buffer.old
-        (W.contents writer.new) buffer.new (fault_line k fault)) }
+        (W.contents writer.new) buffer.new (fault_line k name.now place)) }
     ensures err { OnErr result (Stops (W.contents writer.old) buffer.old
-        (W.contents writer.new) (fault_line k fault)) }
+        (W.contents writer.new) (fault_line k name.now place)) }
 {
-    let (name, place) = name_and_place(fault);
     put_parts(
         buffer,
         writer,
@@ -114,6 +184,12 @@ fn payload_part(payload: &[u8]) -> Part<'_>
     } else {
         Part::Hex(payload)
     }
+}
+
+fn digit_of_flag(flag: bool) -> &'static str
+    ensures { result.now ≡ flag_text flag }
+{
+    if flag { "1" } else { "0" }
 }
 
 fn name_of_type(kind: MessageType) -> &'static str

@@ -1,18 +1,17 @@
 //! The command `show`: a capture's datagrams, message by message.
 ghost use Rattle.std.specs.Prelude.{◌≡◌, ◌≢◌, [], Some, OnOk, OnErr, IfOk, IfErr, map};
-ghost use Rattle.std.specs.List.{flat_map};
 ghost use Rattle.std.specs.Io.KnownBytes.{Appends};
 ghost use Rattle.someip_wire.specs.Reading.{items_of};
 ghost use Rattle.someipctl.specs.declared.show.ShowError.TheVariants.{CannotWrite, OutOfMemory};
 ghost use Rattle.someipctl.specs.Sending.{Sends, Stops};
-ghost use Rattle.someipctl.specs.Lines.{item_line};
+ghost use Rattle.someipctl.specs.Lines.{lines_from};
 ghost use Rattle.someipctl.specs.ShownText.{datagram_text, shown_text, shown_outcome, has_fault};
 ghost use Rattle.someipctl.specs.ShowResult.{Shows, RefusesShow};
 ghost use Rattle.someipctl.specs.ShowResult.{error_of_capture, error_of_input};
 
 use crate::capture::{CaptureError, read_capture};
 use crate::input::{ReadFault, read_all};
-use crate::lines::{put_empty, put_item};
+use crate::lines::{item_len, put_empty, put_item};
 use crate::outcome::Outcome;
 use crate::output::{self, Buffer};
 use someip_wire::Messages;
@@ -38,7 +37,7 @@ pub enum ShowError {
 }
 
 /// Reads a capture whole, checks every line, and then writes what it shows: for each datagram its
-/// messages and the fault that ends it, a line each, or one line where it is empty.
+/// messages and the fault that ends it, or one line where it is empty.
 pub fn show<R: Read, W: Write>(
     alloc: Global,
     reader: &mut R,
@@ -115,7 +114,7 @@ fn put_datagrams<W: Write>(
     Ok(Outcome::of(fault_shown))
 }
 
-/// Prints the text of the k-th datagram, and says whether that ends in a fault.
+/// Prints the text of the k-th datagram, and says whether a fault is in it.
 fn put_datagram<W: Write>(
     buffer: &mut Buffer,
     writer: &mut W,
@@ -135,7 +134,7 @@ fn put_datagram<W: Write>(
     put_items(buffer, writer, k, datagram)
 }
 
-/// Prints the lines of the items of the k-th datagram, and says whether one of them is a fault.
+/// Prints the lines of the items of the k-th datagram, and says whether a fault is among them.
 fn put_items<W: Write>(
     buffer: &mut Buffer,
     writer: &mut W,
@@ -143,15 +142,17 @@ fn put_items<W: Write>(
     datagram: &[u8],
 ) -> Result<bool, output::CannotWrite>
     ensures ok { OnOk result (Sends (W.contents writer.old) buffer.old
-        (W.contents writer.new) buffer.new (flat_map (item_line k) (items_of datagram.now))) }
+        (W.contents writer.new) buffer.new (lines_from k 0 (items_of datagram.now))) }
     ensures faulty { IfOk result (λ faulty. faulty ≡ has_fault datagram.now) }
     ensures err { OnErr result (Stops (W.contents writer.old) buffer.old
-        (W.contents writer.new) (flat_map (item_line k) (items_of datagram.now))) }
+        (W.contents writer.new) (lines_from k 0 (items_of datagram.now))) }
 {
     let mut faulty = false;
+    let mut place = 0;
     for item in Messages::new(datagram) {
-        put_item(buffer, writer, k, &item)?;
-        faulty |= item.is_err();
+        let fault_shown = put_item(buffer, writer, k, place, &item)?;
+        faulty |= fault_shown;
+        place += item_len(&item);
     }
     Ok(faulty)
 }

@@ -4,7 +4,7 @@ use super::{REQUEST, REQUEST_LINE};
 /// A capture, the text that it shows, and the exit status.
 pub type Shown = (&'static [u8], &'static str, u8);
 
-pub fn captures() -> [Shown; 12] {
+pub fn captures() -> [Shown; 20] {
     [
         (REQUEST, REQUEST_LINE, 0),
         (
@@ -44,14 +44,73 @@ pub fn captures() -> [Shown; 12] {
         ),
         (
             b"11110421 0000000c 00010002 010120 00 00000000\n",
-            "1 message 1111.0421 length 12 client 0001 session 0002 interface 01 type TP_REQUEST code 00 payload 00000000\n",
+            "1 message 1111.0421 length 12 client 0001 session 0002 interface 01 type TP_REQUEST code 00 payload 00000000\n\
+             1 segment offset 0 more 0 bytes 0\n",
             0,
         ),
         (
             b"ffff8100 00000008 00000001 01010200\n11110421 00000008 00010002 0102a101\n",
             "1 message ffff.8100 length 8 client 0000 session 0001 interface 01 type NOTIFICATION code 00 payload -\n\
-             2 message 1111.0421 length 8 client 0001 session 0002 interface 02 type TP_ERROR code 01 payload -\n",
+             2 message 1111.0421 length 8 client 0001 session 0002 interface 02 type TP_ERROR code 01 payload -\n\
+             2 fault NoHeader at 16\n",
+            1,
+        ),
+        (
+            b"12340421 0000000c 00010001 01012000 0000057e\n12340421 0000000c 00010001 01012000 0000057f\n",
+            "1 message 1234.0421 length 12 client 0001 session 0001 interface 01 type TP_REQUEST code 00 payload 0000057e\n\
+             1 segment offset 1392 more 0 bytes 0\n\
+             2 message 1234.0421 length 12 client 0001 session 0001 interface 01 type TP_REQUEST code 00 payload 0000057f\n\
+             2 segment offset 1392 more 1 bytes 0\n",
             0,
+        ),
+        (
+            b"12340421 0000000f 00010001 0101a000 00001051 2a2b2c\n",
+            "1 message 1234.0421 length 15 client 0001 session 0001 interface 01 type TP_RESPONSE code 00 payload 000010512a2b2c\n\
+             1 segment offset 4176 more 1 bytes 3\n",
+            0,
+        ),
+        (
+            b"12340421 0000000d 00010001 01012200 fffffff1 2a\n",
+            "1 message 1234.0421 length 13 client 0001 session 0001 interface 01 type TP_NOTIFICATION code 00 payload fffffff12a\n\
+             1 segment offset 4294967280 more 1 bytes 1\n",
+            0,
+        ),
+        (
+            b"12340421 0000000b 00010001 01012000 00057e 12340421 00000008 00010001 01010000\n",
+            "1 message 1234.0421 length 11 client 0001 session 0001 interface 01 type TP_REQUEST code 00 payload 00057e\n\
+             1 fault NoHeader at 16\n\
+             1 message 1234.0421 length 8 client 0001 session 0001 interface 01 type REQUEST code 00 payload -\n",
+            1,
+        ),
+        (
+            b"12340421 0000000a 00010001 01010000 2a2b 12340421 00000009 00010001 01012100 2c\n",
+            "1 message 1234.0421 length 10 client 0001 session 0001 interface 01 type REQUEST code 00 payload 2a2b\n\
+             1 message 1234.0421 length 9 client 0001 session 0001 interface 01 type TP_REQUEST_NO_RETURN code 00 payload 2c\n\
+             1 fault NoHeader at 34\n",
+            1,
+        ),
+        (
+            b"12340421 00000008 00010001 01012000 12340421 0000000c 00010001 01012000 000015c0 12340421 00000008 00010001 01012000 1234\n",
+            "1 message 1234.0421 length 8 client 0001 session 0001 interface 01 type TP_REQUEST code 00 payload -\n\
+             1 fault NoHeader at 16\n\
+             1 message 1234.0421 length 12 client 0001 session 0001 interface 01 type TP_REQUEST code 00 payload 000015c0\n\
+             1 segment offset 5568 more 0 bytes 0\n\
+             1 message 1234.0421 length 8 client 0001 session 0001 interface 01 type TP_REQUEST code 00 payload -\n\
+             1 fault NoHeader at 52\n\
+             1 fault Truncated at 54\n",
+            1,
+        ),
+        (
+            b"12340421 0000000b 00010001 01010000 000005\n",
+            "1 message 1234.0421 length 11 client 0001 session 0001 interface 01 type REQUEST code 00 payload 000005\n",
+            0,
+        ),
+        (
+            b"12340421 00000008 00010001 01012000\n12340421 00000008 00010001 01010000\n",
+            "1 message 1234.0421 length 8 client 0001 session 0001 interface 01 type TP_REQUEST code 00 payload -\n\
+             1 fault NoHeader at 16\n\
+             2 message 1234.0421 length 8 client 0001 session 0001 interface 01 type REQUEST code 00 payload -\n",
+            1,
         ),
     ]
 }

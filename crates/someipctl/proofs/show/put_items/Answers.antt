@@ -1,20 +1,26 @@
-use Rattle.std.proofs.Common.{◌≡◌, ap, rules}
-use Rattle.std.specs.Prelude.{is_err}
-use Rattle.std.specs.List.{flat_map}
+use Rattle.std.proofs.Common.{◌≡◌, ap, arith, refl, rules}
 use Rattle.someip_wire.specs.Reading.{items_of}
 use Rattle.someip_wire.specs.View.{view_item}
-use Rattle.someipctl.specs.Lines.{item_line}
-use Rattle.someipctl.proofs.SendingLemmas.{OnErr-any, IsSending-more, IsSending-stop}
-use Rattle.someipctl.proofs.ShownTextLemmas.{any_more, is_err-view_item}
+use Rattle.someipctl.specs.Lines.{lines_from, is_faulty}
+use Rattle.someipctl.proofs.SendingLemmas.{OnErr-any, IsSending-start, IsSending-more, IsSending-stop}
+use Rattle.someipctl.proofs.ShownTextLemmas.{any_more, items_len, items_within_datagram}
 use Rattle.someipctl.proofs.show.put_items.Goals as goal
 
-pub returns-in_err-put_item-clause-err : goal.returns-in_err-put_item-clause-err
-returns-in_err-put_item-clause-err g c =
+pub loop-item-init : goal.loop-item-init
+loop-item-init g c =
+    let same : c.into_iter-item-iterator.result ≡ c.new-item-items.result = search rules in
+    let within = items_within_datagram c.args.datagram.now c.new-item-items.result c.new-item-items.ensures.found in
+    (IsSending-start _ _ _, refl, omega (arith, within, ap items_len same))
+
+pub returns-in_err-fault_shown-clause-err : goal.returns-in_err-fault_shown-clause-err
+returns-in_err-fault_shown-clause-err g c =
     let all : c.into_iter-item-iterator.result ≡ items_of c.args.datagram.now = search rules in
-    rw (← all) (OnErr-any c.from_residual.result (IsSending-stop _ _ _ _ _ _ _ _ _ c.loop-item.invariant.0 (ap (flat_map (item_line c.args.k)) c.in-Some.ensures.steps) c.in_err-put_item.ensures.err))
+    rw (← all) (OnErr-any c.from_residual.result (IsSending-stop _ _ _ _ _ _ _ _ _ c.loop-item.invariant.0 (ap (lines_from c.args.k c.loop-item.place) c.in-Some.ensures.steps) c.in_err-fault_shown.ensures.err))
 
 pub loop-item-preserved : goal.loop-item-preserved
-loop-item-preserved g c = (
-  IsSending-more _ _ _ _ _ _ _ _ _ _ c.loop-item.invariant.0 (ap (flat_map (item_line c.args.k)) c.in-Some.ensures.steps) c.in_ok-put_item.ensures.ok,
-  rw (c.is_err-faulty.ensures.value, ← is_err-view_item c.in-Some.item) (any_more is_err c.loop-item.faulty _ _ (view_item c.in-Some.item) _ c.in-Some.ensures.steps c.loop-item.invariant.1),
-)
+loop-item-preserved g c =
+    rw c.item_len-place.ensures (
+      IsSending-more _ _ _ _ _ _ _ _ _ _ c.loop-item.invariant.0 (ap (lines_from c.args.k c.loop-item.place) c.in-Some.ensures.steps) c.in_ok-fault_shown.ensures.ok,
+      rw c.in_ok-fault_shown.ensures.faulty (any_more is_faulty c.loop-item.faulty _ _ (view_item c.in-Some.item) _ c.in-Some.ensures.steps c.loop-item.invariant.1),
+      omega (arith, ap items_len c.in-Some.ensures.steps, c.loop-item.invariant.2),
+    )
