@@ -6,7 +6,7 @@ use Rattle.std.specs.Cmp.{eq_by_cmp_equiv}
 use Rattle.std.specs.FinMap.{FinMap, find, get, insert, remove, len, empty, from_entries, get-from_entries, get-insert, get-empty, same_map, keys, from_entries_push}
 use Rattle.std.proofs.lemmas.Bool.{and_parts, and_from}
 use Rattle.std.proofs.lemmas.Bool.Decides.{nat_tests}
-use Rattle.std.proofs.lemmas.List.{get_or_default}
+use Rattle.std.proofs.lemmas.List.{get_or_default, append-nil}
 use Rattle.someip_tp.specs.declared.key.ReassemblyKey.{ReassemblyKey}
 use Rattle.someip_tp.specs.Distinct.{are_distinct}
 use Rattle.someip_tp.specs.Keys.{key_cmp, same_key}
@@ -210,3 +210,30 @@ ok_acts judgement now o old new r offered is told changed = subst (λ x. Acts ju
 
 pub wanting_acts : (judgement : Result Offered TpError) (now : ℕ) (o : Offer) (old new : Parts) (r : Result Offered TpError) (offered : Offered) → r ≡ Err OutOfMemory → Ok offered ≡ judgement → new ≡ old → Acts judgement now o old r new
 wanting_acts judgement now o old new r offered is told same = subst (λ x. Acts judgement now o old x new) (sym is) (ap is_ok (sym told), same)
+
+pub no_part_under : (key : ReassemblyKey) (now : ℕ) (o : Offer) (parts : Parts) → get parts key ≡ None → insert parts key (with_offer no_part now o) ≡ insert parts key (with_offer (part_under parts key) now o)
+no_part_under key now o parts none = ap (λ p. insert parts key (with_offer p now o)) (sym (ap (λ p. unwrap_or p no_part) none))
+
+-- ---- a message is taken
+
+pub none_whole : (key : ReassemblyKey) (parts : Parts) → get parts key ≡ None → message_at parts key ≡ None
+unfolding message_at
+none_whole key parts none = ap (option_and_then message_of) none
+
+pub message_there : (key : ReassemblyKey) (es : List Entry) (i : ℕ) (e : Entry) → are_distinct key_cmp es ≡ true → StandsAt key es (Some i) → e ≡ get_or es i e → message_at (parts_in es) key ≡ message_of e.1
+unfolding message_at
+message_there key es i e distinct at is = ap (option_and_then message_of) (part_there key es i e distinct at ∙ ap Some (sym (ap (λ (x : Entry). x.1) is)))
+
+pub parts_less_whole : (key : ReassemblyKey) (es : List Entry) → are_distinct key_cmp es ≡ true → is_some (message_at (parts_in es) key) ≡ true
+    → parts_in (filter (λ e. not (same_key key e.0)) es) ≡ parts_less (parts_in es) key
+unfolding parts_less
+parts_less_whole key es distinct whole = removed_parts key es distinct ∙ rw whole refl
+
+pub parts_less_none : (key : ReassemblyKey) (parts : Parts) → is_some (message_at parts key) ≡ false → parts ≡ parts_less parts key
+unfolding parts_less
+parts_less_none key parts none = rw none refl
+
+-- nothing is appended where no message is whole
+pub nothing_appended : (bytes : List ℕ) (message : Option (List ℕ)) → is_some message ≡ false → bytes ≡ bytes ++ unwrap_or message []
+nothing_appended bytes None none = sym (append-nil bytes)
+nothing_appended bytes (Some m) none = cc
