@@ -1,5 +1,5 @@
 -- What a list of accepted slices says of a part: whether a segment contradicts it, and whether it is whole.
-use Rattle.std.proofs.Common.{◌≡◌, ℕ, zero, suc, ◌+◌, ◌-◌, ◌<◌, ◌≤◌, ◌==◌, Bool, true, false, cond, not, ◌&&◌, ◌||◌, nat_lt, nat_le, if◌then◌else◌, List, [], ◌∷◌, ◌++◌, map, length, slice_get, get_or, Option, None, Some, refl, sym, ap, subst, ◌∙◌, arith}
+use Rattle.std.proofs.Common.{◌≡◌, ℕ, zero, suc, ◌+◌, ◌-◌, ◌<◌, ◌≤◌, ◌==◌, Bool, true, false, ◌&&◌, ◌||◌, nat_lt, nat_le, if◌then◌else◌, List, [], ◌∷◌, ◌++◌, map, length, get_or, Option, None, Some, refl, sym, ap, subst, ◌∙◌, arith}
 use Rattle.std.specs.Option.{is_some, unwrap_or, option_and_then}
 use Rattle.std.proofs.lemmas.Bool.{eqb-true}
 use Rattle.std.proofs.lemmas.Grind.{same_number_lists}
@@ -17,9 +17,9 @@ use Rattle.someip_tp.proofs.Entries.{same_by_test, own_test}
 use Rattle.someip_tp.specs.Parts.{Part}
 use Rattle.someip_tp.specs.Offers.{Offer, placed, added, passes, differ, total_of, conflicts, message_of, are_exactly_below}
 use Rattle.someip_tp.specs.declared.pieces.Piece.{Piece}
-use Rattle.someip_tp.specs.Pieces.{byte_at, bytes_in, end_of, Agree, Holds, AreOneText, IsFront, AreFront, AppendsFront}
+use Rattle.someip_tp.specs.Pieces.{byte_at, bytes_in, end_of, AreOneText, IsFront, AreFront, AppendsFront}
 use Rattle.someip_tp.proofs.Placed.{or_false, over, get-added}
-use Rattle.someip_tp.proofs.PieceLemmas.{piece_with, get-bytes_in, byte_within, byte_from, byte_inside}
+use Rattle.someip_tp.proofs.PieceLemmas.{piece_with, get-bytes_in, byte_within, byte_from}
 
 -- the places of a slice that pass a total
 pub any_place : (total offset : ℕ) (bs : List ℕ) → list_any (nat_le total) (map (λ (e : ℕ × ℕ). e.0) (placed offset bs)) ≡ (nat_lt 0 (length bs) && nat_lt total (offset + length bs))
@@ -74,7 +74,7 @@ reached_by pieces i p total lt is one reaches =
     let inside : place < end_of p = omega (arith, filled) in
     let this = slice_get-get_or p.bytes.items (place - p.offset) 0 (omega (arith, filled)) in
     let held : get (bytes_in pieces) place ≡ Some (get_or p.bytes.items (place - p.offset) 0) =
-        one i p lt place _ (ap (λ (x : Piece). byte_at x.offset x.bytes.items place) (sym is) ∙ byte_from p.offset p.bytes.items place _ there this) in
+    one i p lt place _ (ap (λ (x : Piece). byte_at x.offset x.bytes.items place) (sym is) ∙ byte_from p.offset p.bytes.items place _ there this) in
     a_place_passes (nat_le total) (bytes_in pieces) place (ap is_some held) (grind (arith, nat_tests, past))
 
 pub not_reached : (pieces : List Piece) (total : ℕ) → ((k : ℕ) (d : Piece) → k < length pieces → (nat_lt 0 (length (get_or pieces k d).bytes.items) && nat_lt total (end_of (get_or pieces k d))) ≡ false)

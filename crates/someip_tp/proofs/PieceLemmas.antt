@@ -1,11 +1,11 @@
 -- Slices that lie over one another: where they agree, and how far they go from the first place on.
-use Rattle.std.proofs.Common.{◌≡◌, ◌≢◌, ◌↔◌, ℕ, zero, suc, ◌+◌, ◌-◌, ◌<◌, ◌≤◌, Bool, true, false, cond, ◌&&◌, ◌||◌, nat_lt, nat_le, List, [], ◌∷◌, ◌++◌, length, slice_get, get_or, take, drop, Option, None, Some, refl, sym, ap, subst, ◌∙◌, arith}
+use Rattle.std.proofs.Common.{◌≡◌, ℕ, zero, suc, ◌+◌, ◌-◌, ◌<◌, ◌≤◌, Bool, true, false, cond, nat_lt, nat_le, List, [], ◌∷◌, ◌++◌, length, slice_get, get_or, take, drop, Option, None, Some, refl, sym, ap, subst, ◌∙◌, arith}
 use Rattle.std.proofs.lemmas.Bool.{and_parts, and_from, eqb-true, eq-eqb}
 use Rattle.std.proofs.lemmas.Bool.Decides.{nat_tests}
 use Rattle.std.proofs.lemmas.Option.{slice_get_within, slice_get_past, slice_get-get_or}
 use Rattle.std.specs.Option.{is_some}
 use Rattle.std.specs.Str.{bytes_eq}
-use Rattle.std.proofs.lemmas.List.{take-append-drop, take_more, take_all, get_or-drop, get_or_default, length-drop}
+use Rattle.std.proofs.lemmas.List.{take-append-drop, take_more, get_or-drop, get_or_default, length-drop}
 use Rattle.std.specs.List.{All, insert, list_any}
 use Rattle.std.proofs.lemmas.List.Elements.{All-weaker, All-same, All-append, All-take, All-drop, All-cons}
 use Rattle.std.specs.List.Sorted.{IsPartitionPoint}
@@ -15,8 +15,8 @@ use Rattle.std.specs.Cmp.{nat_cmp_total}
 use Rattle.std.specs.FinMap.{FinMap, get, empty, get-empty, same_map, nat_cmp-IsAntisymmetric}
 use Rattle.someip_tp.specs.declared.pieces.Piece.{Piece}
 use Rattle.someip_tp.specs.Offers.{placed, added, differ}
-use Rattle.someip_tp.specs.Pieces.{byte_at, Agree, Holds, AreOneText, AreInOrder, IsFront, end_of, with_pieces, bytes_in}
-use Rattle.someip_tp.proofs.Placed.{over, over-none, over-over, is_some-over, is_some-first, get-added, agree_where_none_differs, none_differs}
+use Rattle.someip_tp.specs.Pieces.{byte_at, Agree, Holds, AreOneText, AreInOrder, end_of, with_pieces, bytes_in}
+use Rattle.someip_tp.proofs.Placed.{over, over-none, over-over, is_some-over, is_some-first, get-added, agree_where_none_differs}
 
 -- ---- two slices that begin at one place
 
@@ -138,7 +138,7 @@ bytes_with_one_more pieces i p agree =
     let back = last_in (drop i pieces) place in
     let this = byte_at p.offset p.bytes.items place in
     let old : get (bytes_in pieces) place ≡ over (over back front) None =
-        get-bytes_in pieces place ∙ (ap (λ ps. last_in ps place) (sym (take-append-drop i pieces)) ∙ (last_in-append (take i pieces) (drop i pieces) place ∙ sym (over-none (over back front)))) in
+    get-bytes_in pieces place ∙ (ap (λ ps. last_in ps place) (sym (take-append-drop i pieces)) ∙ (last_in-append (take i pieces) (drop i pieces) place ∙ sym (over-none (over back front)))) in
     get-bytes_in (insert pieces i p) place
     ∙ (last_in-append (take i pieces) (p ∷ drop i pieces) place ∙ sym (over-none (over (over back this) front))
     ∙ (insert_at back this front None (λ x y h k. agree place x y (old ∙ h) k)
@@ -190,7 +190,7 @@ held_more pieces i p place lt is =
 pub held_by_all : (pieces : List Piece) (i place : ℕ) → is_some (get (bytes_in (take i pieces)) place) ≡ true → is_some (get (bytes_in pieces) place) ≡ true
 held_by_all pieces i place h =
     let split : get (bytes_in pieces) place ≡ over (last_in (drop i pieces) place) (last_in (take i pieces) place) =
-        get-bytes_in pieces place ∙ (ap (λ ps. last_in ps place) (sym (take-append-drop i pieces)) ∙ last_in-append (take i pieces) (drop i pieces) place) in
+    get-bytes_in pieces place ∙ (ap (λ ps. last_in ps place) (sym (take-append-drop i pieces)) ∙ last_in-append (take i pieces) (drop i pieces) place) in
     ap is_some split ∙ is_some-over (last_in (drop i pieces) place) (last_in (take i pieces) place) (ap is_some (sym (get-bytes_in (take i pieces) place)) ∙ h)
 
 -- a gap before the i-th piece is one of all of them

@@ -1,9 +1,8 @@
 -- What a list of entries, one for each key, says of the parts.
-use Rattle.std.proofs.Common.{◌≡◌, ◌≢◌, ℕ, zero, suc, ◌+◌, ◌<◌, ◌≤◌, Bool, true, false, cond, not, ◌&&◌, ◌||◌, nat_lt, nat_le, List, [], ◌∷◌, ◌++◌, filter, length, set, get_or, take, drop, Option, None, Some, Result, Ok, Err, refl, sym, ap, subst, ◌∙◌, arith}
+use Rattle.std.proofs.Common.{◌≡◌, ◌≢◌, ℕ, zero, suc, ◌+◌, ◌<◌, Bool, true, false, cond, not, nat_lt, nat_le, List, [], ◌∷◌, ◌++◌, filter, length, set, get_or, Option, None, Some, Result, Ok, Err, refl, sym, ap, subst, ◌∙◌, arith}
 use Rattle.std.specs.Option.{is_some, is_none, unwrap_or, option_and_then}
 use Rattle.std.specs.Ordering.{nat_cmp, eq_by_cmp}
-use Rattle.std.specs.Cmp.{eq_by_cmp_equiv}
-use Rattle.std.specs.FinMap.{FinMap, find, get, insert, remove, len, empty, from_entries, get-from_entries, get-insert, get-empty, same_map, keys, from_entries_push}
+use Rattle.std.specs.FinMap.{find, get, insert, remove, len, empty, get-from_entries, get-insert, get-empty, same_map, keys, from_entries_push}
 use Rattle.std.proofs.lemmas.Bool.{and_parts, and_from}
 use Rattle.std.proofs.lemmas.Bool.Decides.{nat_tests}
 use Rattle.std.proofs.lemmas.List.{get_or_default, append-nil}
@@ -13,9 +12,9 @@ use Rattle.someip_tp.specs.Keys.{key_cmp, same_key}
 use Rattle.someip_tp.specs.Parts.{Part, Parts, Limits, is_gone, parts_at}
 use Rattle.someip_tp.specs.declared.reassembly.Offered.{Offered}
 use Rattle.someip_tp.specs.declared.error.TpError.{TpError}
-use Rattle.someip_tp.specs.declared.error.TpError.TheVariants.{Conflict, NoSlot, OutOfMemory}
+use Rattle.someip_tp.specs.declared.error.TpError.TheVariants.{Unaligned, TooLong, Conflict, NoSlot, OutOfMemory, NoHeader}
 use Rattle.std.specs.Result.{is_ok}
-use Rattle.someip_tp.specs.Offers.{Offer, judged_among, offered_as, part_under, no_part, conflicts, passes, total_of, with_offer, message_of, message_at, parts_less}
+use Rattle.someip_tp.specs.Offers.{Offer, judged, judgement, kept, parts_after, judged_among, offered_as, part_under, no_part, conflicts, passes, total_of, with_offer, message_of, message_at, parts_less}
 use Rattle.someip_tp.specs.Partials.{Entry}
 use Rattle.someip_tp.specs.Stores.{StandsAt, Acts, parts_in}
 use Rattle.someip_tp.proofs.Placed.{none_differs}
@@ -237,3 +236,36 @@ parts_less_none key parts none = rw none refl
 pub nothing_appended : (bytes : List ℕ) (message : Option (List ℕ)) → is_some message ≡ false → bytes ≡ bytes ++ unwrap_or message []
 nothing_appended bytes None none = sym (append-nil bytes)
 nothing_appended bytes (Some m) none = cc
+
+-- ---- what an act says
+
+pub acts_judged : (judgement : Result Offered TpError) (now : ℕ) (o : Offer) (old new : Parts) (r : Result Offered TpError) → Acts judgement now o old r new → r ≢ Err OutOfMemory → (r ≡ judgement) × (new ≡ kept r now o old)
+acts_judged judgement now o old new (Ok x) acts apart = acts
+acts_judged judgement now o old new (Err Unaligned) acts apart = acts
+acts_judged judgement now o old new (Err TooLong) acts apart = acts
+acts_judged judgement now o old new (Err Conflict) acts apart = acts
+acts_judged judgement now o old new (Err NoSlot) acts apart = acts
+acts_judged judgement now o old new (Err NoHeader) acts apart = acts
+acts_judged judgement now o old new (Err OutOfMemory) acts apart = absurd (apart refl)
+
+pub acts_wanting : (judgement : Result Offered TpError) (now : ℕ) (o : Offer) (old new : Parts) (r : Result Offered TpError) → Acts judgement now o old r new → r ≡ Err OutOfMemory → (is_ok judgement ≡ true) × (new ≡ old)
+acts_wanting judgement now o old new r acts is = subst (λ x. Acts judgement now o old x new) is acts
+
+pub judged_so : (limits : Limits) (now : ℕ) (o : Offer) (parts left new : Parts) (r : Result Offered TpError) → left ≡ parts_at limits now parts → Acts (judged limits now o left) now o left r new → r ≢ Err OutOfMemory
+    → r ≡ judgement limits now o parts
+unfolding judgement
+judged_so limits now o parts left new r is acts apart = (acts_judged _ now o left new r acts apart).0 ∙ ap (judged limits now o) is
+
+pub changed_so : (limits : Limits) (now : ℕ) (o : Offer) (parts left new : Parts) (r : Result Offered TpError) → left ≡ parts_at limits now parts → Acts (judged limits now o left) now o left r new → r ≢ Err OutOfMemory
+    → new ≡ parts_after limits now o parts
+unfolding parts_after
+changed_so limits now o parts left new r is acts apart =
+    let both = acts_judged _ now o left new r acts apart in
+    both.1 ∙ (ap (λ x. kept x now o left) both.0 ∙ ap (λ ps. kept (judged limits now o ps) now o ps) is)
+
+pub wanting_so : (limits : Limits) (now : ℕ) (o : Offer) (parts left new : Parts) (r : Result Offered TpError) → left ≡ parts_at limits now parts → Acts (judged limits now o left) now o left r new → r ≡ Err OutOfMemory
+    → (is_ok (judgement limits now o parts) ≡ true) × (new ≡ parts_at limits now parts)
+unfolding judgement
+wanting_so limits now o parts left new r is acts wanting =
+    let both = acts_wanting _ now o left new r acts wanting in
+    (ap (λ ps. is_ok (judged limits now o ps)) (sym is) ∙ both.0, both.1 ∙ is)

@@ -1,11 +1,10 @@
 -- A message that has come in part, as the list of its accepted slices.
-use Rattle.std.specs.Prelude.{◌≡◌, ℕ, ◌<◌, Bool, true, List, Option, Some, None, IsSome, length}
-use Rattle.std.specs.List.{slice_index_or}
+use Rattle.std.specs.Prelude.{◌≡◌, ℕ, ◌<◌, Some, IsSome}
 use Rattle.std.specs.Coded.{Coded, coded×}
-use Rattle.std.specs.FinMap.{FinMap, get, find}
+use Rattle.std.specs.FinMap.{get}
 use Rattle.someip_tp.specs.declared.key.ReassemblyKey.{ReassemblyKey}
 use Rattle.someip_tp.specs.declared.partial.Partial.TheInside.{Inside}
-use Rattle.someip_tp.specs.Keys.{key_cmp, same_key, coded_key}
+use Rattle.someip_tp.specs.Keys.{coded_key}
 use Rattle.someip_tp.specs.Parts.{Part, coded_part}
 use Rattle.someip_tp.specs.Pieces.{bytes_in, AreOneText, AreInOrder}
 
@@ -25,4 +24,3 @@ pub record IsSound (p : Inside) : Type 0 where
   pub one_text : AreOneText p.pieces.items
   pub in_order : AreInOrder p.pieces.items
   pub below : (total place : ℕ) → p.total ≡ Some total → IsSome (get (bytes_in p.pieces.items) place) → place < total
-

@@ -1,5 +1,5 @@
 -- The segments of a message (SOME/IP Protocol, "SOME/IP-TP").
-use Rattle.std.specs.Prelude.{◌≡◌, ℕ, zero, suc, ◌+◌, ◌*◌, nat_lt, Bool, if◌then◌else◌, List, [], ◌∷◌, length, take, drop, slice_get, Option, Some, None}
+use Rattle.std.specs.Prelude.{◌≡◌, ℕ, zero, suc, ◌+◌, ◌*◌, nat_lt, if◌then◌else◌, List, [], ◌∷◌, length, take, drop, slice_get, Some, None}
 use Rattle.someip_wire.specs.declared.Header.{Header}
 use Rattle.someip_wire.specs.Kinds.{with_tp_flag}
 use Rattle.someip_wire.specs.Spelling.{MessageValue}

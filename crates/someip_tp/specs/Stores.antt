@@ -1,8 +1,8 @@
 -- What contracts see of a store of parts.
-use Rattle.std.specs.Prelude.{◌≡◌, ℕ, ◌<◌, Bool, true, false, List, length, Option, Some, None, Result, Ok, Err, is_ok, refl}
+use Rattle.std.specs.Prelude.{◌≡◌, ℕ, ◌<◌, true, List, length, Option, Some, None, Result, Err, is_ok, refl}
 use Rattle.std.specs.List.{slice_index_or}
 use Rattle.std.specs.Coded.{Coded, code_by, coded×, coded_ℕ}
-use Rattle.std.specs.FinMap.{FinMap, get, find, from_entries}
+use Rattle.std.specs.FinMap.{find, from_entries}
 use Rattle.someip_tp.specs.declared.key.ReassemblyKey.{ReassemblyKey}
 use Rattle.someip_tp.specs.declared.reassembly.Offered.{Offered}
 use Rattle.someip_tp.specs.declared.error.TpError.{TpError}

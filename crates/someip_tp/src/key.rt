@@ -52,7 +52,10 @@ fn same_endpoint(a: &SocketAddrV4, b: &SocketAddrV4) -> bool
 fn same_numbers(a: &ReassemblyKey, b: &ReassemblyKey) -> bool
     ensures { (result ≡ true) ↔ (key_numbers a.now ≡ key_numbers b.now) }
 {
-    same_ids(a, b) && a.interface == b.interface && same_kind(a.kind, b.kind) && a.code.0 == b.code.0
+    same_ids(a, b)
+        && a.interface == b.interface
+        && same_kind(a.kind, b.kind)
+        && a.code.0 == b.code.0
 }
 
 fn same_ids(a: &ReassemblyKey, b: &ReassemblyKey) -> bool

@@ -158,12 +158,7 @@ fn differ(known: Option<usize>, told: Option<usize>) -> bool
 }
 
 /// Puts a slice among the pieces, at its place.
-fn put(
-    pieces: &mut Vec<Piece>,
-    alloc: Global,
-    offset: u32,
-    bytes: &[u8],
-) -> Result<(), AllocError>
+fn put(pieces: &mut Vec<Piece>, alloc: Global, offset: u32, bytes: &[u8]) -> Result<(), AllocError>
     requires one_text { AreOneText pieces.old.items }
     requires in_order { AreInOrder pieces.old.items }
     requires agree { Agree (get (bytes_in pieces.old.items)) (byte_at offset bytes.now) }

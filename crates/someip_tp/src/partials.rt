@@ -148,11 +148,11 @@ fn accept_at(
     ensures distinct { IsTrue (are_distinct key_cmp partials.new.items) }
     ensures ok { OnOk result (parts_in partials.new.items
         ≡ map.insert (parts_in partials.old.items) arrived.entry.key
-            (with_offer (part_under (parts_in partials.old.items) arrived.entry.key) arrived.entry.now
-                (offer_of arrived.entry))) }
+        (with_offer (part_under (parts_in partials.old.items) arrived.entry.key) arrived.entry.now
+        (offer_of arrived.entry))) }
     ensures offered { IfOk result (λ offered. offered
         ≡ offered_as (with_offer (part_under (parts_in partials.old.items) arrived.entry.key)
-            arrived.entry.now (offer_of arrived.entry))) }
+        arrived.entry.now (offer_of arrived.entry))) }
     ensures err { OnErr result (partials.new.items ≡ partials.old.items) }
 {
     let partial = &mut partials[i];
@@ -170,8 +170,8 @@ fn offer_new(
     ensures distinct { IsTrue (are_distinct key_cmp partials.new.items) }
     ensures ok { OnOk result (parts_in partials.new.items
         ≡ map.insert (parts_in partials.old.items) arrived.entry.key
-            (with_offer no_part arrived.entry.now
-                (offer_of arrived.entry))) }
+        (with_offer no_part arrived.entry.now
+        (offer_of arrived.entry))) }
     ensures offered { IfOk result (λ offered. offered ≡ offered_as (with_offer no_part arrived.entry.now
         (offer_of arrived.entry))) }
     ensures err { OnErr result (partials.new.items ≡ partials.old.items) }
@@ -183,16 +183,15 @@ fn offer_new(
 }
 
 /// Keeps a segment that contradicts nothing, and tells what it made of the message.
-fn accept(
-    partial: &mut Partial,
-    alloc: Global,
-    arrived: Arrived<'_>,
-) -> Result<Offered, AllocError>
+fn accept(partial: &mut Partial, alloc: Global, arrived: Arrived<'_>) -> Result<Offered, AllocError>
     requires { conflicts partial.old.1 (offer_of arrived) ≡ false }
     ensures key { partial.new.0 ≡ partial.old.0 }
     ensures ok { OnOk result (partial.new
-        ≡ (partial.old.0, with_offer partial.old.1 arrived.entry.now
-            (offer_of arrived.entry))) }
+        ≡ (
+          partial.old.0,
+          with_offer partial.old.1 arrived.entry.now
+              (offer_of arrived.entry),
+        )) }
     ensures offered { IfOk result (λ offered. offered ≡ offered_as (with_offer partial.old.1
         arrived.entry.now (offer_of arrived.entry))) }
     ensures err { OnErr result (partial.new ≡ partial.old) }

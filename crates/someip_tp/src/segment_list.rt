@@ -33,8 +33,8 @@ impl Model for SegmentList {
     ghost coded = { coded_store };
 
     ghost view = { λ s. record {
-        parts = parts_in s.partials.items;
-        limits = record { slots = s.slots; limit = s.limit; timeout = s.timeout };
+      parts = parts_in s.partials.items;
+      limits = record { slots = s.slots; limit = s.limit; timeout = s.timeout };
     } };
 
     ghost invariant = { λ s. IsTrue (are_distinct key_cmp s.partials.items) };

@@ -1,4 +1,4 @@
-use Rattle.std.proofs.Common.{◌≡◌, true, ap, arith}
+use Rattle.std.proofs.Common.{ap}
 use Rattle.someip_tp.specs.Keys.{key_numbers}
 use Rattle.someip_tp.proofs.KeyOrder.{test_is, one_key}
 use Rattle.someip_tp.proofs.key.is_same.Goals as goal

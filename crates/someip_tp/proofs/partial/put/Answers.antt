@@ -1,4 +1,4 @@
-use Rattle.std.proofs.Common.{◌≡◌, ◌++◌, ap, ◌∙◌, refl}
+use Rattle.std.proofs.Common.{◌++◌, ap, ◌∙◌, refl}
 use Rattle.someip_tp.proofs.PieceLemmas.{bytes_once_put, one_text_once_put}
 use Rattle.someip_tp.proofs.partial.put.Goals as goal
 

@@ -1,6 +1,5 @@
-use Rattle.std.proofs.Common.{◌≡◌, sym, ap, ◌∙◌, refl, false, true, None, ◌++◌, [], unwrap_or}
+use Rattle.std.proofs.Common.{sym, ap, ◌∙◌, ◌++◌, [], unwrap_or}
 use Rattle.std.specs.Option.{is_some}
-use Rattle.someip_tp.specs.Offers.{message_at}
 use Rattle.someip_tp.specs.Stores.{parts_in}
 use Rattle.someip_tp.proofs.StoreLemmas.{no_part_there, none_whole, message_there, nothing_appended}
 use Rattle.someip_tp.proofs.partials.append_whole.Goals as goal

@@ -3,7 +3,7 @@ use Rattle.std.proofs.lemmas.Bool.Decides.{nat_tests}
 use Rattle.std.specs.FinMap.{get, len}
 use Rattle.std.proofs.lemmas.Result.{err_from_is_err_and}
 use Rattle.someip_tp.specs.Stores.{StandsAt, offer_of, parts_in}
-use Rattle.someip_tp.specs.Offers.{judged_among, no_part, with_offer, part_under}
+use Rattle.someip_tp.specs.Offers.{judged_among}
 use Rattle.someip_tp.proofs.StoreLemmas.{no_part_there, count_is, judged_full, judged_new, wanting_acts, no_part_under}
 use Rattle.someip_tp.proofs.partials.offer_among.Goals as goal
 
@@ -32,6 +32,7 @@ returns-in_ok-offered-in-None-clause-offers c =
     let es = c.args.partials.now.items in
     let none : get (parts_in es) c.args.arrived.key ≡ None = no_part_there c.args.arrived.key es (subst (λ xs. StandsAt c.args.arrived.key xs None) c.deref.ensures.value c.in-None.ensures) in
     let held : len (parts_in es) ≡ c.len.result = count_is es c.requires ∙ (ap length (sym c.deref.ensures.value) ∙ (c.deref.ensures.len ∙ sym c.len.ensures)) in
-    let room : nat_le c.args.slots (len (parts_in es)) ≡ false = rw held (grind (arith, nat_tests, c.if-len-slots.false)) in
-    (ap Ok c.in_ok-offered-in-None.ensures.offered ∙ judged_new c.args.slots c.args.arrived.now (offer_of c.args.arrived) (parts_in es) none room,
-    c.in_ok-offered-in-None.ensures.ok ∙ no_part_under c.args.arrived.key c.args.arrived.now (offer_of c.args.arrived) (parts_in es) none)
+    let room : nat_le c.args.slots (len (parts_in es)) ≡ false = rw held (grind (arith, nat_tests, c.if-len-slots.false)) in (
+      ap Ok c.in_ok-offered-in-None.ensures.offered ∙ judged_new c.args.slots c.args.arrived.now (offer_of c.args.arrived) (parts_in es) none room,
+      c.in_ok-offered-in-None.ensures.ok ∙ no_part_under c.args.arrived.key c.args.arrived.now (offer_of c.args.arrived) (parts_in es) none,
+    )

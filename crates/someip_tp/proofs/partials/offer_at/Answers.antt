@@ -1,13 +1,9 @@
-use Rattle.std.proofs.Common.{◌≡◌, sym, ap, ◌∙◌, Ok, Err, refl, false, true, get_or, Some}
-use Rattle.std.specs.FinMap.{get}
+use Rattle.std.proofs.Common.{◌≡◌, sym, ap, ◌∙◌, Ok, Err, false, true}
 use Rattle.std.proofs.lemmas.Result.{err_from_is_err_and}
-use Rattle.someip_tp.specs.Distinct.{are_distinct}
-use Rattle.someip_tp.specs.Keys.{key_cmp}
-use Rattle.someip_tp.specs.Parts.{Part}
 use Rattle.someip_tp.specs.Partials.{Entry}
 use Rattle.someip_tp.specs.Stores.{offer_of, parts_in}
 use Rattle.someip_tp.specs.Offers.{judged_among, no_part, conflicts, part_under}
-use Rattle.someip_tp.proofs.StoreLemmas.{removed_distinct, removed_parts, part_there, judged_conflict, judged_fit, ok_acts, wanting_acts}
+use Rattle.someip_tp.proofs.StoreLemmas.{removed_distinct, removed_parts, part_there, judged_conflict, judged_fit, wanting_acts}
 use Rattle.someip_tp.proofs.partials.offer_at.Goals as goal
 
 pub returns-then-contradicts-clause-distinct : goal.returns-then-contradicts-clause-distinct
@@ -18,16 +14,17 @@ returns-then-contradicts-clause-offers c slots =
     let es = c.args.partials.now.items in
     let d : Entry = (c.args.arrived.key, no_part) in
     let clash : conflicts (part_under (parts_in es) c.args.arrived.key) (offer_of c.args.arrived) ≡ true =
-        ap (λ xs. conflicts (part_under (parts_in xs) c.args.arrived.key) (offer_of c.args.arrived)) (sym c.deref.ensures.value) ∙ (sym c.contradicts.ensures ∙ c.if-contradicts.true) in
-    (judged_conflict slots c.args.arrived.now (offer_of c.args.arrived) (parts_in es) _ (part_there c.args.arrived.key es c.args.i d c.requires.distinct c.requires.there) clash,
-    ap parts_in c.drop_key.ensures ∙ removed_parts c.args.arrived.key es c.requires.distinct)
+    ap (λ xs. conflicts (part_under (parts_in xs) c.args.arrived.key) (offer_of c.args.arrived)) (sym c.deref.ensures.value) ∙ (sym c.contradicts.ensures ∙ c.if-contradicts.true) in (
+      judged_conflict slots c.args.arrived.now (offer_of c.args.arrived) (parts_in es) _ (part_there c.args.arrived.key es c.args.i d c.requires.distinct c.requires.there) clash,
+      ap parts_in c.drop_key.ensures ∙ removed_parts c.args.arrived.key es c.requires.distinct,
+    )
 
 pub returns-in_err-offered-clause-offers : goal.returns-in_err-offered-clause-offers
 returns-in_err-offered-clause-offers c slots =
     let es = c.args.partials.now.items in
     let d : Entry = (c.args.arrived.key, no_part) in
     let fits : conflicts (part_under (parts_in es) c.args.arrived.key) (offer_of c.args.arrived) ≡ false =
-        ap (λ xs. conflicts (part_under (parts_in xs) c.args.arrived.key) (offer_of c.args.arrived)) (sym c.deref.ensures.value) ∙ (sym c.contradicts.ensures ∙ c.if-contradicts.false) in
+    ap (λ xs. conflicts (part_under (parts_in xs) c.args.arrived.key) (offer_of c.args.arrived)) (sym c.deref.ensures.value) ∙ (sym c.contradicts.ensures ∙ c.if-contradicts.false) in
     let p = err_from_is_err_and c.from_residual.result c.from_residual.ensures.1 in
     wanting_acts (judged_among slots c.args.arrived.now (offer_of c.args.arrived) (parts_in es)) c.args.arrived.now (offer_of c.args.arrived) (parts_in es) (parts_in c.accept_at.new.partials.items) c.from_residual.result _
     (p.1 ∙ ap Err p.2)
@@ -39,6 +36,7 @@ returns-clause-offers c slots =
     let es = c.args.partials.now.items in
     let d : Entry = (c.args.arrived.key, no_part) in
     let fits : conflicts (part_under (parts_in es) c.args.arrived.key) (offer_of c.args.arrived) ≡ false =
-        ap (λ xs. conflicts (part_under (parts_in xs) c.args.arrived.key) (offer_of c.args.arrived)) (sym c.deref.ensures.value) ∙ (sym c.contradicts.ensures ∙ c.if-contradicts.false) in
-    (ap Ok c.in_ok-offered.ensures.offered ∙ judged_fit slots c.args.arrived.now (offer_of c.args.arrived) (parts_in es) _ (part_there c.args.arrived.key es c.args.i d c.requires.distinct c.requires.there) fits,
-    c.in_ok-offered.ensures.ok)
+    ap (λ xs. conflicts (part_under (parts_in xs) c.args.arrived.key) (offer_of c.args.arrived)) (sym c.deref.ensures.value) ∙ (sym c.contradicts.ensures ∙ c.if-contradicts.false) in (
+      ap Ok c.in_ok-offered.ensures.offered ∙ judged_fit slots c.args.arrived.now (offer_of c.args.arrived) (parts_in es) _ (part_there c.args.arrived.key es c.args.i d c.requires.distinct c.requires.there) fits,
+      c.in_ok-offered.ensures.ok,
+    )

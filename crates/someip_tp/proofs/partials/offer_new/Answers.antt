@@ -1,8 +1,6 @@
-use Rattle.std.proofs.Common.{◌≡◌, sym, ap, ◌∙◌, subst, true, ◌++◌, ◌∷◌, []}
-use Rattle.someip_tp.specs.Distinct.{are_distinct}
-use Rattle.someip_tp.specs.Keys.{key_cmp}
+use Rattle.std.proofs.Common.{ap, ◌∙◌}
 use Rattle.someip_tp.specs.Offers.{conflicts, with_offer, no_part}
-use Rattle.someip_tp.specs.Stores.{offer_of, parts_in}
+use Rattle.someip_tp.specs.Stores.{offer_of}
 use Rattle.someip_tp.proofs.StoreLemmas.{nothing_conflicts, pushed_distinct, pushed_parts}
 use Rattle.someip_tp.proofs.partials.offer_new.Goals as goal
 

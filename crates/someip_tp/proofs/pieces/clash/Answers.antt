@@ -1,5 +1,4 @@
 use Rattle.std.proofs.Common.{sym, arith}
-use Rattle.someip_tp.specs.Pieces.{byte_at, Agree}
 use Rattle.someip_tp.proofs.Placed.{none_differs}
 use Rattle.someip_tp.proofs.PieceLemmas.{all_agree, clashes_with}
 use Rattle.someip_tp.proofs.pieces.clash.Goals as goal

@@ -1,4 +1,4 @@
-use Rattle.std.proofs.Common.{◌≤◌, ◌<◌, arith, refl}
+use Rattle.std.proofs.Common.{arith}
 use Rattle.std.specs.Ordering.{nat_cmp}
 use Rattle.std.specs.FinMap.{get-empty}
 use Rattle.someip_tp.proofs.PieceLemmas.{gap_before, held_by_all, longer_front, none_past}
@@ -13,9 +13,10 @@ loop-piece-init c =
 
 pub returns-then-piece-end : goal.returns-then-piece-end
 returns-then-piece-end c =
-    let pieces = c.args.pieces.now in
-    (λ place below. held_by_all pieces c.loop-piece.piece-index place (c.loop-piece.invariant.held place below),
-    gap_before pieces c.loop-piece.piece-index c.piece-item.result c.loop-piece.end c.loop-piece-test.true c.piece-item.is c.requires c.if-piece-end.true (c.loop-piece.invariant.past c.loop-piece.end (omega arith)))
+    let pieces = c.args.pieces.now in (
+      λ place below. held_by_all pieces c.loop-piece.piece-index place (c.loop-piece.invariant.held place below),
+      gap_before pieces c.loop-piece.piece-index c.piece-item.result c.loop-piece.end c.loop-piece-test.true c.piece-item.is c.requires c.if-piece-end.true (c.loop-piece.invariant.past c.loop-piece.end (omega arith)),
+    )
 
 pub loop-piece-preserved : goal.loop-piece-preserved
 loop-piece-preserved c =

@@ -1,4 +1,4 @@
-use Rattle.std.proofs.Common.{◌≡◌, false, ap, sym, ◌∙◌, refl}
+use Rattle.std.proofs.Common.{◌≡◌, false, ap, sym, ◌∙◌}
 use Rattle.std.specs.FinMap.{get}
 use Rattle.someip_tp.specs.Parts.{Part}
 use Rattle.someip_tp.specs.Offers.{Offer, offer, conflicts}

@@ -1,4 +1,4 @@
-use Rattle.std.proofs.Common.{◌≡◌, ◌+◌, ◌<◌, ◌∷◌, [], List, length, take, drop, ◌-◌, ap, sym, ◌∙◌, arith, rules}
+use Rattle.std.proofs.Common.{◌≡◌, ◌+◌, ◌<◌, ◌∷◌, [], length, take, drop, ◌-◌, ap, sym, ◌∙◌, arith, rules}
 use Rattle.std.proofs.lemmas.List.{length-drop, take_rest}
 use Rattle.someip_tp.specs.Segments.{SegmentValue, segments_from}
 use Rattle.someip_tp.proofs.SegmentsLemmas.{left_none, left_next}

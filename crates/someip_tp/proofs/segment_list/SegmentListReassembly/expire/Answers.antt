@@ -1,0 +1,13 @@
+use Rattle.std.proofs.Common.{ap, ◌∙◌}
+use Rattle.someip_tp.specs.Parts.{Limits, parts_at}
+use Rattle.someip_tp.specs.Stores.{parts_in}
+use Rattle.someip_tp.proofs.StoreLemmas.{left_distinct, left_parts}
+use Rattle.someip_tp.proofs.segment_list.SegmentListReassembly.expire.Goals as goal
+
+pub invariant_of-self : goal.invariant_of-self
+invariant_of-self c = rw c.drop_gone.ensures (left_distinct c.self.inside.timeout c.args.now c.self.inside.partials.items c.self.invariant)
+
+pub returns-clause-parts : goal.returns-clause-parts
+returns-clause-parts c =
+    let limits : Limits = record { slots = c.self.inside.slots; limit = c.self.inside.limit; timeout = c.self.inside.timeout } in
+    ap parts_in c.drop_gone.ensures ∙ (left_parts limits c.args.now c.self.inside.partials.items c.self.invariant ∙ ap (λ s. parts_at s.limits c.args.now s.parts) c.self.view_is)
