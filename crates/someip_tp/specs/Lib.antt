@@ -8,3 +8,4 @@ pub mod Offers
 pub mod Pieces
 pub mod Partials
 pub mod Stores
+pub mod Calls

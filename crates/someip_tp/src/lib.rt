@@ -6,6 +6,7 @@
 //! - [`read_segment`]: the word and the slice of a segment's payload.
 #![tactic(auto)]
 
+mod calls;
 mod error;
 mod key;
 mod partial;
@@ -16,6 +17,7 @@ mod segment;
 mod segment_list;
 mod segments;
 
+pub use calls::{TpAnswer, TpCall, run_calls};
 pub use error::TpError;
 pub use key::ReassemblyKey;
 pub use reassembly::{Offered, Reassembly};
