@@ -5,3 +5,5 @@ pub mod KeyOrder
 pub mod PartialLemmas
 pub mod Entries
 pub mod StoreLemmas
+pub mod WholeLemmas
+pub mod BoundLemmas

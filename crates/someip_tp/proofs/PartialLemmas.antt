@@ -162,7 +162,7 @@ all_in_range test a (suc n) each =
     rw (each a (omega arith) (omega arith))
     (all_in_range test (a + 1) n (λ q from to. each q (omega (arith, from)) (omega (arith, to))))
 
-not_all_in_range : (test : ℕ → Bool) (a n q : ℕ) → a ≤ q → q < a + n → test q ≡ false → list_all test (range_with_len a n) ≡ false
+pub not_all_in_range : (test : ℕ → Bool) (a n q : ℕ) → a ≤ q → q < a + n → test q ≡ false → list_all test (range_with_len a n) ≡ false
 not_all_in_range test a zero q from to none = absurd (omega (arith, from, to))
 not_all_in_range test a (suc n) q from to none =
     cases (nat_le (a + 1) q) refl (λ later. not_all_in_range test (a + 1) n q later (omega (arith, to)) none)
@@ -207,7 +207,7 @@ whole_is part n total known front below =
     sym (exactly_below_is part.bytes n total front (λ place held. below total place known held))
     ∙ (sym (told_message (are_exactly_below total part.bytes) _) ∙ ap (λ o. is_some (option_and_then (λ t. if are_exactly_below t part.bytes then Some (map (λ place. unwrap_or (get part.bytes place) 0) (range_with_len 0 t)) else None) o)) (sym known))
 
-front_length : (bytes : FinMap nat_cmp ℕ) (front : List ℕ) → AreFront bytes front → IsFront bytes (length front)
+pub front_length : (bytes : FinMap nat_cmp ℕ) (front : List ℕ) → AreFront bytes front → IsFront bytes (length front)
 front_length bytes front is = ((λ place below. ap is_some (is.0 place below ∙ slice_get-get_or front place 0 below)), is.1)
 
 message_from : (bytes : FinMap nat_cmp ℕ) (front : List ℕ) → AreFront bytes front → map (λ place. unwrap_or (get bytes place) 0) (range_with_len 0 (length front)) ≡ front

@@ -9,6 +9,7 @@
 mod calls;
 mod error;
 mod key;
+pub mod laws;
 mod partial;
 mod partials;
 mod pieces;
