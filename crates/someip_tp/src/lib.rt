@@ -1,9 +1,13 @@
 //! SOME/IP-TP: messages that are longer than a datagram are sent in segments (SOME/IP Protocol,
-//! "Transporting large SOME/IP messages by UDP"). Putting them together again is to come, and so are
-//! the calls that answer the other errors of [`TpError`].
+//! "Transporting large SOME/IP messages by UDP"), and put together again by their receiver.
 //!
 //! - [`Segments`]: the segments of a message;
-//! - [`read_segment`]: the word and the slice of a segment's payload.
+//! - [`read_segment`]: the word and the slice of a segment's payload;
+//! - [`Reassembly`]: what a store of messages that have come in part promises, under a
+//!   [`ReassemblyKey`] each;
+//! - [`SegmentList`]: its plain body;
+//! - [`run_calls`]: a list of calls of any body;
+//! - [`laws`]: what the definitions behind the contracts promise, whatever body keeps them.
 #![tactic(auto)]
 
 mod calls;
