@@ -1,4 +1,5 @@
--- What an offered segment is judged to be, and the parts after it.
+-- What an offered segment is judged to be, and the parts after it (SOME/IP Protocol, "SOME/IP-TP", reassembly; the
+-- steps and their order are our own).
 use Rattle.std.specs.Prelude.{ℕ, ◌+◌, ◌%◌, Bool, false, not, ◌&&◌, ◌||◌, ◌==◌, nat_lt, nat_le, if◌then◌else◌, List, [], ◌∷◌, map, length, Option, Some, None, is_some, is_none, unwrap_or, option_and_then, Result, Ok, Err}
 use Rattle.std.specs.List.{list_any, list_all, range_with_len}
 use Rattle.std.specs.Ordering.{nat_cmp}
