@@ -1,0 +1,4 @@
+pub mod FieldLemmas
+pub mod EntryLemmas
+pub mod OptionLemmas
+pub mod ReadingLemmas

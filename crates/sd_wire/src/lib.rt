@@ -1,0 +1,25 @@
+//! Service Discovery messages on the wire.
+#![tactic(auto)]
+
+mod endpoint;
+mod entry;
+mod entry_reading;
+mod error;
+mod fields;
+mod flags;
+mod message;
+mod option;
+mod option_reading;
+mod reading;
+mod ttl;
+
+pub use endpoint::{Ipv4Endpoint, Ipv6Endpoint, Protocol};
+pub use entry::{
+    Counter, Entry, EntryHead, EventgroupEntry, EventgroupKind, ServiceEntry, ServiceKind,
+};
+pub use error::SdError;
+pub use flags::SdFlags;
+pub use message::{ReadEntry, SdMessage, SdRead};
+pub use option::{RawOption, SdOption};
+pub use reading::read_sd;
+pub use ttl::Ttl;
