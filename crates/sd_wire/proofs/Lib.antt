@@ -2,3 +2,8 @@ pub mod FieldLemmas
 pub mod EntryLemmas
 pub mod OptionLemmas
 pub mod ReadingLemmas
+pub mod OptionSpelling
+pub mod OptionRead
+pub mod EntrySpelling
+pub mod SdLemmas
+pub mod FaultLemmas

@@ -5,3 +5,5 @@ pub mod Spelling
 pub mod Reading
 pub mod Program
 pub mod Steps
+pub mod Faults
+pub mod Writing

@@ -87,7 +87,7 @@ eventgroup_in kind bytes = record {
   instance = field16 bytes 6;
   major = slice_index bytes 8;
   ttl = field24 bytes 9;
-  counter = slice_index bytes 13 % 16;
+  counter = field16 bytes 12 % 16;
   eventgroup = field16 bytes 14;
 }
 

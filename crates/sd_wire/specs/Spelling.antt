@@ -1,6 +1,6 @@
 -- The bytes of options, entries and messages (SOME/IP Service Discovery, "Options", "Entries", "Header").
-use Rattle.std.specs.Prelude.{ℕ, ◌+◌, ◌*◌, ◌^◌, ◌<◌, ◌≤◌, ◌≡◌, List, [], ◌∷◌, ◌++◌, length, slice_index}
-use Rattle.std.specs.Net.Addr.{ipv4_octets, ipv6_octets, ipv6_segments}
+use Rattle.std.specs.Prelude.{ℕ, ◌+◌, ◌*◌, ◌^◌, ◌<◌, ◌≤◌, ◌≡◌, List, [], ◌∷◌, ◌++◌, length}
+use Rattle.std.specs.Net.Addr.{ipv4_octets, ipv6_octets, IsIpv4Addr, IsIpv6Addr}
 use Rattle.std.specs.Net.Socket.{v4_ip, v4_port}
 use Rattle.sd_wire.specs.declared.endpoint.Ipv4Endpoint.{Ipv4Endpoint}
 use Rattle.sd_wire.specs.declared.endpoint.Ipv6Endpoint.{Ipv6Endpoint}
@@ -20,34 +20,32 @@ use Rattle.sd_wire.specs.Fields.{number16, number24, number32, IsBytes}
 -- an IPv4 option: its length 9, its type, a reserved byte, the address, a reserved byte, protocol and port
 abbrev pub ipv4_bytes : ℕ → ℕ → ℕ → Ipv4Endpoint → List ℕ
 ipv4_bytes kind r s e =
-    number16 9 ++ kind ∷ r ∷ [] ++ ipv4_octets (v4_ip e.socket) ++ s ∷ e.protocol.0 ∷ [] ++ number16 (v4_port e.socket)
+    number16 9 ++ kind ∷ r ∷ (ipv4_octets (v4_ip e.socket) ++ s ∷ e.protocol.0 ∷ number16 (v4_port e.socket))
 
 -- an IPv6 option: the same with its length 21
 abbrev pub ipv6_bytes : ℕ → ℕ → ℕ → Ipv6Endpoint → List ℕ
 ipv6_bytes kind r s e =
-    number16 21 ++ kind ∷ r ∷ [] ++ ipv6_octets e.address ++ s ∷ e.protocol.0 ∷ [] ++ number16 e.port
+    number16 21 ++ kind ∷ r ∷ (ipv6_octets e.address ++ s ∷ e.protocol.0 ∷ number16 e.port)
 
 -- the bytes of an option with these two reserved bytes, where it has them
 abbrev pub option_bytes : ℕ → ℕ → SdOption → List ℕ
-option_bytes r s (LoadBalancing priority weight) = number16 5 ++ 0x02 ∷ r ∷ [] ++ number16 priority ++ number16 weight
+option_bytes r s (LoadBalancing priority weight) = number16 5 ++ 0x02 ∷ r ∷ (number16 priority ++ number16 weight)
 option_bytes r s (Endpoint4 e) = ipv4_bytes 0x04 r s e
 option_bytes r s (Multicast4 e) = ipv4_bytes 0x14 r s e
 option_bytes r s (SdEndpoint4 e) = ipv4_bytes 0x24 r s e
 option_bytes r s (Endpoint6 e) = ipv6_bytes 0x06 r s e
 option_bytes r s (Multicast6 e) = ipv6_bytes 0x16 r s e
 option_bytes r s (SdEndpoint6 e) = ipv6_bytes 0x26 r s e
-option_bytes r s (Raw o) = number16 (length o.bytes) ++ o.kind ∷ [] ++ o.bytes
+option_bytes r s (Raw o) = number16 (length o.bytes) ++ o.kind ∷ o.bytes
 
 -- the numbers of an endpoint fit their fields
 pub record Ipv4Fits (e : Ipv4Endpoint) : Type 0 where
-  pub length : length (ipv4_octets (v4_ip e.socket)) ≡ 4
-  pub octets : IsBytes (ipv4_octets (v4_ip e.socket))
+  pub address : IsIpv4Addr (v4_ip e.socket)
   pub protocol : e.protocol.0 < 2 ^ 8
   pub port : v4_port e.socket < 2 ^ 16
 
 pub record Ipv6Fits (e : Ipv6Endpoint) : Type 0 where
-  pub length : length (ipv6_segments e.address) ≡ 8
-  pub segments : (i : ℕ) → slice_index (ipv6_segments e.address) i < 2 ^ 16
+  pub address : IsIpv6Addr e.address
   pub protocol : e.protocol.0 < 2 ^ 8
   pub port : e.port < 2 ^ 16
 
@@ -92,8 +90,8 @@ eventgroup_type Ack = 0x07
 -- version, TTL
 abbrev pub common_bytes : ℕ → Runs → ℕ → ℕ → ℕ → ℕ → List ℕ
 common_bytes kind runs service instance major ttl =
-    kind ∷ runs.index1 ∷ runs.index2 ∷ (16 * runs.count1 + runs.count2) ∷ []
-    ++ number16 service ++ number16 instance ++ major ∷ [] ++ number24 ttl
+    kind ∷ runs.index1 ∷ runs.index2 ∷ (16 * runs.count1 + runs.count2)
+    ∷ (number16 service ++ number16 instance ++ major ∷ number24 ttl)
 
 -- the 16 bytes of an entry. The last four are the minor version, or twelve reserved bits, the counter and the
 -- Eventgroup ID.
@@ -127,4 +125,4 @@ HeadFits (Eventgroup e) = EventgroupFits e
 -- the bytes of a message: flags, three reserved bytes, the entries behind their length, the options behind theirs
 abbrev pub sd_bytes : ℕ → ℕ → ℕ → ℕ → List ℕ → List ℕ → List ℕ
 sd_bytes flags a b c entries options =
-    flags ∷ a ∷ b ∷ c ∷ [] ++ number32 (length entries) ++ entries ++ number32 (length options) ++ options
+    flags ∷ a ∷ b ∷ c ∷ (number32 (length entries) ++ (entries ++ (number32 (length options) ++ options)))

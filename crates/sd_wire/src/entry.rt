@@ -34,11 +34,11 @@ impl Counter {
         }
     }
 
-    /// The counter in the lower half of a byte.
-    pub(crate) fn from_byte(byte: u8) -> Counter
-        ensures { result ≡ byte % 16 }
+    /// The counter in the lowest four bits of a field, whose other bits are reserved.
+    pub(crate) fn from_field(number: u16) -> Counter
+        ensures { result ≡ number % 16 }
     {
-        Counter(byte % 16)
+        Counter((number % 16) as u8)
     }
 
     /// The number.

@@ -66,7 +66,7 @@ fn eventgroup(kind: EventgroupKind, bytes: &[u8]) -> EventgroupEntry
         instance: u16_at(bytes, 6),
         major: bytes[8],
         ttl: Ttl::from_field(u24_at(bytes, 9)),
-        counter: Counter::from_byte(bytes[13]),
+        counter: Counter::from_field(u16_at(bytes, 12)),
         eventgroup: u16_at(bytes, 14),
     }
 }

@@ -10,6 +10,7 @@ mod flags;
 mod message;
 mod option;
 mod option_reading;
+mod pool;
 mod reading;
 mod ttl;
 
