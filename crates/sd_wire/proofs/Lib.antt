@@ -7,3 +7,4 @@ pub mod OptionRead
 pub mod EntrySpelling
 pub mod SdLemmas
 pub mod FaultLemmas
+pub mod PoolLemmas

@@ -7,3 +7,4 @@ pub mod Program
 pub mod Steps
 pub mod Faults
 pub mod Writing
+pub mod Written

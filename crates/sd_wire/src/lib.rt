@@ -4,12 +4,14 @@
 mod endpoint;
 mod entry;
 mod entry_reading;
+mod entry_writing;
 mod error;
 mod fields;
 mod flags;
 mod message;
 mod option;
 mod option_reading;
+mod option_writing;
 mod pool;
 mod reading;
 mod ttl;

@@ -1,5 +1,5 @@
 //! The pool of options that the runs of entries are written from.
-ghost use Rattle.std.specs.Prelude.{◌≡◌, ◌<◌, ◌≤◌, ◌↔◌, ◌+◌, IsTrue, length, take, [], ◌++◌, ◌∷◌, IfOk, IfErr, IfSome, IsNone};
+ghost use Rattle.std.specs.Prelude.{◌≡◌, ◌<◌, ◌≤◌, ◌↔◌, ◌+◌, IsTrue, length, take, [], ◌++◌, ◌∷◌, IfOk, IfErr, IfSome, IfNone};
 ghost use Rattle.sd_wire.specs.declared.error.SdError.TheVariants.{OutOfMemory};
 ghost use Rattle.sd_wire.specs.Values.{view_entry};
 ghost use Rattle.sd_wire.specs.Writing.{IsLeast, IsNowhere, Stands};
@@ -7,18 +7,32 @@ ghost use Rattle.sd_wire.specs.Writing.{IsLeast, IsNowhere, Stands};
 use crate::option::SdOption;
 use std::alloc::AllocError;
 
+fn same(a: &SdOption, b: &SdOption) -> bool
+    ensures { IsTrue result ↔ (a.now ≡ b.now) }
+{
+    a == b
+}
+
 /// The options begin with those of the run.
 fn begins_with(options: &[SdOption], run: &[SdOption]) -> bool
     ensures { IsTrue result ↔ (take (length run.now) options.now ≡ run.now) }
 {
-    options.len() >= run.len() && options[..run.len()] == *run
+    if options.len() < run.len() {
+        return false;
+    }
+    for i in 0..run.len() {
+        if !same(&options[i], &run[i]) {
+            return false;
+        }
+    }
+    true
 }
 
 /// The least index at which the pool holds a nonempty run in one piece.
 fn find_run(pool: &[SdOption], run: &[SdOption]) -> Option<usize>
     requires { 0 < length run.now }
     ensures some { IfSome result (λ index. IsLeast pool.now run.now index) }
-    ensures none { IsNone result → IsNowhere pool.now run.now }
+    ensures none { IfNone result (IsNowhere pool.now run.now) }
 {
     for index in 0..pool.len() {
         if begins_with(&pool[index..], run) {

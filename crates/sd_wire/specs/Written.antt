@@ -1,0 +1,25 @@
+-- What the steps of writing answer.
+use Rattle.std.specs.Prelude.{◌≡◌, ℕ, List}
+use Rattle.sd_wire.specs.declared.error.SdError.{SdError}
+use Rattle.sd_wire.specs.declared.error.SdError.TheVariants as errors
+use Rattle.sd_wire.specs.declared.option.SdOption.{SdOption}
+use Rattle.sd_wire.specs.declared.entry_writing.RunFields.{RunFields}
+use Rattle.sd_wire.specs.Values.{EntryValue}
+use Rattle.sd_wire.specs.Spelling.{Runs}
+use Rattle.sd_wire.specs.Writing.{IsRefused, TooMany}
+
+-- the runs of an entry
+abbrev pub view_runs : RunFields → Runs
+view_runs r = record { index1 = r.index1; index2 = r.index2; count1 = r.count1; count2 = r.count2 }
+
+-- why the entry with this number has no place in the pool
+abbrev pub IsPlaceError : List SdOption → EntryValue → ℕ → SdError → Type 0
+IsPlaceError pool e number errors.OutOfMemory = Unit {0}
+IsPlaceError pool e number (errors.TooManyOptions n) = (n ≡ number) × IsRefused pool e
+IsPlaceError pool e number other = ⊥
+
+-- why entries are not packed
+abbrev pub IsPackError : List EntryValue → SdError → Type 0
+IsPackError entries errors.OutOfMemory = Unit {0}
+IsPackError entries (errors.TooManyOptions number) = TooMany entries number
+IsPackError entries other = ⊥
