@@ -8,3 +8,5 @@ pub mod EntrySpelling
 pub mod SdLemmas
 pub mod FaultLemmas
 pub mod PoolLemmas
+pub mod PackLemmas
+pub mod WriteLemmas

@@ -1,12 +1,14 @@
 -- What the steps of writing answer.
-use Rattle.std.specs.Prelude.{◌≡◌, ℕ, List}
+use Rattle.std.specs.Prelude.{◌≡◌, ℕ, List, ◌++◌, Result, Ok, Err}
 use Rattle.sd_wire.specs.declared.error.SdError.{SdError}
 use Rattle.sd_wire.specs.declared.error.SdError.TheVariants as errors
+use Rattle.sd_wire.specs.declared.error.SdError.TheVariants.{TooManyOptions}
 use Rattle.sd_wire.specs.declared.option.SdOption.{SdOption}
 use Rattle.sd_wire.specs.declared.entry_writing.RunFields.{RunFields}
-use Rattle.sd_wire.specs.Values.{EntryValue}
+use Rattle.sd_wire.specs.Values.{EntryValue, MessageValue}
 use Rattle.sd_wire.specs.Spelling.{Runs}
-use Rattle.sd_wire.specs.Writing.{IsRefused, TooMany}
+use Rattle.sd_wire.specs.Reading.{Sd}
+use Rattle.sd_wire.specs.Writing.{IsRefused, TooMany, WritesSd, as_read}
 
 -- the runs of an entry
 abbrev pub view_runs : RunFields → Runs
@@ -23,3 +25,13 @@ abbrev pub IsPackError : List EntryValue → SdError → Type 0
 IsPackError entries errors.OutOfMemory = Unit {0}
 IsPackError entries (errors.TooManyOptions number) = TooMany entries number
 IsPackError entries other = ⊥
+
+-- the one text of a message was added at the end, and it is read as the message
+abbrev pub Appends : List ℕ → List ℕ → MessageValue → Type 0
+Appends old new m = (text : List ℕ) × WritesSd m text × Sd (as_read m) text × (new ≡ old ++ text)
+
+-- the entry with this number is refused, unless memory ran out
+abbrev pub Refuses : ℕ → Result (Unit {0}) SdError → Type 0
+Refuses number (Ok _) = ⊥
+Refuses number (Err errors.OutOfMemory) = Unit {0}
+Refuses number (Err e) = e ≡ TooManyOptions number

@@ -12,9 +12,11 @@ mod message;
 mod option;
 mod option_reading;
 mod option_writing;
+mod packing;
 mod pool;
 mod reading;
 mod ttl;
+mod writing;
 
 pub use endpoint::{Ipv4Endpoint, Ipv6Endpoint, Protocol};
 pub use entry::{
@@ -26,3 +28,4 @@ pub use message::{ReadEntry, SdMessage, SdRead};
 pub use option::{RawOption, SdOption};
 pub use reading::read_sd;
 pub use ttl::Ttl;
+pub use writing::write_sd;
