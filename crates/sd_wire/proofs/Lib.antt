@@ -10,3 +10,4 @@ pub mod FaultLemmas
 pub mod PoolLemmas
 pub mod PackLemmas
 pub mod WriteLemmas
+pub mod SplitLemmas

@@ -65,7 +65,7 @@ is_selected pool run index after more h =
     ]
 
 -- the pool that is left is a longer one
-packs-more : (pool : Pool) (entries : List EntryValue) (text : List ℕ) (after : Pool) → Packs pool entries text after → (more : Pool) × (after ≡ pool ++ more)
+pub packs-more : (pool : Pool) (entries : List EntryValue) (text : List ℕ) (after : Pool) → Packs pool entries text after → (more : Pool) × (after ≡ pool ++ more)
 packs-more pool [] text after h = ([], h.1 ∙ sym (append-nil pool))
 packs-more pool (e ∷ entries) text after h =
     let p = h.3 in

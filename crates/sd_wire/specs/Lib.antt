@@ -8,3 +8,4 @@ pub mod Steps
 pub mod Faults
 pub mod Writing
 pub mod Written
+pub mod Splitting

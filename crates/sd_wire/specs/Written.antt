@@ -1,5 +1,5 @@
 -- What the steps of writing answer.
-use Rattle.std.specs.Prelude.{◌≡◌, ℕ, List, ◌++◌, Result, Ok, Err}
+use Rattle.std.specs.Prelude.{◌≡◌, ℕ, ◌+◌, List, ◌++◌, length, Option, Some, None, Result, Ok, Err}
 use Rattle.sd_wire.specs.declared.error.SdError.{SdError}
 use Rattle.sd_wire.specs.declared.error.SdError.TheVariants as errors
 use Rattle.sd_wire.specs.declared.error.SdError.TheVariants.{TooManyOptions}
@@ -8,7 +8,7 @@ use Rattle.sd_wire.specs.declared.entry_writing.RunFields.{RunFields}
 use Rattle.sd_wire.specs.Values.{EntryValue, MessageValue}
 use Rattle.sd_wire.specs.Spelling.{Runs}
 use Rattle.sd_wire.specs.Reading.{Sd}
-use Rattle.sd_wire.specs.Writing.{IsRefused, TooMany, WritesSd, as_read}
+use Rattle.sd_wire.specs.Writing.{PlacesEntry, IsRefused, pool_bytes, TooMany, WritesSd, as_read}
 
 -- the runs of an entry
 abbrev pub view_runs : RunFields → Runs
@@ -35,3 +35,9 @@ abbrev pub Refuses : ℕ → Result (Unit {0}) SdError → Type 0
 Refuses number (Ok _) = ⊥
 Refuses number (Err errors.OutOfMemory) = Unit {0}
 Refuses number (Err e) = e ≡ TooManyOptions number
+
+-- an entry is placed in the pool and adds so many bytes to a message, or it is refused
+abbrev pub IsGrown : List SdOption → EntryValue → Option ℕ → List SdOption → Type 0
+IsGrown pool e (Some bytes) after =
+    ((runs : Runs) × PlacesEntry pool e runs after) × (bytes + length (pool_bytes pool) ≡ 16 + length (pool_bytes after))
+IsGrown pool e None after = IsRefused pool e

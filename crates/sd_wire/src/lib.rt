@@ -15,6 +15,7 @@ mod option_writing;
 mod packing;
 mod pool;
 mod reading;
+mod splitting;
 mod ttl;
 mod writing;
 
@@ -27,5 +28,6 @@ pub use flags::SdFlags;
 pub use message::{ReadEntry, SdMessage, SdRead};
 pub use option::{RawOption, SdOption};
 pub use reading::read_sd;
+pub use splitting::split_entries;
 pub use ttl::Ttl;
 pub use writing::write_sd;

@@ -121,3 +121,34 @@ pub(crate) fn put_option(option: &SdOption, out: &mut Vec<u8>) -> Result<(), All
         SdOption::Raw(raw) => put_raw(raw, out),
     }
 }
+
+/// How many bytes an option has.
+pub(crate) fn option_len(option: &SdOption) -> usize
+    ensures len { result ≡ length (option_bytes 0 0 option.now) }
+    ensures most { result ≤ 65538 }
+{
+    match option {
+        SdOption::LoadBalancing { .. } => 8,
+        SdOption::Endpoint4(endpoint) => ipv4_len(endpoint),
+        SdOption::Multicast4(endpoint) => ipv4_len(endpoint),
+        SdOption::SdEndpoint4(endpoint) => ipv4_len(endpoint),
+        SdOption::Endpoint6(endpoint) => ipv6_len(endpoint),
+        SdOption::Multicast6(endpoint) => ipv6_len(endpoint),
+        SdOption::SdEndpoint6(endpoint) => ipv6_len(endpoint),
+        SdOption::Raw(raw) => 3 + raw.bytes().len(),
+    }
+}
+
+fn ipv4_len(endpoint: &Ipv4Endpoint) -> usize
+    ensures len { result ≡ length (ipv4_bytes 0 0 0 endpoint.now) }
+    ensures most { result ≤ 65538 }
+{
+    8 + ipv4_octets(endpoint.socket.ip()).len()
+}
+
+fn ipv6_len(endpoint: &Ipv6Endpoint) -> usize
+    ensures len { result ≡ length (ipv6_bytes 0 0 0 endpoint.now) }
+    ensures most { result ≤ 65538 }
+{
+    8 + ipv6_octets(&endpoint.address).len()
+}
