@@ -1,0 +1,13 @@
+pub mod FieldLemmas
+pub mod EntryLemmas
+pub mod OptionLemmas
+pub mod ReadingLemmas
+pub mod OptionSpelling
+pub mod OptionRead
+pub mod EntrySpelling
+pub mod SdLemmas
+pub mod FaultLemmas
+pub mod PoolLemmas
+pub mod PackLemmas
+pub mod WriteLemmas
+pub mod SplitLemmas

@@ -1,0 +1,13 @@
+use Rattle.std.proofs.Common.{◌≡◌, ◌+◌, ◌*◌, ◌++◌, ◌∷◌, [], suc, map, drop, ap, ◌∙◌, sym, arith, rules}
+use Rattle.std.proofs.lemmas.List.{map_push, take_rest}
+use Rattle.sd_wire.specs.Values.{ReadValue, view_read}
+use Rattle.sd_wire.specs.Program.{entry_in, entry_list}
+use Rattle.sd_wire.proofs.EntryLemmas.{entry_list-push}
+use Rattle.sd_wire.proofs.entry_reading.read_entries.Goals as goal
+
+pub loop-k-preserved : goal.loop-k-preserved
+loop-k-preserved c =
+    let next : c.loop-k.k + 1 ≡ suc c.loop-k.k = omega arith in
+    let one : view_read c.in_ok-entry.field-0 ≡ entry_in c.args.pool.now (drop (c.loop-k.k * 16) c.args.entries.now) = rw take_rest at c.in_ok-entry.ensures in
+    rw (next, c.in_ok-push.ensures.items) (map_push view_read c.loop-k.read.items c.in_ok-entry.field-0
+    ∙ rw (c.loop-k.invariant, one) (sym (entry_list-push c.loop-k.k c.args.pool.now c.args.entries.now)))

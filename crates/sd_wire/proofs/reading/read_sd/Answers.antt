@@ -1,0 +1,33 @@
+use Rattle.std.proofs.Common.{◌≡◌, ℕ, List, Ok, Err, sym, ap, ◌∙◌, subst, arith, rules, Result}
+use Rattle.std.specs.Prelude.{IfOk, IfErr}
+use Rattle.sd_wire.specs.declared.error.SdError.{SdError}
+use Rattle.sd_wire.specs.declared.message.SdRead.{SdRead}
+use Rattle.sd_wire.specs.Fields.{IsBytes}
+use Rattle.sd_wire.specs.Values.{SdValue, view_sd}
+use Rattle.sd_wire.specs.Reading.{Sd}
+use Rattle.sd_wire.specs.Faults.{IsFirstFault}
+use Rattle.sd_wire.specs.Steps.{Gives}
+use Rattle.sd_wire.specs.Program.{reading}
+use Rattle.sd_wire.proofs.SdLemmas.{reading_holds, holds_read}
+use Rattle.sd_wire.proofs.FaultLemmas.{fault_read, first_fault}
+use Rattle.sd_wire.proofs.reading.read_sd.Goals as goal
+
+found : (bytes : List ℕ) (r : Result SdRead SdError) → IsBytes bytes → Gives view_sd r (reading bytes) → IfOk r (λ x. Sd (view_sd x) bytes)
+found bytes (Ok x) fits is = reading_holds bytes (view_sd x) fits is
+found bytes (Err e) fits is = tt
+
+faults : (bytes : List ℕ) (r : Result SdRead SdError) → IsBytes bytes → Gives view_sd r (reading bytes) → IfErr r (λ e. IsFirstFault e bytes)
+faults bytes (Ok x) fits is = tt
+faults bytes (Err e) fits is = first_fault bytes e fits is
+
+pub returns-clause-found : goal.returns-clause-found
+returns-clause-found c = found c.args.bytes.now c.read.result (λ i. omega (arith, c.type_inv.bytes i)) c.read.ensures.exact
+
+pub returns-clause-only : goal.returns-clause-only
+returns-clause-only c = λ v holds. subst (λ (r : Result SdValue SdError). Gives view_sd c.read.result r) (holds_read v c.args.bytes.now holds) c.read.ensures.exact
+
+pub returns-clause-fault : goal.returns-clause-fault
+returns-clause-fault c = faults c.args.bytes.now c.read.result (λ i. omega (arith, c.type_inv.bytes i)) c.read.ensures.exact
+
+pub returns-clause-faulty : goal.returns-clause-faulty
+returns-clause-faulty c = λ e fault. subst (λ (r : Result SdValue SdError). Gives view_sd c.read.result r) (fault_read c.args.bytes.now e fault) c.read.ensures.exact

@@ -1,0 +1,14 @@
+use Rattle.std.proofs.Common.{◌≡◌, List, ℕ, Result, Ok, Err, map}
+use Rattle.std.specs.Prelude.{IfOk, Vec}
+use Rattle.sd_wire.specs.declared.error.SdError.{SdError}
+use Rattle.sd_wire.specs.Values.{EntryValue, view_entry}
+use Rattle.sd_wire.specs.Splitting.{AreFronts}
+use Rattle.sd_wire.proofs.SplitLemmas.{same_fronts}
+use Rattle.sd_wire.proofs.splitting.split_entries.Goals as goal
+
+only : {V : Type 0} (items : V → List ℕ) (entries : List EntryValue) (r : Result V SdError) → IfOk r (λ v. AreFronts entries (items v)) → (lengths : List ℕ) → AreFronts entries lengths → IfOk r (λ v. items v ≡ lengths)
+only items entries (Ok v) are lengths others = same_fronts entries (items v) lengths are others
+only items entries (Err e) are lengths others = tt
+
+pub returns-clause-only : goal.returns-clause-only
+returns-clause-only c = λ lengths are. only (λ v. v.items) (map view_entry c.args.entries.now) c.split.result c.split.ensures.fronts lengths are

@@ -1,0 +1,41 @@
+use Rattle.std.proofs.Common.{◌≡◌, ℕ, List, Result, Ok, Err, refl, ap, sym, ◌∙◌, rules, arith, subst}
+use Rattle.std.proofs.lemmas.Result.{err_from_is_err_and}
+use Rattle.sd_wire.specs.declared.error.SdError.{SdError}
+use Rattle.sd_wire.specs.declared.error.SdError.TheVariants as errors
+use Rattle.sd_wire.specs.declared.error.SdError.TheVariants.{OutOfMemory, TooManyOptions}
+use Rattle.sd_wire.specs.Values.{MessageValue, view_message}
+use Rattle.sd_wire.specs.Writing.{WritesSd, TooMany, IsWriteError}
+use Rattle.sd_wire.specs.Written.{Refuses}
+use Rattle.sd_wire.proofs.WriteLemmas.{written_not_refused, one_refused}
+use Rattle.sd_wire.proofs.writing.write_sd.Goals as goal
+
+only_memory : (m : MessageValue) (text : List ℕ) (e : SdError) → WritesSd m text → IsWriteError m e → e ≡ OutOfMemory
+only_memory m text errors.OutOfMemory w is = refl
+only_memory m text (errors.TooManyOptions k) w is = absurd (written_not_refused m text k w is)
+only_memory m text (errors.Truncated p) w is = absurd is
+only_memory m text (errors.EntriesLength p) w is = absurd is
+only_memory m text (errors.UnknownEntryType p) w is = absurd is
+only_memory m text (errors.OptionLength p) w is = absurd is
+only_memory m text (errors.TrailingBytes p) w is = absurd is
+
+named : (m : MessageValue) (k : ℕ) (e : SdError) → TooMany m.entries k → IsWriteError m e → Refuses k (Err e)
+named m k errors.OutOfMemory t is = tt
+named m k (errors.TooManyOptions n) t is = ap TooManyOptions (one_refused m.entries n k is t)
+named m k (errors.Truncated p) t is = absurd is
+named m k (errors.EntriesLength p) t is = absurd is
+named m k (errors.UnknownEntryType p) t is = absurd is
+named m k (errors.OptionLength p) t is = absurd is
+named m k (errors.TrailingBytes p) t is = absurd is
+
+pub returns-in_err-text-clause-only : goal.returns-in_err-text-clause-only
+returns-in_err-text-clause-only c = λ text w.
+    let p = err_from_is_err_and c.from_residual.result c.from_residual.ensures.1 in
+    rw (p.1, p.2) (only_memory (view_message c.args.message.now) text c.in_err-text.field-0.0 w c.in_err-text.ensures.refused)
+
+pub returns-in_err-text-clause-named : goal.returns-in_err-text-clause-named
+returns-in_err-text-clause-named c = λ number t.
+    let p = err_from_is_err_and c.from_residual.result c.from_residual.ensures.1 in
+    rw (p.1, p.2) (named (view_message c.args.message.now) number c.in_err-text.field-0.0 t c.in_err-text.ensures.refused)
+
+pub returns-clause-named : goal.returns-clause-named
+returns-clause-named c = λ number t. absurd (written_not_refused (view_message c.args.message.now) _ number c.in_ok-text.ensures.writes t)

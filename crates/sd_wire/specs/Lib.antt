@@ -1,0 +1,11 @@
+pub mod Raw
+pub mod Fields
+pub mod Values
+pub mod Spelling
+pub mod Reading
+pub mod Program
+pub mod Steps
+pub mod Faults
+pub mod Writing
+pub mod Written
+pub mod Splitting

@@ -1,0 +1,30 @@
+-- Options that are kept as they were read (SOME/IP Service Discovery, "Options").
+use Rattle.std.specs.Prelude.{ℕ, ◌<◌, ◌≤◌, ◌≡◌, ◌^◌, Bool, false, List, length, ◌||◌, ◌&&◌, ◌==◌, nat_eq}
+use Rattle.std.specs.Cmp.Lexicographic.{pointwise}
+
+-- a type and the bytes that the length counts
+pub record RawValue : Type 0 where
+  pub kind : ℕ
+  pub bytes : List ℕ
+
+-- the type is that of an IPv4 endpoint, an IPv4 multicast or an IPv4 SD endpoint option
+abbrev pub is_ipv4 : ℕ → Bool
+is_ipv4 kind = kind == 0x04 || kind == 0x14 || kind == 0x24
+
+-- the same for IPv6
+abbrev pub is_ipv6 : ℕ → Bool
+is_ipv6 kind = kind == 0x06 || kind == 0x16 || kind == 0x26
+
+-- the type is one of the seven that have a layout
+abbrev pub is_known : ℕ → Bool
+is_known kind = kind == 0x02 || is_ipv4 kind || is_ipv6 kind
+
+-- a type without a layout, and at least one byte, as many as the Length field can say
+pub record IsRaw (kind : ℕ) (bytes : List ℕ) : Type 0 where
+  pub unknown : is_known kind ≡ false
+  pub some : 1 ≤ length bytes
+  pub fits : length bytes < 2 ^ 16
+
+-- two raw options are the same
+abbrev pub raw_eq : RawValue → RawValue → Bool
+raw_eq a b = nat_eq a.kind b.kind && pointwise nat_eq a.bytes b.bytes

@@ -1,0 +1,51 @@
+//! Why a Service Discovery message is not read or not written.
+ghost use Rattle.std.specs.Prelude.{◌≡◌};
+ghost use Rattle.sd_wire.specs.declared.error.SdError.TheVariants.{OutOfMemory};
+
+use std::alloc::{AllocError, AllocFailed};
+use thiserror::Error;
+
+/// Why a Service Discovery message is not read or not written. The place of a fault of bytes is a
+/// number of bytes from the first of the message; printed, it is the name and the place, as in
+/// `Truncated at 47`.
+#[derive(Debug, Drop, Error, PartialEq, Eq)]
+pub enum SdError {
+    /// The bytes end before the flags, the entries or the options do. The place is their end.
+    #[error("Truncated at {0}")]
+    Truncated(usize),
+    /// The length of the entries is no multiple of 16. The place is 4, where it stands.
+    #[error("EntriesLength at {0}")]
+    EntriesLength(usize),
+    /// An entry is neither Find, Offer, Subscribe nor Ack. Its first byte's place.
+    #[error("UnknownEntryType at {0}")]
+    UnknownEntryType(usize),
+    /// An option has no room, no length, or another one than its type wants. Its first byte's place.
+    #[error("OptionLength at {0}")]
+    OptionLength(usize),
+    /// A run of more than 15 options, or one that would stand at an index above 255. The place is
+    /// the number of its entry, counted from 0.
+    #[error("TooManyOptions at {0}")]
+    TooManyOptions(usize),
+    /// Bytes stand behind the options. The place of the first.
+    #[error("TrailingBytes at {0}")]
+    TrailingBytes(usize),
+    /// Memory ran out.
+    #[error("out of memory")]
+    OutOfMemory,
+}
+
+impl From<AllocError> for SdError {
+    ghost from_gives = { λ _ e. e ≡ OutOfMemory };
+
+    fn from(_e: AllocError) -> SdError {
+        SdError::OutOfMemory
+    }
+}
+
+impl<T: Drop> From<AllocFailed<T>> for SdError {
+    ghost from_gives = { λ _ e. e ≡ OutOfMemory };
+
+    fn from(_e: AllocFailed<T>) -> SdError {
+        SdError::OutOfMemory
+    }
+}

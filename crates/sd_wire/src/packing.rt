@@ -1,0 +1,90 @@
+//! Entries and the pool of options that their runs are taken from.
+ghost use Rattle.std.specs.Prelude.{◌≡◌, ◌<◌, ◌≤◌, ◌^◌, ◌*◌, length, map, [], IfOk, IfErr};
+ghost use Rattle.std.specs.List.{AllByRecursion};
+ghost use Rattle.sd_wire.specs.Values.{view_entry};
+ghost use Rattle.sd_wire.specs.Spelling.{OptionFits, HeadFits};
+ghost use Rattle.sd_wire.specs.Writing.{PlacesEntry, Packs, pool_bytes};
+ghost use Rattle.sd_wire.specs.Written.{view_runs, IsPlaceError, IsPackError};
+
+use crate::entry::Entry;
+use crate::entry_writing::{RunFields, entry_text};
+use crate::error::SdError;
+use crate::option::SdOption;
+use crate::option_writing::put_option;
+use crate::pool::place_run;
+use std::alloc::{AllocError, Global};
+
+/// The most options of a run.
+const MOST_OPTIONS: usize = 15;
+
+/// The highest index of a run.
+const LAST_INDEX: usize = 255;
+
+/// Where the runs of the entry with this number stand in the pool, to which those are added that it
+/// does not hold.
+pub(crate) fn place_entry(
+    pool: &mut Vec<SdOption>,
+    entry: &Entry,
+    number: usize,
+) -> Result<RunFields, SdError>
+    ensures placed { IfOk result (λ runs. PlacesEntry pool.old.items (view_entry entry.now)
+        (view_runs runs) pool.new.items) }
+    ensures refused { IfErr result (λ e. IsPlaceError pool.old.items (view_entry entry.now) number e) }
+{
+    let count1 = entry.run1.len();
+    let count2 = entry.run2.len();
+    if count1 > MOST_OPTIONS {
+        return Err(SdError::TooManyOptions(number));
+    }
+    if count2 > MOST_OPTIONS {
+        return Err(SdError::TooManyOptions(number));
+    }
+    let index1 = place_run(pool, &entry.run1)?;
+    if index1 > LAST_INDEX {
+        return Err(SdError::TooManyOptions(number));
+    }
+    let index2 = place_run(pool, &entry.run2)?;
+    if index2 > LAST_INDEX {
+        return Err(SdError::TooManyOptions(number));
+    }
+    Ok(RunFields {
+        index1: index1 as u8,
+        index2: index2 as u8,
+        count1: count1 as u8,
+        count2: count2 as u8,
+    })
+}
+
+/// The bytes of the entries, and the pool of their options.
+pub(crate) fn pack(alloc: Global, entries: &[Entry]) -> Result<(Vec<u8>, Vec<SdOption>), SdError>
+    ensures packs { IfOk result (λ packed. Packs [] (map view_entry entries.now) packed.0.items
+        packed.1.items) }
+    ensures heads { IfOk result (λ packed. AllByRecursion (λ e. HeadFits e.head)
+        (map view_entry entries.now)) }
+    ensures refused { IfErr result (λ e. IsPackError (map view_entry entries.now) e) }
+    ensures len { IfOk result (λ packed. length packed.0.items ≡ 16 * length entries.now) }
+    ensures options { IfOk result (λ packed. length packed.1.items ≤ 270) }
+{
+    let mut text = Vec::new(alloc);
+    let mut pool = Vec::new(alloc);
+    for k in 0..entries.len() {
+        let entry = &entries[k];
+        let runs = place_entry(&mut pool, entry, k)?;
+        text.extend_from_slice(&entry_text(&entry.head, runs))?;
+    }
+    Ok((text, pool))
+}
+
+/// The bytes of the options of a pool.
+pub(crate) fn pool_text(alloc: Global, pool: &[SdOption]) -> Result<Vec<u8>, AllocError>
+    requires { length pool.now ≤ 270 }
+    ensures text { IfOk result (λ text. text.items ≡ pool_bytes pool.now) }
+    ensures fits { IfOk result (λ text. AllByRecursion OptionFits pool.now) }
+    ensures len { IfOk result (λ text. length text.items < 2 ^ 32) }
+{
+    let mut text = Vec::new(alloc);
+    for option in pool {
+        put_option(option, &mut text)?;
+    }
+    Ok(text)
+}

@@ -1,0 +1,103 @@
+//! Entries split into messages that fit a datagram.
+ghost use Rattle.std.specs.Prelude.{◌≡◌, ◌<◌, ◌≤◌, ◌+◌, ◌*◌, ◌^◌, ℕ, List, length, map, IfOk, IfErr, IfSome};
+ghost use Rattle.sd_wire.specs.declared.error.SdError.TheVariants.{OutOfMemory};
+ghost use Rattle.sd_wire.specs.Values.{view_entry};
+ghost use Rattle.sd_wire.specs.Writing.{pool_bytes};
+ghost use Rattle.sd_wire.specs.Splitting.{IsLongestFront, AreFronts};
+ghost use Rattle.sd_wire.specs.Written.{IsGrown};
+
+use crate::entry::Entry;
+use crate::entry_reading::ENTRY_LEN;
+use crate::error::SdError;
+use crate::option::SdOption;
+use crate::option_writing::option_len;
+use crate::packing::place_entry;
+use std::alloc::Global;
+
+/// The most bytes of a message that the entries are split for.
+const MOST_BYTES: usize = 1400;
+
+/// The bytes of a message without entries.
+const EMPTY_LEN: usize = 12;
+
+/// The lengths of the longest fronts of the entries, one after the other, that can each be written
+/// as a message of at most 1400 bytes. An entry that cannot be so written by itself stands alone.
+///
+/// The work grows with the number of entries: each is placed in a pool once or twice.
+pub fn split_entries(alloc: Global, entries: &[Entry]) -> Result<Vec<usize>, SdError>
+    requires { length entries.now ≤ 65535 }
+    ensures fronts { IfOk result (λ lengths. AreFronts (map view_entry entries.now) lengths.items) }
+    // There are no others.
+    ensures only { (lengths : List ℕ) → AreFronts (map view_entry entries.now) lengths
+        → IfOk result (λ answer. answer.items ≡ lengths) }
+    ensures errors { IfErr result (λ e. e ≡ OutOfMemory) }
+{
+    split(alloc, entries)
+}
+
+/// The lengths of the longest fronts.
+fn split(alloc: Global, entries: &[Entry]) -> Result<Vec<usize>, SdError>
+    requires { length entries.now ≤ 65535 }
+    ensures fronts { IfOk result (λ lengths. AreFronts (map view_entry entries.now) lengths.items) }
+    ensures errors { IfErr result (λ e. e ≡ OutOfMemory) }
+{
+    let mut lengths = Vec::new(alloc);
+    let mut rest = entries;
+    while !rest.is_empty() {
+        let length = front(alloc, rest)?;
+        lengths.push(length)?;
+        rest = &rest[length..];
+    }
+    Ok(lengths)
+}
+
+/// The length of the longest front of some entries.
+fn front(alloc: Global, entries: &[Entry]) -> Result<usize, SdError>
+    requires { 1 ≤ length entries.now }
+    ensures front { IfOk result (λ n. IsLongestFront (map view_entry entries.now) n) }
+    ensures errors { IfErr result (λ e. e ≡ OutOfMemory) }
+{
+    let mut pool = Vec::new(alloc);
+    let mut size = EMPTY_LEN;
+    for k in 0..entries.len() {
+        match grow(&mut pool, &entries[k])? {
+            Some(bytes) => {
+                size += bytes;
+                if size > MOST_BYTES {
+                    return Ok(k.max(1));
+                }
+            }
+            None => return Ok(k.max(1)),
+        }
+    }
+    Ok(entries.len())
+}
+
+/// Places an entry in the pool, and says how many bytes it adds to a message. None if it is refused.
+fn grow(pool: &mut Vec<SdOption>, entry: &Entry) -> Result<Option<usize>, SdError>
+    requires { length pool.old.items ≤ 270 }
+    ensures grown { IfOk result (λ bytes. IsGrown pool.old.items (view_entry entry.now) bytes
+        pool.new.items) }
+    ensures most { IfOk result (λ added. IfSome added (λ bytes. bytes < 2 ^ 32)) }
+    ensures errors { IfErr result (λ e. e ≡ OutOfMemory) }
+{
+    let held = pool.len();
+    match place_entry(pool, entry, 0) {
+        Ok(_) => Ok(Some(ENTRY_LEN + options_len(&pool[held..]))),
+        Err(SdError::OutOfMemory) => Err(SdError::OutOfMemory),
+        Err(_) => Ok(None),
+    }
+}
+
+/// How many bytes the options have.
+fn options_len(options: &[SdOption]) -> usize
+    requires { length options.now ≤ 270 }
+    ensures len { result ≡ length (pool_bytes options.now) }
+    ensures most { result ≤ 65538 * length options.now }
+{
+    let mut len = 0;
+    for option in options {
+        len += option_len(option);
+    }
+    len
+}

@@ -1,0 +1,65 @@
+//! The bytes of messages (SOME/IP Service Discovery, "Header").
+ghost use Rattle.std.specs.Prelude.{◌≡◌, ◌<◌, ◌≤◌, ◌^◌, ◌++◌, ℕ, List, Err, length, IfOk, IfErr, OnOk, OnErr};
+ghost use Rattle.sd_wire.specs.declared.error.SdError.TheVariants.{OutOfMemory, TooManyOptions};
+ghost use Rattle.sd_wire.specs.Fields.{number32};
+ghost use Rattle.sd_wire.specs.Values.{view_message};
+ghost use Rattle.sd_wire.specs.Reading.{Sd};
+ghost use Rattle.sd_wire.specs.Writing.{WritesSd, TooMany, IsWriteError, as_read};
+ghost use Rattle.sd_wire.specs.Written.{Appends, Refuses};
+
+use crate::error::SdError;
+use crate::message::SdMessage;
+use crate::packing::{pack, pool_text};
+use std::alloc::{AllocError, Global};
+
+/// Adds the bytes of the message at the end of `out`: the payload behind the header of SOME/IP.
+///
+/// Options that several runs name are written once. Entry by entry, the first run before the second,
+/// a run stands at the least index at which the options so far hold it in one piece; if they hold it
+/// nowhere, it is added whole at their end. A run of more than 15 options or one at an index above
+/// 255 is `TooManyOptions`, with the number of its entry from 0. An `Err` leaves `out` as it was.
+pub fn write_sd(alloc: Global, message: &SdMessage, out: &mut Vec<u8>) -> Result<(), SdError>
+    requires { length message.now.entries.items ≤ 65535 }
+    // The text of the message is added, and it is read as the message.
+    ensures written { OnOk result (Appends out.old.items out.new.items (view_message message.now)) }
+    // The first entry that is refused is named.
+    ensures refused { IfErr result (λ e. IsWriteError (view_message message.now) e) }
+    // A message that has a text is written, unless memory runs out.
+    ensures only { (text : List ℕ) → WritesSd (view_message message.now) text
+        → IfErr result (λ e. e ≡ OutOfMemory) }
+    // Where an entry is refused, it is named, unless memory runs out.
+    ensures named { (number : ℕ) → TooMany (view_message message.now).entries number
+        → Refuses number result }
+    // A refused message leaves the vector as it was.
+    ensures kept { OnErr result (out.new.items ≡ out.old.items) }
+{
+    let text = text_of(alloc, message)?;
+    out.extend_from_slice(&text)?;
+    Ok(())
+}
+
+/// The bytes of the message.
+fn text_of(alloc: Global, message: &SdMessage) -> Result<Vec<u8>, SdError>
+    requires { length message.now.entries.items ≤ 65535 }
+    ensures writes { IfOk result (λ text. WritesSd (view_message message.now) text.items) }
+    ensures holds { IfOk result (λ text. Sd (as_read (view_message message.now)) text.items) }
+    ensures refused { IfErr result (λ e. IsWriteError (view_message message.now) e) }
+{
+    let (entries, pool) = pack(alloc, &message.entries)?;
+    let options = pool_text(alloc, &pool)?;
+    let mut text = Vec::new(alloc);
+    text.extend_from_slice(&[message.flags.byte(), 0, 0, 0])?;
+    put_part(&entries, &mut text)?;
+    put_part(&options, &mut text)?;
+    Ok(text)
+}
+
+/// Adds a part behind its length.
+fn put_part(part: &[u8], out: &mut Vec<u8>) -> Result<(), AllocError>
+    requires { length part.now < 2 ^ 32 }
+    ensures { OnOk result (out.new.items ≡ out.old.items ++ (number32 (length part.now) ++ part.now)) }
+{
+    out.extend_from_slice(&(part.len() as u32).to_be_bytes())?;
+    out.extend_from_slice(part)?;
+    Ok(())
+}
