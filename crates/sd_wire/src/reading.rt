@@ -31,6 +31,8 @@ pub fn read_sd(alloc: Global, bytes: &[u8]) -> Result<SdRead, SdError>
     ensures fault { IfErr result (λ e. IsFirstFault e bytes.now) }
     // Where the bytes have a fault, it is answered, unless memory runs out.
     ensures faulty { (e : SdError) → SdFault e bytes.now → Gives view_sd result (Err e) }
+    // What is answered is what the plain program gives, unless memory runs out.
+    ensures exact { Gives view_sd result (reading bytes.now) }
     // It is none that only writing has.
     ensures errors { IfErr result IsReadingError }
 {
