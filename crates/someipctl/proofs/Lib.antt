@@ -7,3 +7,4 @@ pub mod ShownTextLemmas
 pub mod ShowResultLemmas
 pub mod LinesLemmas
 pub mod PlaceLemmas
+pub mod DiscoveryLemmas

@@ -3,6 +3,7 @@ pub mod CommandLine
 pub mod Sending
 pub mod Parts
 pub mod Lines
+pub mod Discovery
 pub mod Outcomes
 pub mod ShownText
 pub mod ShowResult

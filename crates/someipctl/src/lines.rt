@@ -186,7 +186,8 @@ fn payload_part(payload: &[u8]) -> Part<'_>
     }
 }
 
-fn digit_of_flag(flag: bool) -> &'static str
+/// A flag as a digit.
+pub fn digit_of_flag(flag: bool) -> &'static str
     ensures { result.now ≡ flag_text flag }
 {
     if flag { "1" } else { "0" }

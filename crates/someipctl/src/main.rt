@@ -13,6 +13,7 @@ ghost use Rattle.someipctl.specs.Failures.{status_of_failure};
 
 mod capture;
 mod command;
+mod discovery;
 mod failure;
 mod help;
 mod input;
