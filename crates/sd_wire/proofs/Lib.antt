@@ -11,3 +11,4 @@ pub mod PoolLemmas
 pub mod PackLemmas
 pub mod WriteLemmas
 pub mod SplitLemmas
+pub mod PlaceLemmas

@@ -33,3 +33,13 @@ SdFault e bytes =
 abbrev pub IsFirstFault : SdError → List ℕ → Type 0
 IsFirstFault errors.OutOfMemory bytes = Unit {0}
 IsFirstFault e bytes = SdFault e bytes
+
+-- the place of a fault in the bytes
+abbrev pub fault_place : SdError → ℕ
+fault_place (errors.Truncated place) = place
+fault_place (errors.EntriesLength place) = place
+fault_place (errors.UnknownEntryType place) = place
+fault_place (errors.OptionLength place) = place
+fault_place (errors.TooManyOptions place) = place
+fault_place (errors.TrailingBytes place) = place
+fault_place errors.OutOfMemory = 0

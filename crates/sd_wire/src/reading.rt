@@ -3,7 +3,7 @@ ghost use Rattle.std.specs.Prelude.{◌≡◌, ◌≤◌, ◌+◌, Some, None, O
 ghost use Rattle.sd_wire.specs.declared.error.SdError.{SdError};
 ghost use Rattle.sd_wire.specs.Values.{SdValue, view_sd};
 ghost use Rattle.sd_wire.specs.Reading.{Sd};
-ghost use Rattle.sd_wire.specs.Faults.{SdFault, IsFirstFault};
+ghost use Rattle.sd_wire.specs.Faults.{SdFault, IsFirstFault, fault_place};
 ghost use Rattle.sd_wire.specs.Steps.{Gives, IsReadingError};
 ghost use Rattle.sd_wire.specs.Program.{header_fault, options_place, reading};
 
@@ -33,6 +33,8 @@ pub fn read_sd(alloc: Global, bytes: &[u8]) -> Result<SdRead, SdError>
     ensures faulty { (e : SdError) → SdFault e bytes.now → Gives view_sd result (Err e) }
     // What is answered is what the plain program gives, unless memory runs out.
     ensures exact { Gives view_sd result (reading bytes.now) }
+    // Its place is not behind the end of the bytes.
+    ensures places { IfErr result (λ e. fault_place e ≤ length bytes.now) }
     // It is none that only writing has.
     ensures errors { IfErr result IsReadingError }
 {

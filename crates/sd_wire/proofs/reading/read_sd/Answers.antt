@@ -10,6 +10,7 @@ use Rattle.sd_wire.specs.Steps.{Gives}
 use Rattle.sd_wire.specs.Program.{reading}
 use Rattle.sd_wire.proofs.SdLemmas.{reading_holds, holds_read}
 use Rattle.sd_wire.proofs.FaultLemmas.{fault_read, first_fault}
+use Rattle.sd_wire.proofs.PlaceLemmas.{places}
 use Rattle.sd_wire.proofs.reading.read_sd.Goals as goal
 
 found : (bytes : List ℕ) (r : Result SdRead SdError) → IsBytes bytes → Gives view_sd r (reading bytes) → IfOk r (λ x. Sd (view_sd x) bytes)
@@ -31,3 +32,6 @@ returns-clause-fault c = faults c.args.bytes.now c.read.result (λ i. omega (ari
 
 pub returns-clause-faulty : goal.returns-clause-faulty
 returns-clause-faulty c = λ e fault. subst (λ (r : Result SdValue SdError). Gives view_sd c.read.result r) (fault_read c.args.bytes.now e fault) c.read.ensures.exact
+
+pub returns-clause-places : goal.returns-clause-places
+returns-clause-places c = places c.args.bytes.now c.read.result c.read.ensures.exact
