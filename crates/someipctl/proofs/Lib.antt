@@ -8,3 +8,4 @@ pub mod ShowResultLemmas
 pub mod LinesLemmas
 pub mod PlaceLemmas
 pub mod DiscoveryLemmas
+pub mod ReadingsLemmas

@@ -6,7 +6,7 @@ use Rattle.std.proofs.lemmas.List.{drop_at}
 use Rattle.someip_wire.specs.declared.WireError.{WireError}
 use Rattle.someip_wire.specs.Spelling.{MessageValue, header_bytes, spelling}
 use Rattle.someip_wire.specs.Datagram.{Datagram, items}
-use Rattle.someipctl.specs.Lines.{item_lines, lines_from}
+use Rattle.someipctl.specs.Items.{item_lines, lines_from}
 
 lines_from-append : (k place : ℕ) (front others : List MessageValue) (end : Option WireError)
     → lines_from k place (items (front ++ others) end) ≡ lines_from k place (items front None) ++ lines_from k (place + length (flat_map spelling front)) (items others end)

@@ -7,7 +7,8 @@ use Rattle.someip_wire.specs.Spelling.{MessageValue, spelling}
 use Rattle.someip_wire.specs.Datagram.{Datagram, items}
 use Rattle.someip_wire.specs.Reading.{items_of}
 use Rattle.someip_wire.proofs.DatagramLemmas.{items_from-nil}
-use Rattle.someipctl.specs.Lines.{lines_from, item_len, is_faulty, empty_line}
+use Rattle.someipctl.specs.Lines.{empty_line}
+use Rattle.someipctl.specs.Items.{lines_from, item_len, is_faulty}
 use Rattle.someipctl.specs.ShownText.{datagram_text, has_fault}
 
 pub datagram_text-empty : (k : ℕ) (datagram : List ℕ) → length datagram ≡ 0 → datagram_text k datagram ≡ empty_line k

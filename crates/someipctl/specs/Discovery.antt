@@ -1,7 +1,9 @@
 -- The lines of Service Discovery messages, byte for byte.
-use Rattle.std.specs.Prelude.{ℕ, ◌+◌, Bool, true, false, ◌&&◌, ◌==◌, if◌then◌else◌, List, [], ◌∷◌, ◌++◌, length, slice_index, codes, decimal, Option, Some, None, Result, Ok, Err}
+use Rattle.std.specs.Prelude.{◌≡◌, map, drop, ℕ, ◌+◌, Bool, true, false, ◌&&◌, ◌==◌, if◌then◌else◌, List, [], ◌∷◌, ◌++◌, length, slice_index, codes, decimal, Option, Some, None, is_err, Result, Ok, Err}
 use Rattle.std.specs.Borrow.{Bor}
 use Rattle.std.specs.List.{flat_map}
+use Rattle.std.specs.Option.{option_to_list}
+use Rattle.someip_wire.specs.Reading.{items_of}
 use Rattle.std.specs.Net.Socket.{v4_ip, v4_port}
 use Rattle.std.specs.Net.Addr.{ipv4_octets, ipv6_octets}
 use Rattle.hex.specs.Hex.{encode_lower}
@@ -26,6 +28,7 @@ use Rattle.sd_wire.specs.declared.EntryHead.{EntryHead}
 use Rattle.sd_wire.specs.declared.EntryHead.TheVariants.{Service, Eventgroup}
 use Rattle.sd_wire.specs.declared.SdRead.{SdRead}
 use Rattle.sd_wire.specs.Values.{ReadValue, good, bad_run, SdValue, view_sd}
+use Rattle.sd_wire.specs.Faults.{fault_place}
 use Rattle.sd_wire.specs.Program.{reading}
 use Rattle.someipctl.specs.Parts.{hex4, hex2}
 use Rattle.someipctl.specs.Lines.{joined, flag_text, fault_line}
@@ -45,14 +48,14 @@ view_reading (Ok read) = Ok (view_sd read)
 view_reading (Err e) = Err e
 
 -- the same, where there is one
-abbrev pub seen : Option (Bor (Result SdRead SdError)) → List (Result SdValue SdError)
-seen (Some reading) = view_reading reading.now ∷ []
-seen None = []
+abbrev pub seen : Option (Bor (Result SdRead SdError)) → Option (Result SdValue SdError)
+seen (Some found) = Some (view_reading found.now)
+seen None = None
 
--- what a message holds for Service Discovery: one reading of its payload, or nothing
-abbrev pub discovery_in : Result MessageValue WireError → List (Result SdValue SdError)
-discovery_in (Ok m) = if is_discovery m.header then reading m.payload ∷ [] else []
-discovery_in (Err fault) = []
+-- what an item holds for Service Discovery: what its payload is read as, where it is such a message
+abbrev pub discovery_in : Result MessageValue WireError → Option (Result SdValue SdError)
+discovery_in (Ok m) = if is_discovery m.header then Some (reading m.payload) else None
+discovery_in (Err fault) = None
 
 -- a transport protocol
 abbrev pub protocol_text : ℕ → List ℕ
@@ -135,7 +138,7 @@ sd_line k v = joined (
     decimal k ∷ codes " sd reboot " ∷ flag_text v.flags.reboot ∷ codes " unicast " ∷ flag_text v.flags.unicast
     ∷ codes " entries " ∷ decimal (length v.entries) ∷ codes "\n" ∷ [])
 
--- the name of a fault of a Service Discovery message, and its place in the payload
+-- the name of a fault of a Service Discovery message
 abbrev pub sd_fault_name : SdError → List ℕ
 sd_fault_name (faults.Truncated place) = codes "Truncated"
 sd_fault_name (faults.EntriesLength place) = codes "EntriesLength"
@@ -145,21 +148,42 @@ sd_fault_name (faults.TooManyOptions place) = codes "TooManyOptions"
 sd_fault_name (faults.TrailingBytes place) = codes "TrailingBytes"
 sd_fault_name faults.OutOfMemory = codes "OutOfMemory"
 
-abbrev pub sd_fault_place : SdError → ℕ
-sd_fault_place (faults.Truncated place) = place
-sd_fault_place (faults.EntriesLength place) = place
-sd_fault_place (faults.UnknownEntryType place) = place
-sd_fault_place (faults.OptionLength place) = place
-sd_fault_place (faults.TooManyOptions place) = place
-sd_fault_place (faults.TrailingBytes place) = place
-sd_fault_place faults.OutOfMemory = 0
+-- the lines of a Service Discovery message and its entries
+abbrev pub message_lines : ℕ → SdValue → List ℕ
+message_lines k v = sd_line k v ++ flat_map (entry_line k) v.entries
 
 -- the lines of a reading of a payload that begins at this place of the k-th datagram: the message and its entries, or
 -- the fault
 abbrev pub reading_lines : ℕ → ℕ → Result SdValue SdError → List ℕ
-reading_lines k place (Ok v) = sd_line k v ++ flat_map (entry_line k) v.entries
-reading_lines k place (Err e) = fault_line k (sd_fault_name e) (place + sd_fault_place e)
+reading_lines k place (Ok v) = message_lines k v
+reading_lines k place (Err e) = fault_line k (sd_fault_name e) (place + fault_place e)
 
--- the lines behind that of a message whose payload begins at this place
-abbrev pub discovery_lines : ℕ → ℕ → List (Result SdValue SdError) → List ℕ
-discovery_lines k place readings = flat_map (reading_lines k place) readings
+-- the lines of what an item holds for Service Discovery
+abbrev pub discovery_lines : ℕ → ℕ → Option (Result SdValue SdError) → List ℕ
+discovery_lines k place None = []
+discovery_lines k place (Some read) = reading_lines k place read
+
+-- it is a fault
+abbrev pub has_sd_fault : Option (Result SdValue SdError) → Bool
+has_sd_fault None = false
+has_sd_fault (Some read) = is_err read
+
+-- what items hold for Service Discovery, in order
+abbrev pub readings_in : List (Result MessageValue WireError) → List (Result SdValue SdError)
+readings_in items = flat_map (λ item. option_to_list (discovery_in item)) items
+
+-- the same of datagrams
+abbrev pub readings_of : List (List ℕ) → List (Result SdValue SdError)
+readings_of datagrams = flat_map (λ datagram. readings_in (items_of datagram)) datagrams
+
+-- the readings that are left from the next one on
+abbrev pub left_from : ℕ → List (Result SdRead SdError) → List (Result SdValue SdError)
+left_from next readings = drop next (map view_reading readings)
+
+-- these begin with those
+abbrev pub BeginWith : List (Result SdValue SdError) → List (Result SdValue SdError) → Type 0
+BeginWith readings front = (others : List (Result SdValue SdError)) × (readings ≡ front ++ others)
+
+-- those are left behind these
+abbrev pub LeavesBehind : List (Result SdValue SdError) → List (Result SdValue SdError) → List (Result SdValue SdError) → Type 0
+LeavesBehind readings front left = (others : List (Result SdValue SdError)) → readings ≡ front ++ others → left ≡ others

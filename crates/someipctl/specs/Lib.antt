@@ -4,6 +4,7 @@ pub mod Sending
 pub mod Parts
 pub mod Lines
 pub mod Discovery
+pub mod Items
 pub mod Outcomes
 pub mod ShownText
 pub mod ShowResult

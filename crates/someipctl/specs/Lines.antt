@@ -1,5 +1,5 @@
 -- The lines of `show`, byte for byte.
-use Rattle.std.specs.Prelude.{ℕ, ◌+◌, nat_lt, Bool, true, false, ◌&&◌, if◌then◌else◌, List, [], ◌∷◌, ◌++◌, length, take, drop, codes, decimal, Result, Ok, Err}
+use Rattle.std.specs.Prelude.{ℕ, ◌+◌, nat_lt, Bool, true, false, if◌then◌else◌, List, [], ◌∷◌, length, take, drop, codes, decimal}
 use Rattle.std.specs.Int.{w32, from_be_bytes}
 use Rattle.std.specs.List.{flat_map}
 use Rattle.hex.specs.Hex.{encode_lower}
@@ -8,7 +8,7 @@ use Rattle.someip_wire.specs.declared.WireError.TheVariants.{Truncated, LengthTo
 use Rattle.someip_wire.specs.declared.MessageType.{MessageType}
 use Rattle.someip_wire.specs.declared.MessageType.TheVariants.{Request, RequestNoReturn, Notification, Response, Error, TpRequest, TpRequestNoReturn, TpNotification, TpResponse, TpError}
 use Rattle.someip_wire.specs.Kinds.{has_tp_flag}
-use Rattle.someip_wire.specs.Spelling.{MessageValue, spelling}
+use Rattle.someip_wire.specs.Spelling.{MessageValue}
 use Rattle.someip_tp.specs.Words.{offset_of, more_of}
 use Rattle.someipctl.specs.Parts.{hex4, hex2}
 
@@ -92,23 +92,3 @@ abbrev pub segment_lines : ℕ → ℕ → MessageValue → List ℕ
 segment_lines k place m =
     if has_tp_flag m.header.kind then (if has_no_word m.payload then fault_line k (codes "NoHeader") place else segment_line k m.payload)
     else []
-
--- the lines of an item that begins at this place of the k-th datagram
-abbrev pub item_lines : ℕ → ℕ → Result MessageValue WireError → List ℕ
-item_lines k place (Ok message) = message_line k message ++ segment_lines k (place + 16) message
-item_lines k place (Err fault) = fault_line k (fault_name fault) (fault_place fault)
-
--- how many bytes of its datagram an item takes: a message those of its spelling. Nothing comes behind a fault
-abbrev pub item_len : Result MessageValue WireError → ℕ
-item_len (Ok message) = length (spelling message)
-item_len (Err fault) = 0
-
--- the lines of these items of the k-th datagram in order, the first of which begins at this place
-abbrev pub lines_from : ℕ → ℕ → List (Result MessageValue WireError) → List ℕ
-lines_from k place [] = []
-lines_from k place (item ∷ items) = item_lines k place item ++ lines_from k (place + item_len item) items
-
--- a fault is shown of an item: the item is one, or it is a segment whose payload has no room for the word
-abbrev pub is_faulty : Result MessageValue WireError → Bool
-is_faulty (Ok message) = has_tp_flag message.header.kind && has_no_word message.payload
-is_faulty (Err fault) = true

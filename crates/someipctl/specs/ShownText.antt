@@ -4,7 +4,8 @@ use Rattle.std.specs.List.{list_any}
 use Rattle.someip_wire.specs.Reading.{items_of}
 use Rattle.someipctl.specs.declared.outcome.Outcome.{Outcome}
 use Rattle.someipctl.specs.Outcomes.{outcome_of}
-use Rattle.someipctl.specs.Lines.{lines_from, empty_line, is_faulty}
+use Rattle.someipctl.specs.Lines.{empty_line}
+use Rattle.someipctl.specs.Items.{lines_from, is_faulty}
 
 -- the text of the k-th datagram: the lines of its messages, and of the fault that ends it, if there is one
 abbrev pub datagram_text : ℕ → List ℕ → List ℕ

@@ -1,24 +1,85 @@
 //! The lines of Service Discovery messages.
-ghost use Rattle.std.specs.Prelude.{◌≡◌, ◌++◌, ◌≤◌, ◌+◌, ◌==◌, length, OnOk, OnErr, IfOk, map, codes};
+ghost use Rattle.std.specs.Prelude.{◌≡◌, ◌++◌, ◌≤◌, ◌+◌, OnOk, OnErr, IfOk, IfErr, is_err, map, codes};
 ghost use Rattle.std.specs.List.{flat_map};
 ghost use Rattle.sd_wire.specs.Values.{view_read, view_sd};
+ghost use Rattle.sd_wire.specs.Faults.{fault_place};
 ghost use Rattle.someipctl.specs.Sending.{Sends, Stops};
 ghost use Rattle.someipctl.specs.Parts.{part_text};
 ghost use Rattle.someipctl.specs.Discovery.{protocol_text, ipv4_text, ipv6_text, option_text, run_text, load_text, raw_text, ipv6_octets_text};
 ghost use Rattle.someipctl.specs.Discovery.{service_name, eventgroup_name, service_text, eventgroup_text};
-ghost use Rattle.someipctl.specs.Discovery.{head_text, runs_text, entry_line, sd_line};
+ghost use Rattle.someipctl.specs.Discovery.{head_text, runs_text, entry_line, sd_line, message_lines};
+ghost use Rattle.someipctl.specs.Discovery.{view_reading, reading_lines, sd_fault_name};
 
-use crate::lines::digit_of_flag;
+use crate::lines::{digit_of_flag, put_fault};
 use crate::output::{Buffer, CannotWrite};
 use crate::parts::{Part, put_parts};
 use sd_wire::{
-    EntryHead, EventgroupEntry, EventgroupKind, Ipv4Endpoint, Ipv6Endpoint, Protocol,
-    RawOption, ReadEntry, SdOption, SdRead, ServiceEntry, ServiceKind,
+    EntryHead, EventgroupEntry, EventgroupKind, Ipv4Endpoint, Ipv6Endpoint, Protocol, RawOption,
+    ReadEntry, SdError, SdOption, SdRead, ServiceEntry, ServiceKind,
 };
 use std::io::Write;
 
+/// What a payload was read as, which begins at a place of the k-th datagram: the lines of the message
+/// and its entries, or of the fault. Says whether it is a fault.
+pub fn put_reading<W: Write>(
+    buffer: &mut Buffer,
+    writer: &mut W,
+    k: usize,
+    place: usize,
+    reading: &Result<SdRead, SdError>,
+) -> Result<bool, CannotWrite>
+    requires { IfErr reading.now (λ e. place + fault_place e ≤ usize.MAX) }
+    ensures ok { OnOk result (Sends (W.contents writer.old) buffer.old
+        (W.contents writer.new) buffer.new (reading_lines k place (view_reading reading.now))) }
+    ensures faulty { IfOk result (λ faulty. faulty ≡ is_err (view_reading reading.now)) }
+    ensures err { OnErr result (Stops (W.contents writer.old) buffer.old
+        (W.contents writer.new) (reading_lines k place (view_reading reading.now))) }
+{
+    match reading {
+        Ok(read) => {
+            put_message(buffer, writer, k, read)?;
+            Ok(false)
+        }
+        Err(fault) => {
+            let (name, at) = name_and_place(fault);
+            put_fault(buffer, writer, k, name, place + at)?;
+            Ok(true)
+        }
+    }
+}
+
+fn put_message<W: Write>(
+    buffer: &mut Buffer,
+    writer: &mut W,
+    k: usize,
+    read: &SdRead,
+) -> Result<(), CannotWrite>
+    ensures ok { OnOk result (Sends (W.contents writer.old) buffer.old
+        (W.contents writer.new) buffer.new (message_lines k (view_sd read.now))) }
+    ensures err { OnErr result (Stops (W.contents writer.old) buffer.old
+        (W.contents writer.new) (message_lines k (view_sd read.now))) }
+{
+    put_sd(buffer, writer, k, read)?;
+    put_entries(buffer, writer, k, &read.entries)
+}
+
+fn name_and_place(fault: &SdError) -> (&'static str, usize)
+    ensures name { result.0.now ≡ sd_fault_name fault.now }
+    ensures place { result.1 ≡ fault_place fault.now }
+{
+    match fault {
+        SdError::Truncated(place) => ("Truncated", *place),
+        SdError::EntriesLength(place) => ("EntriesLength", *place),
+        SdError::UnknownEntryType(place) => ("UnknownEntryType", *place),
+        SdError::OptionLength(place) => ("OptionLength", *place),
+        SdError::TooManyOptions(place) => ("TooManyOptions", *place),
+        SdError::TrailingBytes(place) => ("TrailingBytes", *place),
+        SdError::OutOfMemory => ("OutOfMemory", 0),
+    }
+}
+
 /// Prints the line of a Service Discovery message of the k-th datagram.
-pub fn put_sd<W: Write>(
+fn put_sd<W: Write>(
     buffer: &mut Buffer,
     writer: &mut W,
     k: usize,
@@ -46,7 +107,7 @@ pub fn put_sd<W: Write>(
 }
 
 /// Prints the lines of entries of the k-th datagram.
-pub fn put_entries<W: Write>(
+fn put_entries<W: Write>(
     buffer: &mut Buffer,
     writer: &mut W,
     k: usize,
@@ -208,20 +269,8 @@ fn name_of_eventgroup(entry: &EventgroupEntry) -> &'static str
 {
     let ends = entry.ttl.seconds() == 0;
     match entry.kind {
-        EventgroupKind::Subscribe => {
-            if ends {
-                "stopsubscribe"
-            } else {
-                "subscribe"
-            }
-        }
-        EventgroupKind::Ack => {
-            if ends {
-                "nack"
-            } else {
-                "ack"
-            }
-        }
+        EventgroupKind::Subscribe => { if ends { "stopsubscribe" } else { "subscribe" } }
+        EventgroupKind::Ack => { if ends { "nack" } else { "ack" } }
     }
 }
 

@@ -8,7 +8,7 @@ ghost use Rattle.hex.specs.Hex.{encode_lower, IsBytes};
 ghost use Rattle.someip_wire.specs.declared.WireError.{WireError};
 ghost use Rattle.someip_wire.specs.Spelling.{MessageValue, spelling};
 ghost use Rattle.someip_wire.specs.Datagram.{Datagram, items};
-ghost use Rattle.someipctl.specs.Lines.{lines_from};
+ghost use Rattle.someipctl.specs.Items.{lines_from};
 ghost use Rattle.someipctl.specs.Capture.{bytes_of, is_bad, is_skipped};
 ghost use Rattle.someipctl.specs.CommandLine.{CallsForHelp, IsRefused, IsTaken, is_flag, line};
 ghost use Rattle.someipctl.specs.CommandLine.{requested, show_request};

@@ -1,15 +1,20 @@
 //! The lines that `show` prints.
-ghost use Rattle.std.specs.Prelude.{◌≡◌, ◌≤◌, ◌+◌, ◌&&◌, OnOk, OnErr, IfOk};
+ghost use Rattle.std.specs.Prelude.{◌≡◌, ◌≤◌, ◌+◌, ◌&&◌, ◌||◌, ◌++◌, OnOk, OnErr, IfOk, IfErr, IfSome};
 ghost use Rattle.someip_wire.specs.Kinds.{has_tp_flag};
 ghost use Rattle.someip_wire.specs.View.{view, view_item};
 ghost use Rattle.someipctl.specs.Sending.{Sends, Stops};
 ghost use Rattle.someipctl.specs.Parts.{part_text};
 ghost use Rattle.someipctl.specs.Lines.{type_name, payload_text, fault_name, fault_place};
 ghost use Rattle.someipctl.specs.Lines.{message_line, fault_line, empty_line, flag_text};
-ghost use Rattle.someipctl.specs.Lines.{segment_lines, has_no_word, item_lines, item_len, is_faulty};
+ghost use Rattle.someipctl.specs.Lines.{segment_lines, has_no_word};
+ghost use Rattle.sd_wire.specs.Faults.{fault_place as sd_place};
+ghost use Rattle.someipctl.specs.Discovery.{seen, discovery_in, discovery_lines, has_sd_fault};
+ghost use Rattle.someipctl.specs.Items.{item_lines, item_len, is_faulty};
 
+use crate::discovery::put_reading;
 use crate::output::{Buffer, CannotWrite};
 use crate::parts::{Part, put_parts};
+use sd_wire::{SdError, SdRead};
 use someip_tp::read_segment;
 use someip_wire::{Message, MessageType, WireError, written_len};
 use std::io::Write;
@@ -26,8 +31,10 @@ pub fn put_item<W: Write>(
     k: usize,
     place: usize,
     item: &Result<Message<'_>, WireError>,
+    found: Option<&Result<SdRead, SdError>>,
 ) -> Result<bool, CannotWrite>
-    requires { place + 16 ≤ usize.MAX }
+    requires found { seen found ≡ discovery_in (view_item item.now) }
+    requires room { place + item_len (view_item item.now) ≤ usize.MAX }
     ensures ok { OnOk result (Sends (W.contents writer.old) buffer.old
         (W.contents writer.new) buffer.new (item_lines k place (view_item item.now))) }
     ensures faulty { IfOk result (λ faulty. faulty ≡ is_faulty (view_item item.now)) }
@@ -37,13 +44,59 @@ pub fn put_item<W: Write>(
     match item {
         Ok(message) => {
             put_message(buffer, writer, k, message)?;
-            put_segment(buffer, writer, k, place + HEADER_LEN, message)
+            put_behind(buffer, writer, k, place + HEADER_LEN, message, found)
         }
         Err(fault) => {
             let (name, place) = name_and_place(*fault);
             put_fault(buffer, writer, k, name, place)?;
             Ok(true)
         }
+    }
+}
+
+/// Prints what stands behind the line of a message whose payload begins at a place of the k-th
+/// datagram. Says whether a fault is in it.
+fn put_behind<W: Write>(
+    buffer: &mut Buffer,
+    writer: &mut W,
+    k: usize,
+    place: usize,
+    message: &Message<'_>,
+    found: Option<&Result<SdRead, SdError>>,
+) -> Result<bool, CannotWrite>
+    requires { IfSome (seen found) (λ r. IfErr r (λ e. place + sd_place e ≤ usize.MAX)) }
+    ensures ok { OnOk result (Sends (W.contents writer.old) buffer.old
+        (W.contents writer.new) buffer.new (segment_lines k place (view message.now)
+        ++ discovery_lines k place (seen found.entry))) }
+    ensures faulty { IfOk result (λ faulty. faulty
+        ≡ ((has_tp_flag message.now.header.kind && has_no_word message.now.payload.now)
+        || has_sd_fault (seen found.entry))) }
+    ensures err { OnErr result (Stops (W.contents writer.old) buffer.old
+        (W.contents writer.new) (segment_lines k place (view message.now)
+        ++ discovery_lines k place (seen found.entry))) }
+{
+    let no_word = put_segment(buffer, writer, k, place, message)?;
+    let faulty = put_discovery(buffer, writer, k, place, found)?;
+    Ok(no_word | faulty)
+}
+
+fn put_discovery<W: Write>(
+    buffer: &mut Buffer,
+    writer: &mut W,
+    k: usize,
+    place: usize,
+    found: Option<&Result<SdRead, SdError>>,
+) -> Result<bool, CannotWrite>
+    requires { IfSome (seen found) (λ r. IfErr r (λ e. place + sd_place e ≤ usize.MAX)) }
+    ensures ok { OnOk result (Sends (W.contents writer.old) buffer.old
+        (W.contents writer.new) buffer.new (discovery_lines k place (seen found.entry))) }
+    ensures faulty { IfOk result (λ faulty. faulty ≡ has_sd_fault (seen found.entry)) }
+    ensures err { OnErr result (Stops (W.contents writer.old) buffer.old
+        (W.contents writer.new) (discovery_lines k place (seen found.entry))) }
+{
+    match found {
+        Some(reading) => put_reading(buffer, writer, k, place, reading),
+        None => Ok(false),
     }
 }
 
@@ -149,7 +202,7 @@ fn put_segment<W: Write>(
 }
 
 /// Prints the line of a fault: its name, and its place in the k-th datagram.
-fn put_fault<W: Write>(
+pub fn put_fault<W: Write>(
     buffer: &mut Buffer,
     writer: &mut W,
     k: usize,

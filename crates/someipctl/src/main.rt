@@ -23,6 +23,7 @@ mod outcome;
 mod output;
 mod parts;
 mod payload;
+mod readings;
 mod show;
 
 use command::{Command, command_of};

@@ -4,7 +4,8 @@ ghost use Rattle.std.specs.Io.KnownBytes.{Appends};
 ghost use Rattle.someip_wire.specs.Reading.{items_of};
 ghost use Rattle.someipctl.specs.declared.show.ShowError.TheVariants.{CannotWrite, OutOfMemory};
 ghost use Rattle.someipctl.specs.Sending.{Sends, Stops};
-ghost use Rattle.someipctl.specs.Lines.{lines_from};
+ghost use Rattle.someipctl.specs.Items.{lines_from};
+ghost use Rattle.someipctl.specs.Discovery.{readings_in, readings_of, left_from, BeginWith, LeavesBehind};
 ghost use Rattle.someipctl.specs.ShownText.{datagram_text, shown_text, shown_outcome, has_fault};
 ghost use Rattle.someipctl.specs.ShowResult.{Shows, RefusesShow};
 ghost use Rattle.someipctl.specs.ShowResult.{error_of_capture, error_of_input};
@@ -14,6 +15,8 @@ use crate::input::{ReadFault, read_all};
 use crate::lines::{item_len, put_empty, put_item};
 use crate::outcome::Outcome;
 use crate::output::{self, Buffer};
+use crate::readings::{read_ahead, reading_of};
+use sd_wire::{SdError, SdRead};
 use someip_wire::Messages;
 use std::alloc::{AllocError, Global};
 use std::io::{Read, Write};
@@ -69,8 +72,9 @@ pub fn show_capture<W: Write>(
     ensures there { result ≢ Err ShowError.CannotRead }
 {
     let datagrams = read_capture(alloc, text)?;
+    let readings = read_ahead(alloc, &datagrams)?;
     let mut buffer = Buffer::new(alloc)?;
-    let outcome = write_datagrams(&mut buffer, writer, &datagrams)?;
+    let outcome = write_datagrams(&mut buffer, writer, &datagrams, &readings)?;
     Ok(outcome)
 }
 
@@ -79,8 +83,10 @@ fn write_datagrams<W: Write>(
     buffer: &mut Buffer,
     writer: &mut W,
     datagrams: &[Vec<u8>],
+    readings: &[Result<SdRead, SdError>],
 ) -> Result<Outcome, output::CannotWrite>
-    requires { buffer.old ≡ [] }
+    requires empty { buffer.old ≡ [] }
+    requires read { left_from 0 readings.now ≡ readings_of (map (λ d. d.items) datagrams.now) }
     ensures ok { OnOk result (Appends (W.contents writer.old)
         (W.contents writer.new) (shown_text (map (λ d. d.items) datagrams.now))) }
     ensures outcome { IfOk result (λ outcome.
@@ -88,7 +94,7 @@ fn write_datagrams<W: Write>(
     ensures err { OnErr result (Stops (W.contents writer.old) []
         (W.contents writer.new) (shown_text (map (λ d. d.items) datagrams.now))) }
 {
-    let outcome = put_datagrams(buffer, writer, datagrams)?;
+    let outcome = put_datagrams(buffer, writer, datagrams, readings)?;
     buffer.flush(writer)?;
     Ok(outcome)
 }
@@ -98,7 +104,9 @@ fn put_datagrams<W: Write>(
     buffer: &mut Buffer,
     writer: &mut W,
     datagrams: &[Vec<u8>],
+    readings: &[Result<SdRead, SdError>],
 ) -> Result<Outcome, output::CannotWrite>
+    requires { left_from 0 readings.now ≡ readings_of (map (λ d. d.items) datagrams.now) }
     ensures ok { OnOk result (Sends (W.contents writer.old) buffer.old
         (W.contents writer.new) buffer.new (shown_text (map (λ d. d.items) datagrams.now))) }
     ensures outcome { IfOk result (λ outcome.
@@ -107,31 +115,39 @@ fn put_datagrams<W: Write>(
         (W.contents writer.new) (shown_text (map (λ d. d.items) datagrams.now))) }
 {
     let mut fault_shown = false;
+    let mut next = 0;
     for (i, datagram) in datagrams.iter().enumerate() {
-        let faulty = put_datagram(buffer, writer, i + 1, datagram)?;
+        let (faulty, left) = put_datagram(buffer, writer, i + 1, datagram, readings, next)?;
         fault_shown |= faulty;
+        next = left;
     }
     Ok(Outcome::of(fault_shown))
 }
 
-/// Prints the text of the k-th datagram, and says whether a fault is in it.
+/// Prints the text of the k-th datagram. Says whether a fault is in it, and the number of the first
+/// reading behind its own.
 fn put_datagram<W: Write>(
     buffer: &mut Buffer,
     writer: &mut W,
     k: usize,
     datagram: &[u8],
-) -> Result<bool, output::CannotWrite>
+    readings: &[Result<SdRead, SdError>],
+    next: usize,
+) -> Result<(bool, usize), output::CannotWrite>
+    requires { BeginWith (left_from next readings.now) (readings_in (items_of datagram.now)) }
     ensures ok { OnOk result (Sends (W.contents writer.old) buffer.old
         (W.contents writer.new) buffer.new (datagram_text k datagram.now)) }
-    ensures faulty { IfOk result (λ faulty. faulty ≡ has_fault datagram.now) }
+    ensures faulty { IfOk result (λ r. r.0 ≡ has_fault datagram.now) }
+    ensures next { IfOk result (λ r. LeavesBehind (left_from next readings.now)
+        (readings_in (items_of datagram.now)) (left_from r.1 readings.now)) }
     ensures err { OnErr result (Stops (W.contents writer.old) buffer.old
         (W.contents writer.new) (datagram_text k datagram.now)) }
 {
     if datagram.is_empty() {
         put_empty(buffer, writer, k)?;
-        return Ok(false);
+        return Ok((false, next));
     }
-    put_items(buffer, writer, k, datagram)
+    put_items(buffer, writer, k, datagram, readings, next)
 }
 
 /// Prints the lines of the items of the k-th datagram, and says whether a fault is among them.
@@ -140,21 +156,29 @@ fn put_items<W: Write>(
     writer: &mut W,
     k: usize,
     datagram: &[u8],
-) -> Result<bool, output::CannotWrite>
+    readings: &[Result<SdRead, SdError>],
+    next: usize,
+) -> Result<(bool, usize), output::CannotWrite>
+    requires { BeginWith (left_from next readings.now) (readings_in (items_of datagram.now)) }
     ensures ok { OnOk result (Sends (W.contents writer.old) buffer.old
         (W.contents writer.new) buffer.new (lines_from k 0 (items_of datagram.now))) }
-    ensures faulty { IfOk result (λ faulty. faulty ≡ has_fault datagram.now) }
+    ensures faulty { IfOk result (λ r. r.0 ≡ has_fault datagram.now) }
+    ensures next { IfOk result (λ r. LeavesBehind (left_from next readings.now)
+        (readings_in (items_of datagram.now)) (left_from r.1 readings.now)) }
     ensures err { OnErr result (Stops (W.contents writer.old) buffer.old
         (W.contents writer.new) (lines_from k 0 (items_of datagram.now))) }
 {
     let mut faulty = false;
     let mut place = 0;
+    let mut next = next;
     for item in Messages::new(datagram) {
-        let fault_shown = put_item(buffer, writer, k, place, &item)?;
+        let (found, left) = reading_of(&item, readings, next);
+        let fault_shown = put_item(buffer, writer, k, place, &item, found)?;
         faulty |= fault_shown;
         place += item_len(&item);
+        next = left;
     }
-    Ok(faulty)
+    Ok((faulty, next))
 }
 
 impl From<CaptureError> for ShowError {

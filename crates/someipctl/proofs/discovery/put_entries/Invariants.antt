@@ -1,4 +1,4 @@
-use Rattle.std.proofs.Common.{drop, map, codes, ◌++◌}
+use Rattle.std.proofs.Common.{drop, map}
 use Rattle.std.specs.List.{flat_map}
 use Rattle.sd_wire.specs.Values.{view_read}
 use Rattle.someipctl.specs.Discovery.{entry_line}

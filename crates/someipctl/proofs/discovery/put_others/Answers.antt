@@ -1,4 +1,4 @@
-use Rattle.std.proofs.Common.{ap, map}
+use Rattle.std.proofs.Common.{ap}
 use Rattle.someipctl.proofs.DiscoveryLemmas.{next_left}
 use Rattle.std.specs.List.{flat_map}
 use Rattle.std.proofs.Common.{codes, ◌++◌}

@@ -1,4 +1,4 @@
-use Rattle.std.proofs.Common.{drop, map, codes, ◌++◌}
+use Rattle.std.proofs.Common.{drop, codes, ◌++◌}
 use Rattle.std.specs.List.{flat_map}
 use Rattle.someipctl.specs.Discovery.{option_text}
 use Rattle.someipctl.proofs.SendingLemmas.{IsSending}

@@ -1,6 +1,7 @@
 use Rattle.std.proofs.Common.{sym, rules}
 use Rattle.someipctl.proofs.SendingLemmas.{OnErr-any}
 use Rattle.someipctl.proofs.ShownTextLemmas.{datagram_text-empty, datagram_text-some, has_fault-empty}
+use Rattle.someipctl.proofs.ReadingsLemmas.{none_in_empty}
 use Rattle.someipctl.proofs.show.put_datagram.Goals as goal
 
 pub returns-in_err-put_empty-clause-err : goal.returns-in_err-put_empty-clause-err
@@ -17,3 +18,6 @@ returns-clause-ok g c = rw (datagram_text-some c.args.k c.args.datagram.now (sea
 
 pub returns-clause-err : goal.returns-clause-err
 returns-clause-err g c = rw (datagram_text-some c.args.k c.args.datagram.now (search rules)) c.put_items.ensures.err
+
+pub returns-then-is_empty-clause-next : goal.returns-then-is_empty-clause-next
+returns-then-is_empty-clause-next g c others = none_in_empty c.args.datagram.now _ others (search rules)

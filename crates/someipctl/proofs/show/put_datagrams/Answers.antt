@@ -1,4 +1,5 @@
-use Rattle.std.proofs.Common.{◌+◌, ap, rules}
+use Rattle.std.proofs.Common.{◌+◌, ap, ◌∙◌, drop, map, rules}
+use Rattle.someipctl.specs.Discovery.{readings_of}
 use Rattle.someipctl.specs.ShownText.{text_from, has_fault}
 use Rattle.someipctl.proofs.SendingLemmas.{OnErr-any, IsSending-more, IsSending-stop}
 use Rattle.someipctl.proofs.ShownTextLemmas.{next_datagram, any_more}
@@ -14,4 +15,10 @@ loop-i-preserved g c =
     let next = next_datagram c.args.datagrams.now c.loop-i.i c.index-datagrams-i.result c.deref.result.now c.loop-i-test.true (search rules) in (
       IsSending-more _ _ _ _ _ _ _ _ _ _ c.loop-i.invariant.0 (ap (text_from (c.loop-i.i + 1)) next) c.in_ok-faulty.ensures.ok,
       rw c.in_ok-faulty.ensures.faulty (any_more has_fault c.loop-i.fault_shown _ _ c.deref.result.now _ next c.loop-i.invariant.1),
+      c.in_ok-faulty.ensures.next (readings_of (drop (c.loop-i.i + 1) (map (λ d. d.items) c.args.datagrams.now))) (c.loop-i.invariant.2 ∙ ap readings_of next),
     )
+
+pub put_datagram-requires : goal.put_datagram-requires
+put_datagram-requires g c =
+    let next = next_datagram c.args.datagrams.now c.loop-i.i c.index-datagrams-i.result c.deref.result.now c.loop-i-test.true (search rules) in
+    (readings_of (drop (c.loop-i.i + 1) (map (λ d. d.items) c.args.datagrams.now)), c.loop-i.invariant.2 ∙ ap readings_of next)

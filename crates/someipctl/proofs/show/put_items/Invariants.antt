@@ -1,6 +1,9 @@
-use Rattle.std.proofs.Common.{◌≡◌, ◌≤◌, ◌+◌, ◌||◌, length}
+use Rattle.std.proofs.Common.{◌≡◌, ◌≤◌, ◌+◌, ◌||◌, ◌++◌, List, Result, length}
+use Rattle.sd_wire.specs.declared.SdError.{SdError}
+use Rattle.sd_wire.specs.Values.{SdValue}
+use Rattle.someipctl.specs.Discovery.{left_from, readings_in}
 use Rattle.std.specs.List.{list_any}
-use Rattle.someipctl.specs.Lines.{lines_from, is_faulty}
+use Rattle.someipctl.specs.Items.{lines_from, is_faulty}
 use Rattle.someipctl.proofs.SendingLemmas.{IsSending}
 use Rattle.someipctl.proofs.ShownTextLemmas.{items_len}
 use Rattle.someipctl.proofs.show.put_items.Given as goal
@@ -10,3 +13,4 @@ invariant-loop-item g l =
     IsSending (g.W.Write.contents l.initial.writer) l.initial.buffer (g.W.Write.contents l.writer) l.buffer (lines_from l.k l.place l.item-iterator) (lines_from l.k 0 l.initial.item-iterator)
     × ((l.faulty || list_any is_faulty l.item-iterator) ≡ list_any is_faulty l.initial.item-iterator)
     × (l.place + items_len l.item-iterator ≤ length l.fn.datagram)
+    × ((others : List (Result SdValue SdError)) × (left_from l.next l.readings ≡ readings_in l.item-iterator ++ others) × (left_from l.fn.next l.readings ≡ readings_in l.initial.item-iterator ++ others))
