@@ -9,3 +9,4 @@ pub mod Faults
 pub mod Writing
 pub mod Written
 pub mod Splitting
+pub mod Examples

@@ -55,6 +55,10 @@ Packs pool (e ∷ entries) text after =
 abbrev pub pool_bytes : List SdOption → List ℕ
 pool_bytes pool = flat_map (option_bytes 0 0) pool
 
+-- the numbers of an entry and of its options fit their fields
+abbrev pub EntryFits : EntryValue → Type 0
+EntryFits e = HeadFits e.head × AllByRecursion OptionFits e.first × AllByRecursion OptionFits e.second
+
 -- the one text of a message: reserved bits are 0, and the pool begins empty
 pub record WritesSd (m : MessageValue) (text : List ℕ) : Type 0 where
   pub entries : List ℕ

@@ -16,6 +16,7 @@ mod entry_writing;
 mod error;
 mod fields;
 mod flags;
+pub mod laws;
 mod message;
 mod option;
 mod option_reading;

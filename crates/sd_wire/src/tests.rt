@@ -4,7 +4,7 @@ ghost use Rattle.std.specs.Prelude.{◌+◌, ◌<◌, ◌^◌};
 use crate::{
     Counter, Entry, EntryHead, EventgroupEntry, EventgroupKind, Ipv4Endpoint, Ipv6Endpoint,
     Protocol, RawOption, ReadEntry, SdError, SdFlags, SdMessage, SdOption, SdRead, ServiceEntry,
-    ServiceKind, Ttl, read_sd, split_entries, write_sd,
+    ServiceKind, Ttl, laws, read_sd, split_entries, write_sd,
 };
 use bitflags::Flags;
 use std::alloc::{AllocError, Global};
@@ -113,6 +113,14 @@ fn none<T: Drop>(alloc: Global) -> Vec<T> {
 fn read_one(alloc: Global, flags: SdFlags, entry: ReadEntry) -> Result<SdRead, AllocError> {
     let entries = one(alloc, entry)?;
     Ok(SdRead { flags, entries })
+}
+
+#[test]
+fn laws_hold() {
+    laws::bytes_hold_one_message_or_a_fault();
+    laws::a_message_has_one_text();
+    laws::what_is_written_is_read();
+    laws::worked_messages();
 }
 
 #[test]
