@@ -1,6 +1,5 @@
 -- An entry at the front of bytes is spelled by them, and one that is spelled is read, whatever follows it.
-use Rattle.std.proofs.Common.{◌≡◌, ℕ, zero, suc, ◌+◌, ◌-◌, ◌*◌, ◌/◌, ◌%◌, ◌^◌, ◌<◌, ◌≤◌, Bool, true, false, cond, eqb, List, [], ◌∷◌, ◌++◌, length, get_or, take, drop, refl, sym, ap, subst, ◌∙◌, arith}
-use Rattle.std.specs.Prelude.{◌||◌}
+use Rattle.std.proofs.Common.{◌≡◌, ℕ, ◌+◌, ◌*◌, ◌/◌, ◌%◌, ◌^◌, ◌<◌, ◌≤◌, Bool, true, false, cond, eqb, List, ◌++◌, length, get_or, drop, refl, sym, ap, subst, ◌∙◌, arith}
 use Rattle.std.proofs.lemmas.Bool.{eqb-true, eq-eqb, ne_eqb}
 use Rattle.std.proofs.lemmas.Nat.{from_be_bytes-to_be_bytes_2, from_be_bytes-to_be_bytes_4}
 use Rattle.sd_wire.specs.declared.entry.ServiceKind.{ServiceKind}
@@ -11,7 +10,7 @@ use Rattle.sd_wire.specs.declared.entry.ServiceEntry.{ServiceEntry}
 use Rattle.sd_wire.specs.declared.entry.EventgroupEntry.{EventgroupEntry}
 use Rattle.sd_wire.specs.declared.entry.EntryHead.{EntryHead}
 use Rattle.sd_wire.specs.declared.entry.EntryHead.TheVariants.{Service, Eventgroup}
-use Rattle.sd_wire.specs.Fields.{IsBytes, number16, number24, number32, field16, field24, field32}
+use Rattle.sd_wire.specs.Fields.{IsBytes, field16, field24, field32}
 use Rattle.sd_wire.specs.Spelling.{Runs, RunsFit, service_type, eventgroup_type, common_bytes, entry_bytes, ServiceFits, EventgroupFits, HeadFits}
 use Rattle.sd_wire.specs.Reading.{SpellsHead}
 use Rattle.sd_wire.specs.Program.{is_entry_type, runs_in, service_in, eventgroup_in, head_in}

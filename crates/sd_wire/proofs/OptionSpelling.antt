@@ -1,22 +1,19 @@
 -- An option at the front of bytes is spelled by them, and one that is spelled is read, whatever follows it.
-use Rattle.std.proofs.Common.{◌≡◌, ℕ, zero, suc, ◌+◌, ◌-◌, ◌*◌, ◌^◌, ◌<◌, ◌≤◌, Bool, true, false, cond, eqb, ltb, List, [], ◌∷◌, ◌++◌, length, get_or, take, drop, Option, Some, None, refl, sym, ap, subst, ◌∙◌, append_assoc, arith}
+use Rattle.std.proofs.Common.{◌≡◌, ℕ, ◌+◌, ◌-◌, ◌≤◌, Bool, true, false, cond, eqb, List, ◌∷◌, ◌++◌, length, get_or, drop, refl, sym, ap, subst, ◌∙◌, append_assoc, arith}
 use Rattle.std.specs.Prelude.{slice_range}
-use Rattle.std.specs.Net.Addr.{segments_of, octets_of, ipv4_octets, ipv6_octets, ipv6_segments}
-use Rattle.std.specs.Net.Socket.{v4_ip, v4_port}
-use Rattle.std.proofs.lemmas.Bool.{eqb-true, ne_eqb, eq-eqb, le-ltb}
-use Rattle.std.proofs.lemmas.List.{take_at, drop_at, get_or-append_right, length-append, length-drop}
+use Rattle.std.specs.Net.Addr.{segments_of, octets_of}
+use Rattle.std.specs.Net.Socket.{v4_port}
+use Rattle.std.proofs.lemmas.Bool.{eqb-true, ne_eqb, eq-eqb}
 use Rattle.std.proofs.lemmas.List.Folds.{drop_split}
-use Rattle.std.proofs.lemmas.Nat.{from_be_bytes-to_be_bytes_2}
 use Rattle.sd_wire.specs.declared.endpoint.Ipv4Endpoint.{Ipv4Endpoint}
 use Rattle.sd_wire.specs.declared.endpoint.Ipv6Endpoint.{Ipv6Endpoint}
 use Rattle.sd_wire.specs.declared.option.SdOption.{SdOption}
 use Rattle.sd_wire.specs.declared.option.SdOption.TheVariants.{LoadBalancing, Endpoint4, Multicast4, SdEndpoint4, Endpoint6, Multicast6, SdEndpoint6, Raw}
-use Rattle.sd_wire.specs.Raw.{RawValue, IsRaw, is_known}
+use Rattle.sd_wire.specs.Raw.{is_known}
 use Rattle.sd_wire.specs.Fields.{IsBytes, number16, field16}
-use Rattle.sd_wire.specs.Spelling.{ipv4_bytes, ipv6_bytes, option_bytes, Ipv4Fits, Ipv6Fits, RawFits, OptionFits}
-use Rattle.sd_wire.specs.Reading.{SpellsOption}
-use Rattle.sd_wire.specs.Program.{option_len, has_len, option_size, HasOption, ipv4_in, ipv6_in, option_by, option_in}
-use Rattle.sd_wire.proofs.FieldLemmas.{IsBytes-range, length-range, spells1, spells2, field16_fits, segments_of-octets_of, length-octets_of, AreSegments, are_segments}
+use Rattle.sd_wire.specs.Spelling.{ipv4_bytes, ipv6_bytes, option_bytes, Ipv4Fits, Ipv6Fits, OptionFits}
+use Rattle.sd_wire.specs.Program.{option_len, has_len, HasOption, ipv4_in, ipv6_in, option_in}
+use Rattle.sd_wire.proofs.FieldLemmas.{IsBytes-range, length-range, spells1, spells2, field16_fits, are_segments}
 
 -- the option stands in front of the bytes, and has n of them
 pub record IsFront (n : ℕ) (bytes : List ℕ) (o : SdOption) : Type 0 where

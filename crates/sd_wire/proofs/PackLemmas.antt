@@ -1,8 +1,7 @@
 -- Entries whose runs are placed in a pool, one after the other.
-use Rattle.std.proofs.Common.{◌≡◌, ℕ, zero, suc, ◌+◌, ◌-◌, ◌*◌, ◌^◌, ◌<◌, ◌≤◌, Bool, true, false, List, [], ◌∷◌, ◌++◌, length, map, get_or, take, drop, refl, sym, ap, subst, ◌∙◌, append_assoc, arith, inl, inr}
-use Rattle.std.specs.Prelude.{◌⊎◌, nat_lt}
-use Rattle.std.specs.List.{AllByRecursion, flat_map}
-use Rattle.std.proofs.lemmas.List.{append-nil, length-append, length-take, length-drop, nil_from_length}
+use Rattle.std.proofs.Common.{◌≡◌, ℕ, zero, suc, ◌+◌, ◌*◌, ◌<◌, ◌≤◌, List, [], ◌∷◌, ◌++◌, length, map, get_or, take, drop, refl, sym, ap, subst, ◌∙◌, append_assoc, arith, inl, inr}
+use Rattle.std.specs.List.{AllByRecursion}
+use Rattle.std.proofs.lemmas.List.{append-nil, length-append, length-take}
 use Rattle.sd_wire.specs.declared.endpoint.Ipv4Endpoint.{Ipv4Endpoint}
 use Rattle.sd_wire.specs.declared.endpoint.Ipv6Endpoint.{Ipv6Endpoint}
 use Rattle.sd_wire.specs.declared.option.SdOption.{SdOption}
@@ -13,8 +12,8 @@ use Rattle.sd_wire.specs.declared.error.SdError.TheVariants as errors
 use Rattle.sd_wire.specs.declared.entry.Entry.{Entry}
 use Rattle.sd_wire.specs.Fields.{number16}
 use Rattle.sd_wire.specs.Values.{EntryValue, view_entry}
-use Rattle.sd_wire.specs.Spelling.{ipv4_bytes, ipv6_bytes, option_bytes, Ipv4Fits, Ipv6Fits, OptionFits, Runs, RunsFit, entry_bytes, HeadFits}
-use Rattle.sd_wire.specs.Writing.{HoldsAt, Stands, PlacesEntry, IsRefused, Packs, pool_bytes, TooMany}
+use Rattle.sd_wire.specs.Spelling.{ipv4_bytes, ipv6_bytes, option_bytes, Ipv4Fits, Ipv6Fits, OptionFits, Runs, entry_bytes, HeadFits}
+use Rattle.sd_wire.specs.Writing.{Stands, PlacesEntry, Packs, pool_bytes}
 use Rattle.sd_wire.specs.Written.{IsPlaceError, IsPackError}
 use Rattle.sd_wire.proofs.FieldLemmas.{length-octets_of}
 

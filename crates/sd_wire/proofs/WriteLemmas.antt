@@ -1,16 +1,16 @@
 -- What is written is read as the message, and a message has one text or one entry that is refused.
-use Rattle.std.proofs.Common.{◌≡◌, ℕ, zero, suc, ◌+◌, ◌-◌, ◌*◌, ◌^◌, ◌<◌, ◌≤◌, Bool, true, false, List, [], ◌∷◌, ◌++◌, length, map, get_or, take, drop, refl, sym, ap, subst, ◌∙◌, append_assoc, arith, inl, inr}
-use Rattle.std.specs.Prelude.{◌⊎◌, nat_lt, ◌||◌, ◌&&◌}
-use Rattle.std.specs.List.{AllByRecursion, flat_map}
-use Rattle.std.proofs.lemmas.Bool.{le-ltb, lt-ltb, cases_lt}
+use Rattle.std.proofs.Common.{◌≡◌, ℕ, ◌+◌, ◌<◌, ◌≤◌, Bool, true, false, List, [], ◌∷◌, ◌++◌, length, map, take, drop, refl, sym, ap, subst, ◌∙◌, append_assoc, arith, inl, inr}
+use Rattle.std.specs.Prelude.{nat_lt, ◌&&◌}
+use Rattle.std.specs.List.{AllByRecursion}
+use Rattle.std.proofs.lemmas.Bool.{le-ltb, cases_lt}
 use Rattle.std.proofs.lemmas.List.{append-nil, length-append, length-take, length-drop, nil_from_length, take_at, take-append-le, drop-append-le, drop_at}
 use Rattle.sd_wire.specs.declared.flags.SdFlags.{SdFlags}
 use Rattle.sd_wire.specs.declared.option.SdOption.{SdOption}
 use Rattle.sd_wire.specs.Fields.{flags_byte, flags_in}
-use Rattle.sd_wire.specs.Values.{EntryValue, ReadValue, good, SdValue, MessageValue}
-use Rattle.sd_wire.specs.Spelling.{option_bytes, OptionFits, Runs, RunsFit, entry_bytes, HeadFits}
-use Rattle.sd_wire.specs.Reading.{Spelled, SpellsOption, SpellsHead, passes, has_bad_run, selected, SpellsEntry, Sd}
-use Rattle.sd_wire.specs.Writing.{HoldsAt, IsLeast, IsNowhere, Stands, PlacesEntry, IsRefused, Packs, pool_bytes, EntryFits, WritesSd, TooMany, as_read}
+use Rattle.sd_wire.specs.Values.{EntryValue, good, MessageValue}
+use Rattle.sd_wire.specs.Spelling.{option_bytes, OptionFits, Runs, entry_bytes, HeadFits}
+use Rattle.sd_wire.specs.Reading.{Spelled, SpellsOption, passes, has_bad_run, selected, SpellsEntry, Sd}
+use Rattle.sd_wire.specs.Writing.{HoldsAt, IsLeast, Stands, PlacesEntry, IsRefused, Packs, pool_bytes, EntryFits, WritesSd, TooMany, as_read}
 use Rattle.sd_wire.proofs.PackLemmas.{stands-more}
 
 abbrev Pool : Type 0

@@ -1,5 +1,5 @@
 -- The plain program: what is read of bytes, or the first of the six faults.
-use Rattle.std.specs.Prelude.{ℕ, zero, suc, ◌+◌, ◌*◌, ◌%◌, ◌/◌, ◌≡◌, ◌≤◌, Bool, true, false, nat_lt, ◌==◌, ◌||◌, ◌&&◌, not, if◌then◌else◌, List, [], ◌∷◌, ◌++◌, length, take, drop, slice_index, slice_range, Option, Some, None, Result, Ok, Err}
+use Rattle.std.specs.Prelude.{ℕ, zero, suc, ◌+◌, ◌%◌, ◌/◌, ◌≡◌, ◌≤◌, Bool, true, nat_lt, ◌==◌, ◌||◌, not, if◌then◌else◌, List, [], ◌∷◌, ◌++◌, length, drop, slice_index, slice_range, Option, Some, None, Result, Ok, Err}
 use Rattle.std.specs.Net.Addr.{segments_of}
 use Rattle.sd_wire.specs.declared.error.SdError.{SdError}
 use Rattle.sd_wire.specs.declared.error.SdError.TheVariants.{Truncated, EntriesLength, UnknownEntryType, OptionLength, TrailingBytes}
@@ -17,7 +17,7 @@ use Rattle.sd_wire.specs.declared.entry.EntryHead.{EntryHead}
 use Rattle.sd_wire.specs.declared.entry.EntryHead.TheVariants.{Service, Eventgroup}
 use Rattle.sd_wire.specs.Raw.{is_ipv4, is_ipv6}
 use Rattle.sd_wire.specs.Fields.{field16, field24, field32, flags_in}
-use Rattle.sd_wire.specs.Values.{EntryValue, ReadValue, good, bad_run, SdValue}
+use Rattle.sd_wire.specs.Values.{ReadValue, good, bad_run, SdValue}
 use Rattle.sd_wire.specs.Spelling.{Runs}
 use Rattle.sd_wire.specs.Reading.{has_bad_run, selected}
 

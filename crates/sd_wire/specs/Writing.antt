@@ -1,11 +1,11 @@
 -- The one text of a message (SOME/IP Service Discovery, "Entries": how options are referenced; the order is our own).
-use Rattle.std.specs.Prelude.{◌≡◌, ◌⊎◌, ℕ, ◌+◌, ◌<◌, ◌≤◌, ◌^◌, List, [], ◌∷◌, ◌++◌, length, map, true, false}
+use Rattle.std.specs.Prelude.{◌≡◌, ◌⊎◌, ℕ, ◌<◌, ◌^◌, List, [], ◌∷◌, ◌++◌, length, map}
 use Rattle.std.specs.List.{flat_map, AllByRecursion}
 use Rattle.sd_wire.specs.declared.error.SdError.{SdError}
 use Rattle.sd_wire.specs.declared.error.SdError.TheVariants as errors
 use Rattle.sd_wire.specs.declared.option.SdOption.{SdOption}
 use Rattle.sd_wire.specs.Fields.{flags_byte}
-use Rattle.sd_wire.specs.Values.{EntryValue, ReadValue, good, SdValue, MessageValue}
+use Rattle.sd_wire.specs.Values.{EntryValue, good, SdValue, MessageValue}
 use Rattle.sd_wire.specs.Spelling.{option_bytes, OptionFits, Runs, RunsFit, entry_bytes, HeadFits, sd_bytes}
 use Rattle.sd_wire.specs.Reading.{selected}
 

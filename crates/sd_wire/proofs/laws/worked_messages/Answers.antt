@@ -1,12 +1,11 @@
-use Rattle.std.proofs.Common.{◌≡◌, ℕ, List, [], ◌∷◌, length, take, drop, refl, sym, ap, ◌∙◌, arith, inl, inr}
+use Rattle.std.proofs.Common.{◌≡◌, List, [], ◌∷◌, length, take, drop, refl, sym, ap, ◌∙◌, arith, inl, inr}
 use Rattle.std.specs.Prelude.{Ok}
 use Rattle.std.proofs.lemmas.List.{length-take, length-drop}
 use Rattle.sd_wire.specs.declared.option.SdOption.{SdOption}
-use Rattle.sd_wire.specs.Spelling.{Runs, RunsFit}
-use Rattle.sd_wire.specs.Values.{EntryValue}
-use Rattle.sd_wire.specs.Writing.{IsNowhere, PlacesEntry, WritesSd, Packs}
+use Rattle.sd_wire.specs.Spelling.{Runs}
+use Rattle.sd_wire.specs.Writing.{IsNowhere, PlacesEntry, WritesSd}
 use Rattle.sd_wire.specs.Program.{options_within, reading}
-use Rattle.sd_wire.specs.Examples.{bytes_from, read_offer, read_bad, two_offers, shared_text, anew_text, offer, endpoint, head, entry_from}
+use Rattle.sd_wire.specs.Examples.{bytes_from, read_offer, read_bad, two_offers, shared_text, anew_text, offer, endpoint, entry_from}
 use Rattle.sd_wire.proofs.FieldLemmas.{IsBytes-literal}
 use Rattle.sd_wire.proofs.SdLemmas.{reading_holds, holds_read}
 use Rattle.sd_wire.proofs.WriteLemmas.{one_text}
