@@ -13,7 +13,8 @@ use Rattle.sd_wire.specs.declared.entry.EntryHead.TheVariants.{Service, Eventgro
 use Rattle.sd_wire.specs.Fields.{IsBytes, field16, field24, field32}
 use Rattle.sd_wire.specs.Spelling.{Runs, RunsFit, service_type, eventgroup_type, common_bytes, entry_bytes, ServiceFits, EventgroupFits, HeadFits}
 use Rattle.sd_wire.specs.Reading.{SpellsHead}
-use Rattle.sd_wire.specs.Program.{is_entry_type, runs_in, service_in, eventgroup_in, head_in}
+use Rattle.sd_wire.specs.Faults.{is_entry_type}
+use Rattle.sd_wire.specs.Program.{runs_in, service_in, eventgroup_in, head_in}
 use Rattle.sd_wire.proofs.FieldLemmas.{spells1, spells2, spells3, spells4, field16_fits, field24_fits, field32_fits, field24-spelled}
 
 -- the entry stands in front of the bytes

@@ -8,7 +8,9 @@ use Rattle.sd_wire.specs.declared.option.SdOption.{SdOption}
 use Rattle.sd_wire.specs.Fields.{IsBytes}
 use Rattle.sd_wire.specs.Spelling.{option_bytes}
 use Rattle.sd_wire.specs.Reading.{Spelled, SpellsOption}
-use Rattle.sd_wire.specs.Program.{entries_len, options_place, entries_in, options_in, header_fault, is_entry_type, type_fault, option_size, option_in, and_then, options_from, value_by, reading}
+use Rattle.sd_wire.specs.Layout.{entries_len, options_place, entries_in, options_in}
+use Rattle.sd_wire.specs.Faults.{header_fault, is_entry_type, option_size}
+use Rattle.sd_wire.specs.Program.{type_fault, option_in, and_then, options_from, value_by, reading}
 use Rattle.sd_wire.specs.Faults.{AreTypes, FaultInTypes, FaultInOptions, SdFault, IsFirstFault}
 use Rattle.sd_wire.specs.Steps.{Fails}
 use Rattle.sd_wire.proofs.FieldLemmas.{IsBytes-drop}

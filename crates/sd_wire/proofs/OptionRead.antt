@@ -13,7 +13,9 @@ use Rattle.sd_wire.specs.Raw.{is_known}
 use Rattle.sd_wire.specs.Fields.{number16}
 use Rattle.sd_wire.specs.Spelling.{ipv4_bytes, ipv6_bytes, option_bytes, Ipv4Fits, Ipv6Fits, RawFits, OptionFits}
 use Rattle.sd_wire.specs.Reading.{SpellsOption}
-use Rattle.sd_wire.specs.Program.{option_len, has_len, option_size, ipv4_in, ipv6_in, option_by, option_in}
+use Rattle.sd_wire.specs.Layout.{option_len}
+use Rattle.sd_wire.specs.Faults.{has_len, option_size}
+use Rattle.sd_wire.specs.Program.{ipv4_in, ipv6_in, option_by, option_in}
 use Rattle.sd_wire.proofs.FieldLemmas.{segments_of-octets_of, length-octets_of}
 
 -- these bytes, with any behind them, begin with this option

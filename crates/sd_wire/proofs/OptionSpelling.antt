@@ -12,7 +12,9 @@ use Rattle.sd_wire.specs.declared.option.SdOption.TheVariants.{LoadBalancing, En
 use Rattle.sd_wire.specs.Raw.{is_known}
 use Rattle.sd_wire.specs.Fields.{IsBytes, number16, field16}
 use Rattle.sd_wire.specs.Spelling.{ipv4_bytes, ipv6_bytes, option_bytes, Ipv4Fits, Ipv6Fits, OptionFits}
-use Rattle.sd_wire.specs.Program.{option_len, has_len, HasOption, ipv4_in, ipv6_in, option_in}
+use Rattle.sd_wire.specs.Layout.{option_len}
+use Rattle.sd_wire.specs.Faults.{has_len}
+use Rattle.sd_wire.specs.Program.{HasOption, ipv4_in, ipv6_in, option_in}
 use Rattle.sd_wire.proofs.FieldLemmas.{IsBytes-range, length-range, spells1, spells2, field16_fits, are_segments}
 
 -- the option stands in front of the bytes, and has n of them

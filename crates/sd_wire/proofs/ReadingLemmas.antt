@@ -5,7 +5,9 @@ use Rattle.sd_wire.specs.declared.error.SdError.{SdError}
 use Rattle.sd_wire.specs.declared.error.SdError.TheVariants as errors
 use Rattle.sd_wire.specs.Steps.{Fails}
 use Rattle.sd_wire.proofs.FieldLemmas.{length-slice}
-use Rattle.sd_wire.specs.Program.{entries_len, options_place, entries_in, options_in, header_fault, type_fault, options_from, value_by, reading}
+use Rattle.sd_wire.specs.Layout.{entries_len, options_place, entries_in, options_in}
+use Rattle.sd_wire.specs.Faults.{header_fault}
+use Rattle.sd_wire.specs.Program.{type_fault, options_from, value_by, reading}
 
 -- a fault of a step is that of the whole
 pub fails_too : {A B : Type 0} (e : SdError) (read : Result A SdError) (total : Result B SdError) → (read ≡ Err e → total ≡ Err e) → Fails e read → Fails e total

@@ -11,7 +11,9 @@ use Rattle.sd_wire.specs.Fields.{IsBytes, number32}
 use Rattle.sd_wire.specs.Values.{EntryValue, ReadValue, good, bad_run, SdValue}
 use Rattle.sd_wire.specs.Spelling.{Runs, entry_bytes, option_bytes, sd_bytes}
 use Rattle.sd_wire.specs.Reading.{Spelled, SpellsOption, SpellsHead, has_bad_run, selected, SpellsEntry, Sd}
-use Rattle.sd_wire.specs.Program.{entries_len, options_place, options_len, options_end, entries_in, options_in, header_fault, is_entry_type, type_fault, runs_in, head_in, entry_of, entry_in, entry_list, option_size, option_in, and_then, options_from, value_in, value_by, unless, reading}
+use Rattle.sd_wire.specs.Layout.{entries_len, options_place, options_len, options_end, entries_in, options_in}
+use Rattle.sd_wire.specs.Faults.{header_fault, is_entry_type, option_size}
+use Rattle.sd_wire.specs.Program.{type_fault, runs_in, head_in, entry_of, entry_in, entry_list, option_in, and_then, options_from, value_in, value_by, unless, reading}
 use Rattle.sd_wire.proofs.FieldLemmas.{IsBytes-drop, IsBytes-range, length-slice, spells1, spells4, field32_fits}
 use Rattle.sd_wire.proofs.OptionLemmas.{has_option, options_from-nil, options_from-none, options_from-some}
 use Rattle.sd_wire.proofs.OptionSpelling.{is_front}

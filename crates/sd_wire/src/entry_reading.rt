@@ -7,7 +7,8 @@ ghost use Rattle.sd_wire.specs.Values.{view_entry, view_read};
 ghost use Rattle.sd_wire.specs.Spelling.{Runs};
 ghost use Rattle.sd_wire.specs.Steps.{IsReadingError};
 ghost use Rattle.sd_wire.specs.Reading.{passes, selected};
-ghost use Rattle.sd_wire.specs.Program.{is_entry_type, type_fault, service_in, eventgroup_in, head_in, runs_in, entry_of, entry_in, entry_list};
+ghost use Rattle.sd_wire.specs.Faults.{is_entry_type};
+ghost use Rattle.sd_wire.specs.Program.{type_fault, service_in, eventgroup_in, head_in, runs_in, entry_of, entry_in, entry_list};
 
 use crate::entry::{
     Counter, Entry, EntryHead, EventgroupEntry, EventgroupKind, ServiceEntry, ServiceKind,

@@ -1,12 +1,13 @@
 //! Laws of the definitions behind the contracts. Each is the contract of a function that does
 //! nothing: it says what holds of messages and bytes, whatever code reads and writes them.
-ghost use Rattle.std.specs.Prelude.{◌≡◌, ◌⊎◌, ℕ, List, [], ◌∷◌};
+ghost use Rattle.std.specs.Prelude.{◌≡◌, ◌⊎◌, ◌↔◌, ℕ, List, ◌++◌, None};
 ghost use Rattle.std.specs.List.{AllByRecursion};
 ghost use Rattle.sd_wire.specs.declared.error.SdError.{SdError};
+ghost use Rattle.sd_wire.specs.declared.option.SdOption.{SdOption};
 ghost use Rattle.sd_wire.specs.Fields.{IsBytes};
 ghost use Rattle.sd_wire.specs.Values.{SdValue, MessageValue};
-ghost use Rattle.sd_wire.specs.Reading.{Sd};
-ghost use Rattle.sd_wire.specs.Faults.{SdFault};
+ghost use Rattle.sd_wire.specs.Reading.{SpellsOption, Sd};
+ghost use Rattle.sd_wire.specs.Faults.{option_size, SdFault};
 ghost use Rattle.sd_wire.specs.Writing.{EntryFits, WritesSd, TooMany, as_read};
 ghost use Rattle.sd_wire.specs.Examples.{bytes_from, read_offer, read_bad, two_offers, shared_text, anew_text};
 
@@ -19,6 +20,12 @@ pub fn bytes_hold_one_message_or_a_fault()
         → SdFault fault bytes → ⊥ }
     ensures one_fault { (bytes : List ℕ) (fault other : SdError) → SdFault fault bytes
         → SdFault other bytes → fault ≡ other }
+{}
+
+/// No option is found at the front of bytes exactly where they begin with no option.
+pub fn no_option_is_found_where_none_begins()
+    ensures { (bytes : List ℕ) → IsBytes bytes → (option_size bytes ≡ None)
+        ↔ ((o : SdOption) (first rest : List ℕ) → bytes ≡ first ++ rest → SpellsOption o first → ⊥) }
 {}
 
 /// A message has one text, or one entry that is refused first, and not both.

@@ -118,6 +118,7 @@ fn read_one(alloc: Global, flags: SdFlags, entry: ReadEntry) -> Result<SdRead, A
 #[test]
 fn laws_hold() {
     laws::bytes_hold_one_message_or_a_fault();
+    laws::no_option_is_found_where_none_begins();
     laws::a_message_has_one_text();
     laws::what_is_written_is_read();
     laws::worked_messages();
