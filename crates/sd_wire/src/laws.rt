@@ -25,7 +25,8 @@ pub fn bytes_hold_one_message_or_a_fault()
 /// No option is found at the front of bytes exactly where they begin with no option.
 pub fn no_option_is_found_where_none_begins()
     ensures { (bytes : List ℕ) → IsBytes bytes → (option_size bytes ≡ None)
-        ↔ ((o : SdOption) (first rest : List ℕ) → bytes ≡ first ++ rest → SpellsOption o first → ⊥) }
+        ↔ ((o : SdOption) (first rest : List ℕ) → bytes ≡ first ++ rest → SpellsOption o first
+        → ⊥) }
 {}
 
 /// A message has one text, or one entry that is refused first, and not both.

@@ -1,8 +1,8 @@
 //! Service Discovery messages on the wire: entries, the options that they name, and their bytes
 //! (SOME/IP Service Discovery, "Service Discovery ECU-internal Interface" and "Header").
 //!
-//! - [`SdMessage`], [`Entry`], [`SdOption`] and their parts: what a message says. They hold only numbers
-//!   that fit their fields, and each value on the wire has one value here;
+//! - [`SdMessage`], [`Entry`], [`SdOption`] and their parts: what a message says. They hold only
+//!   numbers that fit their fields, and each value on the wire has one value here;
 //! - [`read_sd`]: bytes are read as a message, or refused at their first fault;
 //! - [`write_sd`]: the one text of a message, with each run of options written once;
 //! - [`split_entries`]: entries are split into messages that fit a datagram;

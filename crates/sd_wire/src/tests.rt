@@ -312,7 +312,8 @@ fn endpoint6(port: u16) -> Ipv6Endpoint {
     }
 }
 
-/// A Find whose two runs are these options, written and read again, with its bytes behind the entry.
+/// A Find whose two runs are these options is written, with these bytes behind the entry, and read
+/// again.
 fn options_of(
     rt: &impl Abort,
     alloc: Global,
