@@ -45,7 +45,7 @@ impl Ttl {
     pub fn is_zero(self) -> bool
         ensures { IsTrue result ↔ (self ≡ 0) }
     {
-        self.0 == 0
+        self == Ttl::ZERO
     }
 
     /// The number of a field of 24 bits.
