@@ -220,10 +220,6 @@ take_view zero entries = refl
 take_view (suc n) [] = refl
 take_view (suc n) (e ∷ entries) = ap (λ (t : List EntryValue). view_entry e ∷ t) (take_view n entries)
 
-pub length_view : (entries : List Entry) → length (map view_entry entries) ≡ length entries
-length_view [] = refl
-length_view (e ∷ entries) = omega (arith, length_view entries)
-
 pub at_entry : (entries : List Entry) (k : ℕ) (e : Entry) → k < length entries → e ≡ get_or entries k e → map view_entry entries ≡ take k (map view_entry entries) ++ view_entry e ∷ map view_entry (drop (k + 1) entries)
 at_entry entries k e lt is = split_at entries k e lt is ∙ ap (λ (t : List EntryValue). t ++ view_entry e ∷ map view_entry (drop (k + 1) entries)) (take_view k entries)
 
