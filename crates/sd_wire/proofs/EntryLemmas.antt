@@ -1,11 +1,11 @@
 -- The entries of a message, one after the other.
-use Rattle.std.proofs.Common.{◌≡◌, ℕ, zero, suc, ◌+◌, ◌*◌, ◌<◌, ◌≤◌, Bool, true, false, List, [], ◌∷◌, ◌++◌, length, get_or, take, drop, Option, Some, None, refl, sym, ap, ◌∙◌, arith}
+use Rattle.std.proofs.Common.{◌≡◌, ℕ, zero, suc, ◌+◌, ◌*◌, ◌<◌, Bool, true, false, List, [], ◌∷◌, ◌++◌, get_or, drop, Some, None, refl, ap, ◌∙◌, arith}
 use Rattle.std.proofs.lemmas.List.{drop-drop, get_or-drop}
-use Rattle.sd_wire.specs.declared.error.SdError.{SdError}
 use Rattle.sd_wire.specs.declared.error.SdError.TheVariants.{UnknownEntryType}
 use Rattle.sd_wire.specs.declared.option.SdOption.{SdOption}
 use Rattle.sd_wire.specs.Values.{ReadValue}
-use Rattle.sd_wire.specs.Program.{is_entry_type, type_fault, entry_in, entry_list}
+use Rattle.sd_wire.specs.Faults.{is_entry_type}
+use Rattle.sd_wire.specs.Program.{type_fault, entry_in, entry_list}
 
 -- the type of entry k, counted behind the first one
 later : (k : ℕ) (bytes : List ℕ) (b : Bool) → is_entry_type (get_or bytes (suc k * 16) 0) ≡ b → is_entry_type (get_or (drop 16 bytes) (k * 16) 0) ≡ b

@@ -1,7 +1,6 @@
 -- An entry at the front of bytes is spelled by them, and one that is spelled is read, whatever follows it.
-use Rattle.std.proofs.Common.{◌≡◌, ℕ, zero, suc, ◌+◌, ◌-◌, ◌*◌, ◌/◌, ◌%◌, ◌^◌, ◌<◌, ◌≤◌, Bool, true, false, cond, eqb, List, [], ◌∷◌, ◌++◌, length, get_or, take, drop, refl, sym, ap, subst, ◌∙◌, arith}
-use Rattle.std.specs.Prelude.{◌||◌}
-use Rattle.std.proofs.lemmas.Bool.{eqb-true, eq-eqb, ne_eqb}
+use Rattle.std.proofs.Common.{◌≡◌, ℕ, ◌+◌, ◌*◌, ◌/◌, ◌%◌, ◌^◌, ◌<◌, ◌≤◌, true, List, ◌++◌, length, get_or, drop, refl, sym, ap, subst, arith}
+use Rattle.std.proofs.lemmas.Bool.{eqb-true, ne_eqb}
 use Rattle.std.proofs.lemmas.Nat.{from_be_bytes-to_be_bytes_2, from_be_bytes-to_be_bytes_4}
 use Rattle.sd_wire.specs.declared.entry.ServiceKind.{ServiceKind}
 use Rattle.sd_wire.specs.declared.entry.ServiceKind.TheVariants.{Find, Offer}
@@ -11,10 +10,12 @@ use Rattle.sd_wire.specs.declared.entry.ServiceEntry.{ServiceEntry}
 use Rattle.sd_wire.specs.declared.entry.EventgroupEntry.{EventgroupEntry}
 use Rattle.sd_wire.specs.declared.entry.EntryHead.{EntryHead}
 use Rattle.sd_wire.specs.declared.entry.EntryHead.TheVariants.{Service, Eventgroup}
-use Rattle.sd_wire.specs.Fields.{IsBytes, number16, number24, number32, field16, field24, field32}
+use Rattle.sd_wire.specs.Fields.{IsBytes, field16, field24, field32}
 use Rattle.sd_wire.specs.Spelling.{Runs, RunsFit, service_type, eventgroup_type, common_bytes, entry_bytes, ServiceFits, EventgroupFits, HeadFits}
 use Rattle.sd_wire.specs.Reading.{SpellsHead}
-use Rattle.sd_wire.specs.Program.{is_entry_type, runs_in, service_in, eventgroup_in, head_in}
+use Rattle.sd_wire.specs.Faults.{is_entry_type}
+use Rattle.sd_wire.specs.Program.{runs_in, service_in, eventgroup_in, head_in}
+use Rattle.sd_wire.proofs.TestLemmas.{pick}
 use Rattle.sd_wire.proofs.FieldLemmas.{spells1, spells2, spells3, spells4, field16_fits, field24_fits, field32_fits, field24-spelled}
 
 -- the entry stands in front of the bytes
@@ -82,15 +83,7 @@ module _ (bytes : List ℕ) (fits : IsBytes bytes) (le : 16 ≤ length bytes) wh
     count2 = omega arith;
   }
 
--- by a test of a number
-pick : {A : Type 0} (P : A → Type 0) (kind k : ℕ) (x y : A) → (kind ≡ k → P x) → ((kind ≡ k → ⊥) → P y) → P (cond (eqb kind k) x y)
-pick P kind k x y hit miss =
-    let Q : Bool → Type 0 = λ b. eqb kind k ≡ b → P (cond b x y) in
-    (elim (eqb kind k) as Q [
-      | true ↦ λ e. hit (eqb-true kind k e)
-      | false ↦ λ e. miss (λ is. let bad = sym e ∙ eq-eqb kind k is in cc)
-    ]) refl
-
+-- a type that is none of the first three is the last
 last_type : (kind : ℕ) → is_entry_type kind ≡ true → (kind ≡ 0 → ⊥) → (kind ≡ 1 → ⊥) → (kind ≡ 6 → ⊥) → 7 ≡ kind
 last_type kind known a b d = sym (eqb-true kind 7 (rw (ne_eqb kind 0 a, ne_eqb kind 1 b, ne_eqb kind 6 d) at known))
 

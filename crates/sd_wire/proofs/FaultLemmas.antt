@@ -1,16 +1,16 @@
 -- The plain program refuses bytes at their first fault.
-use Rattle.std.proofs.Common.{◌≡◌, ℕ, zero, suc, ◌+◌, ◌-◌, ◌*◌, ◌/◌, ◌<◌, ◌≤◌, Bool, true, false, List, [], ◌∷◌, ◌++◌, length, get_or, take, drop, Option, Some, None, Result, Ok, Err, refl, sym, ap, subst, ◌∙◌, append_assoc, arith, inl, inr}
-use Rattle.std.specs.Prelude.{◌⊎◌}
-use Rattle.std.proofs.lemmas.List.{take_at, drop_at, drop-drop, length-append, length-drop, nil_from_length, get_or-drop, append-nil}
+use Rattle.std.proofs.Common.{◌≡◌, ℕ, zero, suc, ◌+◌, ◌*◌, ◌/◌, ◌<◌, ◌≤◌, Bool, true, false, List, [], ◌∷◌, ◌++◌, length, get_or, drop, Option, Some, None, Result, Ok, Err, refl, sym, ap, ◌∙◌, append_assoc, arith, inl, inr}
+use Rattle.std.proofs.lemmas.List.{drop_at, length-append, length-drop, get_or-drop}
 use Rattle.sd_wire.specs.declared.error.SdError.{SdError}
 use Rattle.sd_wire.specs.declared.error.SdError.TheVariants as errors
 use Rattle.sd_wire.specs.declared.error.SdError.TheVariants.{UnknownEntryType, OptionLength}
 use Rattle.sd_wire.specs.declared.option.SdOption.{SdOption}
 use Rattle.sd_wire.specs.Fields.{IsBytes}
-use Rattle.sd_wire.specs.Values.{SdValue}
 use Rattle.sd_wire.specs.Spelling.{option_bytes}
 use Rattle.sd_wire.specs.Reading.{Spelled, SpellsOption}
-use Rattle.sd_wire.specs.Program.{entries_len, options_place, entries_in, options_in, header_fault, is_entry_type, type_fault, option_size, option_in, and_then, options_from, value_by, unless, reading}
+use Rattle.sd_wire.specs.Layout.{entries_len, options_place, entries_in, options_in}
+use Rattle.sd_wire.specs.Faults.{header_fault, is_entry_type, option_size}
+use Rattle.sd_wire.specs.Program.{type_fault, option_in, and_then, options_from, value_by, reading}
 use Rattle.sd_wire.specs.Faults.{AreTypes, FaultInTypes, FaultInOptions, SdFault, IsFirstFault}
 use Rattle.sd_wire.specs.Steps.{Fails}
 use Rattle.sd_wire.proofs.FieldLemmas.{IsBytes-drop}

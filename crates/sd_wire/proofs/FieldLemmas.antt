@@ -1,7 +1,8 @@
 -- Numbers in fields.
-use Rattle.std.proofs.Common.{◌≡◌, ℕ, zero, suc, ◌+◌, ◌-◌, ◌*◌, ◌/◌, ◌%◌, ◌^◌, ◌<◌, ◌≤◌, List, [], ◌∷◌, ◌++◌, length, get_or, take, drop, refl, sym, ap, ◌∙◌, arith, inl, inr}
-use Rattle.std.specs.Prelude.{slice_range}
-use Rattle.std.specs.Int.{w16, w32, to_be_bytes, from_be_bytes}
+use Rattle.std.proofs.Common.{◌≡◌, ℕ, zero, suc, ◌+◌, ◌-◌, ◌*◌, ◌/◌, ◌%◌, ◌^◌, ◌<◌, ◌≤◌, Bool, true, ltb, List, [], ◌∷◌, ◌++◌, length, get_or, take, drop, refl, sym, ap, ◌∙◌, arith, inl, inr}
+use Rattle.std.specs.Prelude.{slice_range, ◌&&◌}
+use borrow.Author.Tests.{ltb-true}
+use Rattle.std.specs.Int.{w32, to_be_bytes, from_be_bytes}
 use Rattle.std.specs.Net.Addr.{segments_of, octets_of}
 use Rattle.std.proofs.lemmas.Bool.{cases_lt}
 use Rattle.std.proofs.lemmas.List.{drop_more, length-take, length-drop, get_or-drop, get_or-take, get_or_past}
@@ -114,3 +115,14 @@ are_segments (suc n) (a ∷ b ∷ octets) is fits =
       fits = fits_segment a b (segments_of octets) la lb rest.fits;
       back = rw (high, low) (ap (λ (t : List ℕ). a ∷ b ∷ t) rest.back);
     }
+
+-- ---- numbers that are written out
+
+abbrev pub are_bytes : List ℕ → Bool
+are_bytes [] = true
+are_bytes (b ∷ bytes) = ltb b 256 && are_bytes bytes
+
+pub IsBytes-literal : (bytes : List ℕ) → are_bytes bytes ≡ true → IsBytes bytes
+IsBytes-literal [] is i = omega arith
+IsBytes-literal (b ∷ bytes) is zero = ltb-true b 256 (grind arith)
+IsBytes-literal (b ∷ bytes) is (suc i) = IsBytes-literal bytes (grind arith) i

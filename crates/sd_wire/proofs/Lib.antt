@@ -1,3 +1,4 @@
+pub mod TestLemmas
 pub mod FieldLemmas
 pub mod EntryLemmas
 pub mod OptionLemmas

@@ -1,11 +1,11 @@
 -- The options of a message, one after the other.
-use Rattle.std.proofs.Common.{◌≡◌, ℕ, zero, suc, ◌+◌, ◌<◌, ◌≤◌, Bool, true, false, List, [], ◌∷◌, ◌++◌, length, get_or, drop, Option, Some, None, Result, Ok, Err, refl, sym, ap, ◌∙◌, append_assoc, arith}
+use Rattle.std.proofs.Common.{◌≡◌, ℕ, zero, suc, ◌+◌, ◌<◌, ◌≤◌, List, [], ◌∷◌, ◌++◌, length, drop, Option, Some, None, Result, Ok, Err, refl, sym, ap, ◌∙◌, append_assoc, arith}
 use Rattle.std.proofs.lemmas.List.{length-drop, append-nil}
 use Rattle.sd_wire.specs.declared.error.SdError.{SdError}
 use Rattle.sd_wire.specs.declared.error.SdError.TheVariants.{OptionLength}
 use Rattle.sd_wire.specs.declared.option.SdOption.{SdOption}
-use Rattle.sd_wire.specs.Steps.{Fails}
-use Rattle.sd_wire.specs.Program.{option_len, has_len, option_size, HasOption, option_in, and_then, options_after, options_within, options_from}
+use Rattle.sd_wire.specs.Faults.{option_size}
+use Rattle.sd_wire.specs.Program.{HasOption, option_in, and_then, options_after, options_within, options_from}
 
 -- an option that is there
 pub has_option : (bytes : List ℕ) (n : ℕ) → option_size bytes ≡ Some n → HasOption bytes n

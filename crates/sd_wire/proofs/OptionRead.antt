@@ -1,20 +1,21 @@
 -- An option that is spelled is read, whatever follows it.
-use Rattle.std.proofs.Common.{◌≡◌, ℕ, zero, suc, ◌+◌, ◌-◌, ◌*◌, ◌^◌, ◌<◌, ◌≤◌, Bool, true, false, cond, eqb, ltb, List, [], ◌∷◌, ◌++◌, length, get_or, take, drop, Option, Some, None, refl, sym, ap, subst, ◌∙◌, append_assoc, arith}
+use Rattle.std.proofs.Common.{◌≡◌, ℕ, ◌+◌, ◌-◌, ◌^◌, ◌<◌, ◌≤◌, true, false, eqb, ltb, List, ◌∷◌, ◌++◌, length, get_or, take, drop, Some, refl, sym, ap, subst, ◌∙◌, append_assoc, arith}
 use Rattle.std.specs.Prelude.{slice_range}
-use Rattle.std.specs.Int.{w16, from_be_bytes}
-use Rattle.std.specs.Net.Addr.{segments_of, octets_of}
-use Rattle.std.proofs.lemmas.Bool.{ne_eqb, eq-eqb, le-ltb}
-use Rattle.std.proofs.lemmas.List.{take_at, drop_at, get_or-append_right, length-append, length-drop, drop-drop}
+use Rattle.std.specs.Net.Addr.{octets_of}
+use Rattle.std.proofs.lemmas.Bool.{ne_eqb, le-ltb}
+use Rattle.std.proofs.lemmas.List.{take_at, drop_at, get_or-append_right, length-append, drop-drop}
 use Rattle.std.proofs.lemmas.Nat.{from_be_bytes-to_be_bytes_2}
 use Rattle.sd_wire.specs.declared.endpoint.Ipv4Endpoint.{Ipv4Endpoint}
 use Rattle.sd_wire.specs.declared.endpoint.Ipv6Endpoint.{Ipv6Endpoint}
 use Rattle.sd_wire.specs.declared.option.SdOption.{SdOption}
 use Rattle.sd_wire.specs.declared.option.SdOption.TheVariants.{LoadBalancing, Endpoint4, Multicast4, SdEndpoint4, Endpoint6, Multicast6, SdEndpoint6, Raw}
-use Rattle.sd_wire.specs.Raw.{RawValue, IsRaw, is_known}
-use Rattle.sd_wire.specs.Fields.{IsBytes, number16, field16}
+use Rattle.sd_wire.specs.Raw.{is_known}
+use Rattle.sd_wire.specs.Fields.{number16}
 use Rattle.sd_wire.specs.Spelling.{ipv4_bytes, ipv6_bytes, option_bytes, Ipv4Fits, Ipv6Fits, RawFits, OptionFits}
 use Rattle.sd_wire.specs.Reading.{SpellsOption}
-use Rattle.sd_wire.specs.Program.{option_len, has_len, option_size, HasOption, ipv4_in, ipv6_in, option_by, option_in}
+use Rattle.sd_wire.specs.Layout.{option_len}
+use Rattle.sd_wire.specs.Faults.{has_len, option_size}
+use Rattle.sd_wire.specs.Program.{ipv4_in, ipv6_in, option_by, option_in}
 use Rattle.sd_wire.proofs.FieldLemmas.{segments_of-octets_of, length-octets_of}
 
 -- these bytes, with any behind them, begin with this option

@@ -1,22 +1,22 @@
 -- An option at the front of bytes is spelled by them, and one that is spelled is read, whatever follows it.
-use Rattle.std.proofs.Common.{◌≡◌, ℕ, zero, suc, ◌+◌, ◌-◌, ◌*◌, ◌^◌, ◌<◌, ◌≤◌, Bool, true, false, cond, eqb, ltb, List, [], ◌∷◌, ◌++◌, length, get_or, take, drop, Option, Some, None, refl, sym, ap, subst, ◌∙◌, append_assoc, arith}
+use Rattle.std.proofs.Common.{◌≡◌, ℕ, ◌+◌, ◌-◌, ◌≤◌, true, false, List, ◌∷◌, ◌++◌, length, get_or, drop, refl, sym, ap, subst, ◌∙◌, append_assoc, arith}
 use Rattle.std.specs.Prelude.{slice_range}
-use Rattle.std.specs.Net.Addr.{segments_of, octets_of, ipv4_octets, ipv6_octets, ipv6_segments}
-use Rattle.std.specs.Net.Socket.{v4_ip, v4_port}
-use Rattle.std.proofs.lemmas.Bool.{eqb-true, ne_eqb, eq-eqb, le-ltb}
-use Rattle.std.proofs.lemmas.List.{take_at, drop_at, get_or-append_right, length-append, length-drop}
+use Rattle.std.specs.Net.Addr.{segments_of, octets_of}
+use Rattle.std.specs.Net.Socket.{v4_port}
+use Rattle.std.proofs.lemmas.Bool.{eqb-true, ne_eqb}
 use Rattle.std.proofs.lemmas.List.Folds.{drop_split}
-use Rattle.std.proofs.lemmas.Nat.{from_be_bytes-to_be_bytes_2}
 use Rattle.sd_wire.specs.declared.endpoint.Ipv4Endpoint.{Ipv4Endpoint}
 use Rattle.sd_wire.specs.declared.endpoint.Ipv6Endpoint.{Ipv6Endpoint}
 use Rattle.sd_wire.specs.declared.option.SdOption.{SdOption}
 use Rattle.sd_wire.specs.declared.option.SdOption.TheVariants.{LoadBalancing, Endpoint4, Multicast4, SdEndpoint4, Endpoint6, Multicast6, SdEndpoint6, Raw}
-use Rattle.sd_wire.specs.Raw.{RawValue, IsRaw, is_known}
+use Rattle.sd_wire.specs.Raw.{is_known}
 use Rattle.sd_wire.specs.Fields.{IsBytes, number16, field16}
-use Rattle.sd_wire.specs.Spelling.{ipv4_bytes, ipv6_bytes, option_bytes, Ipv4Fits, Ipv6Fits, RawFits, OptionFits}
-use Rattle.sd_wire.specs.Reading.{SpellsOption}
-use Rattle.sd_wire.specs.Program.{option_len, has_len, option_size, HasOption, ipv4_in, ipv6_in, option_by, option_in}
-use Rattle.sd_wire.proofs.FieldLemmas.{IsBytes-range, length-range, spells1, spells2, field16_fits, segments_of-octets_of, length-octets_of, AreSegments, are_segments}
+use Rattle.sd_wire.specs.Spelling.{ipv4_bytes, ipv6_bytes, option_bytes, Ipv4Fits, Ipv6Fits, OptionFits}
+use Rattle.sd_wire.specs.Layout.{option_len}
+use Rattle.sd_wire.specs.Faults.{has_len}
+use Rattle.sd_wire.specs.Program.{HasOption, ipv4_in, ipv6_in, option_in}
+use Rattle.sd_wire.proofs.TestLemmas.{pick}
+use Rattle.sd_wire.proofs.FieldLemmas.{IsBytes-range, length-range, spells1, spells2, field16_fits, are_segments}
 
 -- the option stands in front of the bytes, and has n of them
 pub record IsFront (n : ℕ) (bytes : List ℕ) (o : SdOption) : Type 0 where
@@ -87,15 +87,6 @@ ipv6_in-fits : (bytes : List ℕ) → IsBytes bytes → 24 ≤ length bytes → 
 ipv6_in-fits bytes fits le =
     let segments = are_segments 8 (slice_range bytes 4 20) (length-range bytes 4 16 (omega (arith, le))) (IsBytes-range bytes 4 16 fits) in
     record { address = (segments.length, segments.fits); protocol = fits 21; port = field16_fits bytes 22 fits }
-
--- by a test of a number
-pick : {A : Type 0} (P : A → Type 0) (kind k : ℕ) (x y : A) → (kind ≡ k → P x) → ((kind ≡ k → ⊥) → P y) → P (cond (eqb kind k) x y)
-pick P kind k x y hit miss =
-    let Q : Bool → Type 0 = λ b. eqb kind k ≡ b → P (cond b x y) in
-    (elim (eqb kind k) as Q [
-      | true ↦ λ e. hit (eqb-true kind k e)
-      | false ↦ λ e. miss (λ is. let bad = sym e ∙ eq-eqb kind k is in cc)
-    ]) refl
 
 -- the length that a type has
 len_of : (kind len k : ℕ) → kind ≡ k → has_len kind len ≡ true → has_len k len ≡ true

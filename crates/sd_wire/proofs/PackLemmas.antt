@@ -1,8 +1,7 @@
 -- Entries whose runs are placed in a pool, one after the other.
-use Rattle.std.proofs.Common.{◌≡◌, ℕ, zero, suc, ◌+◌, ◌-◌, ◌*◌, ◌^◌, ◌<◌, ◌≤◌, Bool, true, false, List, [], ◌∷◌, ◌++◌, length, map, get_or, take, drop, refl, sym, ap, subst, ◌∙◌, append_assoc, arith, inl, inr}
-use Rattle.std.specs.Prelude.{◌⊎◌, nat_lt}
-use Rattle.std.specs.List.{AllByRecursion, flat_map}
-use Rattle.std.proofs.lemmas.List.{append-nil, length-append, length-take, length-drop, nil_from_length}
+use Rattle.std.proofs.Common.{◌≡◌, ℕ, zero, suc, ◌+◌, ◌*◌, ◌<◌, ◌≤◌, List, [], ◌∷◌, ◌++◌, length, map, get_or, take, drop, refl, sym, ap, subst, ◌∙◌, append_assoc, arith, inl, inr}
+use Rattle.std.specs.List.{AllByRecursion}
+use Rattle.std.proofs.lemmas.List.{append-nil, length-append, length-take, take_more, map_push}
 use Rattle.sd_wire.specs.declared.endpoint.Ipv4Endpoint.{Ipv4Endpoint}
 use Rattle.sd_wire.specs.declared.endpoint.Ipv6Endpoint.{Ipv6Endpoint}
 use Rattle.sd_wire.specs.declared.option.SdOption.{SdOption}
@@ -13,8 +12,8 @@ use Rattle.sd_wire.specs.declared.error.SdError.TheVariants as errors
 use Rattle.sd_wire.specs.declared.entry.Entry.{Entry}
 use Rattle.sd_wire.specs.Fields.{number16}
 use Rattle.sd_wire.specs.Values.{EntryValue, view_entry}
-use Rattle.sd_wire.specs.Spelling.{ipv4_bytes, ipv6_bytes, option_bytes, Ipv4Fits, Ipv6Fits, OptionFits, Runs, RunsFit, entry_bytes, HeadFits}
-use Rattle.sd_wire.specs.Writing.{HoldsAt, Stands, PlacesEntry, IsRefused, Packs, pool_bytes, TooMany}
+use Rattle.sd_wire.specs.Spelling.{ipv4_bytes, ipv6_bytes, option_bytes, Ipv4Fits, Ipv6Fits, OptionFits, Runs, entry_bytes, HeadFits}
+use Rattle.sd_wire.specs.Writing.{Stands, PlacesEntry, Packs, pool_bytes}
 use Rattle.sd_wire.specs.Written.{IsPlaceError, IsPackError}
 use Rattle.sd_wire.proofs.FieldLemmas.{length-octets_of}
 
@@ -114,11 +113,7 @@ split_at (x ∷ entries) (suc k) e lt is =
 
 -- one more of them
 pub map_more : (entries : List Entry) (k : ℕ) (e : Entry) → k < length entries → e ≡ get_or entries k e → map view_entry (take (k + 1) entries) ≡ map view_entry (take k entries) ++ view_entry e ∷ []
-map_more [] k e lt is = absurd (omega (arith, lt))
-map_more (x ∷ entries) zero e lt is = rw is refl
-map_more (x ∷ entries) (suc k) e lt is =
-    let next : suc k + 1 ≡ suc (k + 1) = omega arith in
-    rw next (ap (λ (t : List EntryValue). view_entry x ∷ t) (map_more entries k e (omega arith) is))
+map_more entries k e lt is = ap (map view_entry) (take_more entries k e lt ∙ ap (λ (x : Entry). take k entries ++ x ∷ []) (sym is)) ∙ map_push view_entry (take k entries) e
 
 -- what the loop knows in front of entry k
 pub record PackedUpTo (entries : List Entry) (k : ℕ) (text : List ℕ) (pool : Pool) : Type 0 where
@@ -142,9 +137,9 @@ packed_more entries k text bytes pool e runs next lt is h places fits same sixte
       few = places-length pool (view_entry e) runs next places h.few;
     }
 
-length_map : (entries : List Entry) → length (map view_entry entries) ≡ length entries
-length_map [] = refl
-length_map (e ∷ entries) = omega (arith, length_map entries)
+pub length_view : (entries : List Entry) → length (map view_entry entries) ≡ length entries
+length_view [] = refl
+length_view (e ∷ entries) = omega (arith, length_view entries)
 
 pub packed_error : (entries : List Entry) (k : ℕ) (text : List ℕ) (pool : Pool) (e : Entry) (err : SdError) → k < length entries → e ≡ get_or entries k e → PackedUpTo entries k text pool → IsPlaceError pool (view_entry e) k err
     → IsPackError (map view_entry entries) err
@@ -154,7 +149,7 @@ packed_error entries k text pool e (errors.TooManyOptions n) lt is h bad = recor
   e = view_entry e;
   back = map view_entry (drop (k + 1) entries);
   is = split_at entries k e lt is;
-  counted = omega (arith, length_map (take k entries), length-take k entries, bad.0);
+  counted = omega (arith, length_view (take k entries), length-take k entries, bad.0);
   text = text;
   pool = pool;
   packs = h.packs;
@@ -173,16 +168,9 @@ pub record PooledUpTo (pool : Pool) (k : ℕ) (text : List ℕ) : Type 0 where
   pub fits : AllByRecursion OptionFits (take k pool)
   pub len : length text ≤ 65538 * k
 
-option_more : (pool : Pool) (k : ℕ) (o : SdOption) → k < length pool → o ≡ get_or pool k o → take (k + 1) pool ≡ take k pool ++ o ∷ []
-option_more [] k o lt is = absurd (omega (arith, lt))
-option_more (x ∷ pool) zero o lt is = rw is refl
-option_more (x ∷ pool) (suc k) o lt is =
-    let next : suc k + 1 ≡ suc (k + 1) = omega arith in
-    rw next (ap (λ (t : Pool). x ∷ t) (option_more pool k o (omega arith) is))
-
 pub pooled_more : (pool : Pool) (k : ℕ) (text after : List ℕ) (o : SdOption) → k < length pool → o ≡ get_or pool k o → PooledUpTo pool k text → after ≡ text ++ option_bytes 0 0 o → OptionFits o → PooledUpTo pool (k + 1) after
 pooled_more pool k text after o lt is h same fits =
-    let more = option_more pool k o lt is in
+    let more : take (k + 1) pool ≡ take k pool ++ o ∷ [] = take_more pool k o lt ∙ ap (λ (x : SdOption). take k pool ++ x ∷ []) (sym is) in
     record {
       is = rw (same, more, h.is) (sym (pool_bytes-push (take k pool) o));
       fits = rw more (all-push OptionFits (take k pool) o h.fits fits);

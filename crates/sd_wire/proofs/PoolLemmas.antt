@@ -1,10 +1,8 @@
 -- Runs in a pool of options.
-use Rattle.std.proofs.Common.{◌≡◌, ℕ, zero, suc, ◌+◌, ◌-◌, ◌<◌, ◌≤◌, Bool, true, false, List, [], ◌∷◌, ◌++◌, length, get_or, take, drop, refl, sym, ap, subst, ◌∙◌, arith, inl, inr}
-use Rattle.std.specs.Prelude.{◌⊎◌}
-use Rattle.std.proofs.lemmas.Bool.{cases_lt}
-use Rattle.std.proofs.lemmas.List.{take_all, take_more, drop_all, length-take, length-drop, get_or-take}
+use Rattle.std.proofs.Common.{◌≡◌, ℕ, ◌<◌, ◌≤◌, List, [], length, take, drop, ap, arith}
+use Rattle.std.proofs.lemmas.List.{drop_all, length-take, length-drop}
 use Rattle.sd_wire.specs.declared.option.SdOption.{SdOption}
-use Rattle.sd_wire.specs.Writing.{HoldsAt, IsLeast, IsNowhere, Stands}
+use Rattle.sd_wire.specs.Writing.{HoldsAt}
 
 abbrev Pool : Type 0
 Pool = List SdOption

@@ -1,13 +1,13 @@
 -- What the plain program reads of a message.
-use Rattle.std.proofs.Common.{◌≡◌, ℕ, ◌+◌, ◌-◌, ◌/◌, ◌≤◌, List, length, drop, Option, Some, None, Result, Ok, Err, refl, sym, ap, ◌∙◌, arith}
+use Rattle.std.proofs.Common.{◌≡◌, ℕ, ◌+◌, ◌-◌, ◌/◌, ◌≤◌, List, length, drop, None, Result, Err, refl, arith}
 use Rattle.std.specs.Prelude.{slice_range}
 use Rattle.sd_wire.specs.declared.error.SdError.{SdError}
 use Rattle.sd_wire.specs.declared.error.SdError.TheVariants as errors
-use Rattle.sd_wire.specs.declared.option.SdOption.{SdOption}
-use Rattle.sd_wire.specs.Values.{SdValue}
 use Rattle.sd_wire.specs.Steps.{Fails}
 use Rattle.sd_wire.proofs.FieldLemmas.{length-slice}
-use Rattle.sd_wire.specs.Program.{entries_len, options_place, entries_in, options_in, header_fault, type_fault, options_from, value_by, value_in, unless, reading}
+use Rattle.sd_wire.specs.Layout.{entries_len, options_place, entries_in, options_in}
+use Rattle.sd_wire.specs.Faults.{header_fault}
+use Rattle.sd_wire.specs.Program.{type_fault, options_from, value_by, reading}
 
 -- a fault of a step is that of the whole
 pub fails_too : {A B : Type 0} (e : SdError) (read : Result A SdError) (total : Result B SdError) → (read ≡ Err e → total ≡ Err e) → Fails e read → Fails e total

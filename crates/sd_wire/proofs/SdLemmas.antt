@@ -1,23 +1,24 @@
 -- What the plain program reads of bytes is what they hold, and no bytes hold anything else.
-use Rattle.std.proofs.Common.{◌≡◌, ℕ, zero, suc, ◌+◌, ◌-◌, ◌*◌, ◌/◌, ◌%◌, ◌^◌, ◌<◌, ◌≤◌, Bool, true, false, cond, eqb, ltb, List, [], ◌∷◌, ◌++◌, length, get_or, take, drop, Option, Some, None, Result, Ok, Err, refl, sym, ap, subst, ◌∙◌, arith}
-use Rattle.std.specs.Prelude.{slice_range}
-use Rattle.std.proofs.lemmas.Bool.{le-ltb, eq-eqb}
+use Rattle.std.proofs.Common.{◌≡◌, ℕ, zero, suc, ◌+◌, ◌-◌, ◌*◌, ◌/◌, ◌%◌, ◌^◌, ◌<◌, ◌≤◌, Bool, true, false, cond, ltb, List, [], ◌∷◌, ◌++◌, length, get_or, drop, Option, Some, None, Result, Ok, Err, refl, sym, ap, subst, ◌∙◌, arith}
+use Rattle.std.proofs.lemmas.Bool.{le-ltb}
 use Rattle.std.proofs.lemmas.List.{take_at, drop_at, drop-drop, length-append, length-drop, nil_from_length}
 use Rattle.std.proofs.lemmas.List.Folds.{drop_split}
 use Rattle.std.proofs.lemmas.Nat.{from_be_bytes-to_be_bytes_4}
 use Rattle.sd_wire.specs.declared.error.SdError.{SdError}
 use Rattle.sd_wire.specs.declared.option.SdOption.{SdOption}
 use Rattle.sd_wire.specs.declared.entry.EntryHead.{EntryHead}
-use Rattle.sd_wire.specs.Fields.{IsBytes, number32, field32, flags_in}
+use Rattle.sd_wire.specs.Fields.{IsBytes, number32}
 use Rattle.sd_wire.specs.Values.{EntryValue, ReadValue, good, bad_run, SdValue}
 use Rattle.sd_wire.specs.Spelling.{Runs, entry_bytes, option_bytes, sd_bytes}
 use Rattle.sd_wire.specs.Reading.{Spelled, SpellsOption, SpellsHead, has_bad_run, selected, SpellsEntry, Sd}
-use Rattle.sd_wire.specs.Program.{entries_len, options_place, options_len, options_end, entries_in, options_in, header_fault, is_entry_type, type_fault, runs_in, head_in, entry_of, entry_in, entry_list, option_size, option_in, and_then, options_from, value_in, value_by, unless, reading}
+use Rattle.sd_wire.specs.Layout.{entries_len, options_place, options_len, options_end, entries_in, options_in}
+use Rattle.sd_wire.specs.Faults.{header_fault, is_entry_type, option_size}
+use Rattle.sd_wire.specs.Program.{type_fault, runs_in, head_in, entry_of, entry_in, entry_list, option_in, and_then, options_from, value_in, value_by, unless, reading}
 use Rattle.sd_wire.proofs.FieldLemmas.{IsBytes-drop, IsBytes-range, length-slice, spells1, spells4, field32_fits}
 use Rattle.sd_wire.proofs.OptionLemmas.{has_option, options_from-nil, options_from-none, options_from-some}
-use Rattle.sd_wire.proofs.OptionSpelling.{IsFront, is_front}
-use Rattle.sd_wire.proofs.OptionRead.{IsRead, option_read}
-use Rattle.sd_wire.proofs.EntrySpelling.{IsEntry, is_entry, runs_in-fit, IsEntryRead, entry_read}
+use Rattle.sd_wire.proofs.OptionSpelling.{is_front}
+use Rattle.sd_wire.proofs.OptionRead.{option_read}
+use Rattle.sd_wire.proofs.EntrySpelling.{is_entry, runs_in-fit, entry_read}
 
 abbrev Pool : Type 0
 Pool = List SdOption

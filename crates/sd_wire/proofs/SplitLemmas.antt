@@ -1,17 +1,15 @@
 -- The longest fronts of entries that fit a datagram.
-use Rattle.std.proofs.Common.{◌≡◌, ℕ, zero, suc, ◌+◌, ◌-◌, ◌*◌, ◌^◌, ◌<◌, ◌≤◌, List, [], ◌∷◌, ◌++◌, length, map, max, get_or, take, drop, Option, Some, None, refl, sym, ap, subst, ◌∙◌, append_assoc, arith, inl, inr}
-use Rattle.std.specs.Prelude.{◌⊎◌}
+use Rattle.std.proofs.Common.{◌≡◌, ℕ, zero, suc, ◌+◌, ◌*◌, ◌^◌, ◌<◌, ◌≤◌, List, [], ◌∷◌, ◌++◌, length, map, max, get_or, take, drop, refl, sym, ap, subst, ◌∙◌, append_assoc, arith, inl, inr}
 use Rattle.std.proofs.lemmas.Bool.{cases_lt}
-use Rattle.std.proofs.lemmas.List.{append-nil, length-append, length-take, length-drop, take_all, drop-drop}
+use Rattle.std.proofs.lemmas.List.{append-nil, length-append, length-take}
 use Rattle.sd_wire.specs.declared.option.SdOption.{SdOption}
 use Rattle.sd_wire.specs.declared.entry.EntryHead.{EntryHead}
 use Rattle.sd_wire.specs.declared.entry.EntryHead.TheVariants.{Service, Eventgroup}
 use Rattle.sd_wire.specs.declared.entry.Entry.{Entry}
 use Rattle.sd_wire.specs.Fields.{number32, flags_byte}
-use Rattle.sd_wire.specs.Values.{EntryValue, MessageValue, view_entry}
+use Rattle.sd_wire.specs.Values.{EntryValue, view_entry}
 use Rattle.sd_wire.specs.Spelling.{option_bytes, Runs, entry_bytes, sd_bytes}
-use Rattle.sd_wire.specs.Writing.{PlacesEntry, IsRefused, Packs, pool_bytes, WritesSd}
-use Rattle.sd_wire.specs.Written.{IsGrown}
+use Rattle.sd_wire.specs.Writing.{PlacesEntry, IsRefused, Packs, pool_bytes}
 use Rattle.sd_wire.specs.Splitting.{message_of, FitsDatagram, IsLongestFront, AreFronts}
 use Rattle.sd_wire.proofs.PackLemmas.{packs-push, split_at, map_more, places-length}
 use Rattle.sd_wire.proofs.WriteLemmas.{same_entry, same_packs, refused_not_packed, packs-more}
@@ -221,10 +219,6 @@ pub take_view : (n : ℕ) (entries : List Entry) → map view_entry (take n entr
 take_view zero entries = refl
 take_view (suc n) [] = refl
 take_view (suc n) (e ∷ entries) = ap (λ (t : List EntryValue). view_entry e ∷ t) (take_view n entries)
-
-pub length_view : (entries : List Entry) → length (map view_entry entries) ≡ length entries
-length_view [] = refl
-length_view (e ∷ entries) = omega (arith, length_view entries)
 
 pub at_entry : (entries : List Entry) (k : ℕ) (e : Entry) → k < length entries → e ≡ get_or entries k e → map view_entry entries ≡ take k (map view_entry entries) ++ view_entry e ∷ map view_entry (drop (k + 1) entries)
 at_entry entries k e lt is = split_at entries k e lt is ∙ ap (λ (t : List EntryValue). t ++ view_entry e ∷ map view_entry (drop (k + 1) entries)) (take_view k entries)

@@ -1,16 +1,16 @@
 -- What is written is read as the message, and a message has one text or one entry that is refused.
-use Rattle.std.proofs.Common.{◌≡◌, ℕ, zero, suc, ◌+◌, ◌-◌, ◌*◌, ◌^◌, ◌<◌, ◌≤◌, Bool, true, false, List, [], ◌∷◌, ◌++◌, length, map, get_or, take, drop, refl, sym, ap, subst, ◌∙◌, append_assoc, arith, inl, inr}
-use Rattle.std.specs.Prelude.{◌⊎◌, nat_lt, ◌||◌, ◌&&◌}
-use Rattle.std.specs.List.{AllByRecursion, flat_map}
-use Rattle.std.proofs.lemmas.Bool.{le-ltb, lt-ltb, cases_lt}
+use Rattle.std.proofs.Common.{◌≡◌, ℕ, ◌+◌, ◌<◌, ◌≤◌, Bool, true, false, List, [], ◌∷◌, ◌++◌, length, map, take, drop, refl, sym, ap, subst, ◌∙◌, append_assoc, arith, inl, inr}
+use Rattle.std.specs.Prelude.{nat_lt, ◌&&◌}
+use Rattle.std.specs.List.{AllByRecursion}
+use Rattle.std.proofs.lemmas.Bool.{le-ltb, cases_lt}
 use Rattle.std.proofs.lemmas.List.{append-nil, length-append, length-take, length-drop, nil_from_length, take_at, take-append-le, drop-append-le, drop_at}
 use Rattle.sd_wire.specs.declared.flags.SdFlags.{SdFlags}
 use Rattle.sd_wire.specs.declared.option.SdOption.{SdOption}
 use Rattle.sd_wire.specs.Fields.{flags_byte, flags_in}
-use Rattle.sd_wire.specs.Values.{EntryValue, ReadValue, good, SdValue, MessageValue}
-use Rattle.sd_wire.specs.Spelling.{option_bytes, OptionFits, Runs, RunsFit, entry_bytes, HeadFits}
-use Rattle.sd_wire.specs.Reading.{Spelled, SpellsOption, SpellsHead, passes, has_bad_run, selected, SpellsEntry, Sd}
-use Rattle.sd_wire.specs.Writing.{HoldsAt, IsLeast, IsNowhere, Stands, PlacesEntry, IsRefused, Packs, pool_bytes, WritesSd, TooMany, as_read}
+use Rattle.sd_wire.specs.Values.{EntryValue, good, MessageValue}
+use Rattle.sd_wire.specs.Spelling.{option_bytes, OptionFits, Runs, entry_bytes, HeadFits}
+use Rattle.sd_wire.specs.Reading.{Spelled, SpellsOption, passes, has_bad_run, selected, SpellsEntry, Sd}
+use Rattle.sd_wire.specs.Writing.{HoldsAt, IsLeast, Stands, PlacesEntry, IsRefused, Packs, pool_bytes, EntryFits, WritesSd, TooMany, as_read}
 use Rattle.sd_wire.proofs.PackLemmas.{stands-more}
 
 abbrev Pool : Type 0
@@ -230,3 +230,36 @@ one_refused entries k n t u =
         | inr le' ↦ omega (arith, le, le')
       ]
     ]
+
+-- ---- the options of the pool are those of the runs
+
+all-append : {X : Type 0} (P : X → Type 0) (xs ys : List X) → AllByRecursion P xs → AllByRecursion P ys → AllByRecursion P (xs ++ ys)
+all-append P [] ys a b = b
+all-append P (x ∷ xs) ys a b = (a.0, all-append P xs ys a.1 b)
+
+stands-fit : (pool run : Pool) (index : ℕ) (after : Pool) → Stands pool run index after → AllByRecursion OptionFits pool → AllByRecursion OptionFits run → AllByRecursion OptionFits after
+stands-fit pool run index after h all fits =
+    elim h [
+      | inl none ↦ subst (AllByRecursion OptionFits) (sym none.2) all
+      | inr other ↦ elim other [
+        | inl found ↦ subst (AllByRecursion OptionFits) (sym found.2) all
+        | inr added ↦ subst (AllByRecursion OptionFits) (sym added.3) (all-append OptionFits pool run all fits)
+      ]
+    ]
+
+pool-fits : (pool : Pool) (entries : List EntryValue) (text : List ℕ) (after : Pool) → Packs pool entries text after → AllByRecursion OptionFits pool → AllByRecursion EntryFits entries → AllByRecursion OptionFits after
+pool-fits pool [] text after h all fits = subst (AllByRecursion OptionFits) (sym h.1) all
+pool-fits pool (e ∷ entries) text after h all fits =
+    let p = h.3 in
+    let one = fits.0 in
+    let middle = stands-fit pool e.first h.0.index1 p.middle p.first all one.1 in
+    let next = stands-fit p.middle e.second h.0.index2 h.1 p.second middle one.2 in
+    pool-fits h.1 entries h.2 after h.5 next fits.1
+
+heads-fit : (entries : List EntryValue) → AllByRecursion EntryFits entries → AllByRecursion (λ e. HeadFits e.head) entries
+heads-fit [] fits = tt
+heads-fit (e ∷ entries) fits = let one = fits.0 in (one.0, heads-fit entries fits.1)
+
+-- what is written is read
+pub written_is_read : (m : MessageValue) (text : List ℕ) → AllByRecursion EntryFits m.entries → WritesSd m text → Sd (as_read m) text
+written_is_read m text fits w = written_holds m text w (heads-fit m.entries fits) (pool-fits [] m.entries w.entries w.pool w.packs tt fits)

@@ -1,11 +1,43 @@
--- The first fault of bytes that hold no message.
-use Rattle.std.specs.Prelude.{◌≡◌, ◌⊎◌, ℕ, ◌+◌, ◌*◌, ◌/◌, ◌<◌, true, false, List, ◌++◌, length, slice_index, Some, None}
+-- The first fault of bytes that hold no message: the six cases in the order in which they are judged.
+use Rattle.std.specs.Prelude.{◌≡◌, ◌⊎◌, ℕ, ◌+◌, ◌*◌, ◌/◌, ◌%◌, ◌<◌, Bool, true, false, nat_lt, ◌==◌, ◌||◌, not, if◌then◌else◌, List, ◌++◌, length, slice_index, Option, Some, None}
 use Rattle.sd_wire.specs.declared.error.SdError.{SdError}
 use Rattle.sd_wire.specs.declared.error.SdError.TheVariants as errors
-use Rattle.sd_wire.specs.declared.error.SdError.TheVariants.{UnknownEntryType, OptionLength}
+use Rattle.sd_wire.specs.declared.error.SdError.TheVariants.{Truncated, EntriesLength, UnknownEntryType, OptionLength, TrailingBytes}
 use Rattle.sd_wire.specs.declared.option.SdOption.{SdOption}
+use Rattle.sd_wire.specs.Raw.{is_ipv4, is_ipv6}
+use Rattle.sd_wire.specs.Layout.{entries_len, options_place, options_end, entries_in, options_in, option_len}
 use Rattle.sd_wire.specs.Reading.{Spelled, SpellsOption}
-use Rattle.sd_wire.specs.Program.{header_fault, entries_len, entries_in, options_place, options_in, is_entry_type, option_size}
+
+-- the lengths do not fit the bytes: the first line that does not
+abbrev pub header_fault : List ℕ → Option SdError
+header_fault bytes =
+    if nat_lt (length bytes) 8 then Some (Truncated (length bytes))
+    else (if not (entries_len bytes % 16 == 0) then Some (EntriesLength 4)
+    else (if nat_lt (length bytes) (options_place bytes) then Some (Truncated (length bytes))
+    else (if nat_lt (length bytes) (options_end bytes) then Some (Truncated (length bytes))
+    else (if nat_lt (options_end bytes) (length bytes) then Some (TrailingBytes (options_end bytes))
+    else None))))
+
+-- the type is one of the four
+abbrev pub is_entry_type : ℕ → Bool
+is_entry_type kind = kind == 0x00 || kind == 0x01 || kind == 0x06 || kind == 0x07
+
+-- options of the type may have this length
+abbrev pub has_len : ℕ → ℕ → Bool
+has_len kind len =
+    if kind == 0x02 then len == 5
+    else (if is_ipv4 kind then len == 9
+    else (if is_ipv6 kind then len == 21
+    else true))
+
+-- how many bytes the option at the front has, if there is one
+abbrev pub option_size : List ℕ → Option ℕ
+option_size bytes =
+    if nat_lt (length bytes) 3 then None
+    else (if option_len bytes == 0 then None
+    else (if nat_lt (length bytes) (option_len bytes + 3) then None
+    else (if has_len (slice_index bytes 2) (option_len bytes) then Some (option_len bytes + 3)
+    else None)))
 
 -- the types of the first k entries are among the four
 abbrev pub AreTypes : ℕ → List ℕ → Type 0

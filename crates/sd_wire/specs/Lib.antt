@@ -3,9 +3,11 @@ pub mod Fields
 pub mod Values
 pub mod Spelling
 pub mod Reading
+pub mod Layout
+pub mod Faults
 pub mod Program
 pub mod Steps
-pub mod Faults
 pub mod Writing
 pub mod Written
 pub mod Splitting
+pub mod Examples

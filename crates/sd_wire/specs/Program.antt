@@ -1,8 +1,8 @@
 -- The plain program: what is read of bytes, or the first of the six faults.
-use Rattle.std.specs.Prelude.{ℕ, zero, suc, ◌+◌, ◌*◌, ◌%◌, ◌/◌, ◌≡◌, ◌≤◌, Bool, true, false, nat_lt, ◌==◌, ◌||◌, ◌&&◌, not, if◌then◌else◌, List, [], ◌∷◌, ◌++◌, length, take, drop, slice_index, slice_range, Option, Some, None, Result, Ok, Err}
+use Rattle.std.specs.Prelude.{ℕ, zero, suc, ◌+◌, ◌%◌, ◌/◌, ◌≡◌, ◌≤◌, true, ◌==◌, if◌then◌else◌, List, [], ◌∷◌, ◌++◌, length, drop, slice_index, slice_range, Option, Some, None, Result, Ok, Err}
 use Rattle.std.specs.Net.Addr.{segments_of}
 use Rattle.sd_wire.specs.declared.error.SdError.{SdError}
-use Rattle.sd_wire.specs.declared.error.SdError.TheVariants.{Truncated, EntriesLength, UnknownEntryType, OptionLength, TrailingBytes}
+use Rattle.sd_wire.specs.declared.error.SdError.TheVariants.{UnknownEntryType, OptionLength}
 use Rattle.sd_wire.specs.declared.endpoint.Ipv4Endpoint.{Ipv4Endpoint}
 use Rattle.sd_wire.specs.declared.endpoint.Ipv6Endpoint.{Ipv6Endpoint}
 use Rattle.sd_wire.specs.declared.option.SdOption.{SdOption}
@@ -15,47 +15,14 @@ use Rattle.sd_wire.specs.declared.entry.ServiceEntry.{ServiceEntry}
 use Rattle.sd_wire.specs.declared.entry.EventgroupEntry.{EventgroupEntry}
 use Rattle.sd_wire.specs.declared.entry.EntryHead.{EntryHead}
 use Rattle.sd_wire.specs.declared.entry.EntryHead.TheVariants.{Service, Eventgroup}
-use Rattle.sd_wire.specs.Raw.{is_ipv4, is_ipv6}
 use Rattle.sd_wire.specs.Fields.{field16, field24, field32, flags_in}
-use Rattle.sd_wire.specs.Values.{EntryValue, ReadValue, good, bad_run, SdValue}
+use Rattle.sd_wire.specs.Layout.{entries_len, options_place, entries_in, options_in, option_len}
+use Rattle.sd_wire.specs.Faults.{header_fault, is_entry_type, has_len, option_size}
+use Rattle.sd_wire.specs.Values.{ReadValue, good, bad_run, SdValue}
 use Rattle.sd_wire.specs.Spelling.{Runs}
 use Rattle.sd_wire.specs.Reading.{has_bad_run, selected}
 
--- ---- the header
-
-abbrev pub entries_len : List ℕ → ℕ
-entries_len bytes = field32 bytes 4
-
-abbrev pub options_place : List ℕ → ℕ
-options_place bytes = entries_len bytes + 12
-
-abbrev pub options_len : List ℕ → ℕ
-options_len bytes = field32 bytes (entries_len bytes + 8)
-
-abbrev pub options_end : List ℕ → ℕ
-options_end bytes = options_place bytes + options_len bytes
-
-abbrev pub entries_in : List ℕ → List ℕ
-entries_in bytes = slice_range bytes 8 (entries_len bytes + 8)
-
-abbrev pub options_in : List ℕ → List ℕ
-options_in bytes = drop (options_place bytes) bytes
-
--- the lengths do not fit the bytes
-abbrev pub header_fault : List ℕ → Option SdError
-header_fault bytes =
-    if nat_lt (length bytes) 8 then Some (Truncated (length bytes))
-    else (if not (entries_len bytes % 16 == 0) then Some (EntriesLength 4)
-    else (if nat_lt (length bytes) (options_place bytes) then Some (Truncated (length bytes))
-    else (if nat_lt (length bytes) (options_end bytes) then Some (Truncated (length bytes))
-    else (if nat_lt (options_end bytes) (length bytes) then Some (TrailingBytes (options_end bytes))
-    else None))))
-
 -- ---- the entries
-
--- the type is one of the four
-abbrev pub is_entry_type : ℕ → Bool
-is_entry_type kind = kind == 0x00 || kind == 0x01 || kind == 0x06 || kind == 0x07
 
 -- the first of n entries from place p on whose type is none of the four
 abbrev pub type_fault : ℕ → ℕ → List ℕ → Option SdError
@@ -113,26 +80,6 @@ entry_list zero pool bytes = []
 entry_list (suc n) pool bytes = entry_in pool bytes ∷ entry_list n pool (drop 16 bytes)
 
 -- ---- the options
-
-abbrev pub option_len : List ℕ → ℕ
-option_len bytes = field16 bytes 0
-
--- options of the type may have this length
-abbrev pub has_len : ℕ → ℕ → Bool
-has_len kind len =
-    if kind == 0x02 then len == 5
-    else (if is_ipv4 kind then len == 9
-    else (if is_ipv6 kind then len == 21
-    else true))
-
--- how many bytes the option at the front has, if there is one
-abbrev pub option_size : List ℕ → Option ℕ
-option_size bytes =
-    if nat_lt (length bytes) 3 then None
-    else (if option_len bytes == 0 then None
-    else (if nat_lt (length bytes) (option_len bytes + 3) then None
-    else (if has_len (slice_index bytes 2) (option_len bytes) then Some (option_len bytes + 3)
-    else None)))
 
 -- an option of so many bytes is at the front
 pub record HasOption (bytes : List ℕ) (n : ℕ) : Type 0 where

@@ -2,8 +2,8 @@
 use Rattle.std.specs.Prelude.{ℕ, ◌+◌, ◌^◌, ◌<◌, ◌≡◌, Bool, true, false, nat_lt, ◌||◌, ◌&&◌, List, [], ◌∷◌, ◌++◌, length, take, drop}
 use Rattle.sd_wire.specs.declared.option.SdOption.{SdOption}
 use Rattle.sd_wire.specs.declared.entry.EntryHead.{EntryHead}
-use Rattle.sd_wire.specs.Fields.{flags_in, IsBytes}
-use Rattle.sd_wire.specs.Values.{EntryValue, ReadValue, good, bad_run, SdValue}
+use Rattle.sd_wire.specs.Fields.{flags_in}
+use Rattle.sd_wire.specs.Values.{ReadValue, good, bad_run, SdValue}
 use Rattle.sd_wire.specs.Spelling.{option_bytes, OptionFits, Runs, RunsFit, entry_bytes, HeadFits, sd_bytes}
 
 -- the bytes are those of each of these, one after the other

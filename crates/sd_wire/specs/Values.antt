@@ -1,5 +1,5 @@
 -- Entries and messages without where their lists lie in memory.
-use Rattle.std.specs.Prelude.{ℕ, List, map}
+use Rattle.std.specs.Prelude.{List, map}
 use Rattle.sd_wire.specs.declared.flags.SdFlags.{SdFlags}
 use Rattle.sd_wire.specs.declared.option.SdOption.{SdOption}
 use Rattle.sd_wire.specs.declared.entry.EntryHead.{EntryHead}

@@ -1,11 +1,11 @@
 -- The one text of a message (SOME/IP Service Discovery, "Entries": how options are referenced; the order is our own).
-use Rattle.std.specs.Prelude.{◌≡◌, ◌⊎◌, ℕ, ◌+◌, ◌<◌, ◌≤◌, ◌^◌, List, [], ◌∷◌, ◌++◌, length, map, true, false}
+use Rattle.std.specs.Prelude.{◌≡◌, ◌⊎◌, ℕ, ◌<◌, ◌^◌, List, [], ◌∷◌, ◌++◌, length, map}
 use Rattle.std.specs.List.{flat_map, AllByRecursion}
 use Rattle.sd_wire.specs.declared.error.SdError.{SdError}
 use Rattle.sd_wire.specs.declared.error.SdError.TheVariants as errors
 use Rattle.sd_wire.specs.declared.option.SdOption.{SdOption}
 use Rattle.sd_wire.specs.Fields.{flags_byte}
-use Rattle.sd_wire.specs.Values.{EntryValue, ReadValue, good, SdValue, MessageValue}
+use Rattle.sd_wire.specs.Values.{EntryValue, good, SdValue, MessageValue}
 use Rattle.sd_wire.specs.Spelling.{option_bytes, OptionFits, Runs, RunsFit, entry_bytes, HeadFits, sd_bytes}
 use Rattle.sd_wire.specs.Reading.{selected}
 
@@ -54,6 +54,10 @@ Packs pool (e ∷ entries) text after =
 -- the bytes of the options of a pool
 abbrev pub pool_bytes : List SdOption → List ℕ
 pool_bytes pool = flat_map (option_bytes 0 0) pool
+
+-- the numbers of an entry and of its options fit their fields
+abbrev pub EntryFits : EntryValue → Type 0
+EntryFits e = HeadFits e.head × AllByRecursion OptionFits e.first × AllByRecursion OptionFits e.second
 
 -- the one text of a message: reserved bits are 0, and the pool begins empty
 pub record WritesSd (m : MessageValue) (text : List ℕ) : Type 0 where

@@ -1,12 +1,16 @@
-//! Entries (SOME/IP Service Discovery, "Entries").
-ghost use Rattle.std.specs.Prelude.{◌≡◌, ◌<◌, ◌≤◌, ◌%◌, Some, None};
+//! Entries (SOME/IP Service Discovery, "Service Entries" and "Eventgroup Entries").
+ghost use Rattle.std.specs.Prelude.{◌≡◌, ◌<◌, ◌≤◌, ◌%◌, ◌↔◌, IsTrue, Some, None};
+ghost use Rattle.sd_wire.specs.declared.entry.ServiceKind.TheVariants.{Find, Offer};
+ghost use Rattle.sd_wire.specs.declared.entry.EventgroupKind.TheVariants.{Subscribe, Ack};
 
 use crate::option::SdOption;
 use crate::ttl::Ttl;
 use std::marker::Model;
 
-/// A counter.
-#[derive(Clone, Copy, Debug, PartialEq, Eq)]
+/// Tells beginnings of one subscription apart: a number of four bits.
+///
+/// Contracts see it as that number.
+#[derive(Clone, Copy, Debug, PartialEq, Eq, PartialOrd, Ord)]
 pub struct Counter(u8);
 
 impl Model for Counter {
@@ -50,76 +54,136 @@ impl Counter {
     }
 }
 
-/// Which.
+/// What a service entry is for.
 #[derive(Clone, Copy, Debug, PartialEq, Eq)]
 pub enum ServiceKind {
-    /// 00
+    /// 00: a search for instances.
     Find,
-    /// 01
+    /// 01: an instance is offered, or with TTL 0 no longer.
     Offer,
 }
 
-/// Which.
+/// What an eventgroup entry is for.
 #[derive(Clone, Copy, Debug, PartialEq, Eq)]
 pub enum EventgroupKind {
-    /// 06
+    /// 06: a client subscribes, or with TTL 0 no longer.
     Subscribe,
-    /// 07
+    /// 07: a server accepts a subscription, or with TTL 0 refuses it.
     Ack,
 }
 
-/// A service entry.
+/// An entry about an instance of a service.
 #[derive(Clone, Copy, Debug, PartialEq, Eq)]
 pub struct ServiceEntry {
-    /// What.
+    /// Find or Offer.
     pub kind: ServiceKind,
-    /// What.
+    /// Service ID.
     pub service: u16,
-    /// What.
+    /// Instance ID.
     pub instance: u16,
-    /// What.
+    /// Major version, the Interface Version of the service's messages.
     pub major: u8,
-    /// What.
+    /// How long the entry is valid.
     pub ttl: Ttl,
-    /// What.
+    /// Minor version.
     pub minor: u32,
 }
 
-/// An eventgroup entry.
+impl ServiceEntry {
+    /// In a Find: any instance.
+    pub const ANY_INSTANCE: u16 = 0xffff;
+    /// In a Find: any major version.
+    pub const ANY_MAJOR: u8 = 0xff;
+    /// In a Find: any minor version.
+    pub const ANY_MINOR: u32 = 0xffff_ffff;
+
+    /// A Find, whatever its TTL is.
+    pub fn is_find(&self) -> bool
+        ensures { IsTrue result ↔ (self.now.kind ≡ Find) }
+    {
+        self.kind == ServiceKind::Find
+    }
+
+    /// An Offer with a TTL above 0.
+    pub fn is_offer(&self) -> bool
+        ensures { IsTrue result ↔ (self.now.kind ≡ Offer) × (0 < self.now.ttl) }
+    {
+        self.kind == ServiceKind::Offer && !self.ttl.is_zero()
+    }
+
+    /// An Offer with TTL 0: the instance is no longer offered.
+    pub fn is_stop_offer(&self) -> bool
+        ensures { IsTrue result ↔ (self.now.kind ≡ Offer) × (self.now.ttl ≡ 0) }
+    {
+        self.kind == ServiceKind::Offer && self.ttl.is_zero()
+    }
+}
+
+/// An entry about an eventgroup of an instance.
 #[derive(Clone, Copy, Debug, PartialEq, Eq)]
 pub struct EventgroupEntry {
-    /// What.
+    /// Subscribe or Ack.
     pub kind: EventgroupKind,
-    /// What.
+    /// Service ID.
     pub service: u16,
-    /// What.
+    /// Instance ID.
     pub instance: u16,
-    /// What.
+    /// Major version, the Interface Version of the service's messages.
     pub major: u8,
-    /// What.
+    /// How long the entry is valid.
     pub ttl: Ttl,
-    /// What.
+    /// Tells the beginnings of one client's subscription apart.
     pub counter: Counter,
-    /// What.
+    /// Eventgroup ID.
     pub eventgroup: u16,
 }
 
-/// An entry without its options.
+impl EventgroupEntry {
+    /// A Subscribe with a TTL above 0.
+    pub fn is_subscribe(&self) -> bool
+        ensures { IsTrue result ↔ (self.now.kind ≡ Subscribe) × (0 < self.now.ttl) }
+    {
+        self.kind == EventgroupKind::Subscribe && !self.ttl.is_zero()
+    }
+
+    /// A Subscribe with TTL 0: the client no longer subscribes.
+    pub fn is_stop_subscribe(&self) -> bool
+        ensures { IsTrue result ↔ (self.now.kind ≡ Subscribe) × (self.now.ttl ≡ 0) }
+    {
+        self.kind == EventgroupKind::Subscribe && self.ttl.is_zero()
+    }
+
+    /// An Ack with a TTL above 0: the subscription is accepted.
+    pub fn is_ack(&self) -> bool
+        ensures { IsTrue result ↔ (self.now.kind ≡ Ack) × (0 < self.now.ttl) }
+    {
+        self.kind == EventgroupKind::Ack && !self.ttl.is_zero()
+    }
+
+    /// An Ack with TTL 0: the subscription is refused.
+    pub fn is_nack(&self) -> bool
+        ensures { IsTrue result ↔ (self.now.kind ≡ Ack) × (self.now.ttl ≡ 0) }
+    {
+        self.kind == EventgroupKind::Ack && self.ttl.is_zero()
+    }
+}
+
+/// An entry without its options. The indexes and counts of its runs follow from the options.
 #[derive(Clone, Copy, Debug, PartialEq, Eq)]
 pub enum EntryHead {
-    /// Service.
+    /// Find or Offer.
     Service(ServiceEntry),
-    /// Eventgroup.
+    /// Subscribe or Ack.
     Eventgroup(EventgroupEntry),
 }
 
-/// An entry.
-#[derive(Debug, Drop)]
+/// An entry with its options: those of the first run, and then those of the second.
+#[derive(Debug, Drop, PartialEq, Eq)]
 pub struct Entry {
-    /// What.
+    /// The entry without its options.
     pub head: EntryHead,
-    /// What.
+    /// The options of the first run.
     pub run1: Vec<SdOption>,
-    /// What.
+    /// The options of the second run.
     pub run2: Vec<SdOption>,
 }

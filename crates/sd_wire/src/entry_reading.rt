@@ -1,13 +1,11 @@
 //! Entries from bytes.
-ghost use Rattle.std.specs.Prelude.{◌≡◌, ◌≤◌, ◌+◌, ◌*◌, ◌/◌, ◌%◌, false, None, length, slice_index, map, drop, IfOk, IfErr, OnOk, Some};
+ghost use Rattle.std.specs.Prelude.{◌≡◌, ◌≤◌, ◌+◌, ◌*◌, ◌/◌, ◌%◌, false, None, length, map, IfOk, IfErr, OnOk, Some};
 ghost use Rattle.sd_wire.specs.declared.error.SdError.{SdError};
-ghost use Rattle.sd_wire.specs.declared.error.SdError.TheVariants.{OutOfMemory};
-ghost use Rattle.sd_wire.specs.Fields.{field24};
-ghost use Rattle.sd_wire.specs.Values.{view_entry, view_read};
-ghost use Rattle.sd_wire.specs.Spelling.{Runs};
+ghost use Rattle.sd_wire.specs.Values.{view_read};
 ghost use Rattle.sd_wire.specs.Steps.{IsReadingError};
 ghost use Rattle.sd_wire.specs.Reading.{passes, selected};
-ghost use Rattle.sd_wire.specs.Program.{is_entry_type, type_fault, service_in, eventgroup_in, head_in, runs_in, entry_of, entry_in, entry_list};
+ghost use Rattle.sd_wire.specs.Faults.{is_entry_type};
+ghost use Rattle.sd_wire.specs.Program.{type_fault, service_in, eventgroup_in, head_in, entry_in, entry_list};
 
 use crate::entry::{
     Counter, Entry, EntryHead, EventgroupEntry, EventgroupKind, ServiceEntry, ServiceKind,
@@ -22,6 +20,7 @@ use std::alloc::{AllocError, Global};
 /// The bytes of an entry.
 pub(crate) const ENTRY_LEN: usize = 16;
 
+/// The type is one of the four.
 fn is_type(byte: u8) -> bool
     ensures { result ≡ is_entry_type byte }
 {
@@ -42,6 +41,7 @@ pub(crate) fn check_types(entries: &[u8]) -> Result<(), SdError>
     Ok(())
 }
 
+/// The service entry at the front.
 fn service(kind: ServiceKind, bytes: &[u8]) -> ServiceEntry
     requires { 16 ≤ length bytes.now }
     ensures { result ≡ service_in kind bytes.now }
@@ -56,6 +56,7 @@ fn service(kind: ServiceKind, bytes: &[u8]) -> ServiceEntry
     }
 }
 
+/// The eventgroup entry at the front.
 fn eventgroup(kind: EventgroupKind, bytes: &[u8]) -> EventgroupEntry
     requires { 16 ≤ length bytes.now }
     ensures { result ≡ eventgroup_in kind bytes.now }

@@ -1,6 +1,6 @@
 //! The bytes of entries.
-ghost use Rattle.std.specs.Prelude.{◌≡◌, ◌<◌, ◌≤◌, ◌^◌, ◌+◌, ◌*◌, ◌++◌, ◌∷◌, length, take, drop, OnOk};
-ghost use Rattle.sd_wire.specs.Spelling.{RunsFit, service_type, eventgroup_type, common_bytes, entry_bytes, ServiceFits, EventgroupFits, HeadFits};
+ghost use Rattle.std.specs.Prelude.{◌≡◌, ◌<◌, ◌≤◌, ◌^◌, ◌+◌, ◌*◌, ◌++◌, ◌∷◌, length, take, drop};
+ghost use Rattle.sd_wire.specs.Spelling.{RunsFit, service_type, eventgroup_type, entry_bytes, ServiceFits, EventgroupFits, HeadFits};
 ghost use Rattle.sd_wire.specs.declared.entry.EntryHead.TheVariants.{Service, Eventgroup};
 ghost use Rattle.sd_wire.specs.Fields.{number16, number24};
 ghost use Rattle.sd_wire.specs.Written.{view_runs};
@@ -18,6 +18,7 @@ pub(crate) struct RunFields {
     pub(crate) count2: u8,
 }
 
+/// The number of a service entry's type.
 fn service_byte(kind: ServiceKind) -> u8
     ensures { result ≡ service_type kind }
 {
@@ -27,6 +28,7 @@ fn service_byte(kind: ServiceKind) -> u8
     }
 }
 
+/// The number of an eventgroup entry's type.
 fn eventgroup_byte(kind: EventgroupKind) -> u8
     ensures { result ≡ eventgroup_type kind }
 {
@@ -40,7 +42,8 @@ fn eventgroup_byte(kind: EventgroupKind) -> u8
 fn write_runs(text: &mut [u8], kind: u8, runs: RunFields)
     requires room { 16 ≤ length text.old }
     requires fits { RunsFit (view_runs runs) }
-    ensures { text.new ≡ kind ∷ runs.index1 ∷ runs.index2 ∷ (16 * runs.count1 + runs.count2) ∷ drop 4 text.old }
+    ensures { text.new ≡ kind ∷ runs.index1 ∷ runs.index2 ∷ (16 * runs.count1 + runs.count2)
+        ∷ drop 4 text.old }
 {
     text[0] = kind;
     text[1] = runs.index1;
@@ -51,7 +54,8 @@ fn write_runs(text: &mut [u8], kind: u8, runs: RunFields)
 /// Writes Service ID, Instance ID, major version and TTL to the next eight bytes.
 fn write_ids(text: &mut [u8], service: u16, instance: u16, major: u8, ttl: Ttl)
     requires { 16 ≤ length text.old }
-    ensures text { text.new ≡ take 4 text.old ++ (number16 service ++ number16 instance ++ major ∷ number24 ttl) ++ drop 12 text.old }
+    ensures text { text.new ≡ take 4 text.old
+        ++ (number16 service ++ number16 instance ++ major ∷ number24 ttl) ++ drop 12 text.old }
     ensures service { service < 2 ^ 16 }
     ensures instance { instance < 2 ^ 16 }
     ensures major { major < 2 ^ 8 }

@@ -19,7 +19,8 @@ pub enum SdError {
     /// An entry is neither Find, Offer, Subscribe nor Ack. Its first byte's place.
     #[error("UnknownEntryType at {0}")]
     UnknownEntryType(usize),
-    /// An option has no room, no length, or another one than its type wants. Its first byte's place.
+    /// An option has no room, no length, or another length than its type wants. Its first byte's
+    /// place.
     #[error("OptionLength at {0}")]
     OptionLength(usize),
     /// A run of more than 15 options, or one that would stand at an index above 255. The place is

@@ -71,11 +71,15 @@ impl Flags for SdFlags {
         SdFlags::FLAGS
     }
 
-    fn bits(&self) -> u8 {
+    fn bits(&self) -> u8
+        ensures { result ≡ flags_byte self.now }
+    {
         self.byte()
     }
 
-    fn from_bits_retain(bits: u8) -> SdFlags {
+    fn from_bits_retain(bits: u8) -> SdFlags
+        ensures { result ≡ flags_in bits }
+    {
         SdFlags::from_byte(bits)
     }
 }

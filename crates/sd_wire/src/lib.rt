@@ -1,4 +1,12 @@
-//! Service Discovery messages on the wire.
+//! Service Discovery messages on the wire: entries, the options that they name, and their bytes
+//! (SOME/IP Service Discovery, "Service Discovery ECU-internal Interface" and "Header").
+//!
+//! - [`SdMessage`], [`Entry`], [`SdOption`] and their parts: what a message says. They hold only
+//!   numbers that fit their fields, and each value on the wire has one value here;
+//! - [`read_sd`]: bytes are read as a message, or refused at their first fault;
+//! - [`write_sd`]: the one text of a message, with each run of options written once;
+//! - [`split_entries`]: entries are split into messages that fit a datagram;
+//! - [`laws`]: what the definitions behind the contracts promise, whatever code reads and writes.
 #![tactic(auto)]
 
 mod endpoint;
@@ -8,6 +16,7 @@ mod entry_writing;
 mod error;
 mod fields;
 mod flags;
+pub mod laws;
 mod message;
 mod option;
 mod option_reading;
@@ -31,3 +40,6 @@ pub use reading::read_sd;
 pub use splitting::split_entries;
 pub use ttl::Ttl;
 pub use writing::write_sd;
+
+#[cfg(test)]
+mod tests;

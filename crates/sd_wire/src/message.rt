@@ -1,31 +1,32 @@
-//! Messages.
+//! Service Discovery messages (SOME/IP Service Discovery, "Header"): the payload of a SOME/IP
+//! message with the Message ID FFFF8100.
 
 use crate::entry::{Entry, EntryHead};
 use crate::flags::SdFlags;
 
 /// A message to write.
-#[derive(Debug, Drop)]
+#[derive(Debug, Drop, PartialEq, Eq)]
 pub struct SdMessage {
-    /// What.
+    /// Reboot and Unicast.
     pub flags: SdFlags,
-    /// What.
+    /// The entries in order.
     pub entries: Vec<Entry>,
 }
 
 /// An entry that was read.
-#[derive(Debug, Drop)]
+#[derive(Debug, Drop, PartialEq, Eq)]
 pub enum ReadEntry {
-    /// Good.
+    /// Its runs select its options.
     Good(Entry),
-    /// Bad.
+    /// A run with options passes the options of the message; neither run is known.
     BadRun(EntryHead),
 }
 
 /// A message that was read.
-#[derive(Debug, Drop)]
+#[derive(Debug, Drop, PartialEq, Eq)]
 pub struct SdRead {
-    /// What.
+    /// Reboot and Unicast.
     pub flags: SdFlags,
-    /// What.
+    /// The entries in order.
     pub entries: Vec<ReadEntry>,
 }

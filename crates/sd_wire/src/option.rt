@@ -1,5 +1,5 @@
 //! Options (SOME/IP Service Discovery, "Options").
-ghost use Rattle.std.specs.Prelude.{◌≡◌, Some, None, IfSome, IfNone};
+ghost use Rattle.std.specs.Prelude.{◌≡◌, Some, None};
 ghost use Rattle.sd_wire.specs.Raw.{RawValue, IsRaw, is_known};
 
 use crate::endpoint::{Ipv4Endpoint, Ipv6Endpoint};

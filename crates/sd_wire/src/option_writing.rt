@@ -1,12 +1,9 @@
 //! The bytes of options.
-ghost use Rattle.std.specs.Prelude.{◌≡◌, ◌<◌, ◌≤◌, ◌^◌, ◌+◌, ◌++◌, ℕ, length, take, slice_index, OnOk};
-ghost use Rattle.std.specs.List.{flat_map, AllByRecursion};
+ghost use Rattle.std.specs.Prelude.{◌≡◌, ◌<◌, ◌≤◌, ◌^◌, ◌+◌, ◌++◌, ℕ, length, slice_index, OnOk};
 ghost use Rattle.std.specs.Net.Addr.{ipv4_octets, ipv6_octets, IsIpv4Addr, IsIpv6Addr};
 ghost use Rattle.sd_wire.specs.Fields.{IsBytes};
-ghost use Rattle.sd_wire.specs.Raw.{RawValue};
 ghost use Rattle.sd_wire.specs.Spelling.{ipv4_bytes, ipv6_bytes, option_bytes, Ipv4Fits, Ipv6Fits, RawFits, OptionFits};
 ghost use Rattle.sd_wire.specs.declared.option.SdOption.TheVariants.{LoadBalancing, Raw};
-ghost use Rattle.sd_wire.specs.Writing.{pool_bytes};
 
 use crate::endpoint::{Ipv4Endpoint, Ipv6Endpoint, Protocol};
 use crate::option::{RawOption, SdOption};
@@ -15,7 +12,8 @@ use std::net::{Ipv4Addr, Ipv6Addr};
 
 /// Adds a load balancing option.
 fn put_load(priority: u16, weight: u16, out: &mut Vec<u8>) -> Result<(), AllocError>
-    ensures { OnOk result (out.new.items ≡ out.old.items ++ option_bytes 0 0 (LoadBalancing priority weight)) }
+    ensures { OnOk result (out.new.items
+        ≡ out.old.items ++ option_bytes 0 0 (LoadBalancing priority weight)) }
 {
     let [a, b] = priority.to_be_bytes();
     let [c, d] = weight.to_be_bytes();
@@ -23,14 +21,14 @@ fn put_load(priority: u16, weight: u16, out: &mut Vec<u8>) -> Result<(), AllocEr
     Ok(())
 }
 
-/// What the type of some bytes says of them.
+/// Does nothing: its contract says what the type of four octets says of them.
 fn are_octets(octets: &[u8])
     requires { length octets.now ≡ 4 }
     ensures len { length octets.now ≡ 4 }
     ensures fit { IsBytes octets.now }
 {}
 
-/// What the type of some segments says of them.
+/// Does nothing: its contract says what the type of eight segments says of them.
 fn are_segments(segments: &[u16])
     requires { length segments.now ≡ 8 }
     ensures len { length segments.now ≡ 8 }
@@ -94,7 +92,8 @@ fn put_ipv6(kind: u8, endpoint: &Ipv6Endpoint, out: &mut Vec<u8>) -> Result<(), 
 
 /// Adds an option without a layout.
 fn put_raw(option: &RawOption, out: &mut Vec<u8>) -> Result<(), AllocError>
-    ensures text { OnOk result (out.new.items ≡ out.old.items ++ option_bytes 0 0 (Raw option.now)) }
+    ensures text { OnOk result (out.new.items
+        ≡ out.old.items ++ option_bytes 0 0 (Raw option.now)) }
     ensures fits { OnOk result (RawFits option.now) }
 {
     let kind = option.kind();
@@ -139,6 +138,7 @@ pub(crate) fn option_len(option: &SdOption) -> usize
     }
 }
 
+/// How many bytes an IPv4 option has.
 fn ipv4_len(endpoint: &Ipv4Endpoint) -> usize
     ensures len { result ≡ length (ipv4_bytes 0 0 0 endpoint.now) }
     ensures most { result ≤ 65538 }
@@ -146,6 +146,7 @@ fn ipv4_len(endpoint: &Ipv4Endpoint) -> usize
     8 + ipv4_octets(endpoint.socket.ip()).len()
 }
 
+/// How many bytes an IPv6 option has.
 fn ipv6_len(endpoint: &Ipv6Endpoint) -> usize
     ensures len { result ≡ length (ipv6_bytes 0 0 0 endpoint.now) }
     ensures most { result ≤ 65538 }

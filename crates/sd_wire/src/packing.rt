@@ -29,7 +29,8 @@ pub(crate) fn place_entry(
 ) -> Result<RunFields, SdError>
     ensures placed { IfOk result (λ runs. PlacesEntry pool.old.items (view_entry entry.now)
         (view_runs runs) pool.new.items) }
-    ensures refused { IfErr result (λ e. IsPlaceError pool.old.items (view_entry entry.now) number e) }
+    ensures refused { IfErr result (λ e. IsPlaceError pool.old.items (view_entry entry.now) number
+        e) }
 {
     let count1 = entry.run1.len();
     let count2 = entry.run2.len();
@@ -57,8 +58,8 @@ pub(crate) fn place_entry(
 
 /// The bytes of the entries, and the pool of their options.
 pub(crate) fn pack(alloc: Global, entries: &[Entry]) -> Result<(Vec<u8>, Vec<SdOption>), SdError>
-    ensures packs { IfOk result (λ packed. Packs [] (map view_entry entries.now) packed.0.items
-        packed.1.items) }
+    ensures packs { IfOk result (λ packed. Packs [] (map view_entry entries.now)
+        packed.0.items packed.1.items) }
     ensures heads { IfOk result (λ packed. AllByRecursion (λ e. HeadFits e.head)
         (map view_entry entries.now)) }
     ensures refused { IfErr result (λ e. IsPackError (map view_entry entries.now) e) }

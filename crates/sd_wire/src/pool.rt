@@ -1,12 +1,11 @@
 //! The pool of options that the runs of entries are written from.
-ghost use Rattle.std.specs.Prelude.{◌≡◌, ◌<◌, ◌≤◌, ◌↔◌, ◌+◌, IsTrue, length, take, [], ◌++◌, ◌∷◌, IfOk, IfErr, IfSome, IfNone};
-ghost use Rattle.sd_wire.specs.declared.error.SdError.TheVariants.{OutOfMemory};
-ghost use Rattle.sd_wire.specs.Values.{view_entry};
+ghost use Rattle.std.specs.Prelude.{◌≡◌, ◌<◌, ◌↔◌, IsTrue, length, take, ◌++◌, IfOk, IfSome, IfNone};
 ghost use Rattle.sd_wire.specs.Writing.{IsLeast, IsNowhere, Stands};
 
 use crate::option::SdOption;
 use std::alloc::AllocError;
 
+/// The options are equal.
 fn same(a: &SdOption, b: &SdOption) -> bool
     ensures { IsTrue result ↔ (a.now ≡ b.now) }
 {

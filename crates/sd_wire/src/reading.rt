@@ -5,7 +5,9 @@ ghost use Rattle.sd_wire.specs.Values.{SdValue, view_sd};
 ghost use Rattle.sd_wire.specs.Reading.{Sd};
 ghost use Rattle.sd_wire.specs.Faults.{SdFault, IsFirstFault, fault_place};
 ghost use Rattle.sd_wire.specs.Steps.{Gives, IsReadingError};
-ghost use Rattle.sd_wire.specs.Program.{header_fault, options_place, reading};
+ghost use Rattle.sd_wire.specs.Layout.{options_place};
+ghost use Rattle.sd_wire.specs.Faults.{header_fault};
+ghost use Rattle.sd_wire.specs.Program.{reading};
 
 use crate::entry_reading::{check_types, read_entries};
 use crate::error::SdError;

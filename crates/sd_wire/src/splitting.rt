@@ -73,7 +73,8 @@ fn front(alloc: Global, entries: &[Entry]) -> Result<usize, SdError>
     Ok(entries.len())
 }
 
-/// Places an entry in the pool, and says how many bytes it adds to a message. None if it is refused.
+/// Places an entry in the pool, and says how many bytes it adds to a message. None where it is
+/// refused.
 fn grow(pool: &mut Vec<SdOption>, entry: &Entry) -> Result<Option<usize>, SdError>
     requires { length pool.old.items ≤ 270 }
     ensures grown { IfOk result (λ bytes. IsGrown pool.old.items (view_entry entry.now) bytes

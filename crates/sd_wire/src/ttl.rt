@@ -1,5 +1,5 @@
 //! How long an entry is valid (SOME/IP Service Discovery, "TTL").
-ghost use Rattle.std.specs.Prelude.{◌≡◌, ◌<◌, ◌≤◌, ◌^◌, Some, None};
+ghost use Rattle.std.specs.Prelude.{◌≡◌, ◌<◌, ◌≤◌, ◌^◌, ◌↔◌, IsTrue, Some, None};
 
 use std::marker::Model;
 
@@ -23,10 +23,10 @@ impl Model for Ttl {
 }
 
 impl Ttl {
-    /// What the entry offered ends.
+    /// 0: what the entry is about ends.
     pub const ZERO: Ttl = Ttl(0);
 
-    /// Until the next reboot of the sender.
+    /// FFFFFF: until the next reboot of the sender.
     pub const UNTIL_REBOOT: Ttl = Ttl(0xff_ffff);
 
     /// So many seconds, if they fit 24 bits.
@@ -39,6 +39,13 @@ impl Ttl {
         } else {
             None
         }
+    }
+
+    /// Whether it is 0.
+    pub fn is_zero(self) -> bool
+        ensures { IsTrue result ↔ (self ≡ 0) }
+    {
+        self == Ttl::ZERO
     }
 
     /// The number of a field of 24 bits.

@@ -1,6 +1,6 @@
 //! The bytes of messages (SOME/IP Service Discovery, "Header").
-ghost use Rattle.std.specs.Prelude.{◌≡◌, ◌<◌, ◌≤◌, ◌^◌, ◌++◌, ℕ, List, Err, length, IfOk, IfErr, OnOk, OnErr};
-ghost use Rattle.sd_wire.specs.declared.error.SdError.TheVariants.{OutOfMemory, TooManyOptions};
+ghost use Rattle.std.specs.Prelude.{◌≡◌, ◌<◌, ◌≤◌, ◌^◌, ◌++◌, ℕ, List, length, IfOk, IfErr, OnOk, OnErr};
+ghost use Rattle.sd_wire.specs.declared.error.SdError.TheVariants.{OutOfMemory};
 ghost use Rattle.sd_wire.specs.Fields.{number32};
 ghost use Rattle.sd_wire.specs.Values.{view_message};
 ghost use Rattle.sd_wire.specs.Reading.{Sd};
@@ -14,10 +14,11 @@ use std::alloc::{AllocError, Global};
 
 /// Adds the bytes of the message at the end of `out`: the payload behind the header of SOME/IP.
 ///
-/// Options that several runs name are written once. Entry by entry, the first run before the second,
-/// a run stands at the least index at which the options so far hold it in one piece; if they hold it
-/// nowhere, it is added whole at their end. A run of more than 15 options or one at an index above
-/// 255 is `TooManyOptions`, with the number of its entry from 0. An `Err` leaves `out` as it was.
+/// Options that several runs name are written once. Entry by entry, the first run before the
+/// second, a run stands at the least index at which the options so far hold it in one piece; if they
+/// hold it nowhere, it is added whole at their end. A run of more than 15 options or one at an index
+/// above 255 is `TooManyOptions`, with the number of its entry from 0. An `Err` leaves `out` as it
+/// was.
 pub fn write_sd(alloc: Global, message: &SdMessage, out: &mut Vec<u8>) -> Result<(), SdError>
     requires { length message.now.entries.items ≤ 65535 }
     // The text of the message is added, and it is read as the message.
@@ -57,7 +58,8 @@ fn text_of(alloc: Global, message: &SdMessage) -> Result<Vec<u8>, SdError>
 /// Adds a part behind its length.
 fn put_part(part: &[u8], out: &mut Vec<u8>) -> Result<(), AllocError>
     requires { length part.now < 2 ^ 32 }
-    ensures { OnOk result (out.new.items ≡ out.old.items ++ (number32 (length part.now) ++ part.now)) }
+    ensures { OnOk result (out.new.items
+        ≡ out.old.items ++ (number32 (length part.now) ++ part.now)) }
 {
     out.extend_from_slice(&(part.len() as u32).to_be_bytes())?;
     out.extend_from_slice(part)?;

@@ -1,4 +1,4 @@
-use Rattle.std.proofs.Common.{sym, ◌∙◌, rules, ◌≡◌, ◌+◌, suc, arith}
+use Rattle.std.proofs.Common.{sym, ◌∙◌, ◌≡◌, ◌+◌, suc, arith}
 use Rattle.sd_wire.proofs.EntryLemmas.{type_fault-found, type_fault-more}
 use Rattle.sd_wire.proofs.entry_reading.check_types.Goals as goal
 

@@ -1,7 +1,7 @@
-use Rattle.std.proofs.Common.{◌≡◌, ◌+◌, ◌*◌, ◌++◌, ◌∷◌, [], suc, map, drop, ap, ◌∙◌, sym, arith, rules}
+use Rattle.std.proofs.Common.{◌≡◌, ◌+◌, ◌*◌, suc, drop, ◌∙◌, sym, arith}
 use Rattle.std.proofs.lemmas.List.{map_push, take_rest}
-use Rattle.sd_wire.specs.Values.{ReadValue, view_read}
-use Rattle.sd_wire.specs.Program.{entry_in, entry_list}
+use Rattle.sd_wire.specs.Values.{view_read}
+use Rattle.sd_wire.specs.Program.{entry_in}
 use Rattle.sd_wire.proofs.EntryLemmas.{entry_list-push}
 use Rattle.sd_wire.proofs.entry_reading.read_entries.Goals as goal
 

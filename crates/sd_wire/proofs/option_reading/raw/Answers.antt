@@ -1,4 +1,4 @@
-use Rattle.std.proofs.Common.{◌≡◌, ◌-◌, ◌∙◌, ap, length, sym, rules, arith, slice_range, List, ℕ}
+use Rattle.std.proofs.Common.{◌≡◌, ◌∙◌, ap, arith, slice_range}
 use Rattle.sd_wire.proofs.FieldLemmas.{field16_fits, length-slice}
 use Rattle.sd_wire.specs.Fields.{IsBytes}
 use Rattle.sd_wire.proofs.option_reading.raw.Goals as goal

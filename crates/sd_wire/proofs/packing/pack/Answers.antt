@@ -1,4 +1,4 @@
-use Rattle.std.proofs.Common.{◌≡◌, length, refl, ap, rules, arith}
+use Rattle.std.proofs.Common.{◌≡◌, length, rules}
 use Rattle.std.proofs.lemmas.Result.{err_from_is_err_and}
 use Rattle.sd_wire.specs.Written.{view_runs}
 use Rattle.sd_wire.proofs.PackLemmas.{packed_more, packed_error}

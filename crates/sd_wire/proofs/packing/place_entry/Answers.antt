@@ -1,4 +1,4 @@
-use Rattle.std.proofs.Common.{refl, inl, inr, arith, rules, sym, ◌<◌}
+use Rattle.std.proofs.Common.{refl, inr}
 use Rattle.sd_wire.proofs.packing.place_entry.Goals as goal
 
 pub returns-then-index2-gt-LAST_INDEX-clause-refused : goal.returns-then-index2-gt-LAST_INDEX-clause-refused

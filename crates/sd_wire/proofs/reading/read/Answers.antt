@@ -1,7 +1,7 @@
-use Rattle.std.proofs.Common.{◌≡◌, ◌+◌, ◌-◌, ◌/◌, ◌∙◌, ap, sym, drop, length, None, Err, rules, arith, slice_range}
+use Rattle.std.proofs.Common.{◌≡◌, ◌∙◌, ap, drop}
 use Rattle.std.proofs.lemmas.Result.{err_from_is_err_and}
 use Rattle.std.proofs.lemmas.List.{take_rest}
-use Rattle.sd_wire.specs.Program.{entries_len, entries_in, options_place, options_in, options_from, header_fault, type_fault, value_by, reading}
+use Rattle.sd_wire.specs.Program.{options_from, value_by, reading}
 use Rattle.sd_wire.proofs.ReadingLemmas.{fails_too, reading-at}
 use Rattle.sd_wire.proofs.reading.read.Goals as goal
 

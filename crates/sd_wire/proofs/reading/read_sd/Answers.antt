@@ -1,4 +1,4 @@
-use Rattle.std.proofs.Common.{◌≡◌, ℕ, List, Ok, Err, sym, ap, ◌∙◌, subst, arith, rules, Result}
+use Rattle.std.proofs.Common.{ℕ, List, Ok, Err, subst, arith, Result}
 use Rattle.std.specs.Prelude.{IfOk, IfErr}
 use Rattle.sd_wire.specs.declared.error.SdError.{SdError}
 use Rattle.sd_wire.specs.declared.message.SdRead.{SdRead}

@@ -1,7 +1,7 @@
-use Rattle.std.proofs.Common.{◌≡◌, ◌≤◌, ◌<◌, ◌*◌, ◌^◌, length, map, drop, take, [], ap, sym, ◌∙◌, subst, rules, arith, List}
+use Rattle.std.proofs.Common.{◌≡◌, length, map, ap, rules, arith}
 use Rattle.std.proofs.lemmas.List.{take_rest, length-drop, nil_from_length}
-use Rattle.sd_wire.specs.Values.{EntryValue, view_entry}
-use Rattle.sd_wire.proofs.SplitLemmas.{AreFrontsUpTo, fronts_more, fronts_all, drop_view, length_view}
+use Rattle.sd_wire.specs.Values.{view_entry}
+use Rattle.sd_wire.proofs.SplitLemmas.{fronts_more, fronts_all, drop_view}
 use Rattle.sd_wire.proofs.splitting.split.Goals as goal
 
 pub loop-rest-preserved : goal.loop-rest-preserved

@@ -1,5 +1,5 @@
 use Rattle.std.proofs.Common.{◌≡◌, List, ℕ, Result, Ok, Err, map}
-use Rattle.std.specs.Prelude.{IfOk, Vec}
+use Rattle.std.specs.Prelude.{IfOk}
 use Rattle.sd_wire.specs.declared.error.SdError.{SdError}
 use Rattle.sd_wire.specs.Values.{EntryValue, view_entry}
 use Rattle.sd_wire.specs.Splitting.{AreFronts}

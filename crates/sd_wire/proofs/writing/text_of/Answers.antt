@@ -1,5 +1,4 @@
-use Rattle.std.proofs.Common.{◌≡◌, ℕ, List, ◌++◌, ◌∷◌, [], length, refl, ap, sym, ◌∙◌, rules, arith, ◌<◌, ◌^◌, subst}
-use Rattle.std.proofs.lemmas.Grind.{common_steps}
+use Rattle.std.proofs.Common.{◌≡◌, ℕ, List, rules}
 use Rattle.sd_wire.specs.Fields.{flags_byte}
 use Rattle.sd_wire.specs.Values.{MessageValue, view_message}
 use Rattle.sd_wire.specs.Spelling.{sd_bytes}
