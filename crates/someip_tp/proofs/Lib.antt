@@ -5,3 +5,4 @@ pub mod KeyOrder
 pub mod PartialLemmas
 pub mod Entries
 pub mod StoreLemmas
+pub mod MomentLemmas

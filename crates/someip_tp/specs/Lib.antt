@@ -9,3 +9,4 @@ pub mod Pieces
 pub mod Partials
 pub mod Stores
 pub mod Calls
+pub mod Moments
