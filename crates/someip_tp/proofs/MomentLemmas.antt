@@ -217,3 +217,6 @@ none_at calls i last d lt is so fit =
 pub all_followed : (calls : List TpCall) (i last : ℕ) → length calls ≤ i → AreInTime calls ↔ FollowFrom last (drop i calls) → true ≡ true ↔ AreInTime calls
 all_followed calls i last le so =
     ((λ h. so.1 (subst (FollowFrom last) (sym (drop_of_length-le calls le)) (none_follow last))), (λ fit. refl))
+
+pub may_run : (limits : Limits) (parts : Parts) (calls : List TpCall) → parts ≡ empty → true ≡ true ↔ AreInTime calls → MayCalls limits calls parts
+may_run limits parts calls is fit = subst (MayCalls limits calls) (sym is) (in_time_may limits calls (fit.0 refl))
