@@ -1,5 +1,5 @@
 -- Moments that never fall are what a list of calls needs.
-use Rattle.std.proofs.Common.{◌≡◌, ◌↔◌, ℕ, zero, suc, ◌+◌, ◌≤◌, ◌<◌, ◌%◌, Bool, true, false, cond, not, nat_le, ◌&&◌, ◌==◌, List, [], ◌∷◌, length, get_or, Option, None, Some, Result, Ok, Err, refl, sym, ap, subst, drop, ◌∙◌, arith}
+use Rattle.std.proofs.Common.{◌≡◌, ◌≢◌, ◌↔◌, ℕ, zero, suc, ◌+◌, ◌≤◌, ◌<◌, ◌%◌, Bool, true, false, cond, not, nat_le, ◌&&◌, ◌==◌, List, [], ◌∷◌, length, get_or, Option, None, Some, Result, Ok, Err, refl, sym, ap, subst, drop, ◌∙◌, arith}
 use Rattle.std.specs.Option.{is_some}
 use Rattle.std.specs.List.{All}
 use Rattle.std.specs.List.Sorted.{IsNonDecreasing}
@@ -19,7 +19,7 @@ use Rattle.someip_tp.specs.Keys.{key_cmp}
 use Rattle.someip_tp.specs.Retained.{kept as passed}
 use Rattle.someip_tp.specs.Parts.{Part, Parts, Limits, NoneAfter, is_gone, parts_at}
 use Rattle.someip_tp.specs.Offers.{Offer, offer, judged, kept, parts_after, part_under, with_offer, message_at, parts_less}
-use Rattle.someip_tp.specs.Calls.{MayCalls, parts_after_call}
+use Rattle.someip_tp.specs.Calls.{MayCalls}
 use Rattle.someip_tp.specs.Moments.{IsAligned, AreInTime, moments, moment_after}
 use Rattle.someip_tp.proofs.Entries.{get-retain}
 use Rattle.someip_tp.proofs.KeyOrder.{keys_total, exact_keys}
@@ -220,3 +220,22 @@ all_followed calls i last le so =
 
 pub may_run : (limits : Limits) (parts : Parts) (calls : List TpCall) → parts ≡ empty → true ≡ true ↔ AreInTime calls → MayCalls limits calls parts
 may_run limits parts calls is fit = subst (MayCalls limits calls) (sym is) (in_time_may limits calls (fit.0 refl))
+
+-- ---- an offer that was made
+
+-- whether memory was wanting or not
+pub none_after-offered : (now : ℕ) (limits : Limits) (o : Offer) (parts left : Parts) (r : Result Offered TpError) → (r ≢ Err OutOfMemory → left ≡ parts_after limits now o parts)
+    → (r ≡ Err OutOfMemory → left ≡ parts_at limits now parts) → NoneAfter now parts → NoneAfter now left
+none_after-offered now limits o parts left r after at none = cases r after at
+  where
+    offered : left ≡ parts_after limits now o parts → NoneAfter now left
+    offered is = subst (NoneAfter now) (sym is) (none_after-offer now limits o parts none)
+
+    cases : (r : Result Offered TpError) → (r ≢ Err OutOfMemory → left ≡ parts_after limits now o parts) → (r ≡ Err OutOfMemory → left ≡ parts_at limits now parts) → NoneAfter now left
+    cases (Ok x) after at = offered (after (λ e. cc))
+    cases (Err Unaligned) after at = offered (after (λ e. cc))
+    cases (Err TooLong) after at = offered (after (λ e. cc))
+    cases (Err Conflict) after at = offered (after (λ e. cc))
+    cases (Err NoSlot) after at = offered (after (λ e. cc))
+    cases (Err NoHeader) after at = offered (after (λ e. cc))
+    cases (Err OutOfMemory) after at = subst (NoneAfter now) (sym (at refl)) (none_after-parts_at now limits now parts none)

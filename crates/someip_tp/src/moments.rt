@@ -1,8 +1,10 @@
 //! When a store may be called: the moments of the segments that are offered never fall.
-ghost use Rattle.std.specs.Prelude.{◌≡◌, ◌≤◌, ◌↔◌, ℕ, List, true};
+ghost use Rattle.std.specs.Prelude.{◌≡◌, ◌≢◌, ◌≤◌, ◌↔◌, ℕ, List, Result, Err, true};
 ghost use Rattle.std.specs.FinMap as map;
 ghost use Rattle.someip_tp.specs.declared.key.ReassemblyKey.{ReassemblyKey};
 ghost use Rattle.someip_tp.specs.declared.calls.TpCall.{TpCall};
+ghost use Rattle.someip_tp.specs.declared.error.TpError.{TpError};
+ghost use Rattle.someip_tp.specs.declared.reassembly.Offered.{Offered};
 ghost use Rattle.someip_tp.specs.Parts.{Limits, Parts, NoneAfter, parts_at};
 ghost use Rattle.someip_tp.specs.Offers.{Offer, parts_after, parts_less};
 ghost use Rattle.someip_tp.specs.Calls.{MayCalls};
@@ -59,6 +61,12 @@ pub fn no_part_is_ahead_of_its_caller()
         → NoneAfter next parts }
     ensures offer { (now : ℕ) (limits : Limits) (segment : Offer) (parts : Parts)
         → NoneAfter now parts → NoneAfter now (parts_after limits now segment parts) }
+    // The same of the parts that are left by a call of `offer`, for which memory may be wanting.
+    ensures offered { (now : ℕ) (limits : Limits) (segment : Offer) (parts left : Parts)
+        (result : Result Offered TpError)
+        → (result ≢ Err TpError.OutOfMemory → left ≡ parts_after limits now segment parts)
+        → (result ≡ Err TpError.OutOfMemory → left ≡ parts_at limits now parts)
+        → NoneAfter now parts → NoneAfter now left }
     ensures take { (now : ℕ) (key : ReassemblyKey) (parts : Parts)
         → NoneAfter now parts → NoneAfter now (parts_less parts key) }
     ensures expire { (now : ℕ) (limits : Limits) (at : ℕ) (parts : Parts)

@@ -3,8 +3,8 @@ use super::call::{CONFLICT, Call, NO_SLOT, NONE_TAKEN, PART, Row, TAKEN, WHOLE};
 use super::rows::{ONE, OVERLAPS, REFUSALS, TIMES, TOTALS, TWO};
 use super::{HEADER, payload_of};
 use crate::{
-    Reassembly, ReassemblyKey, SegmentList, Segments, TpAnswer, TpCall, TpError, are_in_time,
-    read_segment, run_calls,
+    Offered, Reassembly, ReassemblyKey, SegmentList, Segments, TpAnswer, TpCall, TpError,
+    are_in_time, read_segment, run_calls,
 };
 use someip_wire::{Message, MessageType, ReturnCode};
 use std::alloc::{AllocError, Global};
@@ -35,33 +35,21 @@ fn key(session: u16) -> ReassemblyKey {
     }
 }
 
-/// The offer of a segment at 0.
-fn offer(key: ReassemblyKey, offset: u32, more: bool, bytes: &[u8]) -> TpCall<'_> {
+/// The offer of a segment.
+fn offer(key: ReassemblyKey, offset: u32, more: bool, bytes: &[u8], now: u64) -> TpCall<'_> {
     TpCall::Offer {
         key,
         offset,
         more,
         bytes,
-        now: 0,
+        now,
     }
 }
 
 fn call_of(call: Call) -> TpCall<'static> {
     match call {
-        Call::More(session, offset, bytes, now) => TpCall::Offer {
-            key: key(session),
-            offset,
-            more: true,
-            bytes,
-            now,
-        },
-        Call::Last(session, offset, bytes, now) => TpCall::Offer {
-            key: key(session),
-            offset,
-            more: false,
-            bytes,
-            now,
-        },
+        Call::More(session, offset, bytes, now) => offer(key(session), offset, true, bytes, now),
+        Call::Last(session, offset, bytes, now) => offer(key(session), offset, false, bytes, now),
         Call::Take(session) => TpCall::Take { key: key(session) },
         Call::Expire(now) => TpCall::Expire { now },
         Call::Clear => TpCall::Clear,
@@ -151,11 +139,11 @@ fn parts_whose_time_is_over(rt: HostRuntime) -> Result<(), Fail> {
 fn five(payload: &[u8]) -> [TpCall<'_>; 5] {
     let a = key(1);
     [
-        offer(a, 0, true, cut(payload, 0, 1392)),
-        offer(a, 1392, true, cut(payload, 1392, 2784)),
-        offer(a, 2784, true, cut(payload, 2784, 4176)),
-        offer(a, 4176, true, cut(payload, 4176, 5568)),
-        offer(a, 5568, false, cut(payload, 5568, 5880)),
+        offer(a, 0, true, cut(payload, 0, 1392), 0),
+        offer(a, 1392, true, cut(payload, 1392, 2784), 0),
+        offer(a, 2784, true, cut(payload, 2784, 4176), 0),
+        offer(a, 4176, true, cut(payload, 4176, 5568), 0),
+        offer(a, 5568, false, cut(payload, 5568, 5880), 0),
     ]
 }
 
@@ -184,7 +172,7 @@ fn a_segment_that_changed(rt: HostRuntime) -> Result<(), Fail> {
     bytes.extend_from_slice(cut(&payload, 1392, 2783))?;
     bytes.push(0xff)?;
     let [first, second, third, fourth, fifth] = five(&payload);
-    let changed = offer(key(1), 1392, true, &bytes);
+    let changed = offer(key(1), 1392, true, &bytes, 0);
     let steps = [
         (first, PART),
         (second, PART),
@@ -201,13 +189,25 @@ fn a_segment_that_changed(rt: HostRuntime) -> Result<(), Fail> {
 }
 
 #[test]
+fn one_slot(rt: HostRuntime) -> Result<(), Fail> {
+    let payload = payload_of(rt.alloc(), 5880)?;
+    let first = cut(&payload, 0, 1392);
+    let steps = [
+        (offer(key(1), 0, true, first, 0), PART),
+        (offer(key(2), 0, true, first, 999), NO_SLOT),
+        (offer(key(2), 0, true, first, 1000), PART),
+    ];
+    check(&rt, rt.alloc(), "one slot", 1, 5880, &steps, &[])
+}
+
+#[test]
 fn two_segments(rt: HostRuntime) -> Result<(), Fail> {
     let payload = payload_of(rt.alloc(), 1401)?;
     let (front, rest) = (cut(&payload, 0, 1392), cut(&payload, 1392, 1401));
-    let first = offer(key(1), 0, true, front);
+    let first = offer(key(1), 0, true, front, 0);
     let steps = [
         (first, PART),
-        (offer(key(1), 1392, false, rest), WHOLE),
+        (offer(key(1), 1392, false, rest, 0), WHOLE),
         (TpCall::Take { key: key(1) }, TAKEN),
     ];
     check(&rt, rt.alloc(), "1401 bytes", 1, 1401, &steps, &payload)?;
@@ -215,10 +215,34 @@ fn two_segments(rt: HostRuntime) -> Result<(), Fail> {
     let (offset, more, slice) = read_segment(&[0x00, 0x00, 0x05, 0x7e])?;
     let steps = [
         (first, PART),
-        (offer(key(1), offset, more, slice), WHOLE),
+        (offer(key(1), offset, more, slice, 0), WHOLE),
         (TpCall::Take { key: key(1) }, TAKEN),
     ];
     check(&rt, rt.alloc(), "1392 bytes", 1, 1401, &steps, front)
+}
+
+/// Two segments of a message, one call after the other: what each offer answers, whether the message
+/// was taken, and its bytes.
+fn call_directly<R: Reassembly>(
+    alloc: Global,
+) -> Result<([Result<Offered, TpError>; 2], bool, Vec<u8>), TpError> {
+    let mut store = R::make(alloc, 1, 48, TIMEOUT)?;
+    let mut bytes = Vec::new(alloc);
+    let first = store.offer(key(1), 0, true, ONE, 0);
+    let second = store.offer(key(1), 16, false, TWO, 999);
+    store.expire(999);
+    let taken = store.take(&key(1), &mut bytes)?;
+    store.clear();
+    Ok(([first, second], taken, bytes))
+}
+
+#[test]
+fn a_store_is_called_directly(rt: HostRuntime) -> Result<(), Fail> {
+    let (offered, taken, bytes) = call_directly::<SegmentList>(rt.alloc())?;
+    assert_eq!(rt; offered, [Ok(Offered::Part), Ok(Offered::Whole)]);
+    assert!(rt; taken);
+    assert_eq!(rt; bytes.len(), 32);
+    Ok(())
 }
 
 /// Keys that differ from the first in one field.
@@ -247,18 +271,18 @@ fn keys_that_differ_in_one_field(rt: HostRuntime) -> Result<(), Fail> {
     bytes.extend_from_slice(ONE)?;
     for b in other_keys() {
         let steps = [
-            (offer(a, 0, true, ONE), PART),
-            (offer(b, 0, true, TWO), PART),
-            (offer(b, 16, false, &[]), WHOLE),
+            (offer(a, 0, true, ONE, 0), PART),
+            (offer(b, 0, true, TWO, 0), PART),
+            (offer(b, 16, false, &[], 0), WHOLE),
             (TpCall::Take { key: a }, NONE_TAKEN),
             (TpCall::Take { key: b }, TAKEN),
-            (offer(a, 16, false, &[]), WHOLE),
+            (offer(a, 16, false, &[], 0), WHOLE),
             (TpCall::Take { key: a }, TAKEN),
         ];
         check(&rt, rt.alloc(), "another key", 2, 48, &steps, &bytes)?;
         let steps = [
-            (offer(a, 0, true, ONE), PART),
-            (offer(b, 0, true, TWO), NO_SLOT),
+            (offer(a, 0, true, ONE, 0), PART),
+            (offer(b, 0, true, TWO, 0), NO_SLOT),
         ];
         check(&rt, rt.alloc(), "one slot", 1, 48, &steps, &[])?;
     }
@@ -275,7 +299,7 @@ fn offers_of<'a>(alloc: Global, payload: &'a [u8]) -> Result<Vec<Step<'a>>, Allo
     if payload.len() < 2 * MIB {
         for segment in Segments::new(&message) {
             let offset = segment.word - segment.word % 16;
-            let call = offer(key(1), offset, segment.word % 2 == 1, segment.slice);
+            let call = offer(key(1), offset, segment.word % 2 == 1, segment.slice, 0);
             steps.push((call, PART))?;
         }
     }
