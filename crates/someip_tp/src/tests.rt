@@ -1,8 +1,12 @@
-//! The worked rows of segments.
+//! The worked rows of segments; those of reassembly stand in a file of their own.
 use crate::{Segments, TpError, read_segment};
 use someip_wire::{Header, Message, MessageType, ReturnCode};
 use std::alloc::{AllocError, Global};
 use std::test::Fail;
+
+mod call;
+mod reassembly;
+mod rows;
 
 const HEADER: Header = Header {
     service: 0x1234,
@@ -15,7 +19,7 @@ const HEADER: Header = Header {
 };
 
 /// So many bytes, of which each tells its place.
-fn payload_of(alloc: Global, len: u16) -> Result<Vec<u8>, AllocError> {
+fn payload_of(alloc: Global, len: u32) -> Result<Vec<u8>, AllocError> {
     let mut bytes = Vec::new(alloc);
     for i in 0..len {
         bytes.push((i % 251) as u8)?;
@@ -40,7 +44,7 @@ fn words_and_lengths(alloc: Global, payload: &[u8]) -> Result<Vec<(u32, usize)>,
 
 #[test]
 fn messages_in_segments(rt: HostRuntime) -> Result<(), Fail> {
-    let rows: [(u16, &[(u32, usize)]); 5] = [
+    let rows: [(u32, &[(u32, usize)]); 5] = [
         (
             5880,
             &[

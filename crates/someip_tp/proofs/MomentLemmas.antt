@@ -1,0 +1,241 @@
+-- Moments that never fall are what a list of calls needs.
+use Rattle.std.proofs.Common.{◌≡◌, ◌≢◌, ◌↔◌, ℕ, zero, suc, ◌+◌, ◌≤◌, ◌<◌, ◌%◌, Bool, true, false, cond, not, nat_le, ◌&&◌, ◌==◌, List, [], ◌∷◌, length, get_or, Option, None, Some, Result, Ok, Err, refl, sym, ap, subst, drop, ◌∙◌, arith}
+use Rattle.std.specs.Option.{is_some}
+use Rattle.std.specs.List.{All}
+use Rattle.std.specs.List.Sorted.{IsNonDecreasing}
+use Rattle.std.proofs.lemmas.List.Sorted.{IsNonDecreasingBy-short}
+use Rattle.std.proofs.lemmas.Bool.Decides.{nat_tests}
+use Rattle.std.proofs.lemmas.List.{drop_more}
+use Rattle.std.proofs.Math.ListN.{drop_of_length-le}
+use Rattle.std.specs.Ordering.{eq_by_cmp}
+use Rattle.std.specs.FinMap.{get, insert, remove, empty, get-insert, get-remove, get-empty}
+use Rattle.someip_tp.specs.declared.key.ReassemblyKey.{ReassemblyKey}
+use Rattle.someip_tp.specs.declared.reassembly.Offered.{Offered}
+use Rattle.someip_tp.specs.declared.error.TpError.{TpError}
+use Rattle.someip_tp.specs.declared.error.TpError.TheVariants.{Unaligned, TooLong, Conflict, NoSlot, OutOfMemory, NoHeader}
+use Rattle.someip_tp.specs.declared.calls.TpCall.{TpCall}
+use Rattle.someip_tp.specs.declared.calls.TpCall.TheVariants as call
+use Rattle.someip_tp.specs.Keys.{key_cmp}
+use Rattle.someip_tp.specs.Retained.{kept as passed}
+use Rattle.someip_tp.specs.Parts.{Part, Parts, Limits, NoneAfter, is_gone, parts_at}
+use Rattle.someip_tp.specs.Offers.{Offer, offer, judged, kept, parts_after, part_under, with_offer, message_at, parts_less}
+use Rattle.someip_tp.specs.Calls.{MayCalls}
+use Rattle.someip_tp.specs.Moments.{IsAligned, AreInTime, moments, moment_after}
+use Rattle.someip_tp.proofs.Entries.{get-retain}
+use Rattle.someip_tp.proofs.KeyOrder.{keys_total, exact_keys}
+
+-- ---- what a change leaves
+
+-- what is said of each part, where the parts are among others of which it is said
+by_value : (now : ℕ) (v : Option Part) → ((part : Part) → v ≡ Some part → part.last ≤ now) → (w : Option Part) → v ≡ w → (part : Part) → w ≡ Some part → part.last ≤ now
+by_value now v all w is part there = all part (is ∙ there)
+
+none_is : (now : ℕ) (part : Part) → None ≡ Some part → part.last ≤ now
+none_is now part h = absurd (cc)
+
+pub none_in_empty : (now : ℕ) → NoneAfter now empty
+none_in_empty now key part h = none_is now part (sym (get-empty key_cmp key) ∙ h)
+
+pub later : (now next : ℕ) (parts : Parts) → now ≤ next → NoneAfter now parts → NoneAfter next parts
+later now next parts le none key part h = omega (arith, le, none key part h)
+
+pub none_after-parts_at : (now : ℕ) (limits : Limits) (at : ℕ) (parts : Parts) → NoneAfter now parts → NoneAfter now (parts_at limits at parts)
+unfolding parts_at
+none_after-parts_at now limits at parts none key part h =
+    left (get parts key) (none key) (sym (get-retain keys_total exact_keys parts (λ key part. not (is_gone limits.timeout at part)) key) ∙ h)
+  where
+    left : (v : Option Part) → ((p : Part) → v ≡ Some p → p.last ≤ now) → passed (λ p. not (is_gone limits.timeout at p)) v ≡ Some part → part.last ≤ now
+    left None all h = none_is now part h
+    left (Some p) all h = cases (not (is_gone limits.timeout at p)) h
+      where
+        cases : (b : Bool) → cond b (Some p) None ≡ Some part → part.last ≤ now
+        cases true h = all part h
+        cases false h = none_is now part h
+
+none_after-insert : (now : ℕ) (key : ReassemblyKey) (new : Part) (parts : Parts) → new.last ≤ now → NoneAfter now parts → NoneAfter now (insert parts key new)
+none_after-insert now key new parts le none q part h = cases (eq_by_cmp key_cmp q key) (sym (get-insert keys_total parts key new q) ∙ h)
+  where
+    some : (p : Part) → Some new ≡ Some p → p.last ≤ now
+    some p h =
+        let same : new ≡ p = cc in
+        let last : new.last ≡ p.last = ap (λ (x : Part). x.last) same in
+        omega (arith, last, le)
+
+    cases : (t : Bool) → cond t (Some new) (get parts q) ≡ Some part → part.last ≤ now
+    cases true h = some part h
+    cases false h = none q part h
+
+none_after-remove : (now : ℕ) (key : ReassemblyKey) (parts : Parts) → NoneAfter now parts → NoneAfter now (remove parts key)
+none_after-remove now key parts none q part h = cases (eq_by_cmp key_cmp q key) (sym (get-remove keys_total parts key q) ∙ h)
+  where
+    cases : (t : Bool) → cond t None (get parts q) ≡ Some part → part.last ≤ now
+    cases true h = none_is now part h
+    cases false h = none q part h
+
+none_after-kept : (r : Result Offered TpError) (now : ℕ) (o : Offer) (parts : Parts) → NoneAfter now parts → NoneAfter now (kept r now o parts)
+none_after-kept (Ok offered) now o parts none = none_after-insert now o.key (with_offer (part_under parts o.key) now o) parts (omega arith) none
+none_after-kept (Err Conflict) now o parts none = none_after-remove now o.key parts none
+none_after-kept (Err Unaligned) now o parts none = none
+none_after-kept (Err TooLong) now o parts none = none
+none_after-kept (Err NoSlot) now o parts none = none
+none_after-kept (Err OutOfMemory) now o parts none = none
+none_after-kept (Err NoHeader) now o parts none = none
+
+pub none_after-offer : (now : ℕ) (limits : Limits) (o : Offer) (parts : Parts) → NoneAfter now parts → NoneAfter now (parts_after limits now o parts)
+unfolding parts_after
+none_after-offer now limits o parts none =
+    let left = parts_at limits now parts in
+    none_after-kept (judged limits now o left) now o left (none_after-parts_at now limits now parts none)
+
+pub none_after-take : (now : ℕ) (key : ReassemblyKey) (parts : Parts) → NoneAfter now parts → NoneAfter now (parts_less parts key)
+unfolding parts_less
+none_after-take now key parts none = cases (is_some (message_at parts key))
+  where
+    cases : (t : Bool) → NoneAfter now (cond t (remove parts key) parts)
+    cases true = none_after-remove now key parts none
+    cases false = none
+
+-- ---- lists of calls
+
+tail_aligned : (c : TpCall) (calls : List TpCall) → All IsAligned (c ∷ calls) → All IsAligned calls
+tail_aligned c calls all k d lt = all (suc k) d (omega (arith, lt))
+
+-- the first of numbers that never fall is at most the second, and the others never fall
+pub rises_by : (a b : ℕ) (ns : List ℕ) → IsNonDecreasing (a ∷ b ∷ ns) → a ≤ b
+rises_by a b ns rising = rising 0 1 a (omega arith) (omega arith)
+
+pub rest_rises : (a : ℕ) (ns : List ℕ) → IsNonDecreasing (a ∷ ns) → IsNonDecreasing ns
+rest_rises a ns rising i j d le lt = rising (suc i) (suc j) d (omega (arith, le)) (omega (arith, lt))
+
+pub may_from : (limits : Limits) (last : ℕ) (calls : List TpCall) (parts : Parts) → All IsAligned calls → IsNonDecreasing (last ∷ moments calls) → NoneAfter last parts → MayCalls limits calls parts
+may_from limits last [] parts aligned rising none = tt
+may_from limits last (call.Offer key offset more bytes now ∷ calls) parts aligned rising none =
+    let now_none : NoneAfter now parts = later last now parts (rises_by last now (moments calls) rising) none in (
+      (aligned 0 (call.Offer key offset more bytes now) (omega arith), now_none),
+      may_from limits now calls _ (tail_aligned _ calls aligned) (rest_rises last (now ∷ moments calls) rising) (none_after-offer now limits (offer key offset more bytes.now) parts now_none),
+    )
+may_from limits last (call.Take key ∷ calls) parts aligned rising none =
+    (tt, may_from limits last calls _ (tail_aligned _ calls aligned) rising (none_after-take last key parts none))
+may_from limits last (call.Expire now ∷ calls) parts aligned rising none =
+    (tt, may_from limits last calls _ (tail_aligned _ calls aligned) rising (none_after-parts_at last limits now parts none))
+may_from limits last (call.Clear ∷ calls) parts aligned rising none =
+    (tt, may_from limits last calls _ (tail_aligned _ calls aligned) rising (none_in_empty last))
+
+-- numbers that never fall, behind 0
+behind_zero : (ns : List ℕ) → IsNonDecreasing ns → IsNonDecreasing (0 ∷ ns)
+behind_zero ns rising zero j d le lt = omega arith
+behind_zero ns rising (suc i) zero d le lt = absurd (omega (arith, le))
+behind_zero ns rising (suc i) (suc j) d le lt = rising i j d (omega (arith, le)) (omega (arith, lt))
+
+pub in_time_may : (limits : Limits) (calls : List TpCall) → AreInTime calls → MayCalls limits calls empty
+in_time_may limits calls fit = may_from limits 0 calls empty fit.aligned (behind_zero _ fit.rising) (none_in_empty 0)
+
+-- ---- the test of a list of calls
+
+-- the calls may follow a segment that was offered at this moment
+abbrev pub FollowFrom : ℕ → List TpCall → Type 0
+FollowFrom last calls = All IsAligned calls × IsNonDecreasing (last ∷ moments calls)
+
+pub follow_from_start : (calls : List TpCall) → AreInTime calls ↔ FollowFrom 0 calls
+follow_from_start calls =
+    ((λ fit. (fit.aligned, behind_zero _ fit.rising)), (λ f. record { aligned = f.0; rising = rest_rises 0 _ f.1 }))
+
+pub none_follow : (last : ℕ) → FollowFrom last []
+none_follow last = ((λ k d lt. absurd (omega (arith, lt))), IsNonDecreasingBy-short (λ (n : ℕ). n) (last ∷ []) (omega arith))
+
+head_aligned : (c : TpCall) (calls : List TpCall) → All IsAligned (c ∷ calls) → IsAligned c
+head_aligned c calls all = all 0 c (omega arith)
+
+all_aligned : (c : TpCall) (calls : List TpCall) → IsAligned c → All IsAligned calls → All IsAligned (c ∷ calls)
+all_aligned c calls one all zero d lt = one
+all_aligned c calls one all (suc k) d lt = all k d (omega (arith, lt))
+
+-- a number that is at most the first of numbers that never fall goes in front of them
+rises_on : (a b : ℕ) (ns : List ℕ) → a ≤ b → IsNonDecreasing (b ∷ ns) → IsNonDecreasing (a ∷ b ∷ ns)
+rises_on a b ns below rising zero zero d le lt = omega arith
+rises_on a b ns below rising zero (suc j) d le lt =
+    let first = rising 0 j d (omega arith) (omega (arith, lt)) in
+    omega (arith, below, first)
+rises_on a b ns below rising (suc i) zero d le lt = absurd (omega (arith, le))
+rises_on a b ns below rising (suc i) (suc j) d le lt = rising i j d (omega (arith, le)) (omega (arith, lt))
+
+-- one call further
+pub follow_on : (last next : ℕ) (c : TpCall) (calls : List TpCall) → moment_after last c ≡ Some next → FollowFrom last (c ∷ calls) ↔ FollowFrom next calls
+follow_on last next (call.Offer key offset more bytes now) calls is = cases (offset % 16 == 0) (nat_le last now) refl refl is
+  where
+    cases : (t u : Bool) → (offset % 16 == 0) ≡ t → nat_le last now ≡ u → cond (t && u) (Some now) None ≡ Some next
+        → FollowFrom last (call.Offer key offset more bytes now ∷ calls) ↔ FollowFrom next calls
+    cases true true zero_left below is =
+        let same : now ≡ next = cc in
+        let fits : offset % 16 ≡ 0 = grind (arith, nat_tests) in
+        let le : last ≤ now = grind (arith, nat_tests) in
+        subst (λ n. FollowFrom last (call.Offer key offset more bytes now ∷ calls) ↔ FollowFrom n calls) same (
+          (λ f. (tail_aligned _ calls f.0, rest_rises last (now ∷ moments calls) f.1)),
+          (λ f. (all_aligned _ calls fits f.0, rises_on last now (moments calls) le f.1)),
+        )
+    cases true false a b is = absurd (cc)
+    cases false u a b is = absurd (cc)
+follow_on last next (call.Take key) calls is =
+    let same : last ≡ next = cc in
+    subst (λ n. FollowFrom last (call.Take key ∷ calls) ↔ FollowFrom n calls) same ((λ f. (tail_aligned _ calls f.0, f.1)), (λ f. (all_aligned _ calls tt f.0, f.1)))
+follow_on last next (call.Expire now) calls is =
+    let same : last ≡ next = cc in
+    subst (λ n. FollowFrom last (call.Expire now ∷ calls) ↔ FollowFrom n calls) same ((λ f. (tail_aligned _ calls f.0, f.1)), (λ f. (all_aligned _ calls tt f.0, f.1)))
+follow_on last next call.Clear calls is =
+    let same : last ≡ next = cc in
+    subst (λ n. FollowFrom last (call.Clear ∷ calls) ↔ FollowFrom n calls) same ((λ f. (tail_aligned _ calls f.0, f.1)), (λ f. (all_aligned _ calls tt f.0, f.1)))
+
+-- no further
+pub none_on : (last : ℕ) (c : TpCall) (calls : List TpCall) → moment_after last c ≡ None → FollowFrom last (c ∷ calls) → ⊥
+none_on last (call.Offer key offset more bytes now) calls is f = cases (offset % 16 == 0) (nat_le last now) refl refl is
+  where
+    cases : (t u : Bool) → (offset % 16 == 0) ≡ t → nat_le last now ≡ u → cond (t && u) (Some now) None ≡ None → ⊥
+    cases true true a b is = absurd (cc)
+    cases true false a b is =
+        let le : last ≤ now = rises_by last now (moments calls) f.1 in
+        grind (arith, nat_tests)
+    cases false u a b is =
+        let fits : offset % 16 ≡ 0 = head_aligned (call.Offer key offset more bytes now) calls f.0 in
+        absurd (cc)
+none_on last (call.Take key) calls is f = absurd (cc)
+none_on last (call.Expire now) calls is f = absurd (cc)
+none_on last call.Clear calls is f = absurd (cc)
+
+-- the same of a call among others
+pub follow_at : (calls : List TpCall) (i last next : ℕ) (d : TpCall) → i < length calls → moment_after last (get_or calls i d) ≡ Some next
+    → AreInTime calls ↔ FollowFrom last (drop i calls) → AreInTime calls ↔ FollowFrom next (drop (i + 1) calls)
+follow_at calls i last next d lt is so =
+    let more : drop i calls ≡ get_or calls i d ∷ drop (i + 1) calls = drop_more calls i d lt in
+    let on = follow_on last next (get_or calls i d) (drop (i + 1) calls) is in
+    ((λ fit. on.0 (subst (FollowFrom last) more (so.0 fit))), (λ f. so.1 (subst (FollowFrom last) (sym more) (on.1 f))))
+
+pub none_at : (calls : List TpCall) (i last : ℕ) (d : TpCall) → i < length calls → moment_after last (get_or calls i d) ≡ None
+    → AreInTime calls ↔ FollowFrom last (drop i calls) → AreInTime calls → ⊥
+none_at calls i last d lt is so fit =
+    none_on last (get_or calls i d) (drop (i + 1) calls) is (subst (FollowFrom last) (drop_more calls i d lt) (so.0 fit))
+
+pub all_followed : (calls : List TpCall) (i last : ℕ) → length calls ≤ i → AreInTime calls ↔ FollowFrom last (drop i calls) → true ≡ true ↔ AreInTime calls
+all_followed calls i last le so =
+    ((λ h. so.1 (subst (FollowFrom last) (sym (drop_of_length-le calls le)) (none_follow last))), (λ fit. refl))
+
+pub may_run : (limits : Limits) (parts : Parts) (calls : List TpCall) → parts ≡ empty → true ≡ true ↔ AreInTime calls → MayCalls limits calls parts
+may_run limits parts calls is fit = subst (MayCalls limits calls) (sym is) (in_time_may limits calls (fit.0 refl))
+
+-- ---- an offer that was made
+
+-- whether memory was wanting or not
+pub none_after-offered : (now : ℕ) (limits : Limits) (o : Offer) (parts left : Parts) (r : Result Offered TpError) → (r ≢ Err OutOfMemory → left ≡ parts_after limits now o parts)
+    → (r ≡ Err OutOfMemory → left ≡ parts_at limits now parts) → NoneAfter now parts → NoneAfter now left
+none_after-offered now limits o parts left r after at none = cases r after at
+  where
+    offered : left ≡ parts_after limits now o parts → NoneAfter now left
+    offered is = subst (NoneAfter now) (sym is) (none_after-offer now limits o parts none)
+
+    cases : (r : Result Offered TpError) → (r ≢ Err OutOfMemory → left ≡ parts_after limits now o parts) → (r ≡ Err OutOfMemory → left ≡ parts_at limits now parts) → NoneAfter now left
+    cases (Ok x) after at = offered (after (λ e. cc))
+    cases (Err Unaligned) after at = offered (after (λ e. cc))
+    cases (Err TooLong) after at = offered (after (λ e. cc))
+    cases (Err Conflict) after at = offered (after (λ e. cc))
+    cases (Err NoSlot) after at = offered (after (λ e. cc))
+    cases (Err NoHeader) after at = offered (after (λ e. cc))
+    cases (Err OutOfMemory) after at = subst (NoneAfter now) (sym (at refl)) (none_after-parts_at now limits now parts none)
