@@ -7,10 +7,11 @@ use Rattle.sd_wire.specs.declared.error.SdError.TheVariants as errors
 use Rattle.sd_wire.specs.declared.error.SdError.TheVariants.{Truncated, EntriesLength, UnknownEntryType, OptionLength, TrailingBytes}
 use Rattle.sd_wire.specs.declared.option.SdOption.{SdOption}
 use Rattle.sd_wire.specs.declared.message.SdRead.{SdRead}
-use Rattle.sd_wire.specs.Faults.{fault_place}
+use Rattle.sd_wire.specs.Faults.{fault_place, header_fault, is_entry_type, option_size}
+use Rattle.sd_wire.specs.Layout.{entries_len, options_place, options_end, entries_in, options_in}
 use Rattle.sd_wire.specs.Values.{SdValue, view_sd}
 use Rattle.sd_wire.specs.Steps.{Gives}
-use Rattle.sd_wire.specs.Program.{header_fault, entries_len, options_place, options_end, entries_in, options_in, is_entry_type, type_fault, option_size, option_in, and_then, options_after, options_within, options_from, value_by, unless, reading, HasOption}
+use Rattle.sd_wire.specs.Program.{type_fault, option_in, and_then, options_after, options_within, options_from, value_by, unless, reading, HasOption}
 use Rattle.sd_wire.proofs.OptionLemmas.{has_option}
 
 -- the place of a fault that there is

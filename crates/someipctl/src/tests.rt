@@ -11,8 +11,10 @@ use std::alloc::{AllocError, Global};
 use std::io;
 use std::io::{ErrorKind, Read, Write};
 use std::test::Fail;
+use discovery::discovery;
 use tables::{captures, payloads, rows};
 
+mod discovery;
 mod tables;
 
 /// One request.
@@ -79,6 +81,17 @@ impl Write for SlowWriter {
 #[test]
 fn captures_are_shown(rt: HostRuntime) {
     for (capture, wanted, status) in captures() {
+        let mut reader = capture;
+        let mut out = Vec::new(rt.alloc());
+        let outcome = show(rt.alloc(), &mut reader, &mut out).map(|outcome| outcome.status());
+        assert_eq!(rt; outcome, Ok(status), "{capture:?}");
+        assert_eq!(rt; out.as_slice(), wanted.as_bytes(), "{capture:?}");
+    }
+}
+
+#[test]
+fn discovery_is_shown(rt: HostRuntime) {
+    for (capture, wanted, status) in discovery() {
         let mut reader = capture;
         let mut out = Vec::new(rt.alloc());
         let outcome = show(rt.alloc(), &mut reader, &mut out).map(|outcome| outcome.status());
