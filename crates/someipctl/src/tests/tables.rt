@@ -51,6 +51,7 @@ pub fn captures() -> [Shown; 20] {
         (
             b"ffff8100 00000008 00000001 01010200\n11110421 00000008 00010002 0102a101\n",
             "1 message ffff.8100 length 8 client 0000 session 0001 interface 01 type NOTIFICATION code 00 payload -\n\
+             1 fault Truncated at 16\n\
              2 message 1111.0421 length 8 client 0001 session 0002 interface 02 type TP_ERROR code 01 payload -\n\
              2 fault NoHeader at 16\n",
             1,
