@@ -1,4 +1,4 @@
--- Numbers in fields, the highest byte first, and the flags (SOME/IP Service Discovery, "Header").
+-- Numbers in fields, the highest byte first, and the flags (SOME/IP Service Discovery, "SOME/IP-SD Header").
 use Rattle.std.specs.Prelude.{ℕ, ◌+◌, ◌%◌, ◌<◌, nat_le, if◌then◌else◌, List, ◌∷◌, slice_index, slice_range}
 use Rattle.std.specs.Int.{w16, w32, to_be_bytes, from_be_bytes, bytes_high_first}
 use Rattle.sd_wire.specs.declared.flags.SdFlags.{SdFlags}

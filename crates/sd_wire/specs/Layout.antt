@@ -1,4 +1,4 @@
--- Where the parts of a message lie in its bytes (SOME/IP Service Discovery, "Header").
+-- Where the parts of a message lie in its bytes (SOME/IP Service Discovery, "SOME/IP-SD Header").
 use Rattle.std.specs.Prelude.{ℕ, ◌+◌, List, drop, slice_range}
 use Rattle.sd_wire.specs.Fields.{field16, field32}
 

@@ -1,4 +1,4 @@
--- Options that are kept as they were read (SOME/IP Service Discovery, "Options").
+-- Options that are kept as they were read (SOME/IP Service Discovery, "Options Format").
 use Rattle.std.specs.Prelude.{ℕ, ◌<◌, ◌≤◌, ◌≡◌, ◌^◌, Bool, false, List, length, ◌||◌, ◌&&◌, ◌==◌, nat_eq}
 use Rattle.std.specs.Cmp.Lexicographic.{pointwise}
 

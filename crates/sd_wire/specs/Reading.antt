@@ -1,4 +1,4 @@
--- What bytes are read as (SOME/IP Service Discovery, "Header", "Entries", "Options").
+-- What bytes are read as (SOME/IP Service Discovery, "SOME/IP-SD Header", "Entry Format", "Options Format").
 use Rattle.std.specs.Prelude.{ℕ, ◌+◌, ◌^◌, ◌<◌, ◌≡◌, Bool, true, false, nat_lt, ◌||◌, ◌&&◌, List, [], ◌∷◌, ◌++◌, length, take, drop}
 use Rattle.sd_wire.specs.declared.option.SdOption.{SdOption}
 use Rattle.sd_wire.specs.declared.entry.EntryHead.{EntryHead}

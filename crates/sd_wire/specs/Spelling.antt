@@ -1,4 +1,4 @@
--- The bytes of options, entries and messages (SOME/IP Service Discovery, "Options", "Entries", "Header").
+-- The bytes of options, entries and messages (SOME/IP Service Discovery, "Options Format", "Entry Format", "SOME/IP-SD Header").
 use Rattle.std.specs.Prelude.{ℕ, ◌+◌, ◌*◌, ◌^◌, ◌<◌, List, ◌∷◌, ◌++◌, length}
 use Rattle.std.specs.Net.Addr.{ipv4_octets, ipv6_octets, IsIpv4Addr, IsIpv6Addr}
 use Rattle.std.specs.Net.Socket.{v4_ip, v4_port}

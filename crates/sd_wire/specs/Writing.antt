@@ -1,4 +1,4 @@
--- The one text of a message (SOME/IP Service Discovery, "Entries": how options are referenced; the order is our own).
+-- The one text of a message (SOME/IP Service Discovery, "Referencing Options from Entries"; the order is our own).
 use Rattle.std.specs.Prelude.{◌≡◌, ◌⊎◌, ℕ, ◌<◌, ◌^◌, List, [], ◌∷◌, ◌++◌, length, map}
 use Rattle.std.specs.List.{flat_map, AllByRecursion}
 use Rattle.sd_wire.specs.declared.error.SdError.{SdError}

@@ -1,4 +1,4 @@
-//! Entries (SOME/IP Service Discovery, "Service Entries" and "Eventgroup Entries").
+//! Entries (SOME/IP Service Discovery, "Entry Format").
 ghost use Rattle.std.specs.Prelude.{◌≡◌, ◌<◌, ◌≤◌, ◌%◌, ◌↔◌, IsTrue, Some, None};
 ghost use Rattle.sd_wire.specs.declared.entry.ServiceKind.TheVariants.{Find, Offer};
 ghost use Rattle.sd_wire.specs.declared.entry.EventgroupKind.TheVariants.{Subscribe, Ack};

@@ -1,4 +1,4 @@
-//! The flags of a Service Discovery message (SOME/IP Service Discovery, "Flags").
+//! The flags of a Service Discovery message (SOME/IP Service Discovery, "SOME/IP-SD Header").
 ghost use Rattle.std.specs.Prelude.{◌≡◌};
 ghost use Rattle.sd_wire.specs.Fields.{flags_byte, flags_in};
 

@@ -1,5 +1,5 @@
 //! Service Discovery messages on the wire: entries, the options that they name, and their bytes
-//! (SOME/IP Service Discovery, "Service Discovery ECU-internal Interface" and "Header").
+//! (SOME/IP Service Discovery, "SOME/IP-SD Header", "Entry Format" and "Options Format").
 //!
 //! - [`SdMessage`], [`Entry`], [`SdOption`] and their parts: what a message says. They hold only
 //!   numbers that fit their fields, and each value on the wire has one value here;

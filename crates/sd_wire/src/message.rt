@@ -1,5 +1,5 @@
-//! Service Discovery messages (SOME/IP Service Discovery, "Header"): the payload of a SOME/IP
-//! message with the Message ID FFFF8100.
+//! Service Discovery messages (SOME/IP Service Discovery, "SOME/IP-SD Header"): the payload of a
+//! SOME/IP message with the Message ID FFFF8100.
 
 use crate::entry::{Entry, EntryHead};
 use crate::flags::SdFlags;

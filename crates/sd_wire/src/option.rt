@@ -1,4 +1,4 @@
-//! Options (SOME/IP Service Discovery, "Options").
+//! Options (SOME/IP Service Discovery, "Options Format").
 ghost use Rattle.std.specs.Prelude.{◌≡◌, Some, None};
 ghost use Rattle.sd_wire.specs.Raw.{RawValue, IsRaw, is_known};
 

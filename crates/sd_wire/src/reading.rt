@@ -1,4 +1,4 @@
-//! Messages from bytes (SOME/IP Service Discovery, "Header").
+//! Messages from bytes (SOME/IP Service Discovery, "SOME/IP-SD Header").
 ghost use Rattle.std.specs.Prelude.{◌≡◌, ◌≤◌, ◌+◌, Some, None, Ok, Err, length, IfOk, IfErr, OnOk};
 ghost use Rattle.sd_wire.specs.declared.error.SdError.{SdError};
 ghost use Rattle.sd_wire.specs.Values.{SdValue, view_sd};

@@ -518,6 +518,15 @@ fn limits_of_runs(rt: HostRuntime) -> Result<(), Fail> {
     let refused = Err(SdError::TooManyOptions(18));
     assert_eq!(rt; write(alloc, &full_pool(alloc, 2)?, &mut out), refused);
     assert_eq!(rt; out.as_slice(), [0xee].as_slice());
+    // The pool may grow past 256, and an index counts also where the run is found.
+    let mut found = full_pool(alloc, 0)?;
+    found.entries.push(offer_of(alloc, &[1000, 1001])?)?;
+    assert_eq!(rt; write(alloc, &found, &mut out), Ok(()));
+    out.truncate(1);
+    found.entries.push(offer_of(alloc, &[1001])?)?;
+    let refused = Err(SdError::TooManyOptions(18));
+    assert_eq!(rt; write(alloc, &found, &mut out), refused);
+    assert_eq!(rt; out.as_slice(), [0xee].as_slice());
     Ok(())
 }
 

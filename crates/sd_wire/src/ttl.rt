@@ -1,4 +1,4 @@
-//! How long an entry is valid (SOME/IP Service Discovery, "TTL").
+//! How long an entry is valid (SOME/IP Service Discovery, "Entry Format").
 ghost use Rattle.std.specs.Prelude.{◌≡◌, ◌<◌, ◌≤◌, ◌^◌, ◌↔◌, IsTrue, Some, None};
 
 use std::marker::Model;

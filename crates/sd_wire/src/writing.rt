@@ -1,4 +1,4 @@
-//! The bytes of messages (SOME/IP Service Discovery, "Header").
+//! The bytes of messages (SOME/IP Service Discovery, "SOME/IP-SD Header").
 ghost use Rattle.std.specs.Prelude.{◌≡◌, ◌<◌, ◌≤◌, ◌^◌, ◌++◌, ℕ, List, length, IfOk, IfErr, OnOk, OnErr};
 ghost use Rattle.sd_wire.specs.declared.error.SdError.TheVariants.{OutOfMemory};
 ghost use Rattle.sd_wire.specs.Fields.{number32};
