@@ -7,3 +7,5 @@ pub mod ShownTextLemmas
 pub mod ShowResultLemmas
 pub mod LinesLemmas
 pub mod PlaceLemmas
+pub mod VectorLemmas
+pub mod VerdictLemmas

@@ -61,7 +61,7 @@ pub fn payload<W: Write>(
 }
 
 /// The text of the value, or of the fault, and which of them it is.
-fn read_text(alloc: Global, shape: &Shape, bytes: &[u8]) -> Result<(String, Outcome), AllocError>
+pub fn read_text(alloc: Global, shape: &Shape, bytes: &[u8]) -> Result<(String, Outcome), AllocError>
     ensures { IfOk result (λ r. Told (form shape.now) bytes.now (string_bytes r.0) r.1) }
 {
     let mut text = String::new(alloc);
@@ -81,7 +81,7 @@ fn read_text(alloc: Global, shape: &Shape, bytes: &[u8]) -> Result<(String, Outc
 }
 
 /// The bytes that the argument says: none for `-`, else those of its hex digits.
-fn bytes_of_argument(alloc: Global, text: &str) -> Result<Option<Vec<u8>>, AllocError>
+pub fn bytes_of_argument(alloc: Global, text: &str) -> Result<Option<Vec<u8>>, AllocError>
     ensures { IfOk result (λ found. option_map (λ bytes. bytes.items) found ≡ argument_bytes text.now) }
 {
     let text = text.as_bytes();

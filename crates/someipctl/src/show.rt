@@ -134,6 +134,17 @@ fn put_datagram<W: Write>(
     put_items(buffer, writer, k, datagram)
 }
 
+/// The text of a datagram as the first of a capture.
+pub fn text_of_datagram(alloc: Global, datagram: &[u8]) -> Result<Vec<u8>, AllocError>
+    ensures { IfOk result (λ text. text.items ≡ datagram_text 1 datagram.now) }
+{
+    let mut text = Vec::new(alloc);
+    let mut buffer = Buffer::new(alloc)?;
+    put_datagram(&mut buffer, &mut text, 1, datagram).map_err(|_| AllocError)?;
+    buffer.flush(&mut text).map_err(|_| AllocError)?;
+    Ok(text)
+}
+
 /// Prints the lines of the items of the k-th datagram, and says whether a fault is among them.
 fn put_items<W: Write>(
     buffer: &mut Buffer,
