@@ -55,14 +55,14 @@ first_more (expects text ∷ sayings) said first has = absurd (true≢false (sym
 said_nothing : (lines : List (List ℕ)) (sayings : List Said) (line : List ℕ) → AreSaid lines sayings → IsUtf8 line → is_left_out line ≡ true → AreSaid (lines ++ line ∷ []) sayings
 said_nothing lines sayings line h utf8 out =
     let same : filter is_counted (lines ++ line ∷ []) ≡ filter is_counted lines =
-        filter-append is_counted lines (line ∷ []) ∙ rw out (append-nil (filter is_counted lines)) in
+    filter-append is_counted lines (line ∷ []) ∙ rw out (append-nil (filter is_counted lines)) in
     record { utf8 = utf8_more lines line h.utf8 utf8; each = subst (λ (ls : List (List ℕ)). EachSays ls sayings) (sym same) h.each; vectors_first = h.vectors_first }
 
 said_more : (lines : List (List ℕ)) (sayings : List Said) (line : List ℕ) (said : Said) → AreSaid lines sayings → IsUtf8 line → is_left_out line ≡ false → Says line said
     → has_vector sayings said ≡ true → AreSaid (lines ++ line ∷ []) (sayings ++ said ∷ [])
 said_more lines sayings line said h utf8 counts says has =
     let same : filter is_counted (lines ++ line ∷ []) ≡ filter is_counted lines ++ line ∷ [] =
-        filter-append is_counted lines (line ∷ []) ∙ rw counts refl in
+    filter-append is_counted lines (line ∷ []) ∙ rw counts refl in
     record {
       utf8 = utf8_more lines line h.utf8 utf8;
       each = subst (λ (ls : List (List ℕ)). EachSays ls (sayings ++ said ∷ [])) (sym same) (says_more (filter is_counted lines) sayings line said h.each says);

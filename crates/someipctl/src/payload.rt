@@ -61,7 +61,11 @@ pub fn payload<W: Write>(
 }
 
 /// The text of the value, or of the fault, and which of them it is.
-pub fn read_text(alloc: Global, shape: &Shape, bytes: &[u8]) -> Result<(String, Outcome), AllocError>
+pub fn read_text(
+    alloc: Global,
+    shape: &Shape,
+    bytes: &[u8],
+) -> Result<(String, Outcome), AllocError>
     ensures { IfOk result (λ r. Told (form shape.now) bytes.now (string_bytes r.0) r.1) }
 {
     let mut text = String::new(alloc);

@@ -10,9 +10,10 @@
 //! ```
 ghost use Rattle.std.specs.Prelude.{◌≡◌, ◌==◌, ◌++◌, List, ℕ, Err, IfOk, MatchOption, ◌≢◌};
 ghost use Rattle.someipctl.specs.declared.vector_lines.LineFault.TheVariants.{Bad, OutOfMemory};
-ghost use Rattle.someipctl.specs.VectorLines.{AreArguments, AsksOfNoDatagram, IsFoundOf, Says, asks, asked_by};
 ghost use Rattle.someip_payload.specs.View.{form};
-ghost use Rattle.someipctl.specs.VectorLines.{has_return, is_left_out, fault_of_shape};
+ghost use Rattle.someipctl.specs.VectorLines.{AreArguments, AsksOfNoDatagram, IsFoundOf, Says};
+ghost use Rattle.someipctl.specs.VectorLines.{asked_by, asks, fault_of_shape, has_return};
+ghost use Rattle.someipctl.specs.VectorLines.{is_left_out};
 
 use crate::payload::bytes_of_argument;
 use someip_payload::{Shape, ShapeTextError, read_shape};
@@ -50,10 +51,7 @@ pub enum LineFault {
 }
 
 /// What a line says. Empty lines and comments, which begin with `#`, say nothing.
-pub fn line_of<'t>(
-    alloc: Global,
-    line: &'t [u8],
-) -> Result<Option<VectorLine<'t>>, LineFault>
+pub fn line_of<'t>(alloc: Global, line: &'t [u8]) -> Result<Option<VectorLine<'t>>, LineFault>
     ensures { IsFoundOf line.now result }
 {
     let Ok(text) = str::from_utf8(line) else {
