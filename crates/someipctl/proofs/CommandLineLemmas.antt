@@ -16,7 +16,7 @@ use Rattle.clap.specs.declared.parser.matches.Found.{Found}
 use Rattle.clap.specs.declared.parser.matches.SubCommand.{SubCommand}
 use Rattle.clap.proofs.WalkLemmas.{first_value-rows}
 use Rattle.clap.proofs.OnLiterals.{clap_on_literals}
-use Rattle.someipctl.specs.CommandLine.{IsTaken, cli, is_flag, request_by, request_in, requested, show_of, show_request, payload_of}
+use Rattle.someipctl.specs.CommandLine.{IsTaken, cli, is_flag, request_by, request_in, requested, show_of, show_request, payload_of, vectors_of}
 use Rattle.someipctl.proofs.ClapWalkLemmas.{EntersNoHelp, enters_subcommand, has_value, is_wanted, wanted_value}
 
 pub cli_is_free : is_simple_and_free cli ≡ true
@@ -78,6 +78,14 @@ payload_asks : (s : Shape) → bytes_eq s.name (codes "show") ≡ false → byte
 payload_asks s other is valued shape hex name met named words none =
     rw (other, is) (payload_some _ _ (wanted_value s (codes "shape") valued shape words none) (wanted_value s (codes "hex") valued hex words none))
 
+vectors_some : (file : Option Text) → is_some file ≡ true → IsSome (vectors_of file)
+vectors_some None some = absurd (true≢false (sym some))
+vectors_some (Some file) some = refl
+
+vectors_asks : (s : Shape) → bytes_eq s.name (codes "show") ≡ false → bytes_eq s.name (codes "payload") ≡ false → bytes_eq s.name (codes "vectors") ≡ true
+    → list_all has_value s.rules ≡ true → is_wanted (codes "file") s ≡ true → Asks s
+vectors_asks s other another is valued wanted name met named words none = rw (other, another, is) (vectors_some _ (wanted_value s (codes "file") valued wanted words none))
+
 -- no other name is that of `help`
 help_asks : (s : Shape) → label_of s ≡ (codes "help", []) → Asks s
 help_asks s is name met named words none = go (bytes_eq (codes "help") name) refl (subst (λ label. answers_to name label ≡ true) is met)
@@ -90,7 +98,7 @@ help_asks s is name met named words none = go (bytes_eq (codes "help") name) ref
     go false e t = absurd (true≢false (sym t))
 
 cli_asks : EachAsks (built cli).subs
-cli_asks = (show_asks _ refl refl refl, (payload_asks _ refl refl refl refl refl, (help_asks _ refl, tt)))
+cli_asks = (show_asks _ refl refl refl, (payload_asks _ refl refl refl refl refl, (vectors_asks _ refl refl refl refl refl, (help_asks _ refl, tt))))
 
 pub taken_matches : (words : List Text) → IsTaken words → IsSome (requested words)
 taken_matches words none =
@@ -163,3 +171,9 @@ pub payload_in : (m : ArgMatches) (name : Text) (f : Found) → subcommand_rows_
 payload_in m name f is other payload =
     let there : request_by name (rows_of f) ≡ payload_of (first_of (codes "shape") (rows_of f)) (first_of (codes "hex") (rows_of f)) = rw (other, payload) refl in
     ap₂ payload_of (first_value-rows f (codes "shape")) (first_value-rows f (codes "hex")) ∙ sym there ∙ sym (ap request_in is)
+
+pub vectors_in : (m : ArgMatches) (name : Text) (f : Found) → subcommand_rows_of m ≡ Some (name, rows_of f) → bytes_eq name (codes "show") ≡ false → bytes_eq name (codes "payload") ≡ false
+    → bytes_eq name (codes "vectors") ≡ true → vectors_of (first_value f (codes "file")) ≡ request_in (subcommand_rows_of m)
+vectors_in m name f is other another vectors =
+    let there : request_by name (rows_of f) ≡ vectors_of (first_of (codes "file") (rows_of f)) = rw (other, another, vectors) refl in
+    ap vectors_of (first_value-rows f (codes "file")) ∙ sym there ∙ sym (ap request_in is)

@@ -9,3 +9,5 @@ pub mod LinesLemmas
 pub mod PlaceLemmas
 pub mod DiscoveryLemmas
 pub mod ReadingsLemmas
+pub mod VectorLemmas
+pub mod VerdictLemmas

@@ -8,7 +8,7 @@ use Rattle.clap.specs.declared.Error.{Error}
 use Rattle.clap.specs.declared.error.ErrorKind.{ErrorKind}
 use Rattle.clap.specs.declared.error.ErrorKind.TheVariants as kind
 use Rattle.someipctl.specs.declared.command.Command.{Command}
-use Rattle.someipctl.specs.declared.command.Command.TheVariants.{Show, Payload}
+use Rattle.someipctl.specs.declared.command.Command.TheVariants.{Show, Payload, Vectors}
 use Rattle.someipctl.specs.declared.command.LineError.{LineError}
 use Rattle.someipctl.specs.declared.command.LineError.TheVariants.{Usage, Help, OutOfMemory}
 
@@ -26,13 +26,17 @@ show = (with_rule (new_app (codes "show")) (required (codes "capture"))).top
 abbrev pub payload : Shape
 payload = (with_rule (with_rule (new_app (codes "payload")) (required (codes "shape"))) (required (codes "hex"))).top
 
+-- `vectors FILE`
+abbrev pub vectors : Shape
+vectors = (with_rule (new_app (codes "vectors")) (required (codes "file"))).top
+
 -- the program alone, which asks for a subcommand
 abbrev pub program : App
 program = on_top (λ top. record top { subcommand_required = true }) (new_app (codes "someipctl"))
 
 -- the command line
 abbrev pub cli : App
-cli = with_subcommand (with_subcommand program show) payload
+cli = with_subcommand (with_subcommand (with_subcommand program show) payload) vectors
 
 -- ---- what words ask for
 
@@ -40,11 +44,13 @@ cli = with_subcommand (with_subcommand program show) payload
 pub data Request : Type 0 where
   show_request : Text → Request
   payload_request : Text → Text → Request
+  vectors_request : Text → Request
 
 -- what a command asks for
 abbrev pub request_of : Command → Request
 request_of (Show capture) = show_request capture.now
 request_of (Payload shape hex) = payload_request shape.now hex.now
+request_of (Vectors file) = vectors_request file.now
 
 -- what `show` asks for, by its argument
 abbrev pub show_of : Option Text → Option Request
@@ -57,12 +63,18 @@ payload_of None hex = None
 payload_of (Some shape) None = None
 payload_of (Some shape) (Some hex) = Some (payload_request shape hex)
 
+-- what `vectors` asks for, by its argument
+abbrev pub vectors_of : Option Text → Option Request
+vectors_of None = None
+vectors_of (Some file) = Some (vectors_request file)
+
 -- what a subcommand asks for, by its name and what its arguments matched
 abbrev pub request_by : Text → List Row → Option Request
 request_by name rows =
     if bytes_eq name (codes "show") then show_of (first_of (codes "capture") rows)
     else (if bytes_eq name (codes "payload")
-    then payload_of (first_of (codes "shape") rows) (first_of (codes "hex") rows) else None)
+    then payload_of (first_of (codes "shape") rows) (first_of (codes "hex") rows)
+    else (if bytes_eq name (codes "vectors") then vectors_of (first_of (codes "file") rows) else None))
 
 -- what the subcommand that was entered asks for, where one was
 abbrev pub request_in : Option (Text × List Row) → Option Request

@@ -7,15 +7,18 @@ use Rattle.someipctl.specs.declared.outcome.Outcome.{Outcome}
 use Rattle.someipctl.specs.declared.outcome.Outcome.TheVariants.{Done}
 use Rattle.std.specs.Borrow.{Bor}
 use Rattle.someipctl.specs.declared.failure.Failure.{Failure}
-use Rattle.someipctl.specs.declared.failure.Failure.TheVariants.{BadHex, BadShape, BadPayloadHex, Usage, NotText, OutOfMemory, CannotRead, CannotWrite}
+use Rattle.someipctl.specs.declared.failure.Failure.TheVariants.{BadHex, BadVector, BadShape, BadPayloadHex, Usage, NotText, OutOfMemory, CannotRead, CannotWrite}
 use Rattle.someipctl.specs.declared.payload.PayloadRefusal.{PayloadRefusal}
 use Rattle.someipctl.specs.declared.payload.PayloadRefusal.TheVariants as payloads
 use Rattle.someipctl.specs.declared.show.ShowError.{ShowError}
 use Rattle.someipctl.specs.declared.show.ShowError.TheVariants as shows
+use Rattle.someipctl.specs.declared.vectors.VectorsError.{VectorsError}
+use Rattle.someipctl.specs.declared.vectors.VectorsError.TheVariants as vectors
 
 -- the exit status of a failure
 abbrev pub status_of_failure : Failure → ℕ
 status_of_failure (BadHex line) = 1
+status_of_failure (BadVector line) = 1
 status_of_failure (BadShape place) = 1
 status_of_failure BadPayloadHex = 1
 status_of_failure (Usage error) = 2
@@ -37,6 +40,13 @@ failure_of_payload (payloads.BadShape place) = BadShape place
 failure_of_payload payloads.BadHex = BadPayloadHex
 failure_of_payload payloads.CannotWrite = CannotWrite
 failure_of_payload payloads.OutOfMemory = OutOfMemory
+
+-- why the vectors of the file at a path were not judged
+abbrev pub failure_of_vectors : VectorsError → Bor (List ℕ) → Failure
+failure_of_vectors (vectors.BadVector line) path = BadVector line
+failure_of_vectors vectors.CannotRead path = CannotRead path
+failure_of_vectors vectors.CannotWrite path = CannotWrite
+failure_of_vectors vectors.OutOfMemory path = OutOfMemory
 
 -- the answer to a call for help: its text was printed, or memory ran out before, or writing failed
 abbrev pub AnswersHelp : Result Outcome Failure → Option (List ℕ) → Option (List ℕ) → Type 0

@@ -9,4 +9,6 @@ pub mod Outcomes
 pub mod ShownText
 pub mod ShowResult
 pub mod Payload
+pub mod VectorLines
+pub mod Vectors
 pub mod Failures

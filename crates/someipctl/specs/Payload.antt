@@ -1,5 +1,5 @@
 -- What the arguments of `payload` say.
-use Rattle.std.specs.Prelude.{◌≡◌, ◌≢◌, ℕ, ◌==◌, if◌then◌else◌, List, [], ◌++◌, length, take, codes, decimal, Option, Some, None}
+use Rattle.std.specs.Prelude.{◌≡◌, ◌≢◌, ℕ, ◌&&◌, ◌==◌, if◌then◌else◌, List, [], ◌++◌, length, take, slice_index, codes, decimal, Option, Some, None}
 use Rattle.std.specs.Io.KnownBytes.{Appends}
 use Rattle.someip_payload.specs.declared.Value.{Value}
 use Rattle.someip_payload.specs.declared.PayloadError.{PayloadError}
@@ -33,10 +33,29 @@ refusal_of_shape shapes.OutOfMemory = OutOfMemory
 abbrev pub value_lines : Value → ℕ → ℕ → List ℕ
 value_lines value n all = codes "value " ++ value_text value ++ codes "\n" ++ (codes "used " ++ decimal n ++ codes " of " ++ decimal all ++ codes "\n")
 
--- what was found of the bytes by the shape: a value that they are read as, which is printed, or their first fault
+-- the name of a fault, and its place. Want of memory is none
+abbrev pub name_and_place : PayloadError → Option (List ℕ × ℕ)
+name_and_place (faults.Truncated place) = Some (codes "Truncated", place)
+name_and_place (faults.BadText place) = Some (codes "BadText", place)
+name_and_place (faults.NoTerminator place) = Some (codes "NoTerminator", place)
+name_and_place (faults.UnknownVariant place) = Some (codes "UnknownVariant", place)
+name_and_place (faults.LengthMismatch place) = Some (codes "LengthMismatch", place)
+name_and_place (faults.TooMany place) = Some (codes "TooMany", place)
+name_and_place (faults.TooDeep place) = Some (codes "TooDeep", place)
+name_and_place (faults.NotOfShape place) = Some (codes "NotOfShape", place)
+name_and_place (faults.TooLong place) = Some (codes "TooLong", place)
+name_and_place (faults.BadShape place) = Some (codes "BadShape", place)
+name_and_place faults.OutOfMemory = None
+
+-- what is printed of a fault of this name and place
+abbrev pub fault_text : List ℕ → ℕ → List ℕ
+fault_text name place = codes "fault " ++ name ++ codes " at " ++ decimal place ++ codes "\n"
+
+-- what was found of the bytes by the shape and is printed: a value that they are read as, or their first fault
 abbrev pub Told : Form → List ℕ → List ℕ → Outcome → Type 0
 Told shape bytes text Done = (value : Value) × (n : ℕ) × Reads shape (data_of value) (take n bytes) × (text ≡ value_lines value n (length bytes))
-Told shape bytes text FaultShown = (fault : PayloadError) × IsFirstFault shape bytes fault × (fault ≢ faults.OutOfMemory)
+Told shape bytes text FaultShown = (fault : PayloadError) × (name : List ℕ) × (place : ℕ) × IsFirstFault shape bytes fault
+    × (name_and_place fault ≡ Some (name, place)) × (text ≡ fault_text name place)
 
 -- the payload was read by the shape of that text, and what was found of it was written whole
 pub record ShowsPayload (shape_text hex : List ℕ) (outcome : Outcome) (before after : Option (List ℕ)) : Type 0 where

@@ -6,7 +6,8 @@ ghost use Rattle.clap.specs.declared.builder.Command.TheViews.{out-Command};
 ghost use Rattle.someipctl.specs.declared.command.LineError.TheVariants.{OutOfMemory};
 ghost use Rattle.someipctl.specs.CommandLine.{CallsForHelp, IsErrorOf, IsRefused, IsTaken, RefusesWords};
 ghost use Rattle.someipctl.specs.CommandLine.{cli, is_flag, line, request_in, request_of, requested};
-ghost use Rattle.someipctl.specs.CommandLine.{payload, payload_of, show, show_of, show_request};
+ghost use Rattle.someipctl.specs.CommandLine.{payload, payload_of, program, show, show_of};
+ghost use Rattle.someipctl.specs.CommandLine.{vectors, vectors_of};
 
 use clap::error::ErrorKind;
 use clap::{Arg, ArgMatches};
@@ -28,6 +29,11 @@ pub enum Command<'w> {
         shape: &'w str,
         /// The payload in hex, `-` for no bytes.
         hex: &'w str,
+    },
+    /// Compare what is printed of datagrams and payloads with what a file says.
+    Vectors {
+        /// The file's path, as it was given.
+        file: &'w str,
     },
 }
 
@@ -109,17 +115,41 @@ prints
   value [1,2]
   used 8 of 8";
 
+const VECTORS_EXAMPLE: &str = "\
+A line `datagram HEX` or `payload SHAPE HEX` is a vector, and the lines after it that begin with
+`> ` are the text that it expects: that of `show`, where the datagram is the first of a capture,
+or that of `payload`. HEX has no blanks. Empty lines and lines that begin with # are left out.
+So the lines
+  datagram -
+  > 1 empty
+  payload u8 07
+  > value 8
+  > used 1 of 1
+print
+  1 ok
+  2 differs
+  passed 1 of 2";
+
 /// The command line, as `clap` is told of it.
 fn definition<'d>(alloc: Global) -> Result<clap::Command<'d>, AllocError>
     ensures { IfOk result (λ command. app_of command ≡ cli) }
 {
-    clap::Command::new(alloc, "someipctl")
+    program_definition(alloc)?
+        .subcommand(show_definition(alloc)?)?
+        .subcommand(payload_definition(alloc)?)?
+        .subcommand(vectors_definition(alloc)?)
+}
+
+/// The program without its commands.
+fn program_definition<'d>(alloc: Global) -> Result<clap::Command<'d>, AllocError>
+    ensures { IfOk result (λ command. app_of command ≡ program) }
+{
+    let command = clap::Command::new(alloc, "someipctl")
         .bin_name("someipctl")?
         .about("Shows SOME/IP messages")
         .after_help(PROGRAM_EXAMPLE)
-        .subcommand_required(true)
-        .subcommand(show_definition(alloc)?)?
-        .subcommand(payload_definition(alloc)?)
+        .subcommand_required(true);
+    Ok(command)
 }
 
 fn show_definition<'d>(alloc: Global) -> Result<clap::Command<'d>, AllocError>
@@ -144,6 +174,7 @@ fn matched<'w>(matches: &ArgMatches<'w>) -> Option<Command<'w>>
     match name {
         "show" => show_matched(rest),
         "payload" => payload_matched(rest),
+        "vectors" => vectors_matched(rest),
         _ => None,
     }
 }
@@ -177,4 +208,26 @@ fn payload_matched<'w>(matches: &ArgMatches<'w>) -> Option<Command<'w>>
     let shape = matches.get_str("shape")?;
     let hex = matches.get_str("hex")?;
     Some(Command::Payload { shape, hex })
+}
+
+fn vectors_definition<'d>(alloc: Global) -> Result<clap::Command<'d>, AllocError>
+    ensures shape { IfOk result (λ command. shape_of command ≡ vectors) }
+    ensures local { IfOk result (λ command. (out-Command command).has_globals ≡ false) }
+{
+    let file = Arg::new(alloc, "file")
+        .value_name("FILE")
+        .help("The path of a file of vectors")
+        .required(true);
+    clap::Command::new(alloc, "vectors")
+        .about("Compares what is printed with what a file expects")
+        .after_help(VECTORS_EXAMPLE)
+        .arg(file)
+}
+
+fn vectors_matched<'w>(matches: &ArgMatches<'w>) -> Option<Command<'w>>
+    ensures { option_map request_of result
+        ≡ vectors_of (first_value (found_of matches.now) (codes "file")) }
+{
+    let file = matches.get_str("file")?;
+    Some(Command::Vectors { file })
 }

@@ -1,9 +1,11 @@
 //! Why the program did not do its work.
 ghost use Rattle.std.specs.Prelude.{◌≡◌};
 ghost use Rattle.someipctl.specs.Failures.{status_of_failure, failure_of_show, failure_of_payload};
+ghost use Rattle.someipctl.specs.Failures.{failure_of_vectors};
 
 use crate::payload::PayloadRefusal;
 use crate::show::ShowError;
+use crate::vectors::VectorsError;
 use thiserror::Error;
 
 /// Why the program did not do its work. Printed, it is the text for standard error.
@@ -12,6 +14,9 @@ pub enum Failure<'p> {
     /// The line of this number of a capture, counted from 1, is no hex.
     #[error("line {0}: bad hex")]
     BadHex(usize),
+    /// The line of this number of a file of vectors, counted from 1, is bad.
+    #[error("line {0}: bad vector")]
+    BadVector(usize),
     /// The text of a shape is none from this byte on.
     #[error("bad shape at {0}")]
     BadShape(usize),
@@ -42,7 +47,10 @@ impl<'p> Failure<'p> {
         ensures { result ≡ status_of_failure self.now }
     {
         match self {
-            Failure::BadHex(_) | Failure::BadShape(_) | Failure::BadPayloadHex => 1,
+            Failure::BadHex(_)
+            | Failure::BadVector(_)
+            | Failure::BadShape(_)
+            | Failure::BadPayloadHex => 1,
             Failure::Usage(_) | Failure::NotText => 2,
             Failure::OutOfMemory => 3,
             Failure::CannotRead(_) | Failure::CannotWrite => 4,
@@ -58,6 +66,18 @@ impl<'p> Failure<'p> {
             ShowError::CannotRead => Failure::CannotRead(path),
             ShowError::CannotWrite => Failure::CannotWrite,
             ShowError::OutOfMemory => Failure::OutOfMemory,
+        }
+    }
+
+    /// Why the vectors of the file at a path were not judged.
+    pub fn of_vectors(error: VectorsError, path: &'p str) -> Failure<'p>
+        ensures { result ≡ failure_of_vectors error path.entry }
+    {
+        match error {
+            VectorsError::BadVector(line) => Failure::BadVector(line),
+            VectorsError::CannotRead => Failure::CannotRead(path),
+            VectorsError::CannotWrite => Failure::CannotWrite,
+            VectorsError::OutOfMemory => Failure::OutOfMemory,
         }
     }
 

@@ -11,7 +11,7 @@ ghost use Rattle.someip_wire.specs.Datagram.{Datagram, items};
 ghost use Rattle.someipctl.specs.Items.{lines_from};
 ghost use Rattle.someipctl.specs.Capture.{bytes_of, is_bad, is_skipped};
 ghost use Rattle.someipctl.specs.CommandLine.{CallsForHelp, IsRefused, IsTaken, is_flag, line};
-ghost use Rattle.someipctl.specs.CommandLine.{requested, show_request};
+ghost use Rattle.someipctl.specs.CommandLine.{requested, show_request, vectors_request};
 
 use clap::error::ErrorKind;
 
@@ -58,6 +58,9 @@ pub fn words_show_any_capture()
 pub fn calls_by_example()
     ensures show { requested (line (codes "show" ∷ codes "x" ∷ []))
         ≡ Some (show_request (codes "x")) }
+
+    ensures vectors { requested (line (codes "vectors" ∷ codes "x" ∷ []))
+        ≡ Some (vectors_request (codes "x")) }
 
     // No command, or no capture.
     ensures bare { IsRefused (line []) ErrorKind.MissingSubcommand }

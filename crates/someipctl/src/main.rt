@@ -3,6 +3,7 @@
 //! - `command`, `help`: what the words of the command line ask for, and the answer to others;
 //! - `capture`, `lines`, `show`: the command `show`;
 //! - `payload`: the command `payload`;
+//! - `vector_lines`, `vectors`: the command `vectors`;
 //! - `input`, `output`, `parts`: reading an input whole, and printing in parts through a buffer;
 //! - `outcome`, `failure`: the exit statuses and the texts of faults;
 //! - `laws`: what the definitions behind the contracts promise.
@@ -25,6 +26,8 @@ mod parts;
 mod payload;
 mod readings;
 mod show;
+mod vector_lines;
+mod vectors;
 
 use command::{Command, command_of};
 use failure::Failure;
@@ -93,6 +96,7 @@ fn run_command<'w, R: Files + Print + AllocGlobal>(
                 Failure::of_payload,
             )
         }
+        Command::Vectors { file } => judge_file(rt, file),
     }
 }
 
@@ -100,16 +104,27 @@ fn show_file<'p, R: Files + Print + AllocGlobal>(
     rt: &R,
     path: &'p str,
 ) -> Result<Outcome, Failure<'p>> {
-    let mut file = match fs::open(rt, path) {
-        Ok(file) => file,
-        Err(error) => match error.kind() {
-            ErrorKind::OutOfMemory => return Err(Failure::OutOfMemory),
-            _ => return Err(Failure::CannotRead(path)),
-        },
-    };
+    let mut file = open_file(rt, path)?;
     show::show(rt.alloc(), &mut file, &mut io::writer(rt)).map_err(|error| Failure::of_show(
         error, path,
     ))
+}
+
+fn judge_file<'p, R: Files + Print + AllocGlobal>(
+    rt: &R,
+    path: &'p str,
+) -> Result<Outcome, Failure<'p>> {
+    let mut file = open_file(rt, path)?;
+    vectors::vectors(rt.alloc(), &mut file, &mut io::writer(rt)).map_err(
+        |error| Failure::of_vectors(error, path),
+    )
+}
+
+fn open_file<'p, R: Files>(rt: &R, path: &'p str) -> Result<R::File, Failure<'p>> {
+    fs::open(rt, path).map_err(|error| match error.kind() {
+        ErrorKind::OutOfMemory => Failure::OutOfMemory,
+        _ => Failure::CannotRead(path),
+    })
 }
 
 #[cfg(test)]

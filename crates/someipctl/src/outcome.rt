@@ -7,12 +7,12 @@ ghost use Rattle.someipctl.specs.Outcomes.{outcome_of, status_of};
 pub enum Outcome {
     /// Nothing was wrong with what was shown.
     Done,
-    /// A fault was shown.
+    /// A fault was shown, or that a vector differs.
     FaultShown,
 }
 
 impl Outcome {
-    /// The outcome of a command that showed a fault, or showed none.
+    /// The outcome of a command that showed a fault, or a vector that differs, or showed none.
     pub fn of(fault_shown: bool) -> Outcome
         ensures { result ≡ outcome_of fault_shown }
     {
@@ -23,7 +23,7 @@ impl Outcome {
         }
     }
 
-    /// The program's exit status: 0, or 1 where a fault was shown.
+    /// The program's exit status: 0, or 1 where a fault was shown, or a vector that differs.
     pub fn status(self) -> u8
         ensures { result ≡ status_of self }
     {

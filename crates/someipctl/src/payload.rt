@@ -5,7 +5,8 @@ ghost use Rattle.std.specs.Io.KnownBytes.{Keeps};
 ghost use Rattle.someipctl.specs.declared.payload.PayloadRefusal.TheVariants.{CannotWrite, OutOfMemory};
 ghost use Rattle.someip_payload.specs.ShapeText.{begins_like_a_shape};
 ghost use Rattle.someip_payload.specs.View.{form};
-ghost use Rattle.someipctl.specs.Payload.{argument_bytes, refusal_of_shape, ShowsPayload, Told};
+ghost use Rattle.someipctl.specs.Payload.{argument_bytes, name_and_place, refusal_of_shape};
+ghost use Rattle.someipctl.specs.Payload.{ShowsPayload, Told};
 
 use crate::outcome::Outcome;
 use crate::output::{self, write_text};
@@ -40,7 +41,7 @@ pub fn payload<W: Write>(
     hex: &str,
     writer: &mut W,
 ) -> Result<Outcome, PayloadRefusal>
-    // A value that the bytes are read as was written, or they have a fault.
+    // A value that the bytes are read as was written, or their first fault.
     ensures shown { IfOk result (λ outcome. ShowsPayload shape.now hex.now outcome
         (W.contents writer.old) (W.contents writer.new)) }
     // A text that begins like a shape's is not refused at its front.
@@ -61,7 +62,11 @@ pub fn payload<W: Write>(
 }
 
 /// The text of the value, or of the fault, and which of them it is.
-fn read_text(alloc: Global, shape: &Shape, bytes: &[u8]) -> Result<(String, Outcome), AllocError>
+pub fn read_text(
+    alloc: Global,
+    shape: &Shape,
+    bytes: &[u8],
+) -> Result<(String, Outcome), AllocError>
     ensures { IfOk result (λ r. Told (form shape.now) bytes.now (string_bytes r.0) r.1) }
 {
     let mut text = String::new(alloc);
@@ -72,16 +77,37 @@ fn read_text(alloc: Global, shape: &Shape, bytes: &[u8]) -> Result<(String, Outc
             writeln!(text, "used {used} of {all}").map_err(|_| AllocError)?;
             Ok((text, Outcome::Done))
         }
-        Err(PayloadError::OutOfMemory) => Err(AllocError),
         Err(fault) => {
-            writeln!(text, "fault {fault}").map_err(|_| AllocError)?;
+            let Some((name, place)) = name_and_place(&fault) else {
+                return Err(AllocError);
+            };
+            writeln!(text, "fault {name} at {place}").map_err(|_| AllocError)?;
             Ok((text, Outcome::FaultShown))
         }
     }
 }
 
+/// The name of a fault of a payload, and its place. Want of memory is none.
+fn name_and_place(fault: &PayloadError) -> Option<(&'static str, usize)>
+    ensures { option_map (λ r. (r.0.now, r.1)) result ≡ name_and_place fault.now }
+{
+    match fault {
+        PayloadError::Truncated(place) => Some(("Truncated", *place)),
+        PayloadError::BadText(place) => Some(("BadText", *place)),
+        PayloadError::NoTerminator(place) => Some(("NoTerminator", *place)),
+        PayloadError::UnknownVariant(place) => Some(("UnknownVariant", *place)),
+        PayloadError::LengthMismatch(place) => Some(("LengthMismatch", *place)),
+        PayloadError::TooMany(place) => Some(("TooMany", *place)),
+        PayloadError::TooDeep(place) => Some(("TooDeep", *place)),
+        PayloadError::NotOfShape(place) => Some(("NotOfShape", *place)),
+        PayloadError::TooLong(place) => Some(("TooLong", *place)),
+        PayloadError::BadShape(place) => Some(("BadShape", *place)),
+        PayloadError::OutOfMemory => None,
+    }
+}
+
 /// The bytes that the argument says: none for `-`, else those of its hex digits.
-fn bytes_of_argument(alloc: Global, text: &str) -> Result<Option<Vec<u8>>, AllocError>
+pub fn bytes_of_argument(alloc: Global, text: &str) -> Result<Option<Vec<u8>>, AllocError>
     ensures { IfOk result (λ found. option_map (λ bytes. bytes.items) found ≡ argument_bytes text.now) }
 {
     let text = text.as_bytes();

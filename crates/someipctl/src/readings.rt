@@ -4,24 +4,21 @@ ghost use Rattle.std.specs.Option.{option_to_list};
 ghost use Rattle.someip_wire.specs.View.{view_item};
 ghost use Rattle.someip_wire.specs.Reading.{items_of};
 ghost use Rattle.sd_wire.specs.Program.{reading};
-ghost use Rattle.someipctl.specs.declared.show.ShowError.TheVariants.{OutOfMemory};
 ghost use Rattle.someipctl.specs.Discovery.{is_discovery, view_reading, discovery_in, readings_in, readings_of};
 ghost use Rattle.someipctl.specs.Discovery.{seen, left_from, BeginWith, LeavesBehind};
 
-use crate::show::ShowError;
 use sd_wire::{SdError, SdRead, read_sd};
 use someip_wire::{Header, Message, MessageType, Messages, WireError};
 use std::alloc::{AllocError, Global};
 
 /// What the payloads of the Service Discovery messages of these datagrams hold, in order. The only
-/// error is `OutOfMemory`.
+/// error is want of memory.
 pub fn read_ahead(
     alloc: Global,
     datagrams: &[Vec<u8>],
-) -> Result<Vec<Result<SdRead, SdError>>, ShowError>
+) -> Result<Vec<Result<SdRead, SdError>>, AllocError>
     ensures ok { IfOk result (λ readings.
         map view_reading readings.items ≡ readings_of (map (λ d. d.items) datagrams.now)) }
-    ensures err { IfErr result (λ e. e ≡ OutOfMemory) }
 {
     let mut readings = Vec::new(alloc);
     for datagram in datagrams {
@@ -30,14 +27,14 @@ pub fn read_ahead(
     Ok(readings)
 }
 
-fn read_datagram(
+/// The same of one datagram, behind what is there already.
+pub fn read_datagram(
     alloc: Global,
     datagram: &[u8],
     readings: &mut Vec<Result<SdRead, SdError>>,
-) -> Result<(), ShowError>
+) -> Result<(), AllocError>
     ensures ok { OnOk result (map view_reading readings.new.items
         ≡ map view_reading readings.old.items ++ readings_in (items_of datagram.now)) }
-    ensures err { IfErr result (λ e. e ≡ OutOfMemory) }
 {
     for item in Messages::new(datagram) {
         read_item(alloc, &item, readings)?;
@@ -49,10 +46,9 @@ fn read_item(
     alloc: Global,
     item: &Result<Message<'_>, WireError>,
     readings: &mut Vec<Result<SdRead, SdError>>,
-) -> Result<(), ShowError>
+) -> Result<(), AllocError>
     ensures ok { OnOk result (map view_reading readings.new.items
         ≡ map view_reading readings.old.items ++ option_to_list (discovery_in (view_item item.now))) }
-    ensures err { IfErr result (λ e. e ≡ OutOfMemory) }
 {
     match item {
         Ok(message) => {
@@ -67,12 +63,11 @@ fn read_item(
     }
 }
 
-fn read_payload(alloc: Global, payload: &[u8]) -> Result<Result<SdRead, SdError>, ShowError>
+fn read_payload(alloc: Global, payload: &[u8]) -> Result<Result<SdRead, SdError>, AllocError>
     ensures ok { IfOk result (λ found. view_reading found ≡ reading payload.now) }
-    ensures err { IfErr result (λ e. e ≡ OutOfMemory) }
 {
     match read_sd(alloc, payload) {
-        Err(SdError::OutOfMemory) => Err(ShowError::OutOfMemory),
+        Err(SdError::OutOfMemory) => Err(AllocError),
         found => Ok(found),
     }
 }

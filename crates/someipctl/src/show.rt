@@ -15,7 +15,7 @@ use crate::input::{ReadFault, read_all};
 use crate::lines::{item_len, put_empty, put_item};
 use crate::outcome::Outcome;
 use crate::output::{self, Buffer};
-use crate::readings::{read_ahead, reading_of};
+use crate::readings::{read_ahead, read_datagram, reading_of};
 use sd_wire::{SdError, SdRead};
 use someip_wire::Messages;
 use std::alloc::{AllocError, Global};
@@ -148,6 +148,19 @@ fn put_datagram<W: Write>(
         return Ok((false, next));
     }
     put_items(buffer, writer, k, datagram, readings, next)
+}
+
+/// The text of a datagram as the first of a capture.
+pub fn text_of_datagram(alloc: Global, datagram: &[u8]) -> Result<Vec<u8>, AllocError>
+    ensures { IfOk result (λ text. text.items ≡ datagram_text 1 datagram.now) }
+{
+    let mut text = Vec::new(alloc);
+    let mut readings = Vec::new(alloc);
+    read_datagram(alloc, datagram, &mut readings)?;
+    let mut buffer = Buffer::new(alloc)?;
+    put_datagram(&mut buffer, &mut text, 1, datagram, &readings, 0).map_err(|_| AllocError)?;
+    buffer.flush(&mut text).map_err(|_| AllocError)?;
+    Ok(text)
 }
 
 /// Prints the lines of the items of the k-th datagram, and says whether a fault is among them.

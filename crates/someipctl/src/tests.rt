@@ -7,13 +7,16 @@ use crate::laws;
 use crate::outcome::Outcome;
 use crate::payload::{PayloadRefusal, payload};
 use crate::show::{ShowError, show};
+use crate::vectors::{VectorsError, vectors};
+use all::{ALL, COUNT};
 use std::alloc::{AllocError, Global};
 use std::io;
 use std::io::{ErrorKind, Read, Write};
 use std::test::Fail;
 use discovery::discovery;
-use tables::{captures, payloads, rows};
+use tables::{bad_vectors, captures, payloads, rows, vector_files};
 
+mod all;
 mod discovery;
 mod tables;
 
@@ -403,6 +406,100 @@ fn payloads_are_refused(rt: HostRuntime) -> Result<(), Fail> {
     Ok(())
 }
 
+/// All vectors, in a file as a user finds it.
+#[test]
+fn all_vectors_pass(rt: HostRuntime) -> Result<(), Fail> {
+    let mut wanted = String::new(rt.alloc());
+    for k in 0..COUNT {
+        writeln!(wanted, "{} ok", k + 1)?;
+    }
+    writeln!(wanted, "passed {COUNT} of {COUNT}")?;
+    let mut reader = ALL.as_bytes();
+    let mut out = Vec::new(rt.alloc());
+    let outcome = vectors(rt.alloc(), &mut reader, &mut out).map(|outcome| outcome.status());
+    assert_eq!(rt; outcome, Ok(0));
+    assert_eq!(rt; out.as_slice(), wanted.as_bytes());
+    Ok(())
+}
+
+#[test]
+fn vectors_are_judged(rt: HostRuntime) {
+    for (file, wanted, status) in vector_files() {
+        let mut reader = file;
+        let mut out = Vec::new(rt.alloc());
+        let outcome = vectors(rt.alloc(), &mut reader, &mut out).map(|outcome| outcome.status());
+        assert_eq!(rt; outcome, Ok(status), "{file:?}");
+        assert_eq!(rt; out.as_slice(), wanted.as_bytes(), "{file:?}");
+    }
+}
+
+#[test]
+fn bad_vectors_are_refused(rt: HostRuntime) -> Result<(), Fail> {
+    for (file, line) in bad_vectors() {
+        let mut reader = file;
+        let mut out = Vec::new(rt.alloc());
+        let outcome = vectors(rt.alloc(), &mut reader, &mut out);
+        assert_eq!(rt; outcome, Err(VectorsError::BadVector(line)), "{file:?}");
+        assert!(rt; out.is_empty(), "{file:?}");
+    }
+    let rows = [
+        (VectorsError::BadVector(3), "line 3: bad vector", 1),
+        (VectorsError::OutOfMemory, "out of memory", 3),
+        (VectorsError::CannotRead, "cannot read a/b.txt", 4),
+        (VectorsError::CannotWrite, "cannot write", 4),
+    ];
+    for (error, text, status) in rows {
+        let failure = Failure::of_vectors(error, "a/b.txt");
+        assert_eq!(rt; failure.status(), status);
+        assert_eq!(rt; failure.to_string(rt.alloc())?.as_str(), text);
+    }
+    Ok(())
+}
+
+/// Judges a file that a reader gives byte for byte, and a writer takes so, each of which fails at a
+/// call.
+fn judged(
+    alloc: Global,
+    file: &[u8],
+    read_fails_at: usize,
+    write_fails_at: usize,
+) -> (Result<Outcome, VectorsError>, Vec<u8>) {
+    let mut reader = SlowReader {
+        rest: file,
+        calls: 0,
+        fails_at: read_fails_at,
+        kind: ErrorKind::Other,
+    };
+    let mut writer = SlowWriter {
+        taken: Vec::new(alloc),
+        most: 1,
+        calls: 0,
+        fails_at: write_fails_at,
+        takes_nothing: false,
+    };
+    let outcome = vectors(alloc, &mut reader, &mut writer);
+    (outcome, writer.taken)
+}
+
+#[test]
+fn vectors_that_cannot_be_read_or_written(rt: HostRuntime) {
+    let file = b"datagram -\n> 1 empty\npayload u8 07\n".as_slice();
+    let text = b"1 ok\n2 differs\npassed 1 of 2\n".as_slice();
+    for fails_at in 0..file.len() + 1 {
+        let (outcome, taken) = judged(rt.alloc(), file, fails_at, 1000);
+        assert_eq!(rt; outcome, Err(VectorsError::CannotRead));
+        assert!(rt; taken.is_empty());
+    }
+    for fails_at in 0..text.len() {
+        let (outcome, taken) = judged(rt.alloc(), file, 1000, fails_at);
+        assert_eq!(rt; outcome, Err(VectorsError::CannotWrite));
+        assert_eq!(rt; taken.as_slice(), &text[..fails_at]);
+    }
+    let (outcome, taken) = judged(rt.alloc(), file, 1000, 1000);
+    assert_eq!(rt; outcome, Ok(Outcome::FaultShown));
+    assert_eq!(rt; taken.as_slice(), text);
+}
+
 /// What came of words: the outcome's name, and what is printed of it.
 fn outcome(
     alloc: Global,
@@ -413,6 +510,7 @@ fn outcome(
         Ok(Command::Payload { shape, hex }) => {
             Ok(("payload", format!(in alloc; "{shape} {hex}")?))
         }
+        Ok(Command::Vectors { file }) => Ok(("vectors", String::from_str(alloc, file)?)),
         Err(LineError::Help(text)) => Ok(("help", format!(in alloc; "{text}")?)),
         Err(LineError::Usage(text)) => Ok(("usage", format!(in alloc; "{text}")?)),
         Err(LineError::OutOfMemory) => Err(AllocError),
@@ -423,10 +521,9 @@ fn outcome(
 fn words_come_to_a_command_or_a_text(rt: HostRuntime) -> Result<(), Fail> {
     for (words, wanted, part) in rows() {
         let (outcome, text) = outcome(rt.alloc(), command_of(rt.alloc(), words))?;
-        let found = if wanted == "show" || wanted == "payload" {
-            text.as_str() == part
-        } else {
-            text.contains(part)
+        let found = match wanted {
+            "help" | "usage" => text.contains(part),
+            _ => text.as_str() == part,
         };
         assert!(rt; outcome == wanted && found, "{words:?}");
     }

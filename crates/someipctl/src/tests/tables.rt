@@ -190,11 +190,157 @@ pub fn payloads() -> [PayloadRow; 16] {
     ]
 }
 
+/// A file of vectors, the text that is printed, and the exit status.
+pub type VectorFile = (&'static [u8], &'static str, u8);
+
+pub fn vector_files() -> [VectorFile; 19] {
+    [
+        (b"", "passed 0 of 0\n", 0),
+        (b"\n# nothing\n\n", "passed 0 of 0\n", 0),
+        (b"datagram -\n> 1 empty\n", "1 ok\npassed 1 of 1\n", 0),
+        (b"datagram -\n> 1 empty", "1 ok\npassed 1 of 1\n", 0),
+        (b"datagram -", "1 differs\npassed 0 of 1\n", 1),
+        (b"datagram -\n> 1 Empty\n", "1 differs\npassed 0 of 1\n", 1),
+        (b"datagram -\n> 1 empty \n", "1 differs\npassed 0 of 1\n", 1),
+        (b"datagram -\n>  1 empty\n", "1 differs\npassed 0 of 1\n", 1),
+        (
+            b"datagram -\n> 1 empty\n> \n",
+            "1 differs\npassed 0 of 1\n",
+            1,
+        ),
+        (
+            b"datagram -\n> 2 empty\ndatagram -\n> 1 empty\n",
+            "1 differs\n2 ok\npassed 1 of 2\n",
+            1,
+        ),
+        (
+            b"datagram -\ndatagram -\n> 1 empty\ndatagram 12\n> 1 fault Truncated at 1\n",
+            "1 differs\n2 ok\n3 ok\npassed 2 of 3\n",
+            1,
+        ),
+        (
+            b"#one\ndatagram -\n\n# two\n\n> 1 empty\n#",
+            "1 ok\npassed 1 of 1\n",
+            0,
+        ),
+        (
+            b"# a carriage return\r\ndatagram -\n> 1 empty\n",
+            "1 ok\npassed 1 of 1\n",
+            0,
+        ),
+        (
+            b"payload u8 07\n> value 7\n# between\n> used 1 of 1\n",
+            "1 ok\npassed 1 of 1\n",
+            0,
+        ),
+        (
+            b"payload u8 07\n> value 7\n",
+            "1 differs\npassed 0 of 1\n",
+            1,
+        ),
+        (
+            b"payload u8 07\n> used 1 of 1\n> value 7\n",
+            "1 differs\npassed 0 of 1\n",
+            1,
+        ),
+        (
+            b"payload u8 -\n> fault Truncated at 0\n",
+            "1 ok\npassed 1 of 1\n",
+            0,
+        ),
+        (
+            b"payload fixed<0,u8> -\n> fault BadShape at 0\n",
+            "1 ok\npassed 1 of 1\n",
+            0,
+        ),
+        (
+            b"payload utf8/8 03C3A400\n> value \"\xc3\xa4\"\n> used 4 of 4\n",
+            "1 ok\npassed 1 of 1\n",
+            0,
+        ),
+    ]
+}
+
+/// A file with a bad vector, and the number of its first bad line.
+pub type BadVectors = (&'static [u8], usize);
+
+pub fn bad_vectors() -> [BadVectors; 42] {
+    [
+        // Text that is expected of no vector.
+        (b"> 1 empty\n", 1),
+        (b"\n# a comment\n> \n", 3),
+        (b"> 1 empty\ndatagram -\n> 1 empty\n", 1),
+        // A line that begins with less than `> `, or with blanks.
+        (b"datagram -\n>\n", 2),
+        (b"datagram -\n>1 empty\n", 2),
+        (b"datagram -\n > 1 empty\n", 2),
+        (b"datagram -\n \n", 2),
+        (b" \n", 1),
+        (b" # a comment\n", 1),
+        // A carriage return.
+        (b"datagram -\r\n> 1 empty\r\n", 1),
+        (b"datagram -\n> 1 empty\r\n", 2),
+        (b"\r\ndatagram -\n", 1),
+        // Two blanks between words, one at the end, one in HEX, and a tab.
+        (b"datagram  -\n", 1),
+        (b"datagram - \n", 1),
+        (b"datagram 12 34\n", 1),
+        (b"datagram\t12\n", 1),
+        (b"payload u8  07\n", 1),
+        (b"payload  u8 07\n", 1),
+        (b"payload u8 07 \n", 1),
+        (b"payload u16 07 08\n", 1),
+        (b"payload array<2, u8> 0000000107\n", 1),
+        // Words that are missing, and others.
+        (b"datagram\n", 1),
+        (b"datagram \n", 1),
+        (b"payload\n", 1),
+        (b"payload \n", 1),
+        (b"payload u8\n", 1),
+        (b"payload u8 \n", 1),
+        (b"Datagram -\n", 1),
+        (b"datagrams -\n", 1),
+        (b"show -\n", 1),
+        (b"-\n", 1),
+        // HEX and SHAPE that cannot be read.
+        (b"datagram 123\n", 1),
+        (b"datagram 0x12\n", 1),
+        (b"datagram 1g\n", 1),
+        (b"payload u8 0\n", 1),
+        (b"payload u9 07\n", 1),
+        (b"payload struct() 07\n", 1),
+        // Lines that are not UTF-8, a comment and one of expected text.
+        (b"# \xff\ndatagram -\n", 1),
+        (b"datagram -\n> \xff\n", 2),
+        (b"datagram -\n> 1 empty\n\xff", 3),
+        // The first of several, behind good lines.
+        (b"# one\n\ndatagram -\n> 1 empty\n# two\nx\ny\n", 6),
+        (b"payload u8 07\ndatagram 1\n> 1 empty\r\n", 2),
+    ]
+}
+
 /// Words, what they come to, and what is printed of that: a capture's path, or a part of a text.
 pub type Row = (&'static [&'static str], &'static str, &'static str);
 
-pub fn rows() -> [Row; 26] {
+pub fn rows() -> [Row; 31] {
     [
+        (&["someipctl", "vectors", "x"], "vectors", "x"),
+        (&["someipctl", "vectors", "-"], "vectors", "-"),
+        (
+            &["someipctl", "vectors"],
+            "usage",
+            "Usage: someipctl vectors <FILE>\n",
+        ),
+        (
+            &["someipctl", "vectors", "x", "y"],
+            "usage",
+            "error: unexpected argument 'y' found\n",
+        ),
+        (
+            &["someipctl", "help", "vectors"],
+            "help",
+            "  passed 1 of 2\n",
+        ),
         (&["someipctl", "show", "x"], "show", "x"),
         (&["someipctl", "show", "-"], "show", "-"),
         (&["someipctl", "show", ""], "show", ""),

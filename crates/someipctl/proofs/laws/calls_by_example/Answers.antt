@@ -6,6 +6,7 @@ pub returns : goal.returns
 unfolding clap_on_literals
 returns c = record {
   show = refl;
+  vectors = refl;
   bare = ((λ e. cc), inl refl);
   bare_show = ((λ e. cc), inl refl);
   help_flag = inl refl;

@@ -1,0 +1,414 @@
+//! The vectors of `examples/vectors/all.txt`, which `examples/vectors/renew` writes from here: a test
+//! cannot read a file.
+
+/// How many vectors there are.
+pub const COUNT: usize = 116;
+
+/// The vectors, behind an empty line.
+pub const ALL: &str = r#"
+# Vectors of `someipctl`, which `./someipctl vectors examples/vectors/all.txt` runs. Each line that begins
+# with `datagram` or `payload` is a vector, and the lines behind it that begin with `> ` are what it prints.
+
+# ---- messages, one of each type
+
+# A request, with no payload.
+datagram 12340421000000080001000101010000
+> 1 message 1234.0421 length 8 client 0001 session 0001 interface 01 type REQUEST code 00 payload -
+
+# Length counts the eight bytes behind it and the payload.
+datagram 111104210000000a01020001010100000102
+> 1 message 1111.0421 length 10 client 0102 session 0001 interface 01 type REQUEST code 00 payload 0102
+
+# A request to which no answer is wanted.
+datagram 11110422000000080102000201010100
+> 1 message 1111.0422 length 8 client 0102 session 0002 interface 01 type REQUEST_NO_RETURN code 00 payload -
+
+# An event.
+datagram 111180010000000900000001010102002a
+> 1 message 1111.8001 length 9 client 0000 session 0001 interface 01 type NOTIFICATION code 00 payload 2a
+
+# An answer.
+datagram 1111042100000009010200010101800003
+> 1 message 1111.0421 length 9 client 0102 session 0001 interface 01 type RESPONSE code 00 payload 03
+
+# An error, with the code of an unknown method.
+datagram 11110423000000080102000101018103
+> 1 message 1111.0423 length 8 client 0102 session 0001 interface 01 type ERROR code 03 payload -
+
+# A code without a name is kept as its number. Hex of either case is read, and lower case is printed.
+datagram FFFE7FFF00000009FFFFFFFE01Fe80FfaB
+> 1 message fffe.7fff length 9 client ffff session fffe interface fe type RESPONSE code ff payload ab
+
+# What looks like Service Discovery is none under another interface version, or as a request.
+datagram ffff8100000000080000000101020200
+> 1 message ffff.8100 length 8 client 0000 session 0001 interface 02 type NOTIFICATION code 00 payload -
+datagram ffff8100000000080000000101010000
+> 1 message ffff.8100 length 8 client 0000 session 0001 interface 01 type REQUEST code 00 payload -
+
+# ---- segments, one of each type: the words of a message of 5880 bytes, with shorter slices
+
+datagram 123404210000000d0001000101012000000005712a
+> 1 message 1234.0421 length 13 client 0001 session 0001 interface 01 type TP_REQUEST code 00 payload 000005712a
+> 1 segment offset 1392 more 1 bytes 1
+datagram 123404210000001c000100010101210000000001000102030405060708090a0b0c0d0e0f
+> 1 message 1234.0421 length 28 client 0001 session 0001 interface 01 type TP_REQUEST_NO_RETURN code 00 payload 00000001000102030405060708090a0b0c0d0e0f
+> 1 segment offset 0 more 1 bytes 16
+datagram 123484210000000c000000010101220000000ae1
+> 1 message 1234.8421 length 12 client 0000 session 0001 interface 01 type TP_NOTIFICATION code 00 payload 00000ae1
+> 1 segment offset 2784 more 1 bytes 0
+datagram 123404210000000f000100010101a000000015c02a2b2c
+> 1 message 1234.0421 length 15 client 0001 session 0001 interface 01 type TP_RESPONSE code 00 payload 000015c02a2b2c
+> 1 segment offset 5568 more 0 bytes 3
+datagram 123404210000000d000100010101a10100001051ff
+> 1 message 1234.0421 length 13 client 0001 session 0001 interface 01 type TP_ERROR code 01 payload 00001051ff
+> 1 segment offset 4176 more 1 bytes 1
+
+# The three reserved bits of the word are ignored.
+datagram 123404210000000c00010001010120000000057e
+> 1 message 1234.0421 length 12 client 0001 session 0001 interface 01 type TP_REQUEST code 00 payload 0000057e
+> 1 segment offset 1392 more 0 bytes 0
+datagram 123404210000000c00010001010120000000000f
+> 1 message 1234.0421 length 12 client 0001 session 0001 interface 01 type TP_REQUEST code 00 payload 0000000f
+> 1 segment offset 0 more 1 bytes 0
+
+# The largest offset: 28 bits, in units of 16 bytes.
+datagram 123404210000000d0001000101012200fffffff02a
+> 1 message 1234.0421 length 13 client 0001 session 0001 interface 01 type TP_NOTIFICATION code 00 payload fffffff02a
+> 1 segment offset 4294967280 more 0 bytes 1
+
+# A payload below four bytes has no word: the fault is at its first byte, also where there is none.
+datagram 12340421000000080001000101012000
+> 1 message 1234.0421 length 8 client 0001 session 0001 interface 01 type TP_REQUEST code 00 payload -
+> 1 fault NoHeader at 16
+
+# The messages behind such a segment are shown.
+datagram 123404210000000b000100020101a00000000512340421000000080001000301018000
+> 1 message 1234.0421 length 11 client 0001 session 0002 interface 01 type TP_RESPONSE code 00 payload 000005
+> 1 fault NoHeader at 16
+> 1 message 1234.0421 length 8 client 0001 session 0003 interface 01 type RESPONSE code 00 payload -
+
+# Its place counts in the datagram: a message of 18 bytes, a header, and then the payload.
+datagram 123404210000000a00010001010100002a2b123404210000000900010001010121002c
+> 1 message 1234.0421 length 10 client 0001 session 0001 interface 01 type REQUEST code 00 payload 2a2b
+> 1 message 1234.0421 length 9 client 0001 session 0001 interface 01 type TP_REQUEST_NO_RETURN code 00 payload 2c
+> 1 fault NoHeader at 34
+
+# ---- datagrams of no message, of several, and of a fault
+
+datagram -
+> 1 empty
+
+# Two messages, and then 15 bytes: a fault ends the datagram, and its place is the datagram's end.
+datagram 1234042100000008000100010101000012340421000000080001000101010000123404210000000800010001010100
+> 1 message 1234.0421 length 8 client 0001 session 0001 interface 01 type REQUEST code 00 payload -
+> 1 message 1234.0421 length 8 client 0001 session 0001 interface 01 type REQUEST code 00 payload -
+> 1 fault Truncated at 47
+
+# Fewer than 16 bytes.
+datagram 12
+> 1 fault Truncated at 1
+datagram 123404210000000800010001010100
+> 1 fault Truncated at 15
+
+# A payload that passes the datagram's end.
+datagram 12340421000000090001000101010000
+> 1 fault Truncated at 16
+datagram 123404210000000b00010001010100002a2b
+> 1 fault Truncated at 18
+datagram 12340421ffffffff0001000101010000
+> 1 fault Truncated at 16
+
+# A Length below 8, at the Length field.
+datagram 12340421000000070001000101010000
+> 1 fault LengthTooSmall at 4
+datagram 12340421000000000001000101010000
+> 1 fault LengthTooSmall at 4
+
+# A Protocol Version other than 1, at its byte.
+datagram 12340421000000080001000102010000
+> 1 fault WrongProtocolVersion at 12
+datagram 12340421000000080001000100010000
+> 1 fault WrongProtocolVersion at 12
+
+# A type outside the ten, at its byte.
+datagram 12340421000000080001000101010300
+> 1 fault UnknownMessageType at 14
+datagram 12340421000000080001000101012300
+> 1 fault UnknownMessageType at 14
+datagram 12340421000000080001000101014000
+> 1 fault UnknownMessageType at 14
+datagram 12340421000000080001000101018200
+> 1 fault UnknownMessageType at 14
+
+# The order of judging: too few bytes, Length, version, type, and then the payload's end.
+datagram 123404210000000700010001020103
+> 1 fault Truncated at 15
+datagram 12340421000000070001000102010300
+> 1 fault LengthTooSmall at 4
+datagram 12340421000000090001000102010300
+> 1 fault WrongProtocolVersion at 12
+datagram 12340421000000090001000101010300
+> 1 fault UnknownMessageType at 14
+
+# Behind a message of 17 bytes the places count on.
+datagram 123404210000000900010001010100002a12340421000000070001000101010000
+> 1 message 1234.0421 length 9 client 0001 session 0001 interface 01 type REQUEST code 00 payload 2a
+> 1 fault LengthTooSmall at 21
+datagram 123404210000000900010001010100002a123404210000000800010001ff010000
+> 1 message 1234.0421 length 9 client 0001 session 0001 interface 01 type REQUEST code 00 payload 2a
+> 1 fault WrongProtocolVersion at 29
+datagram 123404210000000900010001010100002a1234042100000008000100010101ff00
+> 1 message 1234.0421 length 9 client 0001 session 0001 interface 01 type REQUEST code 00 payload 2a
+> 1 fault UnknownMessageType at 31
+
+# ---- payloads: basic values
+
+# Of a byte that is a truth value, the lowest bit counts alone.
+payload bool 00
+> value false
+> used 1 of 1
+payload bool 01
+> value true
+> used 1 of 1
+payload bool fe
+> value false
+> used 1 of 1
+payload bool ff
+> value true
+> used 1 of 1
+
+# Numbers are big-endian, and two's complement where they have a sign.
+payload u8 07
+> value 7
+> used 1 of 1
+payload u16 ABcd
+> value 43981
+> used 2 of 2
+payload u32 80000000
+> value 2147483648
+> used 4 of 4
+payload u64 ffffffffffffffff
+> value 18446744073709551615
+> used 8 of 8
+payload i8 80
+> value -128
+> used 1 of 1
+payload i16 8000
+> value -32768
+> used 2 of 2
+payload i32 ffffffff
+> value -1
+> used 4 of 4
+payload i64 8000000000000000
+> value -9223372036854775808
+> used 8 of 8
+payload i64 7fffffffffffffff
+> value 9223372036854775807
+> used 8 of 8
+
+# Bytes that the value does not use are no fault.
+payload u8 0700ff
+> value 7
+> used 1 of 3
+
+# A value that passes the end of the input.
+payload u8 -
+> fault Truncated at 0
+payload u32 000000
+> fault Truncated at 0
+
+# ---- payloads: texts
+
+# With the byte order mark, and without.
+payload utf8 00000005efbbbf4100
+> value "A"
+> used 9 of 9
+payload utf8 000000024100
+> value "A"
+> used 6 of 6
+
+# Length fields of 16 and 8 bits, and a text without characters.
+payload utf8/16 000100
+> value ""
+> used 3 of 3
+payload utf8/8 06efbbbf414200
+> value "AB"
+> used 7 of 7
+
+# A quote, a backslash, a line feed and 7f are escaped, and so is a zero character inside.
+payload utf8/8 05225c0a7f00
+> value "\"\\\u{a}\u{7f}"
+> used 6 of 6
+payload utf8/8 03410000
+> value "A\u{0}"
+> used 4 of 4
+
+# Characters above 7f are printed as they are.
+payload utf8/8 03c3a400
+> value "ä"
+> used 4 of 4
+payload utf8/8 05f09f988000
+> value "😀"
+> used 6 of 6
+
+# No zero at the end, at the length field.
+payload utf8 0000000141
+> fault NoTerminator at 0
+payload utf8/8 00
+> fault NoTerminator at 0
+
+# A text that is not in its encoding, at the length field.
+payload utf8/8 02ff00
+> fault BadText at 0
+payload struct(u16,utf8/8) 000703c3c300
+> fault BadText at 2
+
+# UTF-16 in both orders of bytes.
+payload utf16 00000006feff00410000
+> value "A"
+> used 10 of 10
+payload utf16/8 06fffe41000000
+> value "A"
+> used 7 of 7
+
+# The last byte of an odd body is skipped, whatever it is.
+payload utf16/16 0007feff0041000055
+> value "A"
+> used 9 of 9
+
+# A pair of surrogates is one character, and one alone is none.
+payload utf16/8 08feffd83dde000000
+> value "😀"
+> used 9 of 9
+payload utf16/8 06feffd83d0000
+> fault BadText at 0
+
+# In UTF-16 the byte order mark has to be there, in front of the terminator.
+payload utf16/8 0400410000
+> fault BadText at 0
+payload utf16/8 020000
+> fault BadText at 0
+payload utf16/8 04feff0041
+> fault NoTerminator at 0
+payload utf16/8 0100
+> fault NoTerminator at 0
+
+# ---- payloads: arrays and fixed numbers of elements
+
+payload array<2,u16> 0000000400010002
+> value [1,2]
+> used 8 of 8
+payload array<2,u16> 00000000
+> value []
+> used 4 of 4
+payload array/8<3,bool> 03010001
+> value [true,false,true]
+> used 4 of 4
+payload array/8<2,array/8<2,u8>> 050201020103
+> value [[1,2],[3]]
+> used 6 of 6
+
+# One element too many, at its first byte, though it is cut short itself.
+payload array<2,u16> 00000006000100020003
+> fault TooMany at 8
+payload array<2,u16> 000000050001000200
+> fault TooMany at 8
+payload array/16<0,u8> 000107
+> fault TooMany at 2
+
+# An element that passes the body of its array.
+payload array<2,u16> 00000003000100
+> fault LengthMismatch at 6
+
+# A body that passes the input, and one that passes the body around it: at its length field.
+payload array<2,u16> 0000000500010002
+> fault Truncated at 0
+payload array/8<2,array/8<2,u8>> 02020102
+> fault LengthMismatch at 1
+
+# So many elements, without a length field.
+payload fixed<3,u16> 000100020003
+> value [1,2,3]
+> used 6 of 6
+payload fixed<2,u16> 000100
+> fault Truncated at 2
+
+# ---- payloads: structures
+
+payload struct(u8,i8) 07ff
+> value (7,-1)
+> used 2 of 2
+payload struct(bool,struct/8(u8,u8)) 01020102
+> value (true,(1,2))
+> used 4 of 4
+payload struct(u8,u16) 0700
+> fault Truncated at 1
+
+# With a length field, bytes past the members are skipped, and members do not pass the body.
+payload struct/16(u8,utf16) 000b0700000006feff00410000
+> value (7,"A")
+> used 13 of 13
+payload struct/16(u8,utf16) 000d0700000006feff00410000aabb
+> value (7,"A")
+> used 15 of 15
+payload struct/8(u16) 0107
+> fault LengthMismatch at 1
+payload struct/32(u8) 0000000207
+> fault Truncated at 0
+
+# ---- payloads: unions
+
+payload union(1:u8) 0000000000000000
+> value none
+> used 8 of 8
+payload union(1:u8) 000000010000000107
+> value 1:7
+> used 9 of 9
+payload union(1:u8,2:utf8/8) 0000000300000002024100
+> value 2:"A"
+> used 11 of 11
+
+# Bytes past the element are skipped.
+payload union(1:u8) 000000030000000107aabb
+> value 1:7
+> used 11 of 11
+
+# No value, and yet a length; then the type number, which is judged before the body's fit.
+payload union(1:u8) 0000000100000000
+> fault LengthMismatch at 0
+payload union(1:u8) 0000000000000002
+> fault UnknownVariant at 4
+payload union(1:u8) 000000ff00000002
+> fault UnknownVariant at 4
+
+# A body that passes the input, an element that passes the body, and fields that pass the input.
+payload union(1:u8) 000000020000000107
+> fault Truncated at 0
+payload union(1:u16) 000000010000000107
+> fault LengthMismatch at 8
+payload union(1:u8) 0000
+> fault Truncated at 0
+payload union(1:u8) 000000010000
+> fault Truncated at 4
+
+# ---- shapes that no payload has
+
+# Sixteen shapes inside each other are taken, and seventeen are not. That is judged first.
+payload struct(struct(struct(struct(struct(struct(struct(struct(struct(struct(struct(struct(struct(struct(struct(u8))))))))))))))) 07
+> value (((((((((((((((7)))))))))))))))
+> used 1 of 1
+payload struct(struct(struct(struct(struct(struct(struct(struct(struct(struct(struct(struct(struct(struct(struct(struct(u8)))))))))))))))) 07
+> fault TooDeep at 0
+payload struct(struct(struct(struct(struct(struct(struct(struct(struct(struct(struct(struct(struct(struct(struct(struct(fixed<0,u8>)))))))))))))))) 07
+> fault TooDeep at 0
+
+# No element, a fixed number inside a fixed number, variant 0, and a variant twice.
+payload fixed<0,u8> -
+> fault BadShape at 0
+payload fixed<1,fixed<1,u8>> 07
+> fault BadShape at 0
+payload union(0:u8) 0000000000000000
+> fault BadShape at 0
+payload union(1:u8,1:u16) 000000010000000107
+> fault BadShape at 0
+"#;
