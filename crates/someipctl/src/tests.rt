@@ -9,11 +9,11 @@ use crate::payload::{PayloadRefusal, payload};
 use crate::show::{ShowError, show};
 use crate::vectors::{VectorsError, vectors};
 use all::{ALL, COUNT};
+use discovery::discovery;
 use std::alloc::{AllocError, Global};
 use std::io;
 use std::io::{ErrorKind, Read, Write};
 use std::test::Fail;
-use discovery::discovery;
 use tables::{bad_vectors, captures, payloads, rows, vector_files};
 
 mod all;

@@ -2,7 +2,7 @@
 //! cannot read a file.
 
 /// How many vectors there are.
-pub const COUNT: usize = 116;
+pub const COUNT: usize = 141;
 
 /// The vectors, behind an empty line.
 pub const ALL: &str = r#"
@@ -411,4 +411,150 @@ payload union(0:u8) 0000000000000000
 > fault BadShape at 0
 payload union(1:u8,1:u16) 000000010000000107
 > fault BadShape at 0
+
+# ---- Service Discovery: entries
+
+# An Offer with its endpoint.
+datagram ffff8100000000300000000101010200c000000000000010010000101111000101000003000000000000000c00090400c0a800010011772d
+> 1 message ffff.8100 length 48 client 0000 session 0001 interface 01 type NOTIFICATION code 00 payload c000000000000010010000101111000101000003000000000000000c00090400c0a800010011772d
+> 1 sd reboot 1 unicast 1 entries 1
+> 1 offer 1111.0001 major 01 ttl 3 minor 0 run1 [endpoint4 192.168.0.1:30509 udp] run2 []
+
+# No entries, no options and no flags.
+datagram ffff8100000000140000000101010200000000000000000000000000
+> 1 message ffff.8100 length 20 client 0000 session 0001 interface 01 type NOTIFICATION code 00 payload 000000000000000000000000
+> 1 sd reboot 0 unicast 0 entries 0
+
+# The six other bits of the flags are ignored.
+datagram ffff81000000001400000001010102003f0000000000000000000000
+> 1 message ffff.8100 length 20 client 0000 session 0001 interface 01 type NOTIFICATION code 00 payload 3f0000000000000000000000
+> 1 sd reboot 0 unicast 0 entries 0
+
+# A Find of any instance and any version; with TTL 0 it is still a Find.
+datagram ffff81000000002400000001010102008000000000000010000000001111ffffff000000ffffffff00000000
+> 1 message ffff.8100 length 36 client 0000 session 0001 interface 01 type NOTIFICATION code 00 payload 8000000000000010000000001111ffffff000000ffffffff00000000
+> 1 sd reboot 1 unicast 0 entries 1
+> 1 find 1111.ffff major ff ttl 0 minor 4294967295 run1 [] run2 []
+
+# An Offer with TTL 0 ends one.
+datagram ffff810000000024000000010101020040000000000000100100000011110001010000000000000000000000
+> 1 message ffff.8100 length 36 client 0000 session 0001 interface 01 type NOTIFICATION code 00 payload 40000000000000100100000011110001010000000000000000000000
+> 1 sd reboot 0 unicast 1 entries 1
+> 1 stopoffer 1111.0001 major 01 ttl 0 minor 0 run1 [] run2 []
+
+# Eventgroup entries, named by their TTL; a TTL of ffffff lasts until the next reboot.
+datagram ffff8100000000540000000101010200000000000000004006000000111100010100000300050001060000001111000101000000000f0001070000001111000101ffffff0000abcd0700000011110001010000000001000200000000
+> 1 message ffff.8100 length 84 client 0000 session 0001 interface 01 type NOTIFICATION code 00 payload 000000000000004006000000111100010100000300050001060000001111000101000000000f0001070000001111000101ffffff0000abcd0700000011110001010000000001000200000000
+> 1 sd reboot 0 unicast 0 entries 4
+> 1 subscribe 1111.0001 major 01 ttl 3 counter 5 group 0001 run1 [] run2 []
+> 1 stopsubscribe 1111.0001 major 01 ttl 0 counter 15 group 0001 run1 [] run2 []
+> 1 ack 1111.0001 major 01 ttl 16777215 counter 0 group abcd run1 [] run2 []
+> 1 nack 1111.0001 major 01 ttl 0 counter 1 group 0002 run1 [] run2 []
+
+# The twelve reserved bits of an eventgroup entry are ignored.
+datagram ffff81000000002400000001010102000000000000000010060000001111000101000003fff5000100000000
+> 1 message ffff.8100 length 36 client 0000 session 0001 interface 01 type NOTIFICATION code 00 payload 0000000000000010060000001111000101000003fff5000100000000
+> 1 sd reboot 0 unicast 0 entries 1
+> 1 subscribe 1111.0001 major 01 ttl 3 counter 5 group 0001 run1 [] run2 []
+
+# ---- Service Discovery: options and runs
+
+# Every option, in two runs of one entry.
+datagram ffff81000000009e00000001010102004000000000000010010003351111000101000003000000070000007a000502000001000200090400c0a800010006772d00091400e00000010011772e000924000a000001008400010015060020010db80000000000000000000000010011005000151600ff0200000000000000000000000000010006005100152600fe80000000000000000000000000000200110052000301006162
+> 1 message ffff.8100 length 158 client 0000 session 0001 interface 01 type NOTIFICATION code 00 payload 4000000000000010010003351111000101000003000000070000007a000502000001000200090400c0a800010006772d00091400e00000010011772e000924000a000001008400010015060020010db80000000000000000000000010011005000151600ff0200000000000000000000000000010006005100152600fe80000000000000000000000000000200110052000301006162
+> 1 sd reboot 0 unicast 1 entries 1
+> 1 offer 1111.0001 major 01 ttl 3 minor 7 run1 [load 1 2, endpoint4 192.168.0.1:30509 tcp, multicast4 224.0.0.1:30510 udp] run2 [sdendpoint4 10.0.0.1:1 proto84, endpoint6 20010db8000000000000000000000001:80 udp, multicast6 ff020000000000000000000000000001:81 tcp, sdendpoint6 fe800000000000000000000000000002:82 udp, unknown 01 006162]
+
+# Two entries share an option, and a third has the second of two alone.
+datagram ffff81000000005c0000000101010200c0000000000000300100001011110001010000030000000001000020111100020100000300000000010100101111000301000003000000000000001800090400c0a800010011772d00090400c0a800010011772e
+> 1 message ffff.8100 length 92 client 0000 session 0001 interface 01 type NOTIFICATION code 00 payload c0000000000000300100001011110001010000030000000001000020111100020100000300000000010100101111000301000003000000000000001800090400c0a800010011772d00090400c0a800010011772e
+> 1 sd reboot 1 unicast 1 entries 3
+> 1 offer 1111.0001 major 01 ttl 3 minor 0 run1 [endpoint4 192.168.0.1:30509 udp] run2 []
+> 1 offer 1111.0002 major 01 ttl 3 minor 0 run1 [endpoint4 192.168.0.1:30509 udp, endpoint4 192.168.0.1:30510 udp] run2 []
+> 1 offer 1111.0003 major 01 ttl 3 minor 0 run1 [endpoint4 192.168.0.1:30510 udp] run2 []
+
+# The index of an empty run is ignored, and so are the reserved bytes of an option.
+datagram ffff8100000000300000000101010200c000000000000010010009101111000101000003000000000000000c000904ffc0a80001ff11772d
+> 1 message ffff.8100 length 48 client 0000 session 0001 interface 01 type NOTIFICATION code 00 payload c000000000000010010009101111000101000003000000000000000c000904ffc0a80001ff11772d
+> 1 sd reboot 1 unicast 1 entries 1
+> 1 offer 1111.0001 major 01 ttl 3 minor 0 run1 [endpoint4 192.168.0.1:30509 udp] run2 []
+
+# A first run that passes the options is a bad run, and no fault.
+datagram ffff8100000000300000000101010200c000000000000010060100101111000101000003000000010000000c00090400c0a800010011772d
+> 1 message ffff.8100 length 48 client 0000 session 0001 interface 01 type NOTIFICATION code 00 payload c000000000000010060100101111000101000003000000010000000c00090400c0a800010011772d
+> 1 sd reboot 1 unicast 1 entries 1
+> 1 subscribe 1111.0001 major 01 ttl 3 counter 0 group 0001 badrun
+
+# A second run that passes the options makes the whole entry a bad run.
+datagram ffff8100000000300000000101010200c000000000000010060001111111000101000003000000010000000c00090400c0a800010011772d
+> 1 message ffff.8100 length 48 client 0000 session 0001 interface 01 type NOTIFICATION code 00 payload c000000000000010060001111111000101000003000000010000000c00090400c0a800010011772d
+> 1 sd reboot 1 unicast 1 entries 1
+> 1 subscribe 1111.0001 major 01 ttl 3 counter 0 group 0001 badrun
+
+# ---- Service Discovery: faults of the payload, whose places count in the datagram
+
+# Fewer than 8 bytes.
+datagram ffff81000000000f0000000101010200c0000000000000
+> 1 message ffff.8100 length 15 client 0000 session 0001 interface 01 type NOTIFICATION code 00 payload c0000000000000
+> 1 fault Truncated at 23
+
+# No payload at all.
+datagram ffff8100000000080000000101010200
+> 1 message ffff.8100 length 8 client 0000 session 0001 interface 01 type NOTIFICATION code 00 payload -
+> 1 fault Truncated at 16
+
+# The entries pass the end.
+datagram ffff8100000000140000000101010200c00000000000001000000000
+> 1 message ffff.8100 length 20 client 0000 session 0001 interface 01 type NOTIFICATION code 00 payload c00000000000001000000000
+> 1 fault Truncated at 28
+
+# The options pass the end.
+datagram ffff8100000000140000000101010200c00000000000000000000001
+> 1 message ffff.8100 length 20 client 0000 session 0001 interface 01 type NOTIFICATION code 00 payload c00000000000000000000001
+> 1 fault Truncated at 28
+
+# A length of the entries that is no multiple of 16.
+datagram ffff8100000000100000000101010200c00000000000000f
+> 1 message ffff.8100 length 16 client 0000 session 0001 interface 01 type NOTIFICATION code 00 payload c00000000000000f
+> 1 fault EntriesLength at 20
+
+# An entry of type 02.
+datagram ffff8100000000240000000101010200c0000000000000100200000011110001010000030000000000000000
+> 1 message ffff.8100 length 36 client 0000 session 0001 interface 01 type NOTIFICATION code 00 payload c0000000000000100200000011110001010000030000000000000000
+> 1 fault UnknownEntryType at 24
+
+# An option of length 0.
+datagram ffff8100000000180000000101010200c0000000000000000000000400000400
+> 1 message ffff.8100 length 24 client 0000 session 0001 interface 01 type NOTIFICATION code 00 payload c0000000000000000000000400000400
+> 1 fault OptionLength at 28
+
+# An IPv4 endpoint option of length 8.
+datagram ffff81000000001f0000000101010200c0000000000000000000000b00080400c0a80001001177
+> 1 message ffff.8100 length 31 client 0000 session 0001 interface 01 type NOTIFICATION code 00 payload c0000000000000000000000b00080400c0a80001001177
+> 1 fault OptionLength at 28
+
+# An option whose length passes the options.
+datagram ffff8100000000180000000101010200c0000000000000000000000400020100
+> 1 message ffff.8100 length 24 client 0000 session 0001 interface 01 type NOTIFICATION code 00 payload c0000000000000000000000400020100
+> 1 fault OptionLength at 28
+
+# Two bytes behind an option.
+datagram ffff81000000001e0000000101010200c0000000000000000000000a00050200000100020005
+> 1 message ffff.8100 length 30 client 0000 session 0001 interface 01 type NOTIFICATION code 00 payload c0000000000000000000000a00050200000100020005
+> 1 fault OptionLength at 36
+
+# A byte behind the options.
+datagram ffff8100000000150000000101010200c00000000000000000000000aa
+> 1 message ffff.8100 length 21 client 0000 session 0001 interface 01 type NOTIFICATION code 00 payload c00000000000000000000000aa
+> 1 fault TrailingBytes at 28
+
+# A fault of the payload does not end the datagram.
+datagram ffff8100000000100000000101010200c00000000000000f12340421000000080001000101010000
+> 1 message ffff.8100 length 16 client 0000 session 0001 interface 01 type NOTIFICATION code 00 payload c00000000000000f
+> 1 fault EntriesLength at 20
+> 1 message 1234.0421 length 8 client 0001 session 0001 interface 01 type REQUEST code 00 payload -
+
+# Another Interface Version is no Service Discovery.
+datagram ffff81000000000d0000000101020200c000000000
+> 1 message ffff.8100 length 13 client 0000 session 0001 interface 02 type NOTIFICATION code 00 payload c000000000
 "#;
