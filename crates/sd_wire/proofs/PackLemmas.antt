@@ -122,9 +122,6 @@ pub record PackedUpTo (entries : List Entry) (k : ℕ) (text : List ℕ) (pool :
   pub len : length text ≡ 16 * k
   pub few : length pool ≤ 270
 
-pub packed_none : (entries : List Entry) → PackedUpTo entries 0 [] []
-packed_none entries = record { packs = (refl, refl); heads = tt; len = refl; few = omega arith }
-
 pub packed_more : (entries : List Entry) (k : ℕ) (text bytes : List ℕ) (pool : Pool) (e : Entry) (runs : Runs) (next : Pool) → k < length entries → e ≡ get_or entries k e → PackedUpTo entries k text pool
     → PlacesEntry pool (view_entry e) runs next → HeadFits e.head → bytes ≡ entry_bytes 0 runs e.head → length bytes ≡ 16 → PackedUpTo entries (k + 1) (text ++ bytes) next
 packed_more entries k text bytes pool e runs next lt is h places fits same sixteen =

@@ -75,9 +75,6 @@ pub record FrontUpTo (entries : List EntryValue) (k : ℕ) (pool : Pool) (size :
   pub few : length pool ≤ 270
   pub fits : size ≤ 1400
 
-pub front_none : (entries : List EntryValue) → FrontUpTo entries 0 [] 12
-front_none entries = record { text = []; packs = (refl, refl); within = omega arith; counted = refl; few = omega arith; fits = omega arith }
-
 length_front : (entries : List EntryValue) (k : ℕ) → k ≤ length entries → length (take k entries) ≡ k
 length_front entries k le = omega (arith, length-take k entries)
 
