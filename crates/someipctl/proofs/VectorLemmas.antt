@@ -1,5 +1,5 @@
 -- The lines of a file of vectors, one after the other.
-use Rattle.std.proofs.Common.{◌≡◌, ◌≢◌, ◌<◌, ◌≤◌, ℕ, suc, ◌+◌, Bool, true, false, true≢false, List, [], ◌∷◌, ◌++◌, length, take, drop, filter, codes, Err, ◌-◌, refl, sym, ap, ◌∙◌, subst, arith, length-drop}
+use Rattle.std.proofs.Common.{◌≡◌, ◌≢◌, ◌≤◌, ℕ, suc, ◌+◌, true, false, true≢false, List, [], ◌∷◌, ◌++◌, length, take, drop, filter, codes, Err, Some, None, ◌-◌, refl, sym, ap, ◌∙◌, subst, arith, length-drop}
 use Rattle.std.specs.List.{AllByRecursion, enumerate_from}
 use Rattle.std.specs.Str.{IsUtf8}
 use Rattle.std.proofs.Math.Seq.{take-add}
@@ -8,6 +8,7 @@ use Rattle.std.proofs.lemmas.List.Elements.{filter-append}
 use Rattle.std.proofs.lemmas.List.FromFn.{length-enumerate_from}
 use Rattle.someipctl.specs.declared.vector_lines.LineFault.{LineFault}
 use Rattle.someipctl.specs.declared.vector_lines.LineFault.TheVariants.{Bad, OutOfMemory}
+use Rattle.someipctl.specs.Payload.{argument_bytes}
 use Rattle.someipctl.specs.VectorLines.{Said, asks, expects, Says, AsksOfNoDatagram, IsBadBehind, IsFoundOf, is_left_out, is_counted, EachSays, begins_with_vector, has_vector, AreSaid, IsFirstBadLine}
 
 -- ---- one line
@@ -22,17 +23,44 @@ abbrev first_byte : List ℕ → ℕ
 first_byte [] = 0
 first_byte (b ∷ bytes) = b
 
-expects_no_datagram : (line text hex : List ℕ) → line ≡ codes "> " ++ text → line ≡ codes "datagram " ++ hex → ⊥
-expects_no_datagram line text hex one other =
-    let same : 62 ≡ 100 = ap first_byte (sym one ∙ other) in cc same
+-- a line that begins with another byte than `d` is no `datagram HEX`
+asks_of_none : (line : List ℕ) (b : ℕ) → b ≢ 100 → first_byte line ≡ b → AsksOfNoDatagram line
+asks_of_none line b other is = λ bytes says. absurd (other (sym is ∙ ap first_byte says.1))
+
+expected_asks_none : (line text : List ℕ) → line ≡ codes "> " ++ text → AsksOfNoDatagram line
+expected_asks_none line text is = asks_of_none line 62 (λ e. cc e) (ap first_byte is)
 
 -- a line of expected text is bad where there is no vector before it
 pub bad_behind : (sayings : List Said) (line : List ℕ) (said : Said) → is_left_out line ≡ false → Says line said → has_vector sayings said ≡ false
     → IsBadBehind sayings line
 bad_behind sayings line (asks asked) counts says none = absurd (true≢false none)
 bad_behind [] line (expects text) counts says none =
-    λ utf8. (counts, (λ bytes other. expects_no_datagram line text other.0 says.0 other.1), λ rest more. refl)
+    λ utf8. (counts, expected_asks_none line text says.0, λ rest more. refl)
 bad_behind (s ∷ sayings) line (expects text) counts says none = absurd (true≢false none)
+
+-- text that is expected of no vector is bad
+pub early_text : (text : List ℕ) → IsBadBehind [] (codes "> " ++ text)
+early_text text = λ utf8. (refl, expected_asks_none (codes "> " ++ text) text refl, λ rest says. refl)
+
+-- so is `datagram HEX` where HEX is none
+pub no_hex : (sayings : List Said) (hex : List ℕ) → argument_bytes hex ≡ None → IsBadBehind sayings (codes "datagram " ++ hex)
+no_hex sayings hex none =
+    λ utf8. (
+      refl,
+      (λ bytes says.
+          let same : hex ≡ says.0 = ap (drop 9) says.1 in
+          let some : argument_bytes hex ≡ Some bytes = ap argument_bytes same ∙ says.2 in
+          let bad : None ≡ Some bytes = sym none ∙ some in cc bad),
+      λ text says. (let same : 100 ≡ 62 = ap first_byte says.0 in cc same),
+    )
+
+-- so are `>` alone, and a blank
+pub bare_text : (sayings : List Said) → IsBadBehind sayings (codes ">")
+bare_text sayings =
+    λ utf8. (refl, asks_of_none (codes ">") 62 (λ e. cc e) refl, λ text says. (let short : 1 ≡ suc (suc (length text)) = ap length says.0 in absurd (omega (arith, short))))
+
+pub blank_line : (sayings : List Said) → IsBadBehind sayings (codes " ")
+blank_line sayings = λ utf8. (refl, asks_of_none (codes " ") 32 (λ e. cc e) refl, λ text says. (let same : 32 ≡ 62 = ap first_byte says.0 in cc same))
 
 -- ---- one line more
 

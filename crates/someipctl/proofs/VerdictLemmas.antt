@@ -1,5 +1,5 @@
 -- Vectors that are judged one after the other, and what `vectors` promises of that.
-use Rattle.std.proofs.Common.{◌≡◌, ◌<◌, ◌≤◌, ℕ, zero, suc, ◌+◌, Bool, List, [], ◌∷◌, ◌++◌, length, get_or, drop, map, Option, Some, None, refl, sym, ap, ◌∙◌, subst, append_assoc, arith, add-one, drop-cons}
+use Rattle.std.proofs.Common.{◌≡◌, ◌<◌, ◌≤◌, ℕ, zero, suc, ◌+◌, Bool, List, [], ◌∷◌, ◌++◌, length, get_or, drop, map, Option, Some, refl, sym, ap, ◌∙◌, subst, append_assoc, arith, add-one, drop-cons}
 use Rattle.std.specs.Prelude.{IfSome}
 use Rattle.std.proofs.lemmas.List.{append-nil, drop_all}
 use Rattle.someipctl.specs.declared.outcome.Outcome.{Outcome}
@@ -9,7 +9,7 @@ use Rattle.someipctl.specs.declared.vector_lines.VectorLine.TheVariants.{Asks, E
 use Rattle.someipctl.specs.declared.vectors.VectorsError.{VectorsError}
 use Rattle.someipctl.specs.declared.vectors.VectorsError.TheVariants.{BadVector, CannotRead, CannotWrite, OutOfMemory}
 use Rattle.someipctl.specs.VectorLines.{asked_by, said_by}
-use Rattle.someipctl.specs.Vectors.{Vector, AreJudged, IsJudged, Judges, JudgesBeginning, RefusesVectors, expected_text, vectors_in}
+use Rattle.someipctl.specs.Vectors.{Vector, AreJudged, IsJudged, Judges, RefusesVectors, expected_text, vectors_in}
 use Rattle.someipctl.proofs.ShowResultLemmas.{WasLeft-read}
 
 -- the result at a place, and those behind it

@@ -1,5 +1,5 @@
 -- What the arguments of `payload` say.
-use Rattle.std.specs.Prelude.{◌≡◌, ◌≢◌, ℕ, ◌&&◌, ◌==◌, if◌then◌else◌, List, [], ◌++◌, length, take, slice_index, codes, decimal, Option, Some, None}
+use Rattle.std.specs.Prelude.{◌≡◌, ℕ, ◌==◌, if◌then◌else◌, List, [], ◌++◌, length, take, codes, decimal, Option, Some, None}
 use Rattle.std.specs.Io.KnownBytes.{Appends}
 use Rattle.someip_payload.specs.declared.Value.{Value}
 use Rattle.someip_payload.specs.declared.PayloadError.{PayloadError}

@@ -284,6 +284,7 @@ fn help_is_printed_and_usage_is_not(rt: HostRuntime) {
 #[test]
 fn laws_hold() {
     laws::what_lines_say();
+    laws::what_vector_lines_say();
     laws::messages_begin_behind_others();
     laws::words_without_fault_match();
     laws::words_show_any_capture();

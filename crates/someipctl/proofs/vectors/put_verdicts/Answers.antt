@@ -1,4 +1,4 @@
-use Rattle.std.proofs.Common.{◌+◌, ap, rules}
+use Rattle.std.proofs.Common.{◌+◌, ap}
 use Rattle.someipctl.specs.Vectors.{verdict_lines}
 use Rattle.someipctl.proofs.SendingLemmas.{OnErr-any, IsSending-more, IsSending-stop}
 use Rattle.someipctl.proofs.VerdictLemmas.{next_result}

@@ -1,4 +1,3 @@
-use Rattle.std.proofs.Common.{sym}
 use Rattle.someipctl.proofs.SendingLemmas.{OnErr-any, Sends-trans, Stops-after, Stops-before, Stops-flush}
 use Rattle.someipctl.proofs.vectors.write_verdicts.Goals as goal
 use Rattle.std.proofs.lemmas.Result.{on_err_weaker}
