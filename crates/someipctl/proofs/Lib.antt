@@ -1,13 +1,2 @@
-pub mod CaptureLemmas
 pub mod CommandLineLemmas
 pub mod ClapWalkLemmas
-pub mod SendingLemmas
-pub mod HexLemmas
-pub mod ShownTextLemmas
-pub mod ShowResultLemmas
-pub mod LinesLemmas
-pub mod PlaceLemmas
-pub mod DiscoveryLemmas
-pub mod ReadingsLemmas
-pub mod VectorLemmas
-pub mod VerdictLemmas

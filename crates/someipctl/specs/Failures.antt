@@ -3,17 +3,17 @@ use Rattle.std.specs.Prelude.{◌≡◌, ℕ, List, Option, Result, Ok, Err}
 use Rattle.std.specs.Io.KnownBytes.{Keeps}
 use Rattle.someipctl.specs.declared.command.LineError.{LineError}
 use Rattle.someipctl.specs.declared.command.LineError.TheVariants as words
-use Rattle.someipctl.specs.declared.outcome.Outcome.{Outcome}
-use Rattle.someipctl.specs.declared.outcome.Outcome.TheVariants.{Done}
+use Rattle.someipctl_commands.specs.declared.outcome.Outcome.{Outcome}
+use Rattle.someipctl_commands.specs.declared.outcome.Outcome.TheVariants.{Done}
 use Rattle.std.specs.Borrow.{Bor}
 use Rattle.someipctl.specs.declared.failure.Failure.{Failure}
 use Rattle.someipctl.specs.declared.failure.Failure.TheVariants.{BadHex, BadVector, BadShape, BadPayloadHex, Usage, NotText, OutOfMemory, CannotRead, CannotWrite}
-use Rattle.someipctl.specs.declared.payload.PayloadRefusal.{PayloadRefusal}
-use Rattle.someipctl.specs.declared.payload.PayloadRefusal.TheVariants as payloads
-use Rattle.someipctl.specs.declared.show.ShowError.{ShowError}
-use Rattle.someipctl.specs.declared.show.ShowError.TheVariants as shows
-use Rattle.someipctl.specs.declared.vectors.VectorsError.{VectorsError}
-use Rattle.someipctl.specs.declared.vectors.VectorsError.TheVariants as vectors
+use Rattle.someipctl_commands.specs.declared.payload.PayloadRefusal.{PayloadRefusal}
+use Rattle.someipctl_commands.specs.declared.payload.PayloadRefusal.TheVariants as payloads
+use Rattle.someipctl_commands.specs.declared.show.ShowError.{ShowError}
+use Rattle.someipctl_commands.specs.declared.show.ShowError.TheVariants as shows
+use Rattle.someipctl_commands.specs.declared.vectors.VectorsError.{VectorsError}
+use Rattle.someipctl_commands.specs.declared.vectors.VectorsError.TheVariants as vectors
 
 -- the exit status of a failure
 abbrev pub status_of_failure : Failure → ℕ

@@ -1,14 +1,2 @@
-pub mod Capture
 pub mod CommandLine
-pub mod Sending
-pub mod Parts
-pub mod Lines
-pub mod Discovery
-pub mod Items
-pub mod Outcomes
-pub mod ShownText
-pub mod ShowResult
-pub mod Payload
-pub mod VectorLines
-pub mod Vectors
 pub mod Failures

@@ -3,9 +3,9 @@ ghost use Rattle.std.specs.Prelude.{◌≡◌};
 ghost use Rattle.someipctl.specs.Failures.{status_of_failure, failure_of_show, failure_of_payload};
 ghost use Rattle.someipctl.specs.Failures.{failure_of_vectors};
 
-use crate::payload::PayloadRefusal;
-use crate::show::ShowError;
-use crate::vectors::VectorsError;
+use someipctl_commands::payload::PayloadRefusal;
+use someipctl_commands::show::ShowError;
+use someipctl_commands::vectors::VectorsError;
 use thiserror::Error;
 
 /// Why the program did not do its work. Printed, it is the text for standard error.

@@ -3,8 +3,8 @@ ghost use Rattle.someipctl.specs.Failures.{Answers, AnswersHelp};
 
 use crate::command::LineError;
 use crate::failure::Failure;
-use crate::outcome::Outcome;
-use crate::output::{CannotWrite, write_text};
+use someipctl_commands::Outcome;
+use someipctl_print::{CannotWrite, write_text};
 use std::alloc::Global;
 use std::io::Write;
 

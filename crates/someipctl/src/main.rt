@@ -1,38 +1,28 @@
 //! `someipctl`: SOME/IP messages on the command line.
 //!
-//! - `command`, `help`: what the words of the command line ask for, and the answer to others;
-//! - `capture`, `lines`, `show`: the command `show`;
-//! - `payload`: the command `payload`;
-//! - `vector_lines`, `vectors`: the command `vectors`;
-//! - `input`, `output`, `parts`: reading an input whole, and printing in parts through a buffer;
-//! - `outcome`, `failure`: the exit statuses and the texts of faults;
+//! What a command reads, does and prints stands in `someipctl_commands`; here are the command line,
+//! the files, and how the program ends.
+//!
+//! - `command`, `help`: what the arguments ask for, and the answer to others;
+//! - `failure`: why the program failed, with its exit status and its text;
 //! - `laws`: what the definitions behind the contracts promise.
 #![tactic(auto)]
 
 ghost use Rattle.std.specs.Prelude.{◌≡◌};
 ghost use Rattle.someipctl.specs.Failures.{status_of_failure};
 
-mod capture;
 mod command;
-mod discovery;
 mod failure;
 mod help;
-mod input;
 mod laws;
-mod lines;
-mod outcome;
-mod output;
-mod parts;
-mod payload;
-mod readings;
-mod show;
-mod vector_lines;
-mod vectors;
 
 use command::{Command, command_of};
 use failure::Failure;
 use help::answer_error;
-use outcome::Outcome;
+use someipctl_commands::payload::payload;
+use someipctl_commands::show::show;
+use someipctl_commands::vectors::vectors;
+use someipctl_commands::Outcome;
 use std::io::ErrorKind;
 use std::process::ExitCode;
 use std::rt::{Env, Files};
@@ -92,7 +82,7 @@ fn run_command<'w, R: Files + Print + AllocGlobal>(
     match command {
         Command::Show { capture } => show_file(rt, capture),
         Command::Payload { shape, hex } => {
-            payload::payload(rt.alloc(), shape, hex, &mut io::writer(rt)).map_err(
+            payload(rt.alloc(), shape, hex, &mut io::writer(rt)).map_err(
                 Failure::of_payload,
             )
         }
@@ -105,7 +95,7 @@ fn show_file<'p, R: Files + Print + AllocGlobal>(
     path: &'p str,
 ) -> Result<Outcome, Failure<'p>> {
     let mut file = open_file(rt, path)?;
-    show::show(rt.alloc(), &mut file, &mut io::writer(rt)).map_err(|error| Failure::of_show(
+    show(rt.alloc(), &mut file, &mut io::writer(rt)).map_err(|error| Failure::of_show(
         error, path,
     ))
 }
@@ -115,7 +105,7 @@ fn judge_file<'p, R: Files + Print + AllocGlobal>(
     path: &'p str,
 ) -> Result<Outcome, Failure<'p>> {
     let mut file = open_file(rt, path)?;
-    vectors::vectors(rt.alloc(), &mut file, &mut io::writer(rt)).map_err(
+    vectors(rt.alloc(), &mut file, &mut io::writer(rt)).map_err(
         |error| Failure::of_vectors(error, path),
     )
 }

@@ -1,79 +1,49 @@
-//! Captures, words and what is shown, each as a table; and readers and writers that fail.
-use crate::capture::{CaptureError, read_capture};
+//! What arguments come to, how the program ends, and the texts for standard error.
 use crate::command::{Command, LineError, command_of};
 use crate::failure::Failure;
 use crate::help::answer_error;
 use crate::laws;
-use crate::outcome::Outcome;
-use crate::payload::{PayloadRefusal, payload};
-use crate::show::{ShowError, show};
-use crate::vectors::{VectorsError, vectors};
-use all::{ALL, COUNT};
-use discovery::discovery;
+use crate::run;
+use rows::rows;
+use someipctl_commands::payload::PayloadRefusal;
+use someipctl_commands::show::ShowError;
+use someipctl_commands::vectors::VectorsError;
 use std::alloc::{AllocError, Global};
 use std::io;
-use std::io::{ErrorKind, Read, Write};
+use std::io::{ErrorKind, Write};
 use std::test::Fail;
-use tables::{bad_vectors, captures, payloads, rows, vector_files};
 
-mod all;
-mod discovery;
-mod tables;
+mod rows;
 
-/// One request.
-const REQUEST: &[u8] = b"12340421 00000008 00010001 01010000\n";
-
-const REQUEST_LINE: &str =
-    "1 message 1234.0421 length 8 client 0001 session 0001 interface 01 type REQUEST code 00 payload -\n";
-
-/// Gives at most so many bytes a call, and fails at one call, by an error of a kind.
-#[derive(Drop)]
-struct SlowReader<'a> {
-    rest: &'a [u8],
-    calls: usize,
-    fails_at: usize,
-    kind: ErrorKind,
-}
-
-impl Read for SlowReader<'_> {
-    fn read(&mut self, buf: &mut [u8]) -> io::Result<usize> {
-        let call = self.calls;
-        self.calls = call.saturating_add(1);
-        if call == self.fails_at {
-            return Err(io::Error::from(self.kind));
-        }
-        let (Some((first, rest)), Some(place)) = (self.rest.split_first(), buf.first_mut()) else {
-            return Ok(0);
-        };
-        *place = *first;
-        self.rest = rest;
-        Ok(1)
+/// Each failure, its text for standard error and its exit status.
+#[test]
+fn failures_have_texts_and_statuses(rt: HostRuntime) -> Result<(), Fail> {
+    let path = "a/b.txt";
+    let rows = [
+        (Failure::of_show(ShowError::BadHex(2), path), "line 2: bad hex", 1),
+        (Failure::of_show(ShowError::OutOfMemory, path), "out of memory", 3),
+        (Failure::of_show(ShowError::CannotRead, path), "cannot read a/b.txt", 4),
+        (Failure::of_show(ShowError::CannotWrite, path), "cannot write", 4),
+        (Failure::of_vectors(VectorsError::BadVector(3), path), "line 3: bad vector", 1),
+        (Failure::of_payload(PayloadRefusal::BadShape(7)), "bad shape at 7", 1),
+        (Failure::of_payload(PayloadRefusal::BadHex), "bad hex", 1),
+        (Failure::NotText, "error: a word is no UTF-8\n\nUsage: someipctl <COMMAND>", 2),
+    ];
+    for (failure, text, status) in rows {
+        assert!(rt; failure.status() == status, "{text}");
+        let printed = failure.to_string(rt.alloc())?;
+        assert!(rt; printed.as_str() == text, "{text}");
     }
+    Ok(())
 }
 
-/// Takes at most so many bytes a call, and at one call fails or takes nothing.
+/// A writer that takes nothing in.
 #[derive(Drop)]
-struct SlowWriter {
-    taken: Vec<u8>,
-    most: usize,
-    calls: usize,
-    fails_at: usize,
-    takes_nothing: bool,
-}
+struct Broken;
 
-impl Write for SlowWriter {
-    fn write(&mut self, buf: &[u8]) -> io::Result<usize> {
-        let call = self.calls;
-        self.calls = call.saturating_add(1);
-        if call == self.fails_at {
-            if self.takes_nothing {
-                return Ok(0);
-            }
-            return Err(io::Error::from(ErrorKind::Other));
-        }
-        let count = buf.len().min(self.most);
-        self.taken.extend_from_slice(&buf[..count])?;
-        Ok(count)
+impl Write for Broken {
+    fn write(&mut self, _buf: &[u8]) -> io::Result<usize> {
+        Err(io::Error::from(ErrorKind::Other))
     }
 
     fn flush(&mut self) -> io::Result<()> {
@@ -81,424 +51,69 @@ impl Write for SlowWriter {
     }
 }
 
-#[test]
-fn captures_are_shown(rt: HostRuntime) {
-    for (capture, wanted, status) in captures() {
-        let mut reader = capture;
-        let mut out = Vec::new(rt.alloc());
-        let outcome = show(rt.alloc(), &mut reader, &mut out).map(|outcome| outcome.status());
-        assert_eq!(rt; outcome, Ok(status), "{capture:?}");
-        assert_eq!(rt; out.as_slice(), wanted.as_bytes(), "{capture:?}");
-    }
-}
-
-#[test]
-fn discovery_is_shown(rt: HostRuntime) {
-    for (capture, wanted, status) in discovery() {
-        let mut reader = capture;
-        let mut out = Vec::new(rt.alloc());
-        let outcome = show(rt.alloc(), &mut reader, &mut out).map(|outcome| outcome.status());
-        assert_eq!(rt; outcome, Ok(status), "{capture:?}");
-        assert_eq!(rt; out.as_slice(), wanted.as_bytes(), "{capture:?}");
-    }
-}
-
-#[test]
-fn bad_hex_shows_nothing(rt: HostRuntime) {
-    let mut reader = b"12340421 00000008 00010001 01010000\n123\n".as_slice();
-    let mut out = Vec::new(rt.alloc());
-    let outcome = show(rt.alloc(), &mut reader, &mut out);
-    assert_eq!(rt; outcome, Err(ShowError::BadHex(2)));
-    assert!(rt; out.is_empty());
-}
-
-/// Failures of `show` at a path, the text for standard error and the exit status.
-#[test]
-fn failures_have_texts_and_statuses(rt: HostRuntime) -> Result<(), Fail> {
-    let rows = [
-        (ShowError::BadHex(2), "line 2: bad hex", 1),
-        (ShowError::OutOfMemory, "out of memory", 3),
-        (ShowError::CannotRead, "cannot read a/b.txt", 4),
-        (ShowError::CannotWrite, "cannot write", 4),
-    ];
-    for (error, text, status) in rows {
-        let failure = Failure::of_show(error, "a/b.txt");
-        assert_eq!(rt; failure.status(), status);
-        assert_eq!(rt; failure.to_string(rt.alloc())?.as_str(), text);
-    }
-    let text = Failure::NotText.to_string(rt.alloc())?;
-    assert_eq!(rt;
-        text.as_str(),
-        "error: a word is no UTF-8\n\nUsage: someipctl <COMMAND>"
-    );
-    assert_eq!(rt; Failure::NotText.status(), 2);
-    assert_eq!(rt; Outcome::Done.status(), 0);
-    assert_eq!(rt; Outcome::of(true).status(), 1);
-    Ok(())
-}
-
-#[test]
-fn a_read_that_fails_shows_nothing(rt: HostRuntime) {
-    let kinds = [
-        (ErrorKind::Other, ShowError::CannotRead),
-        (ErrorKind::OutOfMemory, ShowError::OutOfMemory),
-    ];
-    for (kind, error) in kinds {
-        for fails_at in 0..REQUEST.len() + 2 {
-            let mut reader = SlowReader {
-                rest: REQUEST,
-                calls: 0,
-                fails_at,
-                kind,
-            };
-            let mut out = Vec::new(rt.alloc());
-            let outcome = show(rt.alloc(), &mut reader, &mut out);
-            if fails_at <= REQUEST.len() {
-                assert_eq!(rt; outcome, Err(error));
-                assert!(rt; out.is_empty());
-            } else {
-                assert_eq!(rt; outcome, Ok(Outcome::Done));
-                assert_eq!(rt; out.as_slice(), REQUEST_LINE.as_bytes());
-            }
-        }
-    }
-}
-
-/// Shows the capture through a writer that takes so many bytes a call and fails at a call.
-fn written(
-    alloc: Global,
-    mut capture: &[u8],
-    most: usize,
-    fails_at: usize,
-    takes_nothing: bool,
-) -> (Result<Outcome, ShowError>, Vec<u8>) {
-    let mut writer = SlowWriter {
-        taken: Vec::new(alloc),
-        most,
-        calls: 0,
-        fails_at,
-        takes_nothing,
-    };
-    let outcome = show(alloc, &mut capture, &mut writer);
-    (outcome, writer.taken)
-}
-
-#[test]
-fn a_write_that_fails_leaves_a_beginning(rt: HostRuntime) {
-    for takes_nothing in [false, true] {
-        for fails_at in 0..REQUEST_LINE.len() {
-            let (outcome, taken) = written(rt.alloc(), REQUEST, 1, fails_at, takes_nothing);
-            assert_eq!(rt; outcome, Err(ShowError::CannotWrite));
-            assert_eq!(rt; taken.len(), fails_at);
-            assert!(rt; REQUEST_LINE.as_bytes().starts_with(&taken));
-        }
-    }
-    let (outcome, taken) = written(rt.alloc(), REQUEST, 1, REQUEST_LINE.len(), false);
-    assert_eq!(rt; outcome, Ok(Outcome::Done));
-    assert_eq!(rt; taken.as_slice(), REQUEST_LINE.as_bytes());
-}
-
-/// A capture with payloads of these lengths, of bytes 5a, and the text that it shows.
-fn long_payloads(alloc: Global, lengths: &[u16]) -> Result<(String, String), AllocError> {
-    let mut capture = String::new(alloc);
-    let mut text = String::new(alloc);
-    let mut k = 0usize;
-    for length in lengths {
-        k = k.saturating_add(1);
-        let counted = u32::from(*length) + 8;
-        write!(capture, "12340421{counted:08x}0001000101010000")?;
-        write!(
-            text,
-            "{k} message 1234.0421 length {counted} client 0001 session 0001 "
-        )?;
-        text.push_str("interface 01 type REQUEST code 00 payload ")?;
-        for _ in 0..*length {
-            capture.push_str("5A")?;
-            text.push_str("5a")?;
-        }
-        capture.push_str("\n")?;
-        text.push_str("\n")?;
-    }
-    Ok((capture, text))
-}
-
-/// Payloads at the edges of what is turned into hex and held back at once.
-#[test]
-fn long_texts_are_written_whole(rt: HostRuntime) -> Result<(), Fail> {
-    let lengths = [
-        63, 64, 65, 127, 128, 129, 8100, 8140, 8191, 8192, 8193, 20000,
-    ];
-    let (capture, text) = long_payloads(rt.alloc(), &lengths)?;
-    let (outcome, taken) = written(rt.alloc(), capture.as_bytes(), 60000, 60000, false);
-    assert_eq!(rt; outcome, Ok(Outcome::Done));
-    assert_eq!(rt; taken.as_slice(), text.as_bytes());
-    let (outcome, taken) = written(rt.alloc(), capture.as_bytes(), 7, 60000, false);
-    assert_eq!(rt; outcome, Ok(Outcome::Done));
-    assert_eq!(rt; taken.as_slice(), text.as_bytes());
-    for fails_at in 0..40 {
-        let (outcome, taken) = written(rt.alloc(), capture.as_bytes(), 5000, fails_at, true);
-        if outcome == Ok(Outcome::Done) {
-            assert_eq!(rt; taken.as_slice(), text.as_bytes());
-        } else {
-            assert_eq!(rt; outcome, Err(ShowError::CannotWrite));
-            assert!(rt; text.as_bytes().starts_with(&taken));
-        }
-    }
-    Ok(())
-}
-
-/// The answer to words without a command: what was printed, and the exit status.
-fn answered(alloc: Global, words: &[&str], fails_at: usize) -> (Vec<u8>, u8) {
-    let mut writer = SlowWriter {
-        taken: Vec::new(alloc),
-        most: 100,
-        calls: 0,
-        fails_at,
-        takes_nothing: false,
-    };
-    let status = match command_of(alloc, words) {
+/// The exit status of the answer to words without a command.
+fn answered<W: Write>(alloc: Global, words: &[&str], writer: &mut W) -> u8 {
+    match command_of(alloc, words) {
         Ok(_) => 99,
-        Err(error) => match answer_error(alloc, error, &mut writer) {
+        Err(error) => match answer_error(alloc, error, writer) {
             Ok(outcome) => outcome.status(),
             Err(failure) => failure.status(),
         },
-    };
-    (writer.taken, status)
+    }
 }
 
 #[test]
 fn help_is_printed_and_usage_is_not(rt: HostRuntime) {
-    let (help, status) = answered(rt.alloc(), &["someipctl", "help", "show"], 1000);
-    assert_eq!(rt; status, 0);
-    assert!(rt; help.starts_with(b"Prints the messages of a capture, one a line\n\nUsage: "));
-    let (_, status) = answered(rt.alloc(), &["someipctl", "help", "show"], 0);
-    assert_eq!(rt; status, 4);
-    let (none, status) = answered(rt.alloc(), &["someipctl", "list"], 1000);
-    assert_eq!(rt; status, 2);
-    assert!(rt; none.is_empty());
-    let (none, status) = answered(rt.alloc(), &["someipctl"], 1000);
-    assert_eq!(rt; status, 2);
-    assert!(rt; none.is_empty());
+    let mut out = Vec::new(rt.alloc());
+    let status = answered(rt.alloc(), &["someipctl", "help", "show"], &mut out);
+    assert!(rt; status == 0);
+    assert!(rt; out.starts_with(b"Prints the messages of a capture, one a line\n\nUsage: "));
+    let status = answered(rt.alloc(), &["someipctl", "help", "show"], &mut Broken);
+    assert!(rt; status == 4);
+    for words in [["someipctl", "list"].as_slice(), ["someipctl"].as_slice()] {
+        let mut out = Vec::new(rt.alloc());
+        let status = answered(rt.alloc(), words, &mut out);
+        assert!(rt; status == 2 && out.is_empty());
+    }
+}
+
+/// The exit status of a whole run of the program on these words.
+fn status_of_run(rt: &HostRuntime, words: &[&str]) -> Result<u8, AllocError> {
+    let mut owned = Vec::new(rt.alloc());
+    for word in words {
+        owned.push(String::from_str(rt.alloc(), word)?)?;
+    }
+    match run(rt, &owned) {
+        Ok(outcome) => Ok(outcome.status()),
+        Err(failure) => Ok(failure.status()),
+    }
+}
+
+/// Runs of the program, and their exit statuses.
+#[test]
+fn runs_end_with_a_status(rt: HostRuntime) -> Result<(), Fail> {
+    let rows: [(&[&str], u8); 8] = [
+        (&["someipctl", "payload", "array<2,u16>", "0000000400010002"], 0),
+        (&["someipctl", "payload", "u32", "000000"], 1),
+        (&["someipctl", "payload", "u9", "00"], 1),
+        (&["someipctl", "help"], 0),
+        (&["someipctl", "list"], 2),
+        (&["someipctl"], 2),
+        (&["someipctl", "show", "no/such/capture"], 4),
+        (&["someipctl", "vectors", "no/such/file"], 4),
+    ];
+    for (words, wanted) in rows {
+        let status = status_of_run(&rt, words)?;
+        assert!(rt; status == wanted, "{words:?}");
+    }
+    Ok(())
 }
 
 #[test]
 fn laws_hold() {
-    laws::what_lines_say();
-    laws::what_vector_lines_say();
-    laws::messages_begin_behind_others();
     laws::words_without_fault_match();
     laws::words_show_any_capture();
     laws::calls_by_example();
-}
-
-/// The bytes of each datagram, and `|` after each.
-fn joined(alloc: Global, text: &[u8]) -> Result<Vec<u8>, CaptureError> {
-    let mut bytes = Vec::new(alloc);
-    for datagram in read_capture(alloc, text)? {
-        bytes.extend_from_slice(datagram.as_slice())?;
-        bytes.push(b'|')?;
-    }
-    Ok(bytes)
-}
-
-#[test]
-fn captures_are_read(rt: HostRuntime) -> Result<(), CaptureError> {
-    let good: [(&[u8], &[u8]); 16] = [
-        (b"", b""),
-        (b"\n\n", b""),
-        (b"  \n#\n#zz\n", b""),
-        (b"#\xff\xfe\n00", b"\x00|"),
-        (b"12fF", b"\x12\xff|"),
-        (b"09afAF\n", b"\x09\xaf\xaf|"),
-        (b"12\n34", b"\x12|\x34|"),
-        (b"12\n\n34\n", b"\x12|\x34|"),
-        (b"12 3 4", b"\x12\x34|"),
-        (b"  1 2\n", b"\x12|"),
-        (b"12  ", b"\x12|"),
-        (b"-", b"|"),
-        (b" - \n", b"|"),
-        (b"-\n-\n", b"||"),
-        (b"1 2\n# 1\n345 6\n7 8\n", b"\x12|\x34\x56|\x78|"),
-        (b"aabb\n1 2\n-\nccdd", b"\xaa\xbb|\x12||\xcc\xdd|"),
-    ];
-    for (text, want) in good {
-        assert_eq!(rt; joined(rt.alloc(), text)?.as_slice(), want, "{text:?}");
-    }
-
-    let bad: [(&[u8], &str); 16] = [
-        (b"123", "line 1: bad hex"),
-        (b"1", "line 1: bad hex"),
-        (b"1 2 3", "line 1: bad hex"),
-        (b"g0", "line 1: bad hex"),
-        (b"0x12", "line 1: bad hex"),
-        (b"12\t34", "line 1: bad hex"),
-        (b"12\r\n34\r\n", "line 1: bad hex"),
-        (b"\r\n", "line 1: bad hex"),
-        (b" #", "line 1: bad hex"),
-        (b"12 #", "line 1: bad hex"),
-        (b"--", "line 1: bad hex"),
-        (b"- -", "line 1: bad hex"),
-        (b"-00", "line 1: bad hex"),
-        (b"\n12\n# 3\nzz\n4", "line 4: bad hex"),
-        (b"12\n-\n\xff\xff", "line 3: bad hex"),
-        (b"# a\n \n1\n1", "line 3: bad hex"),
-    ];
-    for (text, want) in bad {
-        match read_capture(rt.alloc(), text) {
-            Ok(_) => assert!(rt; false, "{text:?}"),
-            Err(e) => assert_eq!(rt; format!(in rt.alloc(); "{e}")?.as_str(), want, "{text:?}"),
-        }
-    }
-    Ok(())
-}
-
-#[test]
-fn payloads_are_read(rt: HostRuntime) {
-    for (shape, hex, wanted, status) in payloads() {
-        let mut out = Vec::new(rt.alloc());
-        let outcome = payload(rt.alloc(), shape, hex, &mut out).map(|outcome| outcome.status());
-        assert_eq!(rt; outcome, Ok(status), "{shape} {hex}");
-        assert_eq!(rt; out.as_slice(), wanted.as_bytes(), "{shape} {hex}");
-    }
-}
-
-#[test]
-fn payloads_are_refused(rt: HostRuntime) -> Result<(), Fail> {
-    let rows = [
-        ("u9", "00", "bad shape at 1", 1),
-        ("struct()", "0g", "bad shape at 7", 1),
-        ("u8", "0g", "bad hex", 1),
-        ("u8", "000", "bad hex", 1),
-        ("u8", "00 00", "bad hex", 1),
-        ("u8", "", "bad hex", 1),
-        ("fixed<0,u8>", "", "bad hex", 1),
-    ];
-    for (shape, hex, wanted, status) in rows {
-        let mut out = Vec::new(rt.alloc());
-        match payload(rt.alloc(), shape, hex, &mut out) {
-            Ok(_) => assert!(rt; false, "{shape} {hex}"),
-            Err(refusal) => {
-                let failure = Failure::of_payload(refusal);
-                assert_eq!(rt; failure.to_string(rt.alloc())?.as_str(), wanted);
-                assert_eq!(rt; failure.status(), status);
-            }
-        }
-        assert!(rt; out.is_empty());
-    }
-    let rows = [
-        (PayloadRefusal::CannotWrite, "cannot write", 4),
-        (PayloadRefusal::OutOfMemory, "out of memory", 3),
-    ];
-    for (refusal, text, status) in rows {
-        let failure = Failure::of_payload(refusal);
-        assert_eq!(rt; failure.to_string(rt.alloc())?.as_str(), text);
-        assert_eq!(rt; failure.status(), status);
-    }
-    let mut writer = SlowWriter {
-        taken: Vec::new(rt.alloc()),
-        most: 1,
-        calls: 0,
-        fails_at: 5,
-        takes_nothing: false,
-    };
-    let outcome = payload(rt.alloc(), "u8", "07", &mut writer);
-    assert_eq!(rt; outcome, Err(PayloadRefusal::CannotWrite));
-    assert_eq!(rt; writer.taken.as_slice(), b"value".as_slice());
-    Ok(())
-}
-
-/// All vectors, in a file as a user finds it.
-#[test]
-fn all_vectors_pass(rt: HostRuntime) -> Result<(), Fail> {
-    let mut wanted = String::new(rt.alloc());
-    for k in 0..COUNT {
-        writeln!(wanted, "{} ok", k + 1)?;
-    }
-    writeln!(wanted, "passed {COUNT} of {COUNT}")?;
-    let mut reader = ALL.as_bytes();
-    let mut out = Vec::new(rt.alloc());
-    let outcome = vectors(rt.alloc(), &mut reader, &mut out).map(|outcome| outcome.status());
-    assert_eq!(rt; outcome, Ok(0));
-    assert_eq!(rt; out.as_slice(), wanted.as_bytes());
-    Ok(())
-}
-
-#[test]
-fn vectors_are_judged(rt: HostRuntime) {
-    for (file, wanted, status) in vector_files() {
-        let mut reader = file;
-        let mut out = Vec::new(rt.alloc());
-        let outcome = vectors(rt.alloc(), &mut reader, &mut out).map(|outcome| outcome.status());
-        assert_eq!(rt; outcome, Ok(status), "{file:?}");
-        assert_eq!(rt; out.as_slice(), wanted.as_bytes(), "{file:?}");
-    }
-}
-
-#[test]
-fn bad_vectors_are_refused(rt: HostRuntime) -> Result<(), Fail> {
-    for (file, line) in bad_vectors() {
-        let mut reader = file;
-        let mut out = Vec::new(rt.alloc());
-        let outcome = vectors(rt.alloc(), &mut reader, &mut out);
-        assert_eq!(rt; outcome, Err(VectorsError::BadVector(line)), "{file:?}");
-        assert!(rt; out.is_empty(), "{file:?}");
-    }
-    let rows = [
-        (VectorsError::BadVector(3), "line 3: bad vector", 1),
-        (VectorsError::OutOfMemory, "out of memory", 3),
-        (VectorsError::CannotRead, "cannot read a/b.txt", 4),
-        (VectorsError::CannotWrite, "cannot write", 4),
-    ];
-    for (error, text, status) in rows {
-        let failure = Failure::of_vectors(error, "a/b.txt");
-        assert_eq!(rt; failure.status(), status);
-        assert_eq!(rt; failure.to_string(rt.alloc())?.as_str(), text);
-    }
-    Ok(())
-}
-
-/// Judges a file that a reader gives byte for byte, and a writer takes so, each of which fails at a
-/// call.
-fn judged(
-    alloc: Global,
-    file: &[u8],
-    read_fails_at: usize,
-    write_fails_at: usize,
-) -> (Result<Outcome, VectorsError>, Vec<u8>) {
-    let mut reader = SlowReader {
-        rest: file,
-        calls: 0,
-        fails_at: read_fails_at,
-        kind: ErrorKind::Other,
-    };
-    let mut writer = SlowWriter {
-        taken: Vec::new(alloc),
-        most: 1,
-        calls: 0,
-        fails_at: write_fails_at,
-        takes_nothing: false,
-    };
-    let outcome = vectors(alloc, &mut reader, &mut writer);
-    (outcome, writer.taken)
-}
-
-#[test]
-fn vectors_that_cannot_be_read_or_written(rt: HostRuntime) {
-    let file = b"datagram -\n> 1 empty\npayload u8 07\n".as_slice();
-    let text = b"1 ok\n2 differs\npassed 1 of 2\n".as_slice();
-    for fails_at in 0..file.len() + 1 {
-        let (outcome, taken) = judged(rt.alloc(), file, fails_at, 1000);
-        assert_eq!(rt; outcome, Err(VectorsError::CannotRead));
-        assert!(rt; taken.is_empty());
-    }
-    for fails_at in 0..text.len() {
-        let (outcome, taken) = judged(rt.alloc(), file, 1000, fails_at);
-        assert_eq!(rt; outcome, Err(VectorsError::CannotWrite));
-        assert_eq!(rt; taken.as_slice(), &text[..fails_at]);
-    }
-    let (outcome, taken) = judged(rt.alloc(), file, 1000, 1000);
-    assert_eq!(rt; outcome, Ok(Outcome::FaultShown));
-    assert_eq!(rt; taken.as_slice(), text);
 }
 
 /// What came of words: the outcome's name, and what is printed of it.

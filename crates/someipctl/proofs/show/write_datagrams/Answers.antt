@@ -1,6 +1,0 @@
-use Rattle.someipctl.proofs.SendingLemmas.{OnErr-any, Stops-flush}
-use Rattle.someipctl.proofs.show.write_datagrams.Goals as goal
-
-pub returns-in_err-flush-clause-err : goal.returns-in_err-flush-clause-err
-returns-in_err-flush-clause-err g c =
-    OnErr-any c.from_residual-in_err-flush.result (Stops-flush _ _ _ _ _ _ (rw c.requires.empty at c.in_ok-outcome.ensures.ok) c.in_err-flush.ensures.err)

@@ -1,0 +1,95 @@
+-- What the arguments of `payload` say.
+use Rattle.std.specs.Prelude.{◌≡◌, ◌⊎◌, ◌≤◌, ℕ, ◌==◌, false, if◌then◌else◌, List, [], ◌++◌, length, take, codes, decimal, Option, Some, None, Ok, Err}
+use Rattle.std.specs.Io.KnownBytes.{Appends, Keeps}
+use Rattle.someip_payload.specs.declared.Value.{Value}
+use Rattle.someip_payload.specs.declared.PayloadError.{PayloadError}
+use Rattle.someip_payload.specs.declared.PayloadError.TheVariants as faults
+use Rattle.someip_payload.specs.Data.{Form}
+use Rattle.someip_payload.specs.View.{data_of}
+use Rattle.someip_payload.specs.Grammar.{Reads}
+use Rattle.someip_payload.specs.Check.{checked}
+use Rattle.someip_payload.specs.Faults.{FaultIn, whole}
+use Rattle.someip_payload.specs.ShapeText.{IsTextOf, begins_like_a_shape}
+use Rattle.someip_payload.specs.ValueText.{value_text}
+use Rattle.someipctl_commands.specs.declared.outcome.Outcome.{Outcome}
+use Rattle.someipctl_commands.specs.declared.outcome.Outcome.TheVariants.{Done, FaultShown}
+use Rattle.std.specs.Result.{result_ok}
+use Rattle.hex.specs.Hex.{decode_of}
+use Rattle.someip_payload.specs.declared.ShapeTextError.{ShapeTextError}
+use Rattle.someip_payload.specs.declared.ShapeTextError.TheVariants as shapes
+use Rattle.someipctl_commands.specs.declared.payload.PayloadRefusal.{PayloadRefusal}
+use Rattle.someipctl_commands.specs.declared.payload.PayloadRefusal.TheVariants.{BadShape, BadHex, CannotWrite, OutOfMemory}
+use Rattle.someipctl_commands.specs.Capture.{is_dash}
+
+-- the bytes that an argument says: none for `-`, else those of its hex digits, of which there is one at least
+abbrev pub argument_bytes : List ℕ → Option (List ℕ)
+argument_bytes text = if length text == 0 then None else (if is_dash text then Some [] else result_ok (decode_of text))
+
+-- the refusal of a shape's text
+abbrev pub refusal_of_shape : ShapeTextError → PayloadRefusal
+refusal_of_shape (shapes.BadShape place) = BadShape place
+refusal_of_shape shapes.OutOfMemory = OutOfMemory
+
+-- what is printed of a value that took n of so many bytes
+abbrev pub value_lines : Value → ℕ → ℕ → List ℕ
+value_lines value n all = codes "value " ++ value_text value ++ codes "\n" ++ (codes "used " ++ decimal n ++ codes " of " ++ decimal all ++ codes "\n")
+
+-- the name of a fault, and its place. Want of memory is none
+abbrev pub name_and_place : PayloadError → Option (List ℕ × ℕ)
+name_and_place (faults.Truncated place) = Some (codes "Truncated", place)
+name_and_place (faults.BadText place) = Some (codes "BadText", place)
+name_and_place (faults.NoTerminator place) = Some (codes "NoTerminator", place)
+name_and_place (faults.UnknownVariant place) = Some (codes "UnknownVariant", place)
+name_and_place (faults.LengthMismatch place) = Some (codes "LengthMismatch", place)
+name_and_place (faults.TooMany place) = Some (codes "TooMany", place)
+name_and_place (faults.TooDeep place) = Some (codes "TooDeep", place)
+name_and_place (faults.NotOfShape place) = Some (codes "NotOfShape", place)
+name_and_place (faults.TooLong place) = Some (codes "TooLong", place)
+name_and_place (faults.BadShape place) = Some (codes "BadShape", place)
+name_and_place faults.OutOfMemory = None
+
+-- what is printed of a fault of this name and place
+abbrev pub fault_text : List ℕ → ℕ → List ℕ
+fault_text name place = codes "fault " ++ name ++ codes " at " ++ decimal place ++ codes "\n"
+
+-- the shape is refused so, or it is accepted and this is the first fault of the bytes
+abbrev pub IsFaultOf : Form → List ℕ → PayloadError → Type 0
+IsFaultOf shape bytes fault = (checked shape ≡ Err fault) ⊎ ((checked shape ≡ Ok tt) × FaultIn shape fault (whole bytes))
+
+-- a front of n bytes is read as the value, by a shape that is accepted
+abbrev pub IsFront : Form → List ℕ → Value → ℕ → Type 0
+IsFront shape bytes value n = (checked shape ≡ Ok tt) × (n ≤ length bytes) × Reads shape (data_of value) (take n bytes)
+
+-- what was found of the bytes by the shape and is printed: the value of a front of them, or their fault
+abbrev pub Told : Form → List ℕ → List ℕ → Outcome → Type 0
+Told shape bytes text Done = (value : Value) × (n : ℕ) × IsFront shape bytes value n × (text ≡ value_lines value n (length bytes))
+Told shape bytes text FaultShown = (fault : PayloadError) × (name : List ℕ) × (place : ℕ) × IsFaultOf shape bytes fault
+    × (name_and_place fault ≡ Some (name, place)) × (text ≡ fault_text name place)
+
+-- what the two arguments say, and what is printed of it
+pub record AnswersPayload (shape_text hex text : List ℕ) (outcome : Outcome) : Type 0 where
+  pub shape : Form
+  pub named : IsTextOf shape shape_text
+  pub bytes : List ℕ
+  pub says : argument_bytes hex ≡ Some bytes
+  pub told : Told shape bytes text outcome
+
+-- that text was written whole
+abbrev pub ShowsPayload : List ℕ → List ℕ → Outcome → Option (List ℕ) → Option (List ℕ) → Type 0
+ShowsPayload shape_text hex outcome before after = (text : List ℕ) × AnswersPayload shape_text hex text outcome × Appends before after text
+
+-- a beginning of that text was written
+abbrev pub ShowsPayloadBeginning : List ℕ → List ℕ → Option (List ℕ) → Option (List ℕ) → Type 0
+ShowsPayloadBeginning shape_text hex before after =
+    (sent unsent : List ℕ) × (outcome : Outcome) × AnswersPayload shape_text hex (sent ++ unsent) outcome × Appends before after sent
+
+-- the text is refused from a place on, which is its front only where no shape begins so
+abbrev pub IsRefusedShape : List ℕ → ℕ → Type 0
+IsRefusedShape text place = (place ≤ length text) × (place ≡ 0 → begins_like_a_shape text ≡ false)
+
+-- what a refusal says of the arguments, and what it leaves written. SHAPE is read before HEX
+abbrev pub RefusesPayload : List ℕ → List ℕ → PayloadRefusal → Option (List ℕ) → Option (List ℕ) → Type 0
+RefusesPayload shape_text hex (BadShape place) before after = IsRefusedShape shape_text place × Keeps before after
+RefusesPayload shape_text hex BadHex before after = ((shape : Form) × IsTextOf shape shape_text) × (argument_bytes hex ≡ None) × Keeps before after
+RefusesPayload shape_text hex CannotWrite before after = ShowsPayloadBeginning shape_text hex before after
+RefusesPayload shape_text hex OutOfMemory before after = Keeps before after

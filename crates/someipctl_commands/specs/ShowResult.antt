@@ -1,0 +1,61 @@
+-- What `show` does with a capture.
+use Rattle.std.specs.Prelude.{ℕ, ◌≡◌, List, ◌++◌, map, Option, Some, IfSome}
+use Rattle.std.specs.Io.KnownBytes.{Appends, Keeps}
+use Rattle.someipctl_commands.specs.declared.outcome.Outcome.{Outcome}
+use Rattle.someipctl_commands.specs.declared.capture.CaptureError.{CaptureError}
+use Rattle.someipctl_commands.specs.declared.capture.CaptureError.TheVariants as captures
+use Rattle.someipctl_commands.specs.declared.input.ReadFault.{ReadFault}
+use Rattle.someipctl_commands.specs.declared.input.ReadFault.TheVariants as inputs
+use Rattle.someipctl_commands.specs.declared.show.ShowError.{ShowError}
+use Rattle.someipctl_commands.specs.declared.show.ShowError.TheVariants.{BadHex, CannotRead, CannotWrite, OutOfMemory}
+use Rattle.someipctl_commands.specs.Capture.{datagrams_of, first_bad}
+use Rattle.someipctl_commands.specs.ShownText.{shown_text, shown_outcome}
+
+-- the capture says these datagrams, in order: none of its lines is bad
+abbrev pub Says : List ℕ → List (List ℕ) → Type 0
+Says capture datagrams = map (λ datagram. Some datagram) datagrams ≡ datagrams_of capture
+
+-- the capture is what the reader had left, where that is known
+abbrev pub WasLeft : Option (List ℕ) → List ℕ → Type 0
+WasLeft input capture = IfSome input (λ known. capture ≡ known)
+
+-- the text of the capture was written whole, and the outcome says whether a fault is in it
+pub record Shows (input : Option (List ℕ)) (outcome : Outcome) (before after : Option (List ℕ)) : Type 0 where
+  pub capture : List ℕ
+  pub left : WasLeft input capture
+  pub datagrams : List (List ℕ)
+  pub says : Says capture datagrams
+  pub wrote : Appends before after (shown_text datagrams)
+  pub tells : outcome ≡ shown_outcome datagrams
+
+-- a beginning of the text of the capture was written
+pub record ShowsBeginning (input before after : Option (List ℕ)) : Type 0 where
+  pub capture : List ℕ
+  pub left : WasLeft input capture
+  pub datagrams : List (List ℕ)
+  pub says : Says capture datagrams
+  pub sent : List ℕ
+  pub unsent : List ℕ
+  pub wrote : Appends before after sent
+  pub beginning : sent ++ unsent ≡ shown_text datagrams
+
+-- the line of this number is the first bad one of the capture
+abbrev pub IsFirstBad : Option (List ℕ) → ℕ → Type 0
+IsFirstBad input line = (capture : List ℕ) × WasLeft input capture × (first_bad capture ≡ Some line)
+
+-- what an error says of a capture, and of what was written
+abbrev pub RefusesShow : Option (List ℕ) → ShowError → Option (List ℕ) → Option (List ℕ) → Type 0
+RefusesShow input (BadHex line) before after = IsFirstBad input line × Keeps before after
+RefusesShow input CannotRead before after = Keeps before after
+RefusesShow input CannotWrite before after = ShowsBeginning input before after
+RefusesShow input OutOfMemory before after = Keeps before after
+
+-- the error of a capture that was refused
+abbrev pub error_of_capture : CaptureError → ShowError
+error_of_capture (captures.BadHex line) = BadHex line
+error_of_capture captures.OutOfMemory = OutOfMemory
+
+-- the error of an input that was not read
+abbrev pub error_of_input : ReadFault → ShowError
+error_of_input inputs.CannotRead = CannotRead
+error_of_input inputs.OutOfMemory = OutOfMemory

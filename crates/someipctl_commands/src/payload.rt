@@ -1,0 +1,147 @@
+//! The command `payload`: the value that bytes have by a shape.
+ghost use Rattle.std.specs.Prelude.{◌≡◌, Some, None, IfErr, IfOk, string_bytes};
+ghost use Rattle.std.specs.Option.{option_map};
+ghost use Rattle.someipctl_commands.specs.declared.payload.PayloadRefusal.TheVariants.{CannotWrite, OutOfMemory};
+ghost use Rattle.someip_payload.specs.View.{form};
+ghost use Rattle.someipctl_commands.specs.Payload.{argument_bytes, name_and_place, refusal_of_shape};
+ghost use Rattle.someipctl_commands.specs.Payload.{ShowsPayload, RefusesPayload, Told};
+
+use crate::outcome::Outcome;
+use hex::FromHexError;
+use someip_payload::{PayloadError, Shape, ShapeTextError, decode, read_shape};
+use someipctl_print::write_text;
+use std::alloc::{AllocError, Global};
+use std::io::Write;
+use thiserror::Error;
+
+/// Why a payload was not read.
+#[derive(Clone, Copy, Debug, PartialEq, Eq, Error)]
+pub enum PayloadRefusal {
+    /// The shape's text is none from this byte on. Nothing was written.
+    #[error("bad shape at {0}")]
+    BadShape(usize),
+    /// The payload is no hex. Nothing was written.
+    #[error("bad hex")]
+    BadHex,
+    /// Writing failed, or took nothing. A beginning of the text was written.
+    #[error("cannot write")]
+    CannotWrite,
+    /// Memory ran out. Nothing was written.
+    #[error("out of memory")]
+    OutOfMemory,
+}
+
+/// Reads the payload by its shape, and writes its value and how many of its bytes that took, or the
+/// fault that it has. SHAPE is read before HEX.
+pub fn payload<W: Write>(
+    alloc: Global,
+    shape: &str,
+    hex: &str,
+    writer: &mut W,
+) -> Result<Outcome, PayloadRefusal>
+    // The value of a front of the bytes was written, or their first fault.
+    ensures shown { IfOk result (λ outcome. ShowsPayload shape.now hex.now outcome
+        (W.contents writer.old) (W.contents writer.new)) }
+    // An error names what is refused, and leaves nothing written, but for one of writing: that leaves
+    // a beginning of the text.
+    ensures refused { IfErr result (λ error. RefusesPayload shape.now hex.now error
+        (W.contents writer.old) (W.contents writer.new)) }
+{
+    let shape = read_shape(alloc, shape)?;
+    let Some(bytes) = bytes_of_argument(alloc, hex)? else {
+        return Err(PayloadRefusal::BadHex);
+    };
+    let (text, outcome) = read_text(alloc, &shape, &bytes)?;
+    write_text(writer, text.as_bytes())?;
+    Ok(outcome)
+}
+
+/// The text of the value, or of the fault, and which of them it is.
+pub fn read_text(
+    alloc: Global,
+    shape: &Shape,
+    bytes: &[u8],
+) -> Result<(String, Outcome), AllocError>
+    ensures { IfOk result (λ r. Told (form shape.now) bytes.now (string_bytes r.0) r.1) }
+{
+    let mut text = String::new(alloc);
+    match decode(alloc, shape, bytes) {
+        Ok((value, used)) => {
+            let all = bytes.len();
+            writeln!(text, "value {value}").map_err(|_| AllocError)?;
+            writeln!(text, "used {used} of {all}").map_err(|_| AllocError)?;
+            Ok((text, Outcome::Done))
+        }
+        Err(fault) => {
+            let Some((name, place)) = name_and_place(&fault) else {
+                return Err(AllocError);
+            };
+            writeln!(text, "fault {name} at {place}").map_err(|_| AllocError)?;
+            Ok((text, Outcome::FaultShown))
+        }
+    }
+}
+
+/// The name of a fault of a payload, and its place. Want of memory is none.
+fn name_and_place(fault: &PayloadError) -> Option<(&'static str, usize)>
+    ensures { option_map (λ r. (r.0.now, r.1)) result ≡ name_and_place fault.now }
+{
+    match fault {
+        PayloadError::Truncated(place) => Some(("Truncated", *place)),
+        PayloadError::BadText(place) => Some(("BadText", *place)),
+        PayloadError::NoTerminator(place) => Some(("NoTerminator", *place)),
+        PayloadError::UnknownVariant(place) => Some(("UnknownVariant", *place)),
+        PayloadError::LengthMismatch(place) => Some(("LengthMismatch", *place)),
+        PayloadError::TooMany(place) => Some(("TooMany", *place)),
+        PayloadError::TooDeep(place) => Some(("TooDeep", *place)),
+        PayloadError::NotOfShape(place) => Some(("NotOfShape", *place)),
+        PayloadError::TooLong(place) => Some(("TooLong", *place)),
+        PayloadError::BadShape(place) => Some(("BadShape", *place)),
+        PayloadError::OutOfMemory => None,
+    }
+}
+
+/// The bytes that the argument says: none for `-`, else those of its hex digits.
+pub fn bytes_of_argument(alloc: Global, text: &str) -> Result<Option<Vec<u8>>, AllocError>
+    ensures { IfOk result (λ found. option_map (λ bytes. bytes.items) found ≡ argument_bytes text.now) }
+{
+    let text = text.as_bytes();
+    if text.is_empty() {
+        return Ok(None);
+    }
+    if let [b'-'] = text {
+        return Ok(Some(Vec::new(alloc)));
+    }
+    match hex::decode(alloc, text) {
+        Ok(bytes) => Ok(Some(bytes)),
+        Err(FromHexError::OutOfMemory) => Err(AllocError),
+        Err(_) => Ok(None),
+    }
+}
+
+impl From<ShapeTextError> for PayloadRefusal {
+    ghost from_gives = { λ error e. e ≡ refusal_of_shape error };
+
+    fn from(error: ShapeTextError) -> PayloadRefusal {
+        match error {
+            ShapeTextError::BadShape(place) => PayloadRefusal::BadShape(place),
+            ShapeTextError::OutOfMemory => PayloadRefusal::OutOfMemory,
+        }
+    }
+}
+
+impl From<AllocError> for PayloadRefusal {
+    ghost from_gives = { λ _ e. e ≡ OutOfMemory };
+
+    fn from(_error: AllocError) -> PayloadRefusal {
+        PayloadRefusal::OutOfMemory
+    }
+}
+
+impl From<someipctl_print::CannotWrite> for PayloadRefusal {
+    ghost from_gives = { λ _ e. e ≡ CannotWrite };
+
+    fn from(_error: someipctl_print::CannotWrite) -> PayloadRefusal {
+        PayloadRefusal::CannotWrite
+    }
+}

@@ -1,0 +1,232 @@
+//! The command `show`: a capture's datagrams, message by message.
+ghost use Rattle.std.specs.Prelude.{◌≡◌, ◌≢◌, [], Some, OnOk, OnErr, IfOk, IfErr, map};
+ghost use Rattle.std.specs.Io.KnownBytes.{Appends};
+ghost use Rattle.someip_wire.specs.Reading.{items_of};
+ghost use Rattle.someipctl_commands.specs.declared.show.ShowError.TheVariants.{CannotWrite, OutOfMemory};
+ghost use Rattle.someipctl_print.specs.Sending.{Sends, Stops};
+ghost use Rattle.someipctl_print.specs.Items.{lines_from};
+ghost use Rattle.someipctl_commands.specs.Readings.{readings_in, readings_of, left_from, BeginWith, LeavesBehind};
+ghost use Rattle.someipctl_commands.specs.ShownText.{datagram_text, shown_text, shown_outcome, has_fault};
+ghost use Rattle.someipctl_commands.specs.ShowResult.{Shows, RefusesShow};
+ghost use Rattle.someipctl_commands.specs.ShowResult.{error_of_capture, error_of_input};
+
+use crate::capture::{CaptureError, read_capture};
+use crate::input::{ReadFault, read_all};
+use crate::outcome::Outcome;
+use crate::readings::{read_ahead, read_datagram, reading_of};
+use sd_wire::{SdError, SdRead};
+use someip_wire::Messages;
+use someipctl_print::{Buffer, item_len, put_empty, put_item};
+use std::alloc::{AllocError, Global};
+use std::io::{Read, Write};
+use thiserror::Error;
+
+/// Why a capture was not shown whole.
+#[derive(Clone, Copy, Debug, PartialEq, Eq, Error)]
+pub enum ShowError {
+    /// The line of this number, counted from 1, is no hex. Nothing was written.
+    #[error("line {0}: bad hex")]
+    BadHex(usize),
+    /// The capture could not be read. Nothing was written.
+    #[error("cannot read")]
+    CannotRead,
+    /// Writing failed, or took nothing. A beginning of the text was written.
+    #[error("cannot write")]
+    CannotWrite,
+    /// Memory ran out. Nothing was written.
+    #[error("out of memory")]
+    OutOfMemory,
+}
+
+/// Reads a capture whole, checks every line, and then writes what it shows: for each datagram its
+/// messages and the fault that ends it, or one line where it is empty.
+pub fn show<R: Read, W: Write>(
+    alloc: Global,
+    reader: &mut R,
+    writer: &mut W,
+) -> Result<Outcome, ShowError>
+    // The text of all datagrams was written, and the outcome says whether a fault is in it.
+    ensures shown { IfOk result (λ outcome. Shows (R.remaining reader.old) outcome
+        (W.contents writer.old) (W.contents writer.new)) }
+    // An error names the first bad line, and leaves nothing written, but for one of writing: that
+    // leaves a beginning of the text.
+    ensures refused { IfErr result (λ error. RefusesShow (R.remaining reader.old) error
+        (W.contents writer.old) (W.contents writer.new)) }
+{
+    let text = read_all(alloc, reader)?;
+    show_capture(alloc, &text, writer)
+}
+
+/// Checks every line of a capture, and then writes what it shows, as `show` does.
+pub fn show_capture<W: Write>(
+    alloc: Global,
+    text: &[u8],
+    writer: &mut W,
+) -> Result<Outcome, ShowError>
+    ensures shown { IfOk result (λ outcome. Shows (Some text.now) outcome
+        (W.contents writer.old) (W.contents writer.new)) }
+    ensures refused { IfErr result (λ error. RefusesShow (Some text.now) error
+        (W.contents writer.old) (W.contents writer.new)) }
+    // A capture that is there cannot fail to be read.
+    ensures there { result ≢ Err ShowError.CannotRead }
+{
+    let datagrams = read_capture(alloc, text)?;
+    let readings = read_ahead(alloc, &datagrams)?;
+    let mut buffer = Buffer::new(alloc)?;
+    let outcome = write_datagrams(&mut buffer, writer, &datagrams, &readings)?;
+    Ok(outcome)
+}
+
+/// Writes the text of all datagrams through an empty buffer.
+fn write_datagrams<W: Write>(
+    buffer: &mut Buffer,
+    writer: &mut W,
+    datagrams: &[Vec<u8>],
+    readings: &[Result<SdRead, SdError>],
+) -> Result<Outcome, someipctl_print::CannotWrite>
+    requires empty { buffer.old ≡ [] }
+    requires read { left_from 0 readings.now ≡ readings_of (map (λ d. d.items) datagrams.now) }
+    ensures ok { OnOk result (Appends (W.contents writer.old)
+        (W.contents writer.new) (shown_text (map (λ d. d.items) datagrams.now))) }
+    ensures outcome { IfOk result (λ outcome.
+        outcome ≡ shown_outcome (map (λ d. d.items) datagrams.now)) }
+    ensures err { OnErr result (Stops (W.contents writer.old) []
+        (W.contents writer.new) (shown_text (map (λ d. d.items) datagrams.now))) }
+{
+    let outcome = put_datagrams(buffer, writer, datagrams, readings)?;
+    buffer.flush(writer)?;
+    Ok(outcome)
+}
+
+/// Prints the text of all datagrams of a capture, in order.
+fn put_datagrams<W: Write>(
+    buffer: &mut Buffer,
+    writer: &mut W,
+    datagrams: &[Vec<u8>],
+    readings: &[Result<SdRead, SdError>],
+) -> Result<Outcome, someipctl_print::CannotWrite>
+    requires { left_from 0 readings.now ≡ readings_of (map (λ d. d.items) datagrams.now) }
+    ensures ok { OnOk result (Sends (W.contents writer.old) buffer.old
+        (W.contents writer.new) buffer.new (shown_text (map (λ d. d.items) datagrams.now))) }
+    ensures outcome { IfOk result (λ outcome.
+        outcome ≡ shown_outcome (map (λ d. d.items) datagrams.now)) }
+    ensures err { OnErr result (Stops (W.contents writer.old) buffer.old
+        (W.contents writer.new) (shown_text (map (λ d. d.items) datagrams.now))) }
+{
+    let mut fault_shown = false;
+    let mut next = 0;
+    for (i, datagram) in datagrams.iter().enumerate() {
+        let (faulty, left) = put_datagram(buffer, writer, i + 1, datagram, readings, next)?;
+        fault_shown |= faulty;
+        next = left;
+    }
+    Ok(Outcome::of(fault_shown))
+}
+
+/// Prints the text of the k-th datagram. Says whether a fault is in it, and the number of the first
+/// reading behind its own.
+fn put_datagram<W: Write>(
+    buffer: &mut Buffer,
+    writer: &mut W,
+    k: usize,
+    datagram: &[u8],
+    readings: &[Result<SdRead, SdError>],
+    next: usize,
+) -> Result<(bool, usize), someipctl_print::CannotWrite>
+    requires { BeginWith (left_from next readings.now) (readings_in (items_of datagram.now)) }
+    ensures ok { OnOk result (Sends (W.contents writer.old) buffer.old
+        (W.contents writer.new) buffer.new (datagram_text k datagram.now)) }
+    ensures faulty { IfOk result (λ r. r.0 ≡ has_fault datagram.now) }
+    ensures next { IfOk result (λ r. LeavesBehind (left_from next readings.now)
+        (readings_in (items_of datagram.now)) (left_from r.1 readings.now)) }
+    ensures err { OnErr result (Stops (W.contents writer.old) buffer.old
+        (W.contents writer.new) (datagram_text k datagram.now)) }
+{
+    if datagram.is_empty() {
+        put_empty(buffer, writer, k)?;
+        return Ok((false, next));
+    }
+    put_items(buffer, writer, k, datagram, readings, next)
+}
+
+/// The text of a datagram as the first of a capture.
+pub fn text_of_datagram(alloc: Global, datagram: &[u8]) -> Result<Vec<u8>, AllocError>
+    ensures { IfOk result (λ text. text.items ≡ datagram_text 1 datagram.now) }
+{
+    let mut text = Vec::new(alloc);
+    let mut readings = Vec::new(alloc);
+    read_datagram(alloc, datagram, &mut readings)?;
+    let mut buffer = Buffer::new(alloc)?;
+    put_datagram(&mut buffer, &mut text, 1, datagram, &readings, 0).map_err(|_| AllocError)?;
+    buffer.flush(&mut text).map_err(|_| AllocError)?;
+    Ok(text)
+}
+
+/// Prints the lines of the items of the k-th datagram, and says whether a fault is among them.
+fn put_items<W: Write>(
+    buffer: &mut Buffer,
+    writer: &mut W,
+    k: usize,
+    datagram: &[u8],
+    readings: &[Result<SdRead, SdError>],
+    next: usize,
+) -> Result<(bool, usize), someipctl_print::CannotWrite>
+    requires { BeginWith (left_from next readings.now) (readings_in (items_of datagram.now)) }
+    ensures ok { OnOk result (Sends (W.contents writer.old) buffer.old
+        (W.contents writer.new) buffer.new (lines_from k 0 (items_of datagram.now))) }
+    ensures faulty { IfOk result (λ r. r.0 ≡ has_fault datagram.now) }
+    ensures next { IfOk result (λ r. LeavesBehind (left_from next readings.now)
+        (readings_in (items_of datagram.now)) (left_from r.1 readings.now)) }
+    ensures err { OnErr result (Stops (W.contents writer.old) buffer.old
+        (W.contents writer.new) (lines_from k 0 (items_of datagram.now))) }
+{
+    let mut faulty = false;
+    let mut place = 0;
+    let mut next = next;
+    for item in Messages::new(datagram) {
+        let (found, left) = reading_of(&item, readings, next);
+        let fault_shown = put_item(buffer, writer, k, place, &item, found)?;
+        faulty |= fault_shown;
+        place += item_len(&item);
+        next = left;
+    }
+    Ok((faulty, next))
+}
+
+impl From<CaptureError> for ShowError {
+    ghost from_gives = { λ error e. e ≡ error_of_capture error };
+
+    fn from(error: CaptureError) -> ShowError {
+        match error {
+            CaptureError::BadHex(line) => ShowError::BadHex(line),
+            CaptureError::OutOfMemory => ShowError::OutOfMemory,
+        }
+    }
+}
+
+impl From<ReadFault> for ShowError {
+    ghost from_gives = { λ fault e. e ≡ error_of_input fault };
+
+    fn from(fault: ReadFault) -> ShowError {
+        match fault {
+            ReadFault::CannotRead => ShowError::CannotRead,
+            ReadFault::OutOfMemory => ShowError::OutOfMemory,
+        }
+    }
+}
+
+impl From<someipctl_print::CannotWrite> for ShowError {
+    ghost from_gives = { λ _ e. e ≡ CannotWrite };
+
+    fn from(_error: someipctl_print::CannotWrite) -> ShowError {
+        ShowError::CannotWrite
+    }
+}
+
+impl From<AllocError> for ShowError {
+    ghost from_gives = { λ _ e. e ≡ OutOfMemory };
+
+    fn from(_error: AllocError) -> ShowError {
+        ShowError::OutOfMemory
+    }
+}

@@ -1,0 +1,5 @@
+pub mod SendingLemmas
+pub mod HexLemmas
+pub mod LinesLemmas
+pub mod DiscoveryLemmas
+pub mod RoomLemmas

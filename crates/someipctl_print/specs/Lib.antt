@@ -1,0 +1,6 @@
+pub mod Sending
+pub mod Parts
+pub mod Lines
+pub mod Options
+pub mod Discovery
+pub mod Items

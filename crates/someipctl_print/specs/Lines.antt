@@ -1,0 +1,94 @@
+-- The lines of `show`, byte for byte.
+use Rattle.std.specs.Prelude.{ℕ, ◌+◌, nat_lt, Bool, true, false, if◌then◌else◌, List, [], ◌∷◌, length, take, drop, codes, decimal}
+use Rattle.std.specs.Int.{w32, from_be_bytes}
+use Rattle.std.specs.List.{flat_map}
+use Rattle.hex.specs.Hex.{encode_lower}
+use Rattle.someip_wire.specs.declared.WireError.{WireError}
+use Rattle.someip_wire.specs.declared.WireError.TheVariants.{Truncated, LengthTooSmall, WrongProtocolVersion, UnknownMessageType}
+use Rattle.someip_wire.specs.declared.MessageType.{MessageType}
+use Rattle.someip_wire.specs.declared.MessageType.TheVariants.{Request, RequestNoReturn, Notification, Response, Error, TpRequest, TpRequestNoReturn, TpNotification, TpResponse, TpError}
+use Rattle.someip_wire.specs.Kinds.{has_tp_flag}
+use Rattle.someip_wire.specs.Spelling.{MessageValue}
+use Rattle.someip_tp.specs.Words.{offset_of, more_of}
+use Rattle.someipctl_print.specs.Parts.{hex4, hex2}
+
+-- the texts one after the other
+abbrev pub joined : List (List ℕ) → List ℕ
+joined texts = flat_map (λ text. text) texts
+
+-- the name of a message type
+abbrev pub type_name : MessageType → List ℕ
+type_name Request = codes "REQUEST"
+type_name RequestNoReturn = codes "REQUEST_NO_RETURN"
+type_name Notification = codes "NOTIFICATION"
+type_name Response = codes "RESPONSE"
+type_name Error = codes "ERROR"
+type_name TpRequest = codes "TP_REQUEST"
+type_name TpRequestNoReturn = codes "TP_REQUEST_NO_RETURN"
+type_name TpNotification = codes "TP_NOTIFICATION"
+type_name TpResponse = codes "TP_RESPONSE"
+type_name TpError = codes "TP_ERROR"
+
+-- a payload in hex, and `-` for an empty one
+abbrev pub payload_text : List ℕ → List ℕ
+payload_text [] = codes "-"
+payload_text (b ∷ bytes) = encode_lower (b ∷ bytes)
+
+-- the line of a message in the k-th datagram
+abbrev pub message_line : ℕ → MessageValue → List ℕ
+message_line k m = joined (
+    decimal k ∷ codes " message " ∷ hex4 m.header.service ∷ codes "." ∷ hex4 m.header.method
+    ∷ codes " length " ∷ decimal (8 + length m.payload)
+    ∷ codes " client " ∷ hex4 m.header.client ∷ codes " session " ∷ hex4 m.header.session
+    ∷ codes " interface " ∷ hex2 m.header.interface ∷ codes " type " ∷ type_name m.header.kind
+    ∷ codes " code " ∷ hex2 m.header.code.0 ∷ codes " payload " ∷ payload_text m.payload ∷ codes "\n" ∷ [])
+
+-- the name of a fault
+abbrev pub fault_name : WireError → List ℕ
+fault_name (Truncated place) = codes "Truncated"
+fault_name (LengthTooSmall place) = codes "LengthTooSmall"
+fault_name (WrongProtocolVersion place) = codes "WrongProtocolVersion"
+fault_name (UnknownMessageType place) = codes "UnknownMessageType"
+
+-- the place of a fault in its datagram
+abbrev pub fault_place : WireError → ℕ
+fault_place (Truncated place) = place
+fault_place (LengthTooSmall place) = place
+fault_place (WrongProtocolVersion place) = place
+fault_place (UnknownMessageType place) = place
+
+-- the line of a fault of the k-th datagram: its name, and its place in the datagram
+abbrev pub fault_line : ℕ → List ℕ → ℕ → List ℕ
+fault_line k name place = joined (decimal k ∷ codes " fault " ∷ name ∷ codes " at " ∷ decimal place ∷ codes "\n" ∷ [])
+
+-- the line of the k-th datagram where that is empty
+abbrev pub empty_line : ℕ → List ℕ
+empty_line k = joined (decimal k ∷ codes " empty\n" ∷ [])
+
+-- the word of a segment: the number in the first four bytes of its payload
+abbrev pub word_in : List ℕ → ℕ
+word_in payload = from_be_bytes w32 (take 4 payload)
+
+-- a flag as a digit
+abbrev pub flag_text : Bool → List ℕ
+flag_text true = codes "1"
+flag_text false = codes "0"
+
+-- the line of a segment with this payload: the offset in bytes and More Segments, which its word says, and the
+-- bytes of the slice behind the word
+abbrev pub segment_line : ℕ → List ℕ → List ℕ
+segment_line k payload = joined (
+    decimal k ∷ codes " segment offset " ∷ decimal (offset_of (word_in payload))
+    ∷ codes " more " ∷ flag_text (more_of (word_in payload))
+    ∷ codes " bytes " ∷ decimal (length (drop 4 payload)) ∷ codes "\n" ∷ [])
+
+-- a payload has no room for the word of a segment
+abbrev pub has_no_word : List ℕ → Bool
+has_no_word payload = nat_lt (length payload) 4
+
+-- what stands behind the line of a message whose payload begins at this place: nothing, or where the message is
+-- a segment its line, or the fault that its payload has no room for the word
+abbrev pub segment_lines : ℕ → ℕ → MessageValue → List ℕ
+segment_lines k place m =
+    if has_tp_flag m.header.kind then (if has_no_word m.payload then fault_line k (codes "NoHeader") place else segment_line k m.payload)
+    else []

@@ -1,0 +1,120 @@
+//! The lines of what a datagram holds, item by item: a message with what stands behind its line, or the
+//! fault that ends the datagram.
+ghost use Rattle.std.specs.Prelude.{◌≡◌, ◌≤◌, ◌+◌, ◌&&◌, ◌||◌, ◌++◌, OnOk, OnErr, IfOk, IfErr, IfSome};
+ghost use Rattle.someip_wire.specs.Kinds.{has_tp_flag};
+ghost use Rattle.someip_wire.specs.View.{view, view_item};
+ghost use Rattle.sd_wire.specs.Faults.{fault_place as sd_place};
+ghost use Rattle.someipctl_print.specs.Sending.{Sends, Stops};
+ghost use Rattle.someipctl_print.specs.Lines.{fault_name, fault_place, segment_lines, has_no_word};
+ghost use Rattle.someipctl_print.specs.Discovery.{seen, discovery_in, discovery_lines, has_sd_fault};
+ghost use Rattle.someipctl_print.specs.Items.{item_lines, item_len, is_faulty};
+
+use crate::discovery::put_reading;
+use crate::lines::{put_fault, put_message, put_segment};
+use crate::output::{Buffer, CannotWrite};
+use sd_wire::{SdError, SdRead};
+use someip_wire::{Message, WireError, written_len};
+use std::io::Write;
+
+/// The bytes of a header, which stand in front of a payload.
+const HEADER_LEN: usize = 16;
+
+/// Prints the lines of an item that begins at a place of the k-th datagram: a message, and behind it
+/// what the word says where it is a segment; or the fault that ends the datagram. Says whether a
+/// fault is among them.
+pub fn put_item<W: Write>(
+    buffer: &mut Buffer,
+    writer: &mut W,
+    k: usize,
+    place: usize,
+    item: &Result<Message<'_>, WireError>,
+    found: Option<&Result<SdRead, SdError>>,
+) -> Result<bool, CannotWrite>
+    requires found { seen found ≡ discovery_in (view_item item.now) }
+    requires room { place + item_len (view_item item.now) ≤ usize.MAX }
+    ensures ok { OnOk result (Sends (W.contents writer.old) buffer.old
+        (W.contents writer.new) buffer.new (item_lines k place (view_item item.now))) }
+    ensures faulty { IfOk result (λ faulty. faulty ≡ is_faulty (view_item item.now)) }
+    ensures err { OnErr result (Stops (W.contents writer.old) buffer.old
+        (W.contents writer.new) (item_lines k place (view_item item.now))) }
+{
+    match item {
+        Ok(message) => {
+            put_message(buffer, writer, k, message)?;
+            put_behind(buffer, writer, k, place + HEADER_LEN, message, found)
+        }
+        Err(fault) => {
+            let (name, place) = name_and_place(*fault);
+            put_fault(buffer, writer, k, name, place)?;
+            Ok(true)
+        }
+    }
+}
+
+/// Prints what stands behind the line of a message whose payload begins at a place of the k-th
+/// datagram. Says whether a fault is in it.
+fn put_behind<W: Write>(
+    buffer: &mut Buffer,
+    writer: &mut W,
+    k: usize,
+    place: usize,
+    message: &Message<'_>,
+    found: Option<&Result<SdRead, SdError>>,
+) -> Result<bool, CannotWrite>
+    requires { IfSome (seen found) (λ r. IfErr r (λ e. place + sd_place e ≤ usize.MAX)) }
+    ensures ok { OnOk result (Sends (W.contents writer.old) buffer.old
+        (W.contents writer.new) buffer.new (segment_lines k place (view message.now)
+        ++ discovery_lines k place (seen found.entry))) }
+    ensures faulty { IfOk result (λ faulty. faulty
+        ≡ ((has_tp_flag message.now.header.kind && has_no_word message.now.payload.now)
+        || has_sd_fault (seen found.entry))) }
+    ensures err { OnErr result (Stops (W.contents writer.old) buffer.old
+        (W.contents writer.new) (segment_lines k place (view message.now)
+        ++ discovery_lines k place (seen found.entry))) }
+{
+    let no_word = put_segment(buffer, writer, k, place, message)?;
+    let faulty = put_discovery(buffer, writer, k, place, found)?;
+    Ok(no_word | faulty)
+}
+
+fn put_discovery<W: Write>(
+    buffer: &mut Buffer,
+    writer: &mut W,
+    k: usize,
+    place: usize,
+    found: Option<&Result<SdRead, SdError>>,
+) -> Result<bool, CannotWrite>
+    requires { IfSome (seen found) (λ r. IfErr r (λ e. place + sd_place e ≤ usize.MAX)) }
+    ensures ok { OnOk result (Sends (W.contents writer.old) buffer.old
+        (W.contents writer.new) buffer.new (discovery_lines k place (seen found.entry))) }
+    ensures faulty { IfOk result (λ faulty. faulty ≡ has_sd_fault (seen found.entry)) }
+    ensures err { OnErr result (Stops (W.contents writer.old) buffer.old
+        (W.contents writer.new) (discovery_lines k place (seen found.entry))) }
+{
+    match found {
+        Some(reading) => put_reading(buffer, writer, k, place, reading),
+        None => Ok(false),
+    }
+}
+
+/// How many bytes of its datagram an item takes. Nothing comes behind a fault.
+pub fn item_len(item: &Result<Message<'_>, WireError>) -> usize
+    ensures { result ≡ item_len (view_item item.now) }
+{
+    match item {
+        Ok(message) => written_len(message),
+        Err(_) => 0,
+    }
+}
+
+fn name_and_place(fault: WireError) -> (&'static str, usize)
+    ensures name { result.0.now ≡ fault_name fault }
+    ensures place { result.1 ≡ fault_place fault }
+{
+    match fault {
+        WireError::Truncated(place) => ("Truncated", place),
+        WireError::LengthTooSmall(place) => ("LengthTooSmall", place),
+        WireError::WrongProtocolVersion(place) => ("WrongProtocolVersion", place),
+        WireError::UnknownMessageType(place) => ("UnknownMessageType", place),
+    }
+}

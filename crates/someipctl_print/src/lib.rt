@@ -1,0 +1,22 @@
+//! What `someipctl` prints: text in parts, through a buffer, to a writer; and the lines of messages,
+//! segments and Service Discovery.
+//!
+//! - [`Buffer`], [`write_text`]: text on its way out;
+//! - [`Part`], [`put_parts`]: the parts of a line;
+//! - [`put_item`], [`put_empty`]: the lines of what a datagram holds.
+//!
+//! The lines of messages and segments stand in `lines`, those of Service Discovery in `discovery`,
+//! its options in `options`, and `items` puts them together.
+#![tactic(auto)]
+
+mod discovery;
+mod items;
+mod lines;
+mod options;
+mod output;
+mod parts;
+
+pub use items::{item_len, put_item};
+pub use lines::put_empty;
+pub use output::{Buffer, CannotWrite, write_text};
+pub use parts::{Part, put_parts};
