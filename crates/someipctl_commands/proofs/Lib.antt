@@ -5,3 +5,4 @@ pub mod PlaceLemmas
 pub mod ReadingsLemmas
 pub mod VectorLemmas
 pub mod VerdictLemmas
+pub mod PayloadLemmas

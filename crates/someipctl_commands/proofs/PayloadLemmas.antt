@@ -1,0 +1,46 @@
+-- What is told of a payload.
+use Rattle.std.proofs.Common.{◌≡◌, ◌⊎◌, ℕ, List, take, drop, Result, Ok, Err, Option, Some, inl, inr, refl, sym, subst}
+use Rattle.std.specs.Io.KnownBytes.{Appends}
+use Rattle.std.proofs.lemmas.List.{take-append-drop}
+use Rattle.someip_payload.specs.declared.PayloadError.{PayloadError}
+use Rattle.someip_payload.specs.declared.PayloadError.TheVariants as faults
+use Rattle.someip_payload.specs.Data.{Form, Data}
+use Rattle.someip_payload.specs.Check.{checked}
+use Rattle.someip_payload.specs.Faults.{FaultIn, IsFirstFault, whole}
+use Rattle.someip_payload.specs.Steps.{Fails}
+use Rattle.someipctl_commands.specs.declared.outcome.Outcome.{Outcome}
+use Rattle.someipctl_commands.specs.Payload.{AnswersPayload, IsFaultOf, ShowsPayloadBeginning, name_and_place}
+
+-- two answers of a reading are one fault
+abbrev AreOneFault : PayloadError → PayloadError → Type 0
+AreOneFault f e = let both : Result (Data × ℕ) PayloadError = Err f in both ≡ Err e
+
+-- a fault that comes wherever the shape is refused is that refusal, or the shape is accepted
+fault_by : (shape : Form) (bytes : List ℕ) (e : PayloadError) (r : Result (Unit {0}) PayloadError) → checked shape ≡ r
+    → (checked shape ≡ Err e) ⊎ FaultIn shape e (whole bytes)
+    → ((f : PayloadError) → checked shape ≡ Err f → AreOneFault f e) → IsFaultOf shape bytes e
+fault_by shape bytes e (Ok tt) is (inl refusal) refused = absurd (cc)
+fault_by shape bytes e (Ok tt) is (inr fault) refused = inr (is, fault)
+fault_by shape bytes e (Err f) is found refused = inl (let same = refused f is in cc)
+
+-- the fault that `decode` answers, where it has a name
+pub fault_told : (shape : Form) (bytes : List ℕ) (e : PayloadError) (name : List ℕ) (place : ℕ)
+    → IsFirstFault shape bytes e → ((f : PayloadError) → checked shape ≡ Err f → Fails {Y = Data × ℕ} e (Err f))
+    → name_and_place e ≡ Some (name, place) → IsFaultOf shape bytes e
+fault_told shape bytes (faults.Truncated p) name place first refused named = fault_by shape bytes (faults.Truncated p) (checked shape) refl first refused
+fault_told shape bytes (faults.BadText p) name place first refused named = fault_by shape bytes (faults.BadText p) (checked shape) refl first refused
+fault_told shape bytes (faults.NoTerminator p) name place first refused named = fault_by shape bytes (faults.NoTerminator p) (checked shape) refl first refused
+fault_told shape bytes (faults.UnknownVariant p) name place first refused named = fault_by shape bytes (faults.UnknownVariant p) (checked shape) refl first refused
+fault_told shape bytes (faults.LengthMismatch p) name place first refused named = fault_by shape bytes (faults.LengthMismatch p) (checked shape) refl first refused
+fault_told shape bytes (faults.TooMany p) name place first refused named = fault_by shape bytes (faults.TooMany p) (checked shape) refl first refused
+fault_told shape bytes (faults.TooDeep p) name place first refused named = fault_by shape bytes (faults.TooDeep p) (checked shape) refl first refused
+fault_told shape bytes (faults.NotOfShape p) name place first refused named = fault_by shape bytes (faults.NotOfShape p) (checked shape) refl first refused
+fault_told shape bytes (faults.TooLong p) name place first refused named = fault_by shape bytes (faults.TooLong p) (checked shape) refl first refused
+fault_told shape bytes (faults.BadShape p) name place first refused named = fault_by shape bytes (faults.BadShape p) (checked shape) refl first refused
+fault_told shape bytes faults.OutOfMemory name place first refused named = absurd (cc)
+
+-- a beginning was written of the text that answers the arguments
+pub beginning_told : (shape_text hex text : List ℕ) (outcome : Outcome) (a b : Option (List ℕ)) (n : ℕ) → AnswersPayload shape_text hex text outcome
+    → Appends a b (take n text) → ShowsPayloadBeginning shape_text hex a b
+beginning_told shape_text hex text outcome a b n answers wrote =
+    (take n text, drop n text, outcome, subst (λ t. AnswersPayload shape_text hex t outcome) (sym (take-append-drop n text)) answers, wrote)

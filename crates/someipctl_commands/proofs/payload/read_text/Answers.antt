@@ -1,0 +1,10 @@
+use Rattle.std.proofs.Common.{rules}
+use Rattle.someip_payload.specs.View.{form}
+use Rattle.someipctl_commands.proofs.PayloadLemmas.{fault_told}
+use Rattle.someipctl_commands.proofs.payload.read_text.Goals as goal
+
+pub returns-in_ok-map_err-in-Err : goal.returns-in_ok-map_err-in-Err
+returns-in_ok-map_err-in-Err c =
+    (c.in-Err.fault, c.in-Some.name.now, c.in-Some.place,
+    fault_told (form c.args.shape.now) c.args.bytes.now c.in-Err.fault c.in-Some.name.now c.in-Some.place c.in-Err.ensures.fault c.in-Err.ensures.refused (search rules),
+    search rules, search rules)
