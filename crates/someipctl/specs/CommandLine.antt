@@ -1,5 +1,5 @@
 -- The command line, and what its words ask for.
-use Rattle.std.specs.Prelude.{◌==◌, ◌≡◌, ◌≢◌, Bool, true, false, List, [], ◌∷◌, codes, Option, Some, None, if◌then◌else◌}
+use Rattle.std.specs.Prelude.{◌==◌, ◌≡◌, ◌≢◌, ◌⊎◌, Bool, true, false, List, [], ◌∷◌, codes, Option, Some, None, if◌then◌else◌}
 use Rattle.std.specs.Str.{bytes_eq}
 use Rattle.clap.specs.Words.{App, IsAmong, Row, Rule, Shape, Text, fault_of, first_of, kind_of}
 use Rattle.clap.specs.Words.{new_app, new_rule, subcommand_of, with_rule, with_subcommand}
@@ -101,16 +101,17 @@ IsRefused words k = (k ≢ kind.DisplayHelp) × IsAmong k (fault_of cli words)
 
 -- help comes for a call for help, and usage for another fault
 abbrev pub RefusesWords : List Text → LineError → Type 0
-RefusesWords words (Help e) = (kind_of e ≡ kind.DisplayHelp) × CallsForHelp words
+RefusesWords words (Help text) = CallsForHelp words
 RefusesWords words (Usage e) = IsRefused words (kind_of e)
 RefusesWords words OutOfMemory = Unit {0}
 
--- what becomes of an error of the parse: help, want of memory, or else usage
+-- what becomes of an error of the parse: help, out of memory (also where there is none for the text of help), or
+-- else usage
 abbrev pub IsErrorOf : Error → LineError → Type 0
-IsErrorOf from (Help e) = (e ≡ from) × (kind_of from ≡ kind.DisplayHelp)
+IsErrorOf from (Help text) = kind_of from ≡ kind.DisplayHelp
 IsErrorOf from (Usage e) = (e ≡ from) × (kind_of from ≢ kind.DisplayHelp)
     × (kind_of from ≢ kind.OutOfMemory)
-IsErrorOf from OutOfMemory = kind_of from ≡ kind.OutOfMemory
+IsErrorOf from OutOfMemory = (kind_of from ≡ kind.OutOfMemory) ⊎ (kind_of from ≡ kind.DisplayHelp)
 
 -- ---- words
 

@@ -1,6 +1,6 @@
 -- Exit statuses, why a command failed, and the answer to words that give none.
-use Rattle.std.specs.Prelude.{◌≡◌, ℕ, List, Option, Result, Ok, Err}
-use Rattle.std.specs.Io.KnownBytes.{Keeps}
+use Rattle.std.specs.Prelude.{◌≡◌, ℕ, List, take, Option, Result, Ok, Err, string_bytes}
+use Rattle.std.specs.Io.KnownBytes.{Appends, Keeps}
 use Rattle.someipctl.specs.declared.command.LineError.{LineError}
 use Rattle.someipctl.specs.declared.command.LineError.TheVariants as words
 use Rattle.someipctl_commands.specs.declared.outcome.Outcome.{Outcome}
@@ -48,15 +48,14 @@ failure_of_vectors vectors.CannotRead path = CannotRead path
 failure_of_vectors vectors.CannotWrite path = CannotWrite
 failure_of_vectors vectors.OutOfMemory path = OutOfMemory
 
--- the answer to a call for help: its text was printed, or memory ran out before, or writing failed
-abbrev pub AnswersHelp : Result Outcome Failure → Option (List ℕ) → Option (List ℕ) → Type 0
-AnswersHelp (Ok outcome) before after = outcome ≡ Done
-AnswersHelp (Err OutOfMemory) before after = Keeps before after
-AnswersHelp (Err CannotWrite) before after = Unit {0}
-AnswersHelp (Err _) before after = ⊥
+-- the answer to a call for help: its text was written whole, or a beginning of it was and then writing failed
+abbrev pub AnswersHelp : List ℕ → Result Outcome Failure → Option (List ℕ) → Option (List ℕ) → Type 0
+AnswersHelp text (Ok outcome) before after = (outcome ≡ Done) × Appends before after text
+AnswersHelp text (Err CannotWrite) before after = (n : ℕ) × Appends before after (take n text)
+AnswersHelp text (Err _) before after = ⊥
 
 -- the answer to words that give no command: help, or the fault of the words, which prints nothing
 abbrev pub Answers : LineError → Result Outcome Failure → Option (List ℕ) → Option (List ℕ) → Type 0
-Answers (words.Help help) result before after = AnswersHelp result before after
+Answers (words.Help text) result before after = AnswersHelp (string_bytes text) result before after
 Answers (words.Usage error) result before after = (result ≡ Err (Usage error)) × Keeps before after
 Answers words.OutOfMemory result before after = (result ≡ Err OutOfMemory) × Keeps before after

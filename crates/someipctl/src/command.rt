@@ -44,9 +44,9 @@ pub enum LineError {
     /// The words are no call of the program: the fault, and the form of a call.
     #[error("{0}")]
     Usage(clap::Error),
-    /// The words ask for help, and this is the help.
+    /// The words ask for help, and this is its text.
     #[error("{0}")]
-    Help(clap::Error),
+    Help(String),
     /// Memory ran out before the words were read.
     #[error("out of memory")]
     OutOfMemory,
@@ -65,10 +65,27 @@ pub fn command_of<'w, S: AsStr>(alloc: Global, words: &'w [S]) -> Result<Command
     // Help answers only a call for help, and usage only another fault.
     ensures refused { IfErr result (RefusesWords (map S.text words.entry.now)) }
 {
-    let matches = definition(alloc)?.try_get_matches_from(words)?;
+    let matches = match definition(alloc)?.try_get_matches_from(words) {
+        Ok(matches) => matches,
+        Err(error) => return Err(line_error(alloc, error)),
+    };
     match matched(&matches) {
         Some(command) => Ok(command),
         None => unreachable!(),
+    }
+}
+
+/// What an error of the parse says of the words.
+fn line_error(alloc: Global, error: clap::Error) -> LineError
+    ensures { IsErrorOf error result }
+{
+    match error.kind() {
+        ErrorKind::OutOfMemory => LineError::OutOfMemory,
+        ErrorKind::DisplayHelp => match error.to_string(alloc) {
+            Ok(text) => LineError::Help(text),
+            Err(_) => LineError::OutOfMemory,
+        },
+        _ => LineError::Usage(error),
     }
 }
 
@@ -77,18 +94,6 @@ impl From<AllocError> for LineError {
 
     fn from(_error: AllocError) -> LineError {
         LineError::OutOfMemory
-    }
-}
-
-impl From<clap::Error> for LineError {
-    ghost from_gives = { IsErrorOf };
-
-    fn from(error: clap::Error) -> LineError {
-        match error.kind() {
-            ErrorKind::OutOfMemory => LineError::OutOfMemory,
-            ErrorKind::DisplayHelp => LineError::Help(error),
-            _ => LineError::Usage(error),
-        }
     }
 }
 

@@ -1,41 +1,23 @@
 //! The answer to words that give no command.
-ghost use Rattle.someipctl.specs.Failures.{Answers, AnswersHelp};
+ghost use Rattle.someipctl.specs.Failures.{Answers};
 
 use crate::command::LineError;
 use crate::failure::Failure;
 use someipctl_commands::Outcome;
 use someipctl_print::{CannotWrite, write_text};
-use std::alloc::Global;
 use std::io::Write;
 
 /// Prints the help that was asked for. Other words without a command are a failure, and nothing is
 /// printed.
-pub fn answer_error<W: Write>(
-    alloc: Global,
-    error: LineError,
-    writer: &mut W,
-) -> Result<Outcome, Failure<'static>>
+pub fn answer_error<W: Write>(error: LineError, writer: &mut W) -> Result<Outcome, Failure<'static>>
     ensures { Answers error result (W.contents writer.old) (W.contents writer.new) }
 {
     match error {
-        LineError::Help(help) => print_help(alloc, help, writer),
+        LineError::Help(text) => match write_text(writer, text.as_bytes()) {
+            Ok(()) => Ok(Outcome::Done),
+            Err(CannotWrite) => Err(Failure::CannotWrite),
+        },
         LineError::Usage(error) => Err(Failure::Usage(error)),
         LineError::OutOfMemory => Err(Failure::OutOfMemory),
-    }
-}
-
-fn print_help<W: Write>(
-    alloc: Global,
-    help: clap::Error,
-    writer: &mut W,
-) -> Result<Outcome, Failure<'static>>
-    ensures { AnswersHelp result (W.contents writer.old) (W.contents writer.new) }
-{
-    let Ok(text) = help.to_string(alloc) else {
-        return Err(Failure::OutOfMemory);
-    };
-    match write_text(writer, text.as_bytes()) {
-        Ok(()) => Ok(Outcome::Done),
-        Err(CannotWrite) => Err(Failure::CannotWrite),
     }
 }

@@ -71,7 +71,7 @@ fn run<'w, R: Files + Print + AllocGlobal>(
 ) -> Result<Outcome, Failure<'w>> {
     match command_of(rt.alloc(), words) {
         Ok(command) => run_command(rt, command),
-        Err(error) => answer_error(rt.alloc(), error, &mut io::writer(rt)),
+        Err(error) => answer_error(error, &mut io::writer(rt)),
     }
 }
 

@@ -55,7 +55,7 @@ impl Write for Broken {
 fn answered<W: Write>(alloc: Global, words: &[&str], writer: &mut W) -> u8 {
     match command_of(alloc, words) {
         Ok(_) => 99,
-        Err(error) => match answer_error(alloc, error, writer) {
+        Err(error) => match answer_error(error, writer) {
             Ok(outcome) => outcome.status(),
             Err(failure) => failure.status(),
         },

@@ -4,10 +4,10 @@ use Rattle.someipctl.proofs.command.command_of.Goals as goal
 
 pub unreachable-requires : goal.unreachable-requires
 unreachable-requires g c =
-    let parse = c.in_ok-matches.ensures in
-    parsed_some _ (map g.S.AsStr.text c.args.words.now) c.in_ok-matches.matches c.in_ok-definition.ensures parse.matches parse.kinds c.in-None.ensures
+    let parse = c.in-Ok.ensures in
+    parsed_some _ (map g.S.AsStr.text c.args.words.now) c.in-Ok.matches c.in_ok-definition.ensures parse.matches parse.kinds c.in-None.ensures
 
 pub returns-clause-taken : goal.returns-clause-taken
 returns-clause-taken g c =
-    let parse = c.in_ok-matches.ensures in
-    (parsed_asks _ (map g.S.AsStr.text c.args.words.now) c.in_ok-matches.matches c.in_ok-definition.ensures parse.matches parse.kinds).1
+    let parse = c.in-Ok.ensures in
+    (parsed_asks _ (map g.S.AsStr.text c.args.words.now) c.in-Ok.matches c.in_ok-definition.ensures parse.matches parse.kinds).1
