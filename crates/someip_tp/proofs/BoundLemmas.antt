@@ -1,5 +1,5 @@
 -- Parts stay within the slots and the message limit.
-use Rattle.std.proofs.Common.{◌≡◌, ℕ, zero, suc, ◌+◌, ◌-◌, ◌<◌, ◌≤◌, Bool, true, false, cond, not, ◌&&◌, nat_lt, nat_le, if◌then◌else◌, List, [], ◌∷◌, map, length, Option, None, Some, Ok, Err, refl, sym, ap, ◌∙◌, arith}
+use Rattle.std.proofs.Common.{◌≡◌, ◌≢◌, ℕ, zero, suc, ◌+◌, ◌-◌, ◌<◌, ◌≤◌, Bool, true, false, cond, not, ◌&&◌, nat_lt, nat_le, if◌then◌else◌, List, [], ◌∷◌, map, length, Option, None, Some, Result, Ok, Err, refl, sym, ap, ◌∙◌, arith}
 use Rattle.std.specs.Option.{is_some, is_none, unwrap_or}
 use Rattle.std.specs.List.{list_any}
 use Rattle.std.proofs.lemmas.Bool.{or_left}
@@ -10,7 +10,9 @@ use Rattle.someip_tp.specs.declared.key.ReassemblyKey.{ReassemblyKey}
 use Rattle.someip_tp.specs.Keys.{key_cmp}
 use Rattle.someip_tp.specs.Retained.{kept, retain}
 use Rattle.someip_tp.specs.Parts.{Limits, Part, Parts, is_gone, parts_at}
-use Rattle.someip_tp.specs.declared.error.TpError.TheVariants.{Unaligned, TooLong, Conflict, NoSlot}
+use Rattle.someip_tp.specs.declared.reassembly.Offered.{Offered}
+use Rattle.someip_tp.specs.declared.error.TpError.{TpError}
+use Rattle.someip_tp.specs.declared.error.TpError.TheVariants.{Unaligned, TooLong, Conflict, NoSlot, OutOfMemory}
 use Rattle.someip_tp.specs.Offers.{Offer as Segment, offer, offered_as, conflicts, is_unaligned, is_too_long, part_under, no_part, with_offer, parts_after, parts_less, message_at, kept as offer_kept}
 use Rattle.someip_tp.specs.Pieces.{byte_at}
 use Rattle.someip_tp.specs.Wholes.{IsWithin}
@@ -22,6 +24,7 @@ use Rattle.someip_tp.proofs.Placed.{over, get-added}
 use Rattle.someip_tp.proofs.PieceLemmas.{byte_within}
 use Rattle.someip_tp.proofs.KeyOrder.{keys_total, exact_keys}
 use Rattle.someip_tp.proofs.Entries.{own_test, get-retain}
+use Rattle.someip_tp.proofs.OfferLemmas.{offered_by}
 
 -- ---- a map with fewer keys is no larger
 
@@ -190,6 +193,12 @@ less_so limits parts key false within = within
 pub within_less : (limits : Limits) (parts : Parts) (key : ReassemblyKey) → IsWithin limits parts → IsWithin limits (parts_less parts key)
 unfolding parts_less
 within_less limits parts key within = less_so limits parts key (is_some (message_at parts key)) within
+
+-- whether memory was wanting or not
+pub within_offered_so : (limits : Limits) (now : ℕ) (o : Segment) (parts left : Parts) (r : Result Offered TpError) → (r ≢ Err OutOfMemory → left ≡ parts_after limits now o parts)
+    → (r ≡ Err OutOfMemory → left ≡ parts_at limits now parts) → IsWithin limits parts → IsWithin limits left
+within_offered_so limits now o parts left r after gone within =
+    offered_by (IsWithin limits) limits now o parts left r after gone (within_after limits now o parts within) (within_at limits now parts within)
 
 -- ---- any calls
 

@@ -8,3 +8,5 @@ pub mod StoreLemmas
 pub mod WholeLemmas
 pub mod BoundLemmas
 pub mod MomentLemmas
+pub mod OfferLemmas
+pub mod SegmentTexts

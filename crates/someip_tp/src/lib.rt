@@ -2,7 +2,9 @@
 //! "Transporting large SOME/IP messages by UDP"), and put together again by their receiver.
 //!
 //! - [`Segments`]: the segments of a message;
-//! - [`read_segment`]: the word and the slice of a segment's payload;
+//! - [`append_segment`] and [`append_message`]: the bytes of a [`Segment`], or of a message, are
+//!   appended to a vector;
+//! - [`read_segment`]: what the payload of a segment says;
 //! - [`Reassembly`]: what a store of messages that have come in part promises, under a
 //!   [`ReassemblyKey`] each;
 //! - [`SegmentList`]: its plain body;
@@ -10,6 +12,7 @@
 //! - [`laws`]: what the definitions behind the contracts promise, whatever body keeps them.
 #![tactic(auto)]
 
+mod appending;
 mod calls;
 mod error;
 mod key;
@@ -23,6 +26,7 @@ mod segment;
 mod segment_list;
 mod segments;
 
+pub use appending::{append_message, append_segment};
 pub use calls::{TpAnswer, TpCall, run_calls};
 pub use error::TpError;
 pub use key::ReassemblyKey;

@@ -1,5 +1,5 @@
 //! The worked rows of segments; those of reassembly stand in a file of their own.
-use crate::{Segments, TpError, read_segment};
+use crate::{Segment, Segments, TpError, append_message, append_segment, read_segment};
 use someip_wire::{Header, Message, MessageType, ReturnCode};
 use std::alloc::{AllocError, Global};
 use std::test::Fail;
@@ -36,7 +36,7 @@ fn words_and_lengths(alloc: Global, payload: &[u8]) -> Result<Vec<(u32, usize)>,
     let mut found = Vec::new(alloc);
     if payload.len() < 100_000 {
         for segment in Segments::new(&message) {
-            found.push((segment.word, segment.slice.len()))?;
+            found.push((segment.word(), segment.slice.len()))?;
         }
     }
     Ok(found)
@@ -68,6 +68,59 @@ fn messages_in_segments(rt: HostRuntime) -> Result<(), Fail> {
     Ok(())
 }
 
+/// The Length fields of the segments of a message with this payload, one after the other as they are
+/// sent.
+fn length_fields(alloc: Global, payload: &[u8]) -> Result<Vec<u8>, AllocError> {
+    let message = Message {
+        header: HEADER,
+        payload,
+    };
+    let mut found = Vec::new(alloc);
+    if payload.len() < 100_000 {
+        for segment in Segments::new(&message) {
+            let mut bytes = Vec::new(alloc);
+            append_segment(&segment, &mut bytes)?;
+            found.extend_from_slice(bytes.get(4..8).unwrap_or(&[]))?;
+        }
+    }
+    Ok(found)
+}
+
+#[test]
+fn lengths_of_segments(rt: HostRuntime) -> Result<(), Fail> {
+    let five = length_fields(rt.alloc(), &payload_of(rt.alloc(), 5880)?)?;
+    let wanted = [
+        0, 0, 0x05, 0x7c, 0, 0, 0x05, 0x7c, 0, 0, 0x05, 0x7c, 0, 0, 0x05, 0x7c, 0, 0, 0x01, 0x44,
+    ];
+    assert!(rt; five.as_slice() == wanted.as_slice());
+    let two = length_fields(rt.alloc(), &payload_of(rt.alloc(), 1401)?)?;
+    assert!(rt; two.as_slice() == [0, 0, 0x05, 0x7c, 0, 0, 0, 21].as_slice());
+    Ok(())
+}
+
+#[test]
+fn bytes_are_appended(rt: HostRuntime) -> Result<(), Fail> {
+    let mut out = Vec::new(rt.alloc());
+    let segment = Segment {
+        header: HEADER,
+        offset: 1392,
+        more: true,
+        slice: &[0x2a],
+    };
+    append_segment(&segment, &mut out)?;
+    let message = Message {
+        header: HEADER,
+        payload: &[0x2b, 0x2c],
+    };
+    append_message(&message, &mut out)?;
+    let wanted = [
+        0x12, 0x34, 0x04, 0x21, 0, 0, 0, 13, 0, 1, 0, 1, 1, 1, 0x80, 0, 0, 0, 0x05, 0x71, 0x2a,
+        0x12, 0x34, 0x04, 0x21, 0, 0, 0, 10, 0, 1, 0, 1, 1, 1, 0x80, 0, 0x2b, 0x2c,
+    ];
+    assert!(rt; out.as_slice() == wanted.as_slice());
+    Ok(())
+}
+
 #[test]
 fn slices_lie_in_the_payload(rt: HostRuntime) -> Result<(), Fail> {
     let payload = payload_of(rt.alloc(), 1401)?;
@@ -79,7 +132,6 @@ fn slices_lie_in_the_payload(rt: HostRuntime) -> Result<(), Fail> {
         let mut joined = Vec::new(rt.alloc());
         for segment in Segments::new(&message) {
             assert_eq!(rt; segment.header.kind, MessageType::TpResponse);
-            assert_eq!(rt; segment.header.session, 1);
             joined.extend_from_slice(segment.slice)?;
         }
         assert_eq!(rt; joined.as_slice(), payload.as_slice());
