@@ -10,3 +10,4 @@ pub mod BoundLemmas
 pub mod MomentLemmas
 pub mod OfferLemmas
 pub mod SegmentTexts
+pub mod SentLemmas

@@ -23,7 +23,7 @@ segments_within-enough (suc k) (suc n) h o (b ∷ rest) le le' =
     ap (λ (others : List SegmentValue). segment_at h o (b ∷ rest) ∷ others)
     (segments_within-enough k n h (o + 1392) (drop 1392 (b ∷ rest)) (omega (arith, shorter)) (omega (arith, shorter)))
 
-segments_from-nil : (h : Header) (o : ℕ) → segments_from h o [] ≡ []
+pub segments_from-nil : (h : Header) (o : ℕ) → segments_from h o [] ≡ []
 unfolding segments_within
 segments_from-nil h o = refl
 

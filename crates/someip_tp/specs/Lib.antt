@@ -1,5 +1,7 @@
+pub mod Names
 pub mod Words
 pub mod Segments
+pub mod Sent
 pub mod Keys
 pub mod Retained
 pub mod Distinct

@@ -1,10 +1,12 @@
-//! The bytes of messages and segments, appended to a vector.
+//! The bytes of messages, segments and pieces, appended to a vector.
 ghost use Rattle.std.specs.Prelude.{◌≡◌, ◌<◌, ◌+◌, ◌^◌, ◌++◌, length, OnOk, OnErr};
 ghost use Rattle.someip_wire.specs.Spelling.{spelling};
 ghost use Rattle.someip_wire.specs.View.{view};
 ghost use Rattle.someip_tp.specs.Segments.{view_segment, segment_message};
+ghost use Rattle.someip_tp.specs.Sent.{view_piece, piece_message};
 
 use crate::segment::Segment;
+use crate::sent::SentPiece;
 use someip_wire::{Header, Message, header_bytes};
 use std::alloc::AllocError;
 
@@ -36,6 +38,20 @@ pub fn append_segment(segment: &Segment<'_>, out: &mut Vec<u8>) -> Result<(), Al
         segment.slice,
         out,
     )
+}
+
+/// Appends the bytes of a piece of a message, as they are sent.
+///
+/// The only error is that memory ran out, which leaves the vector as it was.
+pub fn append_piece(piece: &SentPiece<'_>, out: &mut Vec<u8>) -> Result<(), AllocError>
+    ensures ok { OnOk result (out.new.items
+        ≡ out.old.items ++ spelling (piece_message (view_piece piece.now))) }
+    ensures err { OnErr result (out.new.items ≡ out.old.items) }
+{
+    match piece {
+        SentPiece::Alone(short) => append_message(&short.message, out),
+        SentPiece::Segment(segment) => append_segment(segment, out),
+    }
 }
 
 /// Appends a header and a payload of two parts. All memory is taken first.

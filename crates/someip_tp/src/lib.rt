@@ -2,8 +2,9 @@
 //! "Transporting large SOME/IP messages by UDP"), and put together again by their receiver.
 //!
 //! - [`Segments`]: the segments of a message;
-//! - [`append_segment`] and [`append_message`]: the bytes of a [`Segment`], or of a message, are
-//!   appended to a vector;
+//! - [`Sent`]: the pieces of a message as it is sent, alone or in segments;
+//! - [`append_piece`], [`append_segment`] and [`append_message`]: their bytes are appended to a
+//!   vector;
 //! - [`read_segment`]: what the payload of a segment says;
 //! - [`Reassembly`]: what a store of messages that have come in part promises, under a
 //!   [`ReassemblyKey`] each;
@@ -25,8 +26,9 @@ mod reassembly;
 mod segment;
 mod segment_list;
 mod segments;
+mod sent;
 
-pub use appending::{append_message, append_segment};
+pub use appending::{append_message, append_piece, append_segment};
 pub use calls::{TpAnswer, TpCall, run_calls};
 pub use error::TpError;
 pub use key::ReassemblyKey;
@@ -35,6 +37,7 @@ pub use reassembly::{Offered, Reassembly};
 pub use segment::{Segment, read_segment};
 pub use segment_list::SegmentList;
 pub use segments::Segments;
+pub use sent::{Sent, SentPiece, ShortMessage};
 
 #[cfg(test)]
 mod tests;
