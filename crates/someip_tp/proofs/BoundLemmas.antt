@@ -100,13 +100,16 @@ kept_same test (Some y) x is = cases (test y) is
     cases true is = is
     cases false is = cc
 
-pub within_at : (limits : Limits) (now : ℕ) (parts : Parts) → IsWithin limits parts → IsWithin limits (parts_at limits now parts)
+-- a part that is left at a moment is as it was
+pub left_same : (limits : Limits) (now : ℕ) (parts : Parts) (q : ReassemblyKey) (x : Part) → get (parts_at limits now parts) q ≡ Some x → get parts q ≡ Some x
 unfolding parts_at
-within_at limits now parts within =
-    within_fewer limits (retain parts (λ key part. not (is_gone limits.timeout now part))) parts
-    (λ q x is. kept_same (λ part. not (is_gone limits.timeout now part)) (get parts q) x (sym (get-retain keys_total exact_keys parts (λ key part. not (is_gone limits.timeout now part)) q) ∙ is)) within
+left_same limits now parts q x is =
+    kept_same (λ part. not (is_gone limits.timeout now part)) (get parts q) x (sym (get-retain keys_total exact_keys parts (λ key part. not (is_gone limits.timeout now part)) q) ∙ is)
 
-removed_same : (b : Bool) (o : Option Part) (x : Part) → cond b None o ≡ Some x → o ≡ Some x
+pub within_at : (limits : Limits) (now : ℕ) (parts : Parts) → IsWithin limits parts → IsWithin limits (parts_at limits now parts)
+within_at limits now parts within = within_fewer limits (parts_at limits now parts) parts (left_same limits now parts) within
+
+pub removed_same : (b : Bool) (o : Option Part) (x : Part) → cond b None o ≡ Some x → o ≡ Some x
 removed_same true o x is = cc
 removed_same false o x is = is
 

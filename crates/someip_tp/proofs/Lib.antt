@@ -11,3 +11,4 @@ pub mod MomentLemmas
 pub mod OfferLemmas
 pub mod SegmentTexts
 pub mod SentLemmas
+pub mod HistoryLemmas

@@ -30,7 +30,7 @@ there : (left : Parts) (o : Offer) (p : Part) → get (insert left o.key p) o.ke
 there left o p = get-insert keys_total left o.key p o.key ∙ ap (λ t. cond t (Some p) (get left o.key)) (test_from_same o.key o.key refl)
 
 -- the judgement, by its four tests
-abbrev judged_by : (unaligned long full clash : Bool) → ℕ → Offer → Parts → Result Offered TpError
+abbrev pub judged_by : (unaligned long full clash : Bool) → ℕ → Offer → Parts → Result Offered TpError
 judged_by unaligned long full clash now o left =
     if unaligned then Err Unaligned else (if long then Err TooLong else (if full then Err NoSlot else (if clash then Err Conflict else Ok (offered_as (with_offer (part_under left o.key) now o)))))
 

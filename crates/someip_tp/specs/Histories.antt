@@ -35,7 +35,7 @@ standing (Some part) accepted = accepted
 abbrev pub accepted_after : Limits → ReassemblyKey → TpCall → Parts → List Offer → List Offer
 accepted_after limits key (OfferCall k offset more bytes now) parts accepted =
     let o = offer k offset more bytes.now in
-    if same_key key k && is_ok (judgement limits now o parts) then o ∷ standing (get (parts_at limits now parts) key) accepted
+    if is_ok (judgement limits now o parts) && same_key key k then o ∷ standing (get (parts_at limits now parts) key) accepted
     else standing (get (parts_after limits now o parts) key) accepted
 accepted_after limits key (Take k) parts accepted = standing (get (parts_after_call limits (Take k) parts) key) accepted
 accepted_after limits key (Expire now) parts accepted = standing (get (parts_after_call limits (Expire now) parts) key) accepted

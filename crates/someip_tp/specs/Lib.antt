@@ -13,3 +13,4 @@ pub mod Stores
 pub mod Calls
 pub mod Wholes
 pub mod Moments
+pub mod Histories

@@ -1,8 +1,9 @@
 //! Laws of the definitions behind the contracts. Each is the contract of a function that does
 //! nothing: it says what holds of segments, parts and calls, whatever body keeps them.
-ghost use Rattle.std.specs.Prelude.{◌≡◌, ◌≢◌, ◌↔◌, ◌+◌, ◌<◌, ◌^◌, ◌%◌, ℕ, List, length, Some, None, Result, Ok, Err, is_some, true};
+ghost use Rattle.std.specs.Prelude.{◌≡◌, ◌≢◌, ◌↔◌, ◌+◌, ◌<◌, ◌^◌, ◌%◌, ℕ, List, [], length, Some, None, Result, Ok, Err, is_some, true};
 ghost use Rattle.std.specs.FinMap as map;
-ghost use Rattle.someip_wire.specs.Spelling.{spelling};
+ghost use Rattle.std.specs.List.{AllByRecursion};
+ghost use Rattle.someip_wire.specs.Spelling.{MessageValue, spelling};
 ghost use Rattle.someip_wire.specs.Faults.{length_field};
 ghost use Rattle.someip_tp.specs.declared.calls.TpCall.{TpCall};
 ghost use Rattle.someip_tp.specs.declared.error.TpError.{TpError};
@@ -15,7 +16,8 @@ ghost use Rattle.someip_tp.specs.Words.{segment_in};
 ghost use Rattle.someip_tp.specs.Segments.{SegmentValue, segment_message};
 ghost use Rattle.someip_tp.specs.Parts.{Limits, Part, Parts, parts_at};
 ghost use Rattle.someip_tp.specs.Offers.{Offer, judgement, parts_after, message_of, message_at};
-ghost use Rattle.someip_tp.specs.Offers.{parts_less};
+ghost use Rattle.someip_tp.specs.Offers.{parts_less, no_part, with_offer};
+ghost use Rattle.someip_tp.specs.Histories.{HoldsOnly, IsSegmentOf, accepted_through};
 ghost use Rattle.someip_tp.specs.Wholes.{IsWhole, IsWithin};
 ghost use Rattle.someip_tp.specs.Calls.{parts_through};
 
@@ -38,6 +40,27 @@ pub fn a_segment_is_read_as_it_was_sent()
 pub fn a_message_is_the_bytes_of_a_whole_part()
     ensures { (part : Part) (message : List ℕ)
         → (message_of part ≡ Some message) ↔ IsWhole part message }
+{}
+
+/// A part into which only segments of one message were accepted gives that message's payload if it is
+/// whole, whatever else happened to it and to other keys.
+///
+/// Step by step: a part of which nothing has come holds no byte but the payload's, a segment of the
+/// message changes nothing in that, and where it is whole it is the payload. And for any list of
+/// calls: where all segments that were accepted into the part that now stands under a key are the
+/// message's, what can be taken under that key is its payload.
+pub fn a_part_of_one_message_gives_its_payload()
+    ensures begins { (payload : List ℕ) → HoldsOnly payload no_part }
+    ensures accepts { (message : MessageValue) (part : Part) (now : ℕ) (segment : Offer)
+        → HoldsOnly message.payload part → IsSegmentOf message segment
+        → HoldsOnly message.payload (with_offer part now segment) }
+    ensures whole { (payload : List ℕ) (part : Part) (bytes : List ℕ)
+        → HoldsOnly payload part → message_of part ≡ Some bytes → bytes ≡ payload }
+    ensures calls { (limits : Limits) (message : MessageValue) (key : ReassemblyKey)
+        (calls : List TpCall) (bytes : List ℕ)
+        → AllByRecursion (IsSegmentOf message) (accepted_through limits key calls map.empty [])
+        → message_at (parts_through limits calls map.empty) key ≡ Some bytes
+        → bytes ≡ message.payload }
 {}
 
 /// An accepted segment answers `Whole` where it leaves a message that can be taken under its key, and
