@@ -1,5 +1,5 @@
 -- Parts stay within the slots and the message limit.
-use Rattle.std.proofs.Common.{◌≡◌, ℕ, zero, suc, ◌+◌, ◌-◌, ◌<◌, ◌≤◌, Bool, true, false, cond, not, ◌&&◌, nat_lt, nat_le, if◌then◌else◌, List, [], ◌∷◌, map, length, Option, None, Some, Ok, Err, refl, sym, ap, ◌∙◌, arith}
+use Rattle.std.proofs.Common.{◌≡◌, ◌≢◌, ℕ, zero, suc, ◌+◌, ◌-◌, ◌<◌, ◌≤◌, Bool, true, false, cond, not, ◌&&◌, nat_lt, nat_le, if◌then◌else◌, List, [], ◌∷◌, map, length, Option, None, Some, Result, Ok, Err, refl, sym, ap, ◌∙◌, arith}
 use Rattle.std.specs.Option.{is_some, is_none, unwrap_or}
 use Rattle.std.specs.List.{list_any}
 use Rattle.std.proofs.lemmas.Bool.{or_left}
@@ -10,7 +10,9 @@ use Rattle.someip_tp.specs.declared.key.ReassemblyKey.{ReassemblyKey}
 use Rattle.someip_tp.specs.Keys.{key_cmp}
 use Rattle.someip_tp.specs.Retained.{kept, retain}
 use Rattle.someip_tp.specs.Parts.{Limits, Part, Parts, is_gone, parts_at}
-use Rattle.someip_tp.specs.declared.error.TpError.TheVariants.{Unaligned, TooLong, Conflict, NoSlot}
+use Rattle.someip_tp.specs.declared.reassembly.Offered.{Offered}
+use Rattle.someip_tp.specs.declared.error.TpError.{TpError}
+use Rattle.someip_tp.specs.declared.error.TpError.TheVariants.{Unaligned, TooLong, Conflict, NoSlot, OutOfMemory}
 use Rattle.someip_tp.specs.Offers.{Offer as Segment, offer, offered_as, conflicts, is_unaligned, is_too_long, part_under, no_part, with_offer, parts_after, parts_less, message_at, kept as offer_kept}
 use Rattle.someip_tp.specs.Pieces.{byte_at}
 use Rattle.someip_tp.specs.Wholes.{IsWithin}
@@ -22,6 +24,7 @@ use Rattle.someip_tp.proofs.Placed.{over, get-added}
 use Rattle.someip_tp.proofs.PieceLemmas.{byte_within}
 use Rattle.someip_tp.proofs.KeyOrder.{keys_total, exact_keys}
 use Rattle.someip_tp.proofs.Entries.{own_test, get-retain}
+use Rattle.someip_tp.proofs.OfferLemmas.{offered_by}
 
 -- ---- a map with fewer keys is no larger
 
@@ -97,13 +100,16 @@ kept_same test (Some y) x is = cases (test y) is
     cases true is = is
     cases false is = cc
 
-pub within_at : (limits : Limits) (now : ℕ) (parts : Parts) → IsWithin limits parts → IsWithin limits (parts_at limits now parts)
+-- a part that is left at a moment is as it was
+pub left_same : (limits : Limits) (now : ℕ) (parts : Parts) (q : ReassemblyKey) (x : Part) → get (parts_at limits now parts) q ≡ Some x → get parts q ≡ Some x
 unfolding parts_at
-within_at limits now parts within =
-    within_fewer limits (retain parts (λ key part. not (is_gone limits.timeout now part))) parts
-    (λ q x is. kept_same (λ part. not (is_gone limits.timeout now part)) (get parts q) x (sym (get-retain keys_total exact_keys parts (λ key part. not (is_gone limits.timeout now part)) q) ∙ is)) within
+left_same limits now parts q x is =
+    kept_same (λ part. not (is_gone limits.timeout now part)) (get parts q) x (sym (get-retain keys_total exact_keys parts (λ key part. not (is_gone limits.timeout now part)) q) ∙ is)
 
-removed_same : (b : Bool) (o : Option Part) (x : Part) → cond b None o ≡ Some x → o ≡ Some x
+pub within_at : (limits : Limits) (now : ℕ) (parts : Parts) → IsWithin limits parts → IsWithin limits (parts_at limits now parts)
+within_at limits now parts within = within_fewer limits (parts_at limits now parts) parts (left_same limits now parts) within
+
+pub removed_same : (b : Bool) (o : Option Part) (x : Part) → cond b None o ≡ Some x → o ≡ Some x
 removed_same true o x is = cc
 removed_same false o x is = is
 
@@ -190,6 +196,12 @@ less_so limits parts key false within = within
 pub within_less : (limits : Limits) (parts : Parts) (key : ReassemblyKey) → IsWithin limits parts → IsWithin limits (parts_less parts key)
 unfolding parts_less
 within_less limits parts key within = less_so limits parts key (is_some (message_at parts key)) within
+
+-- whether memory was wanting or not
+pub within_offered_so : (limits : Limits) (now : ℕ) (o : Segment) (parts left : Parts) (r : Result Offered TpError) → (r ≢ Err OutOfMemory → left ≡ parts_after limits now o parts)
+    → (r ≡ Err OutOfMemory → left ≡ parts_at limits now parts) → IsWithin limits parts → IsWithin limits left
+within_offered_so limits now o parts left r after gone within =
+    offered_by (IsWithin limits) limits now o parts left r after gone (within_after limits now o parts within) (within_at limits now parts within)
 
 -- ---- any calls
 

@@ -8,3 +8,7 @@ pub mod StoreLemmas
 pub mod WholeLemmas
 pub mod BoundLemmas
 pub mod MomentLemmas
+pub mod OfferLemmas
+pub mod SegmentTexts
+pub mod SentLemmas
+pub mod HistoryLemmas

@@ -23,7 +23,7 @@ segments_within-enough (suc k) (suc n) h o (b ∷ rest) le le' =
     ap (λ (others : List SegmentValue). segment_at h o (b ∷ rest) ∷ others)
     (segments_within-enough k n h (o + 1392) (drop 1392 (b ∷ rest)) (omega (arith, shorter)) (omega (arith, shorter)))
 
-segments_from-nil : (h : Header) (o : ℕ) → segments_from h o [] ≡ []
+pub segments_from-nil : (h : Header) (o : ℕ) → segments_from h o [] ≡ []
 unfolding segments_within
 segments_from-nil h o = refl
 
@@ -64,13 +64,15 @@ left_next h place end payload lt is_end =
       | inr more ↦ left_more h place end payload lt (omega (arith, is_end, min-eq_right more))
     ]
 
--- the segment of all that is left
-pub segment_at-last : (h : Header) (o : ℕ) (rest : List ℕ) → length rest ≤ 1392 → segment_at h o rest ≡ record { header = h; word = o; slice = rest }
-segment_at-last h o rest last =
-    let none : ltb 1392 (length rest) ≡ false = le-ltb _ _ last in
-    let same : o + 0 ≡ o = omega arith in
-    let whole : take 1392 rest ≡ rest = take_all 1392 rest last in
-    rw (none, same, whole) refl
+-- a slice is all that is left, or its first 1392 bytes
+pub slice_is : (rest : List ℕ) (n : ℕ) → n ≡ min (length rest) 1392 → take n rest ≡ take 1392 rest
+slice_is rest n is =
+    elim (cases_lt (length rest) 1392) [
+      | inl less ↦
+          let below : length rest ≤ 1392 = omega (arith, less) in
+          take_all n rest (omega (arith, is, min-eq_left below)) ∙ sym (take_all 1392 rest below)
+      | inr more ↦ ap (λ k. take k rest) (is ∙ min-eq_right more)
+    ]
 
 -- ---- each at its number
 
@@ -119,3 +121,17 @@ slices_within (suc n) h o (b ∷ rest) le =
 
 pub slices_whole : (h : Header) (payload : List ℕ) → flat_map (λ s. s.slice) (segments_from h 0 payload) ≡ payload
 slices_whole h payload = slices_within (length payload) h 0 payload (omega arith)
+
+-- ---- no other list
+
+same_at : {X : Type 0} (xs ys : List X) → ((k : ℕ) → slice_get xs k ≡ slice_get ys k) → xs ≡ ys
+same_at [] [] same = refl
+same_at [] (y ∷ ys) same = let first = same 0 in absurd (cc)
+same_at (x ∷ xs) [] same = let first = same 0 in absurd (cc)
+same_at {X} (x ∷ xs) (y ∷ ys) same =
+    let first : Some x ≡ Some y = same 0 in
+    let head : x ≡ y = cc in
+    ap (λ z. z ∷ xs) head ∙ ap (λ (t : List X). y ∷ t) (same_at xs ys (λ k. same (suc k)))
+
+pub segments_same : (m : MessageValue) (segments others : List SegmentValue) → AreSegments m segments → AreSegments m others → segments ≡ others
+segments_same m segments others one other = same_at segments others (λ k. one k ∙ sym (other k))

@@ -13,7 +13,7 @@ use Rattle.someip_tp.specs.Parts.{Part, Parts, Limits, is_gone, parts_at}
 use Rattle.someip_tp.specs.declared.reassembly.Offered.{Offered}
 use Rattle.someip_tp.specs.declared.error.TpError.{TpError}
 use Rattle.someip_tp.specs.declared.error.TpError.TheVariants.{Unaligned, TooLong, Conflict, NoSlot, OutOfMemory, NoHeader}
-use Rattle.std.specs.Result.{is_ok}
+use Rattle.std.specs.Result.{is_ok, OnErr}
 use Rattle.someip_tp.specs.Offers.{Offer, judged, judgement, kept, parts_after, judged_among, offered_as, part_under, no_part, conflicts, passes, total_of, with_offer, message_of, message_at, parts_less}
 use Rattle.someip_tp.specs.Partials.{Entry}
 use Rattle.someip_tp.specs.Stores.{StandsAt, Acts, parts_in}
@@ -269,3 +269,8 @@ unfolding judgement
 wanting_so limits now o parts left new r is acts wanting =
     let both = acts_wanting _ now o left new r acts wanting in
     (ap (λ ps. is_ok (judged limits now o ps)) (sym is) ∙ both.0, both.1 ∙ is)
+
+-- what is true is true where there is an error
+pub on_err_any : {T E P : Type 0} (r : Result T E) → P → OnErr r P
+on_err_any (Ok x) p = tt
+on_err_any (Err e) p = p

@@ -8,10 +8,27 @@ use Rattle.std.specs.Coded.{Coded, code_by, coded×, coded_ℕ, coded_list}
 use Rattle.std.specs.declared.net.socket_addr.SocketAddrV4.{SocketAddrV4}
 use Rattle.std.specs.Net.Socket.{v4_ip, v4_port}
 use Rattle.std.specs.Net.Addr.{ipv4_octets}
+use Rattle.someip_wire.specs.declared.Header.{Header}
 use Rattle.someip_wire.specs.declared.header.MessageType.{MessageType}
 use Rattle.someip_wire.specs.declared.header.MessageType.TheVariants.{Request, RequestNoReturn, Notification, Response, Error, TpRequest, TpRequestNoReturn, TpNotification, TpResponse, TpError}
 use Rattle.someip_wire.specs.Kinds.{kind_byte, kind_of}
 use Rattle.someip_tp.specs.declared.key.ReassemblyKey.{ReassemblyKey}
+
+-- the key of the segments with this header that are sent from one endpoint to another: all of the header, which has
+-- no Length
+abbrev pub segment_key : SocketAddrV4 → SocketAddrV4 → Header → ReassemblyKey
+segment_key source destination h =
+    record {
+      source = source;
+      destination = destination;
+      service = h.service;
+      method = h.method;
+      client = h.client;
+      session = h.session;
+      interface = h.interface;
+      kind = h.kind;
+      code = h.code;
+    }
 
 -- by address, and then by port
 abbrev pub endpoint_cmp : SocketAddrV4 → SocketAddrV4 → Ordering

@@ -1,5 +1,7 @@
+pub mod Names
 pub mod Words
 pub mod Segments
+pub mod Sent
 pub mod Keys
 pub mod Retained
 pub mod Distinct
@@ -11,3 +13,4 @@ pub mod Stores
 pub mod Calls
 pub mod Wholes
 pub mod Moments
+pub mod Histories

@@ -37,9 +37,12 @@ parts_at limits now parts = retain parts (λ key part. not (is_gone limits.timeo
 abbrev pub NoneAfter : ℕ → Parts → Type 0
 NoneAfter now parts = (key : ReassemblyKey) (part : Part) → get parts key ≡ Some part → part.last ≤ now
 
--- codes, by which a proof tells values apart
+-- codes, by which a proof tells values apart: a Model whose Value holds parts or limits makes its own of these
 abbrev pub coded_part : Coded Part
 coded_part = code_by (FinMap nat_cmp ℕ × (Option ℕ × ℕ)) (coded× (code coded_ℕ coded_ℕ) (coded× (coded_option coded_ℕ) coded_ℕ)) (λ p. (p.bytes, (p.total, p.last))) (λ c. record { bytes = c.0; total = c.1.0; last = c.1.1 }) (λ _. refl)
 
 abbrev pub coded_parts : Coded Parts
 coded_parts = code coded_key coded_part
+
+abbrev pub coded_limits : Coded Limits
+coded_limits = code_by (ℕ × (ℕ × ℕ)) (coded× coded_ℕ (coded× coded_ℕ coded_ℕ)) (λ l. (l.slots, (l.limit, l.timeout))) (λ c. record { slots = c.0; limit = c.1.0; timeout = c.1.1 }) (λ _. refl)

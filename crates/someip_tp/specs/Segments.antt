@@ -1,5 +1,6 @@
 -- The segments of a message (SOME/IP Protocol, "SOME/IP-TP").
-use Rattle.std.specs.Prelude.{◌≡◌, ℕ, zero, suc, ◌+◌, ◌*◌, nat_lt, if◌then◌else◌, List, [], ◌∷◌, length, take, drop, slice_get, Some, None}
+use Rattle.std.specs.Prelude.{◌≡◌, ℕ, zero, suc, ◌+◌, ◌*◌, Bool, nat_lt, if◌then◌else◌, List, [], ◌∷◌, ◌++◌, length, take, drop, slice_get, Some, None}
+use Rattle.std.specs.Int.{w32, to_be_bytes}
 use Rattle.someip_wire.specs.declared.Header.{Header}
 use Rattle.someip_wire.specs.Kinds.{with_tp_flag}
 use Rattle.someip_wire.specs.Spelling.{MessageValue}
@@ -8,21 +9,31 @@ use Rattle.someip_tp.specs.declared.segment.Segment.{Segment}
 -- a segment without where its slice lies in memory
 pub record SegmentValue : Type 0 where
   pub header : Header
-  pub word : ℕ
+  pub offset : ℕ
+  pub more : Bool
   pub slice : List ℕ
 
 -- what contracts see of a segment
 abbrev pub view_segment : Segment → SegmentValue
-view_segment s = record { header = s.header; word = s.word; slice = s.slice.now }
+view_segment s = record { header = s.header; offset = s.offset; more = s.more; slice = s.slice.now }
+
+-- the word of a segment: its offset in bytes, a multiple of 16, and More Segments in the lowest bit
+abbrev pub word_of : SegmentValue → ℕ
+word_of s = s.offset + (if s.more then 1 else 0)
+
+-- the message that a segment is sent as: under its header, its word and then its slice. So its Length is 12 and
+-- the bytes of its slice.
+abbrev pub segment_message : SegmentValue → MessageValue
+segment_message s = record { header = s.header; payload = to_be_bytes w32 (word_of s) ++ s.slice }
 
 -- the header of each segment: the message's own, with the TP flag set
 abbrev pub segment_header : Header → Header
 segment_header h = record h { kind = with_tp_flag h.kind }
 
--- the segment at an offset of a payload: a slice of at most 1392 bytes behind the word of its offset and
--- of More Segments, which is 1 where bytes are left behind the slice
+-- the segment at an offset of a payload: a slice of at most 1392 bytes, and More Segments where bytes are left
+-- behind the slice
 abbrev pub segment_at : Header → ℕ → List ℕ → SegmentValue
-segment_at header offset rest = record { header = header; word = offset + (if nat_lt 1392 (length rest) then 1 else 0); slice = take 1392 rest }
+segment_at header offset rest = record { header = header; offset = offset; more = nat_lt 1392 (length rest); slice = take 1392 rest }
 
 -- these are the segments of the message: one for each k with 1392 * k below the payload's length
 abbrev pub AreSegments : MessageValue → List SegmentValue → Type 0

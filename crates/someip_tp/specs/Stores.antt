@@ -1,14 +1,14 @@
 -- What contracts see of a store of parts.
 use Rattle.std.specs.Prelude.{◌≡◌, ℕ, ◌<◌, true, List, length, Option, Some, None, Result, Err, is_ok, refl}
 use Rattle.std.specs.List.{slice_index_or}
-use Rattle.std.specs.Coded.{Coded, code_by, coded×, coded_ℕ}
+use Rattle.std.specs.Coded.{Coded, code_by, coded×}
 use Rattle.std.specs.FinMap.{find, from_entries}
 use Rattle.someip_tp.specs.declared.key.ReassemblyKey.{ReassemblyKey}
 use Rattle.someip_tp.specs.declared.reassembly.Offered.{Offered}
 use Rattle.someip_tp.specs.declared.error.TpError.{TpError}
 use Rattle.someip_tp.specs.declared.error.TpError.TheVariants.{OutOfMemory}
 use Rattle.someip_tp.specs.Keys.{key_cmp, same_key}
-use Rattle.someip_tp.specs.Parts.{Limits, Parts, coded_parts}
+use Rattle.someip_tp.specs.Parts.{Limits, Parts, coded_parts, coded_limits}
 use Rattle.someip_tp.specs.declared.partials.Arrived.{Arrived}
 use Rattle.someip_tp.specs.Offers.{Offer, offer, judged_among, judged, kept}
 use Rattle.someip_tp.specs.Partials.{Entry}
@@ -17,9 +17,6 @@ use Rattle.someip_tp.specs.Partials.{Entry}
 pub record Store : Type 0 where
   pub parts : Parts
   pub limits : Limits
-
-abbrev pub coded_limits : Coded Limits
-coded_limits = code_by (ℕ × (ℕ × ℕ)) (coded× coded_ℕ (coded× coded_ℕ coded_ℕ)) (λ l. (l.slots, (l.limit, l.timeout))) (λ c. record { slots = c.0; limit = c.1.0; timeout = c.1.1 }) (λ _. refl)
 
 abbrev pub coded_store : Coded Store
 coded_store = code_by (Parts × Limits) (coded× coded_parts coded_limits) (λ s. (s.parts, s.limits)) (λ c. record { parts = c.0; limits = c.1 }) (λ _. refl)

@@ -1,17 +1,19 @@
 //! Why a segment is refused.
 ghost use Rattle.std.specs.Prelude.{◌≡◌};
 ghost use Rattle.someip_tp.specs.declared.error.TpError.TheVariants.{OutOfMemory};
+ghost use Rattle.someip_tp.specs.Names.{error_name};
 
 use std::alloc::AllocError;
 use thiserror::Error;
 
-/// Why a segment is refused, or a message is not put together.
+/// Why a segment is refused, or a message is not put together. Printed, it is its name, but for
+/// `OutOfMemory`, which is `out of memory`.
 #[derive(Clone, Copy, Debug, PartialEq, Eq, Error)]
 pub enum TpError {
     /// A slice that is not the last has a length that is no multiple of 16.
     #[error("Unaligned")]
     Unaligned,
-    /// The slice passes the message limit.
+    /// The slice goes past the message limit.
     #[error("TooLong")]
     TooLong,
     /// The slice contradicts what is held: another byte at a place, or another total.
@@ -26,6 +28,22 @@ pub enum TpError {
     /// The payload has no room for the word of a segment.
     #[error("NoHeader")]
     NoHeader,
+}
+
+impl TpError {
+    /// The name: `Unaligned`.
+    pub fn name(&self) -> &'static str
+        ensures { result.now ≡ error_name self.now }
+    {
+        match self {
+            TpError::Unaligned => "Unaligned",
+            TpError::TooLong => "TooLong",
+            TpError::Conflict => "Conflict",
+            TpError::NoSlot => "NoSlot",
+            TpError::OutOfMemory => "OutOfMemory",
+            TpError::NoHeader => "NoHeader",
+        }
+    }
 }
 
 impl From<AllocError> for TpError {

@@ -1,12 +1,13 @@
 //! What tells one message that comes in segments from another.
 ghost use Rattle.std.specs.Prelude.{◌≡◌, ◌↔◌, ◌&&◌, ◌==◌, true};
-ghost use Rattle.someip_tp.specs.Keys.{same_key, key_numbers};
+ghost use Rattle.someip_tp.specs.Keys.{segment_key, same_key, key_numbers};
 
 use someip_wire::{Header, MessageType, ReturnCode};
 use std::net::SocketAddrV4;
 
-/// The reassembly key: the segments of one message agree in all of it, and two messages that are
-/// on their way at once differ in some of it (SOME/IP Protocol, "SOME/IP-TP", reassembly).
+/// The reassembly key: the segments of one message agree in all of it (SOME/IP Protocol,
+/// "SOME/IP-TP", reassembly). Senders should see to it that two messages which are on their way at
+/// once differ in some of it; segments of messages that do not are taken for those of one.
 #[derive(Clone, Copy, Debug, PartialEq, Eq)]
 pub struct ReassemblyKey {
     /// The endpoint that sent the segments.
@@ -27,6 +28,25 @@ pub struct ReassemblyKey {
     pub kind: MessageType,
     /// Return Code.
     pub code: ReturnCode,
+}
+
+impl ReassemblyKey {
+    /// The key of the segments with this header that are sent from one endpoint to another.
+    pub fn new(source: SocketAddrV4, destination: SocketAddrV4, header: &Header) -> ReassemblyKey
+        ensures { result ≡ segment_key source destination header.now }
+    {
+        ReassemblyKey {
+            source,
+            destination,
+            service: header.service,
+            method: header.method,
+            client: header.client,
+            session: header.session,
+            interface: header.interface,
+            kind: header.kind,
+            code: header.code,
+        }
+    }
 }
 
 /// Whether the two are one key.

@@ -1,12 +1,39 @@
 //! Laws of the definitions behind the contracts. Each is the contract of a function that does
-//! nothing: it says what holds of parts and calls, whatever body keeps them.
-ghost use Rattle.std.specs.Prelude.{◌≡◌, ◌↔◌, ℕ, List, Some};
+//! nothing: it says what holds of segments, parts and calls, whatever body keeps them.
+ghost use Rattle.std.specs.Prelude.{◌≡◌, ◌≢◌, ◌↔◌, ◌+◌, ◌<◌, ◌^◌, ◌%◌, ℕ, List, [], length, Some, None, Result, Ok, Err, is_some, true};
 ghost use Rattle.std.specs.FinMap as map;
+ghost use Rattle.std.specs.List.{AllByRecursion};
+ghost use Rattle.someip_wire.specs.Spelling.{MessageValue, spelling};
+ghost use Rattle.someip_wire.specs.Faults.{length_field};
 ghost use Rattle.someip_tp.specs.declared.calls.TpCall.{TpCall};
-ghost use Rattle.someip_tp.specs.Parts.{Limits, Part};
-ghost use Rattle.someip_tp.specs.Offers.{message_of};
+ghost use Rattle.someip_tp.specs.declared.error.TpError.{TpError};
+ghost use Rattle.someip_tp.specs.declared.error.TpError.TheVariants.{OutOfMemory};
+ghost use Rattle.someip_tp.specs.declared.key.ReassemblyKey.{ReassemblyKey};
+ghost use Rattle.someip_tp.specs.declared.reassembly.Offered.{Offered};
+ghost use Rattle.someip_tp.specs.declared.reassembly.Offered.TheVariants.{Part as InPart};
+ghost use Rattle.someip_tp.specs.declared.reassembly.Offered.TheVariants.{Whole};
+ghost use Rattle.someip_tp.specs.Words.{segment_in};
+ghost use Rattle.someip_tp.specs.Segments.{SegmentValue, segment_message};
+ghost use Rattle.someip_tp.specs.Parts.{Limits, Part, Parts, parts_at};
+ghost use Rattle.someip_tp.specs.Offers.{Offer, judgement, parts_after, message_of, message_at};
+ghost use Rattle.someip_tp.specs.Offers.{parts_less, no_part, with_offer};
+ghost use Rattle.someip_tp.specs.Histories.{HoldsOnly, IsSegmentOf, accepted_through};
 ghost use Rattle.someip_tp.specs.Wholes.{IsWhole, IsWithin};
 ghost use Rattle.someip_tp.specs.Calls.{parts_through};
+
+/// The Length field of a segment is 12 and the bytes of its slice (SOME/IP Protocol, "SOME/IP-TP
+/// header").
+pub fn the_length_of_a_segment_is_12_and_its_slice()
+    ensures { (segment : SegmentValue) → 12 + length segment.slice < 2 ^ 32
+        → length_field (spelling (segment_message segment)) ≡ 12 + length segment.slice }
+{}
+
+/// What is sent as a segment is read as its offset, More Segments and its slice.
+pub fn a_segment_is_read_as_it_was_sent()
+    ensures { (segment : SegmentValue) → segment.offset % 16 ≡ 0 → segment.offset < 2 ^ 32
+        → segment_in (segment_message segment).payload
+        ≡ Ok (segment.offset, segment.more, segment.slice) }
+{}
 
 /// A part is whole exactly where its places are those below its total, and its message is then its
 /// bytes in order: a byte that came twice counts once, and no gap is left.
@@ -15,9 +42,60 @@ pub fn a_message_is_the_bytes_of_a_whole_part()
         → (message_of part ≡ Some message) ↔ IsWhole part message }
 {}
 
+/// A part into which only segments of one message were accepted gives that message's payload if it is
+/// whole, whatever else happened to it and to other keys.
+///
+/// Step by step: a part of which nothing has come holds no byte but the payload's, a segment of the
+/// message changes nothing in that, and where it is whole it is the payload. And for any list of
+/// calls: where all segments that were accepted into the part that now stands under a key are the
+/// message's, what can be taken under that key is its payload.
+pub fn a_part_of_one_message_gives_its_payload()
+    ensures begins { (payload : List ℕ) → HoldsOnly payload no_part }
+    ensures accepts { (message : MessageValue) (part : Part) (now : ℕ) (segment : Offer)
+        → HoldsOnly message.payload part → IsSegmentOf message segment
+        → HoldsOnly message.payload (with_offer part now segment) }
+    ensures whole { (payload : List ℕ) (part : Part) (bytes : List ℕ)
+        → HoldsOnly payload part → message_of part ≡ Some bytes → bytes ≡ payload }
+    ensures calls { (limits : Limits) (message : MessageValue) (key : ReassemblyKey)
+        (calls : List TpCall) (bytes : List ℕ)
+        → AllByRecursion (IsSegmentOf message) (accepted_through limits key calls map.empty [])
+        → message_at (parts_through limits calls map.empty) key ≡ Some bytes
+        → bytes ≡ message.payload }
+{}
+
+/// An accepted segment answers `Whole` where it leaves a message that can be taken under its key, and
+/// `Part` where it leaves none.
+pub fn what_an_offer_makes_whole_can_be_taken()
+    ensures whole { (limits : Limits) (now : ℕ) (segment : Offer) (parts : Parts)
+        → judgement limits now segment parts ≡ Ok Whole
+        → is_some (message_at (parts_after limits now segment parts) segment.key) ≡ true }
+    ensures part { (limits : Limits) (now : ℕ) (segment : Offer) (parts : Parts)
+        → judgement limits now segment parts ≡ Ok InPart
+        → message_at (parts_after limits now segment parts) segment.key ≡ None }
+{}
+
 /// Whatever calls are made of a store that begins without parts, it never holds more parts than it
 /// has slots, nor a byte at or past the message limit.
 pub fn parts_stay_within_limits()
     ensures { (limits : Limits) (calls : List TpCall)
         → IsWithin limits (parts_through limits calls map.empty) }
+{}
+
+/// The same, call by call, so that it also holds where memory was wanting: no parts, as after `make`
+/// and `clear`, are within all limits, and where the parts are within them before a call, they are
+/// afterwards.
+pub fn each_call_keeps_parts_within_limits()
+    ensures none { (limits : Limits) → IsWithin limits map.empty }
+    ensures offer { (limits : Limits) (now : ℕ) (segment : Offer) (parts : Parts)
+        → IsWithin limits parts → IsWithin limits (parts_after limits now segment parts) }
+    // The same of the parts that are left by a call of `offer`, for which memory may be wanting.
+    ensures offered { (limits : Limits) (now : ℕ) (segment : Offer) (parts left : Parts)
+        (result : Result Offered TpError)
+        → (result ≢ Err OutOfMemory → left ≡ parts_after limits now segment parts)
+        → (result ≡ Err OutOfMemory → left ≡ parts_at limits now parts)
+        → IsWithin limits parts → IsWithin limits left }
+    ensures take { (limits : Limits) (key : ReassemblyKey) (parts : Parts)
+        → IsWithin limits parts → IsWithin limits (parts_less parts key) }
+    ensures expire { (limits : Limits) (now : ℕ) (parts : Parts)
+        → IsWithin limits parts → IsWithin limits (parts_at limits now parts) }
 {}

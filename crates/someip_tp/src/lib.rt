@@ -2,7 +2,10 @@
 //! "Transporting large SOME/IP messages by UDP"), and put together again by their receiver.
 //!
 //! - [`Segments`]: the segments of a message;
-//! - [`read_segment`]: the word and the slice of a segment's payload;
+//! - [`Sent`]: the pieces of a message as it is sent, alone or in segments;
+//! - [`append_piece`], [`append_segment`] and [`append_message`]: their bytes are appended to a
+//!   vector;
+//! - [`read_segment`]: what the payload of a segment says;
 //! - [`Reassembly`]: what a store of messages that have come in part promises, under a
 //!   [`ReassemblyKey`] each;
 //! - [`SegmentList`]: its plain body;
@@ -10,6 +13,7 @@
 //! - [`laws`]: what the definitions behind the contracts promise, whatever body keeps them.
 #![tactic(auto)]
 
+mod appending;
 mod calls;
 mod error;
 mod key;
@@ -22,7 +26,9 @@ mod reassembly;
 mod segment;
 mod segment_list;
 mod segments;
+mod sent;
 
+pub use appending::{append_message, append_piece, append_segment};
 pub use calls::{TpAnswer, TpCall, run_calls};
 pub use error::TpError;
 pub use key::ReassemblyKey;
@@ -31,6 +37,7 @@ pub use reassembly::{Offered, Reassembly};
 pub use segment::{Segment, read_segment};
 pub use segment_list::SegmentList;
 pub use segments::Segments;
+pub use sent::{Sent, SentPiece, ShortMessage};
 
 #[cfg(test)]
 mod tests;

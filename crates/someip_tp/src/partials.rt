@@ -224,6 +224,8 @@ pub(crate) fn take_from(
         ++ unwrap_or (message_at (parts_in partials.old.items) key.now) []) }
     ensures parts { OnOk result (parts_in partials.new.items
         ≡ parts_less (parts_in partials.old.items) key.now) }
+    ensures wanting { OnErr result
+        (is_some (message_at (parts_in partials.old.items) key.now) ≡ true) }
     ensures err { OnErr result
         ((partials.new.items ≡ partials.old.items) × (bytes.new.items ≡ bytes.old.items)) }
 {
@@ -245,6 +247,7 @@ fn append_whole(
         taken ≡ is_some (message_at (parts_in partials.now) key.now)) }
     ensures bytes { OnOk result (bytes.new.items ≡ bytes.old.items
         ++ unwrap_or (message_at (parts_in partials.now) key.now) []) }
+    ensures wanting { OnErr result (is_some (message_at (parts_in partials.now) key.now) ≡ true) }
     ensures err { OnErr result (bytes.new.items ≡ bytes.old.items) }
 {
     let Some(i) = position(partials, key) else {

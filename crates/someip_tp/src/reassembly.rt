@@ -1,5 +1,5 @@
 //! Reassembly: messages are put together from their segments (SOME/IP Protocol, "SOME/IP-TP").
-ghost use Rattle.std.specs.Prelude.{◌≡◌, ◌≢◌, ◌++◌, ◌%◌, [], IfOk, IfErr, OnOk, OnErr, is_ok, is_some, unwrap_or, true};
+ghost use Rattle.std.specs.Prelude.{◌≡◌, ◌≢◌, ◌≤◌, ◌++◌, ◌%◌, ℕ, [], IfOk, IfErr, OnOk, OnErr, is_ok, is_some, unwrap_or, true};
 ghost use Rattle.std.specs.FinMap as map;
 ghost use Rattle.someip_tp.specs.Parts.{Limits, NoneAfter, parts_at};
 ghost use Rattle.someip_tp.specs.Offers.{offer, judgement, parts_after, message_at, parts_less};
@@ -37,7 +37,10 @@ pub trait Reassembly: Drop {
     /// The only error is `OutOfMemory`.
     fn make(alloc: Global, slots: usize, limit: usize, timeout: u64) -> Result<Self, TpError>
         ensures parts { IfOk result (λ store. parts store ≡ map.empty) }
-        ensures limits { IfOk result (λ store. limits store ≡ record { slots = slots; limit = limit; timeout = timeout }) }
+        ensures limits { IfOk result (λ store. limits store
+            ≡ record { slots = slots; limit = limit; timeout = timeout }) }
+        // No part has a segment after any moment.
+        ensures moments { IfOk result (λ store. (at : ℕ) → NoneAfter at (parts store)) }
         ensures err { IfErr result (λ error. error ≡ TpError.OutOfMemory) };
 
     /// Offers a segment: its message's key, its offset in bytes, More Segments, and its slice.
@@ -63,28 +66,38 @@ pub trait Reassembly: Drop {
             → is_ok (judgement (limits self.old) now (offer key offset more bytes.now) (parts self.old)) ≡ true }
         ensures out_of_memory { result ≡ Err TpError.OutOfMemory
             → parts self.new ≡ parts_at (limits self.old) now (parts self.old) }
+        // A caller whose moments never fall may offer again at each later moment.
+        ensures moments { (at : ℕ) → now ≤ at → NoneAfter at (parts self.old)
+            → NoneAfter at (parts self.new) }
         ensures limits { limits self.new ≡ limits self.old };
 
     /// Whether the message under the key is whole. If it is, its bytes are appended and its slot is
     /// free.
     ///
-    /// The only error is `OutOfMemory`, which leaves all as it was.
+    /// The only error is `OutOfMemory`, which comes only where the message is whole, and leaves all as
+    /// it was.
     fn take(&mut self, key: &ReassemblyKey, bytes: &mut Vec<u8>) -> Result<bool, TpError>
         ensures taken { IfOk result (λ taken. taken ≡ is_some (message_at (parts self.old) key.now)) }
         ensures bytes { OnOk result
             (bytes.new.items ≡ bytes.old.items ++ unwrap_or (message_at (parts self.old) key.now) []) }
         ensures parts { OnOk result (parts self.new ≡ parts_less (parts self.old) key.now) }
         ensures err { IfErr result (λ error. error ≡ TpError.OutOfMemory) }
-        ensures unchanged { OnErr result ((parts self.new ≡ parts self.old) × (bytes.new.items ≡ bytes.old.items)) }
+        // Memory can only be wanting for a message that is whole.
+        ensures wanting { OnErr result (is_some (message_at (parts self.old) key.now) ≡ true) }
+        ensures unchanged { OnErr result
+            ((parts self.new ≡ parts self.old) × (bytes.new.items ≡ bytes.old.items)) }
+        ensures moments { (at : ℕ) → NoneAfter at (parts self.old) → NoneAfter at (parts self.new) }
         ensures limits { limits self.new ≡ limits self.old };
 
     /// Drops all parts whose time is over at `now`.
     fn expire(&mut self, now: u64)
         ensures parts { parts self.new ≡ parts_at (limits self.old) now (parts self.old) }
+        ensures moments { (at : ℕ) → NoneAfter at (parts self.old) → NoneAfter at (parts self.new) }
         ensures limits { limits self.new ≡ limits self.old };
 
     /// Drops all parts.
     fn clear(&mut self)
         ensures parts { parts self.new ≡ map.empty }
+        ensures moments { (at : ℕ) → NoneAfter at (parts self.new) }
         ensures limits { limits self.new ≡ limits self.old };
 }

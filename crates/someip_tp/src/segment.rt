@@ -1,31 +1,62 @@
 //! One segment (SOME/IP Protocol, "SOME/IP-TP header").
-ghost use Rattle.std.specs.Prelude.{◌≡◌};
-ghost use Rattle.someip_tp.specs.Words.{reads_segment};
+ghost use Rattle.std.specs.Prelude.{◌≡◌, ◌<◌, ◌+◌, ◌%◌, ◌^◌, length, IfOk};
+ghost use Rattle.someip_tp.specs.Words.{reads_segment, segment_in, view_read};
 
 use crate::error::TpError;
 use someip_wire::Header;
 
-/// A segment of a message: the message's header with the TP flag, the word of offset and More
-/// Segments, and a slice of the message's payload.
+/// A segment of a message: the message's header with the TP flag, the offset, More Segments, and a
+/// slice of the message's payload.
 ///
-/// On the wire the payload of a segment is the word, big-endian, and then the slice. Its Length
-/// field is 12 and the bytes of the slice.
+/// On the wire it is a message: its payload is the word of the offset and More Segments, big-endian,
+/// and then the slice. So the offset is a multiple of 16, and the slice leaves room for 12 bytes in
+/// the Length field.
+///
+/// ```text
+/// 12340421 00000015 00010001 0101a000    a RESPONSE; Length 21 is 12 and nine bytes of slice
+/// 00000570                               offset 1392, More Segments 0
+/// 71..                                   the slice
+/// ```
 #[derive(Clone, Copy, Debug, PartialEq, Eq)]
 pub struct Segment<'a> {
     /// The message's header, with the TP flag set in its type.
     pub header: Header,
-    /// The offset in bytes, a multiple of 16; the lowest bit is More Segments.
-    pub word: u32,
+    /// Where the slice begins in the message's payload, in bytes: a multiple of 16.
+    pub offset: u32,
+    /// More Segments: bytes of the message are left behind the slice.
+    pub more: bool,
     /// The slice of the message's payload that begins at the offset.
     pub slice: &'a [u8],
+    ghost aligned: { offset % 16 ≡ 0 },
+    ghost fits: { 12 + length slice.now < 2 ^ 32 },
+}
+
+impl Segment<'_> {
+    ghost use Rattle.someip_tp.specs.Segments.{view_segment, word_of};
+
+    /// The word in front of the slice: the offset in its upper 28 bits, in units of 16 bytes, three
+    /// reserved bits of 0, and More Segments in the lowest bit.
+    pub fn word(&self) -> u32
+        ensures { result ≡ word_of (view_segment self.now) }
+    {
+        if self.more {
+            self.offset + 1
+        } else {
+            self.offset
+        }
+    }
 }
 
 /// The word and the slice in the payload of a segment: the offset in bytes, More Segments, and the
 /// slice. The three reserved bits of the word are ignored.
 ///
-/// A payload of fewer than four bytes is `NoHeader`.
+/// A payload of fewer than four bytes is `NoHeader`, and nothing else is an error.
 pub fn read_segment(payload: &[u8]) -> Result<(u32, bool, &[u8]), TpError>
-    ensures { reads_segment payload.now result }
+    ensures read { reads_segment payload.now result }
+    // The same as a function of the payload.
+    ensures exact { view_read result ≡ segment_in payload.now }
+    // So it may be offered to a `Reassembly`.
+    ensures aligned { IfOk result (λ (offset, more, slice). offset % 16 ≡ 0) }
 {
     let [a, b, c, d, slice @ ..] = payload else {
         return Err(TpError::NoHeader);

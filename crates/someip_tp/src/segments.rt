@@ -1,5 +1,5 @@
 //! The segments of a message.
-ghost use Rattle.std.specs.Prelude.{◌≡◌, ◌+◌, ◌^◌, ◌<◌, length};
+ghost use Rattle.std.specs.Prelude.{◌≡◌, ◌+◌, ◌%◌, ◌^◌, ◌<◌, length};
 ghost use Rattle.someip_tp.specs.Segments.{view_segment, segment_at};
 
 use crate::segment::Segment;
@@ -20,25 +20,30 @@ pub struct Segments<'a> {
 }
 
 impl<'a> Model for Segments<'a> {
-    ghost use Rattle.std.specs.Prelude.{List, drop, length, ◌≤◌, ◌<◌, ◌^◌, ◌+◌};
+    ghost use Rattle.std.specs.Prelude.{List, drop, length, ◌≡◌, ◌≤◌, ◌<◌, ◌^◌, ◌+◌, ◌%◌};
     ghost use Rattle.someip_tp.specs.Segments.{SegmentValue, segments_from};
 
     ghost Value = { List SegmentValue };
 
     ghost view = { λ s. segments_from s.header s.place (drop s.place s.payload.now) };
 
-    ghost invariant = { λ s. (s.place ≤ length s.payload.now) × (8 + length s.payload.now < 2 ^ 32) };
+    ghost invariant = { λ s. (s.place ≤ length s.payload.now) × (8 + length s.payload.now < 2 ^ 32)
+        × (s.place < length s.payload.now → s.place % 16 ≡ 0) };
 }
 
 impl<'a> Segments<'a> {
     ghost use Rattle.someip_wire.specs.View.{view};
     ghost use Rattle.std.specs.List.{flat_map};
-    ghost use Rattle.someip_tp.specs.Segments.{AreSegments};
+    ghost use Rattle.std.specs.Prelude.{List};
+    ghost use Rattle.someip_tp.specs.Segments.{SegmentValue, AreSegments};
 
     /// The segments of this message. A message without a payload has none.
     pub fn new(message: &Message<'a>) -> Segments<'a>
         requires { 8 + length message.now.payload.now < 2 ^ 32 }
         ensures segments { AreSegments (view message.now) result }
+        // No other list is that of its segments.
+        ensures only { (others : List SegmentValue) → AreSegments (view message.now) others
+            → result ≡ others }
         // Their slices side by side are the payload.
         ensures whole { flat_map (λ segment. segment.slice) result ≡ message.now.payload.now }
     {
@@ -75,22 +80,15 @@ impl<'a> Iterator for Segments<'a> {
 
 /// The first segment of the rest of a payload that begins at an offset.
 fn segment_of(header: Header, offset: usize, rest: &[u8]) -> Segment<'_>
-    requires { offset + length rest.now < 2 ^ 32 }
+    requires fits { offset + length rest.now < 2 ^ 32 }
+    requires aligned { offset % 16 ≡ 0 }
     ensures { view_segment result ≡ segment_at header offset rest.now }
 {
-    let offset = offset as u32;
-    if rest.len() > SLICE_LEN {
-        let slice = &rest[..SLICE_LEN];
-        let word = offset + 1;
-        return Segment {
-            header,
-            word,
-            slice,
-        };
-    }
+    let len = rest.len().min(SLICE_LEN);
     Segment {
         header,
-        word: offset,
-        slice: rest,
+        offset: offset as u32,
+        more: rest.len() > SLICE_LEN,
+        slice: &rest[..len],
     }
 }

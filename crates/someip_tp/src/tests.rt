@@ -1,5 +1,5 @@
 //! The worked rows of segments; those of reassembly stand in a file of their own.
-use crate::{Segments, TpError, read_segment};
+use crate::{Segment, Segments, TpError, append_message, append_segment, read_segment};
 use someip_wire::{Header, Message, MessageType, ReturnCode};
 use std::alloc::{AllocError, Global};
 use std::test::Fail;
@@ -7,6 +7,7 @@ use std::test::Fail;
 mod call;
 mod reassembly;
 mod rows;
+mod texts;
 
 const HEADER: Header = Header {
     service: 0x1234,
@@ -36,7 +37,7 @@ fn words_and_lengths(alloc: Global, payload: &[u8]) -> Result<Vec<(u32, usize)>,
     let mut found = Vec::new(alloc);
     if payload.len() < 100_000 {
         for segment in Segments::new(&message) {
-            found.push((segment.word, segment.slice.len()))?;
+            found.push((segment.word(), segment.slice.len()))?;
         }
     }
     Ok(found)
@@ -63,40 +64,71 @@ fn messages_in_segments(rt: HostRuntime) -> Result<(), Fail> {
     for (len, wanted) in rows {
         let payload = payload_of(rt.alloc(), len)?;
         let found = words_and_lengths(rt.alloc(), &payload)?;
-        assert_eq!(rt; found.as_slice(), wanted);
+        assert!(rt; found.as_slice() == wanted);
     }
     Ok(())
 }
 
-#[test]
-fn slices_lie_in_the_payload(rt: HostRuntime) -> Result<(), Fail> {
-    let payload = payload_of(rt.alloc(), 1401)?;
+/// The Length fields of the segments of a message with this payload, one after the other as they are
+/// sent.
+fn length_fields(alloc: Global, payload: &[u8]) -> Result<Vec<u8>, AllocError> {
     let message = Message {
         header: HEADER,
-        payload: &payload,
+        payload,
     };
-    if payload.len() == 1401 {
-        let mut joined = Vec::new(rt.alloc());
+    let mut found = Vec::new(alloc);
+    if payload.len() < 100_000 {
         for segment in Segments::new(&message) {
-            assert_eq!(rt; segment.header.kind, MessageType::TpResponse);
-            assert_eq!(rt; segment.header.session, 1);
-            joined.extend_from_slice(segment.slice)?;
+            let mut bytes = Vec::new(alloc);
+            append_segment(&segment, &mut bytes)?;
+            found.extend_from_slice(bytes.get(4..8).unwrap_or(&[]))?;
         }
-        assert_eq!(rt; joined.as_slice(), payload.as_slice());
     }
+    Ok(found)
+}
+
+#[test]
+fn lengths_of_segments(rt: HostRuntime) -> Result<(), Fail> {
+    let five = length_fields(rt.alloc(), &payload_of(rt.alloc(), 5880)?)?;
+    let wanted = [
+        0, 0, 0x05, 0x7c, 0, 0, 0x05, 0x7c, 0, 0, 0x05, 0x7c, 0, 0, 0x05, 0x7c, 0, 0, 0x01, 0x44,
+    ];
+    assert!(rt; five.as_slice() == wanted.as_slice());
+    let two = length_fields(rt.alloc(), &payload_of(rt.alloc(), 1401)?)?;
+    assert!(rt; two.as_slice() == [0, 0, 0x05, 0x7c, 0, 0, 0, 21].as_slice());
+    Ok(())
+}
+
+#[test]
+fn bytes_are_appended(rt: HostRuntime) -> Result<(), Fail> {
+    let mut out = Vec::new(rt.alloc());
+    let segment = Segment {
+        header: HEADER,
+        offset: 1392,
+        more: true,
+        slice: &[0x2a],
+    };
+    append_segment(&segment, &mut out)?;
+    let message = Message {
+        header: HEADER,
+        payload: &[0x2b, 0x2c],
+    };
+    append_message(&message, &mut out)?;
+    let wanted = [
+        0x12, 0x34, 0x04, 0x21, 0, 0, 0, 13, 0, 1, 0, 1, 1, 1, 0x80, 0, 0, 0, 0x05, 0x71, 0x2a,
+        0x12, 0x34, 0x04, 0x21, 0, 0, 0, 10, 0, 1, 0, 1, 1, 1, 0x80, 0, 0x2b, 0x2c,
+    ];
+    assert!(rt; out.as_slice() == wanted.as_slice());
     Ok(())
 }
 
 #[test]
 fn words_are_read(rt: HostRuntime) {
     let none: &[u8] = &[];
-    assert_eq!(rt; read_segment(&[0, 0, 5, 0x7e]), Ok((1392, false, none)));
-    assert_eq!(rt; read_segment(&[0, 0, 5, 0x7f]), Ok((1392, true, none)));
-    assert_eq!(rt; read_segment(&[0, 0, 5]), Err(TpError::NoHeader));
-    assert_eq!(rt; read_segment(&[]), Err(TpError::NoHeader));
+    assert!(rt; read_segment(&[0, 0, 5, 0x7e]) == Ok((1392, false, none)));
+    assert!(rt; read_segment(&[0, 0, 5, 0x7f]) == Ok((1392, true, none)));
+    assert!(rt; read_segment(&[0, 0, 5]) == Err(TpError::NoHeader));
+    assert!(rt; read_segment(&[]) == Err(TpError::NoHeader));
     let slice: &[u8] = &[0x2a];
-    assert_eq!(rt;
-        read_segment(&[0xff, 0xff, 0xff, 0xf1, 0x2a]),
-        Ok((0xffff_fff0, true, slice))
-    );
+    assert!(rt; read_segment(&[0xff, 0xff, 0xff, 0xf1, 0x2a]) == Ok((0xffff_fff0, true, slice)));
 }

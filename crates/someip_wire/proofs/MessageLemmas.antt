@@ -114,7 +114,7 @@ field16_fits bytes i fits = let r = IsBytes-range bytes i ((i + 2) - i) fits in 
 length_field_fits : (bytes : List ℕ) → IsBytes bytes → length_field bytes < 2 ^ 32
 length_field_fits bytes fits = let r = IsBytes-range bytes 4 4 fits in omega (arith, r 0, r 1, r 2, r 3)
 
-payload_length : (bytes : List ℕ) → IsWhole bytes → 8 + length (message_in bytes).payload ≡ length_field bytes
+pub payload_length : (bytes : List ℕ) → IsWhole bytes → 8 + length (message_in bytes).payload ≡ length_field bytes
 payload_length bytes w = omega (arith, length-take (length_field bytes + 8 - 16) (drop 16 bytes), length-drop 16 bytes, w.whole, w.least)
 
 -- what is read is spelled so

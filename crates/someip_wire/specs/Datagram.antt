@@ -1,9 +1,9 @@
 -- What a datagram is: messages, one after the other, and an end.
-use Rattle.std.specs.Prelude.{ℕ, ◌+◌, ◌≡◌, ◌≢◌, List, [], ◌∷◌, ◌++◌, length, Option, Some, None, Result, Ok, Err}
+use Rattle.std.specs.Prelude.{ℕ, ◌+◌, ◌≤◌, ◌≡◌, ◌≢◌, List, [], ◌∷◌, ◌++◌, length, Option, Some, None, Result, Ok, Err}
 use Rattle.std.specs.List.{flat_map, AllByRecursion}
 use Rattle.someip_wire.specs.declared.error.WireError.{WireError}
 use Rattle.someip_wire.specs.Spelling.{MessageValue, Fits, spelling}
-use Rattle.someip_wire.specs.Faults.{fault_at}
+use Rattle.someip_wire.specs.Faults.{fault_at, fault_place}
 
 -- how the rest behind the last message ends the datagram: without a fault nothing is left, and a fault is
 -- that of a rest which is not empty
@@ -27,3 +27,9 @@ abbrev pub items : List MessageValue → Option WireError → List (Result Messa
 items [] None = []
 items [] (Some fault) = Err fault ∷ []
 items (m ∷ messages) end = Ok m ∷ items messages end
+
+-- an item lies within a datagram of n bytes: the header and the payload of a message have n bytes at most, and a
+-- fault is at most at its end
+abbrev pub LiesWithin : ℕ → Result MessageValue WireError → Type 0
+LiesWithin n (Ok m) = 16 + length m.payload ≤ n
+LiesWithin n (Err fault) = fault_place fault ≤ n

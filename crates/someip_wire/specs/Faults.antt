@@ -1,5 +1,5 @@
 -- The fault of bytes that begin with no message.
-use Rattle.std.specs.Prelude.{ℕ, ◌+◌, List, length, slice_index, slice_range, Option, Some, None, is_none, nat_lt, ◌==◌, not, if◌then◌else◌}
+use Rattle.std.specs.Prelude.{ℕ, ◌+◌, List, codes, length, slice_index, slice_range, Option, Some, None, is_none, nat_lt, ◌==◌, not, if◌then◌else◌}
 use Rattle.std.specs.Int.{w32, from_be_bytes}
 use Rattle.someip_wire.specs.declared.error.WireError.{WireError}
 use Rattle.someip_wire.specs.declared.error.WireError.TheVariants.{Truncated, LengthTooSmall, WrongProtocolVersion, UnknownMessageType}
@@ -18,3 +18,17 @@ fault_at p bytes =
     else (if is_none (kind_of (slice_index bytes 14)) then Some (UnknownMessageType (p + 14))
     else (if nat_lt (length bytes) (length_field bytes + 8) then Some (Truncated (p + length bytes))
     else None))))
+
+-- the name of a fault
+abbrev pub fault_name : WireError → List ℕ
+fault_name (Truncated place) = codes "Truncated"
+fault_name (LengthTooSmall place) = codes "LengthTooSmall"
+fault_name (WrongProtocolVersion place) = codes "WrongProtocolVersion"
+fault_name (UnknownMessageType place) = codes "UnknownMessageType"
+
+-- the place of a fault in its datagram
+abbrev pub fault_place : WireError → ℕ
+fault_place (Truncated place) = place
+fault_place (LengthTooSmall place) = place
+fault_place (WrongProtocolVersion place) = place
+fault_place (UnknownMessageType place) = place

@@ -49,3 +49,16 @@ with_tp_flag TpRequestNoReturn = TpRequestNoReturn
 with_tp_flag TpNotification = TpNotification
 with_tp_flag TpResponse = TpResponse
 with_tp_flag TpError = TpError
+
+-- the same type with the TP flag cleared: that of the whole message
+abbrev pub without_tp_flag : MessageType → MessageType
+without_tp_flag Request = Request
+without_tp_flag RequestNoReturn = RequestNoReturn
+without_tp_flag Notification = Notification
+without_tp_flag Response = Response
+without_tp_flag Error = Error
+without_tp_flag TpRequest = Request
+without_tp_flag TpRequestNoReturn = RequestNoReturn
+without_tp_flag TpNotification = Notification
+without_tp_flag TpResponse = Response
+without_tp_flag TpError = Error

@@ -30,10 +30,11 @@ impl<'a> Model for Messages<'a> {
 }
 
 impl<'a> Messages<'a> {
-    ghost use Rattle.std.specs.Prelude.{List, Option};
+    ghost use Rattle.std.specs.Prelude.{List, Option, length};
+    ghost use Rattle.std.specs.List.{AllByRecursion};
     ghost use Rattle.someip_wire.specs.declared.error.WireError.{WireError};
     ghost use Rattle.someip_wire.specs.Spelling.{MessageValue};
-    ghost use Rattle.someip_wire.specs.Datagram.{Datagram, items};
+    ghost use Rattle.someip_wire.specs.Datagram.{Datagram, LiesWithin, items};
     ghost use Rattle.someip_wire.specs.Reading.{items_of};
 
     /// The messages of this datagram, and its end.
@@ -46,6 +47,8 @@ impl<'a> Messages<'a> {
             → Datagram messages end datagram.now → result ≡ items messages end }
         // They are those that the plain program reads.
         ensures read { result ≡ items_of datagram.now }
+        // No payload is longer than the datagram, less the 16 bytes of a header.
+        ensures within { AllByRecursion (LiesWithin (length datagram.now)) result }
     {
         Messages { datagram, place: 0 }
     }

@@ -1,4 +1,6 @@
 //! Why bytes are no message.
+ghost use Rattle.std.specs.Prelude.{◌≡◌};
+ghost use Rattle.someip_wire.specs.Faults.{fault_name, fault_place};
 
 use thiserror::Error;
 
@@ -6,7 +8,7 @@ use thiserror::Error;
 /// datagram's first one. Printed, it is the name and the place, as in `Truncated at 47`.
 ///
 /// The faults of one message are judged in this order: fewer than 16 bytes, the Length field, the
-/// Protocol Version, the Message Type, a payload that passes the datagram's end.
+/// Protocol Version, the Message Type, a payload that goes past the datagram's end.
 #[derive(Clone, Copy, Debug, PartialEq, Eq, Error)]
 pub enum WireError {
     /// The datagram ends before the header or the payload does. The place is the datagram's end.
@@ -21,4 +23,30 @@ pub enum WireError {
     /// The Message Type is none of the ten. That byte's place.
     #[error("UnknownMessageType at {0}")]
     UnknownMessageType(usize),
+}
+
+impl WireError {
+    /// The name, as it is printed: `Truncated`.
+    pub fn name(&self) -> &'static str
+        ensures { result.now ≡ fault_name self.now }
+    {
+        match self {
+            WireError::Truncated(_) => "Truncated",
+            WireError::LengthTooSmall(_) => "LengthTooSmall",
+            WireError::WrongProtocolVersion(_) => "WrongProtocolVersion",
+            WireError::UnknownMessageType(_) => "UnknownMessageType",
+        }
+    }
+
+    /// The place: a number of bytes from the datagram's first one.
+    pub fn place(&self) -> usize
+        ensures { result ≡ fault_place self.now }
+    {
+        match self {
+            WireError::Truncated(place)
+            | WireError::LengthTooSmall(place)
+            | WireError::WrongProtocolVersion(place)
+            | WireError::UnknownMessageType(place) => *place,
+        }
+    }
 }

@@ -1,6 +1,6 @@
 //! The header of a message (SOME/IP Protocol, "Header").
 ghost use Rattle.std.specs.Prelude.{◌≡◌};
-ghost use Rattle.someip_wire.specs.Kinds.{kind_of, has_tp_flag, with_tp_flag};
+ghost use Rattle.someip_wire.specs.Kinds.{kind_of, has_tp_flag, with_tp_flag, without_tp_flag};
 
 /// What a message is for (SOME/IP Protocol, "Message Type"). The five with `Tp` have the TP flag,
 /// hex 20: they are segments of such a message.
@@ -47,7 +47,7 @@ impl MessageType {
         }
     }
 
-    /// The type with the TP flag set.
+    /// The type with the TP flag set: that of the segments of such a message.
     pub fn with_tp_flag(self) -> MessageType
         ensures { result ≡ with_tp_flag self }
     {
@@ -59,6 +59,22 @@ impl MessageType {
             MessageType::Notification | MessageType::TpNotification => MessageType::TpNotification,
             MessageType::Response | MessageType::TpResponse => MessageType::TpResponse,
             MessageType::Error | MessageType::TpError => MessageType::TpError,
+        }
+    }
+
+    /// The type with the TP flag cleared: that of the whole message, with which it goes on once its
+    /// segments are put together.
+    pub fn without_tp_flag(self) -> MessageType
+        ensures { result ≡ without_tp_flag self }
+    {
+        match self {
+            MessageType::Request | MessageType::TpRequest => MessageType::Request,
+            MessageType::RequestNoReturn | MessageType::TpRequestNoReturn => {
+                MessageType::RequestNoReturn
+            }
+            MessageType::Notification | MessageType::TpNotification => MessageType::Notification,
+            MessageType::Response | MessageType::TpResponse => MessageType::Response,
+            MessageType::Error | MessageType::TpError => MessageType::Error,
         }
     }
 }

@@ -5,7 +5,8 @@
 //! - [`Header`], [`MessageType`], [`ReturnCode`]: the 16 bytes in front of a payload;
 //! - [`Message`] and [`read_message`]: the message that bytes begin with;
 //! - [`Messages`]: all messages of a datagram, one after the other, and its end;
-//! - [`written_len`] and [`write_message`]: the bytes of a message;
+//! - [`written_len`] and [`write_message`]: the bytes of a message; [`header_bytes`]: those of its
+//!   header alone;
 //! - [`laws`]: what the definitions behind the contracts promise, whatever code reads them.
 #![tactic(auto)]
 
@@ -20,7 +21,7 @@ pub use datagram::Messages;
 pub use error::WireError;
 pub use header::{Header, MessageType, ReturnCode};
 pub use message::{Message, read_message};
-pub use writing::{write_message, written_len};
+pub use writing::{header_bytes, write_message, written_len};
 
 #[cfg(test)]
 mod tests;

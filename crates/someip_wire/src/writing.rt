@@ -32,6 +32,16 @@ pub fn write_message(message: &Message<'_>, out: &mut [u8]) -> usize
     size
 }
 
+/// The 16 bytes that stand in front of a payload of so many bytes, which may be kept in pieces.
+pub fn header_bytes(header: &Header, payload_len: u32) -> [u8; 16]
+    requires { 8 + payload_len < 2 ^ 32 }
+    ensures { result ≡ header_bytes header.now payload_len }
+{
+    let mut bytes = [0; HEADER_LEN];
+    write_header(header, payload_len, &mut bytes);
+    bytes
+}
+
 /// Writes the header of a message with so many bytes of payload to the front of the bytes.
 fn write_header(header: &Header, payload_len: u32, out: &mut [u8])
     requires fits { 8 + payload_len < 2 ^ 32 }

@@ -22,17 +22,14 @@ type Step<'a> = (TpCall<'a>, TpAnswer);
 
 /// The key of a response with this Session ID.
 fn key(session: u16) -> ReassemblyKey {
-    ReassemblyKey {
-        source: SocketAddrV4::new(Ipv4Addr::new(192, 168, 0, 1), 30509),
-        destination: SocketAddrV4::new(Ipv4Addr::new(192, 168, 0, 2), 40000),
-        service: 0x1234,
-        method: 0x0421,
-        client: 1,
-        session,
-        interface: 1,
-        kind: MessageType::TpResponse,
-        code: ReturnCode::E_OK,
-    }
+    let mut header = HEADER;
+    header.kind = MessageType::TpResponse;
+    header.session = session;
+    ReassemblyKey::new(
+        SocketAddrV4::new(Ipv4Addr::new(192, 168, 0, 1), 30509),
+        SocketAddrV4::new(Ipv4Addr::new(192, 168, 0, 2), 40000),
+        &header,
+    )
 }
 
 /// The offer of a segment.
@@ -298,8 +295,7 @@ fn offers_of<'a>(alloc: Global, payload: &'a [u8]) -> Result<Vec<Step<'a>>, Allo
     };
     if payload.len() < 2 * MIB {
         for segment in Segments::new(&message) {
-            let offset = segment.word - segment.word % 16;
-            let call = offer(key(1), offset, segment.word % 2 == 1, segment.slice, 0);
+            let call = offer(key(1), segment.offset, segment.more, segment.slice, 0);
             steps.push((call, PART))?;
         }
     }

@@ -1,10 +1,9 @@
-use Rattle.std.proofs.Common.{arith, sym}
-use Rattle.std.proofs.lemmas.List.{length-take}
-use Rattle.someip_tp.proofs.SegmentsLemmas.{segment_at-last}
+use Rattle.std.proofs.Common.{ap, nat_lt, length, List, ℕ}
+use Rattle.someip_tp.specs.Segments.{SegmentValue}
+use Rattle.someip_tp.proofs.SegmentsLemmas.{slice_is}
 use Rattle.someip_tp.proofs.segments.segment_of.Goals as goal
 
-pub slice_bounds-slice-end : goal.slice_bounds-slice-end
-slice_bounds-slice-end c = omega (arith, length-take 1392 c.args.rest.now, c.if-rest-gt-SLICE_LEN.true)
-
 pub returns : goal.returns
-returns c = sym (segment_at-last c.args.header c.args.offset c.args.rest.now (omega (arith, c.if-rest-gt-SLICE_LEN.false)))
+returns c =
+    let at : List ℕ → SegmentValue = λ slice. record { header = c.args.header; offset = c.args.offset; more = nat_lt 1392 (length c.args.rest.now); slice = slice } in
+    ap at (slice_is c.args.rest.now c.min-len.result c.min-len.ensures)

@@ -1,6 +1,7 @@
-use Rattle.std.proofs.Common.{ap, ◌∙◌}
-use Rattle.someip_tp.specs.Parts.{Limits, parts_at}
+use Rattle.std.proofs.Common.{sym, ap, subst, ◌∙◌}
+use Rattle.someip_tp.specs.Parts.{Limits, NoneAfter, parts_at}
 use Rattle.someip_tp.specs.Stores.{parts_in}
+use Rattle.someip_tp.proofs.MomentLemmas.{none_after-parts_at}
 use Rattle.someip_tp.proofs.StoreLemmas.{left_distinct, left_parts}
 use Rattle.someip_tp.proofs.segment_list.SegmentListReassembly.expire.Goals as goal
 
@@ -11,3 +12,6 @@ pub returns-clause-parts : goal.returns-clause-parts
 returns-clause-parts c =
     let limits : Limits = record { slots = c.self.inside.slots; limit = c.self.inside.limit; timeout = c.self.inside.timeout } in
     ap parts_in c.drop_gone.ensures ∙ (left_parts limits c.args.now c.self.inside.partials.items c.self.invariant ∙ ap (λ s. parts_at s.limits c.args.now s.parts) c.self.view_is)
+
+pub returns-clause-moments : goal.returns-clause-moments
+returns-clause-moments c = λ at none. subst (NoneAfter at) (sym (returns-clause-parts c)) (none_after-parts_at at c.args.self.now.limits c.args.now c.args.self.now.parts none)

@@ -1,0 +1,76 @@
+//! The bytes of messages, segments and pieces, appended to a vector.
+ghost use Rattle.std.specs.Prelude.{◌≡◌, ◌<◌, ◌+◌, ◌^◌, ◌++◌, length, OnOk, OnErr};
+ghost use Rattle.someip_wire.specs.Spelling.{spelling};
+ghost use Rattle.someip_wire.specs.View.{view};
+ghost use Rattle.someip_tp.specs.Segments.{view_segment, segment_message};
+ghost use Rattle.someip_tp.specs.Sent.{view_piece, piece_message};
+
+use crate::segment::Segment;
+use crate::sent::SentPiece;
+use someip_wire::{Header, Message, header_bytes};
+use std::alloc::AllocError;
+
+/// The bytes of a header.
+const HEADER_LEN: usize = 16;
+
+/// Appends the bytes of a message.
+///
+/// The only error is that memory ran out, which leaves the vector as it was.
+pub fn append_message(message: &Message<'_>, out: &mut Vec<u8>) -> Result<(), AllocError>
+    requires { 8 + length message.now.payload.now < 2 ^ 32 }
+    ensures ok { OnOk result (out.new.items ≡ out.old.items ++ spelling (view message.now)) }
+    ensures err { OnErr result (out.new.items ≡ out.old.items) }
+{
+    append_parts(&message.header, &[], message.payload, out)
+}
+
+/// Appends the bytes of a segment: its header with its Length, its word, and its slice.
+///
+/// The only error is that memory ran out, which leaves the vector as it was.
+pub fn append_segment(segment: &Segment<'_>, out: &mut Vec<u8>) -> Result<(), AllocError>
+    ensures ok { OnOk result (out.new.items
+        ≡ out.old.items ++ spelling (segment_message (view_segment segment.now))) }
+    ensures err { OnErr result (out.new.items ≡ out.old.items) }
+{
+    append_parts(
+        &segment.header,
+        &segment.word().to_be_bytes(),
+        segment.slice,
+        out,
+    )
+}
+
+/// Appends the bytes of a piece of a message, as they are sent.
+///
+/// The only error is that memory ran out, which leaves the vector as it was.
+pub fn append_piece(piece: &SentPiece<'_>, out: &mut Vec<u8>) -> Result<(), AllocError>
+    ensures ok { OnOk result (out.new.items
+        ≡ out.old.items ++ spelling (piece_message (view_piece piece.now))) }
+    ensures err { OnErr result (out.new.items ≡ out.old.items) }
+{
+    match piece {
+        SentPiece::Alone(short) => append_message(&short.message, out),
+        SentPiece::Segment(segment) => append_segment(segment, out),
+    }
+}
+
+/// Appends a header and a payload of two parts. All memory is taken first.
+fn append_parts(
+    header: &Header,
+    word: &[u8],
+    slice: &[u8],
+    out: &mut Vec<u8>,
+) -> Result<(), AllocError>
+    requires { 8 + (length word.now + length slice.now) < 2 ^ 32 }
+    ensures ok { OnOk result (out.new.items ≡ out.old.items
+        ++ spelling (record { header = header.now; payload = word.now ++ slice.now })) }
+    ensures err { OnErr result (out.new.items ≡ out.old.items) }
+{
+    let payload_len = word.len() + slice.len();
+    out.reserve(HEADER_LEN + payload_len)?;
+    out.extend_from_slice(&header_bytes(header, payload_len as u32))
+        .unwrap();
+    out.extend_from_slice(word).unwrap();
+    out.extend_from_slice(slice).unwrap();
+    Ok(())
+}
