@@ -12,4 +12,8 @@ pub mod PoolLemmas
 pub mod PackLemmas
 pub mod WriteLemmas
 pub mod SplitLemmas
+pub mod EndpointLemmas
+pub mod EncodingLemmas
+pub mod FrontLemmas
+pub mod AloneLemmas
 pub mod PlaceLemmas

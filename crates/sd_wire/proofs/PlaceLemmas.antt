@@ -1,7 +1,7 @@
 -- The place of a fault is not behind the end of the bytes.
-use Rattle.std.proofs.Common.{◌≡◌, ℕ, zero, suc, ◌+◌, ◌-◌, ◌*◌, ◌/◌, ◌%◌, ◌<◌, ◌≤◌, Bool, true, false, cond, not, ◌==◌, nat_lt, if◌then◌else◌, List, [], ◌∷◌, length, drop, slice_index, Option, None, Some, Result, Ok, Err, IfErr, refl, sym, ap, subst, ◌∙◌, arith}
+use Rattle.std.proofs.Common.{◌≡◌, ℕ, zero, suc, ◌+◌, ◌*◌, ◌/◌, ◌≤◌, Bool, true, false, nat_lt, if◌then◌else◌, List, [], ◌∷◌, length, drop, slice_index, Option, None, Some, Result, Ok, Err, IfOk, IfErr, refl, ap, arith}
 use Rattle.std.proofs.lemmas.Bool.Decides.{nat_tests}
-use Rattle.std.proofs.lemmas.List.{length-drop}
+use Rattle.std.proofs.lemmas.List.{length-drop, length-map}
 use Rattle.sd_wire.specs.declared.error.SdError.{SdError}
 use Rattle.sd_wire.specs.declared.error.SdError.TheVariants as errors
 use Rattle.sd_wire.specs.declared.error.SdError.TheVariants.{Truncated, EntriesLength, UnknownEntryType, OptionLength, TrailingBytes}
@@ -9,9 +9,9 @@ use Rattle.sd_wire.specs.declared.option.SdOption.{SdOption}
 use Rattle.sd_wire.specs.declared.message.SdRead.{SdRead}
 use Rattle.sd_wire.specs.Faults.{fault_place, header_fault, is_entry_type, option_size}
 use Rattle.sd_wire.specs.Layout.{entries_len, options_place, options_end, entries_in, options_in}
-use Rattle.sd_wire.specs.Values.{SdValue, view_sd}
+use Rattle.sd_wire.specs.Values.{SdValue, view_read, view_sd}
 use Rattle.sd_wire.specs.Steps.{Gives}
-use Rattle.sd_wire.specs.Program.{type_fault, option_in, and_then, options_after, options_within, options_from, value_by, unless, reading, HasOption}
+use Rattle.sd_wire.specs.Program.{type_fault, entry_list, value_in, option_in, and_then, options_after, options_within, options_from, value_by, unless, reading}
 use Rattle.sd_wire.proofs.OptionLemmas.{has_option}
 
 -- the place of a fault that there is
@@ -48,6 +48,26 @@ header_within bytes = judged_within (length bytes) (options_end bytes) _ _ _ _ _
 
 room_of : (bytes : List ℕ) → header_fault bytes ≡ None → options_place bytes ≤ length bytes
 room_of bytes none = judged_none (length bytes) (options_end bytes) (options_place bytes) _ _ _ _ _ refl none
+
+-- ---- how many entries there are
+
+length-entry_list : (n : ℕ) (pool : List SdOption) (bytes : List ℕ) → length (entry_list n pool bytes) ≡ n
+length-entry_list zero pool bytes = refl
+length-entry_list (suc n) pool bytes = ap suc (length-entry_list n pool (drop 16 bytes))
+
+few_read : (bytes : List ℕ) (v : SdValue) (header types : Option SdError) (pool : Result (List SdOption) SdError) → header_fault bytes ≡ header → unless header (unless types (value_by bytes pool)) ≡ Ok v → 16 * length v.entries ≤ length bytes
+few_read bytes v (Some e) types pool is same = absurd (cc)
+few_read bytes v None (Some e) pool is same = absurd (cc)
+few_read bytes v None None (Err e) is same = absurd (cc)
+few_read bytes v None None (Ok pool) is same =
+    let value : v ≡ value_in bytes pool = cc in
+    let n : ℕ = entries_len bytes / 16 in
+    omega (arith, ap (λ x. length x.entries) value, length-entry_list n pool (entries_in bytes), room_of bytes is)
+
+-- each entry that is read has 16 bytes
+pub few : (bytes : List ℕ) (r : Result SdRead SdError) → Gives view_sd r (reading bytes) → IfOk r (λ read. 16 * length read.entries.items ≤ length bytes)
+few bytes (Ok read) is = rw (← length-map read.entries.items view_read) (few_read bytes (view_sd read) (header_fault bytes) _ _ refl is)
+few bytes (Err e) is = tt
 
 -- ---- the entries
 

@@ -23,7 +23,7 @@ pool_bytes-append (o ∷ pool) more = ap (λ (t : List ℕ). option_bytes 0 0 o 
 
 -- ---- how long packed entries are
 
-entry_length : (runs : Runs) (head : EntryHead) → length (entry_bytes 0 runs head) ≡ 16
+pub entry_length : (runs : Runs) (head : EntryHead) → length (entry_bytes 0 runs head) ≡ 16
 entry_length runs (Service e) = refl
 entry_length runs (Eventgroup e) = refl
 
@@ -32,13 +32,13 @@ packs-length pool [] text after h = ap length h.0
 packs-length pool (e ∷ entries) text after h =
     omega (arith, ap length h.4, length-append (entry_bytes 0 h.0 e.head) h.2, entry_length h.0 e.head, packs-length h.1 entries h.2 after h.5)
 
-sd_length : (f : ℕ) (entries options : List ℕ) → length (sd_bytes f 0 0 0 entries options) ≡ 12 + length entries + length options
+pub sd_length : (f : ℕ) (entries options : List ℕ) → length (sd_bytes f 0 0 0 entries options) ≡ 12 + length entries + length options
 sd_length f entries options =
     let tail : List ℕ = number32 (length options) ++ options in
     omega (arith, length-append entries tail)
 
 -- a message of packed entries fits
-packed_fits : (entries : List EntryValue) (text : List ℕ) (pool : Pool) → Packs [] entries text pool → 12 + length text + length (pool_bytes pool) ≤ 1400 → FitsDatagram entries
+pub packed_fits : (entries : List EntryValue) (text : List ℕ) (pool : Pool) → Packs [] entries text pool → 12 + length text + length (pool_bytes pool) ≤ 1400 → FitsDatagram entries
 packed_fits entries text pool packs le =
     let m = message_of entries in
     let whole : List ℕ = sd_bytes (flags_byte m.flags) 0 0 0 text (pool_bytes pool) in

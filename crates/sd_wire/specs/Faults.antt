@@ -1,5 +1,5 @@
 -- The first fault of bytes that hold no message: the six cases in the order in which they are judged.
-use Rattle.std.specs.Prelude.{◌≡◌, ◌⊎◌, ℕ, ◌+◌, ◌*◌, ◌/◌, ◌%◌, ◌<◌, Bool, true, false, nat_lt, ◌==◌, ◌||◌, not, if◌then◌else◌, List, ◌++◌, length, slice_index, Option, Some, None}
+use Rattle.std.specs.Prelude.{◌≡◌, ◌⊎◌, ℕ, ◌+◌, ◌*◌, ◌/◌, ◌%◌, ◌<◌, Bool, true, false, nat_lt, ◌==◌, ◌||◌, not, if◌then◌else◌, List, ◌++◌, length, slice_index, Option, Some, None, codes}
 use Rattle.sd_wire.specs.declared.error.SdError.{SdError}
 use Rattle.sd_wire.specs.declared.error.SdError.TheVariants as errors
 use Rattle.sd_wire.specs.declared.error.SdError.TheVariants.{Truncated, EntriesLength, UnknownEntryType, OptionLength, TrailingBytes}
@@ -65,6 +65,16 @@ SdFault e bytes =
 abbrev pub IsFirstFault : SdError → List ℕ → Type 0
 IsFirstFault errors.OutOfMemory bytes = Unit {0}
 IsFirstFault e bytes = SdFault e bytes
+
+-- the name of a fault
+abbrev pub fault_name : SdError → List ℕ
+fault_name (errors.Truncated place) = codes "Truncated"
+fault_name (errors.EntriesLength place) = codes "EntriesLength"
+fault_name (errors.UnknownEntryType place) = codes "UnknownEntryType"
+fault_name (errors.OptionLength place) = codes "OptionLength"
+fault_name (errors.TooManyOptions place) = codes "TooManyOptions"
+fault_name (errors.TrailingBytes place) = codes "TrailingBytes"
+fault_name errors.OutOfMemory = codes "OutOfMemory"
 
 -- the place of a fault in the bytes
 abbrev pub fault_place : SdError → ℕ

@@ -1,6 +1,8 @@
 pub mod Raw
 pub mod Fields
 pub mod Values
+pub mod Kinds
+pub mod Endpoints
 pub mod Spelling
 pub mod Reading
 pub mod Layout
@@ -10,4 +12,6 @@ pub mod Steps
 pub mod Writing
 pub mod Written
 pub mod Splitting
+pub mod Encoding
+pub mod Fronts
 pub mod Examples

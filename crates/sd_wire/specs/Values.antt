@@ -41,4 +41,4 @@ abbrev pub view_sd : SdRead → SdValue
 view_sd r = record { flags = r.flags; entries = map view_read r.entries.items }
 
 abbrev pub view_message : SdMessage → MessageValue
-view_message m = record { flags = m.flags; entries = map view_entry m.entries.items }
+view_message m = record { flags = m.flags; entries = map view_entry m.entries.now }

@@ -41,3 +41,8 @@ abbrev pub IsGrown : List SdOption → EntryValue → Option ℕ → List SdOpti
 IsGrown pool e (Some bytes) after =
     ((runs : Runs) × PlacesEntry pool e runs after) × (bytes + length (pool_bytes pool) ≡ 16 + length (pool_bytes after))
 IsGrown pool e None after = IsRefused pool e
+
+-- the message has no bytes, unless memory ran out
+abbrev pub HasNoBytes : SdError → Option (List ℕ) → Type 0
+HasNoBytes errors.OutOfMemory bytes = Unit {0}
+HasNoBytes e bytes = bytes ≡ None

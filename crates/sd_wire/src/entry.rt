@@ -1,5 +1,6 @@
 //! Entries (SOME/IP Service Discovery, "Entry Format").
 ghost use Rattle.std.specs.Prelude.{◌≡◌, ◌<◌, ◌≤◌, ◌%◌, ◌↔◌, IsTrue, Some, None};
+ghost use Rattle.sd_wire.specs.Kinds.{is_find, is_offer, is_stop_offer, is_subscribe, is_stop_subscribe, is_ack, is_nack};
 ghost use Rattle.sd_wire.specs.declared.entry.ServiceKind.TheVariants.{Find, Offer};
 ghost use Rattle.sd_wire.specs.declared.entry.EventgroupKind.TheVariants.{Subscribe, Ack};
 
@@ -11,9 +12,9 @@ use std::marker::Model;
 ///
 /// Contracts see it as that number.
 #[derive(Clone, Copy, Debug, PartialEq, Eq, PartialOrd, Ord)]
-pub struct Counter(u8);
+pub struct SubscriptionCounter(u8);
 
-impl Model for Counter {
+impl Model for SubscriptionCounter {
     ghost use Rattle.std.specs.Prelude.{ℕ, ◌<◌};
 
     ghost Value = { ℕ };
@@ -25,24 +26,24 @@ impl Model for Counter {
     ghost inverse = { λ n. record { 0 = n } };
 }
 
-impl Counter {
+impl SubscriptionCounter {
     /// This number, if it fits four bits.
-    pub fn new(number: u8) -> Option<Counter>
+    pub fn new(number: u8) -> Option<SubscriptionCounter>
         ensures some { number < 16 → result ≡ Some number }
         ensures none { 16 ≤ number → result ≡ None }
     {
         if number < 16 {
-            Some(Counter(number))
+            Some(SubscriptionCounter(number))
         } else {
             None
         }
     }
 
     /// The counter in the lowest four bits of a field, whose other bits are reserved.
-    pub(crate) fn from_field(number: u16) -> Counter
+    pub(crate) fn from_field(number: u16) -> SubscriptionCounter
         ensures { result ≡ number % 16 }
     {
-        Counter((number % 16) as u8)
+        SubscriptionCounter((number % 16) as u8)
     }
 
     /// The number.
@@ -99,21 +100,24 @@ impl ServiceEntry {
 
     /// A Find, whatever its TTL is.
     pub fn is_find(&self) -> bool
-        ensures { IsTrue result ↔ (self.now.kind ≡ Find) }
+        ensures means { IsTrue result ↔ (self.now.kind ≡ Find) }
+        ensures exact { result ≡ is_find self.now }
     {
         self.kind == ServiceKind::Find
     }
 
     /// An Offer with a TTL above 0.
     pub fn is_offer(&self) -> bool
-        ensures { IsTrue result ↔ (self.now.kind ≡ Offer) × (0 < self.now.ttl) }
+        ensures means { IsTrue result ↔ (self.now.kind ≡ Offer) × (0 < self.now.ttl) }
+        ensures exact { result ≡ is_offer self.now }
     {
         self.kind == ServiceKind::Offer && !self.ttl.is_zero()
     }
 
     /// An Offer with TTL 0: the instance is no longer offered.
     pub fn is_stop_offer(&self) -> bool
-        ensures { IsTrue result ↔ (self.now.kind ≡ Offer) × (self.now.ttl ≡ 0) }
+        ensures means { IsTrue result ↔ (self.now.kind ≡ Offer) × (self.now.ttl ≡ 0) }
+        ensures exact { result ≡ is_stop_offer self.now }
     {
         self.kind == ServiceKind::Offer && self.ttl.is_zero()
     }
@@ -133,7 +137,7 @@ pub struct EventgroupEntry {
     /// How long the entry is valid.
     pub ttl: Ttl,
     /// Tells the beginnings of one client's subscription apart.
-    pub counter: Counter,
+    pub counter: SubscriptionCounter,
     /// Eventgroup ID.
     pub eventgroup: u16,
 }
@@ -141,28 +145,32 @@ pub struct EventgroupEntry {
 impl EventgroupEntry {
     /// A Subscribe with a TTL above 0.
     pub fn is_subscribe(&self) -> bool
-        ensures { IsTrue result ↔ (self.now.kind ≡ Subscribe) × (0 < self.now.ttl) }
+        ensures means { IsTrue result ↔ (self.now.kind ≡ Subscribe) × (0 < self.now.ttl) }
+        ensures exact { result ≡ is_subscribe self.now }
     {
         self.kind == EventgroupKind::Subscribe && !self.ttl.is_zero()
     }
 
     /// A Subscribe with TTL 0: the client no longer subscribes.
     pub fn is_stop_subscribe(&self) -> bool
-        ensures { IsTrue result ↔ (self.now.kind ≡ Subscribe) × (self.now.ttl ≡ 0) }
+        ensures means { IsTrue result ↔ (self.now.kind ≡ Subscribe) × (self.now.ttl ≡ 0) }
+        ensures exact { result ≡ is_stop_subscribe self.now }
     {
         self.kind == EventgroupKind::Subscribe && self.ttl.is_zero()
     }
 
     /// An Ack with a TTL above 0: the subscription is accepted.
     pub fn is_ack(&self) -> bool
-        ensures { IsTrue result ↔ (self.now.kind ≡ Ack) × (0 < self.now.ttl) }
+        ensures means { IsTrue result ↔ (self.now.kind ≡ Ack) × (0 < self.now.ttl) }
+        ensures exact { result ≡ is_ack self.now }
     {
         self.kind == EventgroupKind::Ack && !self.ttl.is_zero()
     }
 
     /// An Ack with TTL 0: the subscription is refused.
     pub fn is_nack(&self) -> bool
-        ensures { IsTrue result ↔ (self.now.kind ≡ Ack) × (self.now.ttl ≡ 0) }
+        ensures means { IsTrue result ↔ (self.now.kind ≡ Ack) × (self.now.ttl ≡ 0) }
+        ensures exact { result ≡ is_nack self.now }
     {
         self.kind == EventgroupKind::Ack && self.ttl.is_zero()
     }

@@ -8,7 +8,8 @@ ghost use Rattle.sd_wire.specs.Faults.{is_entry_type};
 ghost use Rattle.sd_wire.specs.Program.{type_fault, service_in, eventgroup_in, head_in, entry_in, entry_list};
 
 use crate::entry::{
-    Counter, Entry, EntryHead, EventgroupEntry, EventgroupKind, ServiceEntry, ServiceKind,
+    Entry, EntryHead, EventgroupEntry, EventgroupKind, ServiceEntry, ServiceKind,
+    SubscriptionCounter,
 };
 use crate::error::SdError;
 use crate::fields::{u16_at, u24_at, u32_at};
@@ -67,7 +68,7 @@ fn eventgroup(kind: EventgroupKind, bytes: &[u8]) -> EventgroupEntry
         instance: u16_at(bytes, 6),
         major: bytes[8],
         ttl: Ttl::from_field(u24_at(bytes, 9)),
-        counter: Counter::from_field(u16_at(bytes, 12)),
+        counter: SubscriptionCounter::from_field(u16_at(bytes, 12)),
         eventgroup: u16_at(bytes, 14),
     }
 }

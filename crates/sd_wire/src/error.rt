@@ -1,5 +1,6 @@
 //! Why a Service Discovery message is not read or not written.
 ghost use Rattle.std.specs.Prelude.{◌≡◌};
+ghost use Rattle.sd_wire.specs.Faults.{fault_name, fault_place};
 ghost use Rattle.sd_wire.specs.declared.error.SdError.TheVariants.{OutOfMemory};
 
 use std::alloc::{AllocError, AllocFailed};
@@ -7,8 +8,8 @@ use thiserror::Error;
 
 /// Why a Service Discovery message is not read or not written. The place of a fault of bytes is a
 /// number of bytes from the first of the message; printed, it is the name and the place, as in
-/// `Truncated at 47`.
-#[derive(Debug, Drop, Error, PartialEq, Eq)]
+/// `Truncated at 47`. A refused entry is told by its number, as in `TooManyOptions in entry 18`.
+#[derive(Clone, Copy, Debug, Error, PartialEq, Eq)]
 pub enum SdError {
     /// The bytes end before the flags, the entries or the options do. The place is their end.
     #[error("Truncated at {0}")]
@@ -25,7 +26,7 @@ pub enum SdError {
     OptionLength(usize),
     /// A run of more than 15 options, or one that would stand at an index above 255. The place is
     /// the number of its entry, counted from 0.
-    #[error("TooManyOptions at {0}")]
+    #[error("TooManyOptions in entry {0}")]
     TooManyOptions(usize),
     /// Bytes stand behind the options. The place of the first.
     #[error("TrailingBytes at {0}")]
@@ -33,6 +34,39 @@ pub enum SdError {
     /// Memory ran out.
     #[error("out of memory")]
     OutOfMemory,
+}
+
+impl SdError {
+    /// The name of the variant, as it is printed.
+    pub fn name(&self) -> &'static str
+        ensures { result.now ≡ fault_name self.now }
+    {
+        match self {
+            SdError::Truncated(_) => "Truncated",
+            SdError::EntriesLength(_) => "EntriesLength",
+            SdError::UnknownEntryType(_) => "UnknownEntryType",
+            SdError::OptionLength(_) => "OptionLength",
+            SdError::TooManyOptions(_) => "TooManyOptions",
+            SdError::TrailingBytes(_) => "TrailingBytes",
+            SdError::OutOfMemory => "OutOfMemory",
+        }
+    }
+
+    /// The place in bytes, of `TooManyOptions` the number of the entry. `OutOfMemory` has none, for
+    /// which 0 stands.
+    pub fn place(&self) -> usize
+        ensures { result ≡ fault_place self.now }
+    {
+        match self {
+            SdError::Truncated(place)
+            | SdError::EntriesLength(place)
+            | SdError::UnknownEntryType(place)
+            | SdError::OptionLength(place)
+            | SdError::TooManyOptions(place)
+            | SdError::TrailingBytes(place) => *place,
+            SdError::OutOfMemory => 0,
+        }
+    }
 }
 
 impl From<AllocError> for SdError {

@@ -1,5 +1,5 @@
 //! The flags of a Service Discovery message (SOME/IP Service Discovery, "SOME/IP-SD Header").
-ghost use Rattle.std.specs.Prelude.{◌≡◌};
+ghost use Rattle.std.specs.Prelude.{◌≡◌, [], ◌∷◌, map, codes};
 ghost use Rattle.sd_wire.specs.Fields.{flags_byte, flags_in};
 
 use bitflags::{Flag, Flags};
@@ -67,7 +67,11 @@ impl SdFlags {
 impl Flags for SdFlags {
     type Bits = u8;
 
-    fn flags<'a>() -> &'a [Flag<SdFlags>] {
+    fn flags<'a>() -> &'a [Flag<SdFlags>]
+        ensures names { map (λ f. f.name.now) result.now
+            ≡ codes "REBOOT" ∷ codes "UNICAST" ∷ [] }
+        ensures values { map (λ f. flags_byte f.value) result.now ≡ 0x80 ∷ 0x40 ∷ [] }
+    {
         SdFlags::FLAGS
     }
 

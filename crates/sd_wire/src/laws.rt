@@ -1,15 +1,23 @@
 //! Laws of the definitions behind the contracts. Each is the contract of a function that does
 //! nothing: it says what holds of messages and bytes, whatever code reads and writes them.
-ghost use Rattle.std.specs.Prelude.{◌≡◌, ◌⊎◌, ◌↔◌, ℕ, List, ◌++◌, None};
+ghost use Rattle.std.specs.Prelude.{◌≡◌, ◌⊎◌, ◌↔◌, ◌<◌, ◌≤◌, ◌^◌, ℕ, List, [], ◌∷◌, ◌++◌, length, true, Some, None};
 ghost use Rattle.std.specs.List.{AllByRecursion};
 ghost use Rattle.sd_wire.specs.declared.error.SdError.{SdError};
 ghost use Rattle.sd_wire.specs.declared.option.SdOption.{SdOption};
-ghost use Rattle.sd_wire.specs.Fields.{IsBytes};
-ghost use Rattle.sd_wire.specs.Values.{SdValue, MessageValue};
+ghost use Rattle.sd_wire.specs.declared.flags.SdFlags.{SdFlags};
+ghost use Rattle.sd_wire.specs.Fields.{IsBytes, flags_byte};
+ghost use Rattle.sd_wire.specs.Values.{EntryValue, SdValue, MessageValue};
 ghost use Rattle.sd_wire.specs.Reading.{SpellsOption, Sd};
 ghost use Rattle.sd_wire.specs.Faults.{option_size, SdFault};
 ghost use Rattle.sd_wire.specs.Writing.{EntryFits, WritesSd, TooMany, as_read};
+ghost use Rattle.sd_wire.specs.Splitting.{FitsDatagram, AreFronts};
+ghost use Rattle.sd_wire.specs.Encoding.{same_option, message_bytes};
+ghost use Rattle.sd_wire.specs.Fronts.{fits_datagram, front_lengths, fronts_of, HasOneEndpointAtMost, IsShortEntry};
 ghost use Rattle.sd_wire.specs.Examples.{bytes_from, read_offer, read_bad, two_offers, shared_text, anew_text};
+
+use crate::endpoint::Protocol;
+use crate::entry::ServiceEntry;
+use crate::flags::SdFlags;
 
 /// Bytes hold one message, or they have a fault, and not both.
 pub fn bytes_hold_one_message_or_a_fault()
@@ -43,6 +51,64 @@ pub fn a_message_has_one_text()
 pub fn what_is_written_is_read()
     ensures { (m : MessageValue) (text : List ℕ) → AllByRecursion EntryFits m.entries
         → WritesSd m text → Sd (as_read m) text }
+{}
+
+/// A message has the bytes of the function `message_bytes` exactly where it has a text, and none
+/// exactly where an entry is refused.
+pub fn a_message_has_its_bytes()
+    ensures some { (m : MessageValue) (text : List ℕ) → WritesSd m text
+        → message_bytes m ≡ Some text }
+    ensures text { (m : MessageValue) (text : List ℕ) → message_bytes m ≡ Some text
+        → length text < 2 ^ 32 → WritesSd m text }
+    ensures none { (m : MessageValue) (number : ℕ) → TooMany m.entries number
+        → message_bytes m ≡ None }
+    ensures refused { (m : MessageValue) → message_bytes m ≡ None
+        → (number : ℕ) × TooMany m.entries number }
+{}
+
+/// Entries that fit a datagram are the test `fits_datagram`, and the function `front_lengths` gives
+/// their longest fronts.
+pub fn entries_have_their_fronts()
+    ensures fits { (entries : List EntryValue) → FitsDatagram entries
+        ↔ (fits_datagram entries ≡ true) }
+    ensures fronts { (entries : List EntryValue) (lengths : List ℕ) → AreFronts entries lengths
+        ↔ (lengths ≡ front_lengths entries) }
+{}
+
+/// Entries that fit a datagram fit it under any flags.
+pub fn a_front_fits_under_any_flags()
+    ensures { (flags : SdFlags) (entries : List EntryValue) → FitsDatagram entries
+        → (text : List ℕ) × WritesSd (record { flags = flags; entries = entries }) text
+        × (length text ≤ 1400) }
+{}
+
+/// An entry with few options, or with no option but one endpoint, fits a datagram alone; so all
+/// fronts of such entries fit, and writing one of them fails for want of memory alone.
+pub fn small_entries_fit_alone()
+    ensures short { (e : EntryValue) → IsShortEntry e → FitsDatagram (e ∷ []) }
+    ensures endpoint { (e : EntryValue) → HasOneEndpointAtMost e → FitsDatagram (e ∷ []) }
+    ensures alone { (entries : List EntryValue) (lengths : List ℕ)
+        → AllByRecursion (λ e. FitsDatagram (e ∷ [])) entries → AreFronts entries lengths
+        → AllByRecursion FitsDatagram (fronts_of lengths entries) }
+    ensures fronts { (entries : List EntryValue) (lengths : List ℕ)
+        → AllByRecursion HasOneEndpointAtMost entries → AreFronts entries lengths
+        → AllByRecursion FitsDatagram (fronts_of lengths entries) }
+{}
+
+/// Two options are the same where the numbers that they hold are.
+pub fn options_are_told_by_their_numbers()
+    ensures { (a b : SdOption) → (same_option a b ≡ true) ↔ (a ≡ b) }
+{}
+
+/// The constants of the standard.
+pub fn constants()
+    ensures any_instance { ServiceEntry.ANY_INSTANCE ≡ 0xffff }
+    ensures any_major { ServiceEntry.ANY_MAJOR ≡ 0xff }
+    ensures any_minor { ServiceEntry.ANY_MINOR ≡ 0xffff_ffff }
+    ensures tcp { Protocol.TCP ≡ record { 0 = 0x06 } }
+    ensures udp { Protocol.UDP ≡ record { 0 = 0x11 } }
+    ensures reboot { flags_byte SdFlags.REBOOT ≡ 0x80 }
+    ensures unicast { flags_byte SdFlags.UNICAST ≡ 0x40 }
 {}
 
 /// Examples: an Offer over one option, the same with a run that begins behind that option, and two

@@ -11,6 +11,7 @@
 
 mod endpoint;
 mod entry;
+mod entry_options;
 mod entry_reading;
 mod entry_writing;
 mod error;
@@ -30,7 +31,8 @@ mod writing;
 
 pub use endpoint::{Ipv4Endpoint, Ipv6Endpoint, Protocol};
 pub use entry::{
-    Counter, Entry, EntryHead, EventgroupEntry, EventgroupKind, ServiceEntry, ServiceKind,
+    Entry, EntryHead, EventgroupEntry, EventgroupKind, ServiceEntry, ServiceKind,
+    SubscriptionCounter,
 };
 pub use error::SdError;
 pub use flags::SdFlags;

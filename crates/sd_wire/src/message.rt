@@ -4,13 +4,13 @@
 use crate::entry::{Entry, EntryHead};
 use crate::flags::SdFlags;
 
-/// A message to write.
-#[derive(Debug, Drop, PartialEq, Eq)]
-pub struct SdMessage {
+/// A message to write. Its entries are lent, so that a front of them is a message without a copy.
+#[derive(Clone, Copy, Debug, PartialEq, Eq)]
+pub struct SdMessage<'a> {
     /// Reboot and Unicast.
     pub flags: SdFlags,
     /// The entries in order.
-    pub entries: Vec<Entry>,
+    pub entries: &'a [Entry],
 }
 
 /// An entry that was read.

@@ -1,5 +1,5 @@
 //! Messages from bytes (SOME/IP Service Discovery, "SOME/IP-SD Header").
-ghost use Rattle.std.specs.Prelude.{◌≡◌, ◌≤◌, ◌+◌, Some, None, Ok, Err, length, IfOk, IfErr, OnOk};
+ghost use Rattle.std.specs.Prelude.{◌≡◌, ◌≤◌, ◌+◌, ◌*◌, Some, None, Ok, Err, length, IfOk, IfErr, OnOk};
 ghost use Rattle.sd_wire.specs.declared.error.SdError.{SdError};
 ghost use Rattle.sd_wire.specs.Values.{SdValue, view_sd};
 ghost use Rattle.sd_wire.specs.Reading.{Sd};
@@ -35,6 +35,8 @@ pub fn read_sd(alloc: Global, bytes: &[u8]) -> Result<SdRead, SdError>
     ensures faulty { (e : SdError) → SdFault e bytes.now → Gives view_sd result (Err e) }
     // What is answered is what the plain program gives, unless memory runs out.
     ensures exact { Gives view_sd result (reading bytes.now) }
+    // Each entry has 16 bytes.
+    ensures few { IfOk result (λ read. 16 * length read.entries.items ≤ length bytes.now) }
     // Its place is not behind the end of the bytes.
     ensures places { IfErr result (λ e. fault_place e ≤ length bytes.now) }
     // It is none that only writing has.

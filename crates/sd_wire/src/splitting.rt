@@ -4,6 +4,7 @@ ghost use Rattle.sd_wire.specs.declared.error.SdError.TheVariants.{OutOfMemory};
 ghost use Rattle.sd_wire.specs.Values.{view_entry};
 ghost use Rattle.sd_wire.specs.Writing.{pool_bytes};
 ghost use Rattle.sd_wire.specs.Splitting.{IsLongestFront, AreFronts};
+ghost use Rattle.sd_wire.specs.Fronts.{front_lengths};
 ghost use Rattle.sd_wire.specs.Written.{IsGrown};
 
 use crate::entry::Entry;
@@ -25,8 +26,10 @@ const EMPTY_LEN: usize = 12;
 ///
 /// The work grows with the number of entries: each is placed in a pool once or twice.
 pub fn split_entries(alloc: Global, entries: &[Entry]) -> Result<Vec<usize>, SdError>
-    requires { length entries.now ≤ 65535 }
     ensures fronts { IfOk result (λ lengths. AreFronts (map view_entry entries.now) lengths.items) }
+    // They are those of the entries as a function of them.
+    ensures exact { IfOk result (λ lengths. lengths.items
+        ≡ front_lengths (map view_entry entries.now)) }
     // There are no others.
     ensures only { (lengths : List ℕ) → AreFronts (map view_entry entries.now) lengths
         → IfOk result (λ answer. answer.items ≡ lengths) }
@@ -37,7 +40,6 @@ pub fn split_entries(alloc: Global, entries: &[Entry]) -> Result<Vec<usize>, SdE
 
 /// The lengths of the longest fronts.
 fn split(alloc: Global, entries: &[Entry]) -> Result<Vec<usize>, SdError>
-    requires { length entries.now ≤ 65535 }
     ensures fronts { IfOk result (λ lengths. AreFronts (map view_entry entries.now) lengths.items) }
     ensures errors { IfErr result (λ e. e ≡ OutOfMemory) }
 {
@@ -46,7 +48,8 @@ fn split(alloc: Global, entries: &[Entry]) -> Result<Vec<usize>, SdError>
     while !rest.is_empty() {
         let length = front(alloc, rest)?;
         lengths.push(length)?;
-        rest = &rest[length..];
+        let (_, behind) = rest.split_at(length);
+        rest = behind;
     }
     Ok(lengths)
 }

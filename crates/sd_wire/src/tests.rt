@@ -2,9 +2,9 @@
 ghost use Rattle.std.specs.Prelude.{◌+◌, ◌<◌, ◌^◌};
 
 use crate::{
-    Counter, Entry, EntryHead, EventgroupEntry, EventgroupKind, Ipv4Endpoint, Ipv6Endpoint,
-    Protocol, RawOption, ReadEntry, SdError, SdFlags, SdMessage, SdOption, SdRead, ServiceEntry,
-    ServiceKind, Ttl, laws, read_sd, split_entries, write_sd,
+    Entry, EntryHead, EventgroupEntry, EventgroupKind, Ipv4Endpoint, Ipv6Endpoint, Protocol,
+    RawOption, ReadEntry, SdError, SdFlags, SdMessage, SdOption, SdRead, ServiceEntry, ServiceKind,
+    SubscriptionCounter, Ttl, laws, read_sd, split_entries, write_sd,
 };
 use bitflags::Flags;
 use std::alloc::{AllocError, Global};
@@ -45,8 +45,8 @@ fn ttl(seconds: u32) -> Ttl {
     Ttl::new(seconds).unwrap_or(Ttl::ZERO)
 }
 
-fn counter(number: u8) -> Option<Counter> {
-    Counter::new(number)
+fn counter(number: u16) -> SubscriptionCounter {
+    SubscriptionCounter::from_field(number)
 }
 
 fn service(kind: ServiceKind, seconds: u32, minor: u32) -> EntryHead {
@@ -60,16 +60,24 @@ fn service(kind: ServiceKind, seconds: u32, minor: u32) -> EntryHead {
     })
 }
 
-fn eventgroup(kind: EventgroupKind, seconds: u32, counter: Counter) -> EntryHead {
+fn offer() -> EntryHead {
+    service(ServiceKind::Offer, 3, 0)
+}
+
+fn eventgroup(kind: EventgroupKind, seconds: u32, number: u16) -> EntryHead {
     EntryHead::Eventgroup(EventgroupEntry {
         kind,
         service: 0x1111,
         instance: 1,
         major: 1,
         ttl: ttl(seconds),
-        counter,
+        counter: counter(number),
         eventgroup: 1,
     })
+}
+
+fn subscribe() -> EntryHead {
+    eventgroup(EventgroupKind::Subscribe, 3, 0)
 }
 
 /// An IPv4 UDP endpoint of 192.168.0.x.
@@ -80,8 +88,13 @@ fn endpoint(last: u8, port: u16) -> Ipv4Endpoint {
     }
 }
 
-fn entry(head: EntryHead, run1: Vec<SdOption>, run2: Vec<SdOption>) -> Entry {
-    Entry { head, run1, run2 }
+/// The address 2001:db8::1 with a port over TCP.
+fn endpoint6(port: u16) -> Ipv6Endpoint {
+    Ipv6Endpoint {
+        address: Ipv6Addr::new(0x2001, 0x0db8, 0, 0, 0, 0, 0, 1),
+        port,
+        protocol: Protocol::TCP,
+    }
 }
 
 fn one<T: Drop>(alloc: Global, item: T) -> Result<Vec<T>, AllocError> {
@@ -90,29 +103,90 @@ fn one<T: Drop>(alloc: Global, item: T) -> Result<Vec<T>, AllocError> {
     Ok(items)
 }
 
-/// Writes a message that is known to have few entries.
-fn write(alloc: Global, message: &SdMessage, out: &mut Vec<u8>) -> Result<(), SdError> {
-    if message.entries.len() > 65535 {
+/// An entry without options.
+fn bare(alloc: Global, head: EntryHead) -> Entry {
+    Entry {
+        head,
+        run1: Vec::new(alloc),
+        run2: Vec::new(alloc),
+    }
+}
+
+/// An entry with one option in its first run.
+fn with_option(alloc: Global, head: EntryHead, option: SdOption) -> Result<Entry, AllocError> {
+    let mut entry = bare(alloc, head);
+    entry.run1.push(option)?;
+    Ok(entry)
+}
+
+/// An entry with one option in each run.
+fn with_options(
+    alloc: Global,
+    head: EntryHead,
+    first: SdOption,
+    second: SdOption,
+) -> Result<Entry, AllocError> {
+    let mut entry = with_option(alloc, head, first)?;
+    entry.run2.push(second)?;
+    Ok(entry)
+}
+
+/// Writes entries that are known to be few.
+fn write(flags: SdFlags, entries: &[Entry], out: &mut Vec<u8>) -> Result<(), SdError> {
+    if entries.len() > 65535 {
         return Ok(());
     }
-    write_sd(alloc, message, out)
+    write_sd(&SdMessage { flags, entries }, out)
 }
 
-/// Splits entries that are known to be few.
-fn split(alloc: Global, entries: &[Entry]) -> Result<Vec<usize>, SdError> {
-    if entries.len() > 65535 {
-        return Ok(none(alloc));
-    }
-    split_entries(alloc, entries)
-}
-
-fn none<T: Drop>(alloc: Global) -> Vec<T> {
-    Vec::new(alloc)
-}
-
-fn read_one(alloc: Global, flags: SdFlags, entry: ReadEntry) -> Result<SdRead, AllocError> {
+/// What is read of a message with one entry.
+fn read_one(
+    alloc: Global,
+    flags: SdFlags,
+    entry: ReadEntry,
+) -> Result<Result<SdRead, SdError>, AllocError> {
     let entries = one(alloc, entry)?;
-    Ok(SdRead { flags, entries })
+    Ok(Ok(SdRead { flags, entries }))
+}
+
+/// What is read of a message with these entries.
+fn all_good(
+    alloc: Global,
+    flags: SdFlags,
+    entries: Vec<Entry>,
+) -> Result<Result<SdRead, SdError>, AllocError> {
+    let mut good = Vec::new(alloc);
+    for entry in entries {
+        good.push(ReadEntry::Good(entry))?;
+    }
+    Ok(Ok(SdRead {
+        flags,
+        entries: good,
+    }))
+}
+
+/// The entries are written behind what stands in a vector, and what is written is read as them.
+fn is_read(
+    rt: &impl Abort,
+    alloc: Global,
+    flags: SdFlags,
+    entries: Vec<Entry>,
+) -> Result<Vec<u8>, Fail> {
+    let mut out = one(alloc, 0xeeu8)?;
+    assert!(rt; write(flags, &entries, &mut out).is_ok());
+    assert!(rt; out.first() == Some(&0xee));
+    let bytes = Vec::from_slice(alloc, out.get(1..).unwrap_or(&[]))?;
+    let read = read_sd(alloc, &bytes);
+    let expected = all_good(alloc, flags, entries)?;
+    assert!(rt; read == expected);
+    Ok(bytes)
+}
+
+/// An entry is written as these bytes, and they are read as it.
+fn agrees(rt: &impl Abort, alloc: Global, entry: Entry, bytes: &[u8]) -> Result<(), Fail> {
+    let written = is_read(rt, alloc, FLAGS, one(alloc, entry)?)?;
+    assert!(rt; written.as_slice() == bytes);
+    Ok(())
 }
 
 #[test]
@@ -121,55 +195,24 @@ fn laws_hold() {
     laws::no_option_is_found_where_none_begins();
     laws::a_message_has_one_text();
     laws::what_is_written_is_read();
+    laws::a_message_has_its_bytes();
+    laws::entries_have_their_fronts();
+    laws::a_front_fits_under_any_flags();
+    laws::small_entries_fit_alone();
+    laws::options_are_told_by_their_numbers();
+    laws::constants();
     laws::worked_messages();
 }
 
 #[test]
 fn worked_messages(rt: HostRuntime) -> Result<(), Fail> {
     let alloc = rt.alloc();
-    let Some(zero) = counter(0) else {
-        return Ok(());
-    };
-    let offer = entry(
-        service(ServiceKind::Offer, 3, 0),
-        one(alloc, SdOption::Endpoint4(endpoint(1, 30509)))?,
-        none(alloc),
-    );
-    let subscribe = entry(
-        eventgroup(EventgroupKind::Subscribe, 3, zero),
-        one(alloc, SdOption::Endpoint4(endpoint(2, 40001)))?,
-        none(alloc),
-    );
-    let ack = entry(
-        eventgroup(EventgroupKind::Ack, 3, zero),
-        none(alloc),
-        none(alloc),
-    );
-    let rows = [
-        (OFFER.as_slice(), offer),
-        (SUBSCRIBE.as_slice(), subscribe),
-        (ACK.as_slice(), ack),
-    ];
-    for (bytes, entry) in rows {
-        let message = SdMessage {
-            flags: FLAGS,
-            entries: one(alloc, entry)?,
-        };
-        let mut out = one(alloc, 0xeeu8)?;
-        assert_eq!(rt; write(alloc, &message, &mut out), Ok(()));
-        assert_eq!(rt; out.first(), Some(&0xee));
-        assert_eq!(rt; &out[1..], bytes);
-        let mut entries = Vec::new(alloc);
-        for entry in message.entries {
-            entries.push(ReadEntry::Good(entry))?;
-        }
-        let read = SdRead {
-            flags: FLAGS,
-            entries,
-        };
-        assert_eq!(rt; read_sd(alloc, bytes), Ok(read));
-    }
-    Ok(())
+    let at = SdOption::Endpoint4(endpoint(1, 30509));
+    agrees(&rt, alloc, with_option(alloc, offer(), at)?, &OFFER)?;
+    let at = SdOption::Endpoint4(endpoint(2, 40001));
+    agrees(&rt, alloc, with_option(alloc, subscribe(), at)?, &SUBSCRIBE)?;
+    let ack = bare(alloc, eventgroup(EventgroupKind::Ack, 3, 0));
+    agrees(&rt, alloc, ack, &ACK)
 }
 
 /// The Offer with one byte changed.
@@ -181,25 +224,21 @@ fn changed(at: usize, byte: u8) -> [u8; 40] {
     bytes
 }
 
+/// Reading the bytes gives the fault.
+fn is_refused(rt: &impl Abort, alloc: Global, bytes: &[u8], fault: SdError) {
+    assert!(rt; read_sd(alloc, bytes) == Err(fault));
+}
+
 #[test]
 fn first_fault(rt: HostRuntime) -> Result<(), Fail> {
     let alloc = rt.alloc();
     for n in 0..40usize {
-        assert_eq!(rt; read_sd(alloc, &OFFER[..n]), Err(SdError::Truncated(n)));
+        is_refused(&rt, alloc, &OFFER[..n], SdError::Truncated(n));
     }
     let mut longer = OFFER.to_vec(alloc)?;
     longer.push(0)?;
-    assert_eq!(rt; read_sd(alloc, &longer), Err(SdError::TrailingBytes(40)));
-    let mut far = OFFER;
-    (far[4], far[5], far[6], far[7]) = (0xff, 0xff, 0xff, 0xf0);
-    assert_eq!(rt; read_sd(alloc, &far), Err(SdError::Truncated(40)));
-    let mut long = OFFER;
-    (long[28], long[29]) = (0xff, 0xff);
-    assert_eq!(rt; read_sd(alloc, &long), Err(SdError::OptionLength(28)));
-    let mut two = OFFER;
-    (two[8], two[29]) = (0x02, 0);
-    assert_eq!(rt; read_sd(alloc, &two), Err(SdError::UnknownEntryType(8)));
-    let rows = [
+    is_refused(&rt, alloc, &longer, SdError::TrailingBytes(40));
+    for (bytes, fault) in [
         (changed(7, 0x0f), SdError::EntriesLength(4)),
         (changed(7, 0x20), SdError::Truncated(40)),
         (changed(7, 0), SdError::Truncated(40)),
@@ -214,26 +253,69 @@ fn first_fault(rt: HostRuntime) -> Result<(), Fail> {
         (changed(29, 0x08), SdError::OptionLength(28)),
         (changed(30, 0x02), SdError::OptionLength(28)),
         (changed(30, 0x06), SdError::OptionLength(28)),
-    ];
-    for (bytes, fault) in rows {
-        assert_eq!(rt; read_sd(alloc, &bytes), Err(fault));
+    ] {
+        is_refused(&rt, alloc, &bytes, fault);
     }
     Ok(())
 }
 
 #[test]
+fn first_of_two_faults(rt: HostRuntime) {
+    let alloc = rt.alloc();
+    let mut far = OFFER;
+    (far[4], far[5], far[6], far[7]) = (0xff, 0xff, 0xff, 0xf0);
+    is_refused(&rt, alloc, &far, SdError::Truncated(40));
+    let mut long = OFFER;
+    (long[28], long[29]) = (0xff, 0xff);
+    is_refused(&rt, alloc, &long, SdError::OptionLength(28));
+    let mut two = OFFER;
+    (two[8], two[29]) = (0x02, 0);
+    is_refused(&rt, alloc, &two, SdError::UnknownEntryType(8));
+}
+
+#[test]
 fn faults_are_printed(rt: HostRuntime) -> Result<(), Fail> {
-    let rows = [
-        (SdError::Truncated(40), "Truncated at 40"),
-        (SdError::EntriesLength(4), "EntriesLength at 4"),
-        (SdError::UnknownEntryType(8), "UnknownEntryType at 8"),
-        (SdError::OptionLength(28), "OptionLength at 28"),
-        (SdError::TooManyOptions(18), "TooManyOptions at 18"),
-        (SdError::TrailingBytes(40), "TrailingBytes at 40"),
-        (SdError::OutOfMemory, "out of memory"),
-    ];
-    for (fault, text) in rows {
-        assert_eq!(rt; fault.to_string(rt.alloc())?.as_str(), text);
+    for (fault, name, place, text) in [
+        (
+            SdError::Truncated(40),
+            "Truncated",
+            40usize,
+            "Truncated at 40",
+        ),
+        (
+            SdError::EntriesLength(4),
+            "EntriesLength",
+            4,
+            "EntriesLength at 4",
+        ),
+        (
+            SdError::UnknownEntryType(8),
+            "UnknownEntryType",
+            8,
+            "UnknownEntryType at 8",
+        ),
+        (
+            SdError::OptionLength(28),
+            "OptionLength",
+            28,
+            "OptionLength at 28",
+        ),
+        (
+            SdError::TooManyOptions(18),
+            "TooManyOptions",
+            18,
+            "TooManyOptions in entry 18",
+        ),
+        (
+            SdError::TrailingBytes(40),
+            "TrailingBytes",
+            40,
+            "TrailingBytes at 40",
+        ),
+        (SdError::OutOfMemory, "OutOfMemory", 0, "out of memory"),
+    ] {
+        assert!(rt; fault.to_string(rt.alloc())?.as_str() == text, "{text}");
+        assert!(rt; fault.name() == name && fault.place() == place, "{text}");
     }
     Ok(())
 }
@@ -245,340 +327,334 @@ fn with_runs(index1: u8, index2: u8, counts: u8) -> [u8; 40] {
     bytes
 }
 
+/// The bytes are read as one entry.
+fn is_read_as(
+    rt: &impl Abort,
+    alloc: Global,
+    flags: SdFlags,
+    bytes: &[u8],
+    entry: ReadEntry,
+) -> Result<(), AllocError> {
+    let read = read_one(alloc, flags, entry)?;
+    assert!(rt; read_sd(alloc, bytes) == read);
+    Ok(())
+}
+
 #[test]
 fn bad_runs(rt: HostRuntime) -> Result<(), Fail> {
     let alloc = rt.alloc();
-    let Some(zero) = counter(0) else {
-        return Ok(());
-    };
-    let head = eventgroup(EventgroupKind::Subscribe, 3, zero);
-    let bad = [
+    for bytes in [
         with_runs(1, 0, 0x10),
         with_runs(0, 1, 0x11),
         with_runs(0, 1, 0x01),
         with_runs(0, 0, 0x20),
         with_runs(0, 0, 0x02),
         with_runs(0xff, 0xff, 0xff),
-    ];
-    for bytes in bad {
-        let read = read_one(alloc, FLAGS, ReadEntry::BadRun(head))?;
-        assert_eq!(rt; read_sd(alloc, &bytes), Ok(read));
+    ] {
+        is_read_as(&rt, alloc, FLAGS, &bytes, ReadEntry::BadRun(subscribe()))?;
     }
-    let option = SdOption::Endpoint4(endpoint(2, 40001));
-    let empty = entry(head, none(alloc), none(alloc));
-    let read = read_one(alloc, FLAGS, ReadEntry::Good(empty))?;
-    assert_eq!(rt; read_sd(alloc, &with_runs(0xff, 0xff, 0)), Ok(read));
-    let second = entry(head, none(alloc), one(alloc, option)?);
-    let read = read_one(alloc, FLAGS, ReadEntry::Good(second))?;
-    assert_eq!(rt; read_sd(alloc, &with_runs(0xff, 0, 0x01)), Ok(read));
     // No options at all.
-    let mut none_at_all = ACK;
-    (
-        none_at_all[8],
-        none_at_all[9],
-        none_at_all[10],
-        none_at_all[11],
-    ) = (0x06, 0xff, 0xff, 0xff);
-    let read = read_one(alloc, FLAGS, ReadEntry::BadRun(head))?;
-    assert_eq!(rt; read_sd(alloc, &none_at_all), Ok(read));
+    let mut bytes = ACK;
+    (bytes[8], bytes[9], bytes[10], bytes[11]) = (0x06, 0xff, 0xff, 0xff);
+    is_read_as(&rt, alloc, FLAGS, &bytes, ReadEntry::BadRun(subscribe()))?;
+    Ok(())
+}
+
+#[test]
+fn empty_runs_may_point_anywhere(rt: HostRuntime) -> Result<(), Fail> {
+    let alloc = rt.alloc();
+    let empty = ReadEntry::Good(bare(alloc, subscribe()));
+    is_read_as(&rt, alloc, FLAGS, &with_runs(0xff, 0xff, 0), empty)?;
+    let mut second = bare(alloc, subscribe());
+    second.run2.push(SdOption::Endpoint4(endpoint(2, 40001)))?;
+    is_read_as(
+        &rt,
+        alloc,
+        FLAGS,
+        &with_runs(0xff, 0, 0x01),
+        ReadEntry::Good(second),
+    )?;
     Ok(())
 }
 
 #[test]
 fn reserved_bits_are_ignored(rt: HostRuntime) -> Result<(), Fail> {
     let alloc = rt.alloc();
-    let Some(five) = counter(5) else {
-        return Ok(());
-    };
     let mut bytes = SUBSCRIBE;
     (bytes[0], bytes[1], bytes[2], bytes[3]) = (0x3f, 1, 2, 3);
     (bytes[20], bytes[21], bytes[31], bytes[36]) = (0xab, 0xc5, 0xff, 0xee);
-    let subscribe = entry(
-        eventgroup(EventgroupKind::Subscribe, 3, five),
-        one(alloc, SdOption::Endpoint4(endpoint(2, 40001)))?,
-        none(alloc),
-    );
-    let read = read_one(alloc, NO_FLAGS, ReadEntry::Good(subscribe))?;
-    assert_eq!(rt; read_sd(alloc, &bytes), Ok(read));
+    let head = eventgroup(EventgroupKind::Subscribe, 3, 5);
+    let entry = with_option(alloc, head, SdOption::Endpoint4(endpoint(2, 40001)))?;
+    is_read_as(&rt, alloc, NO_FLAGS, &bytes, ReadEntry::Good(entry))?;
     Ok(())
 }
 
-/// The address 2001:db8::1 with a port over TCP.
-fn endpoint6(port: u16) -> Ipv6Endpoint {
-    Ipv6Endpoint {
-        address: Ipv6Addr::new(0x2001, 0x0db8, 0, 0, 0, 0, 0, 1),
-        port,
-        protocol: Protocol::TCP,
-    }
+/// A Find with these options is written, with these bytes behind it, and read again.
+fn has_options(rt: &impl Abort, alloc: Global, find: Entry, bytes: &[u8]) -> Result<(), Fail> {
+    let written = is_read(rt, alloc, NO_FLAGS, one(alloc, find)?)?;
+    assert!(rt; written.get(28..) == Some(bytes));
+    Ok(())
 }
 
-/// A Find whose two runs are these options is written, with these bytes behind the entry, and read
-/// again.
-fn options_of(
-    rt: &impl Abort,
-    alloc: Global,
-    run1: Vec<SdOption>,
-    run2: Vec<SdOption>,
-    bytes: &[u8],
-) -> Result<(), Fail> {
-    let find = entry(service(ServiceKind::Find, 3, 0xffff_ffff), run1, run2);
-    let message = SdMessage {
-        flags: NO_FLAGS,
-        entries: one(alloc, find)?,
-    };
-    let mut out = Vec::new(alloc);
-    assert_eq!(rt; write(alloc, &message, &mut out), Ok(()));
-    assert_eq!(rt; out.get(28..), Some(bytes));
-    let read = read_sd(alloc, &out);
-    for entry in message.entries {
-        let expected = read_one(alloc, NO_FLAGS, ReadEntry::Good(entry))?;
-        assert_eq!(rt; read, Ok(expected));
-    }
-    Ok(())
+fn find() -> EntryHead {
+    service(ServiceKind::Find, 3, 0xffff_ffff)
 }
 
 #[test]
-fn each_option(rt: HostRuntime) -> Result<(), Fail> {
+fn each_option4(rt: HostRuntime) -> Result<(), Fail> {
     let alloc = rt.alloc();
     let load = SdOption::LoadBalancing {
         priority: 0x0102,
         weight: 0x0304,
     };
-    let bytes = [0, 5, 2, 0, 1, 2, 3, 4];
-    options_of(&rt, alloc, one(alloc, load)?, none(alloc), &bytes)?;
-    let bytes4 = [
+    let entry = with_option(alloc, find(), load)?;
+    has_options(&rt, alloc, entry, &[0, 5, 2, 0, 1, 2, 3, 4])?;
+    let multicast = SdOption::Multicast4(endpoint(7, 30509));
+    let discovery = SdOption::SdEndpoint4(endpoint(8, 1));
+    let bytes = [
         0, 9, 0x14, 0, 192, 168, 0, 7, 0, 0x11, 0x77, 0x2d, 0, 9, 0x24, 0, 192, 168, 0, 8, 0, 0x11,
         0, 1,
     ];
-    let multicast = SdOption::Multicast4(endpoint(7, 30509));
-    let discovery = SdOption::SdEndpoint4(endpoint(8, 1));
-    options_of(
-        &rt,
-        alloc,
-        one(alloc, multicast)?,
-        one(alloc, discovery)?,
-        &bytes4,
-    )?;
-    let bytes6 = [
+    let entry = with_options(alloc, find(), multicast, discovery)?;
+    has_options(&rt, alloc, entry, &bytes)
+}
+
+#[test]
+fn each_option6(rt: HostRuntime) -> Result<(), Fail> {
+    let alloc = rt.alloc();
+    let bytes = [
         0, 21, 0x06, 0, 0x20, 0x01, 0x0d, 0xb8, 0, 0, 0, 0, 0, 0, 0, 0, 0, 0, 0, 1, 0, 0x06, 0, 9,
         0, 21, 0x16, 0, 0x20, 0x01, 0x0d, 0xb8, 0, 0, 0, 0, 0, 0, 0, 0, 0, 0, 0, 1, 0, 0x06, 0, 10,
     ];
     let first = SdOption::Endpoint6(endpoint6(9));
     let second = SdOption::Multicast6(endpoint6(10));
-    options_of(&rt, alloc, one(alloc, first)?, one(alloc, second)?, &bytes6)?;
-    let bytes26 = [
+    let entry = with_options(alloc, find(), first, second)?;
+    has_options(&rt, alloc, entry, &bytes)?;
+    let bytes = [
         0, 21, 0x26, 0, 0x20, 0x01, 0x0d, 0xb8, 0, 0, 0, 0, 0, 0, 0, 0, 0, 0, 0, 1, 0, 0x06, 0x77,
         0x2d,
     ];
-    let third = SdOption::SdEndpoint6(endpoint6(30509));
-    options_of(&rt, alloc, none(alloc), one(alloc, third)?, &bytes26)?;
+    let mut entry = bare(alloc, find());
+    entry.run2.push(SdOption::SdEndpoint6(endpoint6(30509)))?;
+    has_options(&rt, alloc, entry, &bytes)
+}
+
+/// A raw option of so many zero bytes, if it can be made.
+fn zeros(alloc: Global, kind: u8, len: usize) -> Result<Option<RawOption>, AllocError> {
+    let bytes = vec![in alloc; 0u8; len]?;
+    Ok(RawOption::new(kind, Rc::new(alloc, bytes)?))
+}
+
+#[test]
+fn raw_options_have_another_type(rt: HostRuntime) -> Result<(), Fail> {
+    for kind in [0x02, 0x04, 0x14, 0x24, 0x06, 0x16, 0x26] {
+        assert!(rt; zeros(rt.alloc(), kind, 1)?.is_none());
+    }
+    for (len, is_some) in [(0usize, false), (65535, true), (65536, false)] {
+        assert!(rt; zeros(rt.alloc(), 1, len)?.is_some() == is_some);
+    }
     Ok(())
+}
+
+/// A raw option with these bytes, if it can be made.
+fn raw(alloc: Global, kind: u8, bytes: &[u8]) -> Result<Option<RawOption>, AllocError> {
+    let bytes = Vec::from_slice(alloc, bytes)?;
+    Ok(RawOption::new(kind, Rc::new(alloc, bytes)?))
 }
 
 #[test]
 fn raw_options(rt: HostRuntime) -> Result<(), Fail> {
     let alloc = rt.alloc();
-    for kind in [0x02, 0x04, 0x14, 0x24, 0x06, 0x16, 0x26] {
-        let bytes = Rc::new(alloc, one(alloc, 0u8)?)?;
-        assert!(rt; RawOption::new(kind, bytes).is_none());
-    }
-    let nothing = Rc::new(alloc, none(alloc))?;
-    assert!(rt; RawOption::new(1, nothing).is_none());
-    let most = Rc::new(alloc, vec![in alloc; 0u8; 65535]?)?;
-    assert!(rt; RawOption::new(1, most).is_some());
-    let too_many = Rc::new(alloc, vec![in alloc; 0u8; 65536]?)?;
-    assert!(rt; RawOption::new(1, too_many).is_none());
-    let content = Rc::new(alloc, vec![in alloc; 0xff, 0x61, 0x3d, 0x62]?)?;
-    let Some(raw) = RawOption::new(1, content) else {
+    let Some(raw) = raw(alloc, 1, &[0xff, 0x61, 0x3d, 0x62])? else {
         return Ok(());
     };
-    assert_eq!(rt; raw.kind(), 1);
-    assert_eq!(rt; raw.bytes(), [0xff, 0x61, 0x3d, 0x62].as_slice());
-    let bytes = [0, 4, 1, 0xff, 0x61, 0x3d, 0x62];
-    options_of(
-        &rt,
-        alloc,
-        one(alloc, SdOption::Raw(raw))?,
-        none(alloc),
-        &bytes,
-    )?;
+    assert!(rt; raw.kind() == 1);
+    assert!(rt; raw.bytes() == [0xff, 0x61, 0x3d, 0x62].as_slice());
+    let entry = with_option(alloc, find(), SdOption::Raw(raw))?;
+    has_options(&rt, alloc, entry, &[0, 4, 1, 0xff, 0x61, 0x3d, 0x62])
+}
+
+/// Adds a raw option whose bytes say its number.
+fn add_numbered(alloc: Global, number: u16, run: &mut Vec<SdOption>) -> Result<(), AllocError> {
+    if let Some(raw) = raw(alloc, 0x77, &number.to_be_bytes())? {
+        run.push(SdOption::Raw(raw))?;
+    }
     Ok(())
 }
 
-/// A raw option whose bytes say its number.
-fn numbered(alloc: Global, number: u16) -> Result<SdOption, SdError> {
-    let bytes = Vec::from_slice(alloc, &number.to_be_bytes())?;
-    let bytes = Rc::new(alloc, bytes)?;
-    match RawOption::new(0x77, bytes) {
-        Some(raw) => Ok(SdOption::Raw(raw)),
-        None => Err(SdError::OutOfMemory),
+/// An Offer with so many numbered options in its first run.
+fn offer_of(alloc: Global, first: u16, count: u16) -> Result<Entry, AllocError>
+    requires { first + count < 2 ^ 16 }
+{
+    let mut entry = bare(alloc, offer());
+    for i in 0..count {
+        add_numbered(alloc, first + i, &mut entry.run1)?;
     }
-}
-
-/// An Offer with these numbered options in its first run.
-fn offer_of(alloc: Global, numbers: &[u16]) -> Result<Entry, SdError> {
-    let mut run1 = Vec::new(alloc);
-    for number in numbers {
-        run1.push(numbered(alloc, *number)?)?;
-    }
-    Ok(entry(service(ServiceKind::Offer, 3, 0), run1, none(alloc)))
+    Ok(entry)
 }
 
 #[test]
 fn runs_are_shared(rt: HostRuntime) -> Result<(), Fail> {
     let alloc = rt.alloc();
     let mut entries = Vec::new(alloc);
-    let runs: [&[u16]; 4] = [&[1], &[2], &[1, 2], &[2, 1]];
-    for run in runs {
-        entries.push(offer_of(alloc, run)?)?;
-    }
-    let message = SdMessage {
-        flags: FLAGS,
-        entries,
-    };
-    let mut out = Vec::new(alloc);
-    assert_eq!(rt; write(alloc, &message, &mut out), Ok(()));
+    entries.push(offer_of(alloc, 1, 1)?)?;
+    entries.push(offer_of(alloc, 2, 1)?)?;
+    entries.push(offer_of(alloc, 1, 2)?)?;
+    let mut turned = offer_of(alloc, 2, 1)?;
+    add_numbered(alloc, 1, &mut turned.run1)?;
+    entries.push(turned)?;
+    let bytes = is_read(&rt, alloc, FLAGS, entries)?;
     for (at, place) in [(9usize, 0u8), (25, 1), (41, 0), (57, 2)] {
-        assert_eq!(rt; out.get(at), Some(&place));
+        assert!(rt; bytes.get(at) == Some(&place));
     }
     let pool = [
         0, 0, 0, 20, 0, 2, 0x77, 0, 1, 0, 2, 0x77, 0, 2, 0, 2, 0x77, 0, 2, 0, 2, 0x77, 0, 1,
     ];
-    assert_eq!(rt; out.get(72..), Some(pool.as_slice()));
-    let read = read_sd(alloc, &out);
-    let mut expected = Vec::new(alloc);
-    for entry in message.entries {
-        expected.push(ReadEntry::Good(entry))?;
-    }
-    let expected = SdRead {
-        flags: FLAGS,
-        entries: expected,
-    };
-    assert_eq!(rt; read, Ok(expected));
-    // Both runs of one entry share what they can.
-    let both = entry(
-        service(ServiceKind::Offer, 3, 0),
-        one(alloc, numbered(alloc, 1)?)?,
-        one(alloc, numbered(alloc, 1)?)?,
-    );
-    let message = SdMessage {
-        flags: FLAGS,
-        entries: one(alloc, both)?,
-    };
-    let mut out = Vec::new(alloc);
-    assert_eq!(rt; write(alloc, &message, &mut out), Ok(()));
-    assert_eq!(rt; out.get(8..12), Some([1, 0, 0, 0x11].as_slice()));
-    assert_eq!(rt; out.len(), 8 + 16 + 4 + 5);
+    assert!(rt; bytes.get(72..) == Some(pool.as_slice()));
     Ok(())
 }
 
-/// Numbers from one on, so many.
-fn count_from(alloc: Global, first: u16, count: u16) -> Result<Vec<u16>, AllocError>
-    requires { first + count < 2 ^ 16 }
-{
-    let mut numbers = Vec::new(alloc);
-    for i in 0..count {
-        numbers.push(first + i)?;
-    }
-    Ok(numbers)
+#[test]
+fn runs_of_one_entry_are_shared(rt: HostRuntime) -> Result<(), Fail> {
+    let alloc = rt.alloc();
+    let mut both = offer_of(alloc, 1, 1)?;
+    add_numbered(alloc, 1, &mut both.run2)?;
+    let bytes = is_read(&rt, alloc, FLAGS, one(alloc, both)?)?;
+    assert!(rt; bytes.get(8..12) == Some([1, 0, 0, 0x11].as_slice()));
+    assert!(rt; bytes.len() == 8 + 16 + 4 + 5);
+    Ok(())
 }
 
-/// Entries 0 to 16 with 15 new options each, and then so many with one new option each.
-fn full_pool(alloc: Global, more: u16) -> Result<SdMessage, SdError>
-    requires { more < 100 }
-{
+/// Entries 0 to 16 with 15 new options each.
+fn full_pool(alloc: Global) -> Result<Vec<Entry>, AllocError> {
     let mut entries = Vec::new(alloc);
     for i in 0..17u16 {
-        entries.push(offer_of(alloc, &count_from(alloc, i * 15, 15)?)?)?;
+        entries.push(offer_of(alloc, i * 15, 15)?)?;
     }
-    for i in 0..more {
-        entries.push(offer_of(alloc, &[1000 + i])?)?;
-    }
-    let flags = FLAGS;
-    Ok(SdMessage { flags, entries })
+    Ok(entries)
+}
+
+/// Entries are refused, and the vector is left as it was.
+fn too_many(rt: &impl Abort, alloc: Global, entries: &[Entry], number: usize) -> Result<(), Fail> {
+    let mut out = one(alloc, 0xeeu8)?;
+    assert!(rt; write(FLAGS, entries, &mut out) == Err(SdError::TooManyOptions(number)));
+    assert!(rt; out.as_slice() == [0xee].as_slice());
+    Ok(())
 }
 
 #[test]
 fn limits_of_runs(rt: HostRuntime) -> Result<(), Fail> {
     let alloc = rt.alloc();
-    let mut out = one(alloc, 0xeeu8)?;
-    for (count, answer) in [(15u16, Ok(())), (16, Err(SdError::TooManyOptions(0)))] {
-        let numbers = count_from(alloc, 0, count)?;
-        let message = SdMessage {
-            flags: FLAGS,
-            entries: one(alloc, offer_of(alloc, &numbers)?)?,
-        };
-        out.truncate(1);
-        assert_eq!(rt; write(alloc, &message, &mut out), answer);
+    is_read(&rt, alloc, FLAGS, one(alloc, offer_of(alloc, 0, 15)?)?)?;
+    let long = one(alloc, offer_of(alloc, 0, 16)?)?;
+    too_many(&rt, alloc, &long, 0)
+}
+
+#[test]
+fn limits_of_indexes(rt: HostRuntime) -> Result<(), Fail> {
+    let alloc = rt.alloc();
+    let mut entries = full_pool(alloc)?;
+    entries.push(offer_of(alloc, 1000, 1)?)?;
+    let mut out = Vec::new(alloc);
+    assert!(rt; write(FLAGS, &entries, &mut out).is_ok());
+    assert!(rt; out.get(8 + 17 * 16 + 1) == Some(&255));
+    entries.push(offer_of(alloc, 1001, 1)?)?;
+    too_many(&rt, alloc, &entries, 18)
+}
+
+/// The pool may grow past 256, and an index counts also where the run is found.
+#[test]
+fn limits_of_found_indexes(rt: HostRuntime) -> Result<(), Fail> {
+    let alloc = rt.alloc();
+    let mut entries = full_pool(alloc)?;
+    entries.push(offer_of(alloc, 1000, 2)?)?;
+    let mut out = Vec::new(alloc);
+    assert!(rt; write(FLAGS, &entries, &mut out).is_ok());
+    entries.push(offer_of(alloc, 1001, 1)?)?;
+    too_many(&rt, alloc, &entries, 18)
+}
+
+/// The entries are split into fronts of these lengths.
+fn splits(rt: &impl Abort, alloc: Global, entries: &[Entry], lengths: &[usize]) {
+    match split_entries(alloc, entries) {
+        Ok(found) => assert!(rt; found.as_slice() == lengths),
+        Err(fault) => panic!(rt; "{fault}"),
     }
-    assert_eq!(rt; out.as_slice(), [0xee].as_slice());
-    assert_eq!(rt; write(alloc, &full_pool(alloc, 1)?, &mut out), Ok(()));
-    assert_eq!(rt; out.get(1 + 8 + 17 * 16 + 1), Some(&255));
-    out.truncate(1);
-    let refused = Err(SdError::TooManyOptions(18));
-    assert_eq!(rt; write(alloc, &full_pool(alloc, 2)?, &mut out), refused);
-    assert_eq!(rt; out.as_slice(), [0xee].as_slice());
-    // The pool may grow past 256, and an index counts also where the run is found.
-    let mut found = full_pool(alloc, 0)?;
-    found.entries.push(offer_of(alloc, &[1000, 1001])?)?;
-    assert_eq!(rt; write(alloc, &found, &mut out), Ok(()));
-    out.truncate(1);
-    found.entries.push(offer_of(alloc, &[1001])?)?;
-    let refused = Err(SdError::TooManyOptions(18));
-    assert_eq!(rt; write(alloc, &found, &mut out), refused);
-    assert_eq!(rt; out.as_slice(), [0xee].as_slice());
-    Ok(())
+}
+
+/// So many Offers, at one endpoint or at one of their own each.
+fn offers(alloc: Global, count: u16, is_shared: bool) -> Result<Vec<Entry>, AllocError> {
+    let mut entries = Vec::new(alloc);
+    for i in 0..count {
+        let port = if is_shared { 30509 } else { i };
+        entries.push(with_option(alloc, offer(), SdOption::Endpoint4(endpoint(1, port)))?)?;
+    }
+    Ok(entries)
 }
 
 #[test]
 fn longest_fronts(rt: HostRuntime) -> Result<(), Fail> {
     let alloc = rt.alloc();
-    let mut distinct = Vec::new(alloc);
+    splits(&rt, alloc, &[], &[]);
+    splits(&rt, alloc, &offers(alloc, 100, false)?, &[49, 49, 2]);
+    splits(&rt, alloc, &offers(alloc, 87, true)?, &[86, 1]);
     let mut finds = Vec::new(alloc);
-    let mut same = Vec::new(alloc);
-    for i in 0..100u16 {
-        let run1 = one(alloc, SdOption::Endpoint4(endpoint(1, i)))?;
-        distinct.push(entry(service(ServiceKind::Offer, 3, 0), run1, none(alloc)))?;
-        finds.push(entry(service(ServiceKind::Find, 3, 0), none(alloc), none(alloc)))?;
+    for _ in 0..100u16 {
+        finds.push(bare(alloc, find()))?;
     }
-    for _ in 0..87u16 {
-        let run1 = one(alloc, SdOption::Endpoint4(endpoint(1, 30509)))?;
-        same.push(entry(service(ServiceKind::Offer, 3, 0), run1, none(alloc)))?;
+    splits(&rt, alloc, &finds, &[86, 14]);
+    Ok(())
+}
+
+/// One that is refused, and one that is too long, stand alone.
+#[test]
+fn fronts_of_what_does_not_fit(rt: HostRuntime) -> Result<(), Fail> {
+    let alloc = rt.alloc();
+    let mut entries = Vec::new(alloc);
+    entries.push(offer_of(alloc, 1, 1)?)?;
+    entries.push(offer_of(alloc, 0, 16)?)?;
+    entries.push(offer_of(alloc, 2, 1)?)?;
+    let mut long = bare(alloc, offer());
+    if let Some(raw) = zeros(alloc, 1, 1400)? {
+        long.run2.push(SdOption::Raw(raw))?;
     }
-    let fronts = Vec::from_slice(alloc, &[49usize, 49, 2])?;
-    assert_eq!(rt; split(alloc, &distinct), Ok(fronts));
-    let fronts = Vec::from_slice(alloc, &[86usize, 14])?;
-    assert_eq!(rt; split(alloc, &finds), Ok(fronts));
-    let fronts = Vec::from_slice(alloc, &[86usize, 1])?;
-    assert_eq!(rt; split(alloc, &same), Ok(fronts));
-    assert_eq!(rt; split(alloc, &[]), Ok(none(alloc)));
-    // One that is refused, and one that is too long, stand alone.
-    let bytes = Rc::new(alloc, vec![in alloc; 0u8; 1400]?)?;
-    let Some(long) = RawOption::new(1, bytes) else {
-        return Ok(());
-    };
-    let mut mixed = Vec::new(alloc);
-    mixed.push(offer_of(alloc, &[1])?)?;
-    mixed.push(offer_of(alloc, &count_from(alloc, 0, 16)?)?)?;
-    mixed.push(offer_of(alloc, &[2])?)?;
-    let run2 = one(alloc, SdOption::Raw(long))?;
-    mixed.push(entry(service(ServiceKind::Offer, 3, 0), none(alloc), run2))?;
-    mixed.push(offer_of(alloc, &[3])?)?;
-    mixed.push(offer_of(alloc, &[3])?)?;
-    let fronts = Vec::from_slice(alloc, &[1usize, 1, 1, 1, 2])?;
-    assert_eq!(rt; split(alloc, &mixed), Ok(fronts));
+    entries.push(long)?;
+    entries.push(offer_of(alloc, 3, 1)?)?;
+    entries.push(offer_of(alloc, 3, 1)?)?;
+    splits(&rt, alloc, &entries, &[1, 1, 1, 1, 2]);
+    Ok(())
+}
+
+#[test]
+fn first_udp_endpoint(rt: HostRuntime) -> Result<(), Fail> {
+    let alloc = rt.alloc();
+    let mut entry = bare(alloc, offer());
+    assert!(rt; entry.udp_endpoint() == None);
+    let mut tcp = endpoint(1, 1);
+    tcp.protocol = Protocol::TCP;
+    entry.run1.push(SdOption::Endpoint4(tcp))?;
+    entry.run1.push(SdOption::Multicast4(endpoint(2, 2)))?;
+    entry.run2.push(SdOption::SdEndpoint4(endpoint(3, 3)))?;
+    assert!(rt; entry.udp_endpoint() == None);
+    entry.run2.push(SdOption::Endpoint4(endpoint(4, 4)))?;
+    assert!(rt; entry.udp_endpoint() == Some(endpoint(4, 4).socket));
+    entry.run1.push(SdOption::Endpoint4(endpoint(5, 5)))?;
+    assert!(rt; entry.udp_endpoint() == Some(endpoint(5, 5).socket));
     Ok(())
 }
 
 #[test]
 fn numbers_fit_their_fields(rt: HostRuntime) {
-    assert_eq!(rt; Ttl::new(0xff_ffff), Some(Ttl::UNTIL_REBOOT));
-    assert_eq!(rt; Ttl::new(0x100_0000), None);
-    assert_eq!(rt; ttl(3).seconds(), 3);
-    assert_eq!(rt; counter(15).map(|c| c.number()), Some(15));
-    assert_eq!(rt; counter(16), None);
-    assert_eq!(rt; Protocol::TCP.0, 6);
-    assert_eq!(rt; Protocol::UDP.0, 0x11);
+    assert!(rt; Ttl::new(0xff_ffff) == Some(Ttl::UNTIL_REBOOT));
+    assert!(rt; Ttl::UNTIL_REBOOT.is_until_reboot() && !ttl(3).is_until_reboot());
+    assert!(rt; Ttl::new(0x100_0000) == None);
+    assert!(rt; ttl(3).seconds() == 3);
+    assert!(rt; SubscriptionCounter::new(15).map(|c| c.number()) == Some(15));
+    assert!(rt; SubscriptionCounter::new(16) == None);
+}
+
+#[test]
+fn flags_are_bits(rt: HostRuntime) {
     for (byte, reboot, unicast) in [
         (0u8, false, false),
         (0x40, false, true),
@@ -586,37 +662,34 @@ fn numbers_fit_their_fields(rt: HostRuntime) {
         (0xc0, true, true),
     ] {
         let flags = SdFlags { reboot, unicast };
-        assert_eq!(rt; flags.byte(), byte);
-        assert_eq!(rt; SdFlags::from_byte(byte | 0x3f), flags);
-        assert_eq!(rt; flags.contains(SdFlags::REBOOT), reboot);
-        assert_eq!(rt; flags.contains(SdFlags::UNICAST), unicast);
+        assert!(rt; flags.byte() == byte);
+        assert!(rt; SdFlags::from_byte(byte | 0x3f) == flags);
+        assert!(rt; flags.contains(SdFlags::REBOOT) == reboot);
+        assert!(rt; flags.contains(SdFlags::UNICAST) == unicast);
     }
-    assert_eq!(rt; SdFlags::all(), FLAGS);
-    assert_eq!(rt; SdFlags::from_bits(0x20), None);
+    assert!(rt; SdFlags::all() == FLAGS);
+    assert!(rt; SdFlags::from_bits(0x20) == None);
 }
 
 #[test]
 fn told_by_the_ttl(rt: HostRuntime) {
-    let Some(zero) = counter(0) else {
-        return;
-    };
     for seconds in [0u32, 3] {
         if let EntryHead::Service(find) = service(ServiceKind::Find, seconds, 0) {
             assert!(rt; find.is_find() && !find.is_offer() && !find.is_stop_offer());
         }
         if let EntryHead::Service(offer) = service(ServiceKind::Offer, seconds, 0) {
-            assert_eq!(rt; offer.is_offer(), seconds == 3);
-            assert_eq!(rt; offer.is_stop_offer(), seconds == 0);
+            assert!(rt; offer.is_offer() == (seconds == 3));
+            assert!(rt; offer.is_stop_offer() == (seconds == 0));
             assert!(rt; !offer.is_find());
         }
-        if let EntryHead::Eventgroup(entry) = eventgroup(EventgroupKind::Subscribe, seconds, zero) {
-            assert_eq!(rt; entry.is_subscribe(), seconds == 3);
-            assert_eq!(rt; entry.is_stop_subscribe(), seconds == 0);
+        if let EntryHead::Eventgroup(entry) = eventgroup(EventgroupKind::Subscribe, seconds, 0) {
+            assert!(rt; entry.is_subscribe() == (seconds == 3));
+            assert!(rt; entry.is_stop_subscribe() == (seconds == 0));
             assert!(rt; !entry.is_ack() && !entry.is_nack());
         }
-        if let EntryHead::Eventgroup(entry) = eventgroup(EventgroupKind::Ack, seconds, zero) {
-            assert_eq!(rt; entry.is_ack(), seconds == 3);
-            assert_eq!(rt; entry.is_nack(), seconds == 0);
+        if let EntryHead::Eventgroup(entry) = eventgroup(EventgroupKind::Ack, seconds, 0) {
+            assert!(rt; entry.is_ack() == (seconds == 3));
+            assert!(rt; entry.is_nack() == (seconds == 0));
             assert!(rt; !entry.is_subscribe() && !entry.is_stop_subscribe());
         }
     }

@@ -48,6 +48,13 @@ impl Ttl {
         self == Ttl::ZERO
     }
 
+    /// Whether it lasts until the next reboot of the sender.
+    pub fn is_until_reboot(self) -> bool
+        ensures { IsTrue result ↔ (self ≡ 0xff_ffff) }
+    {
+        self == Ttl::UNTIL_REBOOT
+    }
+
     /// The number of a field of 24 bits.
     pub(crate) fn from_field(number: u32) -> Ttl
         requires { number < 2 ^ 24 }

@@ -1,11 +1,14 @@
 //! The bytes of messages (SOME/IP Service Discovery, "SOME/IP-SD Header").
-ghost use Rattle.std.specs.Prelude.{◌≡◌, ◌<◌, ◌≤◌, ◌^◌, ◌++◌, ℕ, List, length, IfOk, IfErr, OnOk, OnErr};
+ghost use Rattle.std.specs.Prelude.{◌≡◌, ◌<◌, ◌≤◌, ◌^◌, ◌++◌, ℕ, List, length, IfOk, IfErr, OnOk, OnErr, Some};
 ghost use Rattle.sd_wire.specs.declared.error.SdError.TheVariants.{OutOfMemory};
 ghost use Rattle.sd_wire.specs.Fields.{number32};
 ghost use Rattle.sd_wire.specs.Values.{view_message};
 ghost use Rattle.sd_wire.specs.Reading.{Sd};
 ghost use Rattle.sd_wire.specs.Writing.{WritesSd, TooMany, IsWriteError, as_read};
-ghost use Rattle.sd_wire.specs.Written.{Appends, Refuses};
+ghost use Rattle.sd_wire.specs.Written.{Appends, Refuses, HasNoBytes};
+ghost use Rattle.std.specs.Option.{option_map};
+ghost use Rattle.sd_wire.specs.Encoding.{message_bytes};
+ghost use Rattle.sd_wire.specs.Splitting.{FitsDatagram};
 
 use crate::error::SdError;
 use crate::message::SdMessage;
@@ -19,8 +22,8 @@ use std::alloc::{AllocError, Global};
 /// hold it nowhere, it is added whole at their end. A run of more than 15 options or one at an index
 /// above 255 is `TooManyOptions`, with the number of its entry from 0. An `Err` leaves `out` as it
 /// was.
-pub fn write_sd(alloc: Global, message: &SdMessage, out: &mut Vec<u8>) -> Result<(), SdError>
-    requires { length message.now.entries.items ≤ 65535 }
+pub fn write_sd(message: &SdMessage, out: &mut Vec<u8>) -> Result<(), SdError>
+    requires { length message.now.entries.now ≤ 65535 }
     // The text of the message is added, and it is read as the message.
     ensures written { OnOk result (Appends out.old.items out.new.items (view_message message.now)) }
     // The first entry that is refused is named.
@@ -31,22 +34,30 @@ pub fn write_sd(alloc: Global, message: &SdMessage, out: &mut Vec<u8>) -> Result
     // Where an entry is refused, it is named, unless memory runs out.
     ensures named { (number : ℕ) → TooMany (view_message message.now).entries number
         → Refuses number result }
+    // Its bytes are those of the message as a function of it, and there are none where an entry is
+    // refused.
+    ensures exact { OnOk result (option_map (λ bytes. out.old.items ++ bytes)
+        (message_bytes (view_message message.now)) ≡ Some out.new.items) }
+    ensures none { IfErr result (λ e. HasNoBytes e (message_bytes (view_message message.now))) }
+    // Entries that fit a datagram are written, unless memory runs out.
+    ensures fits { FitsDatagram (view_message message.now).entries
+        → IfErr result (λ e. e ≡ OutOfMemory) }
     // A refused message leaves the vector as it was.
     ensures kept { OnErr result (out.new.items ≡ out.old.items) }
 {
-    let text = text_of(alloc, message)?;
+    let text = text_of(*out.allocator(), message)?;
     out.extend_from_slice(&text)?;
     Ok(())
 }
 
 /// The bytes of the message.
 fn text_of(alloc: Global, message: &SdMessage) -> Result<Vec<u8>, SdError>
-    requires { length message.now.entries.items ≤ 65535 }
+    requires { length message.now.entries.now ≤ 65535 }
     ensures writes { IfOk result (λ text. WritesSd (view_message message.now) text.items) }
     ensures holds { IfOk result (λ text. Sd (as_read (view_message message.now)) text.items) }
     ensures refused { IfErr result (λ e. IsWriteError (view_message message.now) e) }
 {
-    let (entries, pool) = pack(alloc, &message.entries)?;
+    let (entries, pool) = pack(alloc, message.entries)?;
     let options = pool_text(alloc, &pool)?;
     let mut text = Vec::new(alloc);
     text.extend_from_slice(&[message.flags.byte(), 0, 0, 0])?;

@@ -10,7 +10,7 @@ use Rattle.sd_wire.specs.Steps.{Gives}
 use Rattle.sd_wire.specs.Program.{reading}
 use Rattle.sd_wire.proofs.SdLemmas.{reading_holds, holds_read}
 use Rattle.sd_wire.proofs.FaultLemmas.{fault_read, first_fault}
-use Rattle.sd_wire.proofs.PlaceLemmas.{places}
+use Rattle.sd_wire.proofs.PlaceLemmas.{few, places}
 use Rattle.sd_wire.proofs.reading.read_sd.Goals as goal
 
 found : (bytes : List ℕ) (r : Result SdRead SdError) → IsBytes bytes → Gives view_sd r (reading bytes) → IfOk r (λ x. Sd (view_sd x) bytes)
@@ -35,3 +35,6 @@ returns-clause-faulty c = λ e fault. subst (λ (r : Result SdValue SdError). Gi
 
 pub returns-clause-places : goal.returns-clause-places
 returns-clause-places c = places c.args.bytes.now c.read.result c.read.ensures.exact
+
+pub returns-clause-few : goal.returns-clause-few
+returns-clause-few c = few c.args.bytes.now c.read.result c.read.ensures.exact
