@@ -1,0 +1,25 @@
+//! What tells the entries of a table apart.
+ghost use Rattle.std.specs.Prelude.{◌≡◌};
+ghost use Rattle.std.specs.declared.cmp.Ordering.TheVariants.{Equal};
+ghost use Rattle.std.proofs.lemmas.Map.Lookups.{exact_unsigned};
+ghost use Rattle.someip_tables.specs.EndpointOrder.{exact_endpoints};
+
+use std::net::SocketAddrV4;
+
+/// What tells the entries of a table apart: a value that is copied, with an order in which only equal
+/// values tie.
+pub trait Key: Ord + Copy {
+    ghost exact: { (a b : Self) → Self.cmp a b ≡ Equal → a ≡ b };
+}
+
+impl Key for u16 {
+    ghost exact = { exact_unsigned };
+}
+
+impl Key for u32 {
+    ghost exact = { exact_unsigned };
+}
+
+impl Key for SocketAddrV4 {
+    ghost exact = { exact_endpoints };
+}
