@@ -20,12 +20,12 @@ use Rattle.someip_tables.proofs.Entries.{same_by_test, get-retain}
 use Rattle.someip_tables.proofs.Trees.{map_of-remove, get-map_of}
 
 -- a deadline at a moment has passed from then on
-at_passed : (at now : ℕ) (until : Deadline) → is_due at (Some until) ≡ true → at ≤ now → has_passed now until ≡ true
+pub at_passed : (at now : ℕ) (until : Deadline) → is_due at (Some until) ≡ true → at ≤ now → has_passed now until ≡ true
 at_passed at now (At moment) is le = grind (arith, nat_tests)
 at_passed at now Never is le = cc
 
 -- a deadline whose moment is still to come has not
-not_passed : (now : ℕ) (until : Deadline) → ((at : ℕ) → is_due at (Some until) ≡ true → now < at) → has_passed now until ≡ false
+pub not_passed : (now : ℕ) (until : Deadline) → ((at : ℕ) → is_due at (Some until) ≡ true → now < at) → has_passed now until ≡ false
 not_passed now (At moment) later = let lt : now < moment = later moment (grind (arith, nat_tests)) in grind (arith, nat_tests)
 not_passed now Never later = refl
 

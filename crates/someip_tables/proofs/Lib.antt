@@ -5,3 +5,4 @@ pub mod Trees
 pub mod DueLemmas
 pub mod Expiry
 pub mod RetainLemmas
+pub mod PassedKeys

@@ -22,19 +22,29 @@ pub any_same : {X : Type 0} (t u : X → Bool) (xs : List X) → ((x : X) → t 
 any_same t u [] same = refl
 any_same t u (x ∷ xs) same = rw (same x) (ap (λ b. u x || b) (any_same t u xs same))
 
-both_or_none : (a b : Bool) → (a ≡ true → b ≡ true) → (b ≡ true → a ≡ true) → a ≡ b
+pub both_or_none : (a b : Bool) → (a ≡ true → b ≡ true) → (b ≡ true → a ≡ true) → a ≡ b
 both_or_none true b f g = sym (f refl)
 both_or_none false true f g = g refl
 both_or_none false false f g = refl
 
 module _ {K : Type 0} {R : K → K → Ordering} (o : IsTotalOrder R) (exact : IsAntisymmetric R) where
-  any_at : (t : K → Bool) (k : K) → t k ≡ true → (ls : List K) → list_any (eq_by_cmp R k) ls ≡ true → list_any t ls ≡ true
+  pub any_at : (t : K → Bool) (k : K) → t k ≡ true → (ls : List K) → list_any (eq_by_cmp R k) ls ≡ true → list_any t ls ≡ true
   any_at t k passes [] found = cc
   any_at t k passes (l ∷ ls) found = cases (eq_by_cmp R k l) refl found (any_at t k passes ls)
     where
       cases : (b : Bool) → eq_by_cmp R k l ≡ b → (b || list_any (eq_by_cmp R k) ls) ≡ true → (list_any (eq_by_cmp R k) ls ≡ true → list_any t ls ≡ true) → (t l || list_any t ls) ≡ true
       cases true b found rest = or_left _ _ (ap t (sym (same_by_test exact k l b)) ∙ passes)
       cases false b found rest = or_right _ _ (rest found)
+
+  -- an element of which a test holds
+  pub any_found : (t : K → Bool) (ks : List K) → list_any t ks ≡ true → (k : K) × (t k ≡ true) × (list_any (eq_by_cmp R k) ks ≡ true)
+  any_found t [] found = absurd (cc)
+  any_found t (k ∷ ks) found = cases (t k) refl found (any_found t ks)
+    where
+      cases : (b : Bool) → t k ≡ b → (b || list_any t ks) ≡ true → (list_any t ks ≡ true → (x : K) × (t x ≡ true) × (list_any (eq_by_cmp R x) ks ≡ true))
+          → (x : K) × (t x ≡ true) × (list_any (eq_by_cmp R x) (k ∷ ks) ≡ true)
+      cases true passes found rest = (k, passes, or_left _ _ (own_test o k))
+      cases false passes found rest = let at = rest found in (at.0, at.1, or_right _ _ at.2)
 
   any_within : (t : K → Bool) (ks ls : List K) → ((q : K) → list_any (eq_by_cmp R q) ks ≡ true → list_any (eq_by_cmp R q) ls ≡ true) → list_any t ks ≡ true → list_any t ls ≡ true
   any_within t [] ls within found = cc

@@ -2,14 +2,15 @@
 use Rattle.std.proofs.Common.{◌≡◌, ℕ, Bool, true, false, cond, ◌&&◌, ◌||◌, List, [], ◌∷◌, map, filter, Option, None, Some, refl, ap, sym, subst, ◌∙◌}
 use Rattle.std.specs.List.{list_any, AllByRecursion}
 use Rattle.std.specs.List.Sorted.{IsStrictlySortedBy}
+use Rattle.std.specs.Option.{is_some}
 use Rattle.std.specs.BTreeSet.{BTreeSet, IsFromIterResult}
 use Rattle.std.specs.declared.cmp.Ordering.{Ordering}
 use Rattle.std.specs.declared.cmp.Ordering.TheVariants.{Less}
 use Rattle.std.specs.Ordering.{eq_by_cmp, is_lt}
 use Rattle.std.specs.Cmp.{IsTotalOrder}
-use Rattle.std.specs.FinMap.{FinMap, IsAntisymmetric, find, get, keys, entries, from_entries, from_sorted, entries-from_sorted, get-from_sorted, get-from_entries, same_map}
+use Rattle.std.specs.FinMap.{FinMap, IsAntisymmetric, find, get, keys, entries, from_entries, from_sorted, entries-from_sorted, get-from_sorted, get-from_entries, same_map, entries_sorted, contains_key-keys}
 use Rattle.std.specs.FinMap.Entries.{below_all, is_sorted}
-use Rattle.std.proofs.lemmas.Bool.{and_from}
+use Rattle.std.proofs.lemmas.Bool.{and_from, and_parts}
 use lib.Dec.{T}
 use Rattle.someip_tables.specs.SortedSet.{sorted_set}
 use Rattle.someip_tables.proofs.Entries.{same_by_test}
@@ -34,12 +35,38 @@ unfolding IsStrictlySortedBy
 sorted-marked R [] rising = refl
 sorted-marked R (x ∷ xs) rising = and_from _ _ (below-marked R x xs rising.0) (sorted-marked R xs rising.1)
 
+below-keys : {X V : Type 0} (R : X → X → Ordering) (x : X) (es : List (X × V)) → below_all R x es ≡ true → below_all R x (marked (map (λ e. e.0) es)) ≡ true
+below-keys R x [] below = refl
+below-keys R x (e ∷ es) below = let parts = and_parts _ _ below in and_from _ _ parts.0 (below-keys R x es parts.1)
+
+sorted-keys : {X V : Type 0} (R : X → X → Ordering) (es : List (X × V)) → is_sorted R es ≡ true → is_sorted R (marked (map (λ e. e.0) es)) ≡ true
+sorted-keys R [] rising = refl
+sorted-keys R (e ∷ es) rising = let parts = and_parts _ _ rising in and_from _ _ (below-keys R e.0 es parts.0) (sorted-keys R es parts.1)
+
+true_from : {b : Bool} → T b → b ≡ true
+true_from {b = true} h = refl
+true_from {b = false} h = absurd h
+
 module _ {X : Type 0} {R : X → X → Ordering} (o : IsTotalOrder R) (exact : IsAntisymmetric R) where
   -- the same elements make the same list
   pub sorted_set_same : (xs ys : List X) → ((q : X) → list_any (eq_by_cmp R q) xs ≡ list_any (eq_by_cmp R q) ys) → sorted_set R xs ≡ sorted_set R ys
   sorted_set_same xs ys same =
       ap keys (same_map o exact _ _ (λ q.
       get-from_entries o (marked xs) q ∙ find-marked R q xs ∙ ap (λ b. cond b (Some tt) None) (same q) ∙ sym (get-from_entries o (marked ys) q ∙ find-marked R q ys)))
+
+  -- rising lists with the same elements are one list
+  pub rising_same : (xs ys : List X) → is_sorted R (marked xs) ≡ true → is_sorted R (marked ys) ≡ true → ((q : X) → list_any (eq_by_cmp R q) xs ≡ list_any (eq_by_cmp R q) ys) → xs ≡ ys
+  rising_same xs ys xs_rise ys_rise same =
+      let left : T (is_sorted R (marked xs)) = subst T (sym xs_rise) tt in
+      let right : T (is_sorted R (marked ys)) = subst T (sym ys_rise) tt in
+      let maps : from_sorted {R = R} (marked xs) ≡ from_sorted (marked ys) = same_map o exact _ _ (λ q.
+      get-from_sorted R (marked xs) q left ∙ find-marked R q xs ∙ ap (λ b. cond b (Some tt) None) (same q) ∙ sym (get-from_sorted R (marked ys) q right ∙ find-marked R q ys)) in
+      sym (keys-marked xs) ∙ ap (map (λ e. e.0)) (sym (entries-from_sorted R (marked xs) left)) ∙ ap keys maps ∙ ap (map (λ e. e.0)) (entries-from_sorted R (marked ys) right) ∙ keys-marked ys
+
+  -- a set with the keys of a map lists them as the map does
+  pub keys_of_set : {V : Type 0} (m : FinMap R V) (n : BTreeSet X) → IsStrictlySortedBy R n.keys → ((q : X) → list_any (eq_by_cmp R q) n.keys ≡ is_some (get m q)) → n.keys ≡ keys m
+  keys_of_set m n rises same =
+      rising_same n.keys (keys m) (sorted-marked R n.keys rises) (sorted-keys R (entries m) (true_from (entries_sorted m))) (λ q. same q ∙ contains_key-keys m q)
 
   -- what is collected into an ordered set
   pub collected : (xs : List X) (n : BTreeSet X) → IsFromIterResult R xs n → n.keys ≡ sorted_set R xs

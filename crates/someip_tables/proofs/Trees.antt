@@ -1,5 +1,5 @@
 -- What an ordered map shows as a finite map.
-use Rattle.std.proofs.Common.{◌≡◌, Bool, true, false, cond, ◌&&◌, List, [], ◌∷◌, filter, length, Option, None, Some, refl, ap, sym, subst, ◌∙◌}
+use Rattle.std.proofs.Common.{◌≡◌, Bool, true, false, cond, ◌&&◌, List, [], ◌∷◌, filter, length, Option, None, Some, refl, ap, sym, subst, ◌∙◌, arith}
 use Rattle.std.specs.declared.cmp.Ordering.{Ordering}
 use Rattle.std.specs.declared.cmp.Ordering.TheVariants.{Less}
 use Rattle.std.specs.Ordering.{eq_by_cmp, is_lt}
@@ -8,13 +8,13 @@ use Rattle.std.specs.List.{AllByRecursion}
 use Rattle.std.specs.List.Sorted.{IsStrictlySortedBy}
 use Rattle.std.specs.Map.{keys_of, lookup}
 use Rattle.std.specs.BTreeMap.{is_at}
-use Rattle.std.specs.FinMap.{FinMap, IsAntisymmetric, find, get, insert, remove, len, entries, retain_keys, from_sorted, entries-from_sorted, get-from_sorted, get-from_entries, get-insert, get-remove, get-retain_keys, len-entries, same_map}
+use Rattle.std.specs.FinMap.{FinMap, IsAntisymmetric, find, get, insert, remove, len, entries, retain_keys, from_sorted, entries-from_sorted, get-from_sorted, get-from_entries, get-insert, get-remove, get-retain_keys, empty, get-empty, len-entries, same_map}
 use Rattle.std.specs.FinMap.Entries.{below_all, is_sorted}
 use Rattle.std.proofs.lemmas.Bool.{and_from}
 use Rattle.std.proofs.lemmas.Map.Entries.{lookup-filter-keys}
 use lib.Dec.{T}
 use Rattle.someip_tables.specs.Tables.{map_of}
-use Rattle.someip_tables.proofs.Entries.{same_by_test}
+use Rattle.someip_tables.proofs.Entries.{same_by_test, own_test}
 
 find-lookup : {K X : Type 0} (R : K → K → Ordering) (q : K) (es : List (K × X)) → find R q es ≡ lookup (is_at (R q)) es
 find-lookup R q [] = refl
@@ -67,3 +67,15 @@ module _ {K X : Type 0} {R : K → K → Ordering} (o : IsTotalOrder R) (exact :
 
   pub len-map_of : (es : List (K × X)) → IsStrictlySortedBy R (keys_of es) → len (map_of R es) ≡ length es
   len-map_of es rising = len-entries (map_of R es) ∙ ap length (entries-map_of es rising)
+
+  -- no entries make the empty map, and no other list does
+  pub map_of-none : (es : List (K × X)) → length es ≡ 0 → map_of R es ≡ empty
+  map_of-none [] is = refl
+  map_of-none (e ∷ es) is = absurd (omega arith)
+
+  pub none_of_empty : (es : List (K × X)) → map_of R es ≡ empty → length es ≡ 0
+  none_of_empty [] is = refl
+  none_of_empty (e ∷ es) is =
+      let found : lookup (is_at (R e.0)) (e ∷ es) ≡ Some e.1 = ap (λ b. cond b (Some e.1) (lookup (is_at (R e.0)) es)) (own_test o e.0) in
+      let none : lookup (is_at (R e.0)) (e ∷ es) ≡ None = sym (get-map_of o (e ∷ es) e.0) ∙ (ap (λ m. get m e.0) is ∙ get-empty R e.0) in
+      absurd (cc)

@@ -1,14 +1,20 @@
 //! A map whose values last until a deadline each.
-ghost use Rattle.std.specs.Prelude.{◌≡◌, [], OnOk, OnErr, true, false, if◌then◌else◌, Some, None};
+ghost use Rattle.std.specs.Prelude.{◌≡◌, ◌≢◌, ◌↔◌, ◌<◌, ◌^◌, OnOk, OnErr, IfOk, IsTrue, Bool, Some};
+ghost use Rattle.std.specs.Option.{option_copied};
 ghost use Rattle.std.specs.FinMap as finite;
-ghost use Rattle.someip_tables.specs.Tables.{map_of};
+ghost use Rattle.std.specs.Map.Iter.{ShowsInOrder, deref_pair};
+ghost use Rattle.someip_tables.specs.declared.lasting.Lasting.{Lasting};
+ghost use Rattle.someip_tables.specs.Lastings.{until_of, passed, unexpired};
+ghost use Rattle.someip_tables.specs.Tables.{map_of, Answers};
 
 use crate::deadline::Deadline;
 use crate::due::Due;
 use crate::key::Key;
 use crate::lasting::Lasting;
+use crate::moment::Moment;
+use crate::tracked::{drop_passed, first_passed, keys_passed, put, retain_keys, take_out};
 use std::alloc::{AllocError, Global};
-use std::collections::{BTreeMap, BTreeSet};
+use std::collections::{BTreeMap, BTreeSet, btree_map};
 use std::marker::Model;
 
 /// A map whose values last until a deadline each. What has passed may still be in it, until it is
@@ -40,5 +46,96 @@ impl<K: Key, V: Drop> DeadlineMap<K, V> {
             held: BTreeMap::new(alloc),
             dues: BTreeSet::new(alloc),
         }
+    }
+
+    /// How many entries there are, those among them that have passed.
+    pub fn len(&self) -> usize
+        ensures { result ≡ finite.len (map_of K.cmp self.now) }
+    {
+        self.held.len()
+    }
+
+    /// Whether there is no entry.
+    pub fn is_empty(&self) -> bool
+        ensures { IsTrue result ↔ (map_of K.cmp self.now ≡ finite.empty) }
+    {
+        self.held.is_empty()
+    }
+
+    /// The value of a key, and until when it lasts; it may have passed.
+    pub fn get(&self, key: &K) -> Option<&Lasting<V>>
+        ensures { option_copied result ≡ finite.get (map_of K.cmp self.now) key.now }
+    {
+        self.held.get(key)
+    }
+
+    /// The entries, by rising key.
+    pub fn iter(&self) -> btree_map::Iter<'_, K, Lasting<V>>
+        ensures rest { result ≡ finite.entries (map_of K.cmp self.now) }
+        ensures runs { ShowsInOrder (deref_pair {K = K} {X = Lasting V}) }
+        ensures fits { finite.len (map_of K.cmp self.now) < 2 ^ 63 }
+    {
+        self.held.iter()
+    }
+
+    /// Puts a value under a key, in place of an earlier one and its deadline. What is refused for want
+    /// of memory leaves the map as it was, and memory is wanted only where the key is new or its
+    /// deadline changes.
+    pub fn insert(&mut self, key: K, value: V, until: Deadline) -> Result<(), AllocError>
+        ensures ok { OnOk result (map_of K.cmp self.new
+            ≡ finite.insert (map_of K.cmp self.old) key (record { value = value; until = until })) }
+        ensures err { OnErr result (self.new ≡ self.old) }
+        ensures grows { OnErr result (until_of (finite.get (map_of K.cmp self.old) key)
+            ≢ Some until) }
+    {
+        put(&mut self.held, &mut self.dues, key, Lasting { value, until })
+    }
+
+    /// Takes a key out, and answers what it had. It takes no memory.
+    pub fn remove(&mut self, key: &K) -> Option<Lasting<V>>
+        ensures value { result ≡ finite.get (map_of K.cmp self.old) key.now }
+        ensures rest { map_of K.cmp self.new ≡ finite.remove (map_of K.cmp self.old) key.now }
+    {
+        take_out(&mut self.held, &mut self.dues, key)
+    }
+
+    /// Keeps the entries whose keys pass a test, which is asked once for each key: what a peer or an
+    /// instance has goes so. It takes no memory.
+    pub fn retain_keys<F: Fn(&K) -> bool + Drop>(&mut self, keep: F)
+        requires { F.IsAlwaysCallable keep }
+        ensures { (test : K → Bool) → Answers F.Fn keep test
+            → map_of K.cmp self.new ≡ finite.retain_keys (map_of K.cmp self.old) test }
+    {
+        retain_keys(&mut self.held, &mut self.dues, keep)
+    }
+
+    /// Takes all entries out. It takes no memory.
+    pub fn clear(&mut self)
+        ensures { map_of K.cmp self.new ≡ finite.empty }
+    {
+        self.held.clear();
+        self.dues.clear();
+    }
+
+    /// Whether an entry has passed. It looks at the first deadline alone.
+    pub fn has_passed(&self, now: Moment) -> bool
+        ensures { IsTrue result ↔ (passed now (map_of K.cmp self.now) ≢ finite.empty) }
+    {
+        first_passed(&self.dues, now).is_some()
+    }
+
+    /// The keys of what has passed, by rising key. It looks at these alone, and takes memory only if
+    /// there are any.
+    pub fn keys_passed(&self, alloc: Global, now: Moment) -> Result<BTreeSet<K>, AllocError>
+        ensures { IfOk result (λ keys. keys.keys ≡ finite.keys (passed now (map_of K.cmp self.now))) }
+    {
+        keys_passed(&self.dues, alloc, now)
+    }
+
+    /// Drops what has passed. It looks at this alone, and takes no memory.
+    pub fn drop_passed(&mut self, now: Moment)
+        ensures { map_of K.cmp self.new ≡ unexpired now (map_of K.cmp self.old) }
+    {
+        drop_passed(&mut self.held, &mut self.dues, now)
     }
 }

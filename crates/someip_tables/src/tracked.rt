@@ -2,7 +2,7 @@
 //! map. What never passes stands in the map alone.
 ghost use Rattle.std.specs.Prelude.{◌≡◌, ◌+◌, ◌≢◌, ◌↔◌, ◌<◌, ◌≤◌, OnOk, OnErr, IfOk, IfSome, IfNone, if◌then◌else◌, Some, None, true, false, IsTrue, Bool, map, filter, take_while, nat_le, is_some};
 ghost use Rattle.std.specs.BTreeMap.{get, btree_map_len, IsUnchanged};
-ghost use Rattle.std.specs.BTreeSet.{contains, IsFromIterResult};
+ghost use Rattle.std.specs.BTreeSet.{contains, IsFromIterResult, IsOrdered};
 ghost use Rattle.std.specs.FinMap as finite;
 ghost use Rattle.std.specs.Ordering.{eq_by_cmp};
 ghost use Rattle.someip_tables.specs.Dues.{Tracks, due_cmp, is_due_of};
@@ -103,7 +103,8 @@ pub(crate) fn keys_passed<K: Key>(
     alloc: Global,
     now: Moment,
 ) -> Result<BTreeSet<K>, AllocError>
-    ensures { IfOk result (IsFromIterResult K.cmp (map (λ due. due.key) (take_while (λ due. nat_le due.at now) dues.now.keys))) }
+    ensures ordered { IsOrdered (due_cmp K.cmp) dues.now }
+    ensures collected { IfOk result (IsFromIterResult K.cmp (map (λ due. due.key) (take_while (λ due. nat_le due.at now) dues.now.keys))) }
 {
     let millis = now.as_millis();
     dues.iter()
