@@ -11,7 +11,11 @@ use Rattle.std.specs.BTreeMap.{is_at}
 use Rattle.std.specs.FinMap.{FinMap, IsAntisymmetric, find, get, insert, remove, len, entries, retain_keys, from_sorted, entries-from_sorted, get-from_sorted, get-from_entries, get-insert, get-remove, get-retain_keys, empty, get-empty, len-entries, same_map}
 use Rattle.std.specs.FinMap.Entries.{below_all, is_sorted}
 use Rattle.std.proofs.lemmas.Bool.{and_from}
-use Rattle.std.proofs.lemmas.Map.Entries.{lookup-filter-keys}
+use Rattle.std.proofs.lemmas.Map.Entries.{lookup-filter-keys, none_past_head}
+use Rattle.std.proofs.lemmas.Map.{lookup-none}
+use Rattle.std.proofs.lemmas.Map.Keys.{IsDistinct-from_sorted}
+use Rattle.std.specs.Option.{is_none}
+use Rattle.someip_tables.specs.Distinct.{are_distinct}
 use lib.Dec.{T}
 use Rattle.someip_tables.specs.Tables.{map_of}
 use Rattle.someip_tables.proofs.Entries.{same_by_test, own_test}
@@ -79,3 +83,11 @@ module _ {K X : Type 0} {R : K → K → Ordering} (o : IsTotalOrder R) (exact :
       let found : lookup (is_at (R e.0)) (e ∷ es) ≡ Some e.1 = ap (λ b. cond b (Some e.1) (lookup (is_at (R e.0)) es)) (own_test o e.0) in
       let none : lookup (is_at (R e.0)) (e ∷ es) ≡ None = sym (get-map_of o (e ∷ es) e.0) ∙ (ap (λ m. get m e.0) is ∙ get-empty R e.0) in
       absurd (cc)
+
+  -- in a list by rising keys none stands twice
+  pub rising_distinct : (es : List (K × X)) → IsStrictlySortedBy R (keys_of es) → are_distinct R es ≡ true
+  unfolding IsStrictlySortedBy
+  rising_distinct [] rising = refl
+  rising_distinct (e ∷ es) rising =
+      let none : find R e.0 es ≡ None = find-lookup R e.0 es ∙ lookup-none (is_at (R e.0)) es (none_past_head (eq_by_cmp_equiv o) e.0 e es (IsDistinct-from_sorted R (keys_of (e ∷ es)) rising) (own_test o e.0)) in
+      and_from _ _ (ap is_none none) (rising_distinct es rising.1)

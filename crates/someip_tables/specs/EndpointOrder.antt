@@ -1,6 +1,7 @@
 -- The orders of addresses and endpoints are total, and only equal ones tie.
 use Rattle.std.proofs.Common.{◌≡◌, ℕ, List, ap}
-use Rattle.std.specs.Ordering.{nat_cmp}
+use Rattle.std.specs.declared.cmp.Ordering.{Ordering}
+use Rattle.std.specs.Ordering.{nat_cmp, ordering_then}
 use Rattle.std.specs.Cmp.{IsTotalOrder, nat_cmp_total}
 use Rattle.std.specs.Cmp.Lexicographic.{slice_cmp}
 use Rattle.std.proofs.lemmas.Cmp.{on_total, then_total, nat_list_cmp_total}
@@ -23,3 +24,7 @@ endpoints_total = then_total (on_total v4_ip addresses_total) (on_total v4_port 
 pub exact_endpoints : CmpEqualImpliesEq endpoint_cmp
 exact_endpoints a b h =
     ap (λ (p : Ipv4Addr × ℕ). record { ip = p.0; port = p.1 }) (exact_pairs address_cmp nat_cmp exact_addresses exact_unsigned (v4_ip a, v4_port a) (v4_ip b, v4_port b) h)
+
+-- what is ordered by its first part and then by its second
+pub exact_pair : {A B : Type 0} (P : A → A → Ordering) (Q : B → B → Ordering) → CmpEqualImpliesEq P → CmpEqualImpliesEq Q → CmpEqualImpliesEq (λ (x y : A × B). ordering_then (P x.0 y.0) (Q x.1 y.1))
+exact_pair P Q p q = exact_pairs P Q p q

@@ -1,10 +1,12 @@
 -- What lasts until a deadline.
-use Rattle.std.specs.Prelude.{ℕ, Bool, not, Option, None, Some}
+use Rattle.std.specs.Prelude.{◌≢◌, ⊤, refl, ℕ, Bool, not, Option, None, Some}
 use Rattle.std.specs.declared.cmp.Ordering.{Ordering}
 use Rattle.std.specs.FinMap.{FinMap}
+use Rattle.std.specs.Coded.{Coded, code_by, coded×}
 use Rattle.someip_tables.specs.declared.deadline.Deadline.{Deadline}
+use Rattle.someip_tables.specs.declared.deadline.Deadline.TheVariants.{Never}
 use Rattle.someip_tables.specs.declared.lasting.Lasting.{Lasting}
-use Rattle.someip_tables.specs.Deadlines.{has_passed}
+use Rattle.someip_tables.specs.Deadlines.{has_passed, coded_deadline}
 use Rattle.someip_tables.specs.Retained.{kept, retain}
 
 -- until when the value lasts, if there is one
@@ -22,3 +24,13 @@ passed now m = retain m (λ _ lasting. has_passed now lasting.until)
 
 abbrev pub unexpired : {K V : Type 0} {R : K → K → Ordering} → ℕ → FinMap R (Lasting V) → FinMap R (Lasting V)
 unexpired now m = retain m (λ _ lasting. not (has_passed now lasting.until))
+
+-- memory may be wanted to keep a value until this deadline in place of what there is: for a new key, and for a new
+-- deadline that will pass
+abbrev pub NeedsMemory : {V : Type 0} → Option (Lasting V) → Deadline → Type 0
+NeedsMemory None until = ⊤
+NeedsMemory (Some lasting) until = (lasting.until ≢ until) × (until ≢ Never)
+
+-- a value is stored with its deadline
+abbrev pub coded_lasting : {V : Type 0} → Coded V → Coded (Lasting V)
+coded_lasting {V} v = code_by (V × Deadline) (coded× v coded_deadline) (λ x. (x.value, x.until)) (λ p. record { value = p.0; until = p.1 }) (λ _. refl)

@@ -4,7 +4,7 @@ ghost use Rattle.std.specs.Option.{option_copied};
 ghost use Rattle.std.specs.FinMap as finite;
 ghost use Rattle.std.specs.Map.Iter.{ShowsInOrder, deref_pair};
 ghost use Rattle.someip_tables.specs.declared.lasting.Lasting.{Lasting};
-ghost use Rattle.someip_tables.specs.Lastings.{until_of, passed, unexpired};
+ghost use Rattle.someip_tables.specs.Lastings.{NeedsMemory, unless_passed, passed, unexpired};
 ghost use Rattle.someip_tables.specs.Tables.{map_of, Answers};
 
 use crate::deadline::Deadline;
@@ -12,7 +12,7 @@ use crate::due::Due;
 use crate::key::Key;
 use crate::lasting::Lasting;
 use crate::moment::Moment;
-use crate::tracked::{drop_passed, first_passed, keys_passed, put, retain_keys, take_out};
+use crate::tracked::{count_unexpired, drop_passed, first_passed, keys_passed, put, retain_keys, take_out};
 use std::alloc::{AllocError, Global};
 use std::collections::{BTreeMap, BTreeSet, btree_map};
 use std::marker::Model;
@@ -69,6 +69,26 @@ impl<K: Key, V: Drop> DeadlineMap<K, V> {
         self.held.get(key)
     }
 
+    /// The value of a key, and until when it lasts, unless that has passed.
+    pub fn get_unexpired(&self, key: &K, now: Moment) -> Option<&Lasting<V>>
+        ensures { option_copied result
+            ≡ unless_passed now (finite.get (map_of K.cmp self.now) key.now) }
+    {
+        match self.get(key) {
+            Some(lasting) if !lasting.until.has_passed(now) => Some(lasting),
+            _ => None,
+        }
+    }
+
+    /// How many entries have not passed among those whose keys pass a test. It looks at every entry.
+    pub fn count_unexpired<F: Fn(&K) -> bool + Drop>(&self, now: Moment, of: F) -> usize
+        requires { F.IsAlwaysCallable of }
+        ensures { (test : K → Bool) → Answers F.Fn of test
+            → result ≡ finite.len (finite.retain_keys (unexpired now (map_of K.cmp self.now)) test) }
+    {
+        count_unexpired(&self.held, now, of)
+    }
+
     /// The entries, by rising key.
     pub fn iter(&self) -> btree_map::Iter<'_, K, Lasting<V>>
         ensures rest { result ≡ finite.entries (map_of K.cmp self.now) }
@@ -79,14 +99,14 @@ impl<K: Key, V: Drop> DeadlineMap<K, V> {
     }
 
     /// Puts a value under a key, in place of an earlier one and its deadline. What is refused for want
-    /// of memory leaves the map as it was, and memory is wanted only where the key is new or its
-    /// deadline changes.
+    /// of memory leaves the map as it was, and memory is wanted only where the key is new or has a
+    /// new deadline that will pass.
     pub fn insert(&mut self, key: K, value: V, until: Deadline) -> Result<(), AllocError>
         ensures ok { OnOk result (map_of K.cmp self.new
             ≡ finite.insert (map_of K.cmp self.old) key (record { value = value; until = until })) }
         ensures err { OnErr result (self.new ≡ self.old) }
-        ensures grows { OnErr result (until_of (finite.get (map_of K.cmp self.old) key)
-            ≢ Some until) }
+        ensures grows { OnErr result
+            (NeedsMemory (finite.get (map_of K.cmp self.old) key) until) }
     {
         put(&mut self.held, &mut self.dues, key, Lasting { value, until })
     }

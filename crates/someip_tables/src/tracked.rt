@@ -1,12 +1,14 @@
 //! An ordered map, and beside it its deadlines in order: the set holds exactly the deadlines of the
 //! map. What never passes stands in the map alone.
-ghost use Rattle.std.specs.Prelude.{◌≡◌, ◌+◌, ◌≢◌, ◌↔◌, ◌<◌, ◌≤◌, OnOk, OnErr, IfOk, IfSome, IfNone, if◌then◌else◌, Some, None, true, false, IsTrue, Bool, map, filter, take_while, nat_le, is_some};
-ghost use Rattle.std.specs.BTreeMap.{get, btree_map_len, IsUnchanged};
-ghost use Rattle.std.specs.BTreeSet.{contains, IsFromIterResult, IsOrdered};
+ghost use Rattle.std.specs.Prelude.{◌≡◌, ◌+◌, ◌≢◌, ◌↔◌, ◌<◌, ◌≤◌, OnOk, OnErr, IfOk, IfSome, IfNone, if◌then◌else◌, Some, None, true, false, IsTrue, Bool, map, filter, take_while, nat_le, is_some, length, not, ◌&&◌};
+ghost use Rattle.std.specs.BTreeMap.{get, btree_map_len, IsOrdered, IsUnchanged};
+ghost use Rattle.std.specs.BTreeSet as sorted;
+ghost use Rattle.std.specs.BTreeSet.{contains, IsFromIterResult};
 ghost use Rattle.std.specs.FinMap as finite;
 ghost use Rattle.std.specs.Ordering.{eq_by_cmp};
 ghost use Rattle.someip_tables.specs.Dues.{Tracks, due_cmp, is_due_of};
-ghost use Rattle.someip_tables.specs.Lastings.{until_of, passed, unexpired};
+ghost use Rattle.someip_tables.specs.Lastings.{NeedsMemory, until_of, passed, unexpired};
+ghost use Rattle.someip_tables.specs.Deadlines.{has_passed};
 ghost use Rattle.someip_tables.specs.Tables.{map_of, Answers};
 ghost use Rattle.someip_tables.specs.declared.due.Due.{Due};
 
@@ -46,7 +48,7 @@ pub(crate) fn put<K: Key, V: Drop>(
     requires { Tracks K.cmp dues.old held.old }
     ensures ok { OnOk result ((q : K) → get K.cmp held.new q ≡ (if eq_by_cmp K.cmp key q then Some lasting else get K.cmp held.old q)) }
     ensures err { OnErr result (IsUnchanged held.old held.new) }
-    ensures grows { OnErr result (until_of (get K.cmp held.old key) ≢ Some lasting.until) }
+    ensures grows { OnErr result (NeedsMemory (get K.cmp held.old key) lasting.until) }
     ensures tracks { Tracks K.cmp dues.new held.new }
 {
     let until = lasting.until;
@@ -103,7 +105,7 @@ pub(crate) fn keys_passed<K: Key>(
     alloc: Global,
     now: Moment,
 ) -> Result<BTreeSet<K>, AllocError>
-    ensures ordered { IsOrdered (due_cmp K.cmp) dues.now }
+    ensures ordered { sorted.IsOrdered (due_cmp K.cmp) dues.now }
     ensures collected { IfOk result (IsFromIterResult K.cmp (map (λ due. due.key) (take_while (λ due. nat_le due.at now) dues.now.keys))) }
 {
     let millis = now.as_millis();
@@ -140,6 +142,21 @@ fn retain_held<K: Key, V: Drop, F: Fn(&K) -> bool + Drop>(
     held.retain(|key, _| keep(key));
 }
 
+/// How many entries have not passed among those whose keys pass a test.
+pub(crate) fn count_unexpired<K: Key, V, F: Fn(&K) -> bool + Drop>(
+    held: &BTreeMap<K, Lasting<V>>,
+    now: Moment,
+    of: F,
+) -> usize
+    requires { F.IsAlwaysCallable of }
+    ensures ordered { IsOrdered K.cmp held.now }
+    ensures counted { (p : K → Bool) → Answers F.Fn of p → result ≡ length (filter (λ e. not (has_passed now e.1.until) && p e.0) held.now.entries) }
+{
+    held.iter()
+        .filter(|(key, lasting)| !lasting.until.has_passed(now) && of(key))
+        .count()
+}
+
 /// Keeps the deadlines of the keys that the map has.
 fn retain_dues<K: Key, V: Drop>(held: &BTreeMap<K, Lasting<V>>, dues: &mut BTreeSet<Due<K>>)
     ensures { dues.new.keys ≡ filter (λ due. is_some (get K.cmp held.now due.key)) dues.old.keys }
@@ -174,6 +191,7 @@ fn add_due<K: Key>(
 ) -> Result<(), AllocError>
     ensures ok { OnOk result ((due : Due K) → contains (due_cmp K.cmp) dues.new due ≡ (if is_due_of K.cmp key (Some until) due then true else contains (due_cmp K.cmp) dues.old due)) }
     ensures err { OnErr result ((due : Due K) → contains (due_cmp K.cmp) dues.new due ≡ contains (due_cmp K.cmp) dues.old due) }
+    ensures passes { OnErr result (until ≢ Deadline.Never) }
 {
     if let Deadline::At(at) = until {
         dues.insert(Due { at, key })?;
