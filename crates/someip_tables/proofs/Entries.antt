@@ -1,12 +1,14 @@
 -- A list of entries without a key twice, and the map that it makes.
-use Rattle.std.proofs.Common.{◌≡◌, ◌+◌, Bool, true, false, cond, not, ◌&&◌, List, [], ◌∷◌, ◌++◌, filter, length, Option, None, Some, refl, ap, sym, ◌∙◌, arith}
+use Rattle.std.proofs.Common.{◌≡◌, ◌+◌, ◌≤◌, Bool, true, false, cond, not, ◌&&◌, List, [], ◌∷◌, ◌++◌, filter, length, Option, None, Some, refl, ap, sym, ◌∙◌, arith}
 use Rattle.std.specs.Option.{is_some, is_none, option_map_or}
 use Rattle.std.specs.declared.cmp.Ordering.{Ordering}
-use Rattle.std.specs.Ordering.{eq_by_cmp, is_eq}
+use Rattle.std.specs.declared.cmp.Ordering.TheVariants.{Less, Equal, Greater}
+use Rattle.std.specs.Ordering.{eq_by_cmp, is_eq, is_lt}
 use Rattle.std.specs.Cmp.{IsTotalOrder, Equal-is, eq_by_cmp_equiv, tied_itself}
-use Rattle.std.specs.FinMap.{FinMap, IsAntisymmetric, find, get, insert, remove, len, from_entries, retain_keys, get-retain_keys, get-from_entries, get-insert, get-remove, len-empty, len-insert, same_map}
-use Rattle.std.specs.FinMap.Entries.{find-append}
+use Rattle.std.specs.FinMap.{FinMap, IsAntisymmetric, find, get, insert, remove, len, from_entries, retain_keys, get-retain_keys, get-from_entries, get-insert, get-remove, len-empty, len-insert, same_map, entries, entries_sorted, get-entries, len-entries}
+use Rattle.std.specs.FinMap.Entries.{find-append, below_all, is_sorted}
 use Rattle.std.proofs.lemmas.Bool.{and_parts, and_from, and_right}
+use lib.Dec.{T}
 use Rattle.someip_tables.specs.Retained.{kept, retain}
 use Rattle.someip_tables.specs.Distinct.{are_distinct}
 
@@ -20,7 +22,19 @@ same_by_test {R = R} exact q k t = exact q k ((Equal-is (R q k)).0 t)
 pub own_test : {K : Type 0} {R : K → K → Ordering} → IsTotalOrder R → (k : K) → eq_by_cmp R k k ≡ true
 own_test o k = ap is_eq (tied_itself o k)
 
-and_pass : (x y : Bool) → y ≡ true → (x && y) ≡ x
+length-filter-le : {X : Type 0} (p : X → Bool) (xs : List X) → length (filter p xs) ≤ length xs
+length-filter-le p [] = omega arith
+length-filter-le p (x ∷ xs) = cases (p x) (length-filter-le p xs)
+  where
+    cases : (b : Bool) → length (filter p xs) ≤ length xs → length (cond b (x ∷ filter p xs) (filter p xs)) ≤ length (x ∷ xs)
+    cases true le = omega arith
+    cases false le = omega arith
+
+pub true_from : {b : Bool} → T b → b ≡ true
+true_from {b = true} h = refl
+true_from {b = false} h = absurd h
+
+pub and_pass : (x y : Bool) → y ≡ true → (x && y) ≡ x
 and_pass true y e = e
 and_pass false y e = refl
 
@@ -141,7 +155,7 @@ module _ {K X : Type 0} {R : K → K → Ordering} (o : IsTotalOrder R) (exact :
       at false None = refl
       at t (Some x) = refl
 
-  retain_both : (m : FinMap R X) (p : K → X → Bool) (t : K → Bool) → retain_keys (retain m p) t ≡ retain m (λ k x. p k x && t k)
+  pub retain_both : (m : FinMap R X) (p : K → X → Bool) (t : K → Bool) → retain_keys (retain m p) t ≡ retain m (λ k x. p k x && t k)
   retain_both m p t =
       same_map o exact _ _ (λ q.
       get-retain_keys (retain m p) t q (λ x tie. ap t (sym (exact q x tie))) ∙ ap (λ v. cond (t q) v None) (get-retain m p q)
@@ -157,9 +171,43 @@ module _ {K X : Type 0} {R : K → K → Ordering} (o : IsTotalOrder R) (exact :
       at q false None = refl
       at q b (Some x) = both (p q x) b x
 
+  -- the entries of a map make it, and none stands twice among them
+  pub from_entries-entries : (m : FinMap R X) → from_entries {R = R} (entries m) ≡ m
+  from_entries-entries m = same_map o exact _ _ (λ q. get-from_entries o (entries m) q ∙ sym (get-entries m q))
+
+  absent_above : (x : K) (es : List (K × X)) → below_all R x es ≡ true → find R x es ≡ None
+  absent_above x [] below = refl
+  absent_above x (e ∷ es) below = let parts = and_parts _ _ below in cases (R x e.0) parts.0 (absent_above x es parts.1)
+    where
+      cases : (r : Ordering) → is_lt r ≡ true → find R x es ≡ None → cond (is_eq r) (Some e.1) (find R x es) ≡ None
+      cases Less lt rest = rest
+      cases Equal lt rest = absurd (cc)
+      cases Greater lt rest = absurd (cc)
+
+  sorted_distinct : (es : List (K × X)) → is_sorted R es ≡ true → are_distinct R es ≡ true
+  sorted_distinct [] sorted = refl
+  sorted_distinct (e ∷ es) sorted = let parts = and_parts _ _ sorted in and_from _ _ (ap is_none (absent_above e.0 es parts.0)) (sorted_distinct es parts.1)
+
+  pub entries_distinct : (m : FinMap R X) → are_distinct R (entries m) ≡ true
+  entries_distinct m = sorted_distinct (entries m) (true_from (entries_sorted m))
+
   -- how many entries pass is how many keys do
   pub length-filter_is : (p : K → X → Bool) (t : K → Bool) (es : List (K × X)) → are_distinct R es ≡ true
       → length (filter (λ e. p e.0 e.1 && t e.0) es) ≡ len (retain_keys (retain (from_entries {R = R} es) p) t)
   length-filter_is p t es d =
       sym (len-from_entries _ (distinct-filter (λ e. p e.0 e.1 && t e.0) es d))
       ∙ ap len (from_entries-filter (λ e. p e.0 e.1 && t e.0) es d ∙ sym (retain_both (from_entries es) p t))
+
+  -- what passes a test is no more than there was
+  pub len-retain_keys-≤ : (m : FinMap R X) (p : K → Bool) → len (retain_keys m p) ≤ len m
+  len-retain_keys-≤ m p =
+      let whole : from_entries {R = R} (entries m) ≡ m = from_entries-entries m in
+      let rest : len (retain_keys m p) ≡ length (filter (λ e. p e.0) (entries m)) =
+      ap (λ n. len (retain_keys n p)) (sym whole)
+      ∙ ap len (sym (retain_keys_retain (from_entries (entries m)) p))
+      ∙ ap len (sym (from_entries-filter (λ e. p e.0) (entries m) (entries_distinct m)))
+      ∙ len-from_entries _ (distinct-filter (λ e. p e.0) (entries m) (entries_distinct m)) in
+      rw (rest, len-entries m) (length-filter-le (λ e. p e.0) (entries m))
+
+  pub len-retain-≤ : (m : FinMap R X) (p : K → X → Bool) → len (retain m p) ≤ len m
+  len-retain-≤ m p = len-retain_keys-≤ m (λ k. option_map_or (p k) (get m k) false)

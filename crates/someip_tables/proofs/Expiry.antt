@@ -1,12 +1,12 @@
 -- What has passed at a moment, and what has not.
-use Rattle.std.proofs.Common.{◌≡◌, ℕ, ◌<◌, ◌≤◌, ◌==◌, nat_le, Bool, true, false, cond, not, List, Option, None, Some, refl, ap, sym, ◌∙◌, arith}
+use Rattle.std.proofs.Common.{◌≡◌, ℕ, ◌<◌, ◌≤◌, ◌==◌, nat_le, Bool, true, false, cond, not, ◌&&◌, List, Option, None, Some, refl, ap, sym, ◌∙◌, arith}
 use Rattle.std.specs.Option.{is_some}
 use Rattle.std.specs.declared.cmp.Ordering.{Ordering}
 use Rattle.std.specs.Ordering.{eq_by_cmp}
 use Rattle.std.specs.Cmp.{IsTotalOrder}
 use Rattle.std.specs.Map.{lookup}
 use Rattle.std.specs.BTreeMap.{is_at}
-use Rattle.std.specs.FinMap.{FinMap, IsAntisymmetric, get, remove, get-remove, same_map}
+use Rattle.std.specs.FinMap.{FinMap, IsAntisymmetric, get, insert, remove, retain_keys, get-remove, same_map}
 use Rattle.std.proofs.lemmas.Bool.Decides.{nat_tests}
 use Rattle.someip_tables.specs.declared.deadline.Deadline.{Deadline}
 use Rattle.someip_tables.specs.declared.deadline.Deadline.TheVariants.{At, Never}
@@ -16,7 +16,8 @@ use Rattle.someip_tables.specs.Retained.{kept, retain}
 use Rattle.someip_tables.specs.Lastings.{until_of, unless_passed, unexpired, passed}
 use Rattle.someip_tables.specs.Dues.{is_due}
 use Rattle.someip_tables.specs.Tables.{map_of}
-use Rattle.someip_tables.proofs.Entries.{same_by_test, get-retain}
+use Rattle.someip_tables.proofs.Entries.{same_by_test, get-retain, retain_keys_retain, retain_both}
+use Rattle.someip_tables.proofs.MapLaws.{retain-retain, retain_same, retain_stronger, retain-insert_kept}
 use Rattle.someip_tables.proofs.Trees.{map_of-remove, get-map_of}
 
 -- a deadline at a moment has passed from then on
@@ -28,6 +29,11 @@ at_passed at now Never is le = cc
 pub not_passed : (now : ℕ) (until : Deadline) → ((at : ℕ) → is_due at (Some until) ≡ true → now < at) → has_passed now until ≡ false
 not_passed now (At moment) later = let lt : now < moment = later moment (grind (arith, nat_tests)) in grind (arith, nat_tests)
 not_passed now Never later = refl
+
+-- what has not passed later has not passed before
+pub passed_later : (now later : ℕ) (until : Deadline) → now ≤ later → not (has_passed later until) ≡ true → not (has_passed now until) ≡ true
+passed_later now later (At moment) le stands = grind (arith, nat_tests)
+passed_later now later Never le stands = refl
 
 module _ {V : Type 0} where
   -- what has a deadline is there
@@ -70,3 +76,25 @@ module _ {K V : Type 0} {R : K → K → Ordering} (o : IsTotalOrder R) (exact :
 
   pub unexpired-none : (now : ℕ) (es : List (K × Lasting V)) → ((q : K) → unless_passed now (lookup (is_at (R q)) es) ≡ lookup (is_at (R q)) es) → map_of R es ≡ unexpired now (map_of R es)
   unexpired-none now es stays = sym (unexpired-all now (map_of R es) (λ q. ap (unless_passed now) (get-map_of o es q) ∙ stays q ∙ sym (get-map_of o es q)))
+
+  -- what has passed once has passed later too
+  pub unexpired-unexpired : (now later : ℕ) (m : FinMap R (Lasting V)) → now ≤ later → unexpired later (unexpired now m) ≡ unexpired later m
+  unexpired-unexpired now later m le =
+      retain_stronger o exact m (λ _ lasting. not (has_passed now lasting.until)) (λ _ lasting. not (has_passed later lasting.until)) (λ k lasting. passed_later now later lasting.until le)
+
+  -- a value that has not passed is put in
+  pub unexpired-insert : (now : ℕ) (m : FinMap R (Lasting V)) (k : K) (lasting : Lasting V) → has_passed now lasting.until ≡ false → unexpired now (insert m k lasting) ≡ insert (unexpired now m) k lasting
+  unexpired-insert now m k lasting stands = retain-insert_kept o exact m (λ _ x. not (has_passed now x.until)) k lasting (ap not stands)
+
+  -- a test of keys and the time that is over
+  pub unexpired-retain_keys : (now : ℕ) (m : FinMap R (Lasting V)) (p : K → Bool) → unexpired now (retain_keys m p) ≡ retain_keys (unexpired now m) p
+  unexpired-retain_keys now m p =
+      ap (unexpired now) (sym (retain_keys_retain o exact m p)) ∙ retain-retain o exact m (λ k _. p k) (λ _ x. not (has_passed now x.until))
+      ∙ retain_same o exact m (λ k x. p k && not (has_passed now x.until)) (λ k x. not (has_passed now x.until) && p k) (λ k x. swapped (p k) (not (has_passed now x.until)))
+      ∙ sym (retain_both o exact m (λ _ x. not (has_passed now x.until)) p)
+    where
+      swapped : (a b : Bool) → (a && b) ≡ (b && a)
+      swapped true true = refl
+      swapped true false = refl
+      swapped false true = refl
+      swapped false false = refl

@@ -1,4 +1,5 @@
 pub mod Entries
+pub mod MapLaws
 pub mod Members
 pub mod Sorted
 pub mod Trees

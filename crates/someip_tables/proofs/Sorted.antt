@@ -13,7 +13,7 @@ use Rattle.std.specs.FinMap.Entries.{below_all, is_sorted}
 use Rattle.std.proofs.lemmas.Bool.{and_from, and_parts}
 use lib.Dec.{T}
 use Rattle.someip_tables.specs.SortedSet.{sorted_set}
-use Rattle.someip_tables.proofs.Entries.{same_by_test}
+use Rattle.someip_tables.proofs.Entries.{true_from}
 
 abbrev marked : {X : Type 0} → List X → List (X × Unit {0})
 marked xs = map (λ x. (x, tt {0})) xs
@@ -42,10 +42,6 @@ below-keys R x (e ∷ es) below = let parts = and_parts _ _ below in and_from _ 
 sorted-keys : {X V : Type 0} (R : X → X → Ordering) (es : List (X × V)) → is_sorted R es ≡ true → is_sorted R (marked (map (λ e. e.0) es)) ≡ true
 sorted-keys R [] rising = refl
 sorted-keys R (e ∷ es) rising = let parts = and_parts _ _ rising in and_from _ _ (below-keys R e.0 es parts.0) (sorted-keys R es parts.1)
-
-true_from : {b : Bool} → T b → b ≡ true
-true_from {b = true} h = refl
-true_from {b = false} h = absurd h
 
 module _ {X : Type 0} {R : X → X → Ordering} (o : IsTotalOrder R) (exact : IsAntisymmetric R) where
   -- the same elements make the same list
