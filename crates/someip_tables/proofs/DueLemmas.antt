@@ -37,11 +37,11 @@ not_before R first due h = cases (nat_lt first.at due.at) (first.at == due.at) r
     cases false false l is h = absurd (cc)
 
 -- a test, as a fact and as an equation
-pub in_order-found : {b : Bool} → IsTrue b → b ≡ true
-in_order-found h = search rules
+pub test_is_true : {b : Bool} → IsTrue b → b ≡ true
+test_is_true h = search rules
 
-pub in_order-told : {b : Bool} → b ≡ true → IsTrue b
-in_order-told h = search rules
+pub true_is_test : {b : Bool} → b ≡ true → IsTrue b
+true_is_test h = search rules
 
 module _ {K : Type 0} {R : K → K → Ordering} where
   -- the order of keys at their deadlines is total, and only equal ones tie

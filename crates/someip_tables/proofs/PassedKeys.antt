@@ -27,7 +27,7 @@ use Rattle.someip_tables.specs.Dues.{due_cmp, is_due, Tracks}
 use Rattle.someip_tables.specs.Tables.{map_of}
 use Rattle.someip_tables.proofs.Entries.{same_by_test, own_test}
 use Rattle.someip_tables.proofs.Trees.{get-map_of}
-use Rattle.someip_tables.proofs.DueLemmas.{not_before, dues_total, exact_dues, in_order-found, in_order-told}
+use Rattle.someip_tables.proofs.DueLemmas.{not_before, dues_total, exact_dues, test_is_true, true_is_test}
 use Rattle.someip_tables.proofs.Expiry.{at_passed, not_passed, get-passed}
 use Rattle.someip_tables.proofs.Members.{any_map, any_filter, any_at, any_found, both_or_none}
 use Rattle.someip_tables.proofs.Sorted.{keys_of_set}
@@ -121,7 +121,7 @@ module _ {K V : Type 0} {R : K → K → Ordering} (o : IsTotalOrder R) (exact :
         λ some. absurd (some (same_map o exact _ _ (λ q.
         get-passed o exact now (map_of R held.entries) q
         ∙ ap (kept (λ lasting. has_passed now lasting.until)) (get-map_of o held.entries q)
-        ∙ none_kept now (tree.get R held q) (λ at is. none (record { at = at; key = q }) (in_order-told (tracks (record { at = at; key = q }) ∙ is)))
+        ∙ none_kept now (tree.get R held q) (λ at is. none (record { at = at; key = q }) (true_is_test (tracks (record { at = at; key = q }) ∙ is)))
         ∙ sym (get-empty R q))))
       )
     where
@@ -132,7 +132,7 @@ module _ {K V : Type 0} {R : K → K → Ordering} (o : IsTotalOrder R) (exact :
         λ some gone.
         not_none (get (passed now (map_of R held.entries)) due.key)
         (ap is_some (get-passed o exact now (map_of R held.entries) due.key ∙ ap (kept (λ lasting. has_passed now lasting.until)) (get-map_of o held.entries due.key))
-        ∙ there now due.at (tree.get R held due.key) (sym (tracks due) ∙ in_order-found found) (grind (arith, nat_tests)))
+        ∙ there now due.at (tree.get R held due.key) (sym (tracks due) ∙ test_is_true found) (grind (arith, nat_tests)))
         (ap (λ m. get m due.key) gone ∙ get-empty R due.key),
-        λ some. in_order-told refl
+        λ some. true_is_test refl
       )

@@ -5,7 +5,7 @@ use Rattle.std.specs.List.Sorted.{IsStrictlySortedBy}
 use Rattle.std.specs.Option.{is_some}
 use Rattle.std.specs.BTreeSet.{BTreeSet, IsFromIterResult}
 use Rattle.std.specs.declared.cmp.Ordering.{Ordering}
-use Rattle.std.specs.declared.cmp.Ordering.TheVariants.{Less}
+use Rattle.std.specs.declared.cmp.Ordering.TheVariants.{Less, Equal, Greater}
 use Rattle.std.specs.Ordering.{eq_by_cmp, is_lt}
 use Rattle.std.specs.Cmp.{IsTotalOrder}
 use Rattle.std.specs.FinMap.{FinMap, IsAntisymmetric, find, get, keys, entries, from_entries, from_sorted, entries-from_sorted, get-from_sorted, get-from_entries, same_map, entries_sorted, contains_key-keys}
@@ -72,3 +72,35 @@ module _ {X : Type 0} {R : X → X → Ordering} (o : IsTotalOrder R) (exact : I
       let same : s ≡ from_entries (marked xs) = same_map o exact _ _ (λ q.
       get-from_sorted R (marked n.keys) q rises ∙ find-marked R q n.keys ∙ ap (λ b. cond b (Some tt) None) (is.0 q) ∙ sym (get-from_entries o (marked xs) q ∙ find-marked R q xs)) in
       sym (keys-marked n.keys) ∙ ap (map (λ e. e.0)) (sym (entries-from_sorted R (marked n.keys) rises)) ∙ ap keys same
+
+  -- a sorted set has the elements of the list
+  pub any-sorted_set : (xs : List X) (q : X) → list_any (eq_by_cmp R q) (sorted_set R xs) ≡ list_any (eq_by_cmp R q) xs
+  any-sorted_set xs q =
+      sym (contains_key-keys (from_entries (marked xs)) q) ∙ ap is_some (get-from_entries o (marked xs) q ∙ find-marked R q xs) ∙ told (list_any (eq_by_cmp R q) xs)
+    where
+      told : (b : Bool) → is_some (cond b (Some (tt {0})) None) ≡ b
+      told true = refl
+      told false = refl
+
+  rising-keys : {V : Type 0} (es : List (X × V)) → is_sorted R es ≡ true → IsStrictlySortedBy R (map (λ e. e.0) es)
+  unfolding IsStrictlySortedBy
+  rising-keys [] sorted = tt
+  rising-keys (e ∷ es) sorted = let parts = and_parts _ _ sorted in (all_below e.0 es parts.0, rising-keys es parts.1)
+    where
+      less : (r : Ordering) → is_lt r ≡ true → r ≡ Less
+      less Less h = refl
+      less Equal h = absurd (cc)
+      less Greater h = absurd (cc)
+
+      all_below : {V : Type 0} (x : X) (fs : List (X × V)) → below_all R x fs ≡ true → AllByRecursion (λ y. R x y ≡ Less) (map (λ f. f.0) fs)
+      all_below x [] below = tt
+      all_below x (f ∷ fs) below = let parts = and_parts _ _ below in (less (R x f.0) parts.0, all_below x fs parts.1)
+
+  -- and rises
+  pub sorted_set-rises : (xs : List X) → IsStrictlySortedBy R (sorted_set R xs)
+  sorted_set-rises xs = rising-keys (entries (from_entries {R = R} (marked xs))) (true_from (entries_sorted (from_entries {R = R} (marked xs))))
+
+  -- no other list does
+  pub sorted_set-only : (xs ys : List X) → IsStrictlySortedBy R ys → ((q : X) → list_any (eq_by_cmp R q) ys ≡ list_any (eq_by_cmp R q) xs) → ys ≡ sorted_set R xs
+  sorted_set-only xs ys rises same =
+      rising_same ys (sorted_set R xs) (sorted-marked R ys rises) (sorted-marked R (sorted_set R xs) (sorted_set-rises xs)) (λ q. same q ∙ sym (any-sorted_set xs q))

@@ -7,3 +7,4 @@ pub mod EndpointOrder
 pub mod Tables
 pub mod Lastings
 pub mod Dues
+pub mod Examples

@@ -3,7 +3,8 @@
 //! - [`Moment`]: a point of a node's clock;
 //! - [`Deadline`]: until when something lasts;
 //! - [`Key`]: what tells the entries of a table apart;
-//! - [`DeadlineMap`]: a map whose values last until a deadline each, as [`Lasting`] says.
+//! - [`DeadlineMap`]: a map whose values last until a deadline each, as [`Lasting`] says;
+//! - [`laws`]: what the definitions behind the contracts promise, whatever body keeps them.
 #![tactic(auto)]
 
 mod deadline;
@@ -11,6 +12,7 @@ mod deadline_map;
 mod due;
 mod key;
 mod lasting;
+pub mod laws;
 mod moment;
 mod tracked;
 
