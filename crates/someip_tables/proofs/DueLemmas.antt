@@ -1,31 +1,16 @@
 -- What the deadlines in order show after a change.
 use Rattle.std.specs.Prelude.{IsTrue}
-use Rattle.std.proofs.Common.{rules, ◌≡◌, ℕ, ◌==◌, nat_lt, ◌≤◌, Bool, true, false, cond, ◌&&◌, Option, None, Some, refl, ap, sym, ◌∙◌, arith}
+use Rattle.std.proofs.Common.{rules, ◌≡◌, ℕ, ◌==◌, nat_lt, ◌≤◌, Bool, true, false, cond, refl, ap, arith}
 use Rattle.std.specs.declared.cmp.Ordering.{Ordering}
 use Rattle.std.specs.declared.cmp.Ordering.TheVariants.{Less, Equal, Greater}
-use Rattle.std.specs.Ordering.{nat_cmp, ordering_then, is_eq, is_gt, eq_by_cmp}
+use Rattle.std.specs.Ordering.{nat_cmp, ordering_then, is_gt}
 use Rattle.std.specs.Cmp.{IsTotalOrder, nat_cmp_total}
 use Rattle.std.proofs.lemmas.Cmp.{on_total, then_total}
 use Rattle.std.proofs.lemmas.Map.Lookups.{exact_pairs, exact_unsigned}
 use Rattle.std.specs.FinMap.{IsAntisymmetric}
-use Rattle.std.proofs.lemmas.Bool.{eqb-true}
 use Rattle.std.proofs.lemmas.Bool.Decides.{nat_tests}
-use Rattle.someip_tables.specs.declared.deadline.Deadline.{Deadline}
-use Rattle.someip_tables.specs.declared.deadline.Deadline.TheVariants.{At, Never}
-use Rattle.someip_tables.specs.declared.lasting.Lasting.{Lasting}
 use Rattle.someip_tables.specs.declared.due.Due.{Due}
-use Rattle.someip_tables.specs.Lastings.{until_of}
-use Rattle.someip_tables.specs.Dues.{due_cmp, is_due, is_due_of}
-use Rattle.someip_tables.proofs.Entries.{same_by_test}
-
-pub same_due : (a b : ℕ) (o : Ordering) → is_eq (ordering_then (nat_cmp a b) o) ≡ ((a == b) && is_eq o)
-same_due a b o = cases (nat_lt a b) (a == b) refl refl
-  where
-    cases : (l e : Bool) → nat_lt a b ≡ l → (a == b) ≡ e → is_eq (ordering_then (cond l Less (cond e Equal Greater)) o) ≡ (e && is_eq o)
-    cases true true l e = absurd (grind (arith, nat_tests))
-    cases true false l e = refl
-    cases false true l e = refl
-    cases false false l e = refl
+use Rattle.someip_tables.specs.Dues.{due_cmp}
 
 -- nothing in order stands before the first
 pub not_before : {K : Type 0} (R : K → K → Ordering) (first due : Due K) → is_gt (due_cmp R first due) ≡ false → first.at ≤ due.at

@@ -9,7 +9,7 @@ use Rattle.std.specs.FinMap.{FinMap, IsAntisymmetric, find, get, insert, remove,
 use Rattle.std.specs.FinMap.Entries.{find-append, below_all, is_sorted}
 use Rattle.std.proofs.lemmas.Bool.{and_parts, and_from, and_right}
 use lib.Dec.{T}
-use Rattle.someip_tables.specs.Retained.{kept, retain}
+use Rattle.someip_tables.specs.Retained.{kept_if, retain}
 use Rattle.someip_tables.specs.Distinct.{are_distinct}
 
 pub none_found : {X : Type 0} (v : Option X) → is_none v ≡ true → v ≡ None
@@ -39,23 +39,23 @@ and_pass true y e = e
 and_pass false y e = refl
 
 module _ {K X : Type 0} {R : K → K → Ordering} (o : IsTotalOrder R) (exact : IsAntisymmetric R) where
-  pub get-retain : (m : FinMap R X) (p : K → X → Bool) (q : K) → get (retain m p) q ≡ kept (p q) (get m q)
+  pub get-retain : (m : FinMap R X) (p : K → X → Bool) (q : K) → get (retain m p) q ≡ kept_if (p q) (get m q)
   get-retain m p q =
       get-retain_keys m (λ k. option_map_or (p k) (get m k) false) q (λ x tie. ap (λ k. option_map_or (p k) (get m k) false) (sym (exact q x tie))) ∙ at (get m q)
     where
-      at : (v : Option X) → cond (option_map_or (p q) v false) v None ≡ kept (p q) v
+      at : (v : Option X) → cond (option_map_or (p q) v false) v None ≡ kept_if (p q) v
       at None = refl
       at (Some x) = refl
 
   -- what a filter leaves at a key
-  pub find-filter : (p : K × X → Bool) (q : K) (es : List (K × X)) → are_distinct R es ≡ true → find R q (filter p es) ≡ kept (λ x. p (q, x)) (find R q es)
+  pub find-filter : (p : K × X → Bool) (q : K) (es : List (K × X)) → are_distinct R es ≡ true → find R q (filter p es) ≡ kept_if (λ x. p (q, x)) (find R q es)
   find-filter p q [] d = refl
   find-filter p q (e ∷ es) d =
       let parts = and_parts _ _ d in
       cases (eq_by_cmp R q e.0) (p e) refl refl (none_found _ parts.0) (find-filter p q es parts.1)
     where
-      cases : (t b : Bool) → eq_by_cmp R q e.0 ≡ t → p e ≡ b → find R e.0 es ≡ None → find R q (filter p es) ≡ kept (λ x. p (q, x)) (find R q es)
-          → find R q (cond b (e ∷ filter p es) (filter p es)) ≡ kept (λ x. p (q, x)) (cond t (Some e.1) (find R q es))
+      cases : (t b : Bool) → eq_by_cmp R q e.0 ≡ t → p e ≡ b → find R e.0 es ≡ None → find R q (filter p es) ≡ kept_if (λ x. p (q, x)) (find R q es)
+          → find R q (cond b (e ∷ filter p es) (filter p es)) ≡ kept_if (λ x. p (q, x)) (cond t (Some e.1) (find R q es))
       cases true true t b none rest =
           let same : p (q, e.1) ≡ true = ap (λ k. p (k, e.1)) (same_by_test exact q e.0 t) ∙ b in
           rw (t, same)
@@ -63,20 +63,20 @@ module _ {K X : Type 0} {R : K → K → Ordering} (o : IsTotalOrder R) (exact :
           let is = same_by_test exact q e.0 t in
           let same : p (q, e.1) ≡ false = ap (λ k. p (k, e.1)) is ∙ b in
           let gone : find R q es ≡ None = ap (λ k. find R k es) is ∙ none in
-          rest ∙ ap (kept (λ x. p (q, x))) gone ∙ rw same
+          rest ∙ ap (kept_if (λ x. p (q, x))) gone ∙ rw same
       cases false true t b none rest = rw t rest
       cases false false t b none rest = rest
 
   pub from_entries-filter : (p : K × X → Bool) (es : List (K × X)) → are_distinct R es ≡ true → from_entries {R = R} (filter p es) ≡ retain (from_entries es) (λ k x. p (k, x))
   from_entries-filter p es d =
       same_map o exact _ _ (λ q.
-      get-from_entries o _ q ∙ find-filter p q es d ∙ ap (kept (λ x. p (q, x))) (sym (get-from_entries o es q)) ∙ sym (get-retain (from_entries es) (λ k x. p (k, x)) q))
+      get-from_entries o _ q ∙ find-filter p q es d ∙ ap (kept_if (λ x. p (q, x))) (sym (get-from_entries o es q)) ∙ sym (get-retain (from_entries es) (λ k x. p (k, x)) q))
 
   pub distinct-filter : (p : K × X → Bool) (es : List (K × X)) → are_distinct R es ≡ true → are_distinct R (filter p es) ≡ true
   distinct-filter p [] d = refl
   distinct-filter p (e ∷ es) d =
       let parts = and_parts _ _ d in
-      let gone : find R e.0 (filter p es) ≡ None = find-filter p e.0 es parts.1 ∙ ap (kept (λ x. p (e.0, x))) (none_found _ parts.0) in
+      let gone : find R e.0 (filter p es) ≡ None = find-filter p e.0 es parts.1 ∙ ap (kept_if (λ x. p (e.0, x))) (none_found _ parts.0) in
       cases (p e) (ap is_none gone) (distinct-filter p es parts.1)
     where
       cases : (b : Bool) → is_none (find R e.0 (filter p es)) ≡ true → are_distinct R (filter p es) ≡ true → are_distinct R (cond b (e ∷ filter p es) (filter p es)) ≡ true
@@ -103,11 +103,11 @@ module _ {K X : Type 0} {R : K → K → Ordering} (o : IsTotalOrder R) (exact :
       let absent : is_some (get (from_entries {R = R} es) e.0) ≡ false = ap is_some (get-from_entries o es e.0 ∙ none_found _ parts.0) in
       len-insert o (from_entries es) e.0 e.1 ∙ rw absent (ap (λ n. n + 1) (len-from_entries es parts.1) ∙ omega arith)
 
-  put_kept : (p : K → X → Bool) (k q : K) (v : Option X) → eq_by_cmp R k q ≡ false → kept (λ x. p q x && not (eq_by_cmp R k q)) v ≡ kept (p q) v
+  put_kept : (p : K → X → Bool) (k q : K) (v : Option X) → eq_by_cmp R k q ≡ false → kept_if (λ x. p q x && not (eq_by_cmp R k q)) v ≡ kept_if (p q) v
   put_kept p k q None other = refl
   put_kept p k q (Some x) other = ap (λ b. cond b (Some x) None) (and_pass (p q x) _ (ap not other))
 
-  put_gone : (p : K → X → Bool) (k : K) (v : Option X) → kept (λ x. p k x && not (eq_by_cmp R k k)) v ≡ None
+  put_gone : (p : K → X → Bool) (k : K) (v : Option X) → kept_if (λ x. p k x && not (eq_by_cmp R k k)) v ≡ None
   put_gone p k None = refl
   put_gone p k (Some x) = ap (λ b. cond b (Some x) None) (and_right (p k x) _ (ap not (own_test o k)))
 
@@ -128,7 +128,7 @@ module _ {K X : Type 0} {R : K → K → Ordering} (o : IsTotalOrder R) (exact :
       cases q true t = refl
       cases q false t =
           find-filter (beside p k) q es d ∙ put_kept p k q (find R q es) ((eq_by_cmp_equiv o).symm k q ∙ t)
-          ∙ sym (get-retain (from_entries es) p q ∙ ap (kept (p q)) (get-from_entries o es q))
+          ∙ sym (get-retain (from_entries es) p q ∙ ap (kept_if (p q)) (get-from_entries o es q))
 
   pub distinct-put : (p : K → X → Bool) (k : K) (v : X) (es : List (K × X)) → are_distinct R es ≡ true → are_distinct R (filter (beside p k) es ++ (k, v) ∷ []) ≡ true
   distinct-put p k v es d = distinct-push k v _ (put_absent p k es d) (distinct-filter (beside p k) es d)
@@ -138,7 +138,7 @@ module _ {K X : Type 0} {R : K → K → Ordering} (o : IsTotalOrder R) (exact :
   remove_retain m k =
       same_map o exact _ _ (λ q. get-retain m (λ q _. not (eq_by_cmp R k q)) q ∙ at q (get m q) (eq_by_cmp R k q) ((eq_by_cmp_equiv o).symm q k) ∙ sym (get-remove o m k q))
     where
-      at : (q : K) (v : Option X) (t : Bool) → eq_by_cmp R q k ≡ t → kept (λ _. not t) v ≡ cond (eq_by_cmp R q k) None v
+      at : (q : K) (v : Option X) (t : Bool) → eq_by_cmp R q k ≡ t → kept_if (λ _. not t) v ≡ cond (eq_by_cmp R q k) None v
       at q None true e = rw e
       at q None false e = rw e
       at q (Some x) true e = rw e
@@ -150,7 +150,7 @@ module _ {K X : Type 0} {R : K → K → Ordering} (o : IsTotalOrder R) (exact :
       same_map o exact _ _ (λ q.
       get-retain m (λ k _. p k) q ∙ at (p q) (get m q) ∙ sym (get-retain_keys m p q (λ x tie. ap p (sym (exact q x tie)))))
     where
-      at : (t : Bool) (v : Option X) → kept (λ _. t) v ≡ cond t v None
+      at : (t : Bool) (v : Option X) → kept_if (λ _. t) v ≡ cond t v None
       at true None = refl
       at false None = refl
       at t (Some x) = refl
@@ -166,7 +166,7 @@ module _ {K X : Type 0} {R : K → K → Ordering} (o : IsTotalOrder R) (exact :
       both false true x = refl
       both false false x = refl
 
-      at : (q : K) (b : Bool) (v : Option X) → cond b (kept (p q) v) None ≡ kept (λ x. p q x && b) v
+      at : (q : K) (b : Bool) (v : Option X) → cond b (kept_if (p q) v) None ≡ kept_if (λ x. p q x && b) v
       at q true None = refl
       at q false None = refl
       at q b (Some x) = both (p q x) b x

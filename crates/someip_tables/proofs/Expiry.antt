@@ -1,5 +1,5 @@
 -- What has passed at a moment, and what has not.
-use Rattle.std.proofs.Common.{◌≡◌, ℕ, ◌<◌, ◌≤◌, ◌==◌, nat_le, Bool, true, false, cond, not, ◌&&◌, List, Option, None, Some, refl, ap, sym, ◌∙◌, arith}
+use Rattle.std.proofs.Common.{◌≡◌, ℕ, ◌<◌, ◌≤◌, Bool, true, false, cond, not, ◌&&◌, List, Option, None, Some, refl, ap, sym, ◌∙◌, arith}
 use Rattle.std.specs.Option.{is_some}
 use Rattle.std.specs.declared.cmp.Ordering.{Ordering}
 use Rattle.std.specs.Ordering.{eq_by_cmp}
@@ -12,8 +12,8 @@ use Rattle.someip_tables.specs.declared.deadline.Deadline.{Deadline}
 use Rattle.someip_tables.specs.declared.deadline.Deadline.TheVariants.{At, Never}
 use Rattle.someip_tables.specs.declared.lasting.Lasting.{Lasting}
 use Rattle.someip_tables.specs.Deadlines.{has_passed}
-use Rattle.someip_tables.specs.Retained.{kept, retain}
-use Rattle.someip_tables.specs.Lastings.{until_of, unless_passed, unexpired, passed}
+use Rattle.someip_tables.specs.Retained.{kept_if}
+use Rattle.someip_tables.specs.Lastings.{until_of, unless_passed, unexpired, expired}
 use Rattle.someip_tables.specs.Dues.{is_due}
 use Rattle.someip_tables.specs.Tables.{map_of}
 use Rattle.someip_tables.proofs.Entries.{same_by_test, get-retain, retain_keys_retain, retain_both}
@@ -53,8 +53,8 @@ module _ {K V : Type 0} {R : K → K → Ordering} (o : IsTotalOrder R) (exact :
   pub get-unexpired : (now : ℕ) (m : FinMap R (Lasting V)) (q : K) → get (unexpired now m) q ≡ unless_passed now (get m q)
   get-unexpired now m q = get-retain o exact m (λ _ lasting. not (has_passed now lasting.until)) q
 
-  pub get-passed : (now : ℕ) (m : FinMap R (Lasting V)) (q : K) → get (passed now m) q ≡ kept (λ lasting. has_passed now lasting.until) (get m q)
-  get-passed now m q = get-retain o exact m (λ _ lasting. has_passed now lasting.until) q
+  pub get-expired : (now : ℕ) (m : FinMap R (Lasting V)) (q : K) → get (expired now m) q ≡ kept_if (λ lasting. has_passed now lasting.until) (get m q)
+  get-expired now m q = get-retain o exact m (λ _ lasting. has_passed now lasting.until) q
 
   -- what has passed may go first
   pub unexpired-remove : (now : ℕ) (m : FinMap R (Lasting V)) (k : K) → unless_passed now (get m k) ≡ None → unexpired now (remove m k) ≡ unexpired now m

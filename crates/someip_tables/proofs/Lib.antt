@@ -6,4 +6,4 @@ pub mod Trees
 pub mod DueLemmas
 pub mod Expiry
 pub mod RetainLemmas
-pub mod PassedKeys
+pub mod ExpiredKeys

@@ -1,58 +1,58 @@
 -- Laws of maps: what a change shows at a key, what two changes in turn make, and how many entries are left.
 -- Each is stated for keys that only tie where they are equal.
-use Rattle.std.proofs.Common.{◌≡◌, ℕ, ◌+◌, ◌-◌, ◌≤◌, Bool, true, false, cond, not, ◌&&◌, List, [], ◌∷◌, filter, length, Option, None, Some, refl, ap, sym, ◌∙◌, arith}
-use Rattle.std.specs.Option.{is_some, option_map_or}
+use Rattle.std.proofs.Common.{◌≡◌, ◌+◌, ◌-◌, ◌≤◌, Bool, true, false, cond, ◌&&◌, Option, None, Some, refl, ap, sym, ◌∙◌, arith}
+use Rattle.std.specs.Option.{is_some}
 use Rattle.std.specs.declared.cmp.Ordering.{Ordering}
 use Rattle.std.specs.Ordering.{eq_by_cmp}
-use Rattle.std.specs.Cmp.{IsTotalOrder, eq_by_cmp_equiv}
-use Rattle.std.specs.FinMap.{FinMap, IsAntisymmetric, get, insert, remove, len, empty, contains_key, retain_keys, get-empty, get-insert, get-remove, get-retain_keys, len-insert, len-remove, same_map}
-use Rattle.someip_tables.specs.Retained.{kept, retain}
-use Rattle.someip_tables.proofs.Entries.{same_by_test, own_test, get-retain, retain_keys_retain}
+use Rattle.std.specs.Cmp.{IsTotalOrder}
+use Rattle.std.specs.FinMap.{FinMap, IsAntisymmetric, get, insert, remove, len, empty, contains_key, get-empty, get-insert, get-remove, len-insert, len-remove, same_map}
+use Rattle.someip_tables.specs.Retained.{kept_if, retain}
+use Rattle.someip_tables.proofs.Entries.{same_by_test, own_test, get-retain}
 
 -- ---- of one value
 
-kept-kept : {X : Type 0} (p q : X → Bool) (v : Option X) → kept q (kept p v) ≡ kept (λ x. p x && q x) v
-kept-kept p q None = refl
-kept-kept p q (Some x) = cases (p x)
+kept_if-kept_if : {X : Type 0} (p q : X → Bool) (v : Option X) → kept_if q (kept_if p v) ≡ kept_if (λ x. p x && q x) v
+kept_if-kept_if p q None = refl
+kept_if-kept_if p q (Some x) = cases (p x)
   where
-    cases : (b : Bool) → kept q (cond b (Some x) None) ≡ cond (b && q x) (Some x) None
+    cases : (b : Bool) → kept_if q (cond b (Some x) None) ≡ cond (b && q x) (Some x) None
     cases true = refl
     cases false = refl
 
-kept_same : {X : Type 0} (p q : X → Bool) (v : Option X) → ((x : X) → p x ≡ q x) → kept p v ≡ kept q v
-kept_same p q None same = refl
-kept_same p q (Some x) same = ap (λ b. cond b (Some x) None) (same x)
+kept_if_same : {X : Type 0} (p q : X → Bool) (v : Option X) → ((x : X) → p x ≡ q x) → kept_if p v ≡ kept_if q v
+kept_if_same p q None same = refl
+kept_if_same p q (Some x) same = ap (λ b. cond b (Some x) None) (same x)
 
-kept_all : {X : Type 0} (p : X → Bool) (v : Option X) → ((x : X) → v ≡ Some x → p x ≡ true) → kept p v ≡ v
-kept_all p None all = refl
-kept_all p (Some x) all = rw (all x refl) refl
+kept_if_all : {X : Type 0} (p : X → Bool) (v : Option X) → ((x : X) → v ≡ Some x → p x ≡ true) → kept_if p v ≡ v
+kept_if_all p None all = refl
+kept_if_all p (Some x) all = rw (all x refl) refl
 
-kept_none : {X : Type 0} (p : X → Bool) (v : Option X) → ((x : X) → v ≡ Some x → p x ≡ false) → kept p v ≡ None
-kept_none p None none = refl
-kept_none p (Some x) none = rw (none x refl) refl
+kept_if_none : {X : Type 0} (p : X → Bool) (v : Option X) → ((x : X) → v ≡ Some x → p x ≡ false) → kept_if p v ≡ None
+kept_if_none p None none = refl
+kept_if_none p (Some x) none = rw (none x refl) refl
 
 module _ {K X : Type 0} {R : K → K → Ordering} (o : IsTotalOrder R) (exact : IsAntisymmetric R) where
-  -- ---- what is kept of what is kept
+  -- ---- what is kept_if of what is kept_if
 
   pub retain-retain : (m : FinMap R X) (p q : K → X → Bool) → retain (retain m p) q ≡ retain m (λ k x. p k x && q k x)
   retain-retain m p q =
       same_map o exact _ _ (λ k.
-      get-retain o exact (retain m p) q k ∙ ap (kept (q k)) (get-retain o exact m p k) ∙ kept-kept (p k) (q k) (get m k)
+      get-retain o exact (retain m p) q k ∙ ap (kept_if (q k)) (get-retain o exact m p k) ∙ kept_if-kept_if (p k) (q k) (get m k)
       ∙ sym (get-retain o exact m (λ j x. p j x && q j x) k))
 
   -- the same test
   pub retain_same : (m : FinMap R X) (p q : K → X → Bool) → ((k : K) (x : X) → p k x ≡ q k x) → retain m p ≡ retain m q
-  retain_same m p q same = same_map o exact _ _ (λ k. get-retain o exact m p k ∙ kept_same (p k) (q k) (get m k) (same k) ∙ sym (get-retain o exact m q k))
+  retain_same m p q same = same_map o exact _ _ (λ k. get-retain o exact m p k ∙ kept_if_same (p k) (q k) (get m k) (same k) ∙ sym (get-retain o exact m q k))
 
   -- a test that each entry passes, and one that none does
   pub retain_all : (m : FinMap R X) (p : K → X → Bool) → ((k : K) (x : X) → get m k ≡ Some x → p k x ≡ true) → retain m p ≡ m
-  retain_all m p all = same_map o exact _ _ (λ k. get-retain o exact m p k ∙ kept_all (p k) (get m k) (all k))
+  retain_all m p all = same_map o exact _ _ (λ k. get-retain o exact m p k ∙ kept_if_all (p k) (get m k) (all k))
 
   pub retain_none : (m : FinMap R X) (p : K → X → Bool) → ((k : K) (x : X) → get m k ≡ Some x → p k x ≡ false) → retain m p ≡ empty
-  retain_none m p none = same_map o exact _ _ (λ k. get-retain o exact m p k ∙ kept_none (p k) (get m k) (none k) ∙ sym (get-empty R k))
+  retain_none m p none = same_map o exact _ _ (λ k. get-retain o exact m p k ∙ kept_if_none (p k) (get m k) (none k) ∙ sym (get-empty R k))
 
   pub retain-empty : (p : K → X → Bool) → retain (empty {R = R}) p ≡ empty
-  retain-empty p = same_map o exact _ _ (λ k. get-retain o exact empty p k ∙ ap (kept (p k)) (get-empty R k) ∙ sym (get-empty R k))
+  retain-empty p = same_map o exact _ _ (λ k. get-retain o exact empty p k ∙ ap (kept_if (p k)) (get-empty R k) ∙ sym (get-empty R k))
 
   -- what passes the weaker test and then the stronger passes the stronger
   pub retain_stronger : (m : FinMap R X) (p q : K → X → Bool) → ((k : K) (x : X) → q k x ≡ true → p k x ≡ true) → retain (retain m p) q ≡ retain m q
@@ -63,35 +63,35 @@ module _ {K X : Type 0} {R : K → K → Ordering} (o : IsTotalOrder R) (exact :
       both true false h = refl
       both false false h = refl
 
-  -- ---- what is kept after a change
+  -- ---- what is kept_if after a change
 
   pub retain-insert_kept : (m : FinMap R X) (p : K → X → Bool) (k : K) (x : X) → p k x ≡ true → retain (insert m k x) p ≡ insert (retain m p) k x
   retain-insert_kept m p k x passes =
       same_map o exact _ _ (λ q.
-      get-retain o exact (insert m k x) p q ∙ ap (kept (p q)) (get-insert o m k x q) ∙ at q (eq_by_cmp R q k) refl
+      get-retain o exact (insert m k x) p q ∙ ap (kept_if (p q)) (get-insert o m k x q) ∙ at q (eq_by_cmp R q k) refl
       ∙ sym (get-insert o (retain m p) k x q ∙ ap (cond (eq_by_cmp R q k) (Some x)) (get-retain o exact m p q)))
     where
-      at : (q : K) (t : Bool) → eq_by_cmp R q k ≡ t → kept (p q) (cond t (Some x) (get m q)) ≡ cond t (Some x) (kept (p q) (get m q))
+      at : (q : K) (t : Bool) → eq_by_cmp R q k ≡ t → kept_if (p q) (cond t (Some x) (get m q)) ≡ cond t (Some x) (kept_if (p q) (get m q))
       at q true t = let here : p q x ≡ true = ap (λ j. p j x) (same_by_test exact q k t) ∙ passes in rw here refl
       at q false t = refl
 
   pub retain-insert_dropped : (m : FinMap R X) (p : K → X → Bool) (k : K) (x : X) → p k x ≡ false → retain (insert m k x) p ≡ remove (retain m p) k
   retain-insert_dropped m p k x fails =
       same_map o exact _ _ (λ q.
-      get-retain o exact (insert m k x) p q ∙ ap (kept (p q)) (get-insert o m k x q) ∙ at q (eq_by_cmp R q k) refl
+      get-retain o exact (insert m k x) p q ∙ ap (kept_if (p q)) (get-insert o m k x q) ∙ at q (eq_by_cmp R q k) refl
       ∙ sym (get-remove o (retain m p) k q ∙ ap (cond (eq_by_cmp R q k) None) (get-retain o exact m p q)))
     where
-      at : (q : K) (t : Bool) → eq_by_cmp R q k ≡ t → kept (p q) (cond t (Some x) (get m q)) ≡ cond t None (kept (p q) (get m q))
+      at : (q : K) (t : Bool) → eq_by_cmp R q k ≡ t → kept_if (p q) (cond t (Some x) (get m q)) ≡ cond t None (kept_if (p q) (get m q))
       at q true t = let here : p q x ≡ false = ap (λ j. p j x) (same_by_test exact q k t) ∙ fails in rw here refl
       at q false t = refl
 
   pub retain-remove : (m : FinMap R X) (p : K → X → Bool) (k : K) → retain (remove m k) p ≡ remove (retain m p) k
   retain-remove m p k =
       same_map o exact _ _ (λ q.
-      get-retain o exact (remove m k) p q ∙ ap (kept (p q)) (get-remove o m k q) ∙ at q (eq_by_cmp R q k)
+      get-retain o exact (remove m k) p q ∙ ap (kept_if (p q)) (get-remove o m k q) ∙ at q (eq_by_cmp R q k)
       ∙ sym (get-remove o (retain m p) k q ∙ ap (cond (eq_by_cmp R q k) None) (get-retain o exact m p q)))
     where
-      at : (q : K) (t : Bool) → kept (p q) (cond t None (get m q)) ≡ cond t None (kept (p q) (get m q))
+      at : (q : K) (t : Bool) → kept_if (p q) (cond t None (get m q)) ≡ cond t None (kept_if (p q) (get m q))
       at q true = refl
       at q false = refl
 

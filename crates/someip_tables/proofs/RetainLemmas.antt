@@ -2,16 +2,15 @@
 use Rattle.std.proofs.Common.{◌≡◌, ℕ, Bool, true, false, cond, ◌&&◌, List, [], ◌∷◌, filter, Option, None, Some, refl, ap, sym, ◌∙◌}
 use Rattle.std.specs.Option.{is_some}
 use Rattle.std.specs.List.{IsDistinct, list_any}
-use Rattle.std.specs.List.Sorted.{IsStrictlySortedBy}
 use Rattle.std.specs.Map.{keys_of, lookup}
 use Rattle.std.specs.Map.Calls.{RetainsPairs}
 use Rattle.std.specs.BTreeMap.{is_at}
 use Rattle.std.specs.declared.cmp.Ordering.{Ordering}
 use Rattle.std.specs.Ordering.{eq_by_cmp}
-use Rattle.std.specs.Cmp.{IsTotalOrder, IsEquivalence, eq_by_cmp_equiv}
+use Rattle.std.specs.Cmp.{IsTotalOrder, eq_by_cmp_equiv}
 use Rattle.std.proofs.lemmas.Map.{lookup-none}
 use Rattle.std.proofs.lemmas.Map.Entries.{none_past_head}
-use Rattle.std.proofs.lemmas.Map.Keys.{IsDistinct-from_sorted, IsDistinct-tail}
+use Rattle.std.proofs.lemmas.Map.Keys.{IsDistinct-tail}
 use Rattle.std.specs.BTreeSet.{BTreeSet, contains}
 use Rattle.std.specs.FinMap.{IsAntisymmetric}
 use Rattle.std.proofs.lemmas.Map.Made.{is_member-filter}
@@ -22,7 +21,7 @@ use Rattle.someip_tables.proofs.DueLemmas.{dues_total, exact_dues}
 use Rattle.someip_tables.specs.Lastings.{until_of}
 use Rattle.someip_tables.specs.declared.lasting.Lasting.{Lasting}
 
--- the entry of a key that was kept is what it was
+-- the entry of a key that was kept_if is what it was
 module _ {F K X : Type 0} {R : K → K → Ordering} (o : IsTotalOrder R) (T : F → K → X → Bool → X → F → Type 0)
     (reads : (f : F) (k : K) (v : X) (b : Bool) (w : X) (f' : F) → T f k v b w f' → w ≡ v) where
   gone_stays : (q : K) (f : F) (es left : List (K × X)) → RetainsPairs T f es left → lookup (is_at (R q)) es ≡ None → lookup (is_at (R q)) left ≡ None

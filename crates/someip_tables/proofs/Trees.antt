@@ -1,5 +1,5 @@
 -- What an ordered map shows as a finite map.
-use Rattle.std.proofs.Common.{◌≡◌, Bool, true, false, cond, ◌&&◌, List, [], ◌∷◌, filter, length, Option, None, Some, refl, ap, sym, subst, ◌∙◌, arith}
+use Rattle.std.proofs.Common.{◌≡◌, Bool, true, cond, List, [], ◌∷◌, filter, length, None, Some, refl, ap, sym, subst, ◌∙◌, arith}
 use Rattle.std.specs.declared.cmp.Ordering.{Ordering}
 use Rattle.std.specs.declared.cmp.Ordering.TheVariants.{Less}
 use Rattle.std.specs.Ordering.{eq_by_cmp, is_lt}
@@ -8,7 +8,7 @@ use Rattle.std.specs.List.{AllByRecursion}
 use Rattle.std.specs.List.Sorted.{IsStrictlySortedBy}
 use Rattle.std.specs.Map.{keys_of, lookup}
 use Rattle.std.specs.BTreeMap.{is_at}
-use Rattle.std.specs.FinMap.{FinMap, IsAntisymmetric, find, get, insert, remove, len, entries, retain_keys, from_sorted, entries-from_sorted, get-from_sorted, get-from_entries, get-insert, get-remove, get-retain_keys, empty, get-empty, len-entries, same_map}
+use Rattle.std.specs.FinMap.{IsAntisymmetric, find, get, insert, remove, len, entries, retain_keys, from_sorted, entries-from_sorted, get-from_sorted, get-from_entries, get-insert, get-remove, get-retain_keys, empty, get-empty, len-entries, same_map}
 use Rattle.std.specs.FinMap.Entries.{below_all, is_sorted}
 use Rattle.std.proofs.lemmas.Bool.{and_from}
 use Rattle.std.proofs.lemmas.Map.Entries.{lookup-filter-keys, none_past_head}

@@ -14,17 +14,17 @@ has_passed now (At moment) = nat_le moment now
 has_passed now Never = false
 
 -- a deadline is stored as its moment, if it has one
-abbrev pub moment_of : Deadline → Option ℕ
-moment_of (At moment) = Some moment
-moment_of Never = None
+abbrev pub millis_of : Deadline → Option ℕ
+millis_of (At moment) = Some moment
+millis_of Never = None
 
-abbrev pub at_moment : Option ℕ → Deadline
-at_moment (Some moment) = At moment
-at_moment None = Never
+abbrev pub deadline_at : Option ℕ → Deadline
+deadline_at (Some moment) = At moment
+deadline_at None = Never
 
-pub at_moment-moment_of : (d : Deadline) → at_moment (moment_of d) ≡ d
-at_moment-moment_of (At moment) = refl
-at_moment-moment_of Never = refl
+pub deadline_at-millis_of : (d : Deadline) → deadline_at (millis_of d) ≡ d
+deadline_at-millis_of (At moment) = refl
+deadline_at-millis_of Never = refl
 
 abbrev pub coded_deadline : Coded Deadline
-coded_deadline = code_by (Option ℕ) (coded_option coded_ℕ) moment_of at_moment at_moment-moment_of
+coded_deadline = code_by (Option ℕ) (coded_option coded_ℕ) millis_of deadline_at deadline_at-millis_of

@@ -10,5 +10,5 @@ abbrev pub map_of : {K X : Type 0} → (R : K → K → Ordering) → List (K ×
 map_of R entries = from_entries {R = R} entries
 
 -- each answer of the closure to a key is that of the test
-abbrev pub Answers : {F K : Type 0} → Shared F (Bor K × Unit {0}) Bool → F → (K → Bool) → Type 0
-Answers {K = K} g f test = (key : Bor K) (answer : Bool) → g.post f (key, tt) answer → answer ≡ test key.now
+abbrev pub AnswersAs : {F K : Type 0} → Shared F (Bor K × Unit {0}) Bool → F → (K → Bool) → Type 0
+AnswersAs {K = K} g f test = (key : Bor K) (answer : Bool) → g.post f (key, tt) answer → answer ≡ test key.now

@@ -4,15 +4,17 @@ ghost use Rattle.std.specs.Option.{option_copied};
 ghost use Rattle.std.specs.FinMap as finite;
 ghost use Rattle.std.specs.Map.Iter.{ShowsInOrder, deref_pair};
 ghost use Rattle.someip_tables.specs.declared.lasting.Lasting.{Lasting};
-ghost use Rattle.someip_tables.specs.Lastings.{NeedsMemory, unless_passed, passed, unexpired};
-ghost use Rattle.someip_tables.specs.Tables.{map_of, Answers};
+ghost use Rattle.someip_tables.specs.Lastings.{NeedsMemory, unless_passed, expired, unexpired};
+ghost use Rattle.someip_tables.specs.Tables.{map_of, AnswersAs};
 
 use crate::deadline::Deadline;
 use crate::due::Due;
 use crate::key::Key;
 use crate::lasting::Lasting;
 use crate::moment::Moment;
-use crate::tracked::{count_unexpired, drop_passed, first_passed, keys_passed, put, retain_keys, take_out};
+use crate::tracked::{
+    count_unexpired, drop_expired, expired_keys, first_passed, put, retain_keys, take_out,
+};
 use std::alloc::{AllocError, Global};
 use std::collections::{BTreeMap, BTreeSet, btree_map};
 use std::marker::Model;
@@ -83,7 +85,7 @@ impl<K: Key, V: Drop> DeadlineMap<K, V> {
     /// How many entries have not passed among those whose keys pass a test. It looks at every entry.
     pub fn count_unexpired<F: Fn(&K) -> bool + Drop>(&self, now: Moment, of: F) -> usize
         requires { F.IsAlwaysCallable of }
-        ensures { (test : K → Bool) → Answers F.Fn of test
+        ensures { (test : K → Bool) → AnswersAs F.Fn of test
             → result ≡ finite.len (finite.retain_keys (unexpired now (map_of K.cmp self.now)) test) }
     {
         count_unexpired(&self.held, now, of)
@@ -108,7 +110,12 @@ impl<K: Key, V: Drop> DeadlineMap<K, V> {
         ensures grows { OnErr result
             (NeedsMemory (finite.get (map_of K.cmp self.old) key) until) }
     {
-        put(&mut self.held, &mut self.dues, key, Lasting { value, until })
+        put(
+            &mut self.held,
+            &mut self.dues,
+            key,
+            Lasting { value, until },
+        )
     }
 
     /// Takes a key out, and answers what it had. It takes no memory.
@@ -123,7 +130,7 @@ impl<K: Key, V: Drop> DeadlineMap<K, V> {
     /// instance has goes so. It takes no memory.
     pub fn retain_keys<F: Fn(&K) -> bool + Drop>(&mut self, keep: F)
         requires { F.IsAlwaysCallable keep }
-        ensures { (test : K → Bool) → Answers F.Fn keep test
+        ensures { (test : K → Bool) → AnswersAs F.Fn keep test
             → map_of K.cmp self.new ≡ finite.retain_keys (map_of K.cmp self.old) test }
     {
         retain_keys(&mut self.held, &mut self.dues, keep)
@@ -138,24 +145,24 @@ impl<K: Key, V: Drop> DeadlineMap<K, V> {
     }
 
     /// Whether an entry has passed. It looks at the first deadline alone.
-    pub fn has_passed(&self, now: Moment) -> bool
-        ensures { IsTrue result ↔ (passed now (map_of K.cmp self.now) ≢ finite.empty) }
+    pub fn has_expired(&self, now: Moment) -> bool
+        ensures { IsTrue result ↔ (expired now (map_of K.cmp self.now) ≢ finite.empty) }
     {
         first_passed(&self.dues, now).is_some()
     }
 
     /// The keys of what has passed, by rising key. It looks at these alone, and takes memory only if
     /// there are any.
-    pub fn keys_passed(&self, alloc: Global, now: Moment) -> Result<BTreeSet<K>, AllocError>
-        ensures { IfOk result (λ keys. keys.keys ≡ finite.keys (passed now (map_of K.cmp self.now))) }
+    pub fn expired_keys(&self, alloc: Global, now: Moment) -> Result<BTreeSet<K>, AllocError>
+        ensures { IfOk result (λ keys. keys.keys ≡ finite.keys (expired now (map_of K.cmp self.now))) }
     {
-        keys_passed(&self.dues, alloc, now)
+        expired_keys(&self.dues, alloc, now)
     }
 
     /// Drops what has passed. It looks at this alone, and takes no memory.
-    pub fn drop_passed(&mut self, now: Moment)
+    pub fn drop_expired(&mut self, now: Moment)
         ensures { map_of K.cmp self.new ≡ unexpired now (map_of K.cmp self.old) }
     {
-        drop_passed(&mut self.held, &mut self.dues, now)
+        drop_expired(&mut self.held, &mut self.dues, now)
     }
 }

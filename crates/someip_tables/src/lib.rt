@@ -21,3 +21,6 @@ pub use deadline_map::DeadlineMap;
 pub use key::Key;
 pub use lasting::Lasting;
 pub use moment::Moment;
+
+#[cfg(test)]
+mod tests;

@@ -7,9 +7,9 @@ ghost use Rattle.std.specs.BTreeSet.{contains, IsFromIterResult};
 ghost use Rattle.std.specs.FinMap as finite;
 ghost use Rattle.std.specs.Ordering.{eq_by_cmp};
 ghost use Rattle.someip_tables.specs.Dues.{Tracks, due_cmp, is_due_of};
-ghost use Rattle.someip_tables.specs.Lastings.{NeedsMemory, until_of, passed, unexpired};
+ghost use Rattle.someip_tables.specs.Lastings.{NeedsMemory, until_of, expired, unexpired};
 ghost use Rattle.someip_tables.specs.Deadlines.{has_passed};
-ghost use Rattle.someip_tables.specs.Tables.{map_of, Answers};
+ghost use Rattle.someip_tables.specs.Tables.{map_of, AnswersAs};
 ghost use Rattle.someip_tables.specs.declared.due.Due.{Due};
 
 use crate::deadline::Deadline;
@@ -71,7 +71,7 @@ pub(crate) fn put<K: Key, V: Drop>(
 }
 
 /// Drops what has passed: as many steps as have passed.
-pub(crate) fn drop_passed<K: Key, V: Drop>(
+pub(crate) fn drop_expired<K: Key, V: Drop>(
     held: &mut BTreeMap<K, Lasting<V>>,
     dues: &mut BTreeSet<Due<K>>,
     now: Moment,
@@ -100,7 +100,7 @@ pub(crate) fn first_passed<K: Key>(dues: &BTreeSet<Due<K>>, now: Moment) -> Opti
 }
 
 /// The keys of what has passed, by rising key.
-pub(crate) fn keys_passed<K: Key>(
+pub(crate) fn expired_keys<K: Key>(
     dues: &BTreeSet<Due<K>>,
     alloc: Global,
     now: Moment,
@@ -123,7 +123,7 @@ pub(crate) fn retain_keys<K: Key, V: Drop, F: Fn(&K) -> bool + Drop>(
 )
     requires tracks { Tracks K.cmp dues.old held.old }
     requires callable { F.IsAlwaysCallable keep }
-    ensures left { (p : K → Bool) → Answers F.Fn keep p → map_of K.cmp held.new.entries ≡ finite.retain_keys (map_of K.cmp held.old.entries) p }
+    ensures left { (p : K → Bool) → AnswersAs F.Fn keep p → map_of K.cmp held.new.entries ≡ finite.retain_keys (map_of K.cmp held.old.entries) p }
     ensures tracks { Tracks K.cmp dues.new held.new }
 {
     retain_held(held, keep);
@@ -136,7 +136,7 @@ fn retain_held<K: Key, V: Drop, F: Fn(&K) -> bool + Drop>(
     keep: F,
 )
     requires { F.IsAlwaysCallable keep }
-    ensures left { (p : K → Bool) → Answers F.Fn keep p → held.new.entries ≡ filter (λ e. p e.0) held.old.entries }
+    ensures left { (p : K → Bool) → AnswersAs F.Fn keep p → held.new.entries ≡ filter (λ e. p e.0) held.old.entries }
     ensures no_other { (q : K) → is_some (get K.cmp held.new q) ≡ true → get K.cmp held.new q ≡ get K.cmp held.old q }
 {
     held.retain(|key, _| keep(key));
@@ -150,7 +150,7 @@ pub(crate) fn count_unexpired<K: Key, V, F: Fn(&K) -> bool + Drop>(
 ) -> usize
     requires { F.IsAlwaysCallable of }
     ensures ordered { IsOrdered K.cmp held.now }
-    ensures counted { (p : K → Bool) → Answers F.Fn of p → result ≡ length (filter (λ e. not (has_passed now e.1.until) && p e.0) held.now.entries) }
+    ensures counted { (p : K → Bool) → AnswersAs F.Fn of p → result ≡ length (filter (λ e. not (has_passed now e.1.until) && p e.0) held.now.entries) }
 {
     held.iter()
         .filter(|(key, lasting)| !lasting.until.has_passed(now) && of(key))
@@ -184,11 +184,7 @@ fn is_until(earlier: Option<Deadline>, until: Deadline) -> bool
     }
 }
 
-fn add_due<K: Key>(
-    dues: &mut BTreeSet<Due<K>>,
-    key: K,
-    until: Deadline,
-) -> Result<(), AllocError>
+fn add_due<K: Key>(dues: &mut BTreeSet<Due<K>>, key: K, until: Deadline) -> Result<(), AllocError>
     ensures ok { OnOk result ((due : Due K) → contains (due_cmp K.cmp) dues.new due ≡ (if is_due_of K.cmp key (Some until) due then true else contains (due_cmp K.cmp) dues.old due)) }
     ensures err { OnErr result ((due : Due K) → contains (due_cmp K.cmp) dues.new due ≡ contains (due_cmp K.cmp) dues.old due) }
     ensures passes { OnErr result (until ≢ Deadline.Never) }

@@ -1,4 +1,3 @@
-use Rattle.std.proofs.Common.{rules}
 use Rattle.someip_tables.proofs.Expiry.{get-unexpired, unexpired-unexpired}
 use Rattle.someip_tables.proofs.laws.a_table_shows_what_has_not_passed.Goals as goal
 

@@ -1,6 +1,6 @@
 -- The keys of what has passed, found by the deadlines in order.
 use Rattle.std.specs.Prelude.{◌≢◌, IsTrue, IfSome, IfNone, take_while}
-use Rattle.std.proofs.Common.{◌≡◌, ℕ, ◌<◌, ◌≤◌, ◌==◌, nat_le, Bool, true, false, cond, ◌&&◌, List, [], ◌∷◌, map, filter, Option, None, Some, refl, ap, sym, ◌∙◌, arith, rules}
+use Rattle.std.proofs.Common.{◌≡◌, ℕ, ◌<◌, ◌≤◌, nat_le, Bool, true, false, cond, ◌&&◌, List, [], ◌∷◌, map, filter, Option, None, Some, refl, ap, sym, ◌∙◌, arith, rules}
 use Rattle.std.specs.Option.{is_some}
 use Rattle.std.specs.List.{AllByRecursion, list_any}
 use Rattle.std.specs.List.Sorted.{IsStrictlySortedBy}
@@ -8,11 +8,10 @@ use Rattle.std.specs.declared.cmp.Ordering.{Ordering}
 use Rattle.std.specs.declared.cmp.Ordering.TheVariants.{Less}
 use Rattle.std.specs.Ordering.{eq_by_cmp, is_gt}
 use Rattle.std.specs.Cmp.{IsTotalOrder}
-use Rattle.std.specs.Map.{lookup}
 use Rattle.std.specs.BTreeMap as tree
-use Rattle.std.specs.BTreeMap.{BTreeMap, is_at}
+use Rattle.std.specs.BTreeMap.{BTreeMap}
 use Rattle.std.specs.BTreeSet.{BTreeSet, IsFromIterResult, contains}
-use Rattle.std.specs.FinMap.{FinMap, IsAntisymmetric, get, keys, empty, get-empty, same_map}
+use Rattle.std.specs.FinMap.{IsAntisymmetric, get, keys, empty, get-empty, same_map}
 use Rattle.std.proofs.lemmas.Bool.{and_parts, and_from}
 use Rattle.std.proofs.lemmas.Bool.Decides.{nat_tests}
 use Rattle.std.proofs.lemmas.List.Sums.{take_while-cons}
@@ -21,14 +20,14 @@ use Rattle.someip_tables.specs.declared.deadline.Deadline.TheVariants.{At, Never
 use Rattle.someip_tables.specs.declared.lasting.Lasting.{Lasting}
 use Rattle.someip_tables.specs.declared.due.Due.{Due}
 use Rattle.someip_tables.specs.Deadlines.{has_passed}
-use Rattle.someip_tables.specs.Retained.{kept}
-use Rattle.someip_tables.specs.Lastings.{until_of, passed}
+use Rattle.someip_tables.specs.Retained.{kept_if}
+use Rattle.someip_tables.specs.Lastings.{until_of, expired}
 use Rattle.someip_tables.specs.Dues.{due_cmp, is_due, Tracks}
 use Rattle.someip_tables.specs.Tables.{map_of}
 use Rattle.someip_tables.proofs.Entries.{same_by_test, own_test}
 use Rattle.someip_tables.proofs.Trees.{get-map_of}
 use Rattle.someip_tables.proofs.DueLemmas.{not_before, dues_total, exact_dues, test_is_true, true_is_test}
-use Rattle.someip_tables.proofs.Expiry.{at_passed, not_passed, get-passed}
+use Rattle.someip_tables.proofs.Expiry.{at_passed, not_passed, get-expired}
 use Rattle.someip_tables.proofs.Members.{any_map, any_filter, any_at, any_found, both_or_none}
 use Rattle.someip_tables.proofs.Sorted.{keys_of_set}
 
@@ -58,11 +57,11 @@ deadline_in now (At moment) passes = (moment, grind (arith, nat_tests), passes)
 deadline_in now Never passes = absurd (cc)
 
 module _ {V : Type 0} (now : ℕ) where
-  there : (at : ℕ) (v : Option (Lasting V)) → is_due at (until_of v) ≡ true → nat_le at now ≡ true → is_some (kept (λ lasting. has_passed now lasting.until) v) ≡ true
+  there : (at : ℕ) (v : Option (Lasting V)) → is_due at (until_of v) ≡ true → nat_le at now ≡ true → is_some (kept_if (λ lasting. has_passed now lasting.until) v) ≡ true
   there at None is le = cc
   there at (Some lasting) is le = let lt : at ≤ now = grind (arith, nat_tests) in rw (at_passed at now lasting.until is lt) refl
 
-  pub moment_in : (v : Option (Lasting V)) → is_some (kept (λ lasting. has_passed now lasting.until) v) ≡ true → (at : ℕ) × (is_due at (until_of v) ≡ true) × (nat_le at now ≡ true)
+  pub moment_in : (v : Option (Lasting V)) → is_some (kept_if (λ lasting. has_passed now lasting.until) v) ≡ true → (at : ℕ) × (is_due at (until_of v) ≡ true) × (nat_le at now ≡ true)
   moment_in None some = absurd (cc)
   moment_in (Some lasting) some = cases (has_passed now lasting.until) refl some
     where
@@ -70,7 +69,7 @@ module _ {V : Type 0} (now : ℕ) where
       cases true passes some = deadline_in now lasting.until passes
       cases false passes some = absurd (cc)
 
-  none_kept : (v : Option (Lasting V)) → ((at : ℕ) → is_due at (until_of v) ≡ true → now < at) → kept (λ lasting. has_passed now lasting.until) v ≡ None
+  none_kept : (v : Option (Lasting V)) → ((at : ℕ) → is_due at (until_of v) ≡ true → now < at) → kept_if (λ lasting. has_passed now lasting.until) v ≡ None
   none_kept None later = refl
   none_kept (Some lasting) later = rw (not_passed now lasting.until later) refl
 
@@ -80,17 +79,17 @@ not_none v some none = cc
 module _ {K V : Type 0} {R : K → K → Ordering} (o : IsTotalOrder R) (exact : IsAntisymmetric R) where
   -- the keys of the deadlines that have passed are those of the values that have
   same_keys : (now : ℕ) (dues : BTreeSet (Due K)) (held : BTreeMap K (Lasting V)) → Tracks R dues held → (q : K)
-      → list_any (λ due. nat_le due.at now && eq_by_cmp R q due.key) dues.keys ≡ is_some (kept (λ lasting. has_passed now lasting.until) (tree.get R held q))
+      → list_any (λ due. nat_le due.at now && eq_by_cmp R q due.key) dues.keys ≡ is_some (kept_if (λ lasting. has_passed now lasting.until) (tree.get R held q))
   same_keys now dues held tracks q = both_or_none _ _ from to
     where
-      from : list_any (λ due. nat_le due.at now && eq_by_cmp R q due.key) dues.keys ≡ true → is_some (kept (λ lasting. has_passed now lasting.until) (tree.get R held q)) ≡ true
+      from : list_any (λ due. nat_le due.at now && eq_by_cmp R q due.key) dues.keys ≡ true → is_some (kept_if (λ lasting. has_passed now lasting.until) (tree.get R held q)) ≡ true
       from found =
           let at = any_found (dues_total o) (exact_dues exact) (λ due. nat_le due.at now && eq_by_cmp R q due.key) dues.keys found in
           let parts = and_parts _ _ at.1 in
           let due : is_due at.0.at (until_of (tree.get R held at.0.key)) ≡ true = sym (tracks at.0) ∙ at.2 in
           there now at.0.at (tree.get R held q) (ap (λ k. is_due at.0.at (until_of (tree.get R held k))) (same_by_test exact q at.0.key parts.1) ∙ due) parts.0
 
-      to : is_some (kept (λ lasting. has_passed now lasting.until) (tree.get R held q)) ≡ true → list_any (λ due. nat_le due.at now && eq_by_cmp R q due.key) dues.keys ≡ true
+      to : is_some (kept_if (λ lasting. has_passed now lasting.until) (tree.get R held q)) ≡ true → list_any (λ due. nat_le due.at now && eq_by_cmp R q due.key) dues.keys ≡ true
       to some =
           let at = moment_in now (tree.get R held q) some in
           let due : Due K = record { at = at.0; key = q } in
@@ -100,39 +99,37 @@ module _ {K V : Type 0} {R : K → K → Ordering} (o : IsTotalOrder R) (exact :
           own_key k = own_test o k
 
   pub keys_are : (now : ℕ) (dues : BTreeSet (Due K)) (held : BTreeMap K (Lasting V)) (n : BTreeSet K) → Tracks R dues held → IsStrictlySortedBy (due_cmp R) dues.keys
-      → IsFromIterResult R (map (λ due. due.key) (take_while (λ due. nat_le due.at now) dues.keys)) n → n.keys ≡ keys (passed now (map_of R held.entries))
+      → IsFromIterResult R (map (λ due. due.key) (take_while (λ due. nat_le due.at now) dues.keys)) n → n.keys ≡ keys (expired now (map_of R held.entries))
   keys_are now dues held n tracks rising is =
-      keys_of_set o exact (passed now (map_of R held.entries)) n is.1 (λ q.
+      keys_of_set o exact (expired now (map_of R held.entries)) n is.1 (λ q.
       is.0 q
       ∙ ap (λ ds. list_any (eq_by_cmp R q) (map (λ due. due.key) ds)) (in_front R now dues.keys rising)
       ∙ any_map (eq_by_cmp R q) (λ due. due.key) (filter (λ due. nat_le due.at now) dues.keys)
       ∙ any_filter (λ due. eq_by_cmp R q due.key) (λ due. nat_le due.at now) dues.keys
       ∙ same_keys now dues held tracks q
-      ∙ sym (ap is_some (get-passed o exact now (map_of R held.entries) q ∙ ap (kept (λ lasting. has_passed now lasting.until)) (get-map_of o held.entries q))))
+      ∙ sym (ap is_some (get-expired o exact now (map_of R held.entries) q ∙ ap (kept_if (λ lasting. has_passed now lasting.until)) (get-map_of o held.entries q))))
 
   -- whether the first deadline has passed says whether any has
   pub first_tells : (now : ℕ) (dues : BTreeSet (Due K)) (held : BTreeMap K (Lasting V)) (first : Option (Due K)) → Tracks R dues held
       → IfSome first (λ due. IsTrue (contains (due_cmp R) dues due)) → IfSome first (λ due. due.at ≤ now)
       → IfNone first ((due : Due K) → IsTrue (contains (due_cmp R) dues due) → now < due.at)
-      → (IsTrue (is_some first) → passed now (map_of R held.entries) ≢ empty) × (passed now (map_of R held.entries) ≢ empty → IsTrue (is_some first))
-  first_tells now dues held None tracks found passes none =
-      (
-        λ some. absurd (is_false some),
-        λ some. absurd (some (same_map o exact _ _ (λ q.
-        get-passed o exact now (map_of R held.entries) q
-        ∙ ap (kept (λ lasting. has_passed now lasting.until)) (get-map_of o held.entries q)
+      → (IsTrue (is_some first) → expired now (map_of R held.entries) ≢ empty) × (expired now (map_of R held.entries) ≢ empty → IsTrue (is_some first))
+  first_tells now dues held None tracks found passes none = (
+    λ some. absurd (is_false some),
+    λ some. absurd (some (same_map o exact _ _ (λ q.
+        get-expired o exact now (map_of R held.entries) q
+        ∙ ap (kept_if (λ lasting. has_passed now lasting.until)) (get-map_of o held.entries q)
         ∙ none_kept now (tree.get R held q) (λ at is. none (record { at = at; key = q }) (true_is_test (tracks (record { at = at; key = q }) ∙ is)))
-        ∙ sym (get-empty R q))))
-      )
+        ∙ sym (get-empty R q)))),
+  )
     where
       is_false : IsTrue false → ⊥
       is_false h = search rules
-  first_tells now dues held (Some due) tracks found passes none =
-      (
-        λ some gone.
-        not_none (get (passed now (map_of R held.entries)) due.key)
-        (ap is_some (get-passed o exact now (map_of R held.entries) due.key ∙ ap (kept (λ lasting. has_passed now lasting.until)) (get-map_of o held.entries due.key))
+  first_tells now dues held (Some due) tracks found passes none = (
+    λ some gone.
+        not_none (get (expired now (map_of R held.entries)) due.key)
+        (ap is_some (get-expired o exact now (map_of R held.entries) due.key ∙ ap (kept_if (λ lasting. has_passed now lasting.until)) (get-map_of o held.entries due.key))
         ∙ there now due.at (tree.get R held due.key) (sym (tracks due) ∙ test_is_true found) (grind (arith, nat_tests)))
         (ap (λ m. get m due.key) gone ∙ get-empty R due.key),
-        λ some. true_is_test refl
-      )
+    λ some. true_is_test refl,
+  )

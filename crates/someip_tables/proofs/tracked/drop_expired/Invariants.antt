@@ -2,7 +2,7 @@ use Rattle.std.proofs.Common.{◌≡◌, length}
 use Rattle.someip_tables.specs.Dues.{Tracks}
 use Rattle.someip_tables.specs.Lastings.{unexpired}
 use Rattle.someip_tables.specs.Tables.{map_of}
-use Rattle.someip_tables.proofs.tracked.drop_passed.Given as goal
+use Rattle.someip_tables.proofs.tracked.drop_expired.Given as goal
 
 abbrev pub invariant-loop-due : goal.invariant-loop-due
 invariant-loop-due g l =

@@ -1,5 +1,5 @@
-use Rattle.someip_tables.proofs.PassedKeys.{first_tells}
-use Rattle.someip_tables.proofs.deadline_map.DeadlineMap.has_passed.Goals as goal
+use Rattle.someip_tables.proofs.ExpiredKeys.{first_tells}
+use Rattle.someip_tables.proofs.deadline_map.DeadlineMap.has_expired.Goals as goal
 
 pub returns : goal.returns
 returns g c =
