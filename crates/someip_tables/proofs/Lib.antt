@@ -1,0 +1,9 @@
+pub mod Entries
+pub mod MapLaws
+pub mod Members
+pub mod Sorted
+pub mod Trees
+pub mod DueLemmas
+pub mod Expiry
+pub mod RetainLemmas
+pub mod ExpiredKeys

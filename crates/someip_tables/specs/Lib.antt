@@ -1,0 +1,10 @@
+pub mod Deadlines
+pub mod Retained
+pub mod Distinct
+pub mod SortedSet
+pub mod Endpoints
+pub mod EndpointOrder
+pub mod Tables
+pub mod Lastings
+pub mod Dues
+pub mod Examples

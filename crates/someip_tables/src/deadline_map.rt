@@ -1,0 +1,168 @@
+//! A map whose values last until a deadline each.
+ghost use Rattle.std.specs.Prelude.{◌≡◌, ◌≢◌, ◌↔◌, ◌<◌, ◌^◌, OnOk, OnErr, IfOk, IsTrue, Bool, Some};
+ghost use Rattle.std.specs.Option.{option_copied};
+ghost use Rattle.std.specs.FinMap as finite;
+ghost use Rattle.std.specs.Map.Iter.{ShowsInOrder, deref_pair};
+ghost use Rattle.someip_tables.specs.declared.lasting.Lasting.{Lasting};
+ghost use Rattle.someip_tables.specs.Lastings.{NeedsMemory, unless_passed, expired, unexpired};
+ghost use Rattle.someip_tables.specs.Tables.{map_of, AnswersAs};
+
+use crate::deadline::Deadline;
+use crate::due::Due;
+use crate::key::Key;
+use crate::lasting::Lasting;
+use crate::moment::Moment;
+use crate::tracked::{
+    count_unexpired, drop_expired, expired_keys, first_passed, put, retain_keys, take_out,
+};
+use std::alloc::{AllocError, Global};
+use std::collections::{BTreeMap, BTreeSet, btree_map};
+use std::marker::Model;
+
+/// A map whose values last until a deadline each. What has passed may still be in it, until it is
+/// dropped.
+#[derive(Drop)]
+pub struct DeadlineMap<K: Key, V> {
+    held: BTreeMap<K, Lasting<V>>,
+    dues: BTreeSet<Due<K>>,
+}
+
+impl<K: Key, V> Model for DeadlineMap<K, V> {
+    ghost use Rattle.std.specs.Prelude.{List};
+    ghost use Rattle.someip_tables.specs.declared.lasting.Lasting.{Lasting};
+    ghost use Rattle.someip_tables.specs.Dues.{Tracks};
+
+    ghost Value = { List (K × Lasting V) };
+
+    ghost view = { λ m. m.held.entries };
+
+    ghost invariant = { λ m. Tracks K.cmp m.dues m.held };
+}
+
+impl<K: Key, V: Drop> DeadlineMap<K, V> {
+    /// An empty map. It takes no memory.
+    pub fn new(alloc: Global) -> DeadlineMap<K, V>
+        ensures { map_of K.cmp result ≡ finite.empty }
+    {
+        DeadlineMap {
+            held: BTreeMap::new(alloc),
+            dues: BTreeSet::new(alloc),
+        }
+    }
+
+    /// How many entries there are, those among them that have passed.
+    pub fn len(&self) -> usize
+        ensures { result ≡ finite.len (map_of K.cmp self.now) }
+    {
+        self.held.len()
+    }
+
+    /// Whether there is no entry.
+    pub fn is_empty(&self) -> bool
+        ensures { IsTrue result ↔ (map_of K.cmp self.now ≡ finite.empty) }
+    {
+        self.held.is_empty()
+    }
+
+    /// The value of a key, and until when it lasts; it may have passed.
+    pub fn get(&self, key: &K) -> Option<&Lasting<V>>
+        ensures { option_copied result ≡ finite.get (map_of K.cmp self.now) key.now }
+    {
+        self.held.get(key)
+    }
+
+    /// The value of a key, and until when it lasts, unless that has passed.
+    pub fn get_unexpired(&self, key: &K, now: Moment) -> Option<&Lasting<V>>
+        ensures { option_copied result
+            ≡ unless_passed now (finite.get (map_of K.cmp self.now) key.now) }
+    {
+        match self.get(key) {
+            Some(lasting) if !lasting.until.has_passed(now) => Some(lasting),
+            _ => None,
+        }
+    }
+
+    /// How many entries have not passed among those whose keys pass a test. It looks at every entry.
+    pub fn count_unexpired<F: Fn(&K) -> bool + Drop>(&self, now: Moment, of: F) -> usize
+        requires { F.IsAlwaysCallable of }
+        ensures { (test : K → Bool) → AnswersAs F.Fn of test
+            → result ≡ finite.len (finite.retain_keys (unexpired now (map_of K.cmp self.now)) test) }
+    {
+        count_unexpired(&self.held, now, of)
+    }
+
+    /// The entries, by rising key.
+    pub fn iter(&self) -> btree_map::Iter<'_, K, Lasting<V>>
+        ensures rest { result ≡ finite.entries (map_of K.cmp self.now) }
+        ensures runs { ShowsInOrder (deref_pair {K = K} {X = Lasting V}) }
+        ensures fits { finite.len (map_of K.cmp self.now) < 2 ^ 63 }
+    {
+        self.held.iter()
+    }
+
+    /// Puts a value under a key, in place of an earlier one and its deadline. What is refused for want
+    /// of memory leaves the map as it was, and memory is wanted only where the key is new or has a
+    /// new deadline that will pass.
+    pub fn insert(&mut self, key: K, value: V, until: Deadline) -> Result<(), AllocError>
+        ensures ok { OnOk result (map_of K.cmp self.new
+            ≡ finite.insert (map_of K.cmp self.old) key (record { value = value; until = until })) }
+        ensures err { OnErr result (self.new ≡ self.old) }
+        ensures grows { OnErr result
+            (NeedsMemory (finite.get (map_of K.cmp self.old) key) until) }
+    {
+        put(
+            &mut self.held,
+            &mut self.dues,
+            key,
+            Lasting { value, until },
+        )
+    }
+
+    /// Takes a key out, and answers what it had. It takes no memory.
+    pub fn remove(&mut self, key: &K) -> Option<Lasting<V>>
+        ensures value { result ≡ finite.get (map_of K.cmp self.old) key.now }
+        ensures rest { map_of K.cmp self.new ≡ finite.remove (map_of K.cmp self.old) key.now }
+    {
+        take_out(&mut self.held, &mut self.dues, key)
+    }
+
+    /// Keeps the entries whose keys pass a test, which is asked once for each key: what a peer or an
+    /// instance has goes so. It takes no memory.
+    pub fn retain_keys<F: Fn(&K) -> bool + Drop>(&mut self, keep: F)
+        requires { F.IsAlwaysCallable keep }
+        ensures { (test : K → Bool) → AnswersAs F.Fn keep test
+            → map_of K.cmp self.new ≡ finite.retain_keys (map_of K.cmp self.old) test }
+    {
+        retain_keys(&mut self.held, &mut self.dues, keep)
+    }
+
+    /// Takes all entries out. It takes no memory.
+    pub fn clear(&mut self)
+        ensures { map_of K.cmp self.new ≡ finite.empty }
+    {
+        self.held.clear();
+        self.dues.clear();
+    }
+
+    /// Whether an entry has passed. It looks at the first deadline alone.
+    pub fn has_expired(&self, now: Moment) -> bool
+        ensures { IsTrue result ↔ (expired now (map_of K.cmp self.now) ≢ finite.empty) }
+    {
+        first_passed(&self.dues, now).is_some()
+    }
+
+    /// The keys of what has passed, by rising key. It looks at these alone, and takes memory only if
+    /// there are any.
+    pub fn expired_keys(&self, alloc: Global, now: Moment) -> Result<BTreeSet<K>, AllocError>
+        ensures { IfOk result (λ keys. keys.keys ≡ finite.keys (expired now (map_of K.cmp self.now))) }
+    {
+        expired_keys(&self.dues, alloc, now)
+    }
+
+    /// Drops what has passed. It looks at this alone, and takes no memory.
+    pub fn drop_expired(&mut self, now: Moment)
+        ensures { map_of K.cmp self.new ≡ unexpired now (map_of K.cmp self.old) }
+    {
+        drop_expired(&mut self.held, &mut self.dues, now)
+    }
+}

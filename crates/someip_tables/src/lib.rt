@@ -1,0 +1,26 @@
+//! What the layers above share on tables with keys and deadlines, on the standard library alone.
+//!
+//! - [`Moment`]: a point of a node's clock;
+//! - [`Deadline`]: until when something lasts;
+//! - [`Key`]: what tells the entries of a table apart;
+//! - [`DeadlineMap`]: a map whose values last until a deadline each, as [`Lasting`] says;
+//! - [`laws`]: what the definitions behind the contracts promise, whatever body keeps them.
+#![tactic(auto)]
+
+mod deadline;
+mod deadline_map;
+mod due;
+mod key;
+mod lasting;
+pub mod laws;
+mod moment;
+mod tracked;
+
+pub use deadline::{Deadline, TTL_FOREVER};
+pub use deadline_map::DeadlineMap;
+pub use key::Key;
+pub use lasting::Lasting;
+pub use moment::Moment;
+
+#[cfg(test)]
+mod tests;
