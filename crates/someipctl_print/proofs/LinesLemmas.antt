@@ -6,8 +6,8 @@ use Rattle.std.proofs.lemmas.Bool.{lt-ltb, le-ltb}
 use Rattle.std.proofs.lemmas.Nat.{from_be_bytes-to_be_bytes_4}
 use Rattle.someip_wire.specs.Kinds.{has_tp_flag}
 use Rattle.someip_wire.specs.Spelling.{MessageValue}
-use Rattle.someip_tp.specs.Words.{reads_segment}
-use Rattle.someipctl_print.specs.Lines.{joined, word_in, flag_text, fault_line, segment_lines}
+use Rattle.someip_tp.specs.Words.{reads_segment, word_in}
+use Rattle.someipctl_print.specs.Lines.{joined, flag_text, fault_line, segment_lines}
 
 -- a segment without a word has its fault alone
 pub segment_lines-fault : (k place : ℕ) (m : MessageValue) → has_tp_flag m.header.kind ≡ true → length m.payload < 4 → segment_lines k place m ≡ fault_line k (codes "NoHeader") place

@@ -8,7 +8,6 @@ use Rattle.someip_wire.specs.declared.MessageType.{MessageType}
 use Rattle.someip_wire.specs.declared.MessageType.TheVariants.{Notification}
 use Rattle.someip_wire.specs.Spelling.{MessageValue}
 use Rattle.sd_wire.specs.declared.SdError.{SdError}
-use Rattle.sd_wire.specs.declared.SdError.TheVariants as faults
 use Rattle.sd_wire.specs.declared.ServiceEntry.{ServiceEntry}
 use Rattle.sd_wire.specs.declared.EventgroupEntry.{EventgroupEntry}
 use Rattle.sd_wire.specs.declared.ServiceKind.{ServiceKind}
@@ -19,7 +18,7 @@ use Rattle.sd_wire.specs.declared.EntryHead.{EntryHead}
 use Rattle.sd_wire.specs.declared.EntryHead.TheVariants.{Service, Eventgroup}
 use Rattle.sd_wire.specs.declared.SdRead.{SdRead}
 use Rattle.sd_wire.specs.Values.{ReadValue, good, bad_run, SdValue, view_sd}
-use Rattle.sd_wire.specs.Faults.{fault_place}
+use Rattle.sd_wire.specs.Faults.{fault_name, fault_place}
 use Rattle.sd_wire.specs.Program.{reading}
 use Rattle.someipctl_print.specs.Parts.{hex4, hex2}
 use Rattle.someipctl_print.specs.Lines.{joined, flag_text, fault_line}
@@ -85,16 +84,6 @@ sd_line k v = joined (
     decimal k ∷ codes " sd reboot " ∷ flag_text v.flags.reboot ∷ codes " unicast " ∷ flag_text v.flags.unicast
     ∷ codes " entries " ∷ decimal (length v.entries) ∷ codes "\n" ∷ [])
 
--- the name of a fault of a Service Discovery message
-abbrev pub sd_fault_name : SdError → List ℕ
-sd_fault_name (faults.Truncated place) = codes "Truncated"
-sd_fault_name (faults.EntriesLength place) = codes "EntriesLength"
-sd_fault_name (faults.UnknownEntryType place) = codes "UnknownEntryType"
-sd_fault_name (faults.OptionLength place) = codes "OptionLength"
-sd_fault_name (faults.TooManyOptions place) = codes "TooManyOptions"
-sd_fault_name (faults.TrailingBytes place) = codes "TrailingBytes"
-sd_fault_name faults.OutOfMemory = codes "OutOfMemory"
-
 -- the lines of a Service Discovery message and its entries
 abbrev pub message_lines : ℕ → SdValue → List ℕ
 message_lines k v = sd_line k v ++ flat_map (entry_line k) v.entries
@@ -103,7 +92,7 @@ message_lines k v = sd_line k v ++ flat_map (entry_line k) v.entries
 -- the fault
 abbrev pub reading_lines : ℕ → ℕ → Result SdValue SdError → List ℕ
 reading_lines k place (Ok v) = message_lines k v
-reading_lines k place (Err e) = fault_line k (sd_fault_name e) (place + fault_place e)
+reading_lines k place (Err e) = fault_line k (fault_name e) (place + fault_place e)
 
 -- the lines of what an item holds for Service Discovery
 abbrev pub discovery_lines : ℕ → ℕ → Option (Result SdValue SdError) → List ℕ

@@ -3,7 +3,8 @@ use Rattle.std.specs.Prelude.{ℕ, ◌+◌, Bool, true, ◌&&◌, ◌||◌, List
 use Rattle.someip_wire.specs.declared.WireError.{WireError}
 use Rattle.someip_wire.specs.Kinds.{has_tp_flag}
 use Rattle.someip_wire.specs.Spelling.{MessageValue, spelling}
-use Rattle.someipctl_print.specs.Lines.{message_line, segment_lines, has_no_word, fault_line, fault_name, fault_place}
+use Rattle.someip_wire.specs.Faults.{fault_name, fault_place}
+use Rattle.someipctl_print.specs.Lines.{message_line, segment_lines, has_no_word, fault_line}
 use Rattle.someipctl_print.specs.Discovery.{discovery_in, discovery_lines, has_sd_fault}
 
 -- the lines of an item that begins at this place of the k-th datagram

@@ -1,15 +1,12 @@
 -- The lines of `show`, byte for byte.
-use Rattle.std.specs.Prelude.{ℕ, ◌+◌, nat_lt, Bool, true, false, if◌then◌else◌, List, [], ◌∷◌, length, take, drop, codes, decimal}
-use Rattle.std.specs.Int.{w32, from_be_bytes}
+use Rattle.std.specs.Prelude.{ℕ, ◌+◌, nat_lt, Bool, true, false, if◌then◌else◌, List, [], ◌∷◌, length, drop, codes, decimal}
 use Rattle.std.specs.List.{flat_map}
 use Rattle.hex.specs.Hex.{encode_lower}
-use Rattle.someip_wire.specs.declared.WireError.{WireError}
-use Rattle.someip_wire.specs.declared.WireError.TheVariants.{Truncated, LengthTooSmall, WrongProtocolVersion, UnknownMessageType}
 use Rattle.someip_wire.specs.declared.MessageType.{MessageType}
 use Rattle.someip_wire.specs.declared.MessageType.TheVariants.{Request, RequestNoReturn, Notification, Response, Error, TpRequest, TpRequestNoReturn, TpNotification, TpResponse, TpError}
 use Rattle.someip_wire.specs.Kinds.{has_tp_flag}
 use Rattle.someip_wire.specs.Spelling.{MessageValue}
-use Rattle.someip_tp.specs.Words.{offset_of, more_of}
+use Rattle.someip_tp.specs.Words.{offset_of, more_of, word_in}
 use Rattle.someipctl_print.specs.Parts.{hex4, hex2}
 
 -- the texts one after the other
@@ -43,20 +40,6 @@ message_line k m = joined (
     ∷ codes " interface " ∷ hex2 m.header.interface ∷ codes " type " ∷ type_name m.header.kind
     ∷ codes " code " ∷ hex2 m.header.code.0 ∷ codes " payload " ∷ payload_text m.payload ∷ codes "\n" ∷ [])
 
--- the name of a fault
-abbrev pub fault_name : WireError → List ℕ
-fault_name (Truncated place) = codes "Truncated"
-fault_name (LengthTooSmall place) = codes "LengthTooSmall"
-fault_name (WrongProtocolVersion place) = codes "WrongProtocolVersion"
-fault_name (UnknownMessageType place) = codes "UnknownMessageType"
-
--- the place of a fault in its datagram
-abbrev pub fault_place : WireError → ℕ
-fault_place (Truncated place) = place
-fault_place (LengthTooSmall place) = place
-fault_place (WrongProtocolVersion place) = place
-fault_place (UnknownMessageType place) = place
-
 -- the line of a fault of the k-th datagram: its name, and its place in the datagram
 abbrev pub fault_line : ℕ → List ℕ → ℕ → List ℕ
 fault_line k name place = joined (decimal k ∷ codes " fault " ∷ name ∷ codes " at " ∷ decimal place ∷ codes "\n" ∷ [])
@@ -64,10 +47,6 @@ fault_line k name place = joined (decimal k ∷ codes " fault " ∷ name ∷ cod
 -- the line of the k-th datagram where that is empty
 abbrev pub empty_line : ℕ → List ℕ
 empty_line k = joined (decimal k ∷ codes " empty\n" ∷ [])
-
--- the word of a segment: the number in the first four bytes of its payload
-abbrev pub word_in : List ℕ → ℕ
-word_in payload = from_be_bytes w32 (take 4 payload)
 
 -- a flag as a digit
 abbrev pub flag_text : Bool → List ℕ

@@ -6,7 +6,7 @@ ghost use Rattle.sd_wire.specs.Faults.{fault_place};
 ghost use Rattle.someipctl_print.specs.Sending.{Sends, Stops};
 ghost use Rattle.someipctl_print.specs.Discovery.{service_name, eventgroup_name, service_text, eventgroup_text};
 ghost use Rattle.someipctl_print.specs.Discovery.{head_text, entry_line, sd_line, message_lines};
-ghost use Rattle.someipctl_print.specs.Discovery.{view_reading, reading_lines, sd_fault_name};
+ghost use Rattle.someipctl_print.specs.Discovery.{view_reading, reading_lines};
 
 use crate::lines::{digit_of_flag, put_fault};
 use crate::options::put_runs;
@@ -39,8 +39,7 @@ pub(crate) fn put_reading<W: Write>(
             Ok(false)
         }
         Err(fault) => {
-            let (name, at) = name_and_place(fault);
-            put_fault(buffer, writer, k, name, place + at)?;
+            put_fault(buffer, writer, k, fault.name(), place + fault.place())?;
             Ok(true)
         }
     }
@@ -59,21 +58,6 @@ fn put_message<W: Write>(
 {
     put_sd(buffer, writer, k, read)?;
     put_entries(buffer, writer, k, &read.entries)
-}
-
-fn name_and_place(fault: &SdError) -> (&'static str, usize)
-    ensures name { result.0.now ≡ sd_fault_name fault.now }
-    ensures place { result.1 ≡ fault_place fault.now }
-{
-    match fault {
-        SdError::Truncated(place) => ("Truncated", *place),
-        SdError::EntriesLength(place) => ("EntriesLength", *place),
-        SdError::UnknownEntryType(place) => ("UnknownEntryType", *place),
-        SdError::OptionLength(place) => ("OptionLength", *place),
-        SdError::TooManyOptions(place) => ("TooManyOptions", *place),
-        SdError::TrailingBytes(place) => ("TrailingBytes", *place),
-        SdError::OutOfMemory => ("OutOfMemory", 0),
-    }
 }
 
 /// Prints the line of a Service Discovery message of the k-th datagram.

@@ -5,7 +5,7 @@ ghost use Rattle.someip_wire.specs.Kinds.{has_tp_flag};
 ghost use Rattle.someip_wire.specs.View.{view, view_item};
 ghost use Rattle.sd_wire.specs.Faults.{fault_place as sd_place};
 ghost use Rattle.someipctl_print.specs.Sending.{Sends, Stops};
-ghost use Rattle.someipctl_print.specs.Lines.{fault_name, fault_place, segment_lines, has_no_word};
+ghost use Rattle.someipctl_print.specs.Lines.{segment_lines, has_no_word};
 ghost use Rattle.someipctl_print.specs.Discovery.{seen, discovery_in, discovery_lines, has_sd_fault};
 ghost use Rattle.someipctl_print.specs.Items.{item_lines, item_len, is_faulty};
 
@@ -44,8 +44,7 @@ pub fn put_item<W: Write>(
             put_behind(buffer, writer, k, place + HEADER_LEN, message, found)
         }
         Err(fault) => {
-            let (name, place) = name_and_place(*fault);
-            put_fault(buffer, writer, k, name, place)?;
+            put_fault(buffer, writer, k, fault.name(), fault.place())?;
             Ok(true)
         }
     }
@@ -104,17 +103,5 @@ pub fn item_len(item: &Result<Message<'_>, WireError>) -> usize
     match item {
         Ok(message) => written_len(message),
         Err(_) => 0,
-    }
-}
-
-fn name_and_place(fault: WireError) -> (&'static str, usize)
-    ensures name { result.0.now ≡ fault_name fault }
-    ensures place { result.1 ≡ fault_place fault }
-{
-    match fault {
-        WireError::Truncated(place) => ("Truncated", place),
-        WireError::LengthTooSmall(place) => ("LengthTooSmall", place),
-        WireError::WrongProtocolVersion(place) => ("WrongProtocolVersion", place),
-        WireError::UnknownMessageType(place) => ("UnknownMessageType", place),
     }
 }
