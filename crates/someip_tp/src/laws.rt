@@ -97,14 +97,14 @@ pub fn parts_stay_within_limits()
         → IsWithin limits (parts_through limits calls map.empty) }
 {}
 
-/// The same, call by call, so that it also holds where memory was wanting: no parts, as after `make`
+/// The same, call by call, so that it also holds where memory ran out: no parts, as after `make`
 /// and `clear`, are within all limits, and where the parts are within them before a call, they are
 /// afterwards.
 pub fn each_call_keeps_parts_within_limits()
     ensures none { (limits : Limits) → IsWithin limits map.empty }
     ensures offer { (limits : Limits) (now : ℕ) (segment : Offer) (parts : Parts)
         → IsWithin limits parts → IsWithin limits (parts_after limits now segment parts) }
-    // The same of the parts that are left by a call of `offer`, for which memory may be wanting.
+    // The same of the parts that are left by a call of `offer`, which may have run out of memory.
     ensures offered { (limits : Limits) (now : ℕ) (segment : Offer) (parts left : Parts)
         (result : Result Offered TpError)
         → (result ≢ Err OutOfMemory → left ≡ parts_after limits now segment parts)
