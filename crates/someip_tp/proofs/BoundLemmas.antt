@@ -8,7 +8,7 @@ use Rattle.std.specs.Ordering.{nat_cmp, eq_by_cmp}
 use Rattle.std.specs.FinMap.{get, insert, remove, keys, len, empty, contains_key-keys, len-entries, entries, empty_of_len, get-empty, get-insert, get-remove, len-empty, len-insert, len-remove}
 use Rattle.someip_tp.specs.declared.key.ReassemblyKey.{ReassemblyKey}
 use Rattle.someip_tp.specs.Keys.{key_cmp}
-use Rattle.someip_tp.specs.Retained.{kept, retain}
+use Rattle.someip_tp.specs.Retained.{kept}
 use Rattle.someip_tp.specs.Parts.{Limits, Part, Parts, is_gone, parts_at}
 use Rattle.someip_tp.specs.declared.reassembly.Offered.{Offered}
 use Rattle.someip_tp.specs.declared.error.TpError.{TpError}

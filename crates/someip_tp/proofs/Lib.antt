@@ -12,3 +12,4 @@ pub mod OfferLemmas
 pub mod SegmentTexts
 pub mod SentLemmas
 pub mod HistoryLemmas
+pub mod ArrivalLemmas

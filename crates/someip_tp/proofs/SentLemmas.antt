@@ -1,11 +1,11 @@
 -- A message as it is sent.
-use Rattle.std.proofs.Common.{◌≡◌, ℕ, ◌+◌, ◌<◌, ◌≤◌, true, false, List, [], ◌∷◌, ◌++◌, length, map, refl, sym, ap, ◌∙◌, arith}
+use Rattle.std.proofs.Common.{◌≡◌, ℕ, ◌<◌, ◌≤◌, List, [], ◌∷◌, ◌++◌, length, map, refl, ap, ◌∙◌}
 use Rattle.std.specs.List.{flat_map}
 use Rattle.std.proofs.lemmas.Bool.{lt-ltb, le-ltb}
 use Rattle.someip_wire.specs.declared.Header.{Header}
 use Rattle.someip_wire.specs.Spelling.{MessageValue}
 use Rattle.someip_tp.specs.Segments.{SegmentValue, AreSegments, segment_header}
-use Rattle.someip_tp.specs.Sent.{PieceValue, Alone, InSegment, slice_of, is_long, segments_of, sent}
+use Rattle.someip_tp.specs.Sent.{Alone, InSegment, slice_of, segments_of, sent}
 use Rattle.someip_tp.proofs.SegmentsLemmas.{are_segments, segments_same, segments_from-nil, slices_whole}
 
 pub sent-long : (m : MessageValue) → 1400 < length m.payload → sent m ≡ map InSegment (segments_of m)

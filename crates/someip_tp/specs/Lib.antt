@@ -14,3 +14,4 @@ pub mod Calls
 pub mod Wholes
 pub mod Moments
 pub mod Histories
+pub mod Arrivals

@@ -1,5 +1,5 @@
 -- A message as it is sent: alone, or in segments (SOME/IP Protocol, "SOME/IP-TP"; the limit of 1400 bytes is our own).
-use Rattle.std.specs.Prelude.{ℕ, Bool, nat_lt, if◌then◌else◌, List, [], ◌∷◌, ◌++◌, length, map, Option, Some, None}
+use Rattle.std.specs.Prelude.{ℕ, Bool, nat_lt, if◌then◌else◌, List, [], ◌∷◌, length, map, Option, Some, None}
 use Rattle.someip_wire.specs.Spelling.{MessageValue}
 use Rattle.someip_wire.specs.View.{view}
 use Rattle.someip_tp.specs.declared.sent.ShortMessage.{ShortMessage}

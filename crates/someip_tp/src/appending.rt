@@ -1,5 +1,5 @@
 //! The bytes of messages, segments and pieces, appended to a vector.
-ghost use Rattle.std.specs.Prelude.{◌≡◌, ◌<◌, ◌+◌, ◌^◌, ◌++◌, length, OnOk, OnErr};
+ghost use Rattle.std.specs.Prelude.{◌≡◌, ◌<◌, ◌+◌, ◌^◌, ◌++◌, length, vec_len, vec_capacity, OnOk, OnErr};
 ghost use Rattle.someip_wire.specs.Spelling.{spelling};
 ghost use Rattle.someip_wire.specs.View.{view};
 ghost use Rattle.someip_tp.specs.Segments.{view_segment, segment_message};
@@ -15,22 +15,26 @@ const HEADER_LEN: usize = 16;
 
 /// Appends the bytes of a message.
 ///
-/// The only error is that memory ran out, which leaves the vector as it was.
+/// The only error is that memory ran out where the vector had to grow, which leaves it as it was.
 pub fn append_message(message: &Message<'_>, out: &mut Vec<u8>) -> Result<(), AllocError>
     requires { 8 + length message.now.payload.now < 2 ^ 32 }
     ensures ok { OnOk result (out.new.items ≡ out.old.items ++ spelling (view message.now)) }
     ensures err { OnErr result (out.new.items ≡ out.old.items) }
+    ensures full { OnErr result (vec_capacity out.old
+        < vec_len out.old + length (spelling (view message.now))) }
 {
     append_parts(&message.header, &[], message.payload, out)
 }
 
 /// Appends the bytes of a segment: its header with its Length, its word, and its slice.
 ///
-/// The only error is that memory ran out, which leaves the vector as it was.
+/// The only error is that memory ran out where the vector had to grow, which leaves it as it was.
 pub fn append_segment(segment: &Segment<'_>, out: &mut Vec<u8>) -> Result<(), AllocError>
     ensures ok { OnOk result (out.new.items
         ≡ out.old.items ++ spelling (segment_message (view_segment segment.now))) }
     ensures err { OnErr result (out.new.items ≡ out.old.items) }
+    ensures full { OnErr result (vec_capacity out.old
+        < vec_len out.old + length (spelling (segment_message (view_segment segment.now)))) }
 {
     append_parts(
         &segment.header,
@@ -42,11 +46,13 @@ pub fn append_segment(segment: &Segment<'_>, out: &mut Vec<u8>) -> Result<(), Al
 
 /// Appends the bytes of a piece of a message, as they are sent.
 ///
-/// The only error is that memory ran out, which leaves the vector as it was.
+/// The only error is that memory ran out where the vector had to grow, which leaves it as it was.
 pub fn append_piece(piece: &SentPiece<'_>, out: &mut Vec<u8>) -> Result<(), AllocError>
     ensures ok { OnOk result (out.new.items
         ≡ out.old.items ++ spelling (piece_message (view_piece piece.now))) }
     ensures err { OnErr result (out.new.items ≡ out.old.items) }
+    ensures full { OnErr result (vec_capacity out.old
+        < vec_len out.old + length (spelling (piece_message (view_piece piece.now)))) }
 {
     match piece {
         SentPiece::Alone(short) => append_message(&short.message, out),
@@ -65,6 +71,8 @@ fn append_parts(
     ensures ok { OnOk result (out.new.items ≡ out.old.items
         ++ spelling (record { header = header.now; payload = word.now ++ slice.now })) }
     ensures err { OnErr result (out.new.items ≡ out.old.items) }
+    ensures full { OnErr result (vec_capacity out.old < vec_len out.old
+        + length (spelling (record { header = header.now; payload = word.now ++ slice.now }))) }
 {
     let payload_len = word.len() + slice.len();
     out.reserve(HEADER_LEN + payload_len)?;

@@ -1,7 +1,8 @@
 //! Laws of the definitions behind the contracts. Each is the contract of a function that does
 //! nothing: it says what holds of segments, parts and calls, whatever body keeps them.
-ghost use Rattle.std.specs.Prelude.{◌≡◌, ◌≢◌, ◌↔◌, ◌+◌, ◌<◌, ◌^◌, ◌%◌, ℕ, List, [], length, Some, None, Result, Ok, Err, is_some, true};
+ghost use Rattle.std.specs.Prelude.{◌≡◌, ◌≢◌, ◌↔◌, ◌+◌, ◌<◌, ◌≤◌, ◌^◌, ◌%◌, ℕ, List, [], length, Some, None, Result, Ok, Err, is_some, true};
 ghost use Rattle.std.specs.FinMap as map;
+ghost use Rattle.std.specs.FinMap.{get, len};
 ghost use Rattle.std.specs.List.{AllByRecursion};
 ghost use Rattle.someip_wire.specs.Spelling.{MessageValue, spelling};
 ghost use Rattle.someip_wire.specs.Faults.{length_field};
@@ -17,6 +18,7 @@ ghost use Rattle.someip_tp.specs.Segments.{SegmentValue, segment_message};
 ghost use Rattle.someip_tp.specs.Parts.{Limits, Part, Parts, parts_at};
 ghost use Rattle.someip_tp.specs.Offers.{Offer, judgement, parts_after, message_of, message_at};
 ghost use Rattle.someip_tp.specs.Offers.{parts_less, no_part, with_offer};
+ghost use Rattle.someip_tp.specs.Arrivals.{AllArrive};
 ghost use Rattle.someip_tp.specs.Histories.{HoldsOnly, IsSegmentOf, accepted_through};
 ghost use Rattle.someip_tp.specs.Wholes.{IsWhole, IsWithin};
 ghost use Rattle.someip_tp.specs.Calls.{parts_through};
@@ -63,6 +65,20 @@ pub fn a_part_of_one_message_gives_its_payload()
         → bytes ≡ message.payload }
 {}
 
+/// All segments of a message make it whole, in whatever order they are offered and however often, to a
+/// store that has no part of their key and a free slot. What else is called between them changes
+/// nothing, as long as each comes less than the timeout after the one before, the store is told no
+/// later moment, and the part is neither taken nor dropped.
+pub fn all_segments_of_a_message_make_it_whole()
+    ensures { (limits : Limits) (message : MessageValue) (parts : Parts) (now : ℕ) (first : Offer)
+        (calls : List TpCall)
+        → get parts first.key ≡ None → len parts < limits.slots
+        → length message.payload ≤ limits.limit
+        → AllArrive limits message now first calls
+        → message_at (parts_through limits calls (parts_after limits now first parts)) first.key
+        ≡ Some message.payload }
+{}
+
 /// An accepted segment answers `Whole` where it leaves a message that can be taken under its key, and
 /// `Part` where it leaves none.
 pub fn what_an_offer_makes_whole_can_be_taken()
@@ -81,14 +97,14 @@ pub fn parts_stay_within_limits()
         → IsWithin limits (parts_through limits calls map.empty) }
 {}
 
-/// The same, call by call, so that it also holds where memory was wanting: no parts, as after `make`
+/// The same, call by call, so that it also holds where memory ran out: no parts, as after `make`
 /// and `clear`, are within all limits, and where the parts are within them before a call, they are
 /// afterwards.
 pub fn each_call_keeps_parts_within_limits()
     ensures none { (limits : Limits) → IsWithin limits map.empty }
     ensures offer { (limits : Limits) (now : ℕ) (segment : Offer) (parts : Parts)
         → IsWithin limits parts → IsWithin limits (parts_after limits now segment parts) }
-    // The same of the parts that are left by a call of `offer`, for which memory may be wanting.
+    // The same of the parts that are left by a call of `offer`, which may have run out of memory.
     ensures offered { (limits : Limits) (now : ℕ) (segment : Offer) (parts left : Parts)
         (result : Result Offered TpError)
         → (result ≢ Err OutOfMemory → left ≡ parts_after limits now segment parts)

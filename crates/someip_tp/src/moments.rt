@@ -61,7 +61,7 @@ pub fn no_part_is_ahead_of_its_caller()
         → NoneAfter next parts }
     ensures offer { (now : ℕ) (limits : Limits) (segment : Offer) (parts : Parts)
         → NoneAfter now parts → NoneAfter now (parts_after limits now segment parts) }
-    // The same of the parts that are left by a call of `offer`, for which memory may be wanting.
+    // The same of the parts that are left by a call of `offer`, which may have run out of memory.
     ensures offered { (now : ℕ) (limits : Limits) (segment : Offer) (parts left : Parts)
         (result : Result Offered TpError)
         → (result ≢ Err TpError.OutOfMemory → left ≡ parts_after limits now segment parts)

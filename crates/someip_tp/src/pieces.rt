@@ -16,7 +16,7 @@ pub(crate) struct Piece {
 }
 
 impl Piece {
-    /// The place behind its last byte.
+    /// The place after its last byte.
     fn end(&self) -> usize
         ensures { result ≡ end_of self.now }
     {
@@ -39,7 +39,7 @@ fn begin_alike(a: &[u8], b: &[u8]) -> bool
     a[..len] == b[..len]
 }
 
-/// What is left of a slice behind its first bytes.
+/// What is left of a slice after its first bytes.
 fn behind(bytes: &[u8], skipped: usize) -> &[u8]
     ensures length { length result.now ≡ length bytes.now - skipped }
     ensures bytes { (i : ℕ) → slice_get result.now i ≡ slice_get bytes.now (skipped + i) }
@@ -135,7 +135,7 @@ pub(crate) fn append_front(pieces: &[Piece], bytes: &mut Vec<u8>) -> Result<(), 
     appended
 }
 
-/// Appends what each piece has behind those before it, up to the first gap.
+/// Appends what each piece has after those before it, up to the first gap.
 fn append_pieces(pieces: &[Piece], bytes: &mut Vec<u8>) -> Result<(), AllocError>
     requires one_text { AreOneText pieces.now }
     requires in_order { AreInOrder pieces.now }

@@ -61,7 +61,7 @@ pub trait Reassembly: Drop {
             → result ≡ judgement (limits self.old) now (offer key offset more bytes.now) (parts self.old) }
         ensures parts { result ≢ Err TpError.OutOfMemory
             → parts self.new ≡ parts_after (limits self.old) now (offer key offset more bytes.now) (parts self.old) }
-        // Memory can only be wanting for a segment that is to be accepted, and then it is not kept.
+        // Memory can only run out for a segment that is to be accepted, and then it is not kept.
         ensures wanting { result ≡ Err TpError.OutOfMemory
             → is_ok (judgement (limits self.old) now (offer key offset more bytes.now) (parts self.old)) ≡ true }
         ensures out_of_memory { result ≡ Err TpError.OutOfMemory
@@ -82,7 +82,7 @@ pub trait Reassembly: Drop {
             (bytes.new.items ≡ bytes.old.items ++ unwrap_or (message_at (parts self.old) key.now) []) }
         ensures parts { OnOk result (parts self.new ≡ parts_less (parts self.old) key.now) }
         ensures err { IfErr result (λ error. error ≡ TpError.OutOfMemory) }
-        // Memory can only be wanting for a message that is whole.
+        // Memory can only run out for a message that is whole.
         ensures wanting { OnErr result (is_some (message_at (parts self.old) key.now) ≡ true) }
         ensures unchanged { OnErr result
             ((parts self.new ≡ parts self.old) × (bytes.new.items ≡ bytes.old.items)) }

@@ -13,9 +13,15 @@ use someip_wire::Header;
 /// the Length field.
 ///
 /// ```text
+///  0               8               16              24      28    31
+/// +---------------+---------------+---------------+-------+-----+-+
+/// |              offset in units of 16 bytes              |  0  |M|
+/// +---------------+---------------+---------------+-------+-----+-+
+/// |                             slice                             |
+///
 /// 12340421 00000015 00010001 0101a000    a RESPONSE; Length 21 is 12 and nine bytes of slice
 /// 00000570                               offset 1392, More Segments 0
-/// 71..                                   the slice
+/// 71727374 75767778 79                   the slice
 /// ```
 #[derive(Clone, Copy, Debug, PartialEq, Eq)]
 pub struct Segment<'a> {
@@ -23,7 +29,7 @@ pub struct Segment<'a> {
     pub header: Header,
     /// Where the slice begins in the message's payload, in bytes: a multiple of 16.
     pub offset: u32,
-    /// More Segments: bytes of the message are left behind the slice.
+    /// More Segments: bytes of the message are left after the slice.
     pub more: bool,
     /// The slice of the message's payload that begins at the offset.
     pub slice: &'a [u8],
@@ -51,6 +57,12 @@ impl Segment<'_> {
 /// slice. The three reserved bits of the word are ignored.
 ///
 /// A payload of fewer than four bytes is `NoHeader`, and nothing else is an error.
+///
+/// ```text
+/// 0000057f 2a    offset 1392, More Segments, the slice 2a
+/// 0000057e       offset 1392, no more segments, an empty slice
+/// 000005         NoHeader
+/// ```
 pub fn read_segment(payload: &[u8]) -> Result<(u32, bool, &[u8]), TpError>
     ensures read { reads_segment payload.now result }
     // The same as a function of the payload.

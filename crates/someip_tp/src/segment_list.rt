@@ -11,8 +11,9 @@ use std::marker::Model;
 /// Reassembly in which each message that has come in part is the plain list of its accepted
 /// segments, by rising offsets.
 ///
-/// An offer looks at each part once, and at each segment of its own message at most three times; no
-/// byte is looked at again but where slices lie over one another.
+/// An offer looks at the moment and the key of each part at most three times, and at each segment of
+/// its own message at most four times; no byte is looked at again but where slices lie over one
+/// another.
 #[derive(Drop)]
 pub struct SegmentList {
     alloc: Global,

@@ -1,5 +1,7 @@
 //! The worked rows of segments; those of reassembly stand in a file of their own.
-use crate::{Segment, Segments, TpError, append_message, append_segment, read_segment};
+use crate::{
+    Segment, Segments, Sent, TpError, append_message, append_piece, append_segment, read_segment,
+};
 use someip_wire::{Header, Message, MessageType, ReturnCode};
 use std::alloc::{AllocError, Global};
 use std::test::Fail;
@@ -119,6 +121,34 @@ fn bytes_are_appended(rt: HostRuntime) -> Result<(), Fail> {
         0x12, 0x34, 0x04, 0x21, 0, 0, 0, 10, 0, 1, 0, 1, 1, 1, 0x80, 0, 0x2b, 0x2c,
     ];
     assert!(rt; out.as_slice() == wanted.as_slice());
+    Ok(())
+}
+
+/// How many bytes each piece of a message with this payload has as it is sent.
+fn sent_lengths(alloc: Global, payload: &[u8]) -> Result<Vec<usize>, AllocError> {
+    let message = Message {
+        header: HEADER,
+        payload,
+    };
+    let mut found = Vec::new(alloc);
+    if payload.len() < 100_000 {
+        for piece in Sent::new(&message) {
+            let mut bytes = Vec::new(alloc);
+            append_piece(&piece, &mut bytes)?;
+            found.push(bytes.len())?;
+        }
+    }
+    Ok(found)
+}
+
+#[test]
+fn messages_as_they_are_sent(rt: HostRuntime) -> Result<(), Fail> {
+    let rows: [(u32, &[usize]); 3] = [(0, &[16]), (1400, &[1416]), (1401, &[1412, 29])];
+    for (len, wanted) in rows {
+        let payload = payload_of(rt.alloc(), len)?;
+        let found = sent_lengths(rt.alloc(), &payload)?;
+        assert!(rt; found.as_slice() == wanted);
+    }
     Ok(())
 }
 

@@ -110,6 +110,20 @@ impl ReturnCode {
 
 /// The header of a message. Its Length field follows from the payload, and its Protocol Version is
 /// always 01, so neither is a field here.
+///
+/// ```text
+///  0               8               16              24            31
+/// +---------------+---------------+---------------+---------------+
+/// |          Service ID           |           Method ID           |  Message ID
+/// +---------------+---------------+---------------+---------------+
+/// |                Length: 8 and the bytes of payload             |
+/// +---------------+---------------+---------------+---------------+
+/// |           Client ID           |          Session ID           |  Request ID
+/// +---------------+---------------+---------------+---------------+
+/// | Protocol V. 01| Interface V.  | Message Type  |  Return Code  |
+/// +---------------+---------------+---------------+---------------+
+/// |                            payload                            |
+/// ```
 #[derive(Clone, Copy, Debug, PartialEq, Eq)]
 pub struct Header {
     /// Service ID, the first half of the Message ID.

@@ -17,14 +17,14 @@ use crate::header::{Header, MessageType, ReturnCode, kind_of_byte};
 pub struct Message<'a> {
     /// The header, but for the Length field and the Protocol Version.
     pub header: Header,
-    /// The bytes behind the header. The Length field is 8 more than there are.
+    /// The bytes after the header. The Length field is 8 more than there are.
     pub payload: &'a [u8],
 }
 
 /// The message that the bytes begin with, and how many bytes it has.
 ///
-/// The bytes behind it are not looked at. An error is the first fault of the message, at place 0;
-/// no bytes at all are `Truncated(0)`.
+/// The bytes after it are not looked at. An error is the first fault of the message; places count
+/// from its first byte, and no bytes at all are `Truncated(0)`.
 ///
 /// ```text
 /// 12340421 00000008 00010001 01010000    a REQUEST without a payload, 16 bytes

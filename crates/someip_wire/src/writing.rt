@@ -18,7 +18,7 @@ pub fn written_len(message: &Message<'_>) -> usize
     HEADER_LEN + message.payload.len()
 }
 
-/// Writes the message to the front of the bytes, and says how many bytes it has. The bytes behind
+/// Writes the message to the front of the bytes, and says how many bytes it has. The bytes after
 /// it stay as they are.
 pub fn write_message(message: &Message<'_>, out: &mut [u8]) -> usize
     requires fits { 8 + length message.now.payload.now < 2 ^ 32 }
