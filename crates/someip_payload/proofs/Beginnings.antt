@@ -1,5 +1,5 @@
 -- How texts begin.
-use Rattle.std.proofs.Common.{◌≡◌, ℕ, ◌+◌, ◌<◌, ◌≤◌, false, List, [], ◌∷◌, length, get_or, take, drop, length-drop, ◌-◌, zero, suc, slice_range, codes, refl, sym, ap, ◌∙◌, ⊎_elim, arith}
+use Rattle.std.proofs.Common.{◌≡◌, ℕ, ◌+◌, ◌<◌, ◌≤◌, List, [], ◌∷◌, length, get_or, take, drop, length-drop, ◌-◌, zero, suc, slice_range, refl, sym, ap, ◌∙◌, ⊎_elim, arith}
 use Rattle.std.specs.Prelude.{Result, Ok, Err, IfOk}
 use Rattle.std.specs.List.{AllByRecursion}
 use Rattle.std.proofs.Math.Nat.{eq-or-lt_of_le}
@@ -7,7 +7,6 @@ use Rattle.std.proofs.Math.Seq.{take-length}
 use Rattle.someip_payload.specs.declared.shape_text.Word.{Word}
 use Rattle.someip_payload.specs.declared.shape_text.Word.TheVariants as word
 use Rattle.someip_payload.specs.declared.shape_text_error.ShapeTextError.{ShapeTextError}
-use Rattle.someip_payload.specs.ShapeText.{begin_alike, begins_like_a_shape}
 use Rattle.someip_payload.specs.Words.{word_text}
 use Rattle.someip_payload.proofs.Pieces.{slice_range-empty}
 
@@ -24,12 +23,6 @@ pub whole_word : (word text name : List ℕ) (at count : ℕ) → count ≡ leng
 whole_word word text name at count all same is =
     let long : (at + count) - at ≡ count = omega arith in
     rw (long, ← same, all, take-length word) is
-
--- no word begins so
-pub no_letter : (text : List ℕ) → begin_alike (codes "array") text ≡ false → begin_alike (codes "bool") text ≡ false → begin_alike (codes "fixed") text ≡ false
-    → begin_alike (codes "i8") text ≡ false → begin_alike (codes "struct") text ≡ false → begin_alike (codes "u8") text ≡ false → begins_like_a_shape text ≡ false
-no_letter [] a b f i s u = refl
-no_letter (c ∷ cs) a b f i s u = rw (a, b, f, i, s, u) refl
 
 word_text-nonempty : (w : Word) → word_text w ≡ [] → ⊥
 word_text-nonempty word.Bool h = cc

@@ -21,3 +21,6 @@ mod Members
 mod ShapePieces
 mod Beginnings
 mod Characters
+pub mod Decimals
+pub mod Converse
+pub mod ConverseParts

@@ -1,5 +1,5 @@
 -- Shapes of which the parts were read one after the other.
-use Rattle.std.proofs.Common.{rules, ◌≡◌, ℕ, ◌<◌, ◌≤◌, List, ◌++◌, length, Option, Vec, Global, slice_range, codes, arith}
+use Rattle.std.proofs.Common.{rules, ◌≡◌, ℕ, ◌<◌, ◌≤◌, ◌^◌, List, ◌++◌, length, Option, Vec, Global, slice_range, codes, arith}
 use Rattle.std.specs.Prelude.{Result, Ok, Err, IfOk}
 use Rattle.std.specs.Fmt.{decimal}
 use Rattle.std.specs.declared.boxed.Box.{Box}
@@ -14,19 +14,43 @@ use Rattle.someip_payload.specs.View.{form, forms, all_variants}
 use Rattle.someip_payload.specs.ShapeText.{IsTextOf, IsTextOfMembers, IsTextOfVariants, bool_text, u8_text, u16_text, u32_text, u64_text, i8_text, i16_text, i32_text, i64_text, utf8_text, utf16_text, array_text, fixed_text, struct_text, union_text, width_text, or_32, repeated_text}
 use Rattle.someip_payload.proofs.Pieces.{slice_range-append}
 
-form-Text : (e : Encoding) (w : Width) → form (Text e w) ≡ string e w
+pub form-U8 : form U8 ≡ unsigned S8
+form-U8 = search (rules, the_lemmas)
+
+pub form-U16 : form U16 ≡ unsigned S16
+form-U16 = search (rules, the_lemmas)
+
+pub form-U32 : form U32 ≡ unsigned S32
+form-U32 = search (rules, the_lemmas)
+
+pub form-U64 : form U64 ≡ unsigned S64
+form-U64 = search (rules, the_lemmas)
+
+pub form-I8 : form I8 ≡ signed S8
+form-I8 = search (rules, the_lemmas)
+
+pub form-I16 : form I16 ≡ signed S16
+form-I16 = search (rules, the_lemmas)
+
+pub form-I32 : form I32 ≡ signed S32
+form-I32 = search (rules, the_lemmas)
+
+pub form-I64 : form I64 ≡ signed S64
+form-I64 = search (rules, the_lemmas)
+
+pub form-Text : (e : Encoding) (w : Width) → form (Text e w) ≡ string e w
 form-Text e w = search (rules, the_lemmas)
 
-form-Array : (w : Width) (n : ℕ) (b : Box Shape Global) → form (Array w n b) ≡ array w n (form b.value)
+pub form-Array : (w : Width) (n : ℕ) (b : Box Shape Global) → form (Array w n b) ≡ array w n (form b.value)
 form-Array w n b = search (rules, the_lemmas)
 
-form-Fixed : (n : ℕ) (b : Box Shape Global) → form (Fixed n b) ≡ fixed n (form b.value)
+pub form-Fixed : (n : ℕ) (b : Box Shape Global) → form (Fixed n b) ≡ fixed n (form b.value)
 form-Fixed n b = search (rules, the_lemmas)
 
-form-Struct : (w : Option Width) (ss : Vec Shape Global) → form (Struct w ss) ≡ «struct» w (forms ss.items)
+pub form-Struct : (w : Option Width) (ss : Vec Shape Global) → form (Struct w ss) ≡ «struct» w (forms ss.items)
 form-Struct w ss = search (rules, the_lemmas)
 
-form-Union : (vs : Vec (ℕ × Shape) Global) → form (Union vs) ≡ union (all_variants vs.items)
+pub form-Union : (vs : Vec (ℕ × Shape) Global) → form (Union vs) ≡ union (all_variants vs.items)
 form-Union vs = search (rules, the_lemmas)
 
 pub bool_shape : (piece : List ℕ) → piece ≡ codes "bool" → IsTextOf (form Bool) piece
@@ -63,14 +87,14 @@ pub utf16_shape : (w : Option Width) (meant : Width) (piece : List ℕ) → mean
 utf16_shape w meant piece is is_piece = rw (form-Text Utf16 meant, is, is_piece) (utf16_text w)
 
 pub array_shape : (w : Option Width) (meant : Width) (n : ℕ) (b : Box Shape Global) (text element : List ℕ) (at from end : ℕ) → at ≤ from → from ≤ end
-    → meant ≡ or_32 w → slice_range text at from ≡ width_text w → IsTextOf (form b.value) element → slice_range text from end ≡ repeated_text n element
+    → meant ≡ or_32 w → slice_range text at from ≡ width_text w → IsTextOf (form b.value) element → slice_range text from end ≡ repeated_text n element → n < 2 ^ 32
     → IsTextOf (form (Array meant n b)) (codes "array" ++ slice_range text at end)
-array_shape w meant n b text element at from end le le2 is width is_element repeated =
-    rw (form-Array meant n b, is, ← slice_range-append text at from end le le2, width, repeated) (array_text w n (form b.value) element is_element)
+array_shape w meant n b text element at from end le le2 is width is_element repeated small =
+    rw (form-Array meant n b, is, ← slice_range-append text at from end le le2, width, repeated) (array_text w n (form b.value) element small is_element)
 
-pub fixed_shape : (n : ℕ) (b : Box Shape Global) (piece element : List ℕ) → IsTextOf (form b.value) element → piece ≡ repeated_text n element
+pub fixed_shape : (n : ℕ) (b : Box Shape Global) (piece element : List ℕ) → IsTextOf (form b.value) element → piece ≡ repeated_text n element → n < 2 ^ 32
     → IsTextOf (form (Fixed n b)) (codes "fixed" ++ piece)
-fixed_shape n b piece element is repeated = rw (form-Fixed n b, repeated) (fixed_text n (form b.value) element is)
+fixed_shape n b piece element is repeated small = rw (form-Fixed n b, repeated) (fixed_text n (form b.value) element small is)
 
 pub struct_shape : (w : Option Width) (ss : Vec Shape Global) (text members : List ℕ) (at from first end : ℕ) → at ≤ from → from ≤ first → first ≤ end
     → slice_range text at from ≡ width_text w → slice_range text from first ≡ codes "(" → IsTextOfMembers (forms ss.items) members → slice_range text first end ≡ members ++ codes ")"

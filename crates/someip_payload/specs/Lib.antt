@@ -10,3 +10,4 @@ pub mod Faults
 pub mod ShapeText
 pub mod Words
 pub mod ValueText
+pub mod Names

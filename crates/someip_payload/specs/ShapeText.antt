@@ -1,6 +1,5 @@
 -- The texts of shapes.
-use Rattle.std.specs.Prelude.{ℕ, ◌≤◌, ◌==◌, Bool, false, ⊤, List, [], ◌∷◌, ◌++◌, Option, Some, None, codes}
-use Rattle.std.specs.List.{list_any}
+use Rattle.std.specs.Prelude.{◌≡◌, ℕ, ◌<◌, ◌≤◌, ◌^◌, ⊤, List, [], ◌∷◌, ◌++◌, Option, Some, None, Result, Ok, Err, codes}
 use Rattle.std.specs.Fmt.{decimal}
 use Rattle.someip_payload.specs.Data.{Form, bool, unsigned, signed, string, array, fixed, «struct», union, Forms, no_forms, form_then, Variants, no_variants, variant}
 use Rattle.someip_payload.specs.declared.number.Size.TheVariants.{S8, S16, S32, S64}
@@ -27,7 +26,7 @@ abbrev pub repeated_text : ℕ → List ℕ → List ℕ
 repeated_text n element = codes "<" ++ (decimal n ++ (codes "," ++ (element ++ codes ">")))
 
 mutual
-  -- the form has the text
+  -- the form has the text. A number has 32 bits.
   pub data IsTextOf : Form → List ℕ → Type 0 where
     bool_text : IsTextOf bool (codes "bool")
     u8_text : IsTextOf (unsigned S8) (codes "u8")
@@ -40,9 +39,9 @@ mutual
     i64_text : IsTextOf (signed S64) (codes "i64")
     utf8_text : (w : Option Width) → IsTextOf (string Utf8 (or_32 w)) (codes "utf8" ++ width_text w)
     utf16_text : (w : Option Width) → IsTextOf (string Utf16 (or_32 w)) (codes "utf16" ++ width_text w)
-    array_text : (w : Option Width) (n : ℕ) (f : Form) (text : List ℕ) → IsTextOf f text
+    array_text : (w : Option Width) (n : ℕ) (f : Form) (text : List ℕ) → n < 2 ^ 32 → IsTextOf f text
         → IsTextOf (array (or_32 w) n f) (codes "array" ++ (width_text w ++ repeated_text n text))
-    fixed_text : (n : ℕ) (f : Form) (text : List ℕ) → IsTextOf f text → IsTextOf (fixed n f) (codes "fixed" ++ repeated_text n text)
+    fixed_text : (n : ℕ) (f : Form) (text : List ℕ) → n < 2 ^ 32 → IsTextOf f text → IsTextOf (fixed n f) (codes "fixed" ++ repeated_text n text)
     struct_text : (w : Option Width) (fs : Forms) (text : List ℕ) → IsTextOfMembers fs text
         → IsTextOf («struct» w fs) (codes "struct" ++ (width_text w ++ (codes "(" ++ (text ++ codes ")"))))
     union_text : (vs : Variants) (text : List ℕ) → IsTextOfVariants vs text → IsTextOf (union vs) (codes "union" ++ (codes "(" ++ (text ++ codes ")")))
@@ -55,8 +54,8 @@ mutual
 
   -- variants, of which there is at least one, each behind its type number, with commas between them
   pub data IsTextOfVariants : Variants → List ℕ → Type 0 where
-    last_variant : (n : ℕ) (f : Form) (text : List ℕ) → IsTextOf f text → IsTextOfVariants (variant n f no_variants) (decimal n ++ (codes ":" ++ text))
-    next_variant : (n : ℕ) (f : Form) (vs : Variants) (text others : List ℕ) → IsTextOf f text → IsTextOfVariants vs others
+    last_variant : (n : ℕ) (f : Form) (text : List ℕ) → n < 2 ^ 32 → IsTextOf f text → IsTextOfVariants (variant n f no_variants) (decimal n ++ (codes ":" ++ text))
+    next_variant : (n : ℕ) (f : Form) (vs : Variants) (text others : List ℕ) → n < 2 ^ 32 → IsTextOf f text → IsTextOfVariants vs others
         → IsTextOfVariants (variant n f vs) ((decimal n ++ (codes ":" ++ text)) ++ (codes "," ++ others))
 
 -- a fault's place lies between two places; memory may run out at any
@@ -64,12 +63,33 @@ abbrev pub IsFaultWithin : ℕ → ℕ → ShapeTextError → Type 0
 IsFaultWithin low high (BadShape place) = (low ≤ place) × (place ≤ high)
 IsFaultWithin low high OutOfMemory = ⊤
 
--- whether two texts begin with the same byte
-abbrev pub begin_alike : List ℕ → List ℕ → Bool
-begin_alike [] bs = false
-begin_alike (a ∷ others) [] = false
-begin_alike (a ∷ others) (b ∷ bs) = a == b
+-- a decimal digit
+abbrev pub IsDigit : ℕ → Type 0
+IsDigit b = (48 ≤ b) × (b < 58)
 
--- whether a text begins with a byte with which the text of some shape begins
-abbrev pub begins_like_a_shape : List ℕ → Bool
-begins_like_a_shape text = list_any (λ letter. begin_alike (letter ∷ []) text) (codes "abfisu")
+-- no width goes on here: the text does not begin with a slash
+abbrev pub Stops : List ℕ → Type 0
+Stops [] = ⊤
+Stops (b ∷ rest) = b ≡ 47 → ⊥
+
+-- this was read, up to that place; memory may run out
+abbrev pub IsReadTo : {X Y : Type 0} → (X → Y) → Y → ℕ → Result (X × ℕ) ShapeTextError → Type 0
+IsReadTo view y end (Ok x) = (view x.0 ≡ y) × (x.1 ≡ end)
+IsReadTo view y end (Err OutOfMemory) = ⊤
+IsReadTo view y end (Err (BadShape place)) = ⊥
+
+-- this was read; memory may run out
+abbrev pub IsReadAs : {X Y : Type 0} → (X → Y) → Y → Result X ShapeTextError → Type 0
+IsReadAs view y (Ok x) = view x ≡ y
+IsReadAs view y (Err OutOfMemory) = ⊤
+IsReadAs view y (Err (BadShape place)) = ⊥
+
+-- this number and this were read, up to that place; memory may run out
+abbrev pub IsRepeatedTo : {X Y : Type 0} → (X → Y) → ℕ → Y → ℕ → Result (ℕ × X × ℕ) ShapeTextError → Type 0
+IsRepeatedTo view n y end (Ok x) = (x.0 ≡ n) × (view x.1 ≡ y) × (x.2 ≡ end)
+IsRepeatedTo view n y end (Err OutOfMemory) = ⊤
+IsRepeatedTo view n y end (Err (BadShape place)) = ⊥
+
+-- the text does not begin with the word
+abbrev pub IsNoFront : List ℕ → List ℕ → Type 0
+IsNoFront word text = (rest : List ℕ) → text ≡ word ++ rest → ⊥

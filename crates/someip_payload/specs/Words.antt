@@ -1,5 +1,10 @@
 -- The words that a shape's text begins with.
-use Rattle.std.specs.Prelude.{ℕ, List, codes}
+use Rattle.std.specs.Prelude.{◌≡◌, ℕ, ◌<◌, ◌^◌, List, [], ◌++◌, Option, codes}
+use Rattle.someip_payload.specs.Data.{Form, bool, unsigned, signed, string, array, fixed, «struct», union, Forms, Variants}
+use Rattle.someip_payload.specs.declared.number.Size.TheVariants.{S8, S16, S32, S64}
+use Rattle.someip_payload.specs.declared.shape.Encoding.TheVariants.{Utf8, Utf16}
+use Rattle.someip_payload.specs.declared.shape.Width.{Width}
+use Rattle.someip_payload.specs.ShapeText.{IsTextOf, IsTextOfMembers, IsTextOfVariants, width_text, or_32, repeated_text}
 use Rattle.someip_payload.specs.declared.shape_text.Word.{Word}
 use Rattle.someip_payload.specs.declared.shape_text.Word.TheVariants as word
 
@@ -19,3 +24,27 @@ word_text word.Array = codes "array"
 word_text word.Fixed = codes "fixed"
 word_text word.Struct = codes "struct"
 word_text word.Union = codes "union"
+
+-- what stands behind the word in a text of the form
+abbrev pub Behind : Word → Form → List ℕ → Type 0
+Behind word.Bool f back = (f ≡ bool) × (back ≡ [])
+Behind word.U8 f back = (f ≡ unsigned S8) × (back ≡ [])
+Behind word.U16 f back = (f ≡ unsigned S16) × (back ≡ [])
+Behind word.U32 f back = (f ≡ unsigned S32) × (back ≡ [])
+Behind word.U64 f back = (f ≡ unsigned S64) × (back ≡ [])
+Behind word.I8 f back = (f ≡ signed S8) × (back ≡ [])
+Behind word.I16 f back = (f ≡ signed S16) × (back ≡ [])
+Behind word.I32 f back = (f ≡ signed S32) × (back ≡ [])
+Behind word.I64 f back = (f ≡ signed S64) × (back ≡ [])
+Behind word.Utf8 f back = (w : Option Width) × (f ≡ string Utf8 (or_32 w)) × (back ≡ width_text w)
+Behind word.Utf16 f back = (w : Option Width) × (f ≡ string Utf16 (or_32 w)) × (back ≡ width_text w)
+Behind word.Array f back =
+    (w : Option Width) × (n : ℕ) × (g : Form) × (text : List ℕ) × (n < 2 ^ 32) × IsTextOf g text
+    × (f ≡ array (or_32 w) n g) × (back ≡ width_text w ++ repeated_text n text)
+Behind word.Fixed f back =
+    (n : ℕ) × (g : Form) × (text : List ℕ) × (n < 2 ^ 32) × IsTextOf g text × (f ≡ fixed n g) × (back ≡ repeated_text n text)
+Behind word.Struct f back =
+    (w : Option Width) × (fs : Forms) × (text : List ℕ) × IsTextOfMembers fs text
+    × (f ≡ «struct» w fs) × (back ≡ width_text w ++ (codes "(" ++ (text ++ codes ")")))
+Behind word.Union f back =
+    (vs : Variants) × (text : List ℕ) × IsTextOfVariants vs text × (f ≡ union vs) × (back ≡ codes "(" ++ (text ++ codes ")"))

@@ -1,6 +1,7 @@
 //! Why a payload could not be read or written.
 
 ghost use Rattle.std.specs.Prelude.{◌≡◌};
+ghost use Rattle.someip_payload.specs.Names.{fault_name, fault_place};
 ghost use Rattle.someip_payload.specs.declared.error.PayloadError.TheVariants.{OutOfMemory};
 
 use std::alloc::{AllocError, AllocFailed};
@@ -8,7 +9,7 @@ use thiserror::Error;
 
 /// Why a payload could not be read or written. The place is the index of a byte of the input, and
 /// 0 where a value or a shape is at fault.
-#[derive(Debug, Drop, Error, PartialEq, Eq)]
+#[derive(Clone, Copy, Debug, Error, PartialEq, Eq)]
 pub enum PayloadError {
     /// A value passes the end of the input.
     #[error("Truncated at {0}")]
@@ -43,6 +44,46 @@ pub enum PayloadError {
     /// The shape has a part that no value can have, or that says a thing twice.
     #[error("BadShape at {0}")]
     BadShape(usize),
+}
+
+impl PayloadError {
+    /// The name of the variant, as it is printed.
+    pub fn name(&self) -> &'static str
+        ensures { result.now ≡ fault_name self.now }
+    {
+        match self {
+            PayloadError::Truncated(_) => "Truncated",
+            PayloadError::BadText(_) => "BadText",
+            PayloadError::NoTerminator(_) => "NoTerminator",
+            PayloadError::UnknownVariant(_) => "UnknownVariant",
+            PayloadError::LengthMismatch(_) => "LengthMismatch",
+            PayloadError::TooMany(_) => "TooMany",
+            PayloadError::TooDeep(_) => "TooDeep",
+            PayloadError::NotOfShape(_) => "NotOfShape",
+            PayloadError::TooLong(_) => "TooLong",
+            PayloadError::OutOfMemory => "OutOfMemory",
+            PayloadError::BadShape(_) => "BadShape",
+        }
+    }
+
+    /// The place in the input. `OutOfMemory` has none, for which 0 stands.
+    pub fn place(&self) -> usize
+        ensures { result ≡ fault_place self.now }
+    {
+        match self {
+            PayloadError::Truncated(place)
+            | PayloadError::BadText(place)
+            | PayloadError::NoTerminator(place)
+            | PayloadError::UnknownVariant(place)
+            | PayloadError::LengthMismatch(place)
+            | PayloadError::TooMany(place)
+            | PayloadError::TooDeep(place)
+            | PayloadError::NotOfShape(place)
+            | PayloadError::TooLong(place)
+            | PayloadError::BadShape(place) => *place,
+            PayloadError::OutOfMemory => 0,
+        }
+    }
 }
 
 impl From<AllocError> for PayloadError {

@@ -1,11 +1,15 @@
 //! Shapes from their texts.
 
-ghost use Rattle.std.specs.Prelude.{◌≡◌, ◌≢◌, ◌+◌, ◌*◌, ◌<◌, ◌≤◌, ◌++◌, [], ◌∷◌, ℕ, List, Some, None, length, take, drop, false, slice_range, slice_index, codes, IsTrue, IsErrOf, IfOk, IfErr, IfSome};
+ghost use Rattle.std.specs.Prelude.{◌≡◌, ◌≢◌, ◌+◌, ◌*◌, ◌<◌, ◌≤◌, ◌^◌, ◌++◌, [], ◌∷◌, ℕ, List, Option, Some, None, Ok, length, take, drop, slice_range, slice_index, codes, IsTrue, IfOk, IfErr, IfSome, IfNone};
 ghost use Rattle.std.specs.List.{AllByRecursion};
 ghost use Rattle.std.specs.Fmt.{decimal};
-ghost use Rattle.someip_payload.specs.ShapeText.{IsTextOf, IsTextOfMembers, IsTextOfVariants, IsFaultWithin, begin_alike, begins_like_a_shape, width_text, or_32, repeated_text};
+ghost use Rattle.someip_payload.specs.declared.shape.Width.{Width};
+ghost use Rattle.someip_payload.specs.declared.shape_text.Word.{Word};
+ghost use Rattle.someip_payload.specs.Data.{Form, Forms, Variants};
+ghost use Rattle.someip_payload.specs.Check.{depth, deepest, deepest_variant};
+ghost use Rattle.someip_payload.specs.ShapeText.{IsTextOf, IsTextOfMembers, IsTextOfVariants, IsFaultWithin, IsDigit, Stops, IsReadAs, IsReadTo, IsRepeatedTo, IsNoFront, width_text, or_32, repeated_text};
 ghost use Rattle.someip_payload.specs.View.{form, forms, all_variants};
-ghost use Rattle.someip_payload.specs.Words.{word_text};
+ghost use Rattle.someip_payload.specs.Words.{word_text, Behind};
 
 use crate::shape::{Encoding, Shape, Width};
 use crate::shape_text_error::ShapeTextError;
@@ -54,13 +58,15 @@ const WORDS: [(&str, Word); 15] = [
 
 const WIDTHS: [(&str, Width); 3] = [("/8", Width::W8), ("/16", Width::W16), ("/32", Width::W32)];
 
-/// The shape of this text, as `array<8,struct(u8,utf16/8)>`. A fault's place is that of the first
-/// byte at which no text of a shape goes on, which is the length of a text that ends too early. A
-/// shape inside 64 others is a fault at its first byte.
+/// The shape of this text, as `array<8,struct(u8,utf16/8)>`: each text of a shape is read as it,
+/// unless memory runs out or more than 64 shapes lie inside each other. A fault's place is that of
+/// the first byte at which no text of a shape goes on, which is the length of a text that ends too
+/// early. A shape inside 64 others is a fault at its first byte.
 pub fn read_shape(alloc: Global, text: &str) -> Result<Shape, ShapeTextError>
     ensures found { IfOk result (λ shape. IsTextOf (form shape) text.now) }
+    // Each text of a shape is read.
+    ensures only { (f : Form) → IsTextOf f text.now → depth f ≤ 64 → IsReadAs form f result }
     ensures fault { IfErr result (IsFaultWithin 0 (length text.now)) }
-    ensures start { IsErrOf result (ShapeTextError.BadShape 0) → begins_like_a_shape text.now ≡ false }
 {
     let text = text.as_bytes();
     let (shape, end) = shape_at(alloc, text, 0, MOST_AROUND)?;
@@ -80,9 +86,11 @@ fn shape_at(
 ) -> Result<(Shape, usize), ShapeTextError>
     requires { at ≤ length text.now }
     ensures found { IfOk result (λ x. IsTextOf (form x.0) (slice_range text.now at x.1)) }
+    ensures only { (f : Form) (front rest : List ℕ) → drop at text.now ≡ front ++ rest
+        → IsTextOf f front → depth f ≤ left → Stops rest
+        → IsReadTo form f (at + length front) result }
     ensures end { IfOk result (λ x. (at < x.1) × (x.1 ≤ length text.now)) }
     ensures fault { IfErr result (IsFaultWithin at (length text.now)) }
-    ensures start { 0 < left → IsErrOf result (ShapeTextError.BadShape at) → begins_like_a_shape (drop at text.now) ≡ false }
 {
     if left == 0 {
         return Err(ShapeTextError::BadShape(at));
@@ -111,6 +119,8 @@ fn shape_at(
 fn utf8_at(text: &[u8], at: usize) -> Result<(Shape, usize), ShapeTextError>
     requires { at ≤ length text.now }
     ensures found { IfOk result (λ x. IsTextOf (form x.0) (codes "utf8" ++ slice_range text.now at x.1)) }
+    ensures only { (f : Form) (back rest : List ℕ) → drop at text.now ≡ back ++ rest
+        → Behind Word.Utf8 f back → Stops rest → IsReadTo form f (at + length back) result }
     ensures end { IfOk result (λ x. (at ≤ x.1) × (x.1 ≤ length text.now)) }
     ensures fault { IfErr result (IsFaultWithin at (length text.now)) }
 {
@@ -122,6 +132,8 @@ fn utf8_at(text: &[u8], at: usize) -> Result<(Shape, usize), ShapeTextError>
 fn utf16_at(text: &[u8], at: usize) -> Result<(Shape, usize), ShapeTextError>
     requires { at ≤ length text.now }
     ensures found { IfOk result (λ x. IsTextOf (form x.0) (codes "utf16" ++ slice_range text.now at x.1)) }
+    ensures only { (f : Form) (back rest : List ℕ) → drop at text.now ≡ back ++ rest
+        → Behind Word.Utf16 f back → Stops rest → IsReadTo form f (at + length back) result }
     ensures end { IfOk result (λ x. (at ≤ x.1) × (x.1 ≤ length text.now)) }
     ensures fault { IfErr result (IsFaultWithin at (length text.now)) }
 {
@@ -139,6 +151,9 @@ fn array_at(
 ) -> Result<(Shape, usize), ShapeTextError>
     requires { at ≤ length text.now }
     ensures found { IfOk result (λ x. IsTextOf (form x.0) (codes "array" ++ slice_range text.now at x.1)) }
+    ensures only { (f : Form) (back rest : List ℕ) → drop at text.now ≡ back ++ rest
+        → Behind Word.Array f back → depth f ≤ left + 1
+        → IsReadTo form f (at + length back) result }
     ensures end { IfOk result (λ x. (at ≤ x.1) × (x.1 ≤ length text.now)) }
     ensures fault { IfErr result (IsFaultWithin at (length text.now)) }
 {
@@ -157,6 +172,9 @@ fn fixed_at(
 ) -> Result<(Shape, usize), ShapeTextError>
     requires { at ≤ length text.now }
     ensures found { IfOk result (λ x. IsTextOf (form x.0) (codes "fixed" ++ slice_range text.now at x.1)) }
+    ensures only { (f : Form) (back rest : List ℕ) → drop at text.now ≡ back ++ rest
+        → Behind Word.Fixed f back → depth f ≤ left + 1
+        → IsReadTo form f (at + length back) result }
     ensures end { IfOk result (λ x. (at ≤ x.1) × (x.1 ≤ length text.now)) }
     ensures fault { IfErr result (IsFaultWithin at (length text.now)) }
 {
@@ -174,7 +192,10 @@ fn repeated_at(
 ) -> Result<(u32, Box<Shape>, usize), ShapeTextError>
     requires { at ≤ length text.now }
     ensures found { IfOk result (λ x. (element : List ℕ) × IsTextOf (form x.1.value) element
-        × (slice_range text.now at x.2 ≡ repeated_text x.0 element)) }
+        × (slice_range text.now at x.2 ≡ repeated_text x.0 element) × (x.0 < 2 ^ 32)) }
+    ensures only { (n : ℕ) (f : Form) (element rest : List ℕ)
+        → drop at text.now ≡ repeated_text n element ++ rest → n < 2 ^ 32 → IsTextOf f element
+        → depth f ≤ left → IsRepeatedTo (λ b. form b.value) n f (at + length (repeated_text n element)) result }
     ensures end { IfOk result (λ x. (at ≤ x.2) × (x.2 ≤ length text.now)) }
     ensures fault { IfErr result (IsFaultWithin at (length text.now)) }
 {
@@ -196,6 +217,9 @@ fn struct_at(
 ) -> Result<(Shape, usize), ShapeTextError>
     requires { at ≤ length text.now }
     ensures found { IfOk result (λ x. IsTextOf (form x.0) (codes "struct" ++ slice_range text.now at x.1)) }
+    ensures only { (f : Form) (back rest : List ℕ) → drop at text.now ≡ back ++ rest
+        → Behind Word.Struct f back → depth f ≤ left + 1
+        → IsReadTo form f (at + length back) result }
     ensures end { IfOk result (λ x. (at ≤ x.1) × (x.1 ≤ length text.now)) }
     ensures fault { IfErr result (IsFaultWithin at (length text.now)) }
 {
@@ -216,6 +240,10 @@ fn members_at(
     requires { at ≤ length text.now }
     ensures found { IfOk result (λ x. (members : List ℕ) × IsTextOfMembers (forms x.0.items) members
         × (slice_range text.now at x.1 ≡ members ++ codes ")")) }
+    ensures only { (fs : Forms) (members rest : List ℕ)
+        → drop at text.now ≡ members ++ (codes ")" ++ rest) → IsTextOfMembers fs members
+        → deepest fs ≤ left
+        → IsReadTo (λ x. forms x.items) fs (at + (length members + 1)) result }
     ensures end { IfOk result (λ x. (at ≤ x.1) × (x.1 ≤ length text.now)) }
     ensures fault { IfErr result (IsFaultWithin at (length text.now)) }
 {
@@ -243,6 +271,9 @@ fn union_at(
 ) -> Result<(Shape, usize), ShapeTextError>
     requires { at ≤ length text.now }
     ensures found { IfOk result (λ x. IsTextOf (form x.0) (codes "union" ++ slice_range text.now at x.1)) }
+    ensures only { (f : Form) (back rest : List ℕ) → drop at text.now ≡ back ++ rest
+        → Behind Word.Union f back → depth f ≤ left + 1
+        → IsReadTo form f (at + length back) result }
     ensures end { IfOk result (λ x. (at ≤ x.1) × (x.1 ≤ length text.now)) }
     ensures fault { IfErr result (IsFaultWithin at (length text.now)) }
 {
@@ -262,6 +293,10 @@ fn variants_at(
     requires { at ≤ length text.now }
     ensures found { IfOk result (λ x. (variants : List ℕ) × IsTextOfVariants (all_variants x.0.items) variants
         × (slice_range text.now at x.1 ≡ variants ++ codes ")")) }
+    ensures only { (vs : Variants) (variants rest : List ℕ)
+        → drop at text.now ≡ variants ++ (codes ")" ++ rest) → IsTextOfVariants vs variants
+        → deepest_variant vs ≤ left
+        → IsReadTo (λ x. all_variants x.items) vs (at + (length variants + 1)) result }
     ensures end { IfOk result (λ x. (at ≤ x.1) × (x.1 ≤ length text.now)) }
     ensures fault { IfErr result (IsFaultWithin at (length text.now)) }
 {
@@ -285,6 +320,8 @@ fn variants_at(
 fn width_at(text: &[u8], at: usize) -> Result<(Option<Width>, usize), ShapeTextError>
     requires { at ≤ length text.now }
     ensures found { IfOk result (λ x. slice_range text.now at x.1 ≡ width_text x.0) }
+    ensures only { (w : Option Width) (rest : List ℕ) → drop at text.now ≡ width_text w ++ rest
+        → Stops rest → result ≡ Ok (w, at + length (width_text w)) }
     ensures end { IfOk result (λ x. (at ≤ x.1) × (x.1 ≤ length text.now)) }
     ensures fault { IfErr result (IsFaultWithin at (length text.now)) }
 {
@@ -305,9 +342,10 @@ fn or_32(width: Option<Width>) -> Width
 fn first_word(text: &[u8], at: usize) -> Result<(Word, usize), ShapeTextError>
     requires { at ≤ length text.now }
     ensures found { IfOk result (λ x. slice_range text.now at x.1 ≡ word_text x.0) }
+    ensures only { (w : Word) (rest : List ℕ) → drop at text.now ≡ word_text w ++ rest
+        → result ≡ Ok (w, at + length (word_text w)) }
     ensures end { IfOk result (λ x. (at < x.1) × (x.1 ≤ length text.now)) }
     ensures fault { IfErr result (IsFaultWithin at (length text.now)) }
-    ensures start { IsErrOf result (ShapeTextError.BadShape at) → begins_like_a_shape (drop at text.now) ≡ false }
 {
     word_at(&WORDS, text, at)
 }
@@ -324,8 +362,8 @@ fn word_at<T: Copy>(
         → IfOk result (λ x. slice_range text.now at x.1 ≡ name x.0) }
     ensures end { IfOk result (λ x. (at ≤ x.1) × (x.1 ≤ length text.now)) }
     ensures fault { IfErr result (IsFaultWithin at (length text.now)) }
-    ensures start { IsErrOf result (ShapeTextError.BadShape at)
-        → AllByRecursion (λ word. begin_alike word.0.now (drop at text.now) ≡ false) words.now }
+    ensures none { IfErr result (λ e.
+        AllByRecursion (λ word. IsNoFront word.0.now (drop at text.now)) words.now) }
 {
     let rest = &text[at..];
     for (word, item) in words {
@@ -339,8 +377,7 @@ fn word_at<T: Copy>(
 
 // How many bytes a text has in common with the word that goes on longest with it.
 fn longest_front<T: Copy>(words: &[(&str, T)], text: &[u8]) -> usize
-    ensures bound { result ≤ length text.now }
-    ensures start { result ≡ 0 → AllByRecursion (λ word. begin_alike word.0.now text.now ≡ false) words.now }
+    ensures { result ≤ length text.now }
 {
     let mut most = 0;
     for (word, _) in words {
@@ -354,7 +391,7 @@ fn common_len(a: &[u8], b: &[u8]) -> usize
     ensures bound_a { result ≤ length a.now }
     ensures bound_b { result ≤ length b.now }
     ensures same { take result a.now ≡ take result b.now }
-    ensures alike { IsTrue (begin_alike a.now b.now) → 0 < result }
+    ensures most { (rest : List ℕ) → b.now ≡ a.now ++ rest → result ≡ length a.now }
 {
     let mut count = 0;
     while count < a.len() && count < b.len() && a[count] == b[count] {
@@ -364,7 +401,8 @@ fn common_len(a: &[u8], b: &[u8]) -> usize
 }
 
 fn has_comma(text: &[u8], at: usize) -> bool
-    ensures { IsTrue result → (at < length text.now) × (slice_index text.now at ≡ 44) }
+    ensures comma { IsTrue result → (at < length text.now) × (slice_index text.now at ≡ 44) }
+    ensures only { (rest : List ℕ) → drop at text.now ≡ 44 ∷ rest → IsTrue result }
 {
     text.get(at) == Some(&b',')
 }
@@ -372,6 +410,7 @@ fn has_comma(text: &[u8], at: usize) -> bool
 fn byte_at(byte: u8, text: &[u8], at: usize) -> Result<usize, ShapeTextError>
     requires { at ≤ length text.now }
     ensures found { IfOk result (λ end. slice_range text.now at end ≡ byte ∷ []) }
+    ensures only { (rest : List ℕ) → drop at text.now ≡ byte ∷ rest → result ≡ Ok (at + 1) }
     ensures end { IfOk result (λ end. (end ≡ at + 1) × (end ≤ length text.now)) }
     ensures fault { IfErr result (IsFaultWithin at (length text.now)) }
 {
@@ -385,6 +424,9 @@ fn byte_at(byte: u8, text: &[u8], at: usize) -> Result<usize, ShapeTextError>
 fn number_at(text: &[u8], at: usize) -> Result<(u32, usize), ShapeTextError>
     requires { at ≤ length text.now }
     ensures found { IfOk result (λ x. slice_range text.now at x.1 ≡ decimal x.0) }
+    ensures fits { IfOk result (λ x. x.0 < 2 ^ 32) }
+    ensures only { (n b : ℕ) (rest : List ℕ) → drop at text.now ≡ decimal n ++ b ∷ rest → n < 2 ^ 32
+        → (IsDigit b → ⊥) → result ≡ Ok (n, at + length (decimal n)) }
     ensures end { IfOk result (λ x. (at < x.1) × (x.1 ≤ length text.now)) }
     ensures fault { IfErr result (IsFaultWithin at (length text.now)) }
 {
@@ -406,6 +448,7 @@ fn number_at(text: &[u8], at: usize) -> Result<(u32, usize), ShapeTextError>
 fn digit_at(text: &[u8], at: usize) -> Option<u32>
     ensures bound { IfSome result (λ digit. (digit < 10) × (at < length text.now)) }
     ensures value { IfSome result (λ digit. slice_index text.now at ≡ 48 + digit) }
+    ensures none { IfNone result (at < length text.now → IsDigit (slice_index text.now at) → ⊥) }
 {
     let byte = *text.get(at)?;
     if byte.is_ascii_digit() {
@@ -416,7 +459,8 @@ fn digit_at(text: &[u8], at: usize) -> Option<u32>
 }
 
 fn with_digit(number: u32, digit: u32) -> Option<u32>
-    ensures { IfSome result (λ n. n ≡ number * 10 + digit) }
+    ensures value { IfSome result (λ n. n ≡ number * 10 + digit) }
+    ensures none { IfNone result (2 ^ 32 ≤ number * 10 + digit) }
 {
     number.checked_mul(10)?.checked_add(digit)
 }

@@ -18,7 +18,7 @@ fn faults(alloc: Global, shape: &Shape, bytes: &[u8], error: PayloadError) -> bo
 
 fn writes(alloc: Global, shape: &Shape, value: &Value, bytes: &[u8]) -> bool {
     let mut out = Vec::new(alloc);
-    encode(alloc, shape, value, &mut out) == Ok(()) && out.as_slice() == bytes
+    encode(shape, value, &mut out) == Ok(()) && out.as_slice() == bytes
 }
 
 // The error comes, and leaves a vector that holds a byte as it was.
@@ -29,7 +29,7 @@ fn refuses(
     error: PayloadError,
 ) -> Result<bool, AllocError> {
     let mut out = vec![in alloc; 9u8]?;
-    Ok(encode(alloc, shape, value, &mut out) == Err(error) && out.len() == 1 && out[0] == 9)
+    Ok(encode(shape, value, &mut out) == Err(error) && out.len() == 1 && out[0] == 9)
 }
 
 fn text(alloc: Global, text: &str) -> Result<Value, AllocError> {
@@ -427,84 +427,103 @@ fn long_text(alloc: Global, len: usize) -> Result<Value, AllocError> {
     Ok(Value::Text(text))
 }
 
+// The value has so many bytes, which are read as it.
+fn takes(alloc: Global, shape: &Shape, value: &Value, len: usize) -> bool {
+    let mut out = Vec::new(alloc);
+    let is_written = encode(shape, value, &mut out).is_ok();
+    is_written && out.len() == len && reads(alloc, shape, &out, value, len)
+}
+
 #[test]
 fn largest_lengths(rt: HostRuntime) -> Result<(), Fail> {
     let alloc = rt.alloc();
-    for (width, most, field) in Vec::from_array(
-        alloc,
-        [(Width::W8, 255, 1), (Width::W16, 65535, 2)],
-    )? {
-        let shape = Shape::Text(Encoding::Utf8, width);
-        let mut out = Vec::new(alloc);
-        let fits = encode(alloc, &shape, &long_text(alloc, most - 4)?, &mut out);
-        assert!(rt; fits == Ok(()));
-        assert_eq!(rt; out.len(), most + field);
-        let (value, used) = decode(alloc, &shape, &out).ok().ok_or("a text")?;
-        assert!(rt; value == long_text(alloc, most - 4)?);
-        assert_eq!(rt; used, most + field);
-        assert!(rt;
-            refuses(
-                alloc,
-                &shape,
-                &long_text(alloc, most - 3)?,
-                PayloadError::TooLong(0)
-            )?
-        );
-    }
-    let shape = Shape::Text(Encoding::Utf8, Width::W32);
-    let mut out = Vec::new(alloc);
-    let fits = encode(alloc, &shape, &long_text(alloc, 65532)?, &mut out);
-    assert!(rt; fits == Ok(()));
-    assert!(rt; out.starts_with(&[0, 1, 0, 0, 0xef, 0xbb, 0xbf, 0x61]));
+    let short = Shape::Text(Encoding::Utf8, Width::W8);
+    assert!(rt; takes(alloc, &short, &long_text(alloc, 251)?, 256));
+    let long = Shape::Text(Encoding::Utf8, Width::W16);
+    assert!(rt; takes(alloc, &long, &long_text(alloc, 65531)?, 65537));
     Ok(())
 }
 
 #[test]
-fn ends_of_ranges(rt: HostRuntime) -> Result<(), Fail> {
+fn too_long_texts(rt: HostRuntime) -> Result<(), Fail> {
     let alloc = rt.alloc();
-    let unsigned = [
-        (Shape::U8, 0xff, 1),
-        (Shape::U16, 0xffff, 2),
-        (Shape::U32, 0xffff_ffff, 4),
-        (Shape::U64, u64::MAX, 8),
-    ];
-    for (shape, most, len) in Vec::from_array(alloc, unsigned)? {
-        let bytes = [0xff; 8];
-        assert!(rt; reads(alloc, &shape, &bytes, &Value::Uint(most), len));
-        assert!(rt; reads(alloc, &shape, &[0; 8], &Value::Uint(0), len));
-        let mut out = Vec::new(rt.alloc());
-        assert!(rt; encode(rt.alloc(), &shape, &Value::Uint(most), &mut out) == Ok(()));
-        assert_eq!(rt; out.len(), len);
+    let short = Shape::Text(Encoding::Utf8, Width::W8);
+    assert!(rt;
+        refuses(
+            alloc,
+            &short,
+            &long_text(alloc, 252)?,
+            PayloadError::TooLong(0)
+        )?
+    );
+    let long = Shape::Text(Encoding::Utf8, Width::W16);
+    assert!(rt;
+        refuses(
+            alloc,
+            &long,
+            &long_text(alloc, 65532)?,
+            PayloadError::TooLong(0)
+        )?
+    );
+    Ok(())
+}
+
+#[test]
+fn lengths_of_four_bytes(rt: HostRuntime) -> Result<(), Fail> {
+    let value = long_text(rt.alloc(), 65532)?;
+    let mut out = Vec::new(rt.alloc());
+    let shape = Shape::Text(Encoding::Utf8, Width::W32);
+    assert!(rt; encode(&shape, &value, &mut out) == Ok(()));
+    assert!(rt; out.starts_with(&[0, 1, 0, 0, 0xef, 0xbb, 0xbf, 0x61]));
+    Ok(())
+}
+
+// The bytes are read as the number, and written from it, where the shape has so many of them.
+fn is_number(alloc: Global, shape: &Shape, bytes: &[u8; 8], value: &Value, len: usize) -> bool {
+    let Some(front) = bytes.get(..len) else {
+        return false;
+    };
+    reads(alloc, shape, bytes, value, len) && writes(alloc, shape, value, front)
+}
+
+#[test]
+fn ends_of_unsigned_ranges(rt: HostRuntime) {
+    let alloc = rt.alloc();
+    for (shape, most, len) in [
+        (&Shape::U8, 0xff, 1usize),
+        (&Shape::U16, 0xffff, 2),
+        (&Shape::U32, 0xffff_ffff, 4),
+        (&Shape::U64, u64::MAX, 8),
+    ] {
+        assert!(rt; is_number(alloc, shape, &[0xff; 8], &Value::Uint(most), len));
+        assert!(rt; is_number(alloc, shape, &[0; 8], &Value::Uint(0), len));
     }
-    let signed = [
-        (Shape::I8, -0x80, 0x7f, 1),
-        (Shape::I16, -0x8000, 0x7fff, 2),
-        (Shape::I32, -0x8000_0000, 0x7fff_ffff, 4),
-        (Shape::I64, i64::MIN, i64::MAX, 8),
-    ];
-    for (shape, least, most, len) in Vec::from_array(alloc, signed)? {
-        assert!(rt;
-            reads(
-                alloc,
-                &shape,
-                &[0x80, 0, 0, 0, 0, 0, 0, 0],
-                &Value::Int(least),
-                len
-            )
-        );
-        let largest = [0x7f, 0xff, 0xff, 0xff, 0xff, 0xff, 0xff, 0xff];
-        assert!(rt; reads(alloc, &shape, &largest, &Value::Int(most), len));
-        assert!(rt; reads(alloc, &shape, &[0xff; 8], &Value::Int(-1), len));
-        let mut out = Vec::new(rt.alloc());
-        assert!(rt; encode(rt.alloc(), &shape, &Value::Int(least), &mut out) == Ok(()));
-        assert!(rt; out.starts_with(&[0x80]));
-        assert_eq!(rt; out.len(), len);
+}
+
+#[test]
+fn ends_of_signed_ranges(rt: HostRuntime) {
+    let alloc = rt.alloc();
+    let smallest = [0x80, 0, 0, 0, 0, 0, 0, 0];
+    let largest = [0x7f, 0xff, 0xff, 0xff, 0xff, 0xff, 0xff, 0xff];
+    for (shape, least, most, len) in [
+        (&Shape::I8, -0x80, 0x7f, 1usize),
+        (&Shape::I16, -0x8000, 0x7fff, 2),
+        (&Shape::I32, -0x8000_0000, 0x7fff_ffff, 4),
+        (&Shape::I64, i64::MIN, i64::MAX, 8),
+    ] {
+        assert!(rt; is_number(alloc, shape, &smallest, &Value::Int(least), len));
+        assert!(rt; is_number(alloc, shape, &largest, &Value::Int(most), len));
+        assert!(rt; is_number(alloc, shape, &[0xff; 8], &Value::Int(-1), len));
     }
+}
+
+#[test]
+fn truth_values(rt: HostRuntime) {
+    let alloc = rt.alloc();
     assert!(rt; reads(alloc, &Shape::Bool, &[0xfe], &Value::Bool(false), 1));
     assert!(rt; reads(alloc, &Shape::Bool, &[3], &Value::Bool(true), 1));
     assert!(rt; writes(alloc, &Shape::Bool, &Value::Bool(true), &[1]));
     assert!(rt; writes(alloc, &Shape::Bool, &Value::Bool(false), &[0]));
-    Ok(())
 }
 
 #[test]
@@ -538,12 +557,35 @@ fn shapes(rt: HostRuntime) -> Result<(), Fail> {
 
 #[test]
 fn printed_errors(rt: HostRuntime) -> Result<(), Fail> {
-    let text = format!(in rt.alloc();
-        "{} / {}",
-        PayloadError::TooMany(8),
-        PayloadError::OutOfMemory
-    )?;
-    assert_eq!(rt; text.as_str(), "TooMany at 8 / out of memory");
+    for (error, name, text) in [
+        (PayloadError::Truncated(1), "Truncated", "Truncated at 1"),
+        (PayloadError::BadText(2), "BadText", "BadText at 2"),
+        (
+            PayloadError::NoTerminator(3),
+            "NoTerminator",
+            "NoTerminator at 3",
+        ),
+        (
+            PayloadError::UnknownVariant(4),
+            "UnknownVariant",
+            "UnknownVariant at 4",
+        ),
+        (
+            PayloadError::LengthMismatch(5),
+            "LengthMismatch",
+            "LengthMismatch at 5",
+        ),
+        (PayloadError::TooMany(8), "TooMany", "TooMany at 8"),
+        (PayloadError::TooDeep(0), "TooDeep", "TooDeep at 0"),
+        (PayloadError::NotOfShape(0), "NotOfShape", "NotOfShape at 0"),
+        (PayloadError::TooLong(0), "TooLong", "TooLong at 0"),
+        (PayloadError::BadShape(0), "BadShape", "BadShape at 0"),
+        (PayloadError::OutOfMemory, "OutOfMemory", "out of memory"),
+    ] {
+        assert!(rt; error.to_string(rt.alloc())?.as_str() == text, "{text}");
+        assert!(rt; error.name() == name, "{text}");
+    }
+    assert!(rt; PayloadError::TooMany(8).place() == 8);
     Ok(())
 }
 

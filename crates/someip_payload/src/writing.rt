@@ -18,18 +18,14 @@ use std::alloc::{AllocError, Global};
 /// Adds the bytes of the value at the end of `out`: the one way in which it is written, with byte
 /// order mark and terminator in texts, and UTF-16 with the higher byte of a unit first. Refuses
 /// what `check_shape` refuses, and then at the first fault from left to right, with place 0:
-/// `NotOfShape`, `UnknownVariant`, `TooMany` or `TooLong`. An `Err` leaves `out` as it was.
-pub fn encode(
-    alloc: Global,
-    shape: &Shape,
-    value: &Value,
-    out: &mut Vec<u8>,
-) -> Result<(), PayloadError>
+/// `NotOfShape`, `UnknownVariant`, `TooMany` or `TooLong`. An `Err` leaves `out` as it was, so the
+/// bytes are made first, in memory of its allocator.
+pub fn encode(shape: &Shape, value: &Value, out: &mut Vec<u8>) -> Result<(), PayloadError>
     // The text of the value is added, or there is none for this reason, and nothing is added.
     ensures exact { Appends out.old.items out.new.items result (encoded (form shape.now) (data_of value.now)) }
     ensures errors { IfErr result IsRefusal }
 {
-    encode_whole(alloc, shape, value, out)
+    encode_whole(*out.allocator(), shape, value, out)
 }
 
 #[tactic(auto, unfolding(crate::specs::Writing::encoded))]

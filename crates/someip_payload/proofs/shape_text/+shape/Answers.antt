@@ -1,17 +1,29 @@
-use Rattle.std.proofs.Common.{rules, ◌≡◌, ◌+◌, ◌<◌, ◌≤◌, ◌++◌, [], ◌∷◌, length, slice_range, codes, refl, ap, ◌∙◌, arith}
+use Rattle.std.proofs.Common.{rules, ◌≡◌, ℕ, ◌+◌, ◌-◌, ◌<◌, ◌≤◌, List, ◌++◌, [], ◌∷◌, length, slice_range, codes, Ok, refl, ap, ◌∙◌, arith}
+use Rattle.std.specs.Fmt.{decimal}
+use Rattle.std.proofs.lemmas.Bool.{false≢true}
+use Rattle.std.proofs.lemmas.Result.{err_from_is_err_and}
+use Rattle.std.proofs.lemmas.List.{length-append}
+use Rattle.someip_payload.specs.declared.number.Size.TheVariants.{S8, S16, S32, S64}
+use Rattle.someip_payload.specs.declared.shape.Shape.{U8, U16, U32, U64, I8, I16, I32, I64}
+use Rattle.someip_payload.specs.Data.{unsigned, signed}
+use Rattle.someip_payload.specs.Check.{depth, deepest, deepest_variant}
+use Rattle.someip_payload.specs.ShapeText.{repeated_text, width_text}
+use Rattle.someip_payload.specs.View.{form}
+use Rattle.someip_payload.proofs.Converse.{by_word, plain, word_there, behind_piece, same_first, same_second, not_read}
+use Rattle.someip_payload.proofs.ConverseParts.{split_front, some_depth, array_is, struct_is, union_is, stops_repeated, stops_bracket, stops_end, no_digit_comma, no_digit_colon, after_open, after_comma, length-repeated, after_bracket, members_none, next_member_of, member_more, member_last, variants_none, next_variant_of, variant_more, variant_last}
 use Rattle.someip_payload.specs.Words.{word_text}
-use Rattle.someip_payload.proofs.Pieces.{slice_range-append}
-use Rattle.someip_payload.proofs.ShapePieces.{bool_shape, u8_shape, u16_shape, u32_shape, u64_shape, i8_shape, i16_shape, i32_shape, i64_shape, behind_word, array_shape, fixed_shape, struct_shape, union_shape, repeated_piece}
+use Rattle.someip_payload.proofs.Pieces.{slice_range-append, slice_range-empty}
+use Rattle.someip_payload.proofs.ShapePieces.{bool_shape, u8_shape, u16_shape, u32_shape, u64_shape, i8_shape, i16_shape, i32_shape, i64_shape, form-U8, form-U16, form-U32, form-U64, form-I8, form-I16, form-I32, form-I64, behind_word, array_shape, fixed_shape, struct_shape, union_shape, repeated_piece}
 use Rattle.someip_payload.proofs.Members.{next_member_at, last_member_at, next_variant_at, last_variant_at, variant_piece}
 use Rattle.someip_payload.proofs.shape_text.+shape.Goals as goal
 
 pub array_at-returns-clause-found : goal.array_at-returns-clause-found
 array_at-returns-clause-found t c =
     let whole = c.in_ok-max.ensures.found in
-    array_shape c.in_ok-width.width _ _ _ _ whole.0 _ _ _ c.in_ok-width.ensures.end.0 c.in_ok-max.ensures.end.0 c.or_32.ensures c.in_ok-width.ensures.found whole.1 whole.2
+    array_shape c.in_ok-width.width _ _ _ _ whole.0 _ _ _ c.in_ok-width.ensures.end.0 c.in_ok-max.ensures.end.0 c.or_32.ensures c.in_ok-width.ensures.found whole.1 whole.2 whole.3
 
 pub fixed_at-returns-clause-found : goal.fixed_at-returns-clause-found
-fixed_at-returns-clause-found t c = let whole = c.in_ok-count.ensures.found in fixed_shape _ _ _ whole.0 whole.1 whole.2
+fixed_at-returns-clause-found t c = let whole = c.in_ok-count.ensures.found in fixed_shape _ _ _ whole.0 whole.1 whole.2 whole.3
 
 pub struct_at-returns-clause-found : goal.struct_at-returns-clause-found
 struct_at-returns-clause-found t c =
@@ -37,6 +49,7 @@ repeated_at-returns-clause-found t c =
       rw c.in_ok-new.ensures.ok c.in_ok-element.ensures.found,
       repeated_piece _ _ _ _ _ _ _ _ (omega arith) (omega arith) (omega arith) last (omega arith)
           c.in_ok-from.ensures.found c.in_ok-number.ensures.found c.in_ok-first.ensures.found c.in_ok-end.ensures.found,
+      c.in_ok-number.ensures.fits,
     )
 
 pub shape_at-returns-in-Bool-clause-found : goal.shape_at-returns-in-Bool-clause-found
@@ -94,11 +107,15 @@ pub members_at-loop-members-preserved : goal.members_at-loop-members-preserved
 members_at-loop-members-preserved t c =
     let here : c.args.at ≤ c.loop-members.next = c.loop-members.invariant.0 in
     let behind : c.loop-members.next < c.in_ok-member.end = c.in_ok-member.ensures.end.0 in
-    let inside : c.in_ok-member.end < length c.args.text.now = (c.if-has_comma.ensures refl).0 in
+    let inside : c.in_ok-member.end < length c.args.text.now = (c.if-has_comma.ensures.comma refl).0 in
     let pushed : c.push.new.self.items ≡ c.loop-members.members.items ++ c.in_ok-member.member ∷ [] = search rules in (
       omega arith,
       omega arith,
-      rw pushed (next_member_at _ _ _ _ _ _ here (omega arith) inside (c.if-has_comma.ensures refl).1 c.loop-members.invariant.2 c.in_ok-member.ensures.found),
+      rw pushed (next_member_at _ _ _ _ _ _ here (omega arith) inside (c.if-has_comma.ensures.comma refl).1 c.loop-members.invariant.2 c.in_ok-member.ensures.found),
+      λ fs all rest is are deep.
+          let n = next_member_of c.args.text.now c.args.at c.args.left fs all rest c.loop-members.members.items c.loop-members.next (c.loop-members.invariant.3 fs all rest is are deep) in
+          let read = c.in_ok-member.ensures.only n.f n.front n.tail n.there n.is_text n.deep n.stops in
+          rw pushed (member_more c.args.text.now c.args.at c.args.left fs all rest c.loop-members.members.items c.loop-members.next c.in_ok-member.member c.in_ok-member.end n read (c.if-has_comma.ensures.comma refl).1),
     )
 
 pub members_at-returns-else-has_comma-clause-found : goal.members_at-returns-else-has_comma-clause-found
@@ -118,12 +135,22 @@ variants_at-loop-variants-preserved t c =
     let colon : c.loop-variants.next < c.in_ok-number.colon = c.in_ok-number.ensures.end.0 in
     let first : c.in_ok-first.first ≡ c.in_ok-number.colon + 1 = c.in_ok-first.ensures.end.0 in
     let behind : c.in_ok-first.first ≤ c.in_ok-shape.end = omega (arith, c.in_ok-shape.ensures.end.0) in
-    let inside : c.in_ok-shape.end < length c.args.text.now = (c.if-has_comma.ensures refl).0 in
+    let inside : c.in_ok-shape.end < length c.args.text.now = (c.if-has_comma.ensures.comma refl).0 in
     let pushed : c.push.new.self.items ≡ c.loop-variants.variants.items ++ (c.in_ok-number.number, c.in_ok-shape.shape) ∷ [] = search rules in (
       omega arith,
       omega arith,
-      rw pushed (next_variant_at _ _ _ _ _ _ _ _ here (omega arith) inside (c.if-has_comma.ensures refl).1 c.loop-variants.invariant.2
-          (variant_piece _ _ _ _ _ _ (omega arith) (omega arith) behind c.in_ok-number.ensures.found c.in_ok-first.ensures.found) c.in_ok-shape.ensures.found),
+      rw pushed (next_variant_at _ _ _ _ _ _ _ _ here (omega arith) inside (c.if-has_comma.ensures.comma refl).1 c.loop-variants.invariant.2
+          (variant_piece _ _ _ _ _ _ (omega arith) (omega arith) behind c.in_ok-number.ensures.found c.in_ok-first.ensures.found) c.in_ok-number.ensures.fits c.in_ok-shape.ensures.found),
+      λ vs all rest is are deep.
+          let n = next_variant_of c.args.text.now c.args.at c.args.left vs all rest c.loop-variants.variants.items c.loop-variants.next (c.loop-variants.invariant.3 vs all rest is are deep) in
+          let both = c.in_ok-number.ensures.only n.number 58 (n.front ++ n.tail) n.there n.small no_digit_colon in
+          let number : c.in_ok-number.number ≡ n.number = same_first _ _ _ _ both in
+          let point : c.in_ok-number.colon ≡ c.loop-variants.next + length (decimal n.number) = same_second _ _ _ _ both in
+          let there = behind_piece c.args.text.now (decimal n.number) _ c.loop-variants.next c.in_ok-number.colon n.there point in
+          let inside_it = behind_piece c.args.text.now (codes ":") (n.front ++ n.tail) c.in_ok-number.colon c.in_ok-first.first there first in
+          let read = c.in_ok-shape.ensures.only n.f n.front n.tail inside_it n.is_text n.deep n.stops in
+          let begins : c.in_ok-first.first ≡ c.loop-variants.next + length (decimal n.number) + 1 = omega (arith, point, first) in
+          rw pushed (variant_more c.args.text.now c.args.at c.args.left vs all rest c.loop-variants.variants.items c.loop-variants.next c.in_ok-number.number c.in_ok-shape.shape c.in_ok-first.first c.in_ok-shape.end n number begins inside_it read (c.if-has_comma.ensures.comma refl).1),
     )
 
 pub variants_at-returns-else-has_comma-clause-found : goal.variants_at-returns-else-has_comma-clause-found
@@ -136,6 +163,299 @@ variants_at-returns-else-has_comma-clause-found t c =
     let pushed : c.push.new.self.items ≡ c.loop-variants.variants.items ++ (c.in_ok-number.number, c.in_ok-shape.shape) ∷ [] = search rules in (
       slice_range c.args.text.now c.args.at c.in_ok-shape.end,
       rw pushed (last_variant_at _ _ _ _ _ _ _ _ here (omega arith) c.loop-variants.invariant.2
-          (variant_piece _ _ _ _ _ _ (omega arith) (omega arith) behind c.in_ok-number.ensures.found c.in_ok-first.ensures.found) c.in_ok-shape.ensures.found),
+          (variant_piece _ _ _ _ _ _ (omega arith) (omega arith) behind c.in_ok-number.ensures.found c.in_ok-first.ensures.found) c.in_ok-number.ensures.fits c.in_ok-shape.ensures.found),
       rw (← slice_range-append c.args.text.now c.args.at c.in_ok-shape.end c.in_ok-end.end (omega arith) (omega arith), c.in_ok-end.ensures.found),
     )
+
+-- ---- each text of a shape is read
+
+pub shape_at-returns-in_err-word-clause-only : goal.shape_at-returns-in_err-word-clause-only
+shape_at-returns-in_err-word-clause-only t c = λ f front rest is is_text deep stops.
+    let there = word_there c.args.text.now front rest c.args.at f is is_text in
+    let bad = c.in_err-word.ensures.only there.0 there.1 there.2 in
+    absurd (not_read _ _ bad)
+
+pub shape_at-returns-in-U8-clause-only : goal.shape_at-returns-in-U8-clause-only
+shape_at-returns-in-U8-clause-only t c = λ f front rest is is_text deep stops.
+    by_word c.args.text.now front rest c.args.at c.in_ok-word.end f c.in_ok-word.word (Ok (U8, c.in_ok-word.end)) is is_text c.in_ok-word.ensures.only
+    (λ back there behind. plain U8 f (unsigned S8) back c.in_ok-word.end form-U8 (rw c.in-U8.is at behind))
+
+pub shape_at-returns-in-U16-clause-only : goal.shape_at-returns-in-U16-clause-only
+shape_at-returns-in-U16-clause-only t c = λ f front rest is is_text deep stops.
+    by_word c.args.text.now front rest c.args.at c.in_ok-word.end f c.in_ok-word.word (Ok (U16, c.in_ok-word.end)) is is_text c.in_ok-word.ensures.only
+    (λ back there behind. plain U16 f (unsigned S16) back c.in_ok-word.end form-U16 (rw c.in-U16.is at behind))
+
+pub shape_at-returns-in-U32-clause-only : goal.shape_at-returns-in-U32-clause-only
+shape_at-returns-in-U32-clause-only t c = λ f front rest is is_text deep stops.
+    by_word c.args.text.now front rest c.args.at c.in_ok-word.end f c.in_ok-word.word (Ok (U32, c.in_ok-word.end)) is is_text c.in_ok-word.ensures.only
+    (λ back there behind. plain U32 f (unsigned S32) back c.in_ok-word.end form-U32 (rw c.in-U32.is at behind))
+
+pub shape_at-returns-in-U64-clause-only : goal.shape_at-returns-in-U64-clause-only
+shape_at-returns-in-U64-clause-only t c = λ f front rest is is_text deep stops.
+    by_word c.args.text.now front rest c.args.at c.in_ok-word.end f c.in_ok-word.word (Ok (U64, c.in_ok-word.end)) is is_text c.in_ok-word.ensures.only
+    (λ back there behind. plain U64 f (unsigned S64) back c.in_ok-word.end form-U64 (rw c.in-U64.is at behind))
+
+pub shape_at-returns-in-I8-clause-only : goal.shape_at-returns-in-I8-clause-only
+shape_at-returns-in-I8-clause-only t c = λ f front rest is is_text deep stops.
+    by_word c.args.text.now front rest c.args.at c.in_ok-word.end f c.in_ok-word.word (Ok (I8, c.in_ok-word.end)) is is_text c.in_ok-word.ensures.only
+    (λ back there behind. plain I8 f (signed S8) back c.in_ok-word.end form-I8 (rw c.in-I8.is at behind))
+
+pub shape_at-returns-in-I16-clause-only : goal.shape_at-returns-in-I16-clause-only
+shape_at-returns-in-I16-clause-only t c = λ f front rest is is_text deep stops.
+    by_word c.args.text.now front rest c.args.at c.in_ok-word.end f c.in_ok-word.word (Ok (I16, c.in_ok-word.end)) is is_text c.in_ok-word.ensures.only
+    (λ back there behind. plain I16 f (signed S16) back c.in_ok-word.end form-I16 (rw c.in-I16.is at behind))
+
+pub shape_at-returns-in-I32-clause-only : goal.shape_at-returns-in-I32-clause-only
+shape_at-returns-in-I32-clause-only t c = λ f front rest is is_text deep stops.
+    by_word c.args.text.now front rest c.args.at c.in_ok-word.end f c.in_ok-word.word (Ok (I32, c.in_ok-word.end)) is is_text c.in_ok-word.ensures.only
+    (λ back there behind. plain I32 f (signed S32) back c.in_ok-word.end form-I32 (rw c.in-I32.is at behind))
+
+pub shape_at-returns-in-I64-clause-only : goal.shape_at-returns-in-I64-clause-only
+shape_at-returns-in-I64-clause-only t c = λ f front rest is is_text deep stops.
+    by_word c.args.text.now front rest c.args.at c.in_ok-word.end f c.in_ok-word.word (Ok (I64, c.in_ok-word.end)) is is_text c.in_ok-word.ensures.only
+    (λ back there behind. plain I64 f (signed S64) back c.in_ok-word.end form-I64 (rw c.in-I64.is at behind))
+
+pub shape_at-returns-in-Utf8-clause-only : goal.shape_at-returns-in-Utf8-clause-only
+shape_at-returns-in-Utf8-clause-only t c = λ f front rest is is_text deep stops.
+    by_word c.args.text.now front rest c.args.at c.in_ok-word.end f c.in_ok-word.word c.utf8_at.result is is_text c.in_ok-word.ensures.only
+    (λ back there behind. c.utf8_at.ensures.only f back rest there (rw c.in-Utf8.is at behind) stops)
+
+pub shape_at-returns-in-Utf16-clause-only : goal.shape_at-returns-in-Utf16-clause-only
+shape_at-returns-in-Utf16-clause-only t c = λ f front rest is is_text deep stops.
+    by_word c.args.text.now front rest c.args.at c.in_ok-word.end f c.in_ok-word.word c.utf16_at.result is is_text c.in_ok-word.ensures.only
+    (λ back there behind. c.utf16_at.ensures.only f back rest there (rw c.in-Utf16.is at behind) stops)
+
+pub shape_at-returns-in-Array-clause-only : goal.shape_at-returns-in-Array-clause-only
+shape_at-returns-in-Array-clause-only t c = λ f front rest is is_text deep stops.
+    let inner : depth f ≤ (c.args.left - 1) + 1 = omega (arith, deep, some_depth f) in
+    by_word c.args.text.now front rest c.args.at c.in_ok-word.end f c.in_ok-word.word c.array_at.result is is_text c.in_ok-word.ensures.only
+    (λ back there behind. c.array_at.ensures.only f back rest there (rw c.in-Array.is at behind) inner)
+
+pub shape_at-returns-in-Fixed-clause-only : goal.shape_at-returns-in-Fixed-clause-only
+shape_at-returns-in-Fixed-clause-only t c = λ f front rest is is_text deep stops.
+    let inner : depth f ≤ (c.args.left - 1) + 1 = omega (arith, deep, some_depth f) in
+    by_word c.args.text.now front rest c.args.at c.in_ok-word.end f c.in_ok-word.word c.fixed_at.result is is_text c.in_ok-word.ensures.only
+    (λ back there behind. c.fixed_at.ensures.only f back rest there (rw c.in-Fixed.is at behind) inner)
+
+pub shape_at-returns-in-Struct-clause-only : goal.shape_at-returns-in-Struct-clause-only
+shape_at-returns-in-Struct-clause-only t c = λ f front rest is is_text deep stops.
+    let inner : depth f ≤ (c.args.left - 1) + 1 = omega (arith, deep, some_depth f) in
+    by_word c.args.text.now front rest c.args.at c.in_ok-word.end f c.in_ok-word.word c.struct_at.result is is_text c.in_ok-word.ensures.only
+    (λ back there behind. c.struct_at.ensures.only f back rest there (rw c.in-Struct.is at behind) inner)
+
+pub shape_at-returns-in-Union-clause-only : goal.shape_at-returns-in-Union-clause-only
+shape_at-returns-in-Union-clause-only t c = λ f front rest is is_text deep stops.
+    let inner : depth f ≤ (c.args.left - 1) + 1 = omega (arith, deep, some_depth f) in
+    by_word c.args.text.now front rest c.args.at c.in_ok-word.end f c.in_ok-word.word c.union_at.result is is_text c.in_ok-word.ensures.only
+    (λ back there behind. c.union_at.ensures.only f back rest there (rw c.in-Union.is at behind) inner)
+
+pub array_at-returns-in_err-max-clause-only : goal.array_at-returns-in_err-max-clause-only
+array_at-returns-in_err-max-clause-only t c = λ f back rest is behind deep.
+    let p = err_from_is_err_and c.from_residual-in_err-max.result c.from_residual-in_err-max.ensures.1 in
+    let here = split_front _ back rest _ _ is behind.7 in
+    let width = c.in_ok-width.ensures.only behind.0 (repeated_text behind.1 behind.3 ++ rest) here (stops_repeated behind.1 behind.3 rest) in
+    let from : c.in_ok-width.from ≡ c.args.at + length (width_text behind.0) = same_second _ _ _ _ width in
+    let inner : depth behind.2 ≤ c.args.left = omega (arith, deep, ap depth behind.6) in
+    rw (p.1, p.2) (c.in_err-max.ensures.only behind.1 behind.2 behind.3 rest (behind_piece c.args.text.now (width_text behind.0) _ c.args.at c.in_ok-width.from here from) behind.4 behind.5 inner)
+
+pub array_at-returns-clause-only : goal.array_at-returns-clause-only
+array_at-returns-clause-only t c = λ f back rest is behind deep.
+    let here = split_front _ back rest _ _ is behind.7 in
+    let both = c.in_ok-width.ensures.only behind.0 (repeated_text behind.1 behind.3 ++ rest) here (stops_repeated behind.1 behind.3 rest) in
+    let width : c.in_ok-width.width ≡ behind.0 = same_first _ _ _ _ both in
+    let from : c.in_ok-width.from ≡ c.args.at + length (width_text behind.0) = same_second _ _ _ _ both in
+    let inner : depth behind.2 ≤ c.args.left = omega (arith, deep, ap depth behind.6) in
+    let repeated = c.in_ok-max.ensures.only behind.1 behind.2 behind.3 rest (behind_piece c.args.text.now (width_text behind.0) _ c.args.at c.in_ok-width.from here from) behind.4 behind.5 inner in (
+      array_is c.in_ok-width.width behind.0 _ _ behind.1 c.in_ok-max.element f behind.2 c.or_32.ensures width repeated.0 repeated.1 behind.6,
+      omega (arith, repeated.2, from, ap length behind.7, length-append (width_text behind.0) (repeated_text behind.1 behind.3)),
+    )
+
+pub repeated_at-returns-in_err-number-clause-only : goal.repeated_at-returns-in_err-number-clause-only
+repeated_at-returns-in_err-number-clause-only t c = λ n f element rest is small is_text deep.
+    let opened = after_open c.args.text.now element rest n c.args.at c.in_ok-from.from is c.in_ok-from.ensures.end.0 in
+    let bad = c.in_err-number.ensures.only n 44 ((element ++ codes ">") ++ rest) opened small no_digit_comma in
+    absurd (not_read _ _ bad)
+
+pub repeated_at-returns-in_err-first-clause-only : goal.repeated_at-returns-in_err-first-clause-only
+repeated_at-returns-in_err-first-clause-only t c = λ n f element rest is small is_text deep.
+    let opened = after_open c.args.text.now element rest n c.args.at c.in_ok-from.from is c.in_ok-from.ensures.end.0 in
+    let number = c.in_ok-number.ensures.only n 44 ((element ++ codes ">") ++ rest) opened small no_digit_comma in
+    let comma : c.in_ok-number.comma ≡ c.in_ok-from.from + length (decimal n) = same_second _ _ _ _ number in
+    let bad = c.in_err-first.ensures.only ((element ++ codes ">") ++ rest) (behind_piece c.args.text.now (decimal n) _ c.in_ok-from.from c.in_ok-number.comma opened comma) in
+    absurd (not_read _ _ bad)
+
+pub repeated_at-returns-in_err-element-clause-only : goal.repeated_at-returns-in_err-element-clause-only
+repeated_at-returns-in_err-element-clause-only t c = λ n f element rest is small is_text deep.
+    let p = err_from_is_err_and c.from_residual-in_err-element.result c.from_residual-in_err-element.ensures.1 in
+    let opened = after_open c.args.text.now element rest n c.args.at c.in_ok-from.from is c.in_ok-from.ensures.end.0 in
+    let number = c.in_ok-number.ensures.only n 44 ((element ++ codes ">") ++ rest) opened small no_digit_comma in
+    let comma : c.in_ok-number.comma ≡ c.in_ok-from.from + length (decimal n) = same_second _ _ _ _ number in
+    let there = behind_piece c.args.text.now (decimal n) _ c.in_ok-from.from c.in_ok-number.comma opened comma in
+    let inside = after_comma c.args.text.now element rest c.in_ok-number.comma c.in_ok-first.first there c.in_ok-first.ensures.end.0 in
+    rw (p.1, p.2) (c.in_err-element.ensures.only f element (codes ">" ++ rest) inside is_text deep (stops_end rest))
+
+pub repeated_at-returns-in_err-end-clause-only : goal.repeated_at-returns-in_err-end-clause-only
+repeated_at-returns-in_err-end-clause-only t c = λ n f element rest is small is_text deep.
+    let opened = after_open c.args.text.now element rest n c.args.at c.in_ok-from.from is c.in_ok-from.ensures.end.0 in
+    let number = c.in_ok-number.ensures.only n 44 ((element ++ codes ">") ++ rest) opened small no_digit_comma in
+    let comma : c.in_ok-number.comma ≡ c.in_ok-from.from + length (decimal n) = same_second _ _ _ _ number in
+    let there = behind_piece c.args.text.now (decimal n) _ c.in_ok-from.from c.in_ok-number.comma opened comma in
+    let inside = after_comma c.args.text.now element rest c.in_ok-number.comma c.in_ok-first.first there c.in_ok-first.ensures.end.0 in
+    let read = c.in_ok-element.ensures.only f element (codes ">" ++ rest) inside is_text deep (stops_end rest) in
+    let bad = c.in_err-end.ensures.only rest (behind_piece c.args.text.now element _ c.in_ok-first.first c.in_ok-element.last inside read.1) in
+    absurd (not_read _ _ bad)
+
+pub repeated_at-returns-clause-only : goal.repeated_at-returns-clause-only
+repeated_at-returns-clause-only t c = λ n f element rest is small is_text deep.
+    let opened = after_open c.args.text.now element rest n c.args.at c.in_ok-from.from is c.in_ok-from.ensures.end.0 in
+    let both = c.in_ok-number.ensures.only n 44 ((element ++ codes ">") ++ rest) opened small no_digit_comma in
+    let number : c.in_ok-number.number ≡ n = same_first _ _ _ _ both in
+    let comma : c.in_ok-number.comma ≡ c.in_ok-from.from + length (decimal n) = same_second _ _ _ _ both in
+    let there = behind_piece c.args.text.now (decimal n) _ c.in_ok-from.from c.in_ok-number.comma opened comma in
+    let inside = after_comma c.args.text.now element rest c.in_ok-number.comma c.in_ok-first.first there c.in_ok-first.ensures.end.0 in
+    let read = c.in_ok-element.ensures.only f element (codes ">" ++ rest) inside is_text deep (stops_end rest) in (
+      number,
+      rw c.in_ok-new.ensures.ok read.0,
+      omega (arith, c.in_ok-from.ensures.end.0, comma, c.in_ok-first.ensures.end.0, read.1, c.in_ok-end.ensures.end.0, length-repeated n element),
+    )
+
+pub struct_at-returns-in_err-first-clause-only : goal.struct_at-returns-in_err-first-clause-only
+struct_at-returns-in_err-first-clause-only t c = λ f back rest is behind deep.
+    let here = split_front _ back rest _ _ is behind.5 in
+    let width = c.in_ok-width.ensures.only behind.0 ((codes "(" ++ (behind.2 ++ codes ")")) ++ rest) here (stops_bracket (behind.2 ++ codes ")") rest) in
+    let from : c.in_ok-width.from ≡ c.args.at + length (width_text behind.0) = same_second _ _ _ _ width in
+    let bad = c.in_err-first.ensures.only ((behind.2 ++ codes ")") ++ rest) (behind_piece c.args.text.now (width_text behind.0) _ c.args.at c.in_ok-width.from here from) in
+    absurd (not_read _ _ bad)
+
+pub struct_at-returns-in_err-members-clause-only : goal.struct_at-returns-in_err-members-clause-only
+struct_at-returns-in_err-members-clause-only t c = λ f back rest is behind deep.
+    let p = err_from_is_err_and c.from_residual-in_err-members.result c.from_residual-in_err-members.ensures.1 in
+    let here = split_front _ back rest _ _ is behind.5 in
+    let width = c.in_ok-width.ensures.only behind.0 ((codes "(" ++ (behind.2 ++ codes ")")) ++ rest) here (stops_bracket (behind.2 ++ codes ")") rest) in
+    let from : c.in_ok-width.from ≡ c.args.at + length (width_text behind.0) = same_second _ _ _ _ width in
+    let bracket = behind_piece c.args.text.now (width_text behind.0) _ c.args.at c.in_ok-width.from here from in
+    let inside = after_bracket c.args.text.now behind.2 rest c.in_ok-width.from c.in_ok-first.first bracket c.in_ok-first.ensures.end.0 in
+    let inner : deepest behind.1 ≤ c.args.left = omega (arith, deep, ap depth behind.4) in
+    rw (p.1, p.2) (c.in_err-members.ensures.only behind.1 behind.2 rest inside behind.3 inner)
+
+pub struct_at-returns-clause-only : goal.struct_at-returns-clause-only
+struct_at-returns-clause-only t c = λ f back rest is behind deep.
+    let here = split_front _ back rest _ _ is behind.5 in
+    let both = c.in_ok-width.ensures.only behind.0 ((codes "(" ++ (behind.2 ++ codes ")")) ++ rest) here (stops_bracket (behind.2 ++ codes ")") rest) in
+    let width : c.in_ok-width.width ≡ behind.0 = same_first _ _ _ _ both in
+    let from : c.in_ok-width.from ≡ c.args.at + length (width_text behind.0) = same_second _ _ _ _ both in
+    let bracket = behind_piece c.args.text.now (width_text behind.0) _ c.args.at c.in_ok-width.from here from in
+    let inside = after_bracket c.args.text.now behind.2 rest c.in_ok-width.from c.in_ok-first.first bracket c.in_ok-first.ensures.end.0 in
+    let inner : deepest behind.1 ≤ c.args.left = omega (arith, deep, ap depth behind.4) in
+    let read = c.in_ok-members.ensures.only behind.1 behind.2 rest inside behind.3 inner in (
+      struct_is _ _ c.in_ok-members.members f behind.1 width read.0 behind.4,
+      omega (arith, read.1, from, c.in_ok-first.ensures.end.0, ap length behind.5, length-append (width_text behind.0) (40 ∷ (behind.2 ++ codes ")")), length-append behind.2 (codes ")")),
+    )
+
+pub union_at-returns-in_err-variants-clause-only : goal.union_at-returns-in_err-variants-clause-only
+union_at-returns-in_err-variants-clause-only t c = λ f back rest is behind deep.
+    let p = err_from_is_err_and c.from_residual-in_err-variants.result c.from_residual-in_err-variants.ensures.1 in
+    let inside = after_bracket c.args.text.now behind.1 rest c.args.at c.in_ok-first.first (is ∙ ap (λ (x : List ℕ). x ++ rest) behind.4) c.in_ok-first.ensures.end.0 in
+    let inner : deepest_variant behind.0 ≤ c.args.left = omega (arith, deep, ap depth behind.3) in
+    rw (p.1, p.2) (c.in_err-variants.ensures.only behind.0 behind.1 rest inside behind.2 inner)
+
+pub union_at-returns-clause-only : goal.union_at-returns-clause-only
+union_at-returns-clause-only t c = λ f back rest is behind deep.
+    let inside = after_bracket c.args.text.now behind.1 rest c.args.at c.in_ok-first.first (is ∙ ap (λ (x : List ℕ). x ++ rest) behind.4) c.in_ok-first.ensures.end.0 in
+    let inner : deepest_variant behind.0 ≤ c.args.left = omega (arith, deep, ap depth behind.3) in
+    let read = c.in_ok-variants.ensures.only behind.0 behind.1 rest inside behind.2 inner in (
+      union_is c.in_ok-variants.variants f behind.0 read.0 behind.3,
+      omega (arith, read.1, c.in_ok-first.ensures.end.0, ap length behind.4, length-append behind.1 (codes ")")),
+    )
+
+pub members_at-loop-members-init : goal.members_at-loop-members-init
+members_at-loop-members-init t c = (
+  omega arith,
+  omega (arith, c.requires),
+  λ fs others are. rw (slice_range-empty c.args.text.now c.args.at, c.new-members.ensures.items) are,
+  members_none c.args.text.now c.args.at c.args.left c.new-members.result.items c.new-members.ensures.items,
+)
+
+pub members_at-returns-in_err-member-clause-only : goal.members_at-returns-in_err-member-clause-only
+members_at-returns-in_err-member-clause-only t c = λ fs all rest is are deep.
+    let p = err_from_is_err_and c.from_residual.result c.from_residual.ensures.1 in
+    let n = next_member_of c.args.text.now c.args.at c.args.left fs all rest c.loop-members.members.items c.loop-members.next (c.loop-members.invariant.3 fs all rest is are deep) in
+    rw (p.1, p.2) (c.in_err-member.ensures.only n.f n.front n.tail n.there n.is_text n.deep n.stops)
+
+pub members_at-returns-in_err-end-clause-only : goal.members_at-returns-in_err-end-clause-only
+members_at-returns-in_err-end-clause-only t c = λ fs all rest is are deep.
+    let n = next_member_of c.args.text.now c.args.at c.args.left fs all rest c.loop-members.members.items c.loop-members.next (c.loop-members.invariant.3 fs all rest is are deep) in
+    let read = c.in_ok-member.ensures.only n.f n.front n.tail n.there n.is_text n.deep n.stops in
+    let last = member_last c.args.text.now c.args.at c.args.left fs all rest c.loop-members.members.items c.loop-members.next c.in_ok-member.member c.in_ok-member.end n read (λ others here. false≢true (c.if-has_comma.ensures.only others here)) in
+    let bad = c.in_err-end.ensures.only rest last.bracket in
+    absurd (not_read _ _ bad)
+
+pub members_at-returns-else-has_comma-clause-only : goal.members_at-returns-else-has_comma-clause-only
+members_at-returns-else-has_comma-clause-only t c = λ fs all rest is are deep.
+    let n = next_member_of c.args.text.now c.args.at c.args.left fs all rest c.loop-members.members.items c.loop-members.next (c.loop-members.invariant.3 fs all rest is are deep) in
+    let read = c.in_ok-member.ensures.only n.f n.front n.tail n.there n.is_text n.deep n.stops in
+    let last = member_last c.args.text.now c.args.at c.args.left fs all rest c.loop-members.members.items c.loop-members.next c.in_ok-member.member c.in_ok-member.end n read (λ others here. false≢true (c.if-has_comma.ensures.only others here)) in
+    let pushed : c.push.new.self.items ≡ c.loop-members.members.items ++ c.in_ok-member.member ∷ [] = search rules in
+    (rw pushed last.is, omega (arith, last.place, c.in_ok-end.ensures.end.0))
+
+pub variants_at-loop-variants-init : goal.variants_at-loop-variants-init
+variants_at-loop-variants-init t c = (
+  omega arith,
+  omega (arith, c.requires),
+  λ vs others are. rw (slice_range-empty c.args.text.now c.args.at, c.new-variants.ensures.items) are,
+  variants_none c.args.text.now c.args.at c.args.left c.new-variants.result.items c.new-variants.ensures.items,
+)
+
+pub variants_at-returns-in_err-number-clause-only : goal.variants_at-returns-in_err-number-clause-only
+variants_at-returns-in_err-number-clause-only t c = λ vs all rest is are deep.
+    let n = next_variant_of c.args.text.now c.args.at c.args.left vs all rest c.loop-variants.variants.items c.loop-variants.next (c.loop-variants.invariant.3 vs all rest is are deep) in
+    let bad = c.in_err-number.ensures.only n.number 58 (n.front ++ n.tail) n.there n.small no_digit_colon in
+    absurd (not_read _ _ bad)
+
+pub variants_at-returns-in_err-first-clause-only : goal.variants_at-returns-in_err-first-clause-only
+variants_at-returns-in_err-first-clause-only t c = λ vs all rest is are deep.
+    let n = next_variant_of c.args.text.now c.args.at c.args.left vs all rest c.loop-variants.variants.items c.loop-variants.next (c.loop-variants.invariant.3 vs all rest is are deep) in
+    let both = c.in_ok-number.ensures.only n.number 58 (n.front ++ n.tail) n.there n.small no_digit_colon in
+    let colon : c.in_ok-number.colon ≡ c.loop-variants.next + length (decimal n.number) = same_second _ _ _ _ both in
+    let bad = c.in_err-first.ensures.only (n.front ++ n.tail) (behind_piece c.args.text.now (decimal n.number) _ c.loop-variants.next c.in_ok-number.colon n.there colon) in
+    absurd (not_read _ _ bad)
+
+pub variants_at-returns-in_err-shape-clause-only : goal.variants_at-returns-in_err-shape-clause-only
+variants_at-returns-in_err-shape-clause-only t c = λ vs all rest is are deep.
+    let p = err_from_is_err_and c.from_residual-in_err-shape.result c.from_residual-in_err-shape.ensures.1 in
+    let n = next_variant_of c.args.text.now c.args.at c.args.left vs all rest c.loop-variants.variants.items c.loop-variants.next (c.loop-variants.invariant.3 vs all rest is are deep) in
+    let both = c.in_ok-number.ensures.only n.number 58 (n.front ++ n.tail) n.there n.small no_digit_colon in
+    let colon : c.in_ok-number.colon ≡ c.loop-variants.next + length (decimal n.number) = same_second _ _ _ _ both in
+    let there = behind_piece c.args.text.now (decimal n.number) _ c.loop-variants.next c.in_ok-number.colon n.there colon in
+    let inside = behind_piece c.args.text.now (codes ":") (n.front ++ n.tail) c.in_ok-number.colon c.in_ok-first.first there c.in_ok-first.ensures.end.0 in
+    rw (p.1, p.2) (c.in_err-shape.ensures.only n.f n.front n.tail inside n.is_text n.deep n.stops)
+
+pub variants_at-returns-in_err-end-clause-only : goal.variants_at-returns-in_err-end-clause-only
+variants_at-returns-in_err-end-clause-only t c = λ vs all rest is are deep.
+    let n = next_variant_of c.args.text.now c.args.at c.args.left vs all rest c.loop-variants.variants.items c.loop-variants.next (c.loop-variants.invariant.3 vs all rest is are deep) in
+    let both = c.in_ok-number.ensures.only n.number 58 (n.front ++ n.tail) n.there n.small no_digit_colon in
+    let number : c.in_ok-number.number ≡ n.number = same_first _ _ _ _ both in
+    let colon : c.in_ok-number.colon ≡ c.loop-variants.next + length (decimal n.number) = same_second _ _ _ _ both in
+    let there = behind_piece c.args.text.now (decimal n.number) _ c.loop-variants.next c.in_ok-number.colon n.there colon in
+    let inside = behind_piece c.args.text.now (codes ":") (n.front ++ n.tail) c.in_ok-number.colon c.in_ok-first.first there c.in_ok-first.ensures.end.0 in
+    let read = c.in_ok-shape.ensures.only n.f n.front n.tail inside n.is_text n.deep n.stops in
+    let begins : c.in_ok-first.first ≡ c.loop-variants.next + length (decimal n.number) + 1 = omega (arith, colon, c.in_ok-first.ensures.end.0) in
+    let last = variant_last c.args.text.now c.args.at c.args.left vs all rest c.loop-variants.variants.items c.loop-variants.next c.in_ok-number.number c.in_ok-shape.shape c.in_ok-first.first c.in_ok-shape.end n number begins inside read
+    (λ others here. false≢true (c.if-has_comma.ensures.only others here)) in
+    let bad = c.in_err-end.ensures.only rest last.bracket in
+    absurd (not_read _ _ bad)
+
+pub variants_at-returns-else-has_comma-clause-only : goal.variants_at-returns-else-has_comma-clause-only
+variants_at-returns-else-has_comma-clause-only t c = λ vs all rest is are deep.
+    let n = next_variant_of c.args.text.now c.args.at c.args.left vs all rest c.loop-variants.variants.items c.loop-variants.next (c.loop-variants.invariant.3 vs all rest is are deep) in
+    let both = c.in_ok-number.ensures.only n.number 58 (n.front ++ n.tail) n.there n.small no_digit_colon in
+    let number : c.in_ok-number.number ≡ n.number = same_first _ _ _ _ both in
+    let colon : c.in_ok-number.colon ≡ c.loop-variants.next + length (decimal n.number) = same_second _ _ _ _ both in
+    let there = behind_piece c.args.text.now (decimal n.number) _ c.loop-variants.next c.in_ok-number.colon n.there colon in
+    let inside = behind_piece c.args.text.now (codes ":") (n.front ++ n.tail) c.in_ok-number.colon c.in_ok-first.first there c.in_ok-first.ensures.end.0 in
+    let read = c.in_ok-shape.ensures.only n.f n.front n.tail inside n.is_text n.deep n.stops in
+    let begins : c.in_ok-first.first ≡ c.loop-variants.next + length (decimal n.number) + 1 = omega (arith, colon, c.in_ok-first.ensures.end.0) in
+    let last = variant_last c.args.text.now c.args.at c.args.left vs all rest c.loop-variants.variants.items c.loop-variants.next c.in_ok-number.number c.in_ok-shape.shape c.in_ok-first.first c.in_ok-shape.end n number begins inside read
+    (λ others here. false≢true (c.if-has_comma.ensures.only others here)) in
+    let pushed : c.push.new.self.items ≡ c.loop-variants.variants.items ++ (c.in_ok-number.number, c.in_ok-shape.shape) ∷ [] = search rules in
+    (rw pushed last.is, omega (arith, last.place, c.in_ok-end.ensures.end.0))

@@ -1,5 +1,7 @@
-use Rattle.std.proofs.Common.{rules, ◌≡◌, ◌+◌, ◌*◌, ◌<◌, ◌^◌, ◌≤◌, length, arith}
+use Rattle.std.proofs.Common.{rules, ◌≡◌, ◌+◌, ◌*◌, ◌<◌, ◌^◌, ◌≤◌, length, slice_index, Ok, arith}
 use Rattle.someip_payload.proofs.Numbers.{first_digit, next_digit, digits_before}
+use Rattle.someip_payload.specs.ShapeText.{IsDigit}
+use Rattle.someip_payload.proofs.Decimals.{leading_zero_at, too_large_at, no_number_at, number_is}
 use Rattle.someip_payload.proofs.shape_text.number_at.Goals as goal
 use Rattle.someip_payload.proofs.shape_text.number_at.Goals.{else-number-eq0-via-then-number-eq0+else-at-end, else-number-eq0-via-else-number-eq0}
 
@@ -23,4 +25,38 @@ loop-digit-preserved c =
             let behind : c.args.at < c.loop-digit.end = digits_before _ _ _ le c.loop-digit.invariant.2 some in
             next_digit c.args.text.now c.args.at c.loop-digit.end c.loop-digit.number c.in-Some.digit c.in_ok-number.number le lt (c.loop-digit.invariant.3 behind) some c.in-Some.ensures.value small sum fits
       ],
+      fits,
     )
+
+pub returns-clause-fits : goal.returns-clause-fits
+returns-clause-fits c = c.loop-digit.invariant.4
+
+pub returns-then-at-end-clause-only : goal.returns-then-at-end-clause-only
+returns-then-at-end-clause-only c = λ n b rest is small stop.
+    let held = c.loop-digit.invariant in
+    let lt : c.args.at < c.loop-digit.end = search rules in
+    let none : c.loop-digit.number ≡ 0 = search rules in
+    absurd (leading_zero_at c.args.text.now c.args.at c.loop-digit.end n b rest small stop is held.0 held.1 c.loop-digit.number c.in-Some.digit lt none (held.3 lt) c.in-Some.ensures.bound.0 c.in-Some.ensures.value)
+
+pub returns-in_err-number-clause-only : goal.returns-in_err-number-clause-only
+returns-in_err-number-clause-only c = λ n b rest is small stop.
+    let held = c.loop-digit.invariant in
+    let large : 4294967296 ≤ c.loop-digit.number * 10 + c.in-Some.digit = rw c.in_err-number.ensures.ok_part at c.with_digit.ensures.none in
+    let some : 0 < c.loop-digit.number = omega (arith, large, c.in-Some.ensures.bound.0) in
+    let lt = digits_before c.args.at c.loop-digit.end c.loop-digit.number held.0 held.2 some in
+    absurd (too_large_at c.args.text.now c.args.at c.loop-digit.end n b rest small stop is held.0 held.1 c.loop-digit.number c.in-Some.digit some held.4 (held.3 lt) c.in-Some.ensures.bound.0 c.in-Some.ensures.value c.in-Some.ensures.bound.1 large)
+
+pub returns-then-end-at-clause-only : goal.returns-then-end-at-clause-only
+returns-then-end-at-clause-only c = λ n b rest is small stop.
+    let held = c.loop-digit.invariant in
+    let same : c.loop-digit.end ≡ c.args.at = search rules in
+    let none : c.loop-digit.end < length c.args.text.now → IsDigit (slice_index c.args.text.now c.loop-digit.end) → ⊥ = c.in_default.ensures.none in
+    absurd (no_number_at c.args.text.now c.args.at c.loop-digit.end n b rest small stop is held.0 held.1 same (rw same at none))
+
+pub returns-clause-only : goal.returns-clause-only
+returns-clause-only c = λ n b rest is small stop.
+    let held = c.loop-digit.invariant in
+    let lt : c.args.at < c.loop-digit.end = search rules in
+    let none : c.loop-digit.end < length c.args.text.now → IsDigit (slice_index c.args.text.now c.loop-digit.end) → ⊥ = c.in_default.ensures.none in
+    let read = number_is c.args.text.now c.args.at c.loop-digit.end n b rest small stop is held.0 held.1 c.loop-digit.number held.4 (held.3 lt) none in
+    λ i. Ok (read.0 i, read.1 i)
