@@ -9,7 +9,8 @@ ghost use Rattle.std.specs.Ordering.{eq_by_cmp};
 ghost use Rattle.someip_tables.specs.Dues.{Tracks, due_cmp, is_due_of};
 ghost use Rattle.someip_tables.specs.Lastings.{NeedsMemory, until_of, expired, unexpired};
 ghost use Rattle.someip_tables.specs.Deadlines.{has_passed};
-ghost use Rattle.someip_tables.specs.Tables.{map_of, AnswersAs};
+ghost use Rattle.someip_tables.specs.Retained.{retain};
+ghost use Rattle.someip_tables.specs.Tables.{map_of, AnswersAs, AnswersPairAs};
 ghost use Rattle.someip_tables.specs.declared.due.Due.{Due};
 
 use crate::deadline::Deadline;
@@ -115,31 +116,32 @@ pub(crate) fn expired_keys<K: Key>(
         .collect(alloc)
 }
 
-/// Drops each key that a test refuses. The test is asked once for each key.
-pub(crate) fn retain_keys<K: Key, V: Drop, F: Fn(&K) -> bool + Drop>(
+/// Drops each entry that a test refuses. The test is asked once for each entry.
+pub(crate) fn retain<K: Key, V: Drop, F: Fn(&K, &Lasting<V>) -> bool + Drop>(
     held: &mut BTreeMap<K, Lasting<V>>,
     dues: &mut BTreeSet<Due<K>>,
     keep: F,
 )
     requires tracks { Tracks K.cmp dues.old held.old }
     requires callable { F.IsAlwaysCallable keep }
-    ensures left { (p : K → Bool) → AnswersAs F.Fn keep p → map_of K.cmp held.new.entries ≡ finite.retain_keys (map_of K.cmp held.old.entries) p }
+    ensures left { (p : K → Lasting V → Bool) → AnswersPairAs F.Fn keep p → map_of K.cmp held.new.entries ≡ retain (map_of K.cmp held.old.entries) p }
     ensures tracks { Tracks K.cmp dues.new held.new }
 {
-    retain_held(held, keep);
+    retain_entries(held, keep);
     retain_dues(held, dues);
 }
 
-/// Keeps the entries that a test of the key keeps.
-fn retain_held<K: Key, V: Drop, F: Fn(&K) -> bool + Drop>(
+/// Keeps the entries that a test keeps.
+fn retain_entries<K: Key, V: Drop, F: Fn(&K, &Lasting<V>) -> bool + Drop>(
     held: &mut BTreeMap<K, Lasting<V>>,
     keep: F,
 )
     requires { F.IsAlwaysCallable keep }
-    ensures left { (p : K → Bool) → AnswersAs F.Fn keep p → held.new.entries ≡ filter (λ e. p e.0) held.old.entries }
+    ensures left { (p : K → Lasting V → Bool) → AnswersPairAs F.Fn keep p → held.new.entries ≡ filter (λ e. p e.0 e.1) held.old.entries }
     ensures no_other { (q : K) → is_some (get K.cmp held.new q) ≡ true → get K.cmp held.new q ≡ get K.cmp held.old q }
+    ensures ordered { IsOrdered K.cmp held.old }
 {
-    held.retain(|key, _| keep(key));
+    held.retain(|key, lasting| keep(key, lasting));
 }
 
 /// How many entries have not passed among those whose keys pass a test.
