@@ -7,3 +7,4 @@ pub mod DueLemmas
 pub mod Expiry
 pub mod RetainLemmas
 pub mod ExpiredKeys
+pub mod Collected

@@ -12,3 +12,7 @@ map_of R entries = from_entries {R = R} entries
 -- each answer of the closure to a key is that of the test
 abbrev pub AnswersAs : {F K : Type 0} → Shared F (Bor K × Unit {0}) Bool → F → (K → Bool) → Type 0
 AnswersAs {K = K} g f test = (key : Bor K) (answer : Bool) → g.post f (key, tt) answer → answer ≡ test key.now
+
+-- and to a key and its value
+abbrev pub AnswersPairAs : {F K X : Type 0} → Shared F (Bor K × (Bor X × Unit {0})) Bool → F → (K → X → Bool) → Type 0
+AnswersPairAs {K = K} {X = X} g f test = (key : Bor K) (value : Bor X) (answer : Bool) → g.post f (key, (value, tt)) answer → answer ≡ test key.now value.now

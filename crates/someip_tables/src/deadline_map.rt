@@ -5,7 +5,8 @@ ghost use Rattle.std.specs.FinMap as finite;
 ghost use Rattle.std.specs.Map.Iter.{ShowsInOrder, deref_pair};
 ghost use Rattle.someip_tables.specs.declared.lasting.Lasting.{Lasting};
 ghost use Rattle.someip_tables.specs.Lastings.{NeedsMemory, unless_passed, expired, unexpired};
-ghost use Rattle.someip_tables.specs.Tables.{map_of, AnswersAs};
+ghost use Rattle.someip_tables.specs.Retained.{retain};
+ghost use Rattle.someip_tables.specs.Tables.{map_of, AnswersAs, AnswersPairAs};
 
 use crate::deadline::Deadline;
 use crate::due::Due;
@@ -13,7 +14,7 @@ use crate::key::Key;
 use crate::lasting::Lasting;
 use crate::moment::Moment;
 use crate::tracked::{
-    count_unexpired, drop_expired, expired_keys, first_passed, put, retain_keys, take_out,
+    count_unexpired, drop_expired, expired_keys, first_passed, put, retain, take_out,
 };
 use std::alloc::{AllocError, Global};
 use std::collections::{BTreeMap, BTreeSet, btree_map};
@@ -126,6 +127,16 @@ impl<K: Key, V: Drop> DeadlineMap<K, V> {
         take_out(&mut self.held, &mut self.dues, key)
     }
 
+    /// Keeps the entries that pass a test of key and value, which is asked once for each entry: what was
+    /// learned from a peer goes so. It takes no memory.
+    pub fn retain<F: Fn(&K, &Lasting<V>) -> bool + Drop>(&mut self, keep: F)
+        requires { F.IsAlwaysCallable keep }
+        ensures { (test : K → Lasting V → Bool) → AnswersPairAs F.Fn keep test
+            → map_of K.cmp self.new ≡ retain (map_of K.cmp self.old) test }
+    {
+        retain(&mut self.held, &mut self.dues, keep)
+    }
+
     /// Keeps the entries whose keys pass a test, which is asked once for each key: what a peer or an
     /// instance has goes so. It takes no memory.
     pub fn retain_keys<F: Fn(&K) -> bool + Drop>(&mut self, keep: F)
@@ -133,7 +144,7 @@ impl<K: Key, V: Drop> DeadlineMap<K, V> {
         ensures { (test : K → Bool) → AnswersAs F.Fn keep test
             → map_of K.cmp self.new ≡ finite.retain_keys (map_of K.cmp self.old) test }
     {
-        retain_keys(&mut self.held, &mut self.dues, keep)
+        self.retain(|key, _| keep(key));
     }
 
     /// Takes all entries out. It takes no memory.

@@ -102,8 +102,11 @@ fn a_map_that_changes(rt: HostRuntime) -> Result<(), Fail> {
             })
     );
     map.insert(8, 80, Deadline::Never)?;
+    map.insert(9, 90, Deadline::Never)?;
     map.retain_keys(|key| *key != 7);
     assert!(rt; map.get(&7).is_none());
+    map.retain(|_, lasting| lasting.value != 90);
+    assert!(rt; map.get(&9).is_none());
     assert_eq!(rt; map.len(), 1);
     map.clear();
     assert!(rt; map.is_empty());

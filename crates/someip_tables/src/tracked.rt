@@ -1,15 +1,17 @@
 //! An ordered map, and beside it its deadlines in order: the set holds exactly the deadlines of the
 //! map. What never passes stands in the map alone.
-ghost use Rattle.std.specs.Prelude.{◌≡◌, ◌+◌, ◌≢◌, ◌↔◌, ◌<◌, ◌≤◌, OnOk, OnErr, IfOk, IfSome, IfNone, if◌then◌else◌, Some, None, true, false, IsTrue, Bool, map, filter, take_while, nat_le, is_some, length, not, ◌&&◌};
+ghost use Rattle.std.specs.Prelude.{◌≡◌, ◌≢◌, ◌↔◌, ◌+◌, ◌<◌, ◌≤◌, nat_le, length, Bool, true, false};
+ghost use Rattle.std.specs.Prelude.{not, ◌&&◌, if◌then◌else◌, map, filter, take_while};
+ghost use Rattle.std.specs.Prelude.{Some, None, is_some, IsTrue, IfSome, IfNone, IfOk, OnOk, OnErr};
 ghost use Rattle.std.specs.BTreeMap.{get, btree_map_len, IsOrdered, IsUnchanged};
 ghost use Rattle.std.specs.BTreeSet as sorted;
 ghost use Rattle.std.specs.BTreeSet.{contains, IsFromIterResult};
-ghost use Rattle.std.specs.FinMap as finite;
 ghost use Rattle.std.specs.Ordering.{eq_by_cmp};
 ghost use Rattle.someip_tables.specs.Dues.{Tracks, due_cmp, is_due_of};
 ghost use Rattle.someip_tables.specs.Lastings.{NeedsMemory, until_of, expired, unexpired};
 ghost use Rattle.someip_tables.specs.Deadlines.{has_passed};
-ghost use Rattle.someip_tables.specs.Tables.{map_of, AnswersAs};
+ghost use Rattle.someip_tables.specs.Retained.{retain};
+ghost use Rattle.someip_tables.specs.Tables.{map_of, AnswersAs, AnswersPairAs};
 ghost use Rattle.someip_tables.specs.declared.due.Due.{Due};
 
 use crate::deadline::Deadline;
@@ -28,7 +30,8 @@ pub(crate) fn take_out<K: Key, V: Drop>(
 ) -> Option<Lasting<V>>
     requires { Tracks K.cmp dues.old held.old }
     ensures value { result ≡ get K.cmp held.old key.now }
-    ensures held { (q : K) → get K.cmp held.new q ≡ (if eq_by_cmp K.cmp key.now q then None else get K.cmp held.old q) }
+    ensures held { (q : K) → get K.cmp held.new q
+        ≡ (if eq_by_cmp K.cmp key.now q then None else get K.cmp held.old q) }
     ensures len { btree_map_len held.new + (if is_some result then 1 else 0) ≡ btree_map_len held.old }
     ensures tracks { Tracks K.cmp dues.new held.new }
 {
@@ -46,7 +49,8 @@ pub(crate) fn put<K: Key, V: Drop>(
     lasting: Lasting<V>,
 ) -> Result<(), AllocError>
     requires { Tracks K.cmp dues.old held.old }
-    ensures ok { OnOk result ((q : K) → get K.cmp held.new q ≡ (if eq_by_cmp K.cmp key q then Some lasting else get K.cmp held.old q)) }
+    ensures ok { OnOk result ((q : K) → get K.cmp held.new q
+        ≡ (if eq_by_cmp K.cmp key q then Some lasting else get K.cmp held.old q)) }
     ensures err { OnErr result (IsUnchanged held.old held.new) }
     ensures grows { OnErr result (NeedsMemory (get K.cmp held.old key) lasting.until) }
     ensures tracks { Tracks K.cmp dues.new held.new }
@@ -89,7 +93,8 @@ pub(crate) fn drop_expired<K: Key, V: Drop>(
 pub(crate) fn first_passed<K: Key>(dues: &BTreeSet<Due<K>>, now: Moment) -> Option<Due<K>>
     ensures found { IfSome result (λ due. IsTrue (contains (due_cmp K.cmp) dues.now due)) }
     ensures passed { IfSome result (λ due. due.at ≤ now) }
-    ensures none { IfNone result ((due : Due K) → IsTrue (contains (due_cmp K.cmp) dues.now due) → now < due.at) }
+    ensures none { IfNone result ((due : Due K) → IsTrue (contains (due_cmp K.cmp) dues.now due)
+        → now < due.at) }
 {
     let first = dues.first()?;
     if first.at <= now.as_millis() {
@@ -106,7 +111,8 @@ pub(crate) fn expired_keys<K: Key>(
     now: Moment,
 ) -> Result<BTreeSet<K>, AllocError>
     ensures ordered { sorted.IsOrdered (due_cmp K.cmp) dues.now }
-    ensures collected { IfOk result (IsFromIterResult K.cmp (map (λ due. due.key) (take_while (λ due. nat_le due.at now) dues.now.keys))) }
+    ensures collected { IfOk result (IsFromIterResult K.cmp
+        (map (λ due. due.key) (take_while (λ due. nat_le due.at now) dues.now.keys))) }
 {
     let millis = now.as_millis();
     dues.iter()
@@ -115,31 +121,35 @@ pub(crate) fn expired_keys<K: Key>(
         .collect(alloc)
 }
 
-/// Drops each key that a test refuses. The test is asked once for each key.
-pub(crate) fn retain_keys<K: Key, V: Drop, F: Fn(&K) -> bool + Drop>(
+/// Drops each entry that a test refuses. The test is asked once for each entry.
+pub(crate) fn retain<K: Key, V: Drop, F: Fn(&K, &Lasting<V>) -> bool + Drop>(
     held: &mut BTreeMap<K, Lasting<V>>,
     dues: &mut BTreeSet<Due<K>>,
     keep: F,
 )
     requires tracks { Tracks K.cmp dues.old held.old }
     requires callable { F.IsAlwaysCallable keep }
-    ensures left { (p : K → Bool) → AnswersAs F.Fn keep p → map_of K.cmp held.new.entries ≡ finite.retain_keys (map_of K.cmp held.old.entries) p }
+    ensures left { (p : K → Lasting V → Bool) → AnswersPairAs F.Fn keep p
+        → map_of K.cmp held.new.entries ≡ retain (map_of K.cmp held.old.entries) p }
     ensures tracks { Tracks K.cmp dues.new held.new }
 {
-    retain_held(held, keep);
+    retain_entries(held, keep);
     retain_dues(held, dues);
 }
 
-/// Keeps the entries that a test of the key keeps.
-fn retain_held<K: Key, V: Drop, F: Fn(&K) -> bool + Drop>(
+/// Keeps the entries that a test keeps.
+fn retain_entries<K: Key, V: Drop, F: Fn(&K, &Lasting<V>) -> bool + Drop>(
     held: &mut BTreeMap<K, Lasting<V>>,
     keep: F,
 )
     requires { F.IsAlwaysCallable keep }
-    ensures left { (p : K → Bool) → AnswersAs F.Fn keep p → held.new.entries ≡ filter (λ e. p e.0) held.old.entries }
-    ensures no_other { (q : K) → is_some (get K.cmp held.new q) ≡ true → get K.cmp held.new q ≡ get K.cmp held.old q }
+    ensures left { (p : K → Lasting V → Bool) → AnswersPairAs F.Fn keep p
+        → held.new.entries ≡ filter (λ e. p e.0 e.1) held.old.entries }
+    ensures no_other { (q : K) → is_some (get K.cmp held.new q) ≡ true
+        → get K.cmp held.new q ≡ get K.cmp held.old q }
+    ensures ordered { IsOrdered K.cmp held.old }
 {
-    held.retain(|key, _| keep(key));
+    held.retain(|key, lasting| keep(key, lasting));
 }
 
 /// How many entries have not passed among those whose keys pass a test.
@@ -150,7 +160,8 @@ pub(crate) fn count_unexpired<K: Key, V, F: Fn(&K) -> bool + Drop>(
 ) -> usize
     requires { F.IsAlwaysCallable of }
     ensures ordered { IsOrdered K.cmp held.now }
-    ensures counted { (p : K → Bool) → AnswersAs F.Fn of p → result ≡ length (filter (λ e. not (has_passed now e.1.until) && p e.0) held.now.entries) }
+    ensures counted { (p : K → Bool) → AnswersAs F.Fn of p → result
+        ≡ length (filter (λ e. not (has_passed now e.1.until) && p e.0) held.now.entries) }
 {
     held.iter()
         .filter(|(key, lasting)| !lasting.until.has_passed(now) && of(key))
@@ -185,8 +196,11 @@ fn is_until(earlier: Option<Deadline>, until: Deadline) -> bool
 }
 
 fn add_due<K: Key>(dues: &mut BTreeSet<Due<K>>, key: K, until: Deadline) -> Result<(), AllocError>
-    ensures ok { OnOk result ((due : Due K) → contains (due_cmp K.cmp) dues.new due ≡ (if is_due_of K.cmp key (Some until) due then true else contains (due_cmp K.cmp) dues.old due)) }
-    ensures err { OnErr result ((due : Due K) → contains (due_cmp K.cmp) dues.new due ≡ contains (due_cmp K.cmp) dues.old due) }
+    ensures ok { OnOk result ((due : Due K) → contains (due_cmp K.cmp) dues.new due
+        ≡ (if is_due_of K.cmp key (Some until) due then true
+        else contains (due_cmp K.cmp) dues.old due)) }
+    ensures err { OnErr result ((due : Due K) → contains (due_cmp K.cmp) dues.new due
+        ≡ contains (due_cmp K.cmp) dues.old due) }
     ensures passes { OnErr result (until ≢ Deadline.Never) }
 {
     if let Deadline::At(at) = until {
@@ -196,7 +210,9 @@ fn add_due<K: Key>(dues: &mut BTreeSet<Due<K>>, key: K, until: Deadline) -> Resu
 }
 
 fn take_due<K: Key>(dues: &mut BTreeSet<Due<K>>, key: K, until: Option<Deadline>)
-    ensures { (due : Due K) → contains (due_cmp K.cmp) dues.new due ≡ (if is_due_of K.cmp key until due then false else contains (due_cmp K.cmp) dues.old due) }
+    ensures { (due : Due K) → contains (due_cmp K.cmp) dues.new due
+        ≡ (if is_due_of K.cmp key until due then false
+        else contains (due_cmp K.cmp) dues.old due) }
 {
     match until {
         Some(Deadline::At(at)) => {
