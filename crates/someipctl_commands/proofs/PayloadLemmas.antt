@@ -1,5 +1,5 @@
 -- What is told of a payload.
-use Rattle.std.proofs.Common.{◌≡◌, ◌⊎◌, ℕ, List, take, drop, Result, Ok, Err, Option, Some, inl, inr, refl, sym, subst}
+use Rattle.std.proofs.Common.{◌≡◌, ◌≢◌, ◌⊎◌, ℕ, List, take, drop, Result, Ok, Err, Option, inl, inr, refl, sym, subst}
 use Rattle.std.specs.Io.KnownBytes.{Appends}
 use Rattle.std.proofs.lemmas.List.{take-append-drop}
 use Rattle.someip_payload.specs.declared.PayloadError.{PayloadError}
@@ -9,7 +9,7 @@ use Rattle.someip_payload.specs.Check.{checked}
 use Rattle.someip_payload.specs.Faults.{FaultIn, IsFirstFault, whole}
 use Rattle.someip_payload.specs.Steps.{Fails}
 use Rattle.someipctl_commands.specs.declared.outcome.Outcome.{Outcome}
-use Rattle.someipctl_commands.specs.Payload.{AnswersPayload, IsFaultOf, ShowsPayloadBeginning, name_and_place}
+use Rattle.someipctl_commands.specs.Payload.{AnswersPayload, IsFaultOf, ShowsPayloadBeginning}
 
 -- two answers of a reading are one fault
 abbrev AreOneFault : PayloadError → PayloadError → Type 0
@@ -23,21 +23,20 @@ fault_by shape bytes e (Ok tt) is (inl refusal) refused = absurd (cc)
 fault_by shape bytes e (Ok tt) is (inr fault) refused = inr (is, fault)
 fault_by shape bytes e (Err f) is found refused = inl (let same = refused f is in cc)
 
--- the fault that `decode` answers, where it has a name
-pub fault_told : (shape : Form) (bytes : List ℕ) (e : PayloadError) (name : List ℕ) (place : ℕ)
-    → IsFirstFault shape bytes e → ((f : PayloadError) → checked shape ≡ Err f → Fails {Y = Data × ℕ} e (Err f))
-    → name_and_place e ≡ Some (name, place) → IsFaultOf shape bytes e
-fault_told shape bytes (faults.Truncated p) name place first refused named = fault_by shape bytes (faults.Truncated p) (checked shape) refl first refused
-fault_told shape bytes (faults.BadText p) name place first refused named = fault_by shape bytes (faults.BadText p) (checked shape) refl first refused
-fault_told shape bytes (faults.NoTerminator p) name place first refused named = fault_by shape bytes (faults.NoTerminator p) (checked shape) refl first refused
-fault_told shape bytes (faults.UnknownVariant p) name place first refused named = fault_by shape bytes (faults.UnknownVariant p) (checked shape) refl first refused
-fault_told shape bytes (faults.LengthMismatch p) name place first refused named = fault_by shape bytes (faults.LengthMismatch p) (checked shape) refl first refused
-fault_told shape bytes (faults.TooMany p) name place first refused named = fault_by shape bytes (faults.TooMany p) (checked shape) refl first refused
-fault_told shape bytes (faults.TooDeep p) name place first refused named = fault_by shape bytes (faults.TooDeep p) (checked shape) refl first refused
-fault_told shape bytes (faults.NotOfShape p) name place first refused named = fault_by shape bytes (faults.NotOfShape p) (checked shape) refl first refused
-fault_told shape bytes (faults.TooLong p) name place first refused named = fault_by shape bytes (faults.TooLong p) (checked shape) refl first refused
-fault_told shape bytes (faults.BadShape p) name place first refused named = fault_by shape bytes (faults.BadShape p) (checked shape) refl first refused
-fault_told shape bytes faults.OutOfMemory name place first refused named = absurd (cc)
+-- the fault that `decode` answers, unless memory ran out
+pub fault_told : (shape : Form) (bytes : List ℕ) (e : PayloadError) → IsFirstFault shape bytes e
+    → ((f : PayloadError) → checked shape ≡ Err f → Fails {Y = Data × ℕ} e (Err f)) → e ≢ faults.OutOfMemory → IsFaultOf shape bytes e
+fault_told shape bytes (faults.Truncated p) first refused other = fault_by shape bytes (faults.Truncated p) (checked shape) refl first refused
+fault_told shape bytes (faults.BadText p) first refused other = fault_by shape bytes (faults.BadText p) (checked shape) refl first refused
+fault_told shape bytes (faults.NoTerminator p) first refused other = fault_by shape bytes (faults.NoTerminator p) (checked shape) refl first refused
+fault_told shape bytes (faults.UnknownVariant p) first refused other = fault_by shape bytes (faults.UnknownVariant p) (checked shape) refl first refused
+fault_told shape bytes (faults.LengthMismatch p) first refused other = fault_by shape bytes (faults.LengthMismatch p) (checked shape) refl first refused
+fault_told shape bytes (faults.TooMany p) first refused other = fault_by shape bytes (faults.TooMany p) (checked shape) refl first refused
+fault_told shape bytes (faults.TooDeep p) first refused other = fault_by shape bytes (faults.TooDeep p) (checked shape) refl first refused
+fault_told shape bytes (faults.NotOfShape p) first refused other = fault_by shape bytes (faults.NotOfShape p) (checked shape) refl first refused
+fault_told shape bytes (faults.TooLong p) first refused other = fault_by shape bytes (faults.TooLong p) (checked shape) refl first refused
+fault_told shape bytes (faults.BadShape p) first refused other = fault_by shape bytes (faults.BadShape p) (checked shape) refl first refused
+fault_told shape bytes faults.OutOfMemory first refused other = absurd (other refl)
 
 -- a beginning was written of the text that answers the arguments
 pub beginning_told : (shape_text hex text : List ℕ) (outcome : Outcome) (a b : Option (List ℕ)) (n : ℕ) → AnswersPayload shape_text hex text outcome

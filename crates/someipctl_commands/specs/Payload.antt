@@ -1,5 +1,5 @@
 -- What the arguments of `payload` say.
-use Rattle.std.specs.Prelude.{◌≡◌, ◌⊎◌, ◌≤◌, ℕ, ◌==◌, false, if◌then◌else◌, List, [], ◌++◌, length, take, codes, decimal, Option, Some, None, Ok, Err}
+use Rattle.std.specs.Prelude.{◌≡◌, ◌≢◌, ◌⊎◌, ◌≤◌, ℕ, ◌==◌, if◌then◌else◌, List, [], ◌++◌, length, take, codes, decimal, Option, Some, None, Ok, Err}
 use Rattle.std.specs.Io.KnownBytes.{Appends, Keeps}
 use Rattle.someip_payload.specs.declared.Value.{Value}
 use Rattle.someip_payload.specs.declared.PayloadError.{PayloadError}
@@ -7,9 +7,10 @@ use Rattle.someip_payload.specs.declared.PayloadError.TheVariants as faults
 use Rattle.someip_payload.specs.Data.{Form}
 use Rattle.someip_payload.specs.View.{data_of}
 use Rattle.someip_payload.specs.Grammar.{Reads}
-use Rattle.someip_payload.specs.Check.{checked}
+use Rattle.someip_payload.specs.Check.{checked, depth}
+use Rattle.someip_payload.specs.Names.{fault_name, fault_place}
 use Rattle.someip_payload.specs.Faults.{FaultIn, whole}
-use Rattle.someip_payload.specs.ShapeText.{IsTextOf, begins_like_a_shape}
+use Rattle.someip_payload.specs.ShapeText.{IsTextOf}
 use Rattle.someip_payload.specs.ValueText.{value_text}
 use Rattle.someipctl_commands.specs.declared.outcome.Outcome.{Outcome}
 use Rattle.someipctl_commands.specs.declared.outcome.Outcome.TheVariants.{Done, FaultShown}
@@ -34,23 +35,9 @@ refusal_of_shape shapes.OutOfMemory = OutOfMemory
 abbrev pub value_lines : Value → ℕ → ℕ → List ℕ
 value_lines value n all = codes "value " ++ value_text value ++ codes "\n" ++ (codes "used " ++ decimal n ++ codes " of " ++ decimal all ++ codes "\n")
 
--- the name of a fault, and its place. Want of memory is none
-abbrev pub name_and_place : PayloadError → Option (List ℕ × ℕ)
-name_and_place (faults.Truncated place) = Some (codes "Truncated", place)
-name_and_place (faults.BadText place) = Some (codes "BadText", place)
-name_and_place (faults.NoTerminator place) = Some (codes "NoTerminator", place)
-name_and_place (faults.UnknownVariant place) = Some (codes "UnknownVariant", place)
-name_and_place (faults.LengthMismatch place) = Some (codes "LengthMismatch", place)
-name_and_place (faults.TooMany place) = Some (codes "TooMany", place)
-name_and_place (faults.TooDeep place) = Some (codes "TooDeep", place)
-name_and_place (faults.NotOfShape place) = Some (codes "NotOfShape", place)
-name_and_place (faults.TooLong place) = Some (codes "TooLong", place)
-name_and_place (faults.BadShape place) = Some (codes "BadShape", place)
-name_and_place faults.OutOfMemory = None
-
--- what is printed of a fault of this name and place
-abbrev pub fault_text : List ℕ → ℕ → List ℕ
-fault_text name place = codes "fault " ++ name ++ codes " at " ++ decimal place ++ codes "\n"
+-- what is printed of a fault: its name and its place
+abbrev pub fault_text : PayloadError → List ℕ
+fault_text fault = codes "fault " ++ fault_name fault ++ codes " at " ++ decimal (fault_place fault) ++ codes "\n"
 
 -- the shape is refused so, or it is accepted and this is the first fault of the bytes
 abbrev pub IsFaultOf : Form → List ℕ → PayloadError → Type 0
@@ -63,8 +50,7 @@ IsFront shape bytes value n = (checked shape ≡ Ok tt) × (n ≤ length bytes) 
 -- what was found of the bytes by the shape and is printed: the value of a front of them, or their fault
 abbrev pub Told : Form → List ℕ → List ℕ → Outcome → Type 0
 Told shape bytes text Done = (value : Value) × (n : ℕ) × IsFront shape bytes value n × (text ≡ value_lines value n (length bytes))
-Told shape bytes text FaultShown = (fault : PayloadError) × (name : List ℕ) × (place : ℕ) × IsFaultOf shape bytes fault
-    × (name_and_place fault ≡ Some (name, place)) × (text ≡ fault_text name place)
+Told shape bytes text FaultShown = (fault : PayloadError) × (fault ≢ faults.OutOfMemory) × IsFaultOf shape bytes fault × (text ≡ fault_text fault)
 
 -- what the two arguments say, and what is printed of it
 pub record AnswersPayload (shape_text hex text : List ℕ) (outcome : Outcome) : Type 0 where
@@ -83,9 +69,9 @@ abbrev pub ShowsPayloadBeginning : List ℕ → List ℕ → Option (List ℕ) �
 ShowsPayloadBeginning shape_text hex before after =
     (sent unsent : List ℕ) × (outcome : Outcome) × AnswersPayload shape_text hex (sent ++ unsent) outcome × Appends before after sent
 
--- the text is refused from a place on, which is its front only where no shape begins so
+-- no shape has the text, but for shapes of which more than 64 lie inside each other, and this is a place in it
 abbrev pub IsRefusedShape : List ℕ → ℕ → Type 0
-IsRefusedShape text place = (place ≤ length text) × (place ≡ 0 → begins_like_a_shape text ≡ false)
+IsRefusedShape text place = (place ≤ length text) × ((shape : Form) → IsTextOf shape text → depth shape ≤ 64 → ⊥)
 
 -- what a refusal says of the arguments, and what it leaves written. SHAPE is read before HEX
 abbrev pub RefusesPayload : List ℕ → List ℕ → PayloadRefusal → Option (List ℕ) → Option (List ℕ) → Type 0

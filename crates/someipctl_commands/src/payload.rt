@@ -3,7 +3,7 @@ ghost use Rattle.std.specs.Prelude.{◌≡◌, Some, None, IfErr, IfOk, string_b
 ghost use Rattle.std.specs.Option.{option_map};
 ghost use Rattle.someipctl_commands.specs.declared.payload.PayloadRefusal.TheVariants.{CannotWrite, OutOfMemory};
 ghost use Rattle.someip_payload.specs.View.{form};
-ghost use Rattle.someipctl_commands.specs.Payload.{argument_bytes, name_and_place, refusal_of_shape};
+ghost use Rattle.someipctl_commands.specs.Payload.{argument_bytes, refusal_of_shape};
 ghost use Rattle.someipctl_commands.specs.Payload.{ShowsPayload, RefusesPayload, Told};
 
 use crate::outcome::Outcome;
@@ -72,32 +72,13 @@ pub fn read_text(
             writeln!(text, "used {used} of {all}").map_err(|_| AllocError)?;
             Ok((text, Outcome::Done))
         }
+        Err(PayloadError::OutOfMemory) => Err(AllocError),
         Err(fault) => {
-            let Some((name, place)) = name_and_place(&fault) else {
-                return Err(AllocError);
-            };
+            let name = fault.name();
+            let place = fault.place();
             writeln!(text, "fault {name} at {place}").map_err(|_| AllocError)?;
             Ok((text, Outcome::FaultShown))
         }
-    }
-}
-
-/// The name of a fault of a payload, and its place. Want of memory is none.
-fn name_and_place(fault: &PayloadError) -> Option<(&'static str, usize)>
-    ensures { option_map (λ r. (r.0.now, r.1)) result ≡ name_and_place fault.now }
-{
-    match fault {
-        PayloadError::Truncated(place) => Some(("Truncated", *place)),
-        PayloadError::BadText(place) => Some(("BadText", *place)),
-        PayloadError::NoTerminator(place) => Some(("NoTerminator", *place)),
-        PayloadError::UnknownVariant(place) => Some(("UnknownVariant", *place)),
-        PayloadError::LengthMismatch(place) => Some(("LengthMismatch", *place)),
-        PayloadError::TooMany(place) => Some(("TooMany", *place)),
-        PayloadError::TooDeep(place) => Some(("TooDeep", *place)),
-        PayloadError::NotOfShape(place) => Some(("NotOfShape", *place)),
-        PayloadError::TooLong(place) => Some(("TooLong", *place)),
-        PayloadError::BadShape(place) => Some(("BadShape", *place)),
-        PayloadError::OutOfMemory => None,
     }
 }
 

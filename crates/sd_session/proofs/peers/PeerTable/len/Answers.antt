@@ -1,0 +1,5 @@
+use Rattle.sd_session.proofs.PeerLemmas.{len_is}
+use Rattle.sd_session.proofs.peers.PeerTable.len.Goals as goal
+
+pub returns : goal.returns
+returns c = rw (← c.self.view_is) (len_is c.self.inside.peers c.len.result c.len.ensures.len c.len.ensures.ordered)
