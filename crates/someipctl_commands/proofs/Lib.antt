@@ -6,3 +6,4 @@ pub mod ReadingsLemmas
 pub mod VectorLemmas
 pub mod VerdictLemmas
 pub mod PayloadLemmas
+pub mod BlankLemmas

@@ -6,29 +6,42 @@ use Rattle.std.proofs.Math.Seq.{take-add}
 use Rattle.std.proofs.lemmas.List.{append-nil, length-take-le, take-append-drop, take_all}
 use Rattle.std.proofs.lemmas.List.Elements.{filter-append}
 use Rattle.std.proofs.lemmas.List.FromFn.{length-enumerate_from}
+use Rattle.someip_payload.specs.Check.{depth}
+use Rattle.someip_payload.specs.Data.{Form}
 use Rattle.someipctl_commands.specs.declared.vector_lines.LineFault.{LineFault}
 use Rattle.someipctl_commands.specs.declared.vector_lines.LineFault.TheVariants.{Bad, OutOfMemory}
 use Rattle.someipctl_commands.specs.Payload.{argument_bytes}
-use Rattle.someipctl_commands.specs.VectorLines.{Said, asks, expects, Says, AsksOfNoDatagram, IsBadBehind, IsFoundOf, is_left_out, is_counted, EachSays, begins_with_vector, has_vector, AreSaid, IsFirstBadLine}
+use Rattle.someipctl_commands.specs.VectorLines.{AreArguments, of_datagram, of_payload, Said, asks, expects, Says, AsksNothing, IsBadBehind, IsFoundOf, is_left_out, is_counted, EachSays, begins_with_vector, has_vector, AreSaid, IsFirstBadLine}
 
 -- ---- one line
 
 -- a line that asks for nothing, and is no line of expected text, is bad
-pub bad_found : (line text : List ℕ) (fault : LineFault) → text ≡ line → is_left_out line ≡ false → (fault ≡ Bad → AsksOfNoDatagram text)
+pub bad_found : (line text : List ℕ) (fault : LineFault) → text ≡ line → is_left_out line ≡ false → (fault ≡ Bad → AsksNothing text)
     → ((rest : List ℕ) → text ≢ codes "> " ++ rest) → IsFoundOf line (Err fault)
-bad_found line text Bad is counts none other = λ sayings utf8. (counts, subst AsksOfNoDatagram is (none refl), λ rest says. absurd (other rest (is ∙ says.0)))
+bad_found line text Bad is counts none other = λ sayings utf8. (counts, subst AsksNothing is (none refl), λ rest says. absurd (other rest (is ∙ says.0)))
 bad_found line text OutOfMemory is counts none other = tt
 
 abbrev first_byte : List ℕ → ℕ
 first_byte [] = 0
 first_byte (b ∷ bytes) = b
 
--- a line that begins with another byte than `d` is no `datagram HEX`
-asks_of_none : (line : List ℕ) (b : ℕ) → b ≢ 100 → first_byte line ≡ b → AsksOfNoDatagram line
-asks_of_none line b other is = λ bytes says. absurd (other (sym is ∙ ap first_byte says.1))
+d_is_no_p : ◌≡◌ {A = ℕ} 100 112 → ⊥
+d_is_no_p e = omega (arith, e)
 
-expected_asks_none : (line text : List ℕ) → line ≡ codes "> " ++ text → AsksOfNoDatagram line
-expected_asks_none line text is = asks_of_none line 62 (λ e. cc e) (ap first_byte is)
+-- a line that begins with another byte than `d` and `p` asks for nothing
+asks_of_none : (line : List ℕ) (b : ℕ) → b ≢ 100 → b ≢ 112 → first_byte line ≡ b → AsksNothing line
+asks_of_none line b no_d no_p is (of_datagram bytes) shallow says = absurd (no_d (sym is ∙ ap first_byte says.1))
+asks_of_none line b no_d no_p is (of_payload shape bytes) shallow says = absurd (no_p (sym is ∙ ap first_byte says.1))
+
+-- a line `payload ARGUMENTS` asks for nothing where the arguments say nothing
+pub payload_asks_nothing : (line arguments : List ℕ) → line ≡ codes "payload " ++ arguments
+    → ((shape : Form) (bytes : List ℕ) → depth shape ≤ 64 → AreArguments arguments shape bytes → ⊥) → AsksNothing line
+payload_asks_nothing line arguments is none (of_datagram bytes) shallow says = absurd (d_is_no_p (ap first_byte (sym says.1 ∙ is)))
+payload_asks_nothing line arguments is none (of_payload shape bytes) shallow says =
+    let same : says.0 ≡ arguments = ap (drop 8) (sym says.1 ∙ is) in none shape bytes shallow (subst (λ t. AreArguments t shape bytes) same says.2)
+
+expected_asks_none : (line text : List ℕ) → line ≡ codes "> " ++ text → AsksNothing line
+expected_asks_none line text is = asks_of_none line 62 (λ e. cc e) (λ e. cc e) (ap first_byte is)
 
 -- a line of expected text is bad where there is no vector before it
 pub bad_behind : (sayings : List Said) (line : List ℕ) (said : Said) → is_left_out line ≡ false → Says line said → has_vector sayings said ≡ false
@@ -47,20 +60,24 @@ pub no_hex : (sayings : List Said) (hex : List ℕ) → argument_bytes hex ≡ N
 no_hex sayings hex none =
     λ utf8. (
       refl,
-      (λ bytes says.
-          let same : hex ≡ says.0 = ap (drop 9) says.1 in
-          let some : argument_bytes hex ≡ Some bytes = ap argument_bytes same ∙ says.2 in
-          let bad : None ≡ Some bytes = sym none ∙ some in cc bad),
+      asks_nothing,
       λ text says. (let same : 100 ≡ 62 = ap first_byte says.0 in cc same),
     )
+  where
+    asks_nothing : AsksNothing (codes "datagram " ++ hex)
+    asks_nothing (of_datagram bytes) shallow says =
+        let same : hex ≡ says.0 = ap (drop 9) says.1 in
+        let some : argument_bytes hex ≡ Some bytes = ap argument_bytes same ∙ says.2 in
+        let bad : None ≡ Some bytes = sym none ∙ some in absurd (cc bad)
+    asks_nothing (of_payload shape bytes) shallow says = absurd (d_is_no_p (ap first_byte says.1))
 
 -- so are `>` alone, and a blank
 pub bare_text : (sayings : List Said) → IsBadBehind sayings (codes ">")
 bare_text sayings =
-    λ utf8. (refl, asks_of_none (codes ">") 62 (λ e. cc e) refl, λ text says. (let short : 1 ≡ suc (suc (length text)) = ap length says.0 in absurd (omega (arith, short))))
+    λ utf8. (refl, asks_of_none (codes ">") 62 (λ e. cc e) (λ e. cc e) refl, λ text says. (let short : 1 ≡ suc (suc (length text)) = ap length says.0 in absurd (omega (arith, short))))
 
 pub blank_line : (sayings : List Said) → IsBadBehind sayings (codes " ")
-blank_line sayings = λ utf8. (refl, asks_of_none (codes " ") 32 (λ e. cc e) refl, λ text says. (let same : 32 ≡ 62 = ap first_byte says.0 in cc same))
+blank_line sayings = λ utf8. (refl, asks_of_none (codes " ") 32 (λ e. cc e) (λ e. cc e) refl, λ text says. (let same : 32 ≡ 62 = ap first_byte says.0 in cc same))
 
 -- ---- one line more
 

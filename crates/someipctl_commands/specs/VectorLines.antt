@@ -1,8 +1,9 @@
 -- What the lines of a file of vectors say.
-use Rattle.std.specs.Prelude.{ℕ, suc, ◌≡◌, ◌==◌, Bool, true, false, not, List, [], ◌∷◌, ◌++◌, length, filter, codes, Option, Some, None, Result, Ok, Err}
+use Rattle.std.specs.Prelude.{ℕ, suc, ◌≡◌, ◌≤◌, ◌==◌, Bool, true, false, not, List, [], ◌∷◌, ◌++◌, length, filter, codes, Option, Some, None, Result, Ok, Err}
 use Rattle.std.specs.List.{AllByRecursion, list_any}
 use Rattle.std.specs.Str.{IsUtf8}
 use Rattle.someip_payload.specs.Data.{Form}
+use Rattle.someip_payload.specs.Check.{depth}
 use Rattle.someip_payload.specs.View.{form}
 use Rattle.someip_payload.specs.ShapeText.{IsTextOf}
 use Rattle.someipctl_commands.specs.declared.vector_lines.Question.{Question}
@@ -60,16 +61,20 @@ Says line (asks (of_datagram bytes)) = (hex : List ℕ) × (line ≡ codes "data
 Says line (asks (of_payload shape bytes)) = (arguments : List ℕ) × (line ≡ codes "payload " ++ arguments) × AreArguments arguments shape bytes
 Says line (expects text) = (line ≡ codes "> " ++ text) × (has_return line ≡ false)
 
--- the line is no `datagram HEX`. Of `payload SHAPE HEX` nothing is claimed: that every text of a shape is read is
--- shown by tests alone
-abbrev pub AsksOfNoDatagram : List ℕ → Type 0
-AsksOfNoDatagram line = (bytes : List ℕ) → Says line (asks (of_datagram bytes)) → ⊥
+-- a vector can be asked for: of a shape at most 64 lie inside each other
+abbrev pub IsShallow : Asked → Type 0
+IsShallow (of_datagram bytes) = Unit {0}
+IsShallow (of_payload shape bytes) = depth shape ≤ 64
 
--- the line is bad behind lines that said this: it is not UTF-8, or it is not left out, asks for nothing, and is
+-- the line begins no vector: it is no `datagram HEX`, and no `payload SHAPE HEX`
+abbrev pub AsksNothing : List ℕ → Type 0
+AsksNothing line = (asked : Asked) → IsShallow asked → Says line (asks asked) → ⊥
+
+-- the line is bad after lines that said this: it is not UTF-8, or it is not left out, asks for nothing, and is
 -- a line of expected text only where there is no vector before it
 abbrev pub IsBadBehind : List Said → List ℕ → Type 0
 IsBadBehind sayings line = IsUtf8 line
-    → (is_left_out line ≡ false) × AsksOfNoDatagram line × ((text : List ℕ) → Says line (expects text) → sayings ≡ [])
+    → (is_left_out line ≡ false) × AsksNothing line × ((text : List ℕ) → Says line (expects text) → sayings ≡ [])
 
 -- the fault of a line whose shape was not read
 abbrev pub fault_of_shape : ShapeTextError → LineFault

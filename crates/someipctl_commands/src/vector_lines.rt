@@ -8,10 +8,12 @@
 //! > value [1,2]
 //! > used 8 of 8
 //! ```
-ghost use Rattle.std.specs.Prelude.{◌≡◌, ◌==◌, ◌++◌, List, ℕ, Err, IfOk, MatchOption, ◌≢◌};
+ghost use Rattle.std.specs.Prelude.{◌≡◌, ◌==◌, ◌++◌, ◌≤◌, List, ℕ, Err, IfOk, MatchOption, ◌≢◌};
 ghost use Rattle.someipctl_commands.specs.declared.vector_lines.LineFault.TheVariants.{Bad, OutOfMemory};
+ghost use Rattle.someip_payload.specs.Check.{depth};
+ghost use Rattle.someip_payload.specs.Data.{Form};
 ghost use Rattle.someip_payload.specs.View.{form};
-ghost use Rattle.someipctl_commands.specs.VectorLines.{AreArguments, AsksOfNoDatagram, IsFoundOf, Says};
+ghost use Rattle.someipctl_commands.specs.VectorLines.{AreArguments, AsksNothing, IsFoundOf, Says};
 ghost use Rattle.someipctl_commands.specs.VectorLines.{asked_by, asks, fault_of_shape, has_return};
 ghost use Rattle.someipctl_commands.specs.VectorLines.{is_left_out};
 
@@ -96,7 +98,7 @@ fn behind<'t>(line: &'t str, word: &str) -> Option<&'t str>
 /// What the first line of a vector asks for.
 fn question_of(alloc: Global, line: &str) -> Result<Question, LineFault>
     ensures found { IfOk result (λ question. Says line.now (asks (asked_by question))) }
-    ensures bad { result ≡ Err Bad → AsksOfNoDatagram line.now }
+    ensures bad { result ≡ Err Bad → AsksNothing line.now }
 {
     if let Some(hex) = behind(line, "datagram ") {
         return match bytes_of_argument(alloc, hex)? {
@@ -113,7 +115,9 @@ fn question_of(alloc: Global, line: &str) -> Result<Question, LineFault>
 
 /// The shape and the bytes that `SHAPE HEX` says.
 fn payload_arguments(alloc: Global, arguments: &str) -> Result<(Shape, Vec<u8>), LineFault>
-    ensures { IfOk result (λ r. AreArguments arguments.now (form r.0) r.1.items) }
+    ensures found { IfOk result (λ r. AreArguments arguments.now (form r.0) r.1.items) }
+    ensures bad { result ≡ Err Bad → (shape : Form) (bytes : List ℕ) → depth shape ≤ 64
+        → AreArguments arguments.now shape bytes → ⊥ }
 {
     let Some((shape, hex)) = arguments.split_once(' ') else {
         return Err(LineFault::Bad);

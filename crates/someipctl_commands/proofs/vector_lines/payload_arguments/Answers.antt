@@ -1,0 +1,22 @@
+use Rattle.std.proofs.Common.{◌≡◌, None, Err, sym, ap, ◌∙◌, rules, arith}
+use Rattle.std.proofs.lemmas.Result.{err_from_is_err_and}
+use Rattle.someipctl_commands.specs.declared.vector_lines.LineFault.TheVariants.{Bad}
+use Rattle.someipctl_commands.specs.Payload.{argument_bytes}
+use Rattle.someipctl_commands.specs.VectorLines.{fault_of_shape}
+use Rattle.someipctl_commands.proofs.BlankLemmas.{unparted_says_none, bad_shape_says_none, bad_hex_says_none}
+use Rattle.someipctl_commands.proofs.vector_lines.payload_arguments.Goals as goal
+
+pub returns-in_default-clause-bad : goal.returns-in_default-clause-bad
+returns-in_default-clause-bad c bad shape bytes shallow says =
+    unparted_says_none c.args.arguments.now shape bytes (c.in_default.ensures.byte (omega arith) (λ w o found. found)) says
+
+pub returns-in_err-shape-clause-bad : goal.returns-in_err-shape-clause-bad
+returns-in_err-shape-clause-bad c bad =
+    let parts = c.in-Some.ensures.byte (omega arith) (λ w o found. found) in
+    bad_shape_says_none c.args.arguments.now c.in-Some.shape.now c.in-Some.hex.now c.in_err-shape.field-0.0 parts.0 parts.1 (search rules) c.in_err-shape.ensures.only
+
+pub returns-in-None-clause-bad : goal.returns-in-None-clause-bad
+returns-in-None-clause-bad c bad shape bytes shallow says =
+    let parts = c.in-Some.ensures.byte (omega arith) (λ w o found. found) in
+    let none : argument_bytes c.in-Some.hex.now ≡ None = search rules in
+    bad_hex_says_none c.args.arguments.now c.in-Some.shape.now c.in-Some.hex.now parts.0 parts.1 none shape bytes says
