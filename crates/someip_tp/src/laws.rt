@@ -20,7 +20,7 @@ ghost use Rattle.someip_tp.specs.Parts.{Limits, Part, Parts, parts_at};
 ghost use Rattle.someip_tp.specs.Offers.{Offer, judgement, parts_after, message_of, message_at};
 ghost use Rattle.someip_tp.specs.Offers.{parts_less, no_part, with_offer};
 ghost use Rattle.someip_tp.specs.Arrivals.{AllArrive};
-ghost use Rattle.someip_tp.specs.Histories.{HoldsOnly, IsSegmentOf, accepted_through};
+ghost use Rattle.someip_tp.specs.Accepted.{HoldsOnly, IsSegmentOf, accepted_through};
 ghost use Rattle.someip_tp.specs.Wholes.{IsWhole, IsWithin};
 ghost use Rattle.someip_tp.specs.Calls.{parts_through};
 

@@ -21,7 +21,7 @@ use Rattle.someip_tp.specs.Parts.{Limits, Part, Parts, parts_at}
 use Rattle.someip_tp.specs.Offers.{Offer, offer, judgement, kept, parts_after, part_under, no_part, with_offer, is_unaligned, is_too_long, conflicts, message_of, message_at, parts_less}
 use Rattle.someip_tp.specs.Pieces.{byte_at}
 use Rattle.someip_tp.specs.Calls.{parts_after_call, parts_through}
-use Rattle.someip_tp.specs.Histories.{IsSegmentOf, HoldsOnly, standing, accepted_after, accepted_through}
+use Rattle.someip_tp.specs.Accepted.{IsSegmentOf, HoldsOnly, where_it_stands, accepted_after, accepted_through}
 use Rattle.someip_tp.proofs.Placed.{over, get-added}
 use Rattle.someip_tp.proofs.PieceLemmas.{byte_within}
 use Rattle.someip_tp.proofs.KeyOrder.{keys_total, same_from_test}
@@ -129,16 +129,16 @@ Told m key accepted parts = AllByRecursion (IsSegmentOf m) accepted → (part : 
 
 -- a part that still stands is as it was
 survives : (m : MessageValue) (key : ReassemblyKey) (accepted : List Offer) (parts next : Parts) → Told m key accepted parts → ((part : Part) → get next key ≡ Some part → get parts key ≡ Some part)
-    → Told m key (standing (get next key) accepted) next
+    → Told m key (where_it_stands (get next key) accepted) next
 survives m key accepted parts next told same all part is = cases (get next key) refl all is
   where
-    cases : (v : Option Part) → get next key ≡ v → AllByRecursion (IsSegmentOf m) (standing v accepted) → v ≡ Some part → HoldsOnly m.payload part
+    cases : (v : Option Part) → get next key ≡ v → AllByRecursion (IsSegmentOf m) (where_it_stands v accepted) → v ≡ Some part → HoldsOnly m.payload part
     cases None none all is = absurd cc
     cases (Some p) some all is = told all part (same part (some ∙ is))
 
 -- a segment is accepted into the part that is left, or begins one
-joined : (m : MessageValue) (key : ReassemblyKey) (accepted : List Offer) (left next : Parts) (now : ℕ) (o : Offer) → Told m key (standing (get left key) accepted) left
-    → get next key ≡ Some (with_offer (part_under left key) now o) → Told m key (o ∷ standing (get left key) accepted) next
+joined : (m : MessageValue) (key : ReassemblyKey) (accepted : List Offer) (left next : Parts) (now : ℕ) (o : Offer) → Told m key (where_it_stands (get left key) accepted) left
+    → get next key ≡ Some (with_offer (part_under left key) now o) → Told m key (o ∷ where_it_stands (get left key) accepted) next
 joined m key accepted left next now o told there all part is =
     let same : with_offer (part_under left key) now o ≡ part = cc (sym there ∙ is) in
     subst (HoldsOnly m.payload) same (accepts m (part_under left key) now o (before (get left key) refl) all.0)
@@ -150,7 +150,7 @@ joined m key accepted left next now o told there all part is =
 offered_by_tests : (m : MessageValue) (key : ReassemblyKey) (accepted : List Offer) (parts left : Parts) (now : ℕ) (o : Offer) → Told m key accepted parts
     → ((part : Part) → get left key ≡ Some part → get parts key ≡ Some part) → (unaligned long full clash same : Bool) → same_key key o.key ≡ same
     → Told m key
-    (if is_ok (judged_by unaligned long full clash now o left) && same then o ∷ standing (get left key) accepted else standing (get (kept (judged_by unaligned long full clash now o left) now o left) key) accepted)
+    (if is_ok (judged_by unaligned long full clash now o left) && same then o ∷ where_it_stands (get left key) accepted else where_it_stands (get (kept (judged_by unaligned long full clash now o left) now o left) key) accepted)
     (kept (judged_by unaligned long full clash now o left) now o left)
 offered_by_tests m key accepted parts left now o told kept_same true long full clash same test = survives m key accepted parts left told kept_same
 offered_by_tests m key accepted parts left now o told kept_same false true full clash same test = survives m key accepted parts left told kept_same
