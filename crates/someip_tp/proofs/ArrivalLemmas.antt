@@ -21,7 +21,7 @@ use Rattle.someip_tp.specs.Offers.{Offer, offer, placed, passes, differ, kept, p
 use Rattle.someip_tp.specs.Pieces.{byte_at}
 use Rattle.someip_tp.specs.Wholes.{IsWhole}
 use Rattle.someip_tp.specs.Calls.{parts_through}
-use Rattle.someip_tp.specs.Histories.{offered_segment, IsSegmentOf, HoldsOnly}
+use Rattle.someip_tp.specs.Accepted.{offered_segment, IsSegmentOf, HoldsOnly}
 use Rattle.someip_tp.specs.Arrivals.{offered_under, StandsThrough, AllArrive}
 use Rattle.someip_tp.proofs.Placed.{over, get-added, none_differs}
 use Rattle.someip_tp.proofs.PieceLemmas.{byte_from}
@@ -32,7 +32,7 @@ use Rattle.someip_tp.proofs.SegmentsLemmas.{are_segments}
 use Rattle.someip_tp.proofs.WholeLemmas.{message_from_whole}
 use Rattle.someip_tp.proofs.OfferLemmas.{judged_by}
 use Rattle.someip_tp.proofs.BoundLemmas.{fewer, left_same}
-use Rattle.someip_tp.proofs.HistoryLemmas.{IsAt, segment_is, segment_byte, last_ends, begins, accepts}
+use Rattle.someip_tp.proofs.AcceptedLemmas.{IsAt, segment_is, segment_byte, last_ends, begins, accepts}
 
 -- ---- a segment of the message
 

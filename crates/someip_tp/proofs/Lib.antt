@@ -11,5 +11,5 @@ pub mod MomentLemmas
 pub mod OfferLemmas
 pub mod SegmentTexts
 pub mod SentLemmas
-pub mod HistoryLemmas
+pub mod AcceptedLemmas
 pub mod ArrivalLemmas

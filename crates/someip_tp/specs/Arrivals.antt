@@ -9,7 +9,7 @@ use Rattle.someip_tp.specs.Keys.{same_key}
 use Rattle.someip_tp.specs.Sent.{segments_of}
 use Rattle.someip_tp.specs.Parts.{Limits}
 use Rattle.someip_tp.specs.Offers.{Offer, offer}
-use Rattle.someip_tp.specs.Histories.{offered_segment, IsSegmentOf}
+use Rattle.someip_tp.specs.Accepted.{offered_segment, IsSegmentOf}
 
 -- the segments that calls offer under a key, in order
 abbrev pub offered_under : ReassemblyKey → List TpCall → List Offer

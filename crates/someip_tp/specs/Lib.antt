@@ -13,5 +13,5 @@ pub mod Stores
 pub mod Calls
 pub mod Wholes
 pub mod Moments
-pub mod Histories
+pub mod Accepted
 pub mod Arrivals

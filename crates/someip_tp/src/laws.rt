@@ -3,8 +3,8 @@
 ghost use Rattle.std.specs.Prelude.{◌≡◌, ◌≢◌, ◌↔◌, ◌+◌, ◌<◌, ◌≤◌, ◌^◌, ◌%◌, ℕ, List, [], length, Some, None, Result, Ok, Err, is_some, true};
 ghost use Rattle.std.specs.FinMap as map;
 ghost use Rattle.std.specs.FinMap.{get, len};
-ghost use Rattle.std.specs.List.{AllByRecursion};
-ghost use Rattle.someip_wire.specs.Spelling.{MessageValue, spelling};
+ghost use Rattle.std.specs.List.{AllByRecursion, Contains};
+ghost use Rattle.someip_wire.specs.Spelling.{MessageValue, Fits, spelling};
 ghost use Rattle.someip_wire.specs.Faults.{length_field};
 ghost use Rattle.someip_tp.specs.declared.calls.TpCall.{TpCall};
 ghost use Rattle.someip_tp.specs.declared.error.TpError.{TpError};
@@ -15,11 +15,12 @@ ghost use Rattle.someip_tp.specs.declared.reassembly.Offered.TheVariants.{Part a
 ghost use Rattle.someip_tp.specs.declared.reassembly.Offered.TheVariants.{Whole};
 ghost use Rattle.someip_tp.specs.Words.{segment_in};
 ghost use Rattle.someip_tp.specs.Segments.{SegmentValue, segment_message};
+ghost use Rattle.someip_tp.specs.Sent.{piece_message, segments_of, sent};
 ghost use Rattle.someip_tp.specs.Parts.{Limits, Part, Parts, parts_at};
 ghost use Rattle.someip_tp.specs.Offers.{Offer, judgement, parts_after, message_of, message_at};
 ghost use Rattle.someip_tp.specs.Offers.{parts_less, no_part, with_offer};
 ghost use Rattle.someip_tp.specs.Arrivals.{AllArrive};
-ghost use Rattle.someip_tp.specs.Histories.{HoldsOnly, IsSegmentOf, accepted_through};
+ghost use Rattle.someip_tp.specs.Accepted.{HoldsOnly, IsSegmentOf, accepted_through};
 ghost use Rattle.someip_tp.specs.Wholes.{IsWhole, IsWithin};
 ghost use Rattle.someip_tp.specs.Calls.{parts_through};
 
@@ -30,11 +31,23 @@ pub fn the_length_of_a_segment_is_12_and_its_slice()
         → length_field (spelling (segment_message segment)) ≡ 12 + length segment.slice }
 {}
 
-/// What is sent as a segment is read as its offset, More Segments and its slice.
+/// What is sent as a segment is read as its offset, More Segments and its slice; so is each segment of
+/// a message whose numbers fit their fields.
 pub fn a_segment_is_read_as_it_was_sent()
-    ensures { (segment : SegmentValue) → segment.offset % 16 ≡ 0 → segment.offset < 2 ^ 32
+    ensures any { (segment : SegmentValue) → segment.offset % 16 ≡ 0 → segment.offset < 2 ^ 32
         → segment_in (segment_message segment).payload
         ≡ Ok (segment.offset, segment.more, segment.slice) }
+    ensures own { (message : MessageValue) (segment : SegmentValue) → Fits message
+        → Contains (segments_of message) segment
+        → segment_in (segment_message segment).payload
+        ≡ Ok (segment.offset, segment.more, segment.slice) }
+{}
+
+/// The pieces of a message whose numbers fit their fields are messages whose numbers do: what is sent
+/// of it is read as it was written.
+pub fn each_piece_of_a_message_fits()
+    ensures { (message : MessageValue) → Fits message
+        → AllByRecursion (λ piece. Fits (piece_message piece)) (sent message) }
 {}
 
 /// A part is whole exactly where its places are those below its total, and its message is then its

@@ -1,5 +1,6 @@
 use Rattle.someip_tp.proofs.SegmentTexts.{read_as_sent}
+use Rattle.someip_tp.proofs.AcceptedLemmas.{own_read}
 use Rattle.someip_tp.proofs.laws.a_segment_is_read_as_it_was_sent.Goals as goal
 
 pub returns : goal.returns
-returns c = read_as_sent
+returns c = record { any = read_as_sent; own = own_read }

@@ -1,5 +1,5 @@
 -- A part that is made of one message's segments alone gives that message's payload.
-use Rattle.std.proofs.Common.{◌≡◌, ℕ, ◌+◌, ◌-◌, ◌*◌, ◌<◌, ◌≤◌, Bool, true, false, cond, ◌&&◌, nat_lt, nat_le, if◌then◌else◌, List, [], ◌∷◌, length, slice_get, get_or, take, drop, Option, None, Some, refl, sym, ap, subst, ◌∙◌, arith}
+use Rattle.std.proofs.Common.{◌≡◌, ℕ, ◌+◌, ◌-◌, ◌*◌, ◌%◌, ◌<◌, ◌≤◌, Bool, true, false, cond, ◌&&◌, nat_lt, nat_le, if◌then◌else◌, List, [], ◌∷◌, length, slice_get, get_or, take, drop, Option, None, Some, refl, sym, ap, subst, ◌∙◌, arith, Ok}
 use Rattle.std.specs.Option.{is_some, is_none, unwrap_or, option_and_then}
 use Rattle.std.specs.Result.{is_ok}
 use Rattle.std.specs.List.{Contains, AllByRecursion}
@@ -9,22 +9,24 @@ use Rattle.std.proofs.lemmas.List.{ext_get_or, length-take, length-drop, get_or-
 use Rattle.std.proofs.lemmas.Option.{slice_get-get_or, slice_get_within, get_or_from_slice_get}
 use Rattle.std.specs.Ordering.{nat_cmp}
 use Rattle.std.specs.FinMap.{get, insert, remove, empty, len, get-insert, get-remove, get-empty}
-use Rattle.someip_wire.specs.Spelling.{MessageValue}
+use Rattle.someip_wire.specs.Spelling.{MessageValue, Fits}
 use Rattle.someip_tp.specs.declared.key.ReassemblyKey.{ReassemblyKey}
 use Rattle.someip_tp.specs.declared.calls.TpCall.{TpCall}
 use Rattle.someip_tp.specs.declared.calls.TpCall.TheVariants as call
 use Rattle.someip_tp.specs.Keys.{key_cmp, same_key}
-use Rattle.someip_tp.specs.Segments.{SegmentValue, segment_at, segment_header}
+use Rattle.someip_tp.specs.Segments.{SegmentValue, segment_at, segment_header, segment_message}
+use Rattle.someip_tp.specs.Words.{segment_in}
 use Rattle.someip_tp.specs.Sent.{segments_of}
 use Rattle.someip_tp.specs.Parts.{Limits, Part, Parts, parts_at}
 use Rattle.someip_tp.specs.Offers.{Offer, offer, judgement, kept, parts_after, part_under, no_part, with_offer, is_unaligned, is_too_long, conflicts, message_of, message_at, parts_less}
 use Rattle.someip_tp.specs.Pieces.{byte_at}
 use Rattle.someip_tp.specs.Calls.{parts_after_call, parts_through}
-use Rattle.someip_tp.specs.Histories.{IsSegmentOf, HoldsOnly, standing, accepted_after, accepted_through}
+use Rattle.someip_tp.specs.Accepted.{IsSegmentOf, HoldsOnly, where_it_stands, accepted_after, accepted_through}
 use Rattle.someip_tp.proofs.Placed.{over, get-added}
 use Rattle.someip_tp.proofs.PieceLemmas.{byte_within}
 use Rattle.someip_tp.proofs.KeyOrder.{keys_total, same_from_test}
 use Rattle.someip_tp.proofs.SegmentsLemmas.{are_segments}
+use Rattle.someip_tp.proofs.SegmentTexts.{read_as_sent}
 use Rattle.someip_tp.proofs.WholeLemmas.{whole_from_message}
 use Rattle.someip_tp.proofs.OfferLemmas.{judged_by}
 use Rattle.someip_tp.proofs.BoundLemmas.{left_same, removed_same}
@@ -34,6 +36,7 @@ use Rattle.someip_tp.proofs.BoundLemmas.{left_same, removed_same}
 -- the segment is the k-th: its offset, and what is left of the payload there
 pub record IsAt (m : MessageValue) (s : SegmentValue) : Type 0 where
   pub offset : ℕ
+  pub aligned : offset % 16 ≡ 0
   pub inside : offset < length m.payload
   pub is : s ≡ segment_at (segment_header m.header) offset (drop offset m.payload)
 
@@ -46,7 +49,7 @@ segment_is m s among =
         → cond b (Some (segment_at (segment_header m.header) (1392 * among.0) (drop (1392 * among.0) m.payload))) None ≡ Some s → IsAt m s
     cases true test is =
         let same : segment_at (segment_header m.header) (1392 * among.0) (drop (1392 * among.0) m.payload) ≡ s = cc in
-        record { offset = 1392 * among.0; inside = grind (arith, nat_tests, test); is = sym same }
+        record { offset = 1392 * among.0; aligned = omega arith; inside = grind (arith, nat_tests, test); is = sym same }
     cases false test is = absurd cc
 
 slice_in : (xs : List ℕ) (n o i b : ℕ) → slice_get (take n (drop o xs)) i ≡ Some b → slice_get xs (o + i) ≡ Some b
@@ -74,6 +77,13 @@ last_ends m s at last =
     let slice_is : length s.slice ≡ length (take 1392 (drop at.offset m.payload)) = ap (λ (x : SegmentValue). length x.slice) at.is in
     let few : length (drop at.offset m.payload) ≤ 1392 = ltb-false 1392 (length (drop at.offset m.payload)) (sym (ap (λ (x : SegmentValue). x.more) at.is) ∙ last) in
     omega (arith, offset_is, slice_is, few, at.inside, length-take 1392 (drop at.offset m.payload), length-drop at.offset m.payload)
+
+-- a segment of a message is read as it was sent
+pub own_read : (m : MessageValue) (s : SegmentValue) → Fits m → Contains (segments_of m) s → segment_in (segment_message s).payload ≡ Ok (s.offset, s.more, s.slice)
+own_read m s fits among =
+    let at = segment_is m s among in
+    let offset_is : s.offset ≡ at.offset = ap (λ (x : SegmentValue). x.offset) at.is in
+    read_as_sent s (ap (λ n. n % 16) offset_is ∙ at.aligned) (omega (arith, offset_is, at.inside, fits.length))
 
 -- ---- one part
 
@@ -119,16 +129,16 @@ Told m key accepted parts = AllByRecursion (IsSegmentOf m) accepted → (part : 
 
 -- a part that still stands is as it was
 survives : (m : MessageValue) (key : ReassemblyKey) (accepted : List Offer) (parts next : Parts) → Told m key accepted parts → ((part : Part) → get next key ≡ Some part → get parts key ≡ Some part)
-    → Told m key (standing (get next key) accepted) next
+    → Told m key (where_it_stands (get next key) accepted) next
 survives m key accepted parts next told same all part is = cases (get next key) refl all is
   where
-    cases : (v : Option Part) → get next key ≡ v → AllByRecursion (IsSegmentOf m) (standing v accepted) → v ≡ Some part → HoldsOnly m.payload part
+    cases : (v : Option Part) → get next key ≡ v → AllByRecursion (IsSegmentOf m) (where_it_stands v accepted) → v ≡ Some part → HoldsOnly m.payload part
     cases None none all is = absurd cc
     cases (Some p) some all is = told all part (same part (some ∙ is))
 
 -- a segment is accepted into the part that is left, or begins one
-joined : (m : MessageValue) (key : ReassemblyKey) (accepted : List Offer) (left next : Parts) (now : ℕ) (o : Offer) → Told m key (standing (get left key) accepted) left
-    → get next key ≡ Some (with_offer (part_under left key) now o) → Told m key (o ∷ standing (get left key) accepted) next
+joined : (m : MessageValue) (key : ReassemblyKey) (accepted : List Offer) (left next : Parts) (now : ℕ) (o : Offer) → Told m key (where_it_stands (get left key) accepted) left
+    → get next key ≡ Some (with_offer (part_under left key) now o) → Told m key (o ∷ where_it_stands (get left key) accepted) next
 joined m key accepted left next now o told there all part is =
     let same : with_offer (part_under left key) now o ≡ part = cc (sym there ∙ is) in
     subst (HoldsOnly m.payload) same (accepts m (part_under left key) now o (before (get left key) refl) all.0)
@@ -140,7 +150,7 @@ joined m key accepted left next now o told there all part is =
 offered_by_tests : (m : MessageValue) (key : ReassemblyKey) (accepted : List Offer) (parts left : Parts) (now : ℕ) (o : Offer) → Told m key accepted parts
     → ((part : Part) → get left key ≡ Some part → get parts key ≡ Some part) → (unaligned long full clash same : Bool) → same_key key o.key ≡ same
     → Told m key
-    (if is_ok (judged_by unaligned long full clash now o left) && same then o ∷ standing (get left key) accepted else standing (get (kept (judged_by unaligned long full clash now o left) now o left) key) accepted)
+    (if is_ok (judged_by unaligned long full clash now o left) && same then o ∷ where_it_stands (get left key) accepted else where_it_stands (get (kept (judged_by unaligned long full clash now o left) now o left) key) accepted)
     (kept (judged_by unaligned long full clash now o left) now o left)
 offered_by_tests m key accepted parts left now o told kept_same true long full clash same test = survives m key accepted parts left told kept_same
 offered_by_tests m key accepted parts left now o told kept_same false true full clash same test = survives m key accepted parts left told kept_same

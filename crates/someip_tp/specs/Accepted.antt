@@ -26,19 +26,19 @@ pub record HoldsOnly (payload : List ℕ) (part : Part) : Type 0 where
   pub total : (total : ℕ) → part.total ≡ Some total → total ≡ length payload
 
 -- the segments of a part, where it still stands: a part that is no more takes its segments with it
-abbrev pub standing : Option Part → List Offer → List Offer
-standing None accepted = []
-standing (Some part) accepted = accepted
+abbrev pub where_it_stands : Option Part → List Offer → List Offer
+where_it_stands None accepted = []
+where_it_stands (Some part) accepted = accepted
 
 -- the segments that were accepted into the part that stands under a key, the latest first, once a call was made of a
 -- store with these parts
 abbrev pub accepted_after : Limits → ReassemblyKey → TpCall → Parts → List Offer → List Offer
 accepted_after limits key (OfferCall k offset more bytes now) parts accepted =
     let o = offer k offset more bytes.now in
-    if is_ok (judgement limits now o parts) && same_key key k then o ∷ standing (get (parts_at limits now parts) key) accepted
-    else standing (get (parts_after limits now o parts) key) accepted
-accepted_after limits key (Take k) parts accepted = standing (get (parts_after_call limits (Take k) parts) key) accepted
-accepted_after limits key (Expire now) parts accepted = standing (get (parts_after_call limits (Expire now) parts) key) accepted
+    if is_ok (judgement limits now o parts) && same_key key k then o ∷ where_it_stands (get (parts_at limits now parts) key) accepted
+    else where_it_stands (get (parts_after limits now o parts) key) accepted
+accepted_after limits key (Take k) parts accepted = where_it_stands (get (parts_after_call limits (Take k) parts) key) accepted
+accepted_after limits key (Expire now) parts accepted = where_it_stands (get (parts_after_call limits (Expire now) parts) key) accepted
 accepted_after limits key Clear parts accepted = []
 
 -- the same, once calls were made in order
