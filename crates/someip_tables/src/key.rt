@@ -1,5 +1,6 @@
 //! What tells the entries of a table apart.
-ghost use Rattle.std.specs.Prelude.{◌≡◌};
+ghost use Rattle.std.specs.Prelude.{◌≡◌, ◌↔◌, IsTrue};
+ghost use Rattle.std.specs.Ordering.{eq_by_cmp};
 ghost use Rattle.std.specs.declared.cmp.Ordering.TheVariants.{Equal};
 ghost use Rattle.std.proofs.lemmas.Map.Lookups.{exact_unsigned};
 ghost use Rattle.someip_tables.specs.EndpointOrder.{exact_addresses, exact_endpoints, exact_pair};
@@ -10,6 +11,14 @@ use std::net::{Ipv4Addr, SocketAddrV4};
 /// values tie.
 pub trait Key: Ord + Copy {
     ghost exact: { (a b : Self) → Self.cmp a b ≡ Equal → a ≡ b };
+}
+
+/// Whether the two are one key.
+pub fn is_same_key<K: Key>(a: &K, b: &K) -> bool
+    ensures test { result ≡ eq_by_cmp K.cmp a.now b.now }
+    ensures same { IsTrue result ↔ (a.now ≡ b.now) }
+{
+    a.cmp(b).is_eq()
 }
 
 impl Key for u8 {

@@ -2,7 +2,7 @@
 //!
 //! - [`Moment`]: a point of a node's clock;
 //! - [`Deadline`]: until when something lasts;
-//! - [`Key`]: what tells the entries of a table apart;
+//! - [`Key`] and [`is_same_key`]: what tells the entries of a table apart;
 //! - [`DeadlineMap`]: a map whose values last until a deadline each, as [`Lasting`] says;
 //! - [`laws`]: what the definitions behind the contracts promise, whatever body keeps them.
 #![tactic(auto)]
@@ -18,7 +18,7 @@ mod tracked;
 
 pub use deadline::{Deadline, TTL_FOREVER};
 pub use deadline_map::DeadlineMap;
-pub use key::Key;
+pub use key::{Key, is_same_key};
 pub use lasting::Lasting;
 pub use moment::Moment;
 

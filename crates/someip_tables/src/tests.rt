@@ -1,5 +1,5 @@
 //! Each public call on its happy path.
-use crate::{Deadline, DeadlineMap, Key, Lasting, Moment, TTL_FOREVER};
+use crate::{Deadline, DeadlineMap, Key, Lasting, Moment, TTL_FOREVER, is_same_key};
 use std::net::{Ipv4Addr, SocketAddrV4};
 use std::test::Fail;
 
@@ -47,6 +47,7 @@ fn keys(rt: HostRuntime) {
     let low = SocketAddrV4::new(address, 39999);
     let high = SocketAddrV4::new(address, 40001);
     assert!(rt; is_before(low, high));
+    assert!(rt; is_same_key(&low, &low) && !is_same_key(&low, &high));
     assert!(rt; is_before(Ipv4Addr::new(9, 0, 0, 1), Ipv4Addr::new(10, 0, 0, 0)));
     assert!(rt; is_before((1u16, high), (2u16, low)));
     assert!(rt; is_before(1u8, 2u8) && is_before(1u32, 2u32) && is_before(1u64, 2u64));

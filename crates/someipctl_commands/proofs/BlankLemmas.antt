@@ -123,9 +123,10 @@ unparted_text text s h all is h2 =
 pub parts_are : (text s h p q : List ℕ) → p ≡ before_first is_blank text → q ≡ after_first is_blank text → text ≡ s ++ (codes " " ++ h) → IsUnparted s
     → (p ≡ s) × (q ≡ h)
 parts_are text s h p q before after is unparted =
-    let first : position_or_len is_blank text ≡ length s = ap (position_or_len is_blank) is ∙ first_blank s h unparted in
-    (before ∙ ap (λ n. take n text) first ∙ ap (take (length s)) is ∙ take_front s (codes " " ++ h),
-    after ∙ ap (λ n. drop (n + 1) text) first ∙ ap (drop (length s + 1)) is ∙ drop_part s h)
+    let first : position_or_len is_blank text ≡ length s = ap (position_or_len is_blank) is ∙ first_blank s h unparted in (
+      before ∙ ap (λ n. take n text) first ∙ ap (take (length s)) is ∙ take_front s (codes " " ++ h),
+      after ∙ ap (λ n. drop (n + 1) text) first ∙ ap (drop (length s + 1)) is ∙ drop_part s h,
+    )
   where
     take_front : (xs ys : List ℕ) → take (length xs) (xs ++ ys) ≡ xs
     take_front [] ys = refl

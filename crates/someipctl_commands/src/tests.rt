@@ -359,7 +359,10 @@ fn bad_vectors_are_refused(rt: HostRuntime) {
         let mut reader = file;
         let mut out = Vec::new(rt.alloc());
         let outcome = vectors(rt.alloc(), &mut reader, &mut out);
-        assert!(rt; outcome == Err(VectorsError::BadVector(line)) && out.is_empty(), "{file:?}");
+        assert!(rt;
+            outcome == Err(VectorsError::BadVector(line)) && out.is_empty(),
+            "{file:?}"
+        );
     }
 }
 

@@ -6,7 +6,9 @@ use Rattle.someipctl_commands.proofs.payload.read_text.Goals as goal
 
 pub returns-in_ok-map_err-in-Err : goal.returns-in_ok-map_err-in-Err
 returns-in_ok-map_err-in-Err c =
-    let other : c.in-Err.fault ≢ faults.OutOfMemory = search rules in
-    (c.in-Err.fault, other,
-    fault_told (form c.args.shape.now) c.args.bytes.now c.in-Err.fault c.in-Err.ensures.fault c.in-Err.ensures.refused other,
-    search rules)
+    let other : c.in-Err.fault ≢ faults.OutOfMemory = search rules in (
+      c.in-Err.fault,
+      other,
+      fault_told (form c.args.shape.now) c.args.bytes.now c.in-Err.fault c.in-Err.ensures.fault c.in-Err.ensures.refused other,
+      search rules,
+    )
