@@ -13,7 +13,7 @@ use Rattle.someip_tp.specs.declared.key.ReassemblyKey.{ReassemblyKey}
 use Rattle.someip_tp.specs.declared.calls.TpCall.{TpCall}
 use Rattle.someip_tp.specs.declared.calls.TpCall.TheVariants as call
 use Rattle.someip_tp.specs.Keys.{same_key}
-use Rattle.someip_tp.specs.Retained.{kept as passed}
+use Rattle.someip_tables.specs.Retained.{kept_if as passed}
 use Rattle.someip_tp.specs.Segments.{SegmentValue, segment_at, segment_header}
 use Rattle.someip_tp.specs.Sent.{segments_of}
 use Rattle.someip_tp.specs.Parts.{Limits, Part, Parts, is_gone, parts_at}
@@ -27,7 +27,7 @@ use Rattle.someip_tp.proofs.Placed.{over, get-added, none_differs}
 use Rattle.someip_tp.proofs.PieceLemmas.{byte_from}
 use Rattle.someip_tp.proofs.PartialLemmas.{any_place, no_place_passes}
 use Rattle.someip_tp.proofs.KeyOrder.{keys_total, exact_keys, same_from_test, test_from_same}
-use Rattle.someip_tp.proofs.Entries.{get-retain}
+use Rattle.someip_tables.proofs.Entries.{get-retain}
 use Rattle.someip_tp.proofs.SegmentsLemmas.{are_segments}
 use Rattle.someip_tp.proofs.WholeLemmas.{message_from_whole}
 use Rattle.someip_tp.proofs.OfferLemmas.{judged_by}

@@ -8,7 +8,7 @@ use Rattle.std.specs.Ordering.{nat_cmp, eq_by_cmp}
 use Rattle.std.specs.FinMap.{get, insert, remove, keys, len, empty, contains_key-keys, len-entries, entries, empty_of_len, get-empty, get-insert, get-remove, len-empty, len-insert, len-remove}
 use Rattle.someip_tp.specs.declared.key.ReassemblyKey.{ReassemblyKey}
 use Rattle.someip_tp.specs.Keys.{key_cmp}
-use Rattle.someip_tp.specs.Retained.{kept}
+use Rattle.someip_tables.specs.Retained.{kept_if}
 use Rattle.someip_tp.specs.Parts.{Limits, Part, Parts, is_gone, parts_at}
 use Rattle.someip_tp.specs.declared.reassembly.Offered.{Offered}
 use Rattle.someip_tp.specs.declared.error.TpError.{TpError}
@@ -23,7 +23,7 @@ use Rattle.std.proofs.lemmas.Option.{slice_get_within}
 use Rattle.someip_tp.proofs.Placed.{over, get-added}
 use Rattle.someip_tp.proofs.PieceLemmas.{byte_within}
 use Rattle.someip_tp.proofs.KeyOrder.{keys_total, exact_keys}
-use Rattle.someip_tp.proofs.Entries.{own_test, get-retain}
+use Rattle.someip_tables.proofs.Entries.{own_test, get-retain}
 use Rattle.someip_tp.proofs.OfferLemmas.{offered_by}
 
 -- ---- a map with fewer keys is no larger
@@ -92,9 +92,9 @@ within_fewer limits less more same within = (
   (λ key part place is held. within.1 key part place (same key part is) held),
 )
 
-kept_same : (test : Part → Bool) (o : Option Part) (x : Part) → kept test o ≡ Some x → o ≡ Some x
-kept_same test None x is = cc
-kept_same test (Some y) x is = cases (test y) is
+kept_if_same : (test : Part → Bool) (o : Option Part) (x : Part) → kept_if test o ≡ Some x → o ≡ Some x
+kept_if_same test None x is = cc
+kept_if_same test (Some y) x is = cases (test y) is
   where
     cases : (b : Bool) → (if b then Some y else None) ≡ Some x → Some y ≡ Some x
     cases true is = is
@@ -104,7 +104,7 @@ kept_same test (Some y) x is = cases (test y) is
 pub left_same : (limits : Limits) (now : ℕ) (parts : Parts) (q : ReassemblyKey) (x : Part) → get (parts_at limits now parts) q ≡ Some x → get parts q ≡ Some x
 unfolding parts_at
 left_same limits now parts q x is =
-    kept_same (λ part. not (is_gone limits.timeout now part)) (get parts q) x (sym (get-retain keys_total exact_keys parts (λ key part. not (is_gone limits.timeout now part)) q) ∙ is)
+    kept_if_same (λ part. not (is_gone limits.timeout now part)) (get parts q) x (sym (get-retain keys_total exact_keys parts (λ key part. not (is_gone limits.timeout now part)) q) ∙ is)
 
 pub within_at : (limits : Limits) (now : ℕ) (parts : Parts) → IsWithin limits parts → IsWithin limits (parts_at limits now parts)
 within_at limits now parts within = within_fewer limits (parts_at limits now parts) parts (left_same limits now parts) within

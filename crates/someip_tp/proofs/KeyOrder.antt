@@ -6,22 +6,14 @@ use Rattle.std.specs.Cmp.Lexicographic.{slice_cmp}
 use Rattle.std.proofs.lemmas.Cmp.{on_total, then_total, nat_list_cmp_total}
 use Rattle.std.proofs.lemmas.Map.Lookups.{CmpEqualImpliesEq, exact_pairs, exact_unsigned, exact_bytes}
 use Rattle.std.specs.declared.net.socket_addr.SocketAddrV4.{SocketAddrV4}
-use Rattle.std.specs.Net.Socket.{v4_ip, v4_port}
-use Rattle.std.specs.Net.Addr.{ipv4_octets}
+use Rattle.someip_tables.specs.Endpoints.{endpoint_cmp}
+use Rattle.someip_tables.specs.EndpointOrder.{endpoints_total, exact_endpoints}
 use Rattle.someip_tp.specs.declared.key.ReassemblyKey.{ReassemblyKey}
 use denote.Enum.Bare.{same_true}
 use Rattle.someip_wire.specs.declared.header.MessageType.{MessageType}
 use Rattle.someip_wire.specs.contracts.header.MessageType.{the_type as the_kind}
 use Rattle.someip_wire.specs.contracts.header.MessageTypePartialEq.TheImpl.{ghosts as kind_eq}
-use Rattle.someip_tp.specs.Keys.{endpoint_cmp, key_numbers, key_cmp, same_key, key_of, key_back}
-
-pub endpoints_total : IsTotalOrder endpoint_cmp
-endpoints_total = then_total (on_total (λ e. ipv4_octets (v4_ip e)) nat_list_cmp_total) (on_total (λ e. v4_port e) nat_cmp_total)
-
-pub exact_endpoints : CmpEqualImpliesEq endpoint_cmp
-exact_endpoints a b h =
-    ap (λ (p : List ℕ × ℕ). record { ip = record { octets = p.0 }; port = p.1 })
-    (exact_pairs (slice_cmp nat_cmp) nat_cmp exact_bytes exact_unsigned (ipv4_octets (v4_ip a), v4_port a) (ipv4_octets (v4_ip b), v4_port b) h)
+use Rattle.someip_tp.specs.Keys.{key_numbers, key_cmp, same_key, key_of, key_back}
 
 pub keys_total : IsTotalOrder key_cmp
 keys_total = then_total (on_total (λ k. k.source) endpoints_total) (then_total (on_total (λ k. k.destination) endpoints_total) (on_total key_numbers nat_list_cmp_total))

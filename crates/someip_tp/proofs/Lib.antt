@@ -3,7 +3,6 @@ pub mod PieceLemmas
 pub mod Placed
 pub mod KeyOrder
 pub mod PartialLemmas
-pub mod Entries
 pub mod StoreLemmas
 pub mod WholeLemmas
 pub mod BoundLemmas

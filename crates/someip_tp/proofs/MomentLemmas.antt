@@ -16,12 +16,12 @@ use Rattle.someip_tp.specs.declared.error.TpError.TheVariants.{Unaligned, TooLon
 use Rattle.someip_tp.specs.declared.calls.TpCall.{TpCall}
 use Rattle.someip_tp.specs.declared.calls.TpCall.TheVariants as call
 use Rattle.someip_tp.specs.Keys.{key_cmp}
-use Rattle.someip_tp.specs.Retained.{kept as passed}
+use Rattle.someip_tables.specs.Retained.{kept_if as passed}
 use Rattle.someip_tp.specs.Parts.{Part, Parts, Limits, NoneAfter, is_gone, parts_at}
 use Rattle.someip_tp.specs.Offers.{Offer, offer, judged, kept, parts_after, part_under, with_offer, message_at, parts_less}
 use Rattle.someip_tp.specs.Calls.{MayCalls}
 use Rattle.someip_tp.specs.Moments.{IsAligned, AreInTime, moments, moment_after}
-use Rattle.someip_tp.proofs.Entries.{get-retain}
+use Rattle.someip_tables.proofs.Entries.{get-retain}
 use Rattle.someip_tp.proofs.KeyOrder.{keys_total, exact_keys}
 use Rattle.someip_tp.proofs.OfferLemmas.{offered_by}
 

@@ -13,7 +13,7 @@ use Rattle.std.specs.FinMap.{FinMap, get, keys, contains_key, contains_key-keys,
 use Rattle.std.proofs.lemmas.Bool.{or_left, or_right}
 use Rattle.std.proofs.Math.Bool.{and-false}
 use Rattle.std.proofs.lemmas.Option.{slice_get_within, slice_get-get_or, unwrap_or-slice_get}
-use Rattle.someip_tp.proofs.Entries.{same_by_test, own_test}
+use Rattle.someip_tables.proofs.Entries.{same_by_test, own_test}
 use Rattle.someip_tp.specs.Parts.{Part}
 use Rattle.someip_tp.specs.Offers.{Offer, placed, added, passes, differ, total_of, conflicts, message_of, are_exactly_below}
 use Rattle.someip_tp.specs.declared.pieces.Piece.{Piece}

@@ -7,7 +7,7 @@ use Rattle.std.proofs.lemmas.Bool.{and_parts, and_from}
 use Rattle.std.proofs.lemmas.Bool.Decides.{nat_tests}
 use Rattle.std.proofs.lemmas.List.{get_or_default, append-nil}
 use Rattle.someip_tp.specs.declared.key.ReassemblyKey.{ReassemblyKey}
-use Rattle.someip_tp.specs.Distinct.{are_distinct}
+use Rattle.someip_tables.specs.Distinct.{are_distinct}
 use Rattle.someip_tp.specs.Keys.{key_cmp, same_key}
 use Rattle.someip_tp.specs.Parts.{Part, Parts, Limits, is_gone, parts_at}
 use Rattle.someip_tp.specs.declared.reassembly.Offered.{Offered}
@@ -20,7 +20,7 @@ use Rattle.someip_tp.specs.Stores.{StandsAt, Acts, parts_in}
 use Rattle.someip_tp.proofs.Placed.{none_differs}
 use Rattle.someip_tp.proofs.PartialLemmas.{no_place_passes}
 use Rattle.someip_tp.proofs.KeyOrder.{keys_total, exact_keys, same_from_test, test_from_same}
-use Rattle.someip_tp.proofs.Entries as entries
+use Rattle.someip_tables.proofs.Entries as entries
 
 -- ---- where an entry stands
 

@@ -6,8 +6,7 @@ use Rattle.std.specs.Ordering.{nat_cmp, ordering_then, eq_by_cmp}
 use Rattle.std.specs.Cmp.Lexicographic.{slice_cmp}
 use Rattle.std.specs.Coded.{Coded, code_by, coded×, coded_ℕ, coded_list}
 use Rattle.std.specs.declared.net.socket_addr.SocketAddrV4.{SocketAddrV4}
-use Rattle.std.specs.Net.Socket.{v4_ip, v4_port}
-use Rattle.std.specs.Net.Addr.{ipv4_octets}
+use Rattle.someip_tables.specs.Endpoints.{endpoint_cmp, coded_endpoint}
 use Rattle.someip_wire.specs.declared.Header.{Header}
 use Rattle.someip_wire.specs.declared.header.MessageType.{MessageType}
 use Rattle.someip_wire.specs.declared.header.MessageType.TheVariants.{Request, RequestNoReturn, Notification, Response, Error, TpRequest, TpRequestNoReturn, TpNotification, TpResponse, TpError}
@@ -30,10 +29,6 @@ segment_key source destination h =
       code = h.code;
     }
 
--- by address, and then by port
-abbrev pub endpoint_cmp : SocketAddrV4 → SocketAddrV4 → Ordering
-endpoint_cmp a b = ordering_then (slice_cmp nat_cmp (ipv4_octets (v4_ip a)) (ipv4_octets (v4_ip b))) (nat_cmp (v4_port a) (v4_port b))
-
 -- what a key has beside its endpoints, as numbers: Message ID, Request ID, Interface Version, type and Return Code
 abbrev pub key_numbers : ReassemblyKey → List ℕ
 key_numbers k = k.service ∷ k.method ∷ k.client ∷ k.session ∷ k.interface ∷ kind_byte k.kind ∷ k.code.0 ∷ []
@@ -45,10 +40,6 @@ key_cmp a b = ordering_then (endpoint_cmp a.source b.source) (ordering_then (end
 -- the two are one key
 abbrev pub same_key : ReassemblyKey → ReassemblyKey → Bool
 same_key = eq_by_cmp key_cmp
-
--- a key is stored as its endpoints and its numbers
-abbrev pub coded_endpoint : Coded SocketAddrV4
-coded_endpoint = code_by (List ℕ × ℕ) (coded× (coded_list coded_ℕ) coded_ℕ) (λ a. (ipv4_octets (v4_ip a), v4_port a)) (λ p. record { ip = record { octets = p.0 }; port = p.1 }) (λ _. refl)
 
 -- the key with these endpoints and numbers
 abbrev pub key_of : SocketAddrV4 × (SocketAddrV4 × List ℕ) → ReassemblyKey
@@ -80,5 +71,6 @@ kind_back TpError = refl
 pub key_back : (k : ReassemblyKey) → key_of (k.source, (k.destination, key_numbers k)) ≡ k
 key_back k = ap (λ kind. record k { kind = kind }) (kind_back k.kind)
 
+-- a key is stored as its endpoints and its numbers
 abbrev pub coded_key : Coded ReassemblyKey
 coded_key = code_by (SocketAddrV4 × (SocketAddrV4 × List ℕ)) (coded× coded_endpoint (coded× coded_endpoint (coded_list coded_ℕ))) (λ k. (k.source, (k.destination, key_numbers k))) key_of key_back

@@ -3,8 +3,6 @@ pub mod Words
 pub mod Segments
 pub mod Sent
 pub mod Keys
-pub mod Retained
-pub mod Distinct
 pub mod Parts
 pub mod Offers
 pub mod Pieces

@@ -5,7 +5,7 @@ use Rattle.std.specs.Coded.{Coded, code_by, coded×, coded_ℕ, coded_option}
 use Rattle.std.specs.FinMap.{FinMap, code, get}
 use Rattle.someip_tp.specs.declared.key.ReassemblyKey.{ReassemblyKey}
 use Rattle.someip_tp.specs.Keys.{key_cmp, coded_key}
-use Rattle.someip_tp.specs.Retained.{retain}
+use Rattle.someip_tables.specs.Retained.{retain}
 
 -- what bounds a store: how many parts it holds, the places that a message may have, and how long a part stands
 -- after its last segment

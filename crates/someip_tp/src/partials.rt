@@ -2,7 +2,7 @@
 ghost use Rattle.std.specs.Prelude.{ℕ, ◌≡◌, ◌++◌, ◌<◌, [], Some, None, OnOk, OnErr, IfOk, is_some, is_none, unwrap_or, not, true, false, length, filter, IsTrue, vec_len};
 ghost use Rattle.std.specs.List.{slice_index_or};
 ghost use Rattle.std.specs.FinMap as map;
-ghost use Rattle.someip_tp.specs.Distinct.{are_distinct};
+ghost use Rattle.someip_tables.specs.Distinct.{are_distinct};
 ghost use Rattle.someip_tp.specs.Keys.{key_cmp, same_key};
 ghost use Rattle.someip_tp.specs.Parts.{is_gone};
 ghost use Rattle.someip_tp.specs.Offers.{no_part, part_under, conflicts, with_offer, offered_as, message_at, parts_less};

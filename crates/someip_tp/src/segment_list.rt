@@ -25,7 +25,7 @@ pub struct SegmentList {
 
 impl Model for SegmentList {
     ghost use Rattle.std.specs.Prelude.{IsTrue};
-    ghost use Rattle.someip_tp.specs.Distinct.{are_distinct};
+    ghost use Rattle.someip_tables.specs.Distinct.{are_distinct};
     ghost use Rattle.someip_tp.specs.Keys.{key_cmp};
     ghost use Rattle.someip_tp.specs.Stores.{Store, coded_store, parts_in};
 
