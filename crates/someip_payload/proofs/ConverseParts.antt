@@ -1,12 +1,13 @@
 -- Each text of a shape is read as it: what its parts are read as.
 use Rattle.std.proofs.Common.{◌≡◌, ℕ, ◌+◌, ◌<◌, ◌≤◌, ◌^◌, Vec, Global, List, [], ◌∷◌, ◌++◌, length, drop, codes, Option, get_or, inl, inr, refl, sym, ap, subst, ◌∙◌, append_assoc, arith}
-use Rattle.std.specs.Prelude.{◌⊎◌}
+use Rattle.std.specs.Prelude.{◌⊎◌, Result, Ok, Err, IfOk}
 use Rattle.std.specs.Fmt.{decimal}
 use Rattle.std.specs.declared.boxed.Box.{Box}
 use Rattle.std.proofs.lemmas.List.{length-append, get_or-drop}
 use Rattle.someip_payload.specs.declared.shape.Shape.{Shape, Text, Array, Fixed, Struct, Union}
 use Rattle.someip_payload.specs.declared.shape.Encoding.{Encoding}
 use Rattle.someip_payload.specs.declared.shape.Width.{Width}
+use Rattle.someip_payload.specs.declared.shape_text_error.ShapeTextError.{ShapeTextError}
 use Rattle.someip_payload.specs.Check.{depth, deepest, deepest_variant}
 use Rattle.someip_payload.specs.Data.{Form, bool, unsigned, signed, string, array, fixed, «struct», union, Forms, no_forms, form_then, Variants, no_variants, variant}
 use Rattle.someip_payload.specs.ShapeText.{IsTextOf, IsTextOfMembers, last_member, next_member, IsTextOfVariants, last_variant, next_variant, IsDigit, Stops, width_text, or_32, repeated_text}
@@ -331,3 +332,21 @@ variant_last text at left vs all rest ss next m s first end n number begins ther
       place = omega (arith, last.2, read.1, begins);
     }
     cases (inr more) = absurd (no_comma (more.1 ++ (codes ")" ++ rest)) (behind ∙ more.2))
+
+-- ---- how deep shapes lie that were read
+
+pub within_more : (r : Result (Shape × ℕ) ShapeTextError) (k n : ℕ) → k ≤ n → IfOk r (λ x. depth (form x.0) ≤ k) → IfOk r (λ x. depth (form x.0) ≤ n)
+within_more (Ok x) k n le within = omega (arith, le, within)
+within_more (Err e) k n le within = tt
+
+pub deepest-push : (ss : List Shape) (s : Shape) (k : ℕ) → deepest (forms ss) ≤ k → depth (form s) ≤ k → deepest (forms (ss ++ s ∷ [])) ≤ k
+deepest-push [] s k all one = omega (arith, one)
+deepest-push (z ∷ ss) s k all one =
+    let rest = deepest-push ss s k (omega (arith, all)) one in
+    omega (arith, all, rest)
+
+pub deepest_variant-push : (ss : List (ℕ × Shape)) (s : ℕ × Shape) (k : ℕ) → deepest_variant (all_variants ss) ≤ k → depth (form s.1) ≤ k → deepest_variant (all_variants (ss ++ s ∷ [])) ≤ k
+deepest_variant-push [] s k all one = omega (arith, one)
+deepest_variant-push (z ∷ ss) s k all one =
+    let rest = deepest_variant-push ss s k (omega (arith, all)) one in
+    omega (arith, all, rest)

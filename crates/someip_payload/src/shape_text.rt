@@ -66,6 +66,8 @@ pub fn read_shape(alloc: Global, text: &str) -> Result<Shape, ShapeTextError>
     ensures found { IfOk result (λ shape. IsTextOf (form shape) text.now) }
     // Each text of a shape is read.
     ensures only { (f : Form) → IsTextOf f text.now → depth f ≤ 64 → IsReadAs form f result }
+    // At most 64 shapes lie inside each other.
+    ensures within { IfOk result (λ shape. depth (form shape) ≤ 64) }
     ensures fault { IfErr result (IsFaultWithin 0 (length text.now)) }
 {
     let text = text.as_bytes();
@@ -89,6 +91,7 @@ fn shape_at(
     ensures only { (f : Form) (front rest : List ℕ) → drop at text.now ≡ front ++ rest
         → IsTextOf f front → depth f ≤ left → Stops rest
         → IsReadTo form f (at + length front) result }
+    ensures within { IfOk result (λ x. depth (form x.0) ≤ left) }
     ensures end { IfOk result (λ x. (at < x.1) × (x.1 ≤ length text.now)) }
     ensures fault { IfErr result (IsFaultWithin at (length text.now)) }
 {
@@ -121,6 +124,7 @@ fn utf8_at(text: &[u8], at: usize) -> Result<(Shape, usize), ShapeTextError>
     ensures found { IfOk result (λ x. IsTextOf (form x.0) (codes "utf8" ++ slice_range text.now at x.1)) }
     ensures only { (f : Form) (back rest : List ℕ) → drop at text.now ≡ back ++ rest
         → Behind Word.Utf8 f back → Stops rest → IsReadTo form f (at + length back) result }
+    ensures within { IfOk result (λ x. depth (form x.0) ≤ 1) }
     ensures end { IfOk result (λ x. (at ≤ x.1) × (x.1 ≤ length text.now)) }
     ensures fault { IfErr result (IsFaultWithin at (length text.now)) }
 {
@@ -134,6 +138,7 @@ fn utf16_at(text: &[u8], at: usize) -> Result<(Shape, usize), ShapeTextError>
     ensures found { IfOk result (λ x. IsTextOf (form x.0) (codes "utf16" ++ slice_range text.now at x.1)) }
     ensures only { (f : Form) (back rest : List ℕ) → drop at text.now ≡ back ++ rest
         → Behind Word.Utf16 f back → Stops rest → IsReadTo form f (at + length back) result }
+    ensures within { IfOk result (λ x. depth (form x.0) ≤ 1) }
     ensures end { IfOk result (λ x. (at ≤ x.1) × (x.1 ≤ length text.now)) }
     ensures fault { IfErr result (IsFaultWithin at (length text.now)) }
 {
@@ -154,6 +159,7 @@ fn array_at(
     ensures only { (f : Form) (back rest : List ℕ) → drop at text.now ≡ back ++ rest
         → Behind Word.Array f back → depth f ≤ left + 1
         → IsReadTo form f (at + length back) result }
+    ensures within { IfOk result (λ x. depth (form x.0) ≤ left + 1) }
     ensures end { IfOk result (λ x. (at ≤ x.1) × (x.1 ≤ length text.now)) }
     ensures fault { IfErr result (IsFaultWithin at (length text.now)) }
 {
@@ -175,6 +181,7 @@ fn fixed_at(
     ensures only { (f : Form) (back rest : List ℕ) → drop at text.now ≡ back ++ rest
         → Behind Word.Fixed f back → depth f ≤ left + 1
         → IsReadTo form f (at + length back) result }
+    ensures within { IfOk result (λ x. depth (form x.0) ≤ left + 1) }
     ensures end { IfOk result (λ x. (at ≤ x.1) × (x.1 ≤ length text.now)) }
     ensures fault { IfErr result (IsFaultWithin at (length text.now)) }
 {
@@ -196,6 +203,7 @@ fn repeated_at(
     ensures only { (n : ℕ) (f : Form) (element rest : List ℕ)
         → drop at text.now ≡ repeated_text n element ++ rest → n < 2 ^ 32 → IsTextOf f element
         → depth f ≤ left → IsRepeatedTo (λ b. form b.value) n f (at + length (repeated_text n element)) result }
+    ensures within { IfOk result (λ x. depth (form x.1.value) ≤ left) }
     ensures end { IfOk result (λ x. (at ≤ x.2) × (x.2 ≤ length text.now)) }
     ensures fault { IfErr result (IsFaultWithin at (length text.now)) }
 {
@@ -220,6 +228,7 @@ fn struct_at(
     ensures only { (f : Form) (back rest : List ℕ) → drop at text.now ≡ back ++ rest
         → Behind Word.Struct f back → depth f ≤ left + 1
         → IsReadTo form f (at + length back) result }
+    ensures within { IfOk result (λ x. depth (form x.0) ≤ left + 1) }
     ensures end { IfOk result (λ x. (at ≤ x.1) × (x.1 ≤ length text.now)) }
     ensures fault { IfErr result (IsFaultWithin at (length text.now)) }
 {
@@ -244,6 +253,7 @@ fn members_at(
         → drop at text.now ≡ members ++ (codes ")" ++ rest) → IsTextOfMembers fs members
         → deepest fs ≤ left
         → IsReadTo (λ x. forms x.items) fs (at + (length members + 1)) result }
+    ensures within { IfOk result (λ x. deepest (forms x.0.items) ≤ left) }
     ensures end { IfOk result (λ x. (at ≤ x.1) × (x.1 ≤ length text.now)) }
     ensures fault { IfErr result (IsFaultWithin at (length text.now)) }
 {
@@ -274,6 +284,7 @@ fn union_at(
     ensures only { (f : Form) (back rest : List ℕ) → drop at text.now ≡ back ++ rest
         → Behind Word.Union f back → depth f ≤ left + 1
         → IsReadTo form f (at + length back) result }
+    ensures within { IfOk result (λ x. depth (form x.0) ≤ left + 1) }
     ensures end { IfOk result (λ x. (at ≤ x.1) × (x.1 ≤ length text.now)) }
     ensures fault { IfErr result (IsFaultWithin at (length text.now)) }
 {
@@ -297,6 +308,7 @@ fn variants_at(
         → drop at text.now ≡ variants ++ (codes ")" ++ rest) → IsTextOfVariants vs variants
         → deepest_variant vs ≤ left
         → IsReadTo (λ x. all_variants x.items) vs (at + (length variants + 1)) result }
+    ensures within { IfOk result (λ x. deepest_variant (all_variants x.0.items) ≤ left) }
     ensures end { IfOk result (λ x. (at ≤ x.1) × (x.1 ≤ length text.now)) }
     ensures fault { IfErr result (IsFaultWithin at (length text.now)) }
 {

@@ -7,7 +7,7 @@ use std::alloc::{AllocError, AllocFailed};
 use thiserror::Error;
 
 /// Why a shape could not be read from its text.
-#[derive(Debug, Drop, Error, PartialEq, Eq)]
+#[derive(Clone, Copy, Debug, Error, PartialEq, Eq)]
 pub enum ShapeTextError {
     /// No text of a shape goes on with the byte at this place, or the text ends here too early.
     #[error("bad shape at {0}")]

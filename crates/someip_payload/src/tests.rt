@@ -582,8 +582,8 @@ fn printed_errors(rt: HostRuntime) -> Result<(), Fail> {
         (PayloadError::BadShape(0), "BadShape", "BadShape at 0"),
         (PayloadError::OutOfMemory, "OutOfMemory", "out of memory"),
     ] {
-        assert!(rt; error.to_string(rt.alloc())?.as_str() == text, "{text}");
-        assert!(rt; error.name() == name, "{text}");
+        assert!(rt; error.to_string(rt.alloc())?.as_str() == text);
+        assert!(rt; error.name() == name);
     }
     assert!(rt; PayloadError::TooMany(8).place() == 8);
     Ok(())

@@ -10,10 +10,10 @@ use Rattle.someip_payload.specs.Check.{depth, deepest, deepest_variant}
 use Rattle.someip_payload.specs.ShapeText.{repeated_text, width_text}
 use Rattle.someip_payload.specs.View.{form}
 use Rattle.someip_payload.proofs.Converse.{by_word, plain, word_there, behind_piece, same_first, same_second, not_read}
-use Rattle.someip_payload.proofs.ConverseParts.{split_front, some_depth, array_is, struct_is, union_is, stops_repeated, stops_bracket, stops_end, no_digit_comma, no_digit_colon, after_open, after_comma, length-repeated, after_bracket, members_none, next_member_of, member_more, member_last, variants_none, next_variant_of, variant_more, variant_last}
+use Rattle.someip_payload.proofs.ConverseParts.{split_front, some_depth, array_is, struct_is, union_is, stops_repeated, stops_bracket, stops_end, no_digit_comma, no_digit_colon, after_open, after_comma, length-repeated, after_bracket, members_none, next_member_of, member_more, member_last, within_more, deepest-push, deepest_variant-push, variants_none, next_variant_of, variant_more, variant_last}
 use Rattle.someip_payload.specs.Words.{word_text}
 use Rattle.someip_payload.proofs.Pieces.{slice_range-append, slice_range-empty}
-use Rattle.someip_payload.proofs.ShapePieces.{bool_shape, u8_shape, u16_shape, u32_shape, u64_shape, i8_shape, i16_shape, i32_shape, i64_shape, form-U8, form-U16, form-U32, form-U64, form-I8, form-I16, form-I32, form-I64, behind_word, array_shape, fixed_shape, struct_shape, union_shape, repeated_piece}
+use Rattle.someip_payload.proofs.ShapePieces.{bool_shape, u8_shape, u16_shape, u32_shape, u64_shape, i8_shape, i16_shape, i32_shape, i64_shape, form-Array, form-Fixed, form-Struct, form-Union, form-U8, form-U16, form-U32, form-U64, form-I8, form-I16, form-I32, form-I64, behind_word, array_shape, fixed_shape, struct_shape, union_shape, repeated_piece}
 use Rattle.someip_payload.proofs.Members.{next_member_at, last_member_at, next_variant_at, last_variant_at, variant_piece}
 use Rattle.someip_payload.proofs.shape_text.+shape.Goals as goal
 
@@ -116,6 +116,7 @@ members_at-loop-members-preserved t c =
           let n = next_member_of c.args.text.now c.args.at c.args.left fs all rest c.loop-members.members.items c.loop-members.next (c.loop-members.invariant.3 fs all rest is are deep) in
           let read = c.in_ok-member.ensures.only n.f n.front n.tail n.there n.is_text n.deep n.stops in
           rw pushed (member_more c.args.text.now c.args.at c.args.left fs all rest c.loop-members.members.items c.loop-members.next c.in_ok-member.member c.in_ok-member.end n read (c.if-has_comma.ensures.comma refl).1),
+      rw pushed (deepest-push c.loop-members.members.items c.in_ok-member.member c.args.left c.loop-members.invariant.4 c.in_ok-member.ensures.within),
     )
 
 pub members_at-returns-else-has_comma-clause-found : goal.members_at-returns-else-has_comma-clause-found
@@ -151,6 +152,7 @@ variants_at-loop-variants-preserved t c =
           let read = c.in_ok-shape.ensures.only n.f n.front n.tail inside_it n.is_text n.deep n.stops in
           let begins : c.in_ok-first.first ≡ c.loop-variants.next + length (decimal n.number) + 1 = omega (arith, point, first) in
           rw pushed (variant_more c.args.text.now c.args.at c.args.left vs all rest c.loop-variants.variants.items c.loop-variants.next c.in_ok-number.number c.in_ok-shape.shape c.in_ok-first.first c.in_ok-shape.end n number begins inside_it read (c.if-has_comma.ensures.comma refl).1),
+      rw pushed (deepest_variant-push c.loop-variants.variants.items (c.in_ok-number.number, c.in_ok-shape.shape) c.args.left c.loop-variants.invariant.4 c.in_ok-shape.ensures.within),
     )
 
 pub variants_at-returns-else-has_comma-clause-found : goal.variants_at-returns-else-has_comma-clause-found
@@ -374,6 +376,7 @@ members_at-loop-members-init t c = (
   omega (arith, c.requires),
   λ fs others are. rw (slice_range-empty c.args.text.now c.args.at, c.new-members.ensures.items) are,
   members_none c.args.text.now c.args.at c.args.left c.new-members.result.items c.new-members.ensures.items,
+  rw c.new-members.ensures.items (omega arith),
 )
 
 pub members_at-returns-in_err-member-clause-only : goal.members_at-returns-in_err-member-clause-only
@@ -404,6 +407,7 @@ variants_at-loop-variants-init t c = (
   omega (arith, c.requires),
   λ vs others are. rw (slice_range-empty c.args.text.now c.args.at, c.new-variants.ensures.items) are,
   variants_none c.args.text.now c.args.at c.args.left c.new-variants.result.items c.new-variants.ensures.items,
+  rw c.new-variants.ensures.items (omega arith),
 )
 
 pub variants_at-returns-in_err-number-clause-only : goal.variants_at-returns-in_err-number-clause-only
@@ -459,3 +463,72 @@ variants_at-returns-else-has_comma-clause-only t c = λ vs all rest is are deep.
     (λ others here. false≢true (c.if-has_comma.ensures.only others here)) in
     let pushed : c.push.new.self.items ≡ c.loop-variants.variants.items ++ (c.in_ok-number.number, c.in_ok-shape.shape) ∷ [] = search rules in
     (rw pushed last.is, omega (arith, last.place, c.in_ok-end.ensures.end.0))
+
+-- ---- how deep they lie
+
+pub shape_at-returns-in-U8-clause-within : goal.shape_at-returns-in-U8-clause-within
+shape_at-returns-in-U8-clause-within t c = rw form-U8 (omega (arith, c.if-left-eq0.false))
+
+pub shape_at-returns-in-U16-clause-within : goal.shape_at-returns-in-U16-clause-within
+shape_at-returns-in-U16-clause-within t c = rw form-U16 (omega (arith, c.if-left-eq0.false))
+
+pub shape_at-returns-in-U32-clause-within : goal.shape_at-returns-in-U32-clause-within
+shape_at-returns-in-U32-clause-within t c = rw form-U32 (omega (arith, c.if-left-eq0.false))
+
+pub shape_at-returns-in-U64-clause-within : goal.shape_at-returns-in-U64-clause-within
+shape_at-returns-in-U64-clause-within t c = rw form-U64 (omega (arith, c.if-left-eq0.false))
+
+pub shape_at-returns-in-I8-clause-within : goal.shape_at-returns-in-I8-clause-within
+shape_at-returns-in-I8-clause-within t c = rw form-I8 (omega (arith, c.if-left-eq0.false))
+
+pub shape_at-returns-in-I16-clause-within : goal.shape_at-returns-in-I16-clause-within
+shape_at-returns-in-I16-clause-within t c = rw form-I16 (omega (arith, c.if-left-eq0.false))
+
+pub shape_at-returns-in-I32-clause-within : goal.shape_at-returns-in-I32-clause-within
+shape_at-returns-in-I32-clause-within t c = rw form-I32 (omega (arith, c.if-left-eq0.false))
+
+pub shape_at-returns-in-I64-clause-within : goal.shape_at-returns-in-I64-clause-within
+shape_at-returns-in-I64-clause-within t c = rw form-I64 (omega (arith, c.if-left-eq0.false))
+
+pub shape_at-returns-in-Utf8-clause-within : goal.shape_at-returns-in-Utf8-clause-within
+shape_at-returns-in-Utf8-clause-within t c = within_more c.utf8_at.result 1 c.args.left (omega (arith, c.if-left-eq0.false)) c.utf8_at.ensures.within
+
+pub shape_at-returns-in-Utf16-clause-within : goal.shape_at-returns-in-Utf16-clause-within
+shape_at-returns-in-Utf16-clause-within t c = within_more c.utf16_at.result 1 c.args.left (omega (arith, c.if-left-eq0.false)) c.utf16_at.ensures.within
+
+pub shape_at-returns-in-Array-clause-within : goal.shape_at-returns-in-Array-clause-within
+shape_at-returns-in-Array-clause-within t c = within_more c.array_at.result (c.args.left - 1 + 1) c.args.left (omega (arith, c.if-left-eq0.false)) c.array_at.ensures.within
+
+pub shape_at-returns-in-Fixed-clause-within : goal.shape_at-returns-in-Fixed-clause-within
+shape_at-returns-in-Fixed-clause-within t c = within_more c.fixed_at.result (c.args.left - 1 + 1) c.args.left (omega (arith, c.if-left-eq0.false)) c.fixed_at.ensures.within
+
+pub shape_at-returns-in-Struct-clause-within : goal.shape_at-returns-in-Struct-clause-within
+shape_at-returns-in-Struct-clause-within t c = within_more c.struct_at.result (c.args.left - 1 + 1) c.args.left (omega (arith, c.if-left-eq0.false)) c.struct_at.ensures.within
+
+pub shape_at-returns-in-Union-clause-within : goal.shape_at-returns-in-Union-clause-within
+shape_at-returns-in-Union-clause-within t c = within_more c.union_at.result (c.args.left - 1 + 1) c.args.left (omega (arith, c.if-left-eq0.false)) c.union_at.ensures.within
+
+pub array_at-returns-clause-within : goal.array_at-returns-clause-within
+array_at-returns-clause-within t c = rw (form-Array c.or_32.result c.in_ok-max.max c.in_ok-max.element) (omega (arith, c.in_ok-max.ensures.within))
+
+pub fixed_at-returns-clause-within : goal.fixed_at-returns-clause-within
+fixed_at-returns-clause-within t c = rw (form-Fixed c.in_ok-count.count c.in_ok-count.element) (omega (arith, c.in_ok-count.ensures.within))
+
+pub struct_at-returns-clause-within : goal.struct_at-returns-clause-within
+struct_at-returns-clause-within t c = rw (form-Struct c.in_ok-width.width c.in_ok-members.members) (omega (arith, c.in_ok-members.ensures.within))
+
+pub union_at-returns-clause-within : goal.union_at-returns-clause-within
+union_at-returns-clause-within t c = rw (form-Union c.in_ok-variants.variants) (omega (arith, c.in_ok-variants.ensures.within))
+
+pub repeated_at-returns-clause-within : goal.repeated_at-returns-clause-within
+repeated_at-returns-clause-within t c = rw c.in_ok-new.ensures.ok c.in_ok-element.ensures.within
+
+pub members_at-returns-else-has_comma-clause-within : goal.members_at-returns-else-has_comma-clause-within
+members_at-returns-else-has_comma-clause-within t c =
+    let pushed : c.push.new.self.items ≡ c.loop-members.members.items ++ c.in_ok-member.member ∷ [] = search rules in
+    rw pushed (deepest-push c.loop-members.members.items c.in_ok-member.member c.args.left c.loop-members.invariant.4 c.in_ok-member.ensures.within)
+
+pub variants_at-returns-else-has_comma-clause-within : goal.variants_at-returns-else-has_comma-clause-within
+variants_at-returns-else-has_comma-clause-within t c =
+    let pushed : c.push.new.self.items ≡ c.loop-variants.variants.items ++ (c.in_ok-number.number, c.in_ok-shape.shape) ∷ [] = search rules in
+    rw pushed (deepest_variant-push c.loop-variants.variants.items (c.in_ok-number.number, c.in_ok-shape.shape) c.args.left c.loop-variants.invariant.4 c.in_ok-shape.ensures.within)

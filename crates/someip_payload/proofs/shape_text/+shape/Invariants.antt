@@ -1,6 +1,7 @@
 use Rattle.std.proofs.Common.{◌≡◌, ◌≤◌, ◌+◌, ◌-◌, ◌*◌, ◌++◌, ℕ, List, codes, drop, length, slice_range}
 use Rattle.someip_payload.specs.Data.{Forms, Variants}
 use Rattle.someip_payload.specs.Check.{deepest, deepest_variant}
+use Rattle.someip_payload.specs.View.{forms, all_variants}
 use Rattle.someip_payload.specs.ShapeText.{IsTextOfMembers, IsTextOfVariants}
 use Rattle.someip_payload.proofs.ConverseParts.{MembersLeft, VariantsLeft}
 use Rattle.someip_payload.proofs.Members.{MembersSoFar, VariantsSoFar}
@@ -33,6 +34,7 @@ decreases-union_at l = 3 * l.left + 2
 abbrev pub invariant-members_at-loop-members : goal.invariant-members_at-loop-members
 invariant-members_at-loop-members l = (l.at ≤ l.next) × (l.next ≤ length l.text) × MembersSoFar l.members.items (slice_range l.text l.at l.next)
     × ((fs : Forms) (all rest : List ℕ) → drop l.at l.text ≡ all ++ (codes ")" ++ rest) → IsTextOfMembers fs all → deepest fs ≤ l.left → MembersLeft l.text l.at l.left fs all rest l.members.items l.next)
+    × (deepest (forms l.members.items) ≤ l.left)
 
 abbrev pub decreases-members_at-loop-members : goal.decreases-members_at-loop-members
 decreases-members_at-loop-members l = length l.text - l.next
@@ -40,6 +42,7 @@ decreases-members_at-loop-members l = length l.text - l.next
 abbrev pub invariant-variants_at-loop-variants : goal.invariant-variants_at-loop-variants
 invariant-variants_at-loop-variants l = (l.at ≤ l.next) × (l.next ≤ length l.text) × VariantsSoFar l.variants.items (slice_range l.text l.at l.next)
     × ((vs : Variants) (all rest : List ℕ) → drop l.at l.text ≡ all ++ (codes ")" ++ rest) → IsTextOfVariants vs all → deepest_variant vs ≤ l.left → VariantsLeft l.text l.at l.left vs all rest l.variants.items l.next)
+    × (deepest_variant (all_variants l.variants.items) ≤ l.left)
 
 abbrev pub decreases-variants_at-loop-variants : goal.decreases-variants_at-loop-variants
 decreases-variants_at-loop-variants l = length l.text - l.next
