@@ -19,10 +19,10 @@ mod laws;
 use command::{Command, command_of};
 use failure::Failure;
 use help::answer_error;
+use someipctl_commands::Outcome;
 use someipctl_commands::payload::payload;
 use someipctl_commands::show::show;
 use someipctl_commands::vectors::vectors;
-use someipctl_commands::Outcome;
 use std::io::ErrorKind;
 use std::process::ExitCode;
 use std::rt::{Env, Files};
@@ -82,9 +82,7 @@ fn run_command<'w, R: Files + Print + AllocGlobal>(
     match command {
         Command::Show { capture } => show_file(rt, capture),
         Command::Payload { shape, hex } => {
-            payload(rt.alloc(), shape, hex, &mut io::writer(rt)).map_err(
-                Failure::of_payload,
-            )
+            payload(rt.alloc(), shape, hex, &mut io::writer(rt)).map_err(Failure::of_payload)
         }
         Command::Vectors { file } => judge_file(rt, file),
     }
@@ -95,9 +93,7 @@ fn show_file<'p, R: Files + Print + AllocGlobal>(
     path: &'p str,
 ) -> Result<Outcome, Failure<'p>> {
     let mut file = open_file(rt, path)?;
-    show(rt.alloc(), &mut file, &mut io::writer(rt)).map_err(|error| Failure::of_show(
-        error, path,
-    ))
+    show(rt.alloc(), &mut file, &mut io::writer(rt)).map_err(|error| Failure::of_show(error, path))
 }
 
 fn judge_file<'p, R: Files + Print + AllocGlobal>(
@@ -105,9 +101,9 @@ fn judge_file<'p, R: Files + Print + AllocGlobal>(
     path: &'p str,
 ) -> Result<Outcome, Failure<'p>> {
     let mut file = open_file(rt, path)?;
-    vectors(rt.alloc(), &mut file, &mut io::writer(rt)).map_err(
-        |error| Failure::of_vectors(error, path),
-    )
+    vectors(rt.alloc(), &mut file, &mut io::writer(rt)).map_err(|error| Failure::of_vectors(
+        error, path,
+    ))
 }
 
 fn open_file<'p, R: Files>(rt: &R, path: &'p str) -> Result<R::File, Failure<'p>> {

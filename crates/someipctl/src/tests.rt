@@ -2,8 +2,7 @@
 use crate::command::{Command, LineError, command_of};
 use crate::failure::Failure;
 use crate::help::answer_error;
-use crate::laws;
-use crate::run;
+use crate::{laws, run};
 use rows::rows;
 use someipctl_commands::payload::PayloadRefusal;
 use someipctl_commands::show::ShowError;
@@ -20,14 +19,42 @@ mod rows;
 fn failures_have_texts_and_statuses(rt: HostRuntime) -> Result<(), Fail> {
     let path = "a/b.txt";
     let rows = [
-        (Failure::of_show(ShowError::BadHex(2), path), "line 2: bad hex", 1),
-        (Failure::of_show(ShowError::OutOfMemory, path), "out of memory", 3),
-        (Failure::of_show(ShowError::CannotRead, path), "cannot read a/b.txt", 4),
-        (Failure::of_show(ShowError::CannotWrite, path), "cannot write", 4),
-        (Failure::of_vectors(VectorsError::BadVector(3), path), "line 3: bad vector", 1),
-        (Failure::of_payload(PayloadRefusal::BadShape(7)), "bad shape at 7", 1),
+        (
+            Failure::of_show(ShowError::BadHex(2), path),
+            "line 2: bad hex",
+            1,
+        ),
+        (
+            Failure::of_show(ShowError::OutOfMemory, path),
+            "out of memory",
+            3,
+        ),
+        (
+            Failure::of_show(ShowError::CannotRead, path),
+            "cannot read a/b.txt",
+            4,
+        ),
+        (
+            Failure::of_show(ShowError::CannotWrite, path),
+            "cannot write",
+            4,
+        ),
+        (
+            Failure::of_vectors(VectorsError::BadVector(3), path),
+            "line 3: bad vector",
+            1,
+        ),
+        (
+            Failure::of_payload(PayloadRefusal::BadShape(7)),
+            "bad shape at 7",
+            1,
+        ),
         (Failure::of_payload(PayloadRefusal::BadHex), "bad hex", 1),
-        (Failure::NotText, "error: a word is no UTF-8\n\nUsage: someipctl <COMMAND>", 2),
+        (
+            Failure::NotText,
+            "error: a word is no UTF-8\n\nUsage: someipctl <COMMAND>",
+            2,
+        ),
     ];
     for (failure, text, status) in rows {
         assert!(rt; failure.status() == status, "{text}");
@@ -93,7 +120,10 @@ fn status_of_run(rt: &HostRuntime, words: &[&str]) -> Result<u8, AllocError> {
 #[test]
 fn runs_end_with_a_status(rt: HostRuntime) -> Result<(), Fail> {
     let rows: [(&[&str], u8); 8] = [
-        (&["someipctl", "payload", "array<2,u16>", "0000000400010002"], 0),
+        (
+            &["someipctl", "payload", "array<2,u16>", "0000000400010002"],
+            0,
+        ),
         (&["someipctl", "payload", "u32", "000000"], 1),
         (&["someipctl", "payload", "u9", "00"], 1),
         (&["someipctl", "help"], 0),

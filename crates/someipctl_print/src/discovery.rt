@@ -13,7 +13,8 @@ use crate::options::put_runs;
 use crate::output::{Buffer, CannotWrite};
 use crate::parts::{Part, put_parts};
 use sd_wire::{
-    EntryHead, EventgroupEntry, EventgroupKind, ReadEntry, SdError, SdRead, ServiceEntry, ServiceKind,
+    EntryHead, EventgroupEntry, EventgroupKind, ReadEntry, SdError, SdRead, ServiceEntry,
+    ServiceKind,
 };
 use std::io::Write;
 
