@@ -39,7 +39,8 @@ all_started first old new is =
     ap (λ x. offers_of (map_of instance_cmp x)) is
     ∙ (λ i. record {
       versions = shown-mapped_same instances_total exact_instances (λ _ p. record { version = p.version; sending = Some first }) (λ (p : Place). Some p.version) old (λ q p. refl) i;
-      up = shown-mapped instances_total exact_instances (λ _ p. record { version = p.version; sending = Some first }) (λ (p : Place). p.sending) (λ (_ : Version). Some first) (λ (p : Place). Some p.version) old (λ q p. refl) i })
+      up = shown-mapped instances_total exact_instances (λ _ p. record { version = p.version; sending = Some first }) (λ (p : Place). p.sending) (λ (_ : Version). Some first) (λ (p : Place). Some p.version) old (λ q p. refl) i;
+    })
 
 mapped : (f : Sending → Sending) (v : Option Sending) → option_map f v ≡ option_and_then (λ s. Some (f s)) v
 mapped f None = refl
@@ -54,19 +55,22 @@ all_advanced phases now old new is =
     ∙ (λ i. record {
       versions = shown-mapped_same instances_total exact_instances (λ _ p. record { version = p.version; sending = option_map (sent_if_due phases now) p.sending }) (λ (p : Place). Some p.version) old (λ q p. refl) i;
       up = shown-mapped instances_total exact_instances (λ _ p. record { version = p.version; sending = option_map (sent_if_due phases now) p.sending }) (λ (p : Place). p.sending)
-          (λ s. Some (sent_if_due phases now s)) (λ (p : Place). p.sending) old (λ q p. mapped (sent_if_due phases now) p.sending) i })
+          (λ s. Some (sent_if_due phases now s)) (λ (p : Place). p.sending) old (λ q p. mapped (sent_if_due phases now) p.sending) i;
+    })
 
 -- a place is put in that is down
 pub put_down : (old new : Places) (k : InstanceId) (version : Version)
     → ((q : InstanceId) → lookup (is_at (instance_cmp q)) new ≡ cond (is_at (instance_cmp k) q) (Some (record { version = version; sending = None })) (lookup (is_at (instance_cmp q)) old))
     → offers_of (map_of instance_cmp new) ≡ record {
       versions = finite.insert (offers_of (map_of instance_cmp old)).versions k version;
-      up = finite.remove (offers_of (map_of instance_cmp old)).up k }
+      up = finite.remove (offers_of (map_of instance_cmp old)).up k;
+    }
 put_down old new k version is =
     ap offers_of (map_of-insert instances_total exact_instances old new k (record { version = version; sending = None }) is)
     ∙ (λ i. record {
       versions = shown-insert instances_total exact_instances (λ (p : Place). Some p.version) (map_of instance_cmp old) k (record { version = version; sending = None }) version refl i;
-      up = shown-insert_none instances_total exact_instances (λ (p : Place). p.sending) (map_of instance_cmp old) k (record { version = version; sending = None }) refl i })
+      up = shown-insert_none instances_total exact_instances (λ (p : Place). p.sending) (map_of instance_cmp old) k (record { version = version; sending = None }) refl i;
+    })
 
 -- the version and the next Offer of an instance
 pub version_is : (held : BTreeMap InstanceId Place) (q : InstanceId) (v : Option Place) → v ≡ tree.get instance_cmp held q
@@ -100,7 +104,8 @@ pub absent_without : (held : BTreeMap InstanceId Place) (k : InstanceId) → tre
     → offers_of (map_of instance_cmp held.entries) ≡ without k (offers_of (map_of instance_cmp held.entries))
 absent_without held k none = λ i. record {
   versions = each (λ p. p.version) (map_of instance_cmp held.entries);
-  up = remove_absent (shown (λ p. p.sending) (map_of instance_cmp held.entries)) k (sending_is held k None (sym none)) i }
+  up = remove_absent (shown (λ p. p.sending) (map_of instance_cmp held.entries)) k (sending_is held k None (sym none)) i;
+}
 
 pub taken_down : (old new : BTreeMap InstanceId Place) (k : InstanceId) (place : Place) → Some place ≡ tree.get instance_cmp old k
     → ((q : InstanceId) → tree.get instance_cmp new q ≡ cond (is_at (instance_cmp k) q) (Some (record { version = place.version; sending = None })) (tree.get instance_cmp old q))
@@ -109,7 +114,8 @@ taken_down old new k place found is =
     put_down old.entries new.entries k place.version is
     ∙ (λ i. record {
       versions = insert_same (each (λ p. p.version) (map_of instance_cmp old.entries)) k place.version (version_is old k (Some place) found) i;
-      up = finite.remove (offers_of (map_of instance_cmp old.entries)).up k })
+      up = finite.remove (offers_of (map_of instance_cmp old.entries)).up k;
+    })
 
 -- the instances that are due
 abbrev pub place_is_due : ℕ → InstanceId → Place → Bool

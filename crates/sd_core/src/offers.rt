@@ -61,8 +61,9 @@ impl Offers {
     /// the instances as they were, and memory is wanted only for a new one.
     pub fn add(&mut self, instance: InstanceId, version: Version) -> Result<(), AllocError>
         ensures ok { OnOk result (self.new ≡ record {
-            versions = finite.insert self.old.versions instance version;
-            up = finite.remove self.old.up instance }) }
+          versions = finite.insert self.old.versions instance version;
+          up = finite.remove self.old.up instance;
+        }) }
         ensures err { OnErr result (self.new ≡ self.old) }
         ensures grows { OnErr result (finite.get self.old.versions instance ≡ None) }
     {
