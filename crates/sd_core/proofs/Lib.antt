@@ -1,0 +1,4 @@
+pub mod Memory
+pub mod SortedEntries
+pub mod ShownLemmas
+pub mod OfferLemmas

@@ -1,0 +1,5 @@
+pub mod Keys
+pub mod KeyOrder
+pub mod Shown
+pub mod Sendings
+pub mod OfferTables

@@ -1,0 +1,24 @@
+//! What a node keeps for Service Discovery (SOME/IP Service Discovery Protocol, "Startup behavior",
+//! "Publish/Subscribe"): the offers that it makes, the services that it seeks, and subscriptions at
+//! both ends. Each type is a table that contracts see as a map.
+//!
+//! - [`InstanceId`]: what tells instances apart; [`Version`]: what they are versions of;
+//! - [`Phases`]: the delays between the Offers, or Finds, of an instance;
+//! - [`Offers`]: the instances that a node offers, and when each sends its next Offer; [`Sought`] is
+//!   what a Find asks for.
+#![tactic(auto)]
+
+mod chosen;
+mod keys;
+mod offers;
+mod phases;
+mod sending;
+mod version;
+
+pub use keys::InstanceId;
+pub use offers::Offers;
+pub use phases::Phases;
+pub use version::{Sought, Version};
+
+#[cfg(test)]
+mod tests;

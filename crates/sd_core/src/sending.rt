@@ -1,0 +1,52 @@
+//! When an Offer or a Find goes out next.
+use crate::phases::Phases;
+use someip_tables::Moment;
+
+/// When an Offer or a Find of an instance goes out next, and how many went out.
+#[derive(Clone, Copy, Debug, PartialEq, Eq)]
+pub(crate) struct Sending {
+    /// The moment at which the next goes out, in milliseconds since the node's start.
+    pub(crate) due: u64,
+    /// How many went out. It is counted up to one more than the repetition phase has delays.
+    pub(crate) sent: u8,
+}
+
+impl Sending {
+    ghost use Rattle.std.specs.Prelude.{◌≡◌};
+    ghost use Rattle.sd_core.specs.Sendings.{first_at, is_due, after_sending};
+
+    /// Nothing went out, and the first does after a delay from the start, in milliseconds.
+    pub(crate) fn first_at(delay: u32) -> Sending
+        ensures { result ≡ first_at delay }
+    {
+        Sending {
+            due: u64::from(delay),
+            sent: 0,
+        }
+    }
+
+    /// Whether one goes out now.
+    pub(crate) fn is_due(&self, now: Moment) -> bool
+        ensures { result ≡ is_due now self.now }
+    {
+        self.due <= now.as_millis()
+    }
+
+    /// The next, once one went out now.
+    pub(crate) fn after_sending(self, phases: Phases, now: Moment) -> Sending
+        ensures { result ≡ after_sending phases now self }
+    {
+        let due = now.as_millis() + phases.wait(self.sent);
+        if self.sent <= phases.repetitions {
+            Sending {
+                due,
+                sent: self.sent + 1,
+            }
+        } else {
+            Sending {
+                due,
+                sent: self.sent,
+            }
+        }
+    }
+}
