@@ -95,7 +95,14 @@ impl ClientCore {
         ensures unchanged { OnErr result (self.new ≡ self.old) }
     {
         let peer = admit(&self.pending, rules, call.kind, payload.len(), offer, now)?;
-        let session = begin(&mut self.pending, &mut self.sessions, rules, call, peer, now)?;
+        let session = begin(
+            &mut self.pending,
+            &mut self.sessions,
+            rules,
+            call,
+            peer,
+            now,
+        )?;
         let header = call_header(rules.client, call, session);
         Ok(Outgoing {
             from: rules.endpoint,
@@ -122,7 +129,8 @@ impl ClientCore {
             (unexpired now self.old.pending) ≡ None) }
         ensures call { IfOk result (λ call. call ≡ answered_call header.now) }
         ensures ended { OnOk result (self.new ≡ record self.old {
-            pending = finite.remove self.old.pending (answered_call header.now) }) }
+          pending = finite.remove self.old.pending (answered_call header.now);
+        }) }
         ensures dropped { IfErr result (λ cause. answer_drop rules.now.client from header.now
             (unexpired now self.old.pending) ≡ Some cause) }
         ensures unchanged { OnErr result (self.new ≡ self.old) }
@@ -201,13 +209,15 @@ fn begin(
     ensures few { finite.len (map_of call_cmp pending.new) ≤ 1024 }
     ensures session { IfOk result (λ session.
         IsFirstFree (unexpired now (map_of call_cmp pending.old)) call.message
-            (next_of (map_of message_cmp sessions.old.entries) call.message) session) }
+        (next_of (map_of message_cmp sessions.old.entries) call.message) session) }
     ensures called { IfOk result (λ session. called rules.now call peer session now (record {
-            pending = map_of call_cmp pending.old;
-            sessions = map_of message_cmp sessions.old.entries })
+      pending = map_of call_cmp pending.old;
+      sessions = map_of message_cmp sessions.old.entries;
+    })
         ≡ record {
-            pending = map_of call_cmp pending.new;
-            sessions = map_of message_cmp sessions.new.entries }) }
+          pending = map_of call_cmp pending.new;
+          sessions = map_of message_cmp sessions.new.entries;
+        }) }
     ensures err { IfErr result (λ error. error ≡ RpcError.OutOfMemory) }
     ensures pending_kept { OnErr result (pending.new ≡ pending.old) }
     ensures sessions_kept { OnErr result (map_of message_cmp sessions.new.entries
