@@ -71,7 +71,7 @@ none_of {K} {V} {R} m some tells is = cases (len m) refl
     cases : (n : ℕ) → len m ≡ n → m ≡ empty
     cases zero none = empty_of_len m none
     cases (suc n) more =
-      absurd (let there : IsTrue some = tells.1 (λ e. let zeros : len m ≡ 0 = ap len e ∙ len-empty R V in omega arith) in cc)
+        absurd (let there : IsTrue some = tells.1 (λ e. let zeros : len m ≡ 0 = ap len e ∙ len-empty R V in omega arith) in cc)
 
 -- a table that is not at its greatest size is not full
 pub not_full : (n live : ℕ) → live ≤ n → n < 1024 → nat_le 1024 n ≡ nat_le 1024 live
@@ -82,24 +82,23 @@ fewer_live now m = len-retain-≤ calls_total exact_calls m (λ _ lasting. not (
 
 -- as many sessions in a row do not wait as a table may have entries
 module _ (live : Pending) (message : MessageId) (first passed session : ℕ) (high : first ≤ 65535) (few : len live ≤ 1024)
-  (is : session ≡ session_after passed first) (before : (k : ℕ) → k < passed → is_pending live message (session_after k first) ≡ true) (here : is_pending live message session ≡ true) where
-
+    (is : session ≡ session_after passed first) (before : (k : ℕ) → k < passed → is_pending live message (session_after k first) ≡ true) (here : is_pending live message session ≡ true) where
   waiting : (k : ℕ) (b : Bool) → nat_lt k passed ≡ b → k ≤ passed → is_pending live message (session_after k first) ≡ true
   waiting k true lt le = before k (ltb-true k passed lt)
   waiting k false lt le =
-    let past : passed ≤ k = ltb-false k passed lt in
-    let last : k ≡ passed = omega arith in
-    ap (λ n. is_pending live message (session_after n first)) last ∙ ap (is_pending live message) (sym is) ∙ here
+      let past : passed ≤ k = ltb-false k passed lt in
+      let last : k ≡ passed = omega arith in
+      ap (λ n. is_pending live message (session_after n first)) last ∙ ap (is_pending live message) (sym is) ∙ here
 
   below : (b : Bool) → nat_lt passed 1024 ≡ b → passed < 1024
   below true lt = ltb-true passed 1024 lt
   below false lt =
-    let past : 1024 ≤ passed = ltb-false passed 1024 lt in
-    let many : 1025 ≤ len live =
-        at_least calls_total exact_calls 1025 live (λ k. record { message = message; session = session_after k first })
-        (λ i j x y same. differ first i j high (omega (arith, x)) (omega (arith, y)) (ap (λ (key : CallKey). key.session) same))
-        (λ i x. waiting i (nat_lt i passed) refl (omega (arith, x))) in
-    absurd (omega arith)
+      let past : 1024 ≤ passed = ltb-false passed 1024 lt in
+      let many : 1025 ≤ len live =
+      at_least calls_total exact_calls 1025 live (λ k. record { message = message; session = session_after k first })
+      (λ i j x y same. differ first i j high (omega (arith, x)) (omega (arith, y)) (ap (λ (key : CallKey). key.session) same))
+      (λ i x. waiting i (nat_lt i passed) refl (omega (arith, x))) in
+      absurd (omega arith)
 
   pub passed_few : passed < 1024
   passed_few = below (nat_lt passed 1024) refl

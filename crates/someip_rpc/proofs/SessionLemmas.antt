@@ -55,8 +55,8 @@ module _ {K X : Type 0} {R : K → K → Ordering} (o : IsTotalOrder R) (exact :
       let here = value_of (get m (key n)) (there n (omega arith)) in
       let more : len m ≡ len (remove m (key n)) + 1 = len-taken m (key n) here.0 here.1 in
       let rest : n ≤ len (remove m (key n)) =
-          at_least n (remove m (key n)) key (λ i j x y. differ i j (omega (arith, x)) (omega (arith, y)))
-          (λ i x.
-          rw (get-remove o m (key n) (key i))
-          (others_stay n i m key (eq_by_cmp R (key i) (key n)) refl (differ i n (omega (arith, x)) (omega arith)) x (there i (omega (arith, x))))) in
+      at_least n (remove m (key n)) key (λ i j x y. differ i j (omega (arith, x)) (omega (arith, y)))
+      (λ i x.
+      rw (get-remove o m (key n) (key i))
+      (others_stay n i m key (eq_by_cmp R (key i) (key n)) refl (differ i n (omega (arith, x)) (omega arith)) x (there i (omega (arith, x))))) in
       omega arith

@@ -91,8 +91,8 @@ pending_after RequestNoReturn key awaited until now pending = pending
 abbrev pub called : ClientRules → Call → SocketAddrV4 → ℕ → ℕ → Client → Client
 called rules call peer session now old = record {
   pending =
-    pending_after call.kind (record { message = call.message; session = session }) (record { peer = peer; interface = call.interface })
-    (now + rules.call_timeout_ms) now old.pending;
+      pending_after call.kind (record { message = call.message; session = session }) (record { peer = peer; interface = call.interface })
+      (now + rules.call_timeout_ms) now old.pending;
   sessions = finite.insert old.sessions call.message session;
 }
 
