@@ -1,0 +1,2 @@
+pub mod SessionLemmas
+pub mod PendingLemmas

@@ -1,0 +1,5 @@
+pub mod Ids
+pub mod IdOrder
+pub mod Sessions
+pub mod Calls
+pub mod Answers

@@ -1,0 +1,28 @@
+-- The sessions of the messages that have one Message ID (SOME/IP Protocol, "Session ID").
+use Rattle.std.specs.Prelude.{ℕ, zero, suc, ◌+◌, ◌==◌, if◌then◌else◌, Option, None, Some}
+use Rattle.std.specs.FinMap as finite
+use Rattle.std.specs.FinMap.{FinMap}
+use Rattle.someip_rpc.specs.declared.ids.MessageId.{MessageId}
+use Rattle.someip_rpc.specs.Ids.{message_cmp}
+
+-- the session after a session: FFFF is followed by 1, and 0 is never given
+abbrev pub next_session : ℕ → ℕ
+next_session session = if session == 0xffff then 1 else session + 1
+
+-- the n-th session after one, in cyclic order
+abbrev pub session_after : ℕ → ℕ → ℕ
+session_after zero session = session
+session_after (suc n) session = next_session (session_after n session)
+
+-- the session that each Message ID was given last
+abbrev pub LastSessions : Type 0
+LastSessions = FinMap message_cmp ℕ
+
+-- the session after the last one: the first session is 1
+abbrev pub session_after_last : Option ℕ → ℕ
+session_after_last None = 1
+session_after_last (Some last) = next_session last
+
+-- the next session of a Message ID
+abbrev pub next_of : LastSessions → MessageId → ℕ
+next_of sessions message = session_after_last (finite.get sessions message)
