@@ -17,7 +17,7 @@ use Rattle.sd_core.specs.declared.wish.Beginning.{Beginning}
 use Rattle.sd_core.specs.declared.wish.Stage.{Stage}
 use Rattle.sd_core.specs.declared.wish.Stage.TheVariants.{Unwished, Waiting, Begun}
 use Rattle.sd_core.specs.declared.wish.Wish.{Wish}
-use Rattle.sd_core.specs.declared.wish.Subscribe.{Subscribe}
+use Rattle.sd_core.specs.declared.wish.OutgoingSubscribe.{OutgoingSubscribe}
 use Rattle.sd_core.specs.declared.wish.SubscribeAnswer.{SubscribeAnswer}
 use Rattle.sd_core.specs.declared.wish.Acked.{Acked}
 use Rattle.sd_core.specs.declared.wish.Acked.TheVariants.{Subscribed, Renewed, NotPending}
@@ -125,13 +125,13 @@ abbrev pub offered : ℕ → InstanceId → Ipv4Addr → Wishes → Wishes
 offered now instance peer wishes = changed (offered_wish now instance peer) wishes
 
 -- the Subscribe of an eventgroup
-abbrev pub subscribe_of : ℕ → InstanceId → Ipv4Addr → Eventgroup → Wish → Option Subscribe
+abbrev pub subscribe_of : ℕ → InstanceId → Ipv4Addr → Eventgroup → Wish → Option OutgoingSubscribe
 subscribe_of now instance peer eventgroup wish =
     if is_renewed_by instance eventgroup wish then option_map (λ counter. record { eventgroup = eventgroup; counter = counter }) (counter_in (subscribing now peer wish).stage)
     else None
 
 -- those that go out, by rising eventgroup
-abbrev pub subscribes : ℕ → InstanceId → Ipv4Addr → Wishes → List Subscribe
+abbrev pub subscribes : ℕ → InstanceId → Ipv4Addr → Wishes → List OutgoingSubscribe
 subscribes now instance peer wishes = filter_map (λ e. subscribe_of now instance peer e.0 e.1) (finite.entries wishes)
 
 -- ---- the answer to a Subscribe

@@ -27,7 +27,7 @@ pub use offers::Offers;
 pub use phases::Phases;
 pub use subscriptions::Subscriptions;
 pub use version::{Sought, Version};
-pub use wish::{Acked, Beginning, Stage, Subscribe, SubscribeAnswer, Wish};
+pub use wish::{Acked, Beginning, Stage, OutgoingSubscribe, SubscribeAnswer, Wish};
 
 #[cfg(test)]
 mod tests;

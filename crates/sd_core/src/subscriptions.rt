@@ -15,7 +15,7 @@ ghost use Rattle.sd_core.specs.Wishes.{is_over, is_with};
 use crate::ending::{Ending, end};
 use crate::eventgroup::Eventgroup;
 use crate::keys::InstanceId;
-use crate::wish::{Acked, Beginning, Subscribe, SubscribeAnswer, Wish};
+use crate::wish::{Acked, Beginning, OutgoingSubscribe, SubscribeAnswer, Wish};
 use sd_wire::{SubscriptionCounter, Ttl};
 use someip_tables::Moment;
 use std::alloc::{AllocError, Global};
@@ -116,7 +116,7 @@ impl Subscriptions {
         instance: InstanceId,
         peer: Ipv4Addr,
         now: Moment,
-    ) -> Result<Vec<Subscribe>, AllocError>
+    ) -> Result<Vec<OutgoingSubscribe>, AllocError>
         ensures sent { IfOk result (λ sent. sent.items ≡ subscribes now instance peer self.old) }
         ensures begun { OnOk result (self.new ≡ offered now instance peer self.old) }
         ensures err { OnErr result (self.new ≡ self.old) }
@@ -288,7 +288,7 @@ fn subscribes(
     instance: InstanceId,
     peer: Ipv4Addr,
     now: Moment,
-) -> Result<Vec<Subscribe>, AllocError>
+) -> Result<Vec<OutgoingSubscribe>, AllocError>
     ensures sent { IfOk result (λ sent. sent.items
         ≡ subscribes now instance peer (map_of eventgroup_cmp places.now.entries)) }
     ensures grows { OnErr result

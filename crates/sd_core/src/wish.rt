@@ -40,7 +40,7 @@ pub struct Wish {
 
 /// A Subscribe that is to be sent (SOME/IP Service Discovery Protocol, "Subscribe Eventgroup entry").
 #[derive(Clone, Copy, Debug, PartialEq, Eq)]
-pub struct Subscribe {
+pub struct OutgoingSubscribe {
     /// The eventgroup.
     pub eventgroup: Eventgroup,
     /// The counter.
@@ -281,12 +281,12 @@ impl Wish {
         instance: InstanceId,
         peer: Ipv4Addr,
         eventgroup: &Eventgroup,
-    ) -> Option<Subscribe>
+    ) -> Option<OutgoingSubscribe>
         ensures { result ≡ subscribe_of now instance peer eventgroup.now self.now }
     {
         if self.is_renewed_by(instance, eventgroup) {
             let counter = self.subscribing(now, peer).stage.counter()?;
-            Some(Subscribe {
+            Some(OutgoingSubscribe {
                 eventgroup: *eventgroup,
                 counter,
             })

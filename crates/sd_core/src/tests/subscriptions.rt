@@ -1,5 +1,5 @@
 //! Rows of a client's subscriptions.
-use crate::{Acked, Beginning, Eventgroup, InstanceId, Subscribe, SubscribeAnswer, Subscriptions};
+use crate::{Acked, Beginning, Eventgroup, InstanceId, OutgoingSubscribe, SubscribeAnswer, Subscriptions};
 use sd_wire::{SubscriptionCounter, Ttl};
 use someip_tables::{Deadline, Moment};
 use std::net::Ipv4Addr;
@@ -118,11 +118,11 @@ fn offers_begin_and_renew(rt: HostRuntime) -> Result<(), Fail> {
     subscriptions.want(group(1, 1), None, at(0))?;
     subscriptions.want(group(2, 1), None, at(0))?;
     let both = [
-        Subscribe {
+        OutgoingSubscribe {
             eventgroup: group(1, 1),
             counter: first,
         },
-        Subscribe {
+        OutgoingSubscribe {
             eventgroup: group(1, 2),
             counter: first,
         },
@@ -140,11 +140,11 @@ fn offers_begin_and_renew(rt: HostRuntime) -> Result<(), Fail> {
     assert!(rt; subscriptions.nack(answer, at(1000)));
     assert!(rt; !subscriptions.nack(answer, at(1000)));
     let next = [
-        Subscribe {
+        OutgoingSubscribe {
             eventgroup: group(1, 1),
             counter: second,
         },
-        Subscribe {
+        OutgoingSubscribe {
             eventgroup: group(1, 2),
             counter: first,
         },
