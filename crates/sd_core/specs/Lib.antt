@@ -3,3 +3,8 @@ pub mod KeyOrder
 pub mod Shown
 pub mod Sendings
 pub mod OfferTables
+pub mod Changed
+pub mod Eventgroups
+pub mod EventgroupOrder
+pub mod Wishes
+pub mod Endings

@@ -5,20 +5,29 @@
 //! - [`InstanceId`]: what tells instances apart; [`Version`]: what they are versions of;
 //! - [`Phases`]: the delays between the Offers, or Finds, of an instance;
 //! - [`Offers`]: the instances that a node offers, and when each sends its next Offer; [`Sought`] is
-//!   what a Find asks for.
+//!   what a Find asks for;
+//! - [`Subscriptions`]: the eventgroups that a client wished, and how far each [`Wish`] is; an
+//!   [`Eventgroup`] is one of an instance.
 #![tactic(auto)]
 
 mod chosen;
+mod ending;
+mod eventgroup;
 mod keys;
 mod offers;
 mod phases;
 mod sending;
+mod subscriptions;
 mod version;
+mod wish;
 
+pub use eventgroup::Eventgroup;
 pub use keys::InstanceId;
 pub use offers::Offers;
 pub use phases::Phases;
+pub use subscriptions::Subscriptions;
 pub use version::{Sought, Version};
+pub use wish::{Acked, Beginning, Stage, OutgoingSubscribe, SubscribeAnswer, Wish};
 
 #[cfg(test)]
 mod tests;

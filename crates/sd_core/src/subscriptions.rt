@@ -1,0 +1,318 @@
+//! A client's half of subscriptions.
+ghost use Rattle.std.specs.Prelude.{◌≡◌, ◌≢◌, OnOk, OnErr, IfOk, None, [], false};
+ghost use Rattle.std.specs.FinMap as finite;
+ghost use Rattle.std.specs.Option.{option_and_then, option_map_or};
+ghost use Rattle.std.specs.Ordering.{eq_by_cmp};
+ghost use Rattle.someip_tables.specs.Tables.{map_of};
+ghost use Rattle.sd_core.specs.Keys.{instance_cmp};
+ghost use Rattle.sd_core.specs.Eventgroups.{eventgroup_cmp};
+ghost use Rattle.sd_core.specs.Changed.{changed_at};
+ghost use Rattle.sd_core.specs.Wishes.{wish_of, wanted, sent_at_once, standing, unwished};
+ghost use Rattle.sd_core.specs.Wishes.{offered, subscribes, acked_wish, nacked_wish, told_by_ack};
+ghost use Rattle.sd_core.specs.Wishes.{is_answered, is_subscribed, begun_where, ended_where};
+ghost use Rattle.sd_core.specs.Wishes.{is_over, is_with};
+
+use crate::ending::{Ending, end};
+use crate::eventgroup::Eventgroup;
+use crate::keys::InstanceId;
+use crate::wish::{Acked, Beginning, OutgoingSubscribe, SubscribeAnswer, Wish};
+use sd_wire::{SubscriptionCounter, Ttl};
+use someip_tables::Moment;
+use std::alloc::{AllocError, Global};
+use std::collections::BTreeMap;
+use std::marker::Model;
+use std::net::Ipv4Addr;
+
+/// The eventgroups that a client wished, and how far each wish is (SOME/IP Service Discovery
+/// Protocol, "Publish/Subscribe"). A contract sees the map from eventgroups to wishes.
+///
+/// A subscription is begun by the first Subscribe after a wish or after its last end, and stands
+/// until it is told as ended: by [`Subscriptions::stop`] however the known offer ended, by
+/// [`Subscriptions::peer_reboot`], [`Subscriptions::tick`], [`Subscriptions::nack`] or
+/// [`Subscriptions::unwant`]. Whoever moves the clock calls `tick` with it: what has passed and was not
+/// yet told is no subscription to an Ack, a Nack or an Offer.
+///
+/// An eventgroup that is wished no more keeps its place, since its counter goes on.
+#[derive(Drop)]
+pub struct Subscriptions {
+    places: BTreeMap<Eventgroup, Wish>,
+}
+
+impl Model for Subscriptions {
+    ghost use Rattle.someip_tables.specs.Tables.{map_of};
+    ghost use Rattle.sd_core.specs.Eventgroups.{eventgroup_cmp};
+    ghost use Rattle.sd_core.specs.Wishes.{Wishes, coded_wishes};
+
+    ghost Value = { Wishes };
+
+    ghost coded = { coded_wishes };
+
+    ghost view = { λ s. map_of eventgroup_cmp s.places.entries };
+}
+
+impl Subscriptions {
+    /// No wish. It takes no memory.
+    pub fn new(alloc: Global) -> Subscriptions
+        ensures { result ≡ finite.empty }
+    {
+        Subscriptions {
+            places: BTreeMap::new(alloc),
+        }
+    }
+
+    /// Forgets all wishes and all counters, as when a node starts again. It takes no memory.
+    pub fn clear(&mut self)
+        ensures { self.new ≡ finite.empty }
+    {
+        self.places.clear();
+    }
+
+    /// Wishes an eventgroup. If an offer of its instance is known, from this peer, a Subscribe goes out
+    /// at once, and the answer is its counter: it renews the subscription that stands there, and else
+    /// begins one with the next counter, from 0 on, modulo 16.
+    ///
+    /// What is refused because memory ran out leaves all as it was; memory is wanted only for an
+    /// eventgroup that was never wished.
+    pub fn want(
+        &mut self,
+        eventgroup: Eventgroup,
+        peer: Option<Ipv4Addr>,
+        now: Moment,
+    ) -> Result<Option<SubscriptionCounter>, AllocError>
+        ensures sent { IfOk result (λ sent. sent
+            ≡ sent_at_once now peer (wish_of (finite.get self.old eventgroup))) }
+        ensures wished { OnOk result (self.new ≡ finite.insert self.old eventgroup
+            (wanted now peer (wish_of (finite.get self.old eventgroup)))) }
+        ensures err { OnErr result (self.new ≡ self.old) }
+        ensures grows { OnErr result (finite.get self.old eventgroup ≡ None) }
+    {
+        let wish = wish_in(&self.places, &eventgroup).wanted(now, peer);
+        self.places.insert(eventgroup, wish)?;
+        Ok(match peer {
+            Some(_) => wish.stage.counter(),
+            None => None,
+        })
+    }
+
+    /// Takes a wish back, and answers the subscription that stood and ends with it: its server is told
+    /// by a StopSubscribe. Without a wish it does nothing. It takes no memory.
+    pub fn unwant(&mut self, eventgroup: Eventgroup, now: Moment) -> Option<Beginning>
+        ensures ended { result
+            ≡ option_and_then (λ wish. standing now wish.stage) (finite.get self.old eventgroup) }
+        ensures unwished { self.new ≡ changed_at eventgroup unwished self.old }
+    {
+        take_back(&mut self.places, eventgroup, now)
+    }
+
+    /// An Offer of a wanted instance counted, from this peer: the answer is the Subscribes that go out
+    /// to it, one for each wished eventgroup of the instance, by rising Eventgroup ID. Each renews the
+    /// subscription that stands there, and else begins one with the next counter.
+    ///
+    /// What is refused because memory ran out leaves all as it was; memory is wanted only where a
+    /// Subscribe goes out.
+    pub fn offer(
+        &mut self,
+        alloc: Global,
+        instance: InstanceId,
+        peer: Ipv4Addr,
+        now: Moment,
+    ) -> Result<Vec<OutgoingSubscribe>, AllocError>
+        ensures sent { IfOk result (λ sent. sent.items ≡ subscribes now instance peer self.old) }
+        ensures begun { OnOk result (self.new ≡ offered now instance peer self.old) }
+        ensures err { OnErr result (self.new ≡ self.old) }
+        ensures grows { OnErr result (subscribes now instance peer self.old ≢ []) }
+    {
+        let sent = subscribes(&self.places, alloc, instance, peer, now)?;
+        renew(&mut self.places, instance, peer, now);
+        Ok(sent)
+    }
+
+    /// Takes an Ack: if it answers the subscription that stands, with its peer, major version and
+    /// counter, the client is subscribed until the TTL of this Ack has passed, whatever earlier ones
+    /// said. It takes no memory.
+    pub fn ack(&mut self, answer: SubscribeAnswer, ttl: Ttl, now: Moment) -> Acked
+        ensures told { result ≡ told_by_ack now answer
+            (wish_of (finite.get self.old answer.eventgroup)).stage }
+        ensures acked { self.new
+            ≡ changed_at answer.eventgroup (acked_wish now answer ttl) self.old }
+    {
+        take_ack(&mut self.places, &answer, ttl, now)
+    }
+
+    /// Takes a Nack: if it answers the subscription that stands, that ends, and the answer is true.
+    /// The wish stands. It takes no memory.
+    pub fn nack(&mut self, answer: SubscribeAnswer, now: Moment) -> bool
+        ensures ended { result ≡ is_answered now answer
+            (wish_of (finite.get self.old answer.eventgroup)).stage }
+        ensures nacked { self.new ≡ changed_at answer.eventgroup (nacked_wish now answer) self.old }
+    {
+        take_nack(&mut self.places, &answer, now)
+    }
+
+    /// The known offer of an instance ended, since its time passed or by a StopOffer: the subscriptions
+    /// that were begun there end, and are told by rising Eventgroup ID. The wishes stand.
+    ///
+    /// What is refused because memory ran out leaves all as it was; memory is wanted only where one ends.
+    pub fn stop(
+        &mut self,
+        alloc: Global,
+        instance: InstanceId,
+    ) -> Result<Vec<Eventgroup>, AllocError>
+        ensures ended { IfOk result (λ ended. ended.items ≡ finite.keys (begun_where
+            (λ eventgroup beginning. eq_by_cmp instance_cmp eventgroup.instance instance) self.old)) }
+        ensures after { OnOk result (self.new ≡ ended_where
+            (λ eventgroup beginning. eq_by_cmp instance_cmp eventgroup.instance instance) self.old) }
+        ensures err { OnErr result (self.new ≡ self.old) }
+        ensures grows { OnErr result (begun_where
+            (λ eventgroup beginning. eq_by_cmp instance_cmp eventgroup.instance instance) self.old
+            ≢ finite.empty) }
+    {
+        end(&mut self.places, alloc, Ending::Offer(instance))
+    }
+
+    /// A peer began again: the subscriptions that were begun there end, and are told by rising service,
+    /// instance and Eventgroup ID. The wishes stand.
+    ///
+    /// What is refused because memory ran out leaves all as it was; memory is wanted only where one ends.
+    pub fn peer_reboot(
+        &mut self,
+        alloc: Global,
+        peer: Ipv4Addr,
+    ) -> Result<Vec<Eventgroup>, AllocError>
+        ensures ended { IfOk result (λ ended. ended.items
+            ≡ finite.keys (begun_where (λ eventgroup beginning. is_with peer beginning) self.old)) }
+        ensures after { OnOk result (self.new
+            ≡ ended_where (λ eventgroup beginning. is_with peer beginning) self.old) }
+        ensures err { OnErr result (self.new ≡ self.old) }
+        ensures grows { OnErr result
+            (begun_where (λ eventgroup beginning. is_with peer beginning) self.old ≢ finite.empty) }
+    {
+        end(&mut self.places, alloc, Ending::Reboot(peer))
+    }
+
+    /// Ends the subscriptions whose Ack's time has passed, and tells them by rising service, instance
+    /// and Eventgroup ID. The wishes stand.
+    ///
+    /// What is refused because memory ran out leaves all as it was; memory is wanted only where one ends.
+    pub fn tick(&mut self, alloc: Global, now: Moment) -> Result<Vec<Eventgroup>, AllocError>
+        ensures ended { IfOk result (λ ended. ended.items
+            ≡ finite.keys (begun_where (λ eventgroup beginning. is_over now beginning) self.old)) }
+        ensures after { OnOk result (self.new
+            ≡ ended_where (λ eventgroup beginning. is_over now beginning) self.old) }
+        ensures err { OnErr result (self.new ≡ self.old) }
+        ensures grows { OnErr result
+            (begun_where (λ eventgroup beginning. is_over now beginning) self.old ≢ finite.empty) }
+    {
+        end(&mut self.places, alloc, Ending::Time(now))
+    }
+
+    /// Whether the client is subscribed: the server acknowledged the subscription that stands, and the
+    /// time of its last Ack has not passed.
+    pub fn is_subscribed(&self, eventgroup: &Eventgroup, now: Moment) -> bool
+        ensures { result
+            ≡ is_subscribed now (wish_of (finite.get self.now eventgroup.now)).stage }
+    {
+        wish_in(&self.places, eventgroup).stage.is_subscribed(now)
+    }
+}
+
+/// What is kept of an eventgroup.
+fn wish_in(places: &BTreeMap<Eventgroup, Wish>, eventgroup: &Eventgroup) -> Wish
+    ensures { result
+        ≡ wish_of (finite.get (map_of eventgroup_cmp places.now.entries) eventgroup.now) }
+{
+    match places.get(eventgroup) {
+        Some(wish) => *wish,
+        None => Wish::first(),
+    }
+}
+
+/// Takes a wish back.
+fn take_back(
+    places: &mut BTreeMap<Eventgroup, Wish>,
+    eventgroup: Eventgroup,
+    now: Moment,
+) -> Option<Beginning>
+    ensures ended { result ≡ option_and_then (λ wish. standing now wish.stage)
+        (finite.get (map_of eventgroup_cmp places.old.entries) eventgroup) }
+    ensures unwished { map_of eventgroup_cmp places.new.entries
+        ≡ changed_at eventgroup unwished (map_of eventgroup_cmp places.old.entries) }
+{
+    let wish = places.get_mut(&eventgroup)?;
+    let standing = wish.stage.standing(now);
+    *wish = wish.unwished();
+    standing
+}
+
+/// Takes an Ack.
+fn take_ack(
+    places: &mut BTreeMap<Eventgroup, Wish>,
+    answer: &SubscribeAnswer,
+    ttl: Ttl,
+    now: Moment,
+) -> Acked
+    ensures told { result ≡ told_by_ack now answer.now (wish_of
+        (finite.get (map_of eventgroup_cmp places.old.entries) answer.now.eventgroup)).stage }
+    ensures acked { map_of eventgroup_cmp places.new.entries
+        ≡ changed_at answer.now.eventgroup (acked_wish now answer.now ttl)
+        (map_of eventgroup_cmp places.old.entries) }
+{
+    let Some(wish) = places.get_mut(&answer.eventgroup) else {
+        return Acked::NotPending;
+    };
+    let told = wish.stage.told_by_ack(now, answer);
+    *wish = wish.acked(now, answer, ttl);
+    told
+}
+
+/// Takes a Nack.
+fn take_nack(places: &mut BTreeMap<Eventgroup, Wish>, answer: &SubscribeAnswer, now: Moment) -> bool
+    ensures ended { result ≡ is_answered now answer.now (wish_of
+        (finite.get (map_of eventgroup_cmp places.old.entries) answer.now.eventgroup)).stage }
+    ensures nacked { map_of eventgroup_cmp places.new.entries
+        ≡ changed_at answer.now.eventgroup (nacked_wish now answer.now)
+        (map_of eventgroup_cmp places.old.entries) }
+{
+    let Some(wish) = places.get_mut(&answer.eventgroup) else {
+        return false;
+    };
+    let ended = wish.stage.is_answered(now, answer);
+    *wish = wish.nacked(now, answer);
+    ended
+}
+
+/// The Subscribes that go out to a peer that offers an instance.
+fn subscribes(
+    places: &BTreeMap<Eventgroup, Wish>,
+    alloc: Global,
+    instance: InstanceId,
+    peer: Ipv4Addr,
+    now: Moment,
+) -> Result<Vec<OutgoingSubscribe>, AllocError>
+    ensures sent { IfOk result (λ sent. sent.items
+        ≡ subscribes now instance peer (map_of eventgroup_cmp places.now.entries)) }
+    ensures grows { OnErr result
+        (subscribes now instance peer (map_of eventgroup_cmp places.now.entries) ≢ []) }
+{
+    if !places.iter().any(|(eventgroup, wish)| wish
+        .subscribe(now, instance, peer, eventgroup)
+        .is_some())
+    {
+        return Ok(Vec::new(alloc));
+    }
+    places
+        .iter()
+        .filter_map(|(eventgroup, wish)| wish.subscribe(now, instance, peer, eventgroup))
+        .collect(alloc)
+}
+
+/// Lets each wished eventgroup of an instance send a Subscribe to a peer.
+fn renew(places: &mut BTreeMap<Eventgroup, Wish>, instance: InstanceId, peer: Ipv4Addr, now: Moment)
+    ensures { map_of eventgroup_cmp places.new.entries
+        ≡ offered now instance peer (map_of eventgroup_cmp places.old.entries) }
+{
+    places.retain(|eventgroup, wish| {
+        *wish = wish.offered(now, instance, peer, eventgroup);
+        true
+    });
+}
