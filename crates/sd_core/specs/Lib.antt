@@ -3,3 +3,4 @@ pub mod KeyOrder
 pub mod Shown
 pub mod Sendings
 pub mod OfferTables
+pub mod SeekTables

@@ -5,19 +5,26 @@
 //! - [`InstanceId`]: what tells instances apart; [`Version`]: what they are versions of;
 //! - [`Phases`]: the delays between the Offers, or Finds, of an instance;
 //! - [`Offers`]: the instances that a node offers, and when each sends its next Offer; [`Sought`] is
-//!   what a Find asks for.
+//!   what a Find asks for;
+//! - [`Seeker`]: the instances that a node wants, what it knows of each, and when each that is still
+//!   searched for sends its next Find; [`ReceivedOffer`] is what it learns from.
 #![tactic(auto)]
 
 mod chosen;
 mod keys;
 mod offers;
 mod phases;
+mod received;
+mod seeker;
 mod sending;
 mod version;
+mod want;
 
 pub use keys::InstanceId;
 pub use offers::Offers;
 pub use phases::Phases;
+pub use received::{Counted, KnownOffer, ReceivedOffer, Uncounted};
+pub use seeker::{Seeker, Ticked};
 pub use version::{Sought, Version};
 
 #[cfg(test)]

@@ -1,7 +1,9 @@
-//! Rows of offers and finds.
+//! Rows of offers and of answers to finds; those of a seeker stand in a file of their own.
 use crate::{InstanceId, Offers, Phases, Sought, Version};
 use someip_tables::Moment;
 use std::test::Fail;
+
+mod seeker;
 
 /// The phases of the rows: base 30, cyclic 1000.
 const THREE: Phases = Phases {
