@@ -1,6 +1,6 @@
 -- Offers as maps: what each change of their places shows.
 use Rattle.std.proofs.Common.{◌≡◌, ℕ, Bool, true, false, cond, ◌&&◌, List, [], map, Option, None, Some, refl, ap, sym, ◌∙◌}
-use Rattle.std.specs.Option.{option_and_then, option_map, option_map_or, is_some}
+use Rattle.std.specs.Option.{option_and_then, option_map, option_map_or}
 use Rattle.std.specs.BTreeMap as tree
 use Rattle.std.specs.BTreeMap.{BTreeMap, is_at}
 use Rattle.std.specs.Map.{lookup}
@@ -20,7 +20,7 @@ use Rattle.sd_core.specs.Keys.{instance_cmp}
 use Rattle.sd_core.specs.KeyOrder.{instances_total, exact_instances}
 use Rattle.sd_core.specs.Shown.{shown, each}
 use Rattle.sd_core.specs.Sendings.{is_due, has_sent, sent_if_due, due_at}
-use Rattle.sd_core.specs.OfferTables.{OfferTable, offers_of, started_at, after_tick, without, answering, is_sought}
+use Rattle.sd_core.specs.OfferTables.{offers_of, started_at, after_tick, without, answering, is_sought}
 use Rattle.sd_core.proofs.ShownLemmas.{get-shown, shown-mapped, shown-mapped_same, shown-insert, shown-insert_none, shown-empty, keys-shown, none-shown}
 
 abbrev Places : Type 0

@@ -1,12 +1,11 @@
 -- Wanted instances as maps: what each change of their places shows.
-use Rattle.std.proofs.Common.{◌≡◌, ℕ, Bool, true, false, cond, not, ◌&&◌, List, [], map, Option, None, Some, refl, ap, sym, ◌∙◌}
-use Rattle.std.specs.Option.{option_and_then, option_map, option_map_or, is_some}
+use Rattle.std.proofs.Common.{◌≡◌, ℕ, Bool, false, not, ◌&&◌, List, [], map, Option, None, Some, refl, ap, sym, ◌∙◌}
+use Rattle.std.specs.Option.{option_and_then, option_map_or}
 use Rattle.std.specs.BTreeMap as tree
-use Rattle.std.specs.BTreeMap.{BTreeMap, is_at}
+use Rattle.std.specs.BTreeMap.{BTreeMap}
 use Rattle.std.specs.FinMap as finite
 use Rattle.std.specs.FinMap.{FinMap}
 use Rattle.std.specs.declared.net.ipv4_addr.Ipv4Addr.{Ipv4Addr}
-use Rattle.std.specs.declared.net.socket_addr.SocketAddrV4.{SocketAddrV4}
 use Rattle.someip_tables.specs.declared.lasting.Lasting.{Lasting}
 use Rattle.someip_tables.specs.Deadlines.{has_passed}
 use Rattle.someip_tables.specs.Lastings.{unless_passed, expired, unexpired}
@@ -22,9 +21,9 @@ use Rattle.sd_core.specs.declared.sending.Sending.{Sending}
 use Rattle.sd_core.specs.declared.want.Want.{Want}
 use Rattle.sd_core.specs.Keys.{instance_cmp}
 use Rattle.sd_core.specs.KeyOrder.{instances_total, exact_instances}
-use Rattle.sd_core.specs.Shown.{shown, each}
+use Rattle.sd_core.specs.Shown.{shown}
 use Rattle.sd_core.specs.Sendings.{is_due, after_find, due_at}
-use Rattle.sd_core.specs.SeekTables.{SeekTable, seek_of, searching_from, seek_after_tick, known_at, offer_refusal, uncounted, stands_by, known_of, forgetting, is_wanted, is_stopped}
+use Rattle.sd_core.specs.SeekTables.{seek_of, searching_from, seek_after_tick, known_at, offer_refusal, uncounted, stands_by, known_of, forgetting, is_wanted, is_stopped}
 use Rattle.sd_core.proofs.ShownLemmas.{get-shown, shown-mapped, shown-mapped_same, shown-mapped_none, shown-kept, shown-insert, shown-insert_none, shown-insert_same, shown-empty, keys-shown, none-shown}
 
 abbrev Wants : Type 0
@@ -118,14 +117,14 @@ ended_keys now wants = keys-shown instances_total exact_instances known_in wants
 pub none_ended : (now : ℕ) (wants : WantMap) → expired now (seek_of wants).known ≡ finite.empty → retain wants (has_ended now) ≡ finite.empty
 none_ended now wants = none-shown instances_total exact_instances known_in wants (has_ended now) (λ _ l. has_passed now l.until) (λ q w is. refl)
 
-abbrev pub sends_find : ℕ → InstanceId → Want → Bool
-sends_find now _ w = option_map_or (is_due now) w.finding false
+abbrev pub find_is_due : ℕ → InstanceId → Want → Bool
+find_is_due now _ w = option_map_or (is_due now) w.finding false
 
-pub find_keys : (now : ℕ) (wants : WantMap) → finite.keys (retain wants (sends_find now)) ≡ finite.keys (due_at now (seek_of wants).finding)
-find_keys now wants = keys-shown instances_total exact_instances finding_in wants (sends_find now) (λ _ s. is_due now s) (λ q w is. refl)
+pub find_keys : (now : ℕ) (wants : WantMap) → finite.keys (retain wants (find_is_due now)) ≡ finite.keys (due_at now (seek_of wants).finding)
+find_keys now wants = keys-shown instances_total exact_instances finding_in wants (find_is_due now) (λ _ s. is_due now s) (λ q w is. refl)
 
-pub no_find : (now : ℕ) (wants : WantMap) → due_at now (seek_of wants).finding ≡ finite.empty → retain wants (sends_find now) ≡ finite.empty
-no_find now wants = none-shown instances_total exact_instances finding_in wants (sends_find now) (λ _ s. is_due now s) (λ q w is. refl)
+pub no_find : (now : ℕ) (wants : WantMap) → due_at now (seek_of wants).finding ≡ finite.empty → retain wants (find_is_due now) ≡ finite.empty
+no_find now wants = none-shown instances_total exact_instances finding_in wants (find_is_due now) (λ _ s. is_due now s) (λ q w is. refl)
 
 abbrev pub is_of : Ipv4Addr → ℕ → InstanceId → Want → Bool
 is_of peer now _ w = option_map_or (stands_by peer now) w.known false

@@ -4,3 +4,5 @@ pub mod Shown
 pub mod Sendings
 pub mod OfferTables
 pub mod SeekTables
+pub mod OfferMoments
+pub mod OfferExamples

@@ -12,6 +12,7 @@
 
 mod chosen;
 mod keys;
+pub mod laws;
 mod offers;
 mod phases;
 mod received;

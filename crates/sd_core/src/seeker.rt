@@ -71,8 +71,8 @@ impl Seeker {
     }
 
     /// Adds an instance that is wanted in a major version. Nothing is known of it, and it is searched
-    /// for from the next start on. What is refused for want of memory leaves the instances as they
-    /// were, and memory is wanted only for a new one.
+    /// for from the next start on. Running out of memory leaves the instances as they were, and comes
+    /// only for a new one.
     pub fn add(&mut self, instance: InstanceId, major: u8) -> Result<(), AllocError>
         ensures ok { OnOk result (self.new ≡ record {
           wanted = finite.insert self.old.wanted instance major;
@@ -101,9 +101,8 @@ impl Seeker {
 
     /// What a moment brings: the offers end whose time has passed, and the instances that are searched
     /// for and due send a Find, one each, however late. The next is due a delay after this moment, and
-    /// none after the repetition phase (SOME/IP Service Discovery Protocol, "Repetition Phase"). What is
-    /// refused for want of memory leaves all as it was, and memory is wanted only where an offer ends
-    /// or a Find is due.
+    /// none after the repetition phase (SOME/IP Service Discovery Protocol, "Repetition Phase"). Running
+    /// out of memory leaves all as it was, and comes only where an offer ends or a Find is due.
     pub fn tick(&mut self, alloc: Global, now: Moment, phases: Phases) -> Result<Ticked, AllocError>
         ensures ended { IfOk result (λ ticked.
             ticked.ended.items ≡ finite.keys (expired now self.old.known)) }
@@ -150,8 +149,8 @@ impl Seeker {
     }
 
     /// Ends every offer that is known of a peer, since it began again, and answers their instances, by
-    /// rising instance (SOME/IP Service Discovery Protocol, "Detection of reboots"). What is refused for
-    /// want of memory leaves all as it was, and memory is wanted only where an offer ends.
+    /// rising instance (SOME/IP Service Discovery Protocol, "Detection of reboots"). Running out of
+    /// memory leaves all as it was, and comes only where an offer ends.
     pub fn peer_reboot(
         &mut self,
         alloc: Global,

@@ -11,13 +11,24 @@ fn peer(number: u8) -> Ipv4Addr {
     Ipv4Addr::new(192, 168, 0, number)
 }
 
-/// An Offer of instance 1 with TTL 3 by the first peer, at its endpoint.
-fn offer_of(ttl: Ttl) -> ReceivedOffer {
+/// An Offer by a peer of an instance in version 1, at a port of the first peer.
+fn offer_at(number: u16, port: u16, by: u8, ttl: Ttl) -> ReceivedOffer {
     ReceivedOffer {
-        instance: instance(1),
+        instance: instance(number),
         major: 1,
         ttl,
-        endpoint: Some(SocketAddrV4::new(peer(1), 30509)),
+        endpoint: Some(SocketAddrV4::new(peer(1), port)),
+        peer: peer(by),
+    }
+}
+
+/// An Offer by the first peer of an instance in a version, without an endpoint.
+fn bare_offer(number: u16, major: u8, ttl: Ttl) -> ReceivedOffer {
+    ReceivedOffer {
+        instance: instance(number),
+        major,
+        ttl,
+        endpoint: None,
         peer: peer(1),
     }
 }
@@ -49,7 +60,7 @@ fn finds_end_when_an_offer_is_known(rt: HostRuntime) -> Result<(), Fail> {
     let mut seeker = Seeker::new(rt.alloc());
     seeker.add(instance(1), 1)?;
     seeker.start(10);
-    let offer = offer_of(Ttl::new(3).ok_or("ttl")?);
+    let offer = offer_at(1, 30509, 1, Ttl::new(3).ok_or("ttl")?);
     for millis in 0..3500 {
         let now = Moment::new(millis).ok_or("late")?;
         let ticked = seeker.tick(rt.alloc(), now, THREE)?;
@@ -111,38 +122,15 @@ fn offers_count_or_do_not(rt: HostRuntime) -> Result<(), Fail> {
     seeker.start(10);
     let ttl = Ttl::new(3).ok_or("ttl")?;
     let now = Moment::new(50).ok_or("late")?;
-    let offer = offer_of(ttl);
-    let unwanted = ReceivedOffer {
-        instance: instance(2),
-        endpoint: None,
-        ..offer
-    };
-    let other_major = ReceivedOffer {
-        major: 2,
-        endpoint: None,
-        ..offer
-    };
-    let bare = ReceivedOffer {
-        endpoint: None,
-        ..offer
-    };
-    let moved = ReceivedOffer {
-        endpoint: Some(SocketAddrV4::new(peer(1), 30510)),
-        ..offer
-    };
-    let others = ReceivedOffer {
-        peer: peer(2),
-        ..offer
-    };
     let rows = [
-        (unwanted, Err(Uncounted::Unwanted)),
-        (other_major, Err(Uncounted::Unwanted)),
-        (bare, Err(Uncounted::NoEndpoint)),
-        (offer, Ok(Counted::New)),
-        (offer, Ok(Counted::Renewed)),
-        (moved, Ok(Counted::Moved)),
-        (bare, Err(Uncounted::NoEndpoint)),
-        (others, Err(Uncounted::OtherPeer)),
+        (bare_offer(2, 1, ttl), Err(Uncounted::Unwanted)),
+        (bare_offer(1, 2, ttl), Err(Uncounted::Unwanted)),
+        (bare_offer(1, 1, ttl), Err(Uncounted::NoEndpoint)),
+        (offer_at(1, 30509, 1, ttl), Ok(Counted::New)),
+        (offer_at(1, 30509, 1, ttl), Ok(Counted::Renewed)),
+        (offer_at(1, 30510, 1, ttl), Ok(Counted::Moved)),
+        (bare_offer(1, 1, ttl), Err(Uncounted::NoEndpoint)),
+        (offer_at(1, 30510, 2, ttl), Err(Uncounted::OtherPeer)),
     ];
     for (received, counted) in rows {
         assert!(rt; seeker.offer(&received, now) == counted);
@@ -164,12 +152,8 @@ fn an_offer_passes_at_its_moment(rt: HostRuntime) -> Result<(), Fail> {
     let now = Moment::new(50).ok_or("late")?;
     let before = Moment::new(3049).ok_or("late")?;
     let at = Moment::new(3050).ok_or("late")?;
-    let offer = offer_of(Ttl::new(3).ok_or("ttl")?);
-    let others = ReceivedOffer {
-        ttl: Ttl::UNTIL_REBOOT,
-        peer: peer(2),
-        ..offer
-    };
+    let offer = offer_at(1, 30509, 1, Ttl::new(3).ok_or("ttl")?);
+    let others = offer_at(1, 30509, 2, Ttl::UNTIL_REBOOT);
     assert!(rt; seeker.offer(&offer, now) == Ok(Counted::New));
     assert!(rt; seeker.offer(&others, before) == Err(Uncounted::OtherPeer));
     assert!(rt; !seeker.stop(instance(1), 1, peer(1), at));
@@ -184,7 +168,7 @@ fn a_stop_offer_ends_an_offer(rt: HostRuntime) -> Result<(), Fail> {
     let mut seeker = Seeker::new(rt.alloc());
     seeker.add(instance(1), 1)?;
     let now = Moment::new(50).ok_or("late")?;
-    let offer = offer_of(Ttl::UNTIL_REBOOT);
+    let offer = offer_at(1, 30509, 1, Ttl::UNTIL_REBOOT);
     assert!(rt; seeker.offer(&offer, now) == Ok(Counted::New));
     let rows = [
         (2, 1, 1, false, true),
@@ -208,13 +192,9 @@ fn offers_end_together(rt: HostRuntime) -> Result<(), Fail> {
     let mut seeker = Seeker::new(rt.alloc());
     let ttl = Ttl::new(3).ok_or("ttl")?;
     let now = Moment::new(50).ok_or("late")?;
-    for number in [3, 2, 1] {
+    for (number, by) in [(3, 1), (2, 2), (1, 1)] {
         seeker.add(instance(number), 1)?;
-        let offer = ReceivedOffer {
-            instance: instance(number),
-            peer: peer(if number == 2 { 2 } else { 1 }),
-            ..offer_of(ttl)
-        };
+        let offer = offer_at(number, 30509, by, ttl);
         assert!(rt; seeker.offer(&offer, now) == Ok(Counted::New));
     }
     let ended = seeker.peer_reboot(rt.alloc(), peer(2), now)?;

@@ -1,10 +1,9 @@
 use Rattle.std.proofs.Common.{◌≡◌, Some, None, refl, sym, ap, ◌∙◌, rules}
 use Rattle.std.specs.BTreeMap as tree
-use Rattle.std.specs.FinMap as finite
 use Rattle.someip_tables.specs.Deadlines.{deadline_after}
 use Rattle.someip_tables.specs.Tables.{map_of}
 use Rattle.sd_core.specs.Keys.{instance_cmp}
-use Rattle.sd_core.specs.SeekTables.{seek_of, known_at, counted_as, learned}
+use Rattle.sd_core.specs.SeekTables.{seek_of, known_at, counted_as}
 use Rattle.sd_core.proofs.SeekLemmas.{same_value, held_is, known_is, unwanted, uncounted_is, found}
 use Rattle.sd_core.proofs.seeker.learn.Goals as goal
 
