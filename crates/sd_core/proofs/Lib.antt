@@ -3,3 +3,7 @@ pub mod SortedEntries
 pub mod ShownLemmas
 pub mod OfferLemmas
 pub mod ChangedLemmas
+pub mod SeekLemmas
+pub mod MomentLemmas
+pub mod OfferLawLemmas
+pub mod FindLawLemmas

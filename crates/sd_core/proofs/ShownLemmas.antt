@@ -91,6 +91,35 @@ module _ {K X : Type 0} {R : K → K → Ordering} (o : IsTotalOrder R) (exact :
       cases q true = is
       cases q false = refl
 
+  -- a value is put in, in place of one that shows the same
+  pub shown-insert_same : {Y : Type 0} (f : X → Option Y) (m : FinMap R X) (k : K) (x y : X) → get m k ≡ Some y → f x ≡ f y → shown f (insert m k x) ≡ shown f m
+  shown-insert_same f m k x y found same =
+      same_map o exact _ _ (λ q.
+      get-shown o exact f (insert m k x) q ∙ ap (option_and_then f) (get-insert o m k x q) ∙ cases q (eq_by_cmp R q k) refl ∙ sym (get-shown o exact f m q))
+    where
+      cases : (q : K) (t : Bool) → eq_by_cmp R q k ≡ t → option_and_then f (cond t (Some x) (get m q)) ≡ option_and_then f (get m q)
+      cases q true t = same ∙ sym (ap (option_and_then f) (ap (get m) (same_by_test exact q k t) ∙ found))
+      cases q false t = refl
+
+  -- values change so that none shows anything
+  pub shown-mapped_none : {Y : Type 0} (g : K → X → X) (f : X → Option Y) (es : List (K × X)) → ((q : K) (x : X) → f (g q x) ≡ None)
+      → shown f (map_of R (map (λ e. (e.0, g e.0 e.1)) es)) ≡ empty
+  shown-mapped_none g f es none =
+      same_map o exact _ _ (λ q.
+      get-shown o exact f (map_of R (map (λ e. (e.0, g e.0 e.1)) es)) q ∙ ap (option_and_then f) (get-mapped g es q) ∙ cases q (get (map_of R es) q) ∙ sym (get-empty R q))
+    where
+      cases : (q : K) (v : Option X) → option_and_then f (option_map (g q) v) ≡ None
+      cases q None = refl
+      cases q (Some x) = none q x
+
+  -- what is shown where a test passes is what the test leaves
+  pub shown-kept : (p : X → Bool) (m : FinMap R X) → shown (λ x. kept_if p (Some x)) m ≡ retain m (λ _ x. p x)
+  shown-kept p m = same_map o exact _ _ (λ q. get-shown o exact (λ x. kept_if p (Some x)) m q ∙ cases (get m q) ∙ sym (get-retain o exact m (λ _ x. p x) q))
+    where
+      cases : (v : Option X) → option_and_then (λ x. kept_if p (Some x)) v ≡ kept_if p v
+      cases None = refl
+      cases (Some x) = refl
+
   -- values change so that one key shows nothing
   pub shown-removed : {Y : Type 0} (g : K → X → X) (f : X → Option Y) (k : K) (es : List (K × X)) → ((q : K) (x : X) → f (g q x) ≡ cond (eq_by_cmp R q k) None (f x))
       → shown f (map_of R (map (λ e. (e.0, g e.0 e.1)) es)) ≡ remove (shown f (map_of R es)) k

@@ -8,3 +8,6 @@ pub mod Eventgroups
 pub mod EventgroupOrder
 pub mod Wishes
 pub mod Endings
+pub mod SeekTables
+pub mod OfferMoments
+pub mod OfferExamples

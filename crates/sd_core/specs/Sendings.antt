@@ -1,5 +1,5 @@
 -- When Offers and Finds go out (SOME/IP Service Discovery Protocol, "Startup behavior").
-use Rattle.std.specs.Prelude.{ℕ, ◌+◌, ◌*◌, ◌^◌, nat_le, nat_lt, Bool, if◌then◌else◌, refl}
+use Rattle.std.specs.Prelude.{ℕ, ◌+◌, ◌*◌, ◌^◌, nat_le, nat_lt, Bool, if◌then◌else◌, Option, None, Some, refl}
 use Rattle.std.specs.declared.cmp.Ordering.{Ordering}
 use Rattle.std.specs.Coded.{Coded, code_by, coded×, coded_ℕ}
 use Rattle.std.specs.FinMap.{FinMap}
@@ -32,6 +32,13 @@ after_sending phases now sending =
 -- one goes out at this moment, if it is due: one, however late
 abbrev pub sent_if_due : Phases → ℕ → Sending → Sending
 sent_if_due phases now sending = if is_due now sending then after_sending phases now sending else sending
+
+-- a Find goes out at this moment, if it is due: it is the last where as many went out before it as the repetition phase
+-- has delays
+abbrev pub after_find : Phases → ℕ → Sending → Option Sending
+after_find phases now sending =
+    if is_due now sending then (if nat_lt sending.sent phases.repetitions then Some (after_sending phases now sending) else None)
+    else Some sending
 
 -- those that are due
 abbrev pub due_at : {K : Type 0} {R : K → K → Ordering} → ℕ → FinMap R Sending → FinMap R Sending

@@ -9,7 +9,7 @@ use someip_tables::Key;
 use std::alloc::{AllocError, Global};
 use std::collections::BTreeMap;
 
-/// The keys of the entries that pass a test, by rising key. Memory is wanted only where there are any.
+/// The keys of the entries that pass a test, by rising key. It takes memory only where there are any.
 pub(crate) fn keys_where<K: Key, V, F: Fn(&K, &V) -> bool + Drop>(
     table: &BTreeMap<K, V>,
     alloc: Global,

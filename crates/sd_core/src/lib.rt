@@ -8,24 +8,32 @@
 //!   what a Find asks for;
 //! - [`Subscriptions`]: the eventgroups that a client wished, and how far each [`Wish`] is; an
 //!   [`Eventgroup`] is one of an instance.
+//! - [`Seeker`]: the instances that a node wants, what it knows of each, and when each that is still
+//!   searched for sends its next Find; [`ReceivedOffer`] is what it learns from.
 #![tactic(auto)]
 
 mod chosen;
 mod ending;
 mod eventgroup;
 mod keys;
+pub mod laws;
 mod offers;
 mod phases;
+mod received;
+mod seeker;
 mod sending;
 mod subscriptions;
 mod version;
 mod wish;
+mod want;
 
 pub use eventgroup::Eventgroup;
 pub use keys::InstanceId;
 pub use offers::Offers;
 pub use phases::Phases;
 pub use subscriptions::Subscriptions;
+pub use received::{Counted, KnownOffer, ReceivedOffer, Uncounted};
+pub use seeker::{Seeker, Ticked};
 pub use version::{Sought, Version};
 pub use wish::{Acked, Beginning, Stage, OutgoingSubscribe, SubscribeAnswer, Wish};
 

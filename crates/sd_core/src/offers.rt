@@ -57,8 +57,8 @@ impl Offers {
         }
     }
 
-    /// Adds an instance, which is down until the next start. What is refused for want of memory leaves
-    /// the instances as they were, and memory is wanted only for a new one.
+    /// Adds an instance, which is down until the next start. Running out of memory leaves the instances
+    /// as they were, and comes only for a new one.
     pub fn add(&mut self, instance: InstanceId, version: Version) -> Result<(), AllocError>
         ensures ok { OnOk result (self.new ≡ record {
           versions = finite.insert self.old.versions instance version;
@@ -85,8 +85,8 @@ impl Offers {
 
     /// The instances that send an Offer now, by rising instance: each that is up and due sends one,
     /// however late it is, and the next is due a delay after this moment (SOME/IP Service Discovery
-    /// Protocol, "Repetition Phase", "Main Phase"). What is refused for want of memory leaves all as it
-    /// was, and memory is wanted only where an Offer is due.
+    /// Protocol, "Repetition Phase", "Main Phase"). Running out of memory leaves all as it was, and comes
+    /// only where an Offer is due.
     pub fn tick(
         &mut self,
         alloc: Global,
@@ -104,8 +104,8 @@ impl Offers {
     }
 
     /// The instances that answer a Find, by rising instance: those that it asks for, that are up and
-    /// have sent their first Offer (SOME/IP Service Discovery Protocol, "Find Service entry"). Memory is
-    /// wanted only where there are any.
+    /// have sent their first Offer (SOME/IP Service Discovery Protocol, "Find Service entry"). It takes
+    /// memory only where there are any.
     pub fn find(&self, alloc: Global, sought: Sought) -> Result<Vec<InstanceId>, AllocError>
         ensures found { IfOk result (λ found. found.items ≡ finite.keys (answering sought self.now)) }
         ensures grows { OnErr result (answering sought self.now ≢ finite.empty) }

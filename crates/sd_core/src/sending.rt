@@ -13,7 +13,7 @@ pub(crate) struct Sending {
 
 impl Sending {
     ghost use Rattle.std.specs.Prelude.{◌≡◌};
-    ghost use Rattle.sd_core.specs.Sendings.{first_at, is_due, after_sending};
+    ghost use Rattle.sd_core.specs.Sendings.{first_at, is_due, after_sending, after_find};
 
     /// Nothing went out, and the first does after a delay from the start, in milliseconds.
     pub(crate) fn first_at(delay: u32) -> Sending
@@ -47,6 +47,20 @@ impl Sending {
                 due,
                 sent: self.sent,
             }
+        }
+    }
+
+    /// What is left to go out of the Finds of an instance, once one that is due now went out. After the
+    /// repetition phase there is none.
+    pub(crate) fn after_find(self, phases: Phases, now: Moment) -> Option<Sending>
+        ensures { result ≡ after_find phases now self }
+    {
+        if !self.is_due(now) {
+            Some(self)
+        } else if self.sent < phases.repetitions {
+            Some(self.after_sending(phases, now))
+        } else {
+            None
         }
     }
 }

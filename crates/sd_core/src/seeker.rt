@@ -1,0 +1,342 @@
+//! The instances that a node wants: what it knows of each, and which it still searches for.
+ghost use Rattle.std.specs.Prelude.{◌≡◌, ◌≢◌, OnOk, OnErr, IfOk, IfErr, None, Some};
+ghost use Rattle.std.specs.Bool.{OnTrue, OnFalse};
+ghost use Rattle.std.specs.FinMap as finite;
+ghost use Rattle.std.specs.declared.net.socket_addr.SocketAddrV4.{SocketAddrV4};
+ghost use Rattle.someip_tables.specs.Lastings.{expired};
+ghost use Rattle.someip_tables.specs.Tables.{map_of};
+ghost use Rattle.sd_core.specs.Keys.{instance_cmp};
+ghost use Rattle.sd_core.specs.Sendings.{due_at};
+ghost use Rattle.sd_core.specs.SeekTables.{seek_of, searching, searching_from, seek_after_tick};
+ghost use Rattle.sd_core.specs.SeekTables.{IsQuiet, uncounted, counted_as, known_at, learned};
+ghost use Rattle.sd_core.specs.SeekTables.{is_stopped, known_of, forgetting};
+
+use crate::chosen::keys_where;
+use crate::keys::InstanceId;
+use crate::phases::Phases;
+use crate::received::{Counted, KnownOffer, ReceivedOffer, Uncounted};
+use crate::sending::Sending;
+use crate::want::{Want, admit, counted_as};
+use someip_tables::{Deadline, Lasting, Moment};
+use std::alloc::{AllocError, Global};
+use std::collections::BTreeMap;
+use std::marker::Model;
+use std::net::Ipv4Addr;
+
+/// What a moment brings to the instances that a node wants.
+#[derive(Drop)]
+pub struct Ticked {
+    /// Those whose known offer ended because its time passed, by rising instance.
+    pub ended: Vec<InstanceId>,
+    /// Those that send a Find now, by rising instance.
+    pub finds: Vec<InstanceId>,
+}
+
+/// The instances that a node wants, each in one major version: the offer that it knows of each, and
+/// when each that it still searches for sends its next Find (SOME/IP Service Discovery Protocol,
+/// "Startup behavior"). A contract sees a map of each of the three.
+///
+/// Whoever moves the clock calls [`Seeker::tick`] with it, which tells the offers whose time has
+/// passed: until then they are kept, and count for nothing. An instance keeps its place while nothing
+/// is known of it, so that [`Seeker::start`] and [`Seeker::offer`] take no memory.
+#[derive(Drop)]
+pub struct Seeker {
+    wants: BTreeMap<InstanceId, Want>,
+}
+
+impl Model for Seeker {
+    ghost use Rattle.someip_tables.specs.Tables.{map_of};
+    ghost use Rattle.sd_core.specs.Keys.{instance_cmp};
+    ghost use Rattle.sd_core.specs.SeekTables.{SeekTable, seek_of, coded_seek};
+
+    ghost Value = { SeekTable };
+
+    ghost coded = { coded_seek };
+
+    ghost view = { λ s. seek_of (map_of instance_cmp s.wants.entries) };
+}
+
+impl Seeker {
+    /// No instance. It takes no memory.
+    pub fn new(alloc: Global) -> Seeker
+        ensures { result ≡ record {
+          wanted = finite.empty;
+          known = finite.empty;
+          finding = finite.empty;
+        } }
+    {
+        Seeker {
+            wants: BTreeMap::new(alloc),
+        }
+    }
+
+    /// Adds an instance that is wanted in a major version. Nothing is known of it, and it is searched
+    /// for from the next start on. Running out of memory leaves the instances as they were, and comes
+    /// only for a new one.
+    pub fn add(&mut self, instance: InstanceId, major: u8) -> Result<(), AllocError>
+        ensures ok { OnOk result (self.new ≡ record {
+          wanted = finite.insert self.old.wanted instance major;
+          known = finite.remove self.old.known instance;
+          finding = finite.remove self.old.finding instance;
+        }) }
+        ensures err { OnErr result (self.new ≡ self.old) }
+        ensures grows { OnErr result (finite.get self.old.wanted instance ≡ None) }
+    {
+        let want = Want {
+            major,
+            known: None,
+            finding: None,
+        };
+        self.wants.insert(instance, want)?;
+        Ok(())
+    }
+
+    /// Searches for every instance, as if nothing had been known and no Find sent: the first goes out
+    /// at this many milliseconds of the node's clock. It takes no memory.
+    pub fn start(&mut self, delay: u32)
+        ensures { self.new ≡ searching delay self.old }
+    {
+        search_for_all(&mut self.wants, Sending::first_at(delay));
+    }
+
+    /// What a moment brings: the offers end whose time has passed, and the instances that are searched
+    /// for and due send a Find, one each, however late. The next is due a delay after this moment, and
+    /// none after the repetition phase (SOME/IP Service Discovery Protocol, "Repetition Phase"). Running
+    /// out of memory leaves all as it was, and comes only where an offer ends or a Find is due.
+    pub fn tick(&mut self, alloc: Global, now: Moment, phases: Phases) -> Result<Ticked, AllocError>
+        ensures ended { IfOk result (λ ticked.
+            ticked.ended.items ≡ finite.keys (expired now self.old.known)) }
+        ensures finds { IfOk result (λ ticked.
+            ticked.finds.items ≡ finite.keys (due_at now self.old.finding)) }
+        ensures after { OnOk result (self.new ≡ seek_after_tick phases now self.old) }
+        ensures err { OnErr result (self.new ≡ self.old) }
+        ensures grows { OnErr result (¬ (IsQuiet now self.old)) }
+    {
+        let ended = passed_now(&self.wants, alloc, now)?;
+        let finds = due_now(&self.wants, alloc, now)?;
+        advance(&mut self.wants, now, phases);
+        Ok(Ticked { ended, finds })
+    }
+
+    /// Learns from an Offer, if it counts: its instance is wanted in its major version, it has an
+    /// endpoint, and no offer by another peer is known. It is then known until its TTL has passed, and
+    /// Finds of the instance go out no more until the next start (SOME/IP Service Discovery Protocol,
+    /// "Offer Service entry"). It takes no memory.
+    pub fn offer(&mut self, offer: &ReceivedOffer, now: Moment) -> Result<Counted, Uncounted>
+        ensures counts { OnOk result (uncounted offer.now now self.old ≡ None) }
+        ensures counted { IfOk result (λ counted. (endpoint : SocketAddrV4)
+            → offer.now.endpoint ≡ Some endpoint → counted
+            ≡ counted_as endpoint (known_at now (finite.get self.old.known offer.now.instance))) }
+        ensures learned { OnOk result ((endpoint : SocketAddrV4)
+            → offer.now.endpoint ≡ Some endpoint
+            → self.new ≡ learned offer.now endpoint now self.old) }
+        ensures refused { IfErr result (λ cause. uncounted offer.now now self.old ≡ Some cause) }
+        ensures unchanged { OnErr result (self.new ≡ self.old) }
+    {
+        learn(&mut self.wants, offer, now)
+    }
+
+    /// Ends the offer of an instance by a StopOffer, and says whether one ended: the instance is wanted
+    /// in this major version, and the offer that is known is by this peer (SOME/IP Service Discovery
+    /// Protocol, "Stop Offer Service entry"). It takes no memory.
+    pub fn stop(&mut self, instance: InstanceId, major: u8, peer: Ipv4Addr, now: Moment) -> bool
+        ensures ended { result ≡ is_stopped instance major peer now self.old }
+        ensures gone { OnTrue result (self.new
+            ≡ record self.old { known = finite.remove self.old.known instance }) }
+        ensures unchanged { OnFalse result (self.new ≡ self.old) }
+    {
+        end_offer(&mut self.wants, instance, major, peer, now)
+    }
+
+    /// Ends every offer that is known of a peer, since it began again, and answers their instances, by
+    /// rising instance (SOME/IP Service Discovery Protocol, "Detection of reboots"). Running out of
+    /// memory leaves all as it was, and comes only where an offer ends.
+    pub fn peer_reboot(
+        &mut self,
+        alloc: Global,
+        peer: Ipv4Addr,
+        now: Moment,
+    ) -> Result<Vec<InstanceId>, AllocError>
+        ensures ended { IfOk result (λ ended.
+            ended.items ≡ finite.keys (known_of peer now self.old)) }
+        ensures forgotten { OnOk result (self.new ≡ forgetting peer now self.old) }
+        ensures err { OnErr result (self.new ≡ self.old) }
+        ensures grows { OnErr result (known_of peer now self.old ≢ finite.empty) }
+    {
+        let ended = known_now(&self.wants, alloc, peer, now)?;
+        forget(&mut self.wants, peer, now);
+        Ok(ended)
+    }
+
+    /// The offer that is known of an instance.
+    pub fn known(&self, instance: InstanceId, now: Moment) -> Option<KnownOffer>
+        ensures { result ≡ known_at now (finite.get self.now.known instance) }
+    {
+        match self.wants.get(&instance) {
+            Some(want) => want.known_at(now),
+            None => None,
+        }
+    }
+}
+
+/// Forgets what is known of every instance, and gives each this first Find.
+fn search_for_all(wants: &mut BTreeMap<InstanceId, Want>, first: Sending)
+    ensures { seek_of (map_of instance_cmp wants.new.entries)
+        ≡ searching_from first (seek_of (map_of instance_cmp wants.old.entries)) }
+{
+    wants.retain(|_, want| {
+        *want = Want {
+            major: want.major,
+            known: None,
+            finding: Some(first),
+        };
+        true
+    });
+}
+
+/// The instances whose offer has passed.
+fn passed_now(
+    wants: &BTreeMap<InstanceId, Want>,
+    alloc: Global,
+    now: Moment,
+) -> Result<Vec<InstanceId>, AllocError>
+    ensures ended { IfOk result (λ ended. ended.items
+        ≡ finite.keys (expired now (seek_of (map_of instance_cmp wants.now.entries)).known)) }
+    ensures grows { OnErr result
+        (expired now (seek_of (map_of instance_cmp wants.now.entries)).known ≢ finite.empty) }
+{
+    keys_where(wants, alloc, |_, want| want.has_passed(now))
+}
+
+/// The instances whose Find is due.
+fn due_now(
+    wants: &BTreeMap<InstanceId, Want>,
+    alloc: Global,
+    now: Moment,
+) -> Result<Vec<InstanceId>, AllocError>
+    ensures due { IfOk result (λ due. due.items
+        ≡ finite.keys (due_at now (seek_of (map_of instance_cmp wants.now.entries)).finding)) }
+    ensures grows { OnErr result
+        (due_at now (seek_of (map_of instance_cmp wants.now.entries)).finding ≢ finite.empty) }
+{
+    keys_where(wants, alloc, |_, want| want.is_due(now))
+}
+
+/// The instances whose offer is known of a peer.
+fn known_now(
+    wants: &BTreeMap<InstanceId, Want>,
+    alloc: Global,
+    peer: Ipv4Addr,
+    now: Moment,
+) -> Result<Vec<InstanceId>, AllocError>
+    ensures known { IfOk result (λ known. known.items
+        ≡ finite.keys (known_of peer now (seek_of (map_of instance_cmp wants.now.entries)))) }
+    ensures grows { OnErr result
+        (known_of peer now (seek_of (map_of instance_cmp wants.now.entries)) ≢ finite.empty) }
+{
+    keys_where(wants, alloc, |_, want| want.stands_by(peer, now))
+}
+
+/// Drops the offers that have passed, and counts the Finds that are due as sent.
+fn advance(wants: &mut BTreeMap<InstanceId, Want>, now: Moment, phases: Phases)
+    ensures { seek_of (map_of instance_cmp wants.new.entries)
+        ≡ seek_after_tick phases now (seek_of (map_of instance_cmp wants.old.entries)) }
+{
+    wants.retain(|_, want| {
+        *want = want.after_tick(phases, now);
+        true
+    });
+}
+
+/// Drops the offers that are known of a peer.
+fn forget(wants: &mut BTreeMap<InstanceId, Want>, peer: Ipv4Addr, now: Moment)
+    ensures { seek_of (map_of instance_cmp wants.new.entries)
+        ≡ forgetting peer now (seek_of (map_of instance_cmp wants.old.entries)) }
+{
+    wants.retain(|_, want| {
+        *want = want.without_offer_by(peer, now);
+        true
+    });
+}
+
+/// Learns from an Offer, if it counts.
+fn learn(
+    wants: &mut BTreeMap<InstanceId, Want>,
+    offer: &ReceivedOffer,
+    now: Moment,
+) -> Result<Counted, Uncounted>
+    ensures counts { OnOk result
+        (uncounted offer.now now (seek_of (map_of instance_cmp wants.old.entries)) ≡ None) }
+    ensures counted { IfOk result (λ counted. (endpoint : SocketAddrV4)
+        → offer.now.endpoint ≡ Some endpoint → counted ≡ counted_as endpoint (known_at now
+        (finite.get (seek_of (map_of instance_cmp wants.old.entries)).known offer.now.instance))) }
+    ensures learned { OnOk result ((endpoint : SocketAddrV4) → offer.now.endpoint ≡ Some endpoint
+        → seek_of (map_of instance_cmp wants.new.entries)
+        ≡ learned offer.now endpoint now (seek_of (map_of instance_cmp wants.old.entries))) }
+    ensures refused { IfErr result (λ cause.
+        uncounted offer.now now (seek_of (map_of instance_cmp wants.old.entries)) ≡ Some cause) }
+    ensures unchanged { OnErr result (seek_of (map_of instance_cmp wants.new.entries)
+        ≡ seek_of (map_of instance_cmp wants.old.entries)) }
+{
+    let Some(want) = wants.get(&offer.instance).copied() else {
+        return Err(Uncounted::Unwanted);
+    };
+    let known = want.known_at(now);
+    let endpoint = admit(want.major, known, offer)?;
+    let value = KnownOffer {
+        peer: offer.peer,
+        endpoint,
+    };
+    let until = Deadline::after_ttl(now, offer.ttl.seconds());
+    let found = Want {
+        major: want.major,
+        known: Some(Lasting { value, until }),
+        finding: None,
+    };
+    replace(wants, offer.instance, found);
+    Ok(counted_as(endpoint, known))
+}
+
+/// Ends the offer of an instance, if it is by this peer and the instance is wanted in this version.
+fn end_offer(
+    wants: &mut BTreeMap<InstanceId, Want>,
+    instance: InstanceId,
+    major: u8,
+    peer: Ipv4Addr,
+    now: Moment,
+) -> bool
+    ensures ended { result ≡ is_stopped instance major peer now
+        (seek_of (map_of instance_cmp wants.old.entries)) }
+    ensures gone { OnTrue result (seek_of (map_of instance_cmp wants.new.entries)
+        ≡ record (seek_of (map_of instance_cmp wants.old.entries)) {
+          known = finite.remove (seek_of (map_of instance_cmp wants.old.entries)).known instance;
+        }) }
+    ensures unchanged { OnFalse result (seek_of (map_of instance_cmp wants.new.entries)
+        ≡ seek_of (map_of instance_cmp wants.old.entries)) }
+{
+    let Some(want) = wants.get(&instance).copied() else {
+        return false;
+    };
+    if !want.is_stopped_by(major, peer, now) {
+        return false;
+    }
+    let left = Want {
+        major: want.major,
+        known: None,
+        finding: want.finding,
+    };
+    replace(wants, instance, left);
+    true
+}
+
+/// Puts a want in place of the one of its instance. It takes no memory.
+fn replace(wants: &mut BTreeMap<InstanceId, Want>, instance: InstanceId, want: Want)
+    requires { finite.get (map_of instance_cmp wants.old.entries) instance ≢ None }
+    ensures { map_of instance_cmp wants.new.entries
+        ≡ finite.insert (map_of instance_cmp wants.old.entries) instance want }
+{
+    match wants.insert(instance, want) {
+        Ok(_) => {}
+        Err(_) => unreachable!(),
+    }
+}
