@@ -9,17 +9,25 @@
 #![tactic(auto)]
 
 mod call;
+mod checks;
 mod client;
 mod error;
 mod ids;
 mod key_laws;
+mod open;
 mod pending;
+mod request;
+mod server;
+mod service;
 mod sessions;
 
 pub use call::{Awaited, Call, CallKind, ClientRules, Outgoing};
 pub use client::ClientCore;
 pub use error::{DropCause, RpcError};
-pub use ids::{CallKey, MessageId};
+pub use ids::{CallKey, EventId, MessageId};
+pub use request::{Arrived, Asked, Reply, RequestFault};
+pub use server::ServerCore;
+pub use service::ServiceRules;
 
 #[cfg(test)]
 mod tests;
