@@ -6,3 +6,4 @@ pub mod Answers
 pub mod Requests
 pub mod OpenSlab
 pub mod Servers
+pub mod Events

@@ -17,6 +17,9 @@ pub enum RpcError {
     /// No open request has this token.
     #[error("UnknownToken")]
     UnknownToken,
+    /// No call waits for this answer. A node drops such an answer: it is refused to nobody.
+    #[error("NotPending")]
+    NotPending,
     /// An ERROR cannot have the code E_OK.
     #[error("BadErrorCode")]
     BadErrorCode,

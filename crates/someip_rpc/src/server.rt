@@ -5,6 +5,9 @@ ghost use Rattle.std.specs.FinMap as finite;
 ghost use Rattle.someip_wire.specs.declared.header.MessageType.TheVariants as kinds;
 ghost use Rattle.someip_tables.specs.Tables.{map_of};
 ghost use Rattle.someip_rpc.specs.Ids.{event_cmp};
+ghost use Rattle.someip_rpc.specs.Calls.{or_memory};
+ghost use Rattle.someip_rpc.specs.Events.{event_header, event_of, next_session_of, published};
+ghost use Rattle.someip_rpc.specs.Events.{publish_refusal, publish_to_refusal};
 ghost use Rattle.someip_rpc.specs.Requests.{BecomesOf, IsErrorOf, answer_header, asked};
 ghost use Rattle.someip_rpc.specs.Requests.{has_no_place, request_fault};
 ghost use Rattle.someip_rpc.specs.Servers.{after_arrival, answer_refusal, unasked};
@@ -13,8 +16,10 @@ ghost use Rattle.someip_rpc.specs.Servers.{code_of_reply, kind_of_reply, is_bad_
 use crate::call::Outgoing;
 use crate::checks::request_fault;
 use crate::error::RpcError;
+use crate::events::next_event;
 use crate::ids::EventId;
 use crate::open::OpenRequests;
+use crate::publication::{Publication, Subscriber};
 use crate::request::{Arrived, Asked, Reply, RequestFault};
 use crate::service::ServiceRules;
 use someip_wire::{Header, MessageType, ReturnCode};
@@ -160,6 +165,82 @@ impl ServerCore {
         Ok(match reply {
             Reply::Response(code) => request.answered(MessageType::Response, code, payload),
             Reply::Error(code) => request.answered(MessageType::Error, code, payload),
+        })
+    }
+
+    /// Publishes an event of an instance, which is up or not, with the next session of that event: also
+    /// where nobody is subscribed. The message goes to each live endpoint of the event's eventgroups.
+    ///
+    /// The first of these refuses it: `NotOffered` while the instance is down, `UnknownEvent` for one
+    /// that it has not, `TooLong` for a payload above the message limit. Memory runs out only at the
+    /// first publication of an event.
+    pub fn publish<'a>(
+        &mut self,
+        rules: &ServiceRules,
+        is_up: bool,
+        message_limit: usize,
+        event: u16,
+        payload: &'a [u8],
+    ) -> Result<Publication<'a>, RpcError>
+        ensures accepted { OnOk result
+            (publish_refusal rules.now is_up message_limit event (length payload.now) ≡ None) }
+        ensures from { IfOk result (λ publication. publication.from ≡ rules.now.endpoint) }
+        ensures header { IfOk result (λ publication. publication.message.header
+            ≡ event_header rules.now event (next_session_of rules.now event self.old)) }
+        ensures payload { IfOk result (λ publication.
+            publication.message.payload.now ≡ payload.now) }
+        ensures published { OnOk result (self.new ≡ published rules.now event self.old) }
+        ensures refused { IfErr result (λ error. error ≡ or_memory
+            (publish_refusal rules.now is_up message_limit event (length payload.now))) }
+        ensures grows { OnErr result
+            (publish_refusal rules.now is_up message_limit event (length payload.now) ≡ None
+            → finite.get self.old.sessions (event_of rules.now event) ≡ None) }
+        ensures unchanged { OnErr result (self.new ≡ self.old) }
+    {
+        rules.may_publish(is_up, message_limit, event, payload.len())?;
+        let message = next_event(&mut self.sessions, rules, event, payload)?;
+        Ok(Publication {
+            from: rules.endpoint,
+            message,
+        })
+    }
+
+    /// Publishes an event to one subscriber alone, with the next session of that event.
+    ///
+    /// The first of these refuses it: `NotOffered` while the instance is down, `UnknownEvent` for one
+    /// that it has not or that does not belong to the eventgroup, `TooLong` for a payload above the
+    /// message limit, `NotSubscribed` where no subscription is live. Memory runs out only at the first
+    /// publication of an event.
+    pub fn publish_to<'a>(
+        &mut self,
+        rules: &ServiceRules,
+        is_up: bool,
+        message_limit: usize,
+        subscriber: &Subscriber,
+        event: u16,
+        payload: &'a [u8],
+    ) -> Result<Outgoing<'a>, RpcError>
+        ensures accepted { OnOk result (publish_to_refusal rules.now is_up message_limit
+            subscriber.now event (length payload.now) ≡ None) }
+        ensures from { IfOk result (λ sent. sent.from ≡ rules.now.endpoint) }
+        ensures to { IfOk result (λ sent. sent.to ≡ subscriber.now.endpoint) }
+        ensures header { IfOk result (λ sent. sent.message.header
+            ≡ event_header rules.now event (next_session_of rules.now event self.old)) }
+        ensures payload { IfOk result (λ sent. sent.message.payload.now ≡ payload.now) }
+        ensures published { OnOk result (self.new ≡ published rules.now event self.old) }
+        ensures refused { IfErr result (λ error. error ≡ or_memory (publish_to_refusal rules.now
+            is_up message_limit subscriber.now event (length payload.now))) }
+        ensures grows { OnErr result (publish_to_refusal rules.now is_up message_limit
+            subscriber.now event (length payload.now) ≡ None
+            → finite.get self.old.sessions (event_of rules.now event) ≡ None) }
+        ensures unchanged { OnErr result (self.new ≡ self.old) }
+    {
+        rules.may_publish_to(is_up, message_limit, subscriber, event, payload.len())?;
+        let message = next_event(&mut self.sessions, rules, event, payload)?;
+        Ok(Outgoing {
+            from: rules.endpoint,
+            to: subscriber.endpoint,
+            message,
         })
     }
 
