@@ -1,2 +1,4 @@
 pub mod SessionLemmas
 pub mod PendingLemmas
+pub mod RequestLemmas
+pub mod OpenLemmas

@@ -1,14 +1,16 @@
 -- Sessions in cyclic order, and how many of them a table can hold.
-use Rattle.std.proofs.Common.{◌≡◌, ℕ, zero, suc, ◌+◌, ◌==◌, ◌<◌, ◌≤◌, Bool, true, false, cond, if◌then◌else◌, Option, None, Some, ◌⊎◌, inl, inr, refl, sym, ap, ◌∙◌, arith}
+use Rattle.std.proofs.Common.{◌≡◌, ℕ, zero, suc, ◌+◌, ◌==◌, ◌<◌, ◌≤◌, nat_lt, Bool, true, false, cond, if◌then◌else◌, Option, None, Some, ◌⊎◌, inl, inr, refl, sym, ap, ◌∙◌, arith}
 use Rattle.std.specs.Option.{is_some}
 use Rattle.std.specs.declared.cmp.Ordering.{Ordering}
 use Rattle.std.specs.Ordering.{eq_by_cmp}
 use Rattle.std.specs.Cmp.{IsTotalOrder}
 use Rattle.std.specs.FinMap.{FinMap, IsAntisymmetric, get, remove, len, get-remove}
-use Rattle.std.proofs.lemmas.Bool.{eqb-true, eqb-false}
+use Rattle.std.proofs.lemmas.Bool.{eqb-true, eqb-false, ltb-true, ltb-false}
 use Rattle.someip_tables.proofs.Entries.{same_by_test}
 use Rattle.someip_tables.proofs.MapLaws.{insert_present, insert-remove, len-insert_new, get-remove_own}
+use Rattle.someip_rpc.specs.declared.ids.MessageId.{MessageId}
 use Rattle.someip_rpc.specs.Sessions.{session_after}
+use Rattle.someip_rpc.specs.Calls.{Pending, IsFirstFree, is_pending}
 
 -- the n-th session after one lies n further, or 65535 below that once it has wrapped
 abbrev Lies : ℕ → ℕ → ℕ → Type 0
@@ -60,3 +62,22 @@ module _ {K X : Type 0} {R : K → K → Ordering} (o : IsTotalOrder R) (exact :
       rw (get-remove o m (key n) (key i))
       (others_stay n i m key (eq_by_cmp R (key i) (key n)) refl (differ i n (omega (arith, x)) (omega arith)) x (there i (omega (arith, x))))) in
       omega arith
+
+-- the first session of a search that does not wait is determined
+pub one_first_free : (live : Pending) (message : MessageId) (first one other : ℕ) → IsFirstFree live message first one → IsFirstFree live message first other → one ≡ other
+one_first_free live message first one other a b = cases (nat_lt a.0 b.0) (nat_lt b.0 a.0) refl refl
+  where
+    cases : (less more : Bool) → nat_lt a.0 b.0 ≡ less → nat_lt b.0 a.0 ≡ more → one ≡ other
+    cases true more is not =
+        let waits : is_pending live message (session_after a.0 first) ≡ true = b.3 a.0 (ltb-true a.0 b.0 is) in
+        let free : is_pending live message (session_after a.0 first) ≡ false = ap (is_pending live message) (sym a.1) ∙ a.2 in
+        absurd (cc)
+    cases false true not is =
+        let waits : is_pending live message (session_after b.0 first) ≡ true = a.3 b.0 (ltb-true b.0 a.0 is) in
+        let free : is_pending live message (session_after b.0 first) ≡ false = ap (is_pending live message) (sym b.1) ∙ b.2 in
+        absurd (cc)
+    cases false false not no_more =
+        let above : b.0 ≤ a.0 = ltb-false a.0 b.0 not in
+        let below : a.0 ≤ b.0 = ltb-false b.0 a.0 no_more in
+        let same : a.0 ≡ b.0 = omega (arith, above, below) in
+        a.1 ∙ ap (λ n. session_after n first) same ∙ sym b.1

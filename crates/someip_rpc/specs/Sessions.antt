@@ -1,8 +1,8 @@
 -- The sessions of the messages that have one Message ID (SOME/IP Protocol, "Session ID").
 use Rattle.std.specs.Prelude.{ℕ, zero, suc, ◌+◌, ◌==◌, if◌then◌else◌, Option, None, Some}
+use Rattle.std.specs.declared.cmp.Ordering.{Ordering}
 use Rattle.std.specs.FinMap as finite
 use Rattle.std.specs.FinMap.{FinMap}
-use Rattle.someip_rpc.specs.declared.ids.MessageId.{MessageId}
 use Rattle.someip_rpc.specs.Ids.{message_cmp}
 
 -- the session after a session: FFFF is followed by 1, and 0 is never given
@@ -23,6 +23,6 @@ abbrev pub session_after_last : Option ℕ → ℕ
 session_after_last None = 1
 session_after_last (Some last) = next_session last
 
--- the next session of a Message ID
-abbrev pub next_of : LastSessions → MessageId → ℕ
-next_of sessions message = session_after_last (finite.get sessions message)
+-- the next session of a Message ID, or of an event
+abbrev pub next_of : {K : Type 0} {R : K → K → Ordering} → FinMap R ℕ → K → ℕ
+next_of sessions key = session_after_last (finite.get sessions key)

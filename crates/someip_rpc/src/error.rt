@@ -17,6 +17,10 @@ pub enum RpcError {
     /// No open request has this token.
     #[error("UnknownToken")]
     UnknownToken,
+    /// No call waits for an answer. No call of a core is refused so: an answer that came is dropped by
+    /// this name ([`DropCause::NotPending`]).
+    #[error("NotPending")]
+    NotPending,
     /// An ERROR cannot have the code E_OK.
     #[error("BadErrorCode")]
     BadErrorCode,
@@ -42,7 +46,8 @@ impl From<AllocError> for RpcError {
     }
 }
 
-/// Why a message that came is dropped. The core is as it was.
+/// Why an answer that came is dropped: what comes from a peer is refused to nobody, and a node tells
+/// its drops by these names. The core is as it was.
 #[derive(Clone, Copy, Debug, PartialEq, Eq, Error)]
 pub enum DropCause {
     /// No call waits for this answer.

@@ -17,3 +17,14 @@ pub struct CallKey {
     /// Session ID.
     pub session: u16,
 }
+
+/// An event of a service instance.
+#[derive(Clone, Copy, Debug, PartialEq, Eq, PartialOrd, Ord)]
+pub struct EventId {
+    /// Service ID.
+    pub service: u16,
+    /// Instance ID.
+    pub instance: u16,
+    /// Event ID: the second half of the Message ID, whose top bit is set.
+    pub event: u16,
+}

@@ -1,11 +1,10 @@
-//! The sessions that Message IDs were given (SOME/IP Protocol, "Session ID").
+//! The sessions that Message IDs and events were given (SOME/IP Protocol, "Session ID").
 ghost use Rattle.std.specs.Prelude.{◌≡◌, OnOk, OnErr};
 ghost use Rattle.std.specs.FinMap as finite;
 ghost use Rattle.someip_tables.specs.Tables.{map_of};
-ghost use Rattle.someip_rpc.specs.Ids.{message_cmp};
 ghost use Rattle.someip_rpc.specs.Sessions.{next_session, session_after_last};
 
-use crate::ids::MessageId;
+use someip_tables::Key;
 use std::alloc::AllocError;
 use std::collections::BTreeMap;
 
@@ -26,27 +25,26 @@ pub(crate) fn session_after_last(last: Option<u16>) -> u16
     }
 }
 
-/// The session that a Message ID was given last.
-pub(crate) fn last_session(sessions: &BTreeMap<MessageId, u16>, message: MessageId) -> Option<u16>
-    ensures { result ≡ finite.get (map_of message_cmp sessions.now.entries) message }
+/// The session that a key was given last.
+pub(crate) fn last_session<K: Key>(sessions: &BTreeMap<K, u16>, key: K) -> Option<u16>
+    ensures { result ≡ finite.get (map_of K.cmp sessions.now.entries) key }
 {
-    sessions.get(&message).copied()
+    sessions.get(&key).copied()
 }
 
-/// A session is the last one of its Message ID now.
-pub(crate) fn put_session(
-    sessions: &mut BTreeMap<MessageId, u16>,
-    message: MessageId,
+/// A session is the last one of its key now.
+pub(crate) fn put_session<K: Key>(
+    sessions: &mut BTreeMap<K, u16>,
+    key: K,
     session: u16,
 ) -> Result<(), AllocError>
-    ensures ok { OnOk result (map_of message_cmp sessions.new.entries
-        ≡ finite.insert (map_of message_cmp sessions.old.entries) message session) }
-    ensures absent { OnErr result
-        (finite.get (map_of message_cmp sessions.old.entries) message ≡ None) }
-    ensures err { OnErr result (map_of message_cmp sessions.new.entries
-        ≡ map_of message_cmp sessions.old.entries) }
+    ensures ok { OnOk result (map_of K.cmp sessions.new.entries
+        ≡ finite.insert (map_of K.cmp sessions.old.entries) key session) }
+    ensures absent { OnErr result (finite.get (map_of K.cmp sessions.old.entries) key ≡ None) }
+    ensures err { OnErr result (map_of K.cmp sessions.new.entries
+        ≡ map_of K.cmp sessions.old.entries) }
 {
-    match sessions.insert(message, session) {
+    match sessions.insert(key, session) {
         Ok(_) => Ok(()),
         Err(_) => Err(AllocError),
     }

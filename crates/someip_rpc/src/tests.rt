@@ -5,6 +5,9 @@ use someip_wire::{Header, MessageType, ReturnCode};
 use std::net::{Ipv4Addr, SocketAddrV4};
 use std::test::Fail;
 
+mod events;
+mod requests;
+
 /// The method 0423 of the service 1111.
 const METHOD: MessageId = MessageId {
     service: 0x1111,

@@ -1,0 +1,42 @@
+//! Laws of the definitions behind the contracts. Each is the contract of a function that does
+//! nothing: it says what holds of calls and requests, whatever code keeps them.
+ghost use Rattle.std.specs.Prelude.{◌≡◌, ℕ, false, Option, Some, None};
+ghost use Rattle.someip_wire.specs.declared.header.Header.{Header};
+ghost use Rattle.someip_wire.specs.declared.header.MessageType.TheVariants as kinds;
+ghost use Rattle.someip_rpc.specs.declared.ids.MessageId.{MessageId};
+ghost use Rattle.someip_rpc.specs.declared.request.Arrived.{Arrived};
+ghost use Rattle.someip_rpc.specs.declared.request.Arrived.TheVariants as arrived;
+ghost use Rattle.someip_rpc.specs.declared.request.Asked.{Asked};
+ghost use Rattle.someip_rpc.specs.declared.request.RequestFault.{RequestFault};
+ghost use Rattle.someip_rpc.specs.declared.request.RequestFault.TheVariants.{UnknownService, WrongInterface, UnknownMethod, WrongType, NotReady};
+ghost use Rattle.someip_rpc.specs.declared.service.ServiceRules.{ServiceRules};
+ghost use Rattle.someip_rpc.specs.Calls.{IsFirstFree, Pending};
+ghost use Rattle.someip_rpc.specs.Requests.{BecomesOf, OpenRequests, fault_code, request_fault};
+
+/// The session that a call takes is determined by what waits and by where the search begins.
+pub fn a_call_has_one_session()
+    ensures { (live : Pending) (message : MessageId) (first one other : ℕ)
+        → IsFirstFree live message first one → IsFirstFree live message first other → one ≡ other }
+{}
+
+/// The Return Codes of the ERRORs that refuse a request (SOME/IP Protocol, "Return Code").
+pub fn faults_have_codes()
+    ensures unknown_service { fault_code UnknownService ≡ 0x02 }
+    ensures wrong_interface { fault_code WrongInterface ≡ 0x08 }
+    ensures unknown_method { fault_code UnknownMethod ≡ 0x03 }
+    ensures wrong_type { fault_code WrongType ≡ 0x0A }
+    ensures not_ready { fault_code NotReady ≡ 0x04 }
+{}
+
+/// An instance that is down takes nothing, and what is neither REQUEST nor REQUEST_NO_RETURN is
+/// dropped before any check.
+pub fn what_is_no_request_is_dropped()
+    ensures down { (rules : ServiceRules) (header : Header) (requests : OpenRequests) (next : ℕ)
+        → request_fault rules false header requests next ≡ Some UnknownService }
+    ensures answers { (request : Asked) (next : ℕ) (fault : Option RequestFault) (becomes : Arrived)
+        → BecomesOf request next kinds.Response fault becomes
+        → becomes ≡ arrived.Dropped WrongType }
+    ensures events { (request : Asked) (next : ℕ) (fault : Option RequestFault) (becomes : Arrived)
+        → BecomesOf request next kinds.Notification fault becomes
+        → becomes ≡ arrived.Dropped WrongType }
+{}
