@@ -3,13 +3,14 @@
 //! both ends. Each type is a table that contracts see as a map.
 //!
 //! - [`InstanceId`]: what tells instances apart; [`Version`]: what they are versions of;
+//!   [`Eventgroup`]: an eventgroup of an instance;
 //! - [`Phases`]: the delays between the Offers, or Finds, of an instance;
 //! - [`Offers`]: the instances that a node offers, and when each sends its next Offer; [`Sought`] is
 //!   what a Find asks for;
-//! - [`Subscriptions`]: the eventgroups that a client wished, and how far each [`Wish`] is; an
-//!   [`Eventgroup`] is one of an instance.
 //! - [`Seeker`]: the instances that a node wants, what it knows of each, and when each that is still
-//!   searched for sends its next Find; [`ReceivedOffer`] is what it learns from.
+//!   searched for sends its next Find; [`ReceivedOffer`] is what it learns from;
+//! - [`Subscriptions`]: the eventgroups that a client wished, and how far each [`Wish`] is;
+//! - [`laws`]: what the definitions behind the contracts promise.
 #![tactic(auto)]
 
 mod chosen;
@@ -24,18 +25,18 @@ mod seeker;
 mod sending;
 mod subscriptions;
 mod version;
-mod wish;
 mod want;
+mod wish;
 
 pub use eventgroup::Eventgroup;
 pub use keys::InstanceId;
 pub use offers::Offers;
 pub use phases::Phases;
-pub use subscriptions::Subscriptions;
 pub use received::{Counted, KnownOffer, ReceivedOffer, Uncounted};
 pub use seeker::{Seeker, Ticked};
+pub use subscriptions::Subscriptions;
 pub use version::{Sought, Version};
-pub use wish::{Acked, Beginning, Stage, OutgoingSubscribe, SubscribeAnswer, Wish};
+pub use wish::{Acked, Beginning, OutgoingSubscribe, Stage, SubscribeAnswer, Wish};
 
 #[cfg(test)]
 mod tests;

@@ -1,21 +1,8 @@
-//! Rows of offers and finds.
-use crate::{InstanceId, Offers, Phases, Sought, Version};
+//! Rows of offers, and of answers to finds.
+use super::{THREE, instance};
+use crate::{Offers, Phases, Sought, Version};
 use someip_tables::Moment;
 use std::test::Fail;
-
-/// The phases of the rows: base 30, cyclic 1000.
-const THREE: Phases = Phases {
-    base: 30,
-    repetitions: 3,
-    cyclic: 1000,
-};
-
-fn instance(number: u16) -> InstanceId {
-    InstanceId {
-        service: 0x1111,
-        instance: number,
-    }
-}
 
 #[test]
 fn offers_go_out_in_phases(rt: HostRuntime) -> Result<(), Fail> {

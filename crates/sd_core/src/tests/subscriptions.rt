@@ -1,5 +1,6 @@
 //! Rows of a client's subscriptions.
-use crate::{Acked, Beginning, Eventgroup, InstanceId, OutgoingSubscribe, SubscribeAnswer, Subscriptions};
+use super::instance;
+use crate::{Acked, Beginning, Eventgroup, OutgoingSubscribe, SubscribeAnswer, Subscriptions};
 use sd_wire::{SubscriptionCounter, Ttl};
 use someip_tables::{Deadline, Moment};
 use std::net::Ipv4Addr;
@@ -11,13 +12,6 @@ fn server() -> Ipv4Addr {
 
 fn other_server() -> Ipv4Addr {
     Ipv4Addr::new(192, 168, 0, 9)
-}
-
-fn instance(number: u16) -> InstanceId {
-    InstanceId {
-        service: 0x1111,
-        instance: number,
-    }
 }
 
 fn group(number: u16, id: u16) -> Eventgroup {
