@@ -71,7 +71,7 @@ impl Subscriptions {
     /// at once, and the answer is its counter: it renews the subscription that stands there, and else
     /// begins one with the next counter, from 0 on, modulo 16.
     ///
-    /// What is refused because memory ran out leaves all as it was; memory is wanted only for an
+    /// What is refused because memory ran out leaves all as it was; memory is taken only for an
     /// eventgroup that was never wished.
     pub fn want(
         &mut self,
@@ -108,7 +108,7 @@ impl Subscriptions {
     /// to it, one for each wished eventgroup of the instance, by rising Eventgroup ID. Each renews the
     /// subscription that stands there, and else begins one with the next counter.
     ///
-    /// What is refused because memory ran out leaves all as it was; memory is wanted only where a
+    /// What is refused because memory ran out leaves all as it was; memory is taken only where a
     /// Subscribe goes out.
     pub fn offer(
         &mut self,
@@ -152,7 +152,7 @@ impl Subscriptions {
     /// The known offer of an instance ended, since its time passed or by a StopOffer: the subscriptions
     /// that were begun there end, and are told by rising Eventgroup ID. The wishes stand.
     ///
-    /// What is refused because memory ran out leaves all as it was; memory is wanted only where one ends.
+    /// What is refused because memory ran out leaves all as it was; memory is taken only where one ends.
     pub fn stop(
         &mut self,
         alloc: Global,
@@ -173,7 +173,7 @@ impl Subscriptions {
     /// A peer began again: the subscriptions that were begun there end, and are told by rising service,
     /// instance and Eventgroup ID. The wishes stand.
     ///
-    /// What is refused because memory ran out leaves all as it was; memory is wanted only where one ends.
+    /// What is refused because memory ran out leaves all as it was; memory is taken only where one ends.
     pub fn peer_reboot(
         &mut self,
         alloc: Global,
@@ -193,7 +193,7 @@ impl Subscriptions {
     /// Ends the subscriptions whose Ack's time has passed, and tells them by rising service, instance
     /// and Eventgroup ID. The wishes stand.
     ///
-    /// What is refused because memory ran out leaves all as it was; memory is wanted only where one ends.
+    /// What is refused because memory ran out leaves all as it was; memory is taken only where one ends.
     pub fn tick(&mut self, alloc: Global, now: Moment) -> Result<Vec<Eventgroup>, AllocError>
         ensures ended { IfOk result (λ ended. ended.items
             ≡ finite.keys (begun_where (λ eventgroup beginning. is_over now beginning) self.old)) }

@@ -43,12 +43,12 @@ option_size bytes =
 abbrev pub AreTypes : ℕ → List ℕ → Type 0
 AreTypes k entries = (j : ℕ) → j < k → is_entry_type (slice_index entries (j * 16)) ≡ true
 
--- behind some entries of known types stands one, of n at most, whose type is none of the four
+-- after some entries of known types stands one, of n at most, whose type is none of the four
 abbrev pub FaultInTypes : ℕ → ℕ → List ℕ → SdError → Type 0
 FaultInTypes n p entries e =
     (k : ℕ) × (k < n) × AreTypes k entries × (is_entry_type (slice_index entries (k * 16)) ≡ false) × (e ≡ UnknownEntryType (p + k * 16))
 
--- behind some options stand bytes at which no option begins
+-- after some options stand bytes at which no option begins
 abbrev pub FaultInOptions : ℕ → List ℕ → SdError → Type 0
 FaultInOptions p options e =
     (pool : List SdOption) × (front rest : List ℕ) × (options ≡ front ++ rest) × Spelled SpellsOption pool front

@@ -122,7 +122,7 @@ abbrev pub HeadFits : EntryHead → Type 0
 HeadFits (Service e) = ServiceFits e
 HeadFits (Eventgroup e) = EventgroupFits e
 
--- the bytes of a message: flags, three reserved bytes, the entries behind their length, the options behind theirs
+-- the bytes of a message: flags, three reserved bytes, the entries after their length, the options after theirs
 abbrev pub sd_bytes : ℕ → ℕ → ℕ → ℕ → List ℕ → List ℕ → List ℕ
 sd_bytes flags a b c entries options =
     flags ∷ a ∷ b ∷ c ∷ (number32 (length entries) ++ (entries ++ (number32 (length options) ++ options)))

@@ -44,7 +44,7 @@ IsRefused pool e =
     ⊎ ((index : ℕ) × (middle : List SdOption) × Stands pool e.first index middle
     × ((255 < index) ⊎ ((other : ℕ) × (after : List SdOption) × Stands middle e.second other after × (255 < other))))
 
--- the bytes of entries one after the other, whose runs stand in the pool, and the pool behind them
+-- the bytes of entries one after the other, whose runs stand in the pool, and the pool after them
 abbrev pub Packs : List SdOption → List EntryValue → List ℕ → List SdOption → Type 0
 Packs pool [] text after = (text ≡ []) × (after ≡ pool)
 Packs pool (e ∷ entries) text after =

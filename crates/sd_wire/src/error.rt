@@ -28,7 +28,7 @@ pub enum SdError {
     /// the number of its entry, counted from 0.
     #[error("TooManyOptions in entry {0}")]
     TooManyOptions(usize),
-    /// Bytes stand behind the options. The place of the first.
+    /// Bytes stand after the options. The place of the first.
     #[error("TrailingBytes at {0}")]
     TrailingBytes(usize),
     /// Memory ran out.

@@ -83,7 +83,7 @@ pub fn a_front_fits_under_any_flags()
 {}
 
 /// An entry with few options, or with no option but one endpoint, fits a datagram alone; so all
-/// fronts of such entries fit, and writing one of them fails for want of memory alone.
+/// fronts of such entries fit, and writing one of them fails for memory alone.
 pub fn small_entries_fit_alone()
     ensures short { (e : EntryValue) → IsShortEntry e → FitsDatagram (e ∷ []) }
     ensures endpoint { (e : EntryValue) → HasOneEndpointAtMost e → FitsDatagram (e ∷ []) }
@@ -111,7 +111,7 @@ pub fn constants()
     ensures unicast { flags_byte SdFlags.UNICAST ≡ 0x40 }
 {}
 
-/// Examples: an Offer over one option, the same with a run that begins behind that option, and two
+/// Examples: an Offer over one option, the same with a run that begins after that option, and two
 /// Offers with one and the same option.
 pub fn worked_messages()
     ensures offer { Sd read_offer (bytes_from 0) }

@@ -105,7 +105,7 @@ fn is_known(kind: u8) -> bool
     matches!(kind, 0x02 | 0x04 | 0x14 | 0x24 | 0x06 | 0x16 | 0x26)
 }
 
-/// An option. The byte behind the type is reserved, and so is the one behind an address: both are
+/// An option. The byte after the type is reserved, and so is the one after an address: both are
 /// ignored on reading and written 0.
 #[derive(Clone, Debug, Drop, PartialEq, Eq)]
 pub enum SdOption {

@@ -17,7 +17,7 @@ use crate::message::SdRead;
 use crate::option_reading::read_options;
 use std::alloc::Global;
 
-/// The message that the bytes hold: all of them, as a UDP payload behind the header of SOME/IP.
+/// The message that the bytes hold: all of them, as a UDP payload after the header of SOME/IP.
 ///
 /// An entry with a run that passes the options is marked `BadRun`, and the others are read. Options
 /// that no run names are dropped, and so are reserved bits and the indexes of empty runs. The first
@@ -37,7 +37,7 @@ pub fn read_sd(alloc: Global, bytes: &[u8]) -> Result<SdRead, SdError>
     ensures exact { Gives view_sd result (reading bytes.now) }
     // Each entry has 16 bytes.
     ensures few { IfOk result (λ read. 16 * length read.entries.items ≤ length bytes.now) }
-    // Its place is not behind the end of the bytes.
+    // Its place is not past the end of the bytes.
     ensures places { IfErr result (λ e. fault_place e ≤ length bytes.now) }
     // It is none that only writing has.
     ensures errors { IfErr result IsReadingError }

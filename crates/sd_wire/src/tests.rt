@@ -165,7 +165,7 @@ fn all_good(
     }))
 }
 
-/// The entries are written behind what stands in a vector, and what is written is read as them.
+/// The entries are written after what stands in a vector, and what is written is read as them.
 fn is_read(
     rt: &impl Abort,
     alloc: Global,
@@ -389,7 +389,7 @@ fn reserved_bits_are_ignored(rt: HostRuntime) -> Result<(), Fail> {
     Ok(())
 }
 
-/// A Find with these options is written, with these bytes behind it, and read again.
+/// A Find with these options is written, with these bytes after it, and read again.
 fn has_options(rt: &impl Abort, alloc: Global, find: Entry, bytes: &[u8]) -> Result<(), Fail> {
     let written = is_read(rt, alloc, NO_FLAGS, one(alloc, find)?)?;
     assert!(rt; written.get(28..) == Some(bytes));

@@ -15,7 +15,7 @@ use crate::message::SdMessage;
 use crate::packing::{pack, pool_text};
 use std::alloc::{AllocError, Global};
 
-/// Adds the bytes of the message at the end of `out`: the payload behind the header of SOME/IP.
+/// Adds the bytes of the message at the end of `out`: the payload after the header of SOME/IP.
 ///
 /// Options that several runs name are written once. Entry by entry, the first run before the
 /// second, a run stands at the least index at which the options so far hold it in one piece; if they
@@ -66,7 +66,7 @@ fn text_of(alloc: Global, message: &SdMessage) -> Result<Vec<u8>, SdError>
     Ok(text)
 }
 
-/// Adds a part behind its length.
+/// Adds a part after its length.
 fn put_part(part: &[u8], out: &mut Vec<u8>) -> Result<(), AllocError>
     requires { length part.now < 2 ^ 32 }
     ensures { OnOk result (out.new.items

@@ -13,7 +13,7 @@ use Rattle.someip_payload.specs.Grammar.{width_of, limit_of, size_of, number, fr
 use Rattle.someip_payload.specs.Texts.{SpellsText, IsTerminated}
 use Rattle.someip_payload.specs.Reading.{short_at, skip}
 
--- the window of a body that stands behind a length field at w
+-- the window of a body that stands after a length field at w
 abbrev pub body_view : Width → View → List ℕ → View
 body_view width w body = record { is_body = true; place = w.place + byte_len (width_of (size_of width)); bytes = body }
 
@@ -33,13 +33,13 @@ FaultInText encoding place e b =
     ((IsTerminated encoding b.bytes → ⊥) × (e ≡ NoTerminator place))
     ⊎ (IsTerminated encoding b.bytes × ((s : List ℕ) → SpellsText encoding s b.bytes → ⊥) × (e ≡ BadText place))
 
--- some elements are read, and behind them stands one too many, or one that is at fault
+-- some elements are read, and after them stands one too many, or one that is at fault
 abbrev pub FaultInItems : (Data → List ℕ → Type 0) → (View → Type 0) → ℕ → PayloadError → View → Type 0
 FaultInItems P In most e w =
     (ds : Items) × (text rest : List ℕ) × (w.bytes ≡ text ++ rest) × Each P ds text × (0 < length rest)
     × (((count ds ≡ most) × (e ≡ TooMany (w.place + length text))) ⊎ ((count ds < most) × In (skip (length text) w)))
 
--- some of the elements are read, and behind them stands one that is at fault
+-- some of the elements are read, and after them stands one that is at fault
 abbrev pub FaultInFixed : (Data → List ℕ → Type 0) → (View → Type 0) → ℕ → View → Type 0
 FaultInFixed P In n w =
     (ds : Items) × (text rest : List ℕ) × (w.bytes ≡ text ++ rest) × Each P ds text × (count ds < n) × In (skip (length text) w)
@@ -76,7 +76,7 @@ unfoldable mutual
   FaultInMembers (form_then f fs) e w =
       FaultIn f e w ⊎ ((d : Data) × (text rest : List ℕ) × (w.bytes ≡ text ++ rest) × Reads f d text × FaultInMembers fs e (skip (length text) w))
 
-  -- no variant has the number, or the body behind it, at v, passes the window or is at fault
+  -- no variant has the number, or the body after it, at v, passes the window or is at fault
   pub FaultInVariant : Variants → PayloadError → ℕ → ℕ → View → View → Type 0
   FaultInVariant no_variants e kind len w v = e ≡ UnknownVariant (w.place + 4)
   FaultInVariant (variant n f vs) e kind len w v =

@@ -1,5 +1,5 @@
 -- Which bytes are read as which value of a form. A number has its bytes from the highest on, a body stands
--- behind its length, and members and elements follow each other.
+-- after its length, and members and elements follow each other.
 use Rattle.std.specs.Prelude.{◌≡◌, ℕ, ◌+◌, ◌<◌, ◌≤◌, ◌^◌, ◌%◌, ◌==◌, Bool, true, false, List, [], ◌++◌, length, Some, None}
 use Rattle.std.specs.Int.{Width as IntWidth, w8, w16, w32, w64, to_be_bytes, cast_unsigned}
 use Rattle.std.specs.Int.RustNames.{FitsSigned}
@@ -35,11 +35,11 @@ number size n = to_be_bytes (width_of size) n
 abbrev pub length_field : Width → ℕ → List ℕ
 length_field width n = number (size_of width) n
 
--- a body behind its length
+-- a body after its length
 abbrev pub framed : Width → List ℕ → List ℕ
 framed width body = length_field width (length body) ++ body
 
--- a body behind its length and a type number
+-- a body after its length and a type number
 abbrev pub tagged : ℕ → List ℕ → List ℕ
 tagged kind body = number S32 (length body) ++ (number S32 kind ++ body)
 

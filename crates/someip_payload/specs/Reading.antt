@@ -20,7 +20,7 @@ use Rattle.someip_payload.specs.Data.{Form, bool, unsigned, signed, string, arra
 abbrev pub short_at : View → PayloadError
 short_at w = if w.is_body then LengthMismatch w.place else Truncated w.place
 
--- what is left behind so many bytes
+-- what is left after so many bytes
 abbrev pub skip : ℕ → View → View
 skip n w = record { is_body = w.is_body; place = w.place + n; bytes = drop n w.bytes }
 
@@ -35,11 +35,11 @@ number_at size w = do
 abbrev pub signed_of : Size → ℕ → ℤ
 signed_of size n = cast_signed (width_of size) n
 
--- a body of so many bytes is next at v, whose length field stands at w, and what is left behind it
+-- a body of so many bytes is next at v, whose length field stands at w, and what is left after it
 unfoldable pub window_at : ℕ → View → View → Result (View × View) PayloadError
 window_at n w v = if nat_lt (length v.bytes) n then Err (short_at w) else Ok (record { is_body = true; place = v.place; bytes = take n v.bytes }, skip n v)
 
--- the body behind a length field, and what is left behind it
+-- the body after a length field, and what is left after it
 unfoldable pub body_at : Width → View → Result (View × View) PayloadError
 body_at width w = do
   len ← number_at (size_of width) w
@@ -105,7 +105,7 @@ unfoldable pub fixed_at : (View → Result (Data × View) PayloadError) → ℕ 
 fixed_at one zero w = Ok (no_items, w)
 fixed_at one (suc left) w = one w >>= λ first. fixed_at one left first.1 >>= λ others. Ok (item first.0 others.0, others.1)
 
--- what stands behind the length and the type number of a union
+-- what stands after the length and the type number of a union
 unfoldable pub union_at : (ℕ → ℕ → ℕ → View → Result (Data × View) PayloadError) → View → Result (Data × View) PayloadError
 union_at known w = do
   len ← number_at S32 w

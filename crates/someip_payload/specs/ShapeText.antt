@@ -52,7 +52,7 @@ mutual
     next_member : (f : Form) (fs : Forms) (text others : List ℕ) → IsTextOf f text → IsTextOfMembers fs others
         → IsTextOfMembers (form_then f fs) (text ++ (codes "," ++ others))
 
-  -- variants, of which there is at least one, each behind its type number, with commas between them
+  -- variants, of which there is at least one, each after its type number, with commas between them
   pub data IsTextOfVariants : Variants → List ℕ → Type 0 where
     last_variant : (n : ℕ) (f : Form) (text : List ℕ) → n < 2 ^ 32 → IsTextOf f text → IsTextOfVariants (variant n f no_variants) (decimal n ++ (codes ":" ++ text))
     next_variant : (n : ℕ) (f : Form) (vs : Variants) (text others : List ℕ) → n < 2 ^ 32 → IsTextOf f text → IsTextOfVariants vs others

@@ -7,7 +7,7 @@ use Rattle.std.specs.Fmt.{decimal, signed_decimal, digits}
 use Rattle.someip_payload.specs.declared.value.Value.{Value, fold-Value}
 use Rattle.someip_payload.specs.declared.value.Value.TheOpen.{Value-F}
 
--- a character between quotes: a quote and a backslash stand behind a backslash, and a control
+-- a character between quotes: a quote and a backslash stand after a backslash, and a control
 -- character of ASCII is written by its number
 abbrev pub escaped : ℕ → List ℕ
 escaped c = if c == 34 || c == 92 then 92 ∷ encode_utf8 c

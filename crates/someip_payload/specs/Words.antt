@@ -25,7 +25,7 @@ word_text word.Fixed = codes "fixed"
 word_text word.Struct = codes "struct"
 word_text word.Union = codes "union"
 
--- what stands behind the word in a text of the form
+-- what stands after the word in a text of the form
 abbrev pub Behind : Word → Form → List ℕ → Type 0
 Behind word.Bool f back = (f ≡ bool) × (back ≡ [])
 Behind word.U8 f back = (f ≡ unsigned S8) × (back ≡ [])

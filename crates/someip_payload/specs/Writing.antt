@@ -60,16 +60,16 @@ array_text width most one ds = if nat_lt most (count ds) then Err (TooMany 0) el
 unfoldable pub fixed_text : ℕ → (Data → Result (List ℕ) PayloadError) → Items → Result (List ℕ) PayloadError
 fixed_text n one ds = if count ds == n then each_text one ds else Err (NotOfShape 0)
 
--- the members, perhaps behind a length
+-- the members, perhaps after a length
 unfoldable pub struct_text : Option Width → Result (List ℕ) PayloadError → Result (List ℕ) PayloadError
 struct_text None members = members
 struct_text (Some width) members = members >>= body_text width
 
--- a body behind its length and its type number
+-- a body after its length and its type number
 unfoldable pub tagged_text : ℕ → List ℕ → Result (List ℕ) PayloadError
 tagged_text kind body = if nat_lt (length body) (2 ^ 32) then Ok (tagged kind body) else Err (TooLong 0)
 
--- the text of a value, behind its length and its type number
+-- the text of a value, after its length and its type number
 unfoldable pub chosen_text : ℕ → Result (List ℕ) PayloadError → Result (List ℕ) PayloadError
 chosen_text kind value = value >>= tagged_text kind
 

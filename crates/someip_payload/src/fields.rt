@@ -97,7 +97,7 @@ pub(crate) fn sized<'a>(
     ))
 }
 
-// The body behind a length field, and what comes after it.
+// The body after a length field, and what comes after it.
 #[tactic(auto, unfolding(crate::specs::Reading::body_at))]
 pub(crate) fn body(
     width: Width,

@@ -29,15 +29,15 @@ pub enum Shape {
     I16,
     I32,
     I64,
-    /// A text behind a length field in bytes, with a byte order mark and a terminator.
+    /// A text after a length field in bytes, with a byte order mark and a terminator.
     Text(Encoding, Width),
-    /// At most so many elements, behind a length field in bytes.
+    /// At most so many elements, after a length field in bytes.
     Array(Width, u32, Box<Shape>),
     /// Exactly so many elements, without a length field.
     Fixed(u32, Box<Shape>),
-    /// Members in order, perhaps behind a length field in bytes.
+    /// Members in order, perhaps after a length field in bytes.
     Struct(Option<Width>, Vec<Shape>),
-    /// One of several variants, each with its type number, behind a length field in bytes and a
+    /// One of several variants, each with its type number, after a length field in bytes and a
     /// type field, each of 32 bits. Type number 0 stands for no value.
     Union(Vec<(u32, Shape)>),
 }

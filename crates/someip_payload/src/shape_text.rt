@@ -78,7 +78,7 @@ pub fn read_shape(alloc: Global, text: &str) -> Result<Shape, ShapeTextError>
     Ok(shape)
 }
 
-// The shape at a place, inside which so many others may lie, and the place behind it.
+// The shape at a place, inside which so many others may lie, and the place after it.
 #[cycle(shape)]
 fn shape_at(
     alloc: Global,
@@ -118,7 +118,7 @@ fn shape_at(
     }
 }
 
-// The rest of a shape behind the word `utf8`.
+// The rest of a shape after the word `utf8`.
 fn utf8_at(text: &[u8], at: usize) -> Result<(Shape, usize), ShapeTextError>
     requires { at ≤ length text.now }
     ensures found { IfOk result (λ x. IsTextOf (form x.0) (codes "utf8" ++ slice_range text.now at x.1)) }
@@ -132,7 +132,7 @@ fn utf8_at(text: &[u8], at: usize) -> Result<(Shape, usize), ShapeTextError>
     Ok((Shape::Text(Encoding::Utf8, or_32(width)), end))
 }
 
-// The rest of a shape behind the word `utf16`.
+// The rest of a shape after the word `utf16`.
 fn utf16_at(text: &[u8], at: usize) -> Result<(Shape, usize), ShapeTextError>
     requires { at ≤ length text.now }
     ensures found { IfOk result (λ x. IsTextOf (form x.0) (codes "utf16" ++ slice_range text.now at x.1)) }
@@ -146,7 +146,7 @@ fn utf16_at(text: &[u8], at: usize) -> Result<(Shape, usize), ShapeTextError>
     Ok((Shape::Text(Encoding::Utf16, or_32(width)), end))
 }
 
-// The rest of a shape behind the word `array`.
+// The rest of a shape after the word `array`.
 #[cycle(shape)]
 fn array_at(
     alloc: Global,
@@ -168,7 +168,7 @@ fn array_at(
     Ok((Shape::Array(or_32(width), max, element), end))
 }
 
-// The rest of a shape behind the word `fixed`.
+// The rest of a shape after the word `fixed`.
 #[cycle(shape)]
 fn fixed_at(
     alloc: Global,
@@ -215,7 +215,7 @@ fn repeated_at(
     Ok((number, Box::new(alloc, element)?, end))
 }
 
-// The rest of a shape behind the word `struct`.
+// The rest of a shape after the word `struct`.
 #[cycle(shape)]
 fn struct_at(
     alloc: Global,
@@ -238,7 +238,7 @@ fn struct_at(
     Ok((Shape::Struct(width, members), end))
 }
 
-// Members with commas between them, and a bracket behind the last.
+// Members with commas between them, and a bracket after the last.
 #[cycle(shape)]
 fn members_at(
     alloc: Global,
@@ -271,7 +271,7 @@ fn members_at(
     }
 }
 
-// The rest of a shape behind the word `union`.
+// The rest of a shape after the word `union`.
 #[cycle(shape)]
 fn union_at(
     alloc: Global,
@@ -293,7 +293,7 @@ fn union_at(
     Ok((Shape::Union(variants), end))
 }
 
-// Variants with commas between them, and a bracket behind the last.
+// Variants with commas between them, and a bracket after the last.
 #[cycle(shape)]
 fn variants_at(
     alloc: Global,
@@ -350,7 +350,7 @@ fn or_32(width: Option<Width>) -> Width
     width.unwrap_or(Width::W32)
 }
 
-// The word that a shape's text begins with, and the place behind it.
+// The word that a shape's text begins with, and the place after it.
 fn first_word(text: &[u8], at: usize) -> Result<(Word, usize), ShapeTextError>
     requires { at ≤ length text.now }
     ensures found { IfOk result (λ x. slice_range text.now at x.1 ≡ word_text x.0) }
@@ -362,7 +362,7 @@ fn first_word(text: &[u8], at: usize) -> Result<(Word, usize), ShapeTextError>
     word_at(&WORDS, text, at)
 }
 
-// The word at a place, and the place behind it. The fault is at the first byte at which none of
+// The word at a place, and the place after it. The fault is at the first byte at which none of
 // the words goes on.
 fn word_at<T: Copy>(
     words: &[(&str, T)],

@@ -52,7 +52,7 @@ fn chosen(alloc: Global, number: u32, value: Value) -> Result<Value, AllocError>
     Ok(Value::Union(Some((number, Box::new(alloc, value)?))))
 }
 
-// A byte, and behind it at most two elements of the shape behind a length of 8 bits.
+// A byte, and after it at most two elements of the shape after a length of 8 bits.
 fn nested(alloc: Global, shape: Shape) -> Result<Shape, AllocError> {
     let elements = array(alloc, Width::W8, 2, shape)?;
     Ok(Shape::Struct(None, vec![in alloc; Shape::U8, elements]?))

@@ -50,7 +50,7 @@ call_refusal rules kind size (Some peer) live =
     else if is_full kind live then Some Busy
     else None
 
--- the error of a call: why it is refused, and else only want of memory
+-- the error of a call: why it is refused, and else only memory that ran out
 abbrev pub or_memory : Option RpcError → RpcError
 or_memory None = OutOfMemory
 or_memory (Some refusal) = refusal

@@ -25,7 +25,7 @@ expired now m = retain m (λ _ lasting. has_passed now lasting.until)
 abbrev pub unexpired : {K V : Type 0} {R : K → K → Ordering} → ℕ → FinMap R (Lasting V) → FinMap R (Lasting V)
 unexpired now m = retain m (λ _ lasting. not (has_passed now lasting.until))
 
--- memory may be wanted to keep a value until this deadline in place of what there is: for a new key, and for a new
+-- memory may be needed to keep a value until this deadline in place of what there is: for a new key, and for a new
 -- deadline that will pass
 abbrev pub NeedsMemory : {V : Type 0} → Option (Lasting V) → Deadline → Type 0
 NeedsMemory None until = ⊤

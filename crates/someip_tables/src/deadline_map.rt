@@ -101,8 +101,8 @@ impl<K: Key, V: Drop> DeadlineMap<K, V> {
         self.held.iter()
     }
 
-    /// Puts a value under a key, in place of an earlier one and its deadline. What is refused for want
-    /// of memory leaves the map as it was, and memory is wanted only where the key is new or has a
+    /// Puts a value under a key, in place of an earlier one and its deadline. What is refused because
+    /// memory ran out leaves the map as it was, and memory is taken only where the key is new or has a
     /// new deadline that will pass.
     pub fn insert(&mut self, key: K, value: V, until: Deadline) -> Result<(), AllocError>
         ensures ok { OnOk result (map_of K.cmp self.new

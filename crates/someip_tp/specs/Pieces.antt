@@ -20,7 +20,7 @@ with_pieces bytes (piece ∷ pieces) = with_pieces (added bytes (placed piece.of
 abbrev pub bytes_in : List Piece → FinMap nat_cmp ℕ
 bytes_in pieces = with_pieces empty pieces
 
--- the place behind a piece
+-- the place after a piece
 abbrev pub end_of : Piece → ℕ
 end_of piece = piece.offset + length piece.bytes.items
 
@@ -44,7 +44,7 @@ AreInOrder pieces = IsNonDecreasingBy (λ piece. piece.offset) pieces
 abbrev pub IsFront : FinMap nat_cmp ℕ → ℕ → Type 0
 IsFront bytes n = ((place : ℕ) → place < n → IsSome (get bytes place)) × (get bytes n ≡ None)
 
--- these bytes are held from the first place on, and none behind them
+-- these bytes are held from the first place on, and none after them
 abbrev pub AreFront : FinMap nat_cmp ℕ → List ℕ → Type 0
 AreFront bytes front = ((place : ℕ) → place < length front → get bytes place ≡ slice_get front place) × (get bytes (length front) ≡ None)
 

@@ -31,7 +31,7 @@ abbrev pub segment_header : Header → Header
 segment_header h = record h { kind = with_tp_flag h.kind }
 
 -- the segment at an offset of a payload: a slice of at most 1392 bytes, and More Segments where bytes are left
--- behind the slice
+-- after the slice
 abbrev pub segment_at : Header → ℕ → List ℕ → SegmentValue
 segment_at header offset rest = record { header = header; offset = offset; more = nat_lt 1392 (length rest); slice = take 1392 rest }
 

@@ -34,7 +34,7 @@ abbrev pub StandsAt : ReassemblyKey → List Entry → Option ℕ → Type 0
 StandsAt key entries (Some i) = (i < length entries) × ((d : Entry) → same_key key (slice_index_or entries i d).0 ≡ true)
 StandsAt key entries None = find key_cmp key entries ≡ None
 
--- a segment was judged so, and the parts changed so; where memory is wanting it was to be accepted, and is not kept
+-- a segment was judged so, and the parts changed so; where memory runs out it was to be accepted, and is not kept
 abbrev pub Acts : Result Offered TpError → ℕ → Offer → Parts → Result Offered TpError → Parts → Type 0
 Acts judgement now o old (Err OutOfMemory) new = (is_ok judgement ≡ true) × (new ≡ old)
 Acts judgement now o old result new = (result ≡ judgement) × (new ≡ kept result now o old)

@@ -5,7 +5,7 @@ use Rattle.someip_wire.specs.declared.error.WireError.{WireError}
 use Rattle.someip_wire.specs.Spelling.{MessageValue, Fits, spelling}
 use Rattle.someip_wire.specs.Faults.{fault_at, fault_place}
 
--- how the rest behind the last message ends the datagram: without a fault nothing is left, and a fault is
+-- how the rest after the last message ends the datagram: without a fault nothing is left, and a fault is
 -- that of a rest which is not empty
 abbrev pub EndsAt : ℕ → List ℕ → Option WireError → Type 0
 EndsAt p rest None = rest ≡ []

@@ -42,7 +42,7 @@ or_fault (Some fault) m = Err fault
 abbrev pub reading : ℕ → List ℕ → Result MessageValue WireError
 reading p bytes = or_fault (fault_at p bytes) (message_in bytes)
 
--- a fault alone, or a message and the others behind it
+-- a fault alone, or a message and the others after it
 abbrev pub items_after : (ℕ → List ℕ → List (Result MessageValue WireError)) → ℕ → List ℕ → Result MessageValue WireError → List (Result MessageValue WireError)
 items_after others p bytes (Err fault) = Err fault ∷ []
 items_after others p bytes (Ok m) = Ok m ∷ others (p + (length_field bytes + 8)) (drop (length_field bytes + 8) bytes)

@@ -1,4 +1,4 @@
-//! What the words of the command line ask for: a command, help, or nothing that there is.
+//! What the arguments ask for: a command, help, or nothing that there is.
 ghost use Rattle.std.specs.Prelude.{◌≡◌, ◌∷◌, IfErr, IfOk, IsSome, List, OnOk, Some, [], codes};
 ghost use Rattle.std.specs.Prelude.{false, map, option_map, ℕ};
 ghost use Rattle.clap.specs.Words.{app_of, first_value, found_of, shape_of, subcommand_rows_of};

@@ -23,7 +23,7 @@ pub enum Failure<'p> {
     /// A payload is no hex.
     #[error("bad hex")]
     BadPayloadHex,
-    /// The words of the command line are no call of the program.
+    /// The arguments are no call of the program.
     #[error("{0}")]
     Usage(clap::Error),
     /// A word of the command line is no UTF-8.
@@ -41,7 +41,7 @@ pub enum Failure<'p> {
 }
 
 impl<'p> Failure<'p> {
-    /// The program's exit status: 1 where an input is refused, 2 for usage, 3 for want of memory,
+    /// The program's exit status: 1 where an input is refused, 2 for usage, 3 where memory ran out,
     /// 4 where reading or writing failed.
     pub fn status(&self) -> u8
         ensures { result ≡ status_of_failure self.now }

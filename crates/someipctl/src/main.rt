@@ -53,7 +53,7 @@ fn report<R: Eprint>(rt: &R, failure: Failure<'_>) -> u8
     status
 }
 
-/// The words of the command line, the program's name among them.
+/// The arguments, the program's name among them.
 fn words_of<R: Env + AllocGlobal>(rt: &R) -> Result<Vec<String>, Failure<'static>> {
     match env::args(rt) {
         Ok(words) => words.collect(rt.alloc()).map_err(|_| Failure::OutOfMemory),

@@ -10,7 +10,7 @@ use Rattle.someipctl_commands.specs.declared.capture.CaptureError.TheVariants.{B
 abbrev pub lines_of : List ℕ → List (List ℕ)
 lines_of text = slice_split (λ b. b == 0x0a) text
 
--- a line without its blanks, the bytes 20
+-- a line without its spaces, the bytes 20
 abbrev pub without_blanks : List ℕ → List ℕ
 without_blanks line = filter (λ b. not (b == 0x20)) line
 
@@ -18,7 +18,7 @@ without_blanks line = filter (λ b. not (b == 0x20)) line
 abbrev pub is_comment : List ℕ → Bool
 is_comment line = starts_with nat_eq line (0x23 ∷ [])
 
--- a line is skipped if it is a comment, or has nothing but blanks
+-- a line is skipped if it is a comment, or has nothing but spaces
 abbrev pub is_skipped : List ℕ → Bool
 is_skipped line = is_comment line || length (without_blanks line) == 0
 
@@ -30,7 +30,7 @@ is_read line = not (is_skipped line)
 abbrev pub is_dash : List ℕ → Bool
 is_dash text = length text == 1 && slice_index text 0 == 0x2d
 
--- the bytes that a line says without its blanks: those of the empty datagram for `-`, else what its
+-- the bytes that a line says without its spaces: those of the empty datagram for `-`, else what its
 -- hex digits decode to, and none if they do not
 abbrev pub bytes_of : List ℕ → Option (List ℕ)
 bytes_of line =

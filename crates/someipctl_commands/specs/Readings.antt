@@ -26,6 +26,6 @@ left_from next readings = drop next (map view_reading readings)
 abbrev pub BeginWith : List (Result SdValue SdError) → List (Result SdValue SdError) → Type 0
 BeginWith readings front = (others : List (Result SdValue SdError)) × (readings ≡ front ++ others)
 
--- those are left behind these
+-- those are left after these
 abbrev pub LeavesBehind : List (Result SdValue SdError) → List (Result SdValue SdError) → List (Result SdValue SdError) → Type 0
 LeavesBehind readings front left = (others : List (Result SdValue SdError)) → readings ≡ front ++ others → left ≡ others

@@ -81,7 +81,7 @@ abbrev pub fault_of_shape : ShapeTextError → LineFault
 fault_of_shape (shapes.BadShape place) = Bad
 fault_of_shape shapes.OutOfMemory = OutOfMemory
 
--- what was found of a line alone: it is left out, or says something, or is bad behind any vector
+-- what was found of a line alone: it is left out, or says something, or is bad after any vector
 abbrev pub IsFoundOf : List ℕ → Result (Option VectorLine) LineFault → Type 0
 IsFoundOf line (Ok None) = IsUtf8 line × (is_left_out line ≡ true)
 IsFoundOf line (Ok (Some said)) = IsUtf8 line × (is_left_out line ≡ false) × Says line (said_by said)
@@ -102,7 +102,7 @@ begins_with_vector [] = true
 begins_with_vector (asks asked ∷ sayings) = true
 begins_with_vector (expects text ∷ sayings) = false
 
--- a line behind those that said this belongs to a vector: it begins one, or there is one before it
+-- a line after those that said this belongs to a vector: it begins one, or there is one before it
 abbrev pub has_vector : List Said → Said → Bool
 has_vector sayings (asks asked) = true
 has_vector [] (expects text) = false

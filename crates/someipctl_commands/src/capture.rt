@@ -48,7 +48,7 @@ impl<T: Drop> From<AllocFailed<T>> for CaptureError {
 }
 
 /// Reads a capture: the bytes of one datagram a line, in hex of either case. `-` is the empty
-/// datagram, blanks are ignored, and empty lines and lines that begin with `#` are skipped.
+/// datagram, spaces are ignored, and empty lines and lines that begin with `#` are skipped.
 ///
 /// Beside the datagrams it holds at most one line's digits at a time, so that a capture of many
 /// lines needs little more than what it says.
@@ -78,7 +78,7 @@ pub fn read_capture(alloc: Global, text: &[u8]) -> Result<Vec<Vec<u8>>, CaptureE
     Ok(datagrams)
 }
 
-/// Whether a line is left out: it is blank, or a comment.
+/// Whether a line is left out: it has only spaces, or is a comment.
 fn says_nothing(line: &[u8]) -> bool
     ensures { result ≡ is_skipped line.now }
 {
@@ -92,7 +92,7 @@ fn is_blank(line: &[u8]) -> bool
 }
 
 /// The bytes that a line says, if it says any. A line is first decoded as it stands, which is all
-/// that one without blanks needs. `digits` is room for the digits of the others.
+/// that one without spaces needs. `digits` is room for the digits of the others.
 fn datagram_of(
     alloc: Global,
     line: &[u8],
@@ -121,7 +121,7 @@ fn decoded(alloc: Global, digits: &[u8]) -> Result<Option<Vec<u8>>, AllocError>
     }
 }
 
-/// Leaves in `digits` the line without its blanks.
+/// Leaves in `digits` the line without its spaces.
 fn copy_digits(line: &[u8], digits: &mut Vec<u8>) -> Result<(), AllocError>
     ensures { OnOk result (digits.new.items ≡ without_blanks line.now) }
 {

@@ -43,14 +43,14 @@ pub fn what_vector_lines_say()
     ensures blank { (sayings : List Said) → IsBadBehind sayings (codes " ") }
 {}
 
-/// Where a message begins in its datagram: behind the bytes of the messages in front of it. That is
+/// Where a message begins in its datagram: after the bytes of the messages in front of it. That is
 /// the place from which its lines are told, and its payload stands 16 bytes further.
 pub fn messages_begin_behind_others()
     // The lines of messages are those of the ones in front, and then of the others from there on.
     ensures lines { (k : ℕ) (front others : List MessageValue) (end : Option WireError)
         → lines_from k 0 (items (front ++ others) end) ≡ lines_from k 0 (items front None)
         ++ lines_from k (length (flat_map spelling front)) (items others end) }
-    // 16 bytes behind the ones in front, its payload stands in the datagram.
+    // 16 bytes after the ones in front, its payload stands in the datagram.
     ensures payload { (front others : List MessageValue) (message : MessageValue)
         (end : Option WireError) (bytes : List ℕ) → Datagram (front ++ message ∷ others) end bytes
         → (rest : List ℕ)

@@ -14,7 +14,7 @@ use someip_wire::{Header, Message, MessageType, Messages, WireError};
 use std::alloc::{AllocError, Global};
 
 /// What the payloads of the Service Discovery messages of these datagrams hold, in order. The only
-/// error is want of memory.
+/// error is that memory ran out.
 pub fn read_ahead(
     alloc: Global,
     datagrams: &[Vec<u8>],
@@ -29,7 +29,7 @@ pub fn read_ahead(
     Ok(readings)
 }
 
-/// The same of one datagram, behind what is there already.
+/// The same of one datagram, after what is there already.
 pub fn read_datagram(
     alloc: Global,
     datagram: &[u8],
@@ -95,7 +95,7 @@ pub fn is_discovery(header: &Header) -> bool
 }
 
 /// What the payload of an item was read as, where it is a message of Service Discovery: the next of
-/// the readings. And the number of the one behind it.
+/// the readings. And the number of the one after it.
 pub fn reading_of<'r>(
     item: &Result<Message<'_>, WireError>,
     readings: &'r [Result<SdRead, SdError>],

@@ -124,7 +124,7 @@ fn put_datagrams<W: Write>(
 }
 
 /// Prints the text of the k-th datagram. Says whether a fault is in it, and the number of the first
-/// reading behind its own.
+/// reading after its own.
 fn put_datagram<W: Write>(
     buffer: &mut Buffer,
     writer: &mut W,

@@ -87,7 +87,7 @@ fn has_return(line: &[u8]) -> bool
     line.contains(&b'\r')
 }
 
-/// The text behind a word, where a line begins with that.
+/// The text after a word, where a line begins with that.
 fn behind<'t>(line: &'t str, word: &str) -> Option<&'t str>
     ensures { MatchOption result ((rest : List ℕ) → line.now ≢ word.now ++ rest)
         (λ rest. line.now ≡ word.now ++ rest.now) }

@@ -101,7 +101,7 @@ fn read_lines<'t>(alloc: Global, text: &'t [u8]) -> Result<Vec<VectorLine<'t>>, 
     Ok(lines)
 }
 
-/// Whether a line behind others belongs to a vector: it begins one, or there is one before it.
+/// Whether a line after others belongs to a vector: it begins one, or there is one before it.
 fn has_vector(lines: &[VectorLine<'_>], said: &VectorLine<'_>) -> bool
     ensures { result ≡ has_vector (map said_by lines.now) (said_by said.now) }
 {

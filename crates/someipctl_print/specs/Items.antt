@@ -12,7 +12,7 @@ abbrev pub item_lines : ℕ → ℕ → Result MessageValue WireError → List �
 item_lines k place (Ok message) = message_line k message ++ (segment_lines k (place + 16) message ++ discovery_lines k (place + 16) (discovery_in (Ok message)))
 item_lines k place (Err fault) = fault_line k (fault_name fault) (fault_place fault)
 
--- how many bytes of its datagram an item takes: a message those of its spelling. Nothing comes behind a fault
+-- how many bytes of its datagram an item takes: a message those of its spelling. Nothing comes after a fault
 abbrev pub item_len : Result MessageValue WireError → ℕ
 item_len (Ok message) = length (spelling message)
 item_len (Err fault) = 0

@@ -54,7 +54,7 @@ flag_text true = codes "1"
 flag_text false = codes "0"
 
 -- the line of a segment with this payload: the offset in bytes and More Segments, which its word says, and the
--- bytes of the slice behind the word
+-- bytes of the slice after the word
 abbrev pub segment_line : ℕ → List ℕ → List ℕ
 segment_line k payload = joined (
     decimal k ∷ codes " segment offset " ∷ decimal (offset_of (word_in payload))
@@ -65,7 +65,7 @@ segment_line k payload = joined (
 abbrev pub has_no_word : List ℕ → Bool
 has_no_word payload = nat_lt (length payload) 4
 
--- what stands behind the line of a message whose payload begins at this place: nothing, or where the message is
+-- what stands after the line of a message whose payload begins at this place: nothing, or where the message is
 -- a segment its line, or the fault that its payload has no room for the word
 abbrev pub segment_lines : ℕ → ℕ → MessageValue → List ℕ
 segment_lines k place m =

@@ -1,4 +1,4 @@
-//! The lines of what a datagram holds, item by item: a message with what stands behind its line, or the
+//! The lines of what a datagram holds, item by item: a message with what stands after its line, or the
 //! fault that ends the datagram.
 ghost use Rattle.std.specs.Prelude.{◌≡◌, ◌≤◌, ◌+◌, ◌&&◌, ◌||◌, ◌++◌, OnOk, OnErr, IfOk, IfErr, IfSome};
 ghost use Rattle.someip_wire.specs.Kinds.{has_tp_flag};
@@ -19,7 +19,7 @@ use std::io::Write;
 /// The bytes of a header, which stand in front of a payload.
 const HEADER_LEN: usize = 16;
 
-/// Prints the lines of an item that begins at a place of the k-th datagram: a message, and behind it
+/// Prints the lines of an item that begins at a place of the k-th datagram: a message, and after it
 /// what the word says where it is a segment; or the fault that ends the datagram. Says whether a
 /// fault is among them.
 pub fn put_item<W: Write>(
@@ -50,7 +50,7 @@ pub fn put_item<W: Write>(
     }
 }
 
-/// Prints what stands behind the line of a message whose payload begins at a place of the k-th
+/// Prints what stands after the line of a message whose payload begins at a place of the k-th
 /// datagram. Says whether a fault is in it.
 fn put_behind<W: Write>(
     buffer: &mut Buffer,
@@ -96,7 +96,7 @@ fn put_discovery<W: Write>(
     }
 }
 
-/// How many bytes of its datagram an item takes. Nothing comes behind a fault.
+/// How many bytes of its datagram an item takes. Nothing comes after a fault.
 pub fn item_len(item: &Result<Message<'_>, WireError>) -> usize
     ensures { result ≡ item_len (view_item item.now) }
 {

@@ -65,7 +65,7 @@ pub(crate) fn put_message<W: Write>(
     )
 }
 
-/// Prints what stands behind the line of a message whose payload begins at a place of the k-th
+/// Prints what stands after the line of a message whose payload begins at a place of the k-th
 /// datagram: what the word of a segment says, or the fault that there is no room for it, or nothing
 /// where the message is no segment. Says whether it was the fault.
 pub(crate) fn put_segment<W: Write>(

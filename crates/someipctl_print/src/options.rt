@@ -42,7 +42,7 @@ fn put_last_run<W: Write>(
     put_parts(buffer, writer, &[Part::Text("]\n")])
 }
 
-/// Prints a run of options behind a text.
+/// Prints a run of options after a text.
 fn put_run<W: Write>(
     buffer: &mut Buffer,
     writer: &mut W,

@@ -4,7 +4,7 @@
 /// How many vectors there are.
 pub const COUNT: usize = 141;
 
-/// The vectors, behind an empty line.
+/// The vectors, after an empty line.
 pub const ALL: &str = r#"
 # Vectors of `someipctl`, which `./someipctl vectors examples/vectors/all.txt` runs. Each line that begins
 # with `datagram` or `payload` is a vector, and the lines behind it that begin with `> ` are what it prints.

@@ -75,14 +75,14 @@ pub fn discovery() -> [Shown; 12] {
              1 fault OptionLength at 28\n",
             1,
         ),
-        // A byte behind the options.
+        // A byte after the options.
         (
             b"ffff8100 00000015 00000001 01010200 c0000000 00000000 00000000 aa",
             "1 message ffff.8100 length 21 client 0000 session 0001 interface 01 type NOTIFICATION code 00 payload c00000000000000000000000aa\n\
              1 fault TrailingBytes at 28\n",
             1,
         ),
-        // A faulty payload does not end the datagram: the message behind it is shown, and its place counts on.
+        // A faulty payload does not end the datagram: the message after it is shown, and its place counts on.
         (
             b"ffff8100 0000000f 00000001 01010200 c0000000 000000 12340421 00000008 00010001 01010000 ffff8100 00000010 00000001 01010200 c0000000 0000000f",
             "1 message ffff.8100 length 15 client 0000 session 0001 interface 01 type NOTIFICATION code 00 payload c0000000000000\n\

@@ -270,7 +270,7 @@ pub fn bad_vectors() -> [BadVectors; 42] {
         (b"> 1 empty\n", 1),
         (b"\n# a comment\n> \n", 3),
         (b"> 1 empty\ndatagram -\n> 1 empty\n", 1),
-        // A line that begins with less than `> `, or with blanks.
+        // A line that begins with less than `> `, or with spaces.
         (b"datagram -\n>\n", 2),
         (b"datagram -\n>1 empty\n", 2),
         (b"datagram -\n > 1 empty\n", 2),
@@ -281,7 +281,7 @@ pub fn bad_vectors() -> [BadVectors; 42] {
         (b"datagram -\r\n> 1 empty\r\n", 1),
         (b"datagram -\n> 1 empty\r\n", 2),
         (b"\r\ndatagram -\n", 1),
-        // Two blanks between words, one at the end, one in HEX, and a tab.
+        // Two spaces between words, one at the end, one in HEX, and a tab.
         (b"datagram  -\n", 1),
         (b"datagram - \n", 1),
         (b"datagram 12 34\n", 1),
@@ -313,7 +313,7 @@ pub fn bad_vectors() -> [BadVectors; 42] {
         (b"# \xff\ndatagram -\n", 1),
         (b"datagram -\n> \xff\n", 2),
         (b"datagram -\n> 1 empty\n\xff", 3),
-        // The first of several, behind good lines.
+        // The first of several, after good lines.
         (b"# one\n\ndatagram -\n> 1 empty\n# two\nx\ny\n", 6),
         (b"payload u8 07\ndatagram 1\n> 1 empty\r\n", 2),
     ]
