@@ -73,7 +73,21 @@ pub enum EventgroupKind {
     Ack,
 }
 
-/// An entry about an instance of a service.
+/// An entry about an instance of a service (SOME/IP Service Discovery, "Entry Format").
+///
+/// ```text
+///  0               8               16              24            31
+/// +---------------+---------------+---------------+-------+-------+
+/// |  00 Find      | index of the  | index of the  | count | count |
+/// |  01 Offer     |   first run   |  second run   |  of 1 |  of 2 |
+/// +---------------+---------------+---------------+-------+-------+
+/// |          Service ID           |          Instance ID          |
+/// +---------------+---------------+---------------+---------------+
+/// | major version |                TTL in seconds                 |
+/// +---------------+---------------+---------------+---------------+
+/// |                         minor version                         |
+/// +---------------+---------------+---------------+---------------+
+/// ```
 #[derive(Clone, Copy, Debug, PartialEq, Eq)]
 pub struct ServiceEntry {
     /// Find or Offer.
@@ -123,7 +137,15 @@ impl ServiceEntry {
     }
 }
 
-/// An entry about an eventgroup of an instance.
+/// An entry about an eventgroup of an instance (SOME/IP Service Discovery, "Entry Format"). Its first 12
+/// bytes are as those of a [`ServiceEntry`], with type 06 for Subscribe and 07 for Ack.
+///
+/// ```text
+///  0                      12      16                            31
+/// +-----------------------+-------+-------------------------------+
+/// |      reserved, 0      |counter|         Eventgroup ID         |
+/// +-----------------------+-------+-------------------------------+
+/// ```
 #[derive(Clone, Copy, Debug, PartialEq, Eq)]
 pub struct EventgroupEntry {
     /// Subscribe or Ack.

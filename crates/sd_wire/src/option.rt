@@ -107,6 +107,22 @@ fn is_known(kind: u8) -> bool
 
 /// An option. The byte after the type is reserved, and so is the one after an address: both are
 /// ignored on reading and written 0.
+///
+/// ```text
+///  0               8               16              24            31
+/// +---------------+---------------+---------------+---------------+
+/// |  length: the bytes from here  |     type      |   reserved    |
+/// |  on, without the type         |               |               |
+/// +---------------+---------------+---------------+---------------+
+/// | 04, 14, 24: an IPv4 address; 06, 16, 26: an IPv6 address       |
+/// +---------------+---------------+---------------+---------------+
+/// |   reserved    |   protocol    |             port              |
+/// +---------------+---------------+---------------+---------------+
+///
+/// 0009 04 00 c0a80001 00 11 772d    the IPv4 endpoint 192.168.0.1:30509 over UDP
+/// 0005 02 00 0001 0002              load balancing: priority 1, weight 2
+/// 0003 01 00 6162                   a raw option of type 01 with the bytes 006162
+/// ```
 #[derive(Clone, Debug, Drop, PartialEq, Eq)]
 pub enum SdOption {
     /// 02: which instance of a service to take.

@@ -24,6 +24,16 @@ use std::alloc::Global;
 /// fault is judged in this order: fewer than 8 bytes, the length of the entries, whether the bytes
 /// hold the entries and then exactly the options, the types of the entries in order, the options in
 /// order.
+///
+/// ```text
+/// c0000000 00000010                     Reboot and Unicast; 16 bytes of entries
+/// 01000010 11110001 01000003 00000000   an Offer of 1111.0001, one option from index 0, TTL 3
+/// 0000000c                              12 bytes of options
+/// 0009 04 00 c0a80001 00 11 772d        192.168.0.1:30509 over UDP
+///
+/// the same with 0000000f bytes of entries: EntriesLength(4)
+/// the same with a run of two options: the entry is BadRun
+/// ```
 pub fn read_sd(alloc: Global, bytes: &[u8]) -> Result<SdRead, SdError>
     // What is read is what the bytes hold.
     ensures found { IfOk result (λ read. Sd (view_sd read) bytes.now) }

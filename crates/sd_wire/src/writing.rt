@@ -22,6 +22,15 @@ use std::alloc::{AllocError, Global};
 /// hold it nowhere, it is added whole at their end. A run of more than 15 options or one at an index
 /// above 255 is `TooManyOptions`, with the number of its entry from 0. An `Err` leaves `out` as it
 /// was.
+///
+/// Two Offers over one endpoint write it once:
+///
+/// ```text
+/// c0000000 00000020
+/// 01000010 11110001 01000003 00000000
+/// 01000010 11110002 01000003 00000000   its run stands at index 0 too
+/// 0000000c 0009 04 00 c0a80001 00 11 772d
+/// ```
 pub fn write_sd(message: &SdMessage, out: &mut Vec<u8>) -> Result<(), SdError>
     requires { length message.now.entries.now ≤ 65535 }
     // The text of the message is added, and it is read as the message.
