@@ -56,13 +56,13 @@ abbrev pub count_beside : Subscription → SubscriberTable → ℕ
 count_beside s table = subscriber_count s.instance s.eventgroup (finite.remove table s)
 
 -- the subscription that a Subscribe asks for, by the endpoint that it has
-abbrev pub asked : Subscribe → SocketAddrV4 → Subscription
-asked request endpoint = record { instance = request.instance; eventgroup = request.eventgroup; peer = request.peer; endpoint = endpoint; counter = request.counter }
+abbrev pub subscription_at : Subscribe → SocketAddrV4 → Subscription
+subscription_at request endpoint = record { instance = request.instance; eventgroup = request.eventgroup; peer = request.peer; endpoint = endpoint; counter = request.counter }
 
 -- why a Subscribe of a known eventgroup is answered by a Nack, if it is, by the endpoint that it has
 abbrev pub endpoint_cause : ℕ → Subscribe → Option SocketAddrV4 → SubscriberTable → Option Cause
 endpoint_cause limit request None live = Some NoEndpoint
-endpoint_cause limit request (Some endpoint) live = if nat_le limit (count_beside (asked request endpoint) live) then Some Full else None
+endpoint_cause limit request (Some endpoint) live = if nat_le limit (count_beside (subscription_at request endpoint) live) then Some Full else None
 
 -- why a Subscribe is answered by a Nack, if it is: the first that holds, by the subscriptions that are live
 abbrev pub nack_cause : SubscribeRules → Subscribe → SubscriberTable → Option Cause
@@ -72,7 +72,7 @@ nack_cause rules request live =
     else if not rules.is_known_eventgroup then Some UnknownEventgroup
     else endpoint_cause rules.limit request request.endpoint live
 
--- the error of a Subscribe: its Nack, and else only want of memory
+-- the error of a Subscribe: its Nack, and out of memory only where it has none
 abbrev pub nack_or_memory : Option Cause → SubscribeError
 nack_or_memory None = OutOfMemory
 nack_or_memory (Some cause) = Nack cause

@@ -11,10 +11,10 @@ ghost use Rattle.someip_tables.specs.Endpoints.{endpoint_cmp};
 ghost use Rattle.someip_tables.specs.Lastings.{NeedsMemory, unexpired};
 ghost use Rattle.someip_tables.specs.Tables.{map_of, AnswersAs};
 ghost use Rattle.sd_core.specs.SubscriptionKeys.{subscription_cmp};
-ghost use Rattle.sd_core.specs.SubscriberTables.{asked, count_beside, endpoints_of};
+ghost use Rattle.sd_core.specs.SubscriberTables.{count_beside, endpoints_of};
 ghost use Rattle.sd_core.specs.SubscriberTables.{is_of_instance, is_of_peer, is_to, is_to_any};
-ghost use Rattle.sd_core.specs.SubscriberTables.{nack_cause, nack_or_memory};
-ghost use Rattle.sd_core.specs.SubscriberTables.{subscribed_until, subscriber_count};
+ghost use Rattle.sd_core.specs.SubscriberTables.{nack_cause, nack_or_memory, subscribed_until};
+ghost use Rattle.sd_core.specs.SubscriberTables.{subscriber_count, subscription_at};
 
 use crate::error::{Cause, SubscribeError};
 use crate::keys::InstanceId;
@@ -85,14 +85,15 @@ impl Subscribers {
     ) -> Result<(), SubscribeError>
         ensures accepted { OnOk result (nack_cause rules request (unexpired now self.old) ≡ None) }
         ensures subscribed { OnOk result (IfSome request.endpoint (λ endpoint. self.new
-            ≡ subscribed_until (asked request endpoint) (deadline_after now request.ttl) now self.old)) }
+            ≡ subscribed_until (subscription_at request endpoint)
+            (deadline_after now request.ttl) now self.old)) }
         ensures within { OnOk result (subscriber_count request.instance request.eventgroup
             (unexpired now self.new) ≤ rules.limit) }
         ensures refused { IfErr result (λ error. error
             ≡ nack_or_memory (nack_cause rules request (unexpired now self.old))) }
         ensures grows { IfErr result (λ error. error ≡ SubscribeError.OutOfMemory
             → IfSome request.endpoint (λ endpoint. NeedsMemory
-            (finite.get self.old (asked request endpoint)) (deadline_after now request.ttl))) }
+            (finite.get self.old (subscription_at request endpoint)) (deadline_after now request.ttl))) }
         ensures unchanged { OnErr result (self.new ≡ self.old) }
     {
         let until = Deadline::after_ttl(now, request.ttl.seconds());
@@ -137,7 +138,7 @@ impl Subscribers {
     }
 
     /// Where an event goes that is in these eventgroups of an instance: the endpoints of the live
-    /// subscriptions to any of them, by rising address and then port, each once. Memory is wanted only
+    /// subscriptions to any of them, by rising address and then port, each once. It takes memory only
     /// where there are any.
     pub fn live(
         &self,
@@ -176,8 +177,8 @@ fn admit(
     request: Subscribe,
     now: Moment,
 ) -> Result<Subscription, Cause>
-    ensures asked { IfOk result (λ subscription.
-        IfSome request.endpoint (λ endpoint. subscription ≡ asked request endpoint)) }
+    ensures subscription { IfOk result (λ subscription.
+        IfSome request.endpoint (λ endpoint. subscription ≡ subscription_at request endpoint)) }
     ensures accepted { OnOk result
         (nack_cause rules request (unexpired now (map_of subscription_cmp table.now)) ≡ None) }
     ensures room { IfOk result (λ subscription.

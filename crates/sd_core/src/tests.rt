@@ -1,4 +1,6 @@
-//! Rows of offers and finds.
+//! Rows of offers and finds, and of subscriptions.
+mod subscribers;
+
 use crate::{InstanceId, Offers, Phases, Sought, Version};
 use someip_tables::Moment;
 use std::test::Fail;
