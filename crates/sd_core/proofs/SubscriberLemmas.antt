@@ -27,7 +27,7 @@ use Rattle.sd_core.specs.declared.keys.InstanceId.{InstanceId}
 use Rattle.sd_core.specs.declared.subscription.Subscription.{Subscription}
 use Rattle.sd_core.specs.SubscriptionKeys.{subscription_cmp}
 use Rattle.sd_core.specs.SubscriptionOrder.{subscriptions_total, exact_subscriptions}
-use Rattle.sd_core.specs.SubscriberTables.{SubscriberTable, count_beside, endpoints_of, is_to, is_to_any, subscribed_until, subscriber_count}
+use Rattle.sd_core.specs.SubscriberTables.{SubscriberMap, count_beside, endpoints_of, is_to, is_to_any, subscribed_until, subscriber_count}
 use Rattle.sd_core.proofs.SortedEntries.{keys-empty}
 
 -- a reference is there where what it points to is
@@ -82,10 +82,10 @@ module _ {K V : Type 0} {R : K → K → Ordering} (o : IsTotalOrder R) (exact :
 
 -- ---- how many subscriptions there are to an eventgroup
 
-pub others_counted : (s : Subscription) (live : SubscriberTable) → len (retain_keys live (λ k. is_to s.instance s.eventgroup k && not (eq_by_cmp subscription_cmp k s))) ≡ count_beside s live
+pub others_counted : (s : Subscription) (live : SubscriberMap) → len (retain_keys live (λ k. is_to s.instance s.eventgroup k && not (eq_by_cmp subscription_cmp k s))) ≡ count_beside s live
 others_counted s live = ap len (retain_keys-remove subscriptions_total exact_subscriptions live (is_to s.instance s.eventgroup) s)
 
-count_after : (instance : InstanceId) (eventgroup : ℕ) (s : Subscription) (x : Lasting (Unit {0})) (now limit : ℕ) (old : SubscriberTable) (b : Bool) → not (has_passed now x.until) ≡ b
+count_after : (instance : InstanceId) (eventgroup : ℕ) (s : Subscription) (x : Lasting (Unit {0})) (now limit : ℕ) (old : SubscriberMap) (b : Bool) → not (has_passed now x.until) ≡ b
     → subscriber_count instance eventgroup (remove (unexpired now old) s) < limit → subscriber_count instance eventgroup (unexpired now (insert old s x)) ≤ limit
 count_after instance eventgroup s x now limit old true is few =
     let same : subscriber_count instance eventgroup (unexpired now (insert old s x)) ≡ subscriber_count instance eventgroup (insert (unexpired now old) s x) =
@@ -98,7 +98,7 @@ count_after instance eventgroup s x now limit old false is few =
     omega arith
 
 -- where there was room for one more, there are no more than the limit once one was taken
-pub count_within : (instance : InstanceId) (eventgroup : ℕ) (s : Subscription) (until : Deadline) (now limit : ℕ) (old new : SubscriberTable) → new ≡ subscribed_until s until now old
+pub count_within : (instance : InstanceId) (eventgroup : ℕ) (s : Subscription) (until : Deadline) (now limit : ℕ) (old new : SubscriberMap) → new ≡ subscribed_until s until now old
     → subscriber_count instance eventgroup (remove (unexpired now old) s) < limit → subscriber_count instance eventgroup (unexpired now new) ≤ limit
 count_within instance eventgroup s until now limit old new is few =
     let x : Lasting (Unit {0}) = record { value = tt; until = until } in
@@ -109,12 +109,12 @@ count_within instance eventgroup s until now limit old new is few =
     omega arith
 
 -- whether a subscription is live
-pub live_is : (now : ℕ) (m : SubscriberTable) (s : Subscription) (v : Option (Lasting (Unit {0}))) → v ≡ unless_passed now (get m s) → is_some v ≡ is_some (get (unexpired now m) s)
+pub live_is : (now : ℕ) (m : SubscriberMap) (s : Subscription) (v : Option (Lasting (Unit {0}))) → v ≡ unless_passed now (get m s) → is_some v ≡ is_some (get (unexpired now m) s)
 live_is now m s v is = ap is_some (is ∙ sym (get-unexpired subscriptions_total exact_subscriptions now m s))
 
 -- ---- where events go
 
-pub any_endpoint : (instance : InstanceId) (eventgroups : List ℕ) (endpoint : SocketAddrV4) (live : SubscriberTable)
+pub any_endpoint : (instance : InstanceId) (eventgroups : List ℕ) (endpoint : SocketAddrV4) (live : SubscriberMap)
     → list_any (λ s. is_to_any instance eventgroups s && eq_by_cmp endpoint_cmp endpoint s.endpoint) (keys live) ≡ list_any (eq_by_cmp endpoint_cmp endpoint) (endpoints_of instance eventgroups live)
 any_endpoint instance eventgroups endpoint live =
     let to : List Subscription = filter (is_to_any instance eventgroups) (keys live) in
@@ -145,11 +145,11 @@ set_of_some (y ∷ ys) some = λ is.
     let gone : list_any (eq_by_cmp endpoint_cmp y) (sorted_set endpoint_cmp (y ∷ ys)) ≡ false = ap (list_any (eq_by_cmp endpoint_cmp y)) is in
     cc
 
-pub no_endpoints : (instance : InstanceId) (eventgroups : List ℕ) (live : SubscriberTable) → list_any (is_to_any instance eventgroups) (keys live) ≡ false → endpoints_of instance eventgroups live ≡ []
+pub no_endpoints : (instance : InstanceId) (eventgroups : List ℕ) (live : SubscriberMap) → list_any (is_to_any instance eventgroups) (keys live) ≡ false → endpoints_of instance eventgroups live ≡ []
 no_endpoints instance eventgroups live none =
     ap (λ ss. sorted_set endpoint_cmp (map (λ (s : Subscription). s.endpoint) ss)) (none_passes (is_to_any instance eventgroups) (keys live) none) ∙ keys-empty (Unit {0}) endpoint_cmp
 
-pub some_endpoints : (instance : InstanceId) (eventgroups : List ℕ) (live : SubscriberTable) → list_any (is_to_any instance eventgroups) (keys live) ≡ true → endpoints_of instance eventgroups live ≢ []
+pub some_endpoints : (instance : InstanceId) (eventgroups : List ℕ) (live : SubscriberMap) → list_any (is_to_any instance eventgroups) (keys live) ≡ true → endpoints_of instance eventgroups live ≢ []
 some_endpoints instance eventgroups live some =
     set_of_some (map (λ (s : Subscription). s.endpoint) (filter (is_to_any instance eventgroups) (keys live))) (some_passes (is_to_any instance eventgroups) (λ (s : Subscription). s.endpoint) (keys live) some)
 

@@ -6,3 +6,4 @@ pub mod OfferTables
 pub mod SubscriptionKeys
 pub mod SubscriptionOrder
 pub mod SubscriberTables
+pub mod SubscriptionRuns

@@ -25,34 +25,35 @@ use Rattle.sd_core.specs.Keys.{instance_cmp}
 use Rattle.sd_core.specs.SubscriptionKeys.{subscription_cmp, coded_subscription}
 
 -- the subscriptions that a server accepted, and until when each stands
-abbrev pub SubscriberTable : Type 0
-SubscriberTable = FinMap subscription_cmp (Lasting (Unit {0}))
+abbrev pub SubscriberMap : Type 0
+SubscriberMap = FinMap subscription_cmp (Lasting (Unit {0}))
 
 -- a subscription stands until a deadline, and what has expired at a moment is dropped
-abbrev pub subscribed_until : Subscription → Deadline → ℕ → SubscriberTable → SubscriberTable
+abbrev pub subscribed_until : Subscription → Deadline → ℕ → SubscriberMap → SubscriberMap
 subscribed_until s until now table = unexpired now (finite.insert table s (record { value = tt; until = until }))
 
--- a subscription is to an eventgroup of an instance
-abbrev pub is_to : InstanceId → ℕ → Subscription → Bool
-is_to instance eventgroup s = eq_by_cmp instance_cmp s.instance instance && (s.eventgroup == eventgroup)
-
--- a subscription is to one of several eventgroups of an instance
-abbrev pub is_to_any : InstanceId → List ℕ → Subscription → Bool
-is_to_any instance eventgroups s = eq_by_cmp instance_cmp s.instance instance && list_any (λ g. g == s.eventgroup) eventgroups
-
--- a subscription is to an instance, and is of a peer
+-- a subscription is to an instance
 abbrev pub is_of_instance : InstanceId → Subscription → Bool
 is_of_instance instance s = eq_by_cmp instance_cmp s.instance instance
 
+-- a subscription is to an eventgroup of an instance
+abbrev pub is_to : InstanceId → ℕ → Subscription → Bool
+is_to instance eventgroup s = is_of_instance instance s && (eventgroup == s.eventgroup)
+
+-- a subscription is to one of several eventgroups of an instance
+abbrev pub is_to_any : InstanceId → List ℕ → Subscription → Bool
+is_to_any instance eventgroups s = is_of_instance instance s && list_any (λ g. g == s.eventgroup) eventgroups
+
+-- a subscription is of a peer
 abbrev pub is_of_peer : Ipv4Addr → Subscription → Bool
 is_of_peer peer s = eq_by_cmp address_cmp s.peer peer
 
 -- how many subscriptions to an eventgroup there are
-abbrev pub subscriber_count : InstanceId → ℕ → SubscriberTable → ℕ
+abbrev pub subscriber_count : InstanceId → ℕ → SubscriberMap → ℕ
 subscriber_count instance eventgroup table = finite.len (finite.retain_keys table (is_to instance eventgroup))
 
 -- how many subscriptions there are to the eventgroup of one, that one not among them
-abbrev pub count_beside : Subscription → SubscriberTable → ℕ
+abbrev pub count_beside : Subscription → SubscriberMap → ℕ
 count_beside s table = subscriber_count s.instance s.eventgroup (finite.remove table s)
 
 -- the subscription that a Subscribe asks for, by the endpoint that it has
@@ -60,12 +61,12 @@ abbrev pub subscription_at : Subscribe → SocketAddrV4 → Subscription
 subscription_at request endpoint = record { instance = request.instance; eventgroup = request.eventgroup; peer = request.peer; endpoint = endpoint; counter = request.counter }
 
 -- why a Subscribe of a known eventgroup is answered by a Nack, if it is, by the endpoint that it has
-abbrev pub endpoint_cause : ℕ → Subscribe → Option SocketAddrV4 → SubscriberTable → Option Cause
+abbrev pub endpoint_cause : ℕ → Subscribe → Option SocketAddrV4 → SubscriberMap → Option Cause
 endpoint_cause limit request None live = Some NoEndpoint
 endpoint_cause limit request (Some endpoint) live = if nat_le limit (count_beside (subscription_at request endpoint) live) then Some Full else None
 
 -- why a Subscribe is answered by a Nack, if it is: the first that holds, by the subscriptions that are live
-abbrev pub nack_cause : SubscribeRules → Subscribe → SubscriberTable → Option Cause
+abbrev pub nack_cause : SubscribeRules → Subscribe → SubscriberMap → Option Cause
 nack_cause rules request live =
     if not rules.is_offered then Some NotOffered
     else if not rules.is_same_major then Some WrongMajor
@@ -79,9 +80,9 @@ nack_or_memory (Some cause) = Nack cause
 
 -- the endpoints of the subscriptions to any of several eventgroups of an instance: by rising address and then port,
 -- each once
-abbrev pub endpoints_of : InstanceId → List ℕ → SubscriberTable → List SocketAddrV4
+abbrev pub endpoints_of : InstanceId → List ℕ → SubscriberMap → List SocketAddrV4
 endpoints_of instance eventgroups table = sorted_set endpoint_cmp (map (λ s. s.endpoint) (filter (is_to_any instance eventgroups) (finite.keys table)))
 
 -- codes, by which a proof tells values apart
-abbrev pub coded_subscribers : Coded SubscriberTable
+abbrev pub coded_subscribers : Coded SubscriberMap
 coded_subscribers = finite.code coded_subscription (coded_lasting coded_unit)

@@ -18,6 +18,7 @@ mod offers;
 mod phases;
 mod sending;
 mod subscribe;
+mod subscriber_table;
 mod subscribers;
 mod subscription;
 mod version;

@@ -1,33 +1,29 @@
 //! The subscriptions that a server accepted.
-ghost use Rattle.std.specs.Prelude.{◌≡◌, ◌≢◌, ◌<◌, ◌≤◌, [], ◌∷◌, Bool, not, ◌&&◌, map, filter};
-ghost use Rattle.std.specs.Prelude.{is_some, None, Some};
+ghost use Rattle.std.specs.Prelude.{◌≡◌, ◌≢◌, ◌<◌, ◌≤◌, [], ◌∷◌, not, is_some, None, Some};
 ghost use Rattle.std.specs.Prelude.{IfOk, IfErr, IfSome, OnOk, OnErr};
-ghost use Rattle.std.specs.BTreeSet.{IsFromIterResult};
 ghost use Rattle.std.specs.FinMap as finite;
 ghost use Rattle.std.specs.List.{list_any};
 ghost use Rattle.std.specs.Ordering.{eq_by_cmp};
-ghost use Rattle.someip_tables.specs.Deadlines.{deadline_after, has_passed};
+ghost use Rattle.someip_tables.specs.Deadlines.{deadline_after};
 ghost use Rattle.someip_tables.specs.Endpoints.{endpoint_cmp};
 ghost use Rattle.someip_tables.specs.Lastings.{NeedsMemory, unexpired};
-ghost use Rattle.someip_tables.specs.Tables.{map_of, AnswersAs};
+ghost use Rattle.someip_tables.specs.Tables.{map_of};
 ghost use Rattle.sd_core.specs.SubscriptionKeys.{subscription_cmp};
-ghost use Rattle.sd_core.specs.SubscriberTables.{count_beside, endpoints_of};
-ghost use Rattle.sd_core.specs.SubscriberTables.{is_of_instance, is_of_peer, is_to, is_to_any};
+ghost use Rattle.sd_core.specs.SubscriptionRuns.{AllHaveOctets, HasOctets};
+ghost use Rattle.sd_core.specs.SubscriberTables.{endpoints_of, is_of_instance, is_of_peer};
 ghost use Rattle.sd_core.specs.SubscriberTables.{nack_cause, nack_or_memory, subscribed_until};
 ghost use Rattle.sd_core.specs.SubscriberTables.{subscriber_count, subscription_at};
 
 use crate::error::{Cause, SubscribeError};
 use crate::keys::InstanceId;
 use crate::subscribe::{Subscribe, SubscribeRules};
+use crate::subscriber_table::{SubscriberTable, count_beside, endpoints, has_endpoint, keep};
 use crate::subscription::Subscription;
 use someip_tables::{Deadline, DeadlineMap, Moment, is_same_key};
 use std::alloc::{AllocError, Global};
 use std::collections::BTreeSet;
 use std::marker::Model;
 use std::net::{Ipv4Addr, SocketAddrV4};
-
-/// The table of subscriptions.
-type Table = DeadlineMap<Subscription, ()>;
 
 /// The subscriptions that a server accepted, each until its TTL is over (SOME/IP Service Discovery
 /// Protocol, "Publish/Subscribe"). A contract sees the map from subscriptions to their deadlines.
@@ -37,19 +33,22 @@ type Table = DeadlineMap<Subscription, ()>;
 #[derive(Drop)]
 pub struct Subscribers {
     alloc: Global,
-    table: Table,
+    table: SubscriberTable,
 }
 
 impl Model for Subscribers {
     ghost use Rattle.someip_tables.specs.Tables.{map_of};
     ghost use Rattle.sd_core.specs.SubscriptionKeys.{subscription_cmp};
-    ghost use Rattle.sd_core.specs.SubscriberTables.{SubscriberTable, coded_subscribers};
+    ghost use Rattle.sd_core.specs.SubscriberTables.{SubscriberMap, coded_subscribers};
+    ghost use Rattle.sd_core.specs.SubscriptionRuns.{AllHaveOctets};
 
-    ghost Value = { SubscriberTable };
+    ghost Value = { SubscriberMap };
 
     ghost coded = { coded_subscribers };
 
     ghost view = { λ s. map_of subscription_cmp s.table };
+
+    ghost invariant = { λ s. AllHaveOctets (map_of subscription_cmp s.table) };
 }
 
 impl Subscribers {
@@ -166,17 +165,18 @@ impl Subscribers {
         ensures { result ≡ list_any (eq_by_cmp endpoint_cmp endpoint)
             (endpoints_of instance (eventgroup ∷ []) (unexpired now self.now)) }
     {
-        has_endpoint(&self.table, instance, &[eventgroup], endpoint, now)
+        has_endpoint(&self.table, instance, eventgroup, endpoint, now)
     }
 }
 
 /// The subscription that a Subscribe asks for, if it is not answered by a Nack.
 fn admit(
-    table: &Table,
+    table: &SubscriberTable,
     rules: SubscribeRules,
     request: Subscribe,
     now: Moment,
 ) -> Result<Subscription, Cause>
+    requires { AllHaveOctets (map_of subscription_cmp table.now) }
     ensures subscription { IfOk result (λ subscription.
         IfSome request.endpoint (λ endpoint. subscription ≡ subscription_at request endpoint)) }
     ensures accepted { OnOk result
@@ -184,6 +184,7 @@ fn admit(
     ensures room { IfOk result (λ subscription.
         subscriber_count request.instance request.eventgroup (finite.remove
         (unexpired now (map_of subscription_cmp table.now)) subscription) < rules.limit) }
+    ensures octets { IfOk result HasOctets }
     ensures refused { IfErr result (λ cause.
         nack_cause rules request (unexpired now (map_of subscription_cmp table.now)) ≡ Some cause) }
 {
@@ -210,113 +211,4 @@ fn admit(
         return Err(Cause::Full);
     }
     Ok(subscription)
-}
-
-/// How many live subscriptions there are to the eventgroup of one, that one not among them.
-fn count_beside(table: &Table, one: &Subscription, now: Moment) -> usize
-    ensures { result ≡ count_beside one.now (unexpired now (map_of subscription_cmp table.now)) }
-{
-    table.count_unexpired(now, |other| {
-        is_to(other, one.instance, one.eventgroup) && !is_same_key(other, one)
-    })
-}
-
-fn is_to(subscription: &Subscription, instance: InstanceId, eventgroup: u16) -> bool
-    ensures { result ≡ is_to instance eventgroup subscription.now }
-{
-    is_same_key(&subscription.instance, &instance) && subscription.eventgroup == eventgroup
-}
-
-fn is_to_any(subscription: &Subscription, instance: InstanceId, eventgroups: &[u16]) -> bool
-    ensures { result ≡ is_to_any instance eventgroups.now subscription.now }
-{
-    is_same_key(&subscription.instance, &instance) && eventgroups.contains(&subscription.eventgroup)
-}
-
-/// Keeps a subscription until a deadline, and drops what has expired.
-fn keep(
-    table: &mut Table,
-    subscription: Subscription,
-    until: Deadline,
-    now: Moment,
-) -> Result<(), AllocError>
-    ensures ok { OnOk result (map_of subscription_cmp table.new
-        ≡ subscribed_until subscription until now (map_of subscription_cmp table.old)) }
-    ensures grows { OnErr result
-        (NeedsMemory (finite.get (map_of subscription_cmp table.old) subscription) until) }
-    ensures err { OnErr result (table.new ≡ table.old) }
-{
-    table.insert(subscription, (), until)?;
-    table.drop_expired(now);
-    Ok(())
-}
-
-/// Whether a live subscription passes a test.
-fn any_live<F: Fn(&Subscription) -> bool + Drop>(table: &Table, now: Moment, test: F) -> bool
-    requires { F.IsAlwaysCallable test }
-    ensures { (p : Subscription → Bool) → AnswersAs F.Fn test p → result
-        ≡ list_any p (finite.keys (unexpired now (map_of subscription_cmp table.now))) }
-{
-    table.iter().any(|(subscription, lasting)| !lasting.until.has_passed(now) && test(subscription))
-}
-
-/// The endpoints of the live subscriptions to any of these eventgroups.
-fn endpoints(
-    table: &Table,
-    alloc: Global,
-    instance: InstanceId,
-    eventgroups: &[u16],
-    now: Moment,
-) -> Result<BTreeSet<SocketAddrV4>, AllocError>
-    ensures live { IfOk result (λ endpoints. endpoints.keys ≡ endpoints_of instance eventgroups.now
-        (unexpired now (map_of subscription_cmp table.now))) }
-    ensures grows { OnErr result (endpoints_of instance eventgroups.now
-        (unexpired now (map_of subscription_cmp table.now)) ≢ []) }
-{
-    if any_live(
-        table,
-        now,
-        |subscription| is_to_any(subscription, instance, eventgroups),
-    ) {
-        collect_endpoints(table, alloc, instance, eventgroups, now)
-    } else {
-        Ok(BTreeSet::new(alloc))
-    }
-}
-
-fn collect_endpoints(
-    table: &Table,
-    alloc: Global,
-    instance: InstanceId,
-    eventgroups: &[u16],
-    now: Moment,
-) -> Result<BTreeSet<SocketAddrV4>, AllocError>
-    ensures { IfOk result (IsFromIterResult endpoint_cmp (map (λ e. e.0.endpoint)
-        (filter (λ e. not (has_passed now e.1.until) && is_to_any instance eventgroups.now e.0)
-        (finite.entries (map_of subscription_cmp table.now))))) }
-{
-    table
-        .iter()
-        .filter(|(subscription, lasting)| {
-            !lasting.until.has_passed(now) && is_to_any(subscription, instance, eventgroups)
-        })
-        .map(|(subscription, _)| subscription.endpoint)
-        .collect(alloc)
-}
-
-/// Whether an endpoint has a live subscription to any of these eventgroups.
-fn has_endpoint(
-    table: &Table,
-    instance: InstanceId,
-    eventgroups: &[u16],
-    endpoint: SocketAddrV4,
-    now: Moment,
-) -> bool
-    ensures { result ≡ list_any (eq_by_cmp endpoint_cmp endpoint) (endpoints_of instance
-        eventgroups.now (unexpired now (map_of subscription_cmp table.now))) }
-{
-    any_live(table, now, |subscription| {
-        is_to_any(subscription, instance, eventgroups)
-            && is_same_key(&endpoint, &subscription.endpoint)
-    })
 }
