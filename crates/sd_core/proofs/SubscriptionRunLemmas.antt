@@ -202,7 +202,7 @@ collected_in_run instance eventgroups now m n octets is =
     let among : Subscription → Bool = λ s. list_any (λ g. nat_eq g s.eventgroup) eventgroups in
     let of : Subscription → Bool = is_of_instance instance in
     let same : map (λ (e : Entry). e.0.endpoint) (filter (λ e. is_live_at now e && among e.0) (take_while (λ e. of e.0) (from_least instance 0 m)))
-        ≡ map (λ (e : Entry). e.0.endpoint) (filter (λ e. is_live_at now e && is_to_any instance eventgroups e.0) (entries m)) =
+    ≡ map (λ (e : Entry). e.0.endpoint) (filter (λ e. is_live_at now e && is_to_any instance eventgroups e.0) (entries m)) =
     ap (λ es. map (λ (e : Entry). e.0.endpoint) (filter (λ e. is_live_at now e && among e.0) es)) (instance_run instance m octets)
     ∙ ap (map (λ (e : Entry). e.0.endpoint)) (filter_twice (λ e. of e.0) (λ e. is_live_at now e && among e.0) (entries m)
     ∙ filter_alike (λ e. of e.0 && (is_live_at now e && among e.0)) (λ e. is_live_at now e && (of e.0 && among e.0)) (entries m) (λ e. swapped (of e.0) (is_live_at now e) (among e.0))) in

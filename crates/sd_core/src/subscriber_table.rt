@@ -98,12 +98,7 @@ pub(crate) fn endpoints(
 }
 
 /// Whether there is a live subscription to any of these eventgroups.
-fn has_any(
-    table: &SubscriberTable,
-    instance: InstanceId,
-    eventgroups: &[u16],
-    now: Moment,
-) -> bool
+fn has_any(table: &SubscriberTable, instance: InstanceId, eventgroups: &[u16], now: Moment) -> bool
     requires { AllHaveOctets (map_of subscription_cmp table.now) }
     ensures { result ≡ list_any (is_to_any instance eventgroups.now)
         (finite.keys (unexpired now (map_of subscription_cmp table.now))) }

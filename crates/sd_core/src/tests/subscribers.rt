@@ -44,6 +44,20 @@ fn counter(number: u8) -> Result<SubscriptionCounter, Fail> {
     Ok(SubscriptionCounter::new(number).ok_or("a counter")?)
 }
 
+/// What a server knows whose eventgroups take no subscription.
+fn full(is_offered: bool, is_same_major: bool, is_known_eventgroup: bool) -> SubscribeRules {
+    SubscribeRules {
+        is_offered,
+        is_same_major,
+        is_known_eventgroup,
+        limit: 0,
+    }
+}
+
+fn nack(cause: Cause) -> Result<(), SubscribeError> {
+    Err(SubscribeError::Nack(cause))
+}
+
 fn at(millis: u64) -> Result<Moment, Fail> {
     Ok(Moment::new(millis).ok_or("a moment")?)
 }
@@ -74,7 +88,7 @@ fn subscriptions_last_for_their_ttl(rt: HostRuntime) -> Result<(), Fail> {
 
 #[test]
 fn an_eventgroup_is_full(rt: HostRuntime) -> Result<(), Fail> {
-    let full = Err(SubscribeError::Nack(Cause::Full));
+    let full = nack(Cause::Full);
     let first = subscribe(2, 40001)?;
     let other = subscribe(3, 40001)?;
     let rows = [
@@ -99,36 +113,22 @@ fn an_eventgroup_is_full(rt: HostRuntime) -> Result<(), Fail> {
 
 #[test]
 fn the_first_cause_is_told(rt: HostRuntime) -> Result<(), Fail> {
-    let with = subscribe(2, 40001)?;
+    let now = Moment::start();
     let without = Subscribe {
         endpoint: None,
-        ..with
+        ..subscribe(2, 40001)?
     };
-    let full = SubscribeRules { limit: 0, ..ONE };
-    let unknown = SubscribeRules {
-        is_known_eventgroup: false,
-        ..full
-    };
-    let wrong = SubscribeRules {
-        is_same_major: false,
-        ..unknown
-    };
-    let down = SubscribeRules {
-        is_offered: false,
-        ..wrong
-    };
-    let rows = [
-        (down, without, Cause::NotOffered),
-        (wrong, without, Cause::WrongMajor),
-        (unknown, without, Cause::UnknownEventgroup),
-        (full, without, Cause::NoEndpoint),
-        (full, with, Cause::Full),
-    ];
     let mut subscribers = Subscribers::new(rt.alloc());
-    for (rules, request, cause) in rows {
-        let answer = subscribers.subscribe(rules, request, Moment::start());
-        assert!(rt; answer == Err(SubscribeError::Nack(cause)));
-    }
+    let down = full(false, false, false);
+    assert!(rt; subscribers.subscribe(down, without, now) == nack(Cause::NotOffered));
+    let wrong = full(true, false, false);
+    assert!(rt; subscribers.subscribe(wrong, without, now) == nack(Cause::WrongMajor));
+    let unknown = full(true, true, false);
+    assert!(rt; subscribers.subscribe(unknown, without, now) == nack(Cause::UnknownEventgroup));
+    let known = full(true, true, true);
+    assert!(rt; subscribers.subscribe(known, without, now) == nack(Cause::NoEndpoint));
+    let with = subscribe(2, 40001)?;
+    assert!(rt; subscribers.subscribe(known, with, now) == nack(Cause::Full));
     Ok(())
 }
 
