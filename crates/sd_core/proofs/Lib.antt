@@ -7,3 +7,7 @@ pub mod SeekLemmas
 pub mod MomentLemmas
 pub mod OfferLawLemmas
 pub mod FindLawLemmas
+pub mod RunLemmas
+pub mod SubscriberLemmas
+pub mod SubscriptionRunLemmas
+pub mod OctetLemmas

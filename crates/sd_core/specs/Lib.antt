@@ -11,3 +11,7 @@ pub mod Endings
 pub mod SeekTables
 pub mod OfferMoments
 pub mod OfferExamples
+pub mod SubscriptionKeys
+pub mod SubscriptionOrder
+pub mod SubscriberTables
+pub mod SubscriptionRuns

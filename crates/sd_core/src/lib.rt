@@ -9,12 +9,16 @@
 //!   what a Find asks for;
 //! - [`Seeker`]: the instances that a node wants, what it knows of each, and when each that is still
 //!   searched for sends its next Find; [`ReceivedOffer`] is what it learns from;
+//! - [`Subscribers`]: the subscriptions that a server accepted; [`Subscription`] is what tells them
+//!   apart, [`Subscribe`] what a client asks for, [`SubscribeRules`] what the server knows of that,
+//!   and [`SubscribeError`] with its [`Cause`] why it is not accepted;
 //! - [`Subscriptions`]: the eventgroups that a client wished, and how far each [`Wish`] is;
 //! - [`laws`]: what the definitions behind the contracts promise.
 #![tactic(auto)]
 
 mod chosen;
 mod ending;
+mod error;
 mod eventgroup;
 mod keys;
 pub mod laws;
@@ -23,17 +27,25 @@ mod phases;
 mod received;
 mod seeker;
 mod sending;
+mod subscribe;
+mod subscriber_table;
+mod subscribers;
+mod subscription;
 mod subscriptions;
 mod version;
 mod want;
 mod wish;
 
+pub use error::{Cause, SubscribeError};
 pub use eventgroup::Eventgroup;
 pub use keys::InstanceId;
 pub use offers::Offers;
 pub use phases::Phases;
 pub use received::{Counted, KnownOffer, ReceivedOffer, Uncounted};
 pub use seeker::{Seeker, Ticked};
+pub use subscribe::{Subscribe, SubscribeRules};
+pub use subscribers::Subscribers;
+pub use subscription::Subscription;
 pub use subscriptions::Subscriptions;
 pub use version::{Sought, Version};
 pub use wish::{Acked, Beginning, OutgoingSubscribe, Stage, SubscribeAnswer, Wish};

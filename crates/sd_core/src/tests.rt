@@ -3,6 +3,7 @@ use crate::{InstanceId, Phases};
 
 mod offers;
 mod seeker;
+mod subscribers;
 mod subscriptions;
 
 /// The phases of the rows: base 30, cyclic 1000.

@@ -30,6 +30,11 @@ length-filter-le p (x ∷ xs) = cases (p x) (length-filter-le p xs)
     cases true le = omega arith
     cases false le = omega arith
 
+-- tests that answer alike leave the same
+pub filter_alike : {X : Type 0} (p q : X → Bool) (xs : List X) → ((x : X) → p x ≡ q x) → filter p xs ≡ filter q xs
+filter_alike p q [] same = refl
+filter_alike p q (x ∷ xs) same = ap (λ b. cond b (x ∷ filter p xs) (filter p xs)) (same x) ∙ ap (λ ys. cond (q x) (x ∷ ys) ys) (filter_alike p q xs same)
+
 pub true_from : {b : Bool} → T b → b ≡ true
 true_from {b = true} h = refl
 true_from {b = false} h = absurd h

@@ -1,8 +1,10 @@
 //! A map whose values last until a deadline each.
 ghost use Rattle.std.specs.Prelude.{◌≡◌, ◌≢◌, ◌↔◌, ◌<◌, ◌^◌, OnOk, OnErr, IfOk, IsTrue, Bool, Some};
+ghost use Rattle.std.specs.Prelude.{filter, length};
 ghost use Rattle.std.specs.Option.{option_copied};
 ghost use Rattle.std.specs.FinMap as finite;
 ghost use Rattle.std.specs.Map.Iter.{ShowsInOrder, deref_pair};
+ghost use Rattle.std.specs.Ordering.{is_le};
 ghost use Rattle.someip_tables.specs.declared.lasting.Lasting.{Lasting};
 ghost use Rattle.someip_tables.specs.Lastings.{NeedsMemory, unless_passed, expired, unexpired};
 ghost use Rattle.someip_tables.specs.Retained.{retain};
@@ -99,6 +101,17 @@ impl<K: Key, V: Drop> DeadlineMap<K, V> {
         ensures fits { finite.len (map_of K.cmp self.now) < 2 ^ 63 }
     {
         self.held.iter()
+    }
+
+    /// The entries from a key on, by rising key. It finds the first one in the order of the keys, and
+    /// looks at none before it.
+    pub fn iter_from(&self, first: K) -> btree_map::Range<'_, K, Lasting<V>>
+        ensures rest { result
+            ≡ filter (λ e. is_le (K.cmp first e.0)) (finite.entries (map_of K.cmp self.now)) }
+        ensures runs { ShowsInOrder (deref_pair {K = K} {X = Lasting V}) }
+        ensures fits { length result < 2 ^ 63 }
+    {
+        self.held.range(first..)
     }
 
     /// Puts a value under a key, in place of an earlier one and its deadline. What is refused because

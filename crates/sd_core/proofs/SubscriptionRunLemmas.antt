@@ -1,0 +1,210 @@
+-- The subscriptions to an eventgroup, and those to an instance, stand one after the other.
+use Rattle.std.proofs.Common.{◌≡◌, ℕ, ◌+◌, Bool, true, false, cond, not, ◌&&◌, ◌||◌, nat_lt, nat_eq, List, [], ◌∷◌, map, filter, take_while, length, Option, None, Some, refl, ap, sym, subst, ◌∙◌, arith}
+use Rattle.std.specs.Option.{is_some}
+use Rattle.std.specs.List.{list_any}
+use Rattle.std.specs.declared.cmp.Ordering.{Ordering}
+use Rattle.std.specs.declared.cmp.Ordering.TheVariants.{Less, Equal, Greater}
+use Rattle.std.specs.Ordering.{eq_by_cmp, is_le, nat_cmp, ordering_then, ordering_reverse}
+use Rattle.std.specs.Cmp.{IsTotalOrder, nat_cmp_total, tied_itself}
+use Rattle.std.specs.Cmp.Lexicographic.{slice_cmp}
+use Rattle.std.specs.BTreeSet.{BTreeSet, IsFromIterResult}
+use Rattle.std.specs.FinMap.{FinMap, get, insert, remove, len, keys, entries, empty, retain_keys, entries_sorted, contains_key-keys, get-empty, get-insert, get-remove, get-retain_keys}
+use Rattle.std.proofs.lemmas.Bool.{and_parts, and_from}
+use Rattle.std.proofs.lemmas.Bool.Decides.{nat_tests}
+use Rattle.std.proofs.lemmas.Map.Lookups.{exact_unsigned}
+use Rattle.std.specs.declared.net.socket_addr.SocketAddrV4.{SocketAddrV4}
+use Rattle.std.specs.Net.Addr.{ipv4_octets}
+use Rattle.std.specs.Net.Socket.{v4_ip, v4_port}
+use Rattle.someip_tables.specs.declared.deadline.Deadline.{Deadline}
+use Rattle.someip_tables.specs.declared.lasting.Lasting.{Lasting}
+use Rattle.someip_tables.specs.Deadlines.{has_passed}
+use Rattle.someip_tables.specs.Endpoints.{address_cmp, endpoint_cmp}
+use Rattle.someip_tables.specs.EndpointOrder.{endpoints_total, exact_endpoints}
+use Rattle.someip_tables.specs.Lastings.{unexpired}
+use Rattle.someip_tables.specs.Retained.{retain}
+use Rattle.someip_tables.proofs.Collected.{collected_unexpired}
+use Rattle.someip_tables.proofs.Entries.{own_test, same_by_test, true_from, filter_alike, length-filter_is, from_entries-entries, entries_distinct}
+use Rattle.someip_tables.proofs.Members.{any_filter, any_same}
+use Rattle.sd_core.specs.declared.keys.InstanceId.{InstanceId}
+use Rattle.sd_core.specs.declared.subscription.Subscription.{Subscription}
+use Rattle.sd_core.specs.Keys.{instance_cmp}
+use Rattle.sd_core.specs.KeyOrder.{instances_total, exact_instances}
+use Rattle.sd_core.specs.SubscriptionKeys.{subscription_cmp}
+use Rattle.sd_core.specs.SubscriptionOrder.{subscriptions_total, exact_subscriptions}
+use Rattle.sd_core.specs.SubscriberTables.{SubscriberMap, count_beside, endpoints_of, is_of_instance, is_to, is_to_any}
+use Rattle.sd_core.specs.SubscriptionRuns.{AllHaveOctets, HasOctets, least_to, unspecified}
+use Rattle.sd_core.proofs.RunLemmas.{run_is, filter_twice}
+use Rattle.sd_core.proofs.SubscriberLemmas.{any_endpoint, any_unexpired, others_counted}
+
+le_then : (a b : Ordering) → is_le a ≡ true → is_le b ≡ true → is_le (ordering_then a b) ≡ true
+le_then Less b x y = refl
+le_then Equal b x y = y
+le_then Greater b x y = cc
+
+zero_first : (n : ℕ) → is_le (nat_cmp 0 n) ≡ true
+zero_first n = cases (nat_lt 0 n) (nat_eq 0 n) refl refl
+  where
+    cases : (l e : Bool) → nat_lt 0 n ≡ l → nat_eq 0 n ≡ e → is_le (cond l Less (cond e Equal Greater)) ≡ true
+    cases true e lt eq = refl
+    cases false true lt eq = refl
+    cases false false lt eq = absurd (grind (arith, nat_tests))
+
+octets_first : (xs : List ℕ) → length xs ≡ 4 → is_le (slice_cmp nat_cmp (0 ∷ 0 ∷ 0 ∷ 0 ∷ []) xs) ≡ true
+octets_first [] four = absurd (omega arith)
+octets_first (a ∷ []) four = absurd (omega arith)
+octets_first (a ∷ b ∷ []) four = absurd (omega arith)
+octets_first (a ∷ b ∷ c ∷ []) four = absurd (omega arith)
+octets_first (a ∷ b ∷ c ∷ d ∷ []) four =
+    le_then (nat_cmp 0 a) _ (zero_first a) (le_then (nat_cmp 0 b) _ (zero_first b) (le_then (nat_cmp 0 c) _ (zero_first c) (le_then (nat_cmp 0 d) _ (zero_first d) refl)))
+octets_first (a ∷ b ∷ c ∷ d ∷ e ∷ xs) four = absurd (omega arith)
+
+client_first : (s : Subscription) → HasOctets s
+    → is_le (ordering_then (address_cmp unspecified s.peer) (ordering_then (endpoint_cmp (record { ip = unspecified; port = 0 }) s.endpoint) (nat_cmp 0 s.counter))) ≡ true
+client_first s octets =
+    le_then (address_cmp unspecified s.peer) _ (octets_first (ipv4_octets s.peer) octets.0)
+    (le_then (endpoint_cmp (record { ip = unspecified; port = 0 }) s.endpoint) _
+    (le_then (address_cmp unspecified (v4_ip s.endpoint)) _ (octets_first (ipv4_octets (v4_ip s.endpoint)) octets.1) (zero_first (v4_port s.endpoint)))
+    (zero_first s.counter))
+
+tied_le : {K : Type 0} {R : K → K → Ordering} → IsTotalOrder R → (a b : K) → a ≡ b → is_le (R a b) ≡ true
+tied_le {R = R} o a b is = ap is_le (sym (ap (R a) is) ∙ tied_itself o a)
+
+same_eventgroup : (instance : InstanceId) (eventgroup : ℕ) (s : Subscription) → is_to instance eventgroup s ≡ true → (s.instance ≡ instance) × (eventgroup ≡ s.eventgroup)
+same_eventgroup instance eventgroup s to =
+    let parts = and_parts _ _ to in
+    let e : nat_eq eventgroup s.eventgroup ≡ true = parts.1 in
+    (same_by_test exact_instances s.instance instance parts.0, grind (arith, nat_tests))
+
+-- none comes before the least
+pub first_of_eventgroup : (instance : InstanceId) (eventgroup : ℕ) (s : Subscription) → HasOctets s → is_to instance eventgroup s ≡ true → is_le (subscription_cmp (least_to instance eventgroup) s) ≡ true
+first_of_eventgroup instance eventgroup s octets to =
+    let same = same_eventgroup instance eventgroup s to in
+    le_then (instance_cmp instance s.instance) _ (tied_le instances_total instance s.instance (sym same.0))
+    (le_then (nat_cmp eventgroup s.eventgroup) _ (tied_le nat_cmp_total eventgroup s.eventgroup same.1) (client_first s octets))
+
+pub first_of_instance : (instance : InstanceId) (s : Subscription) → HasOctets s → is_of_instance instance s ≡ true → is_le (subscription_cmp (least_to instance 0) s) ≡ true
+first_of_instance instance s octets of =
+    le_then (instance_cmp instance s.instance) _ (tied_le instances_total instance s.instance (sym (same_by_test exact_instances s.instance instance of)))
+    (le_then (nat_cmp 0 s.eventgroup) _ (zero_first s.eventgroup) (client_first s octets))
+
+-- what stands between two of a kind is of that kind
+squeezed : (i g r t : Ordering) → is_le (ordering_then i (ordering_then g r)) ≡ true → ordering_then (ordering_reverse i) (ordering_then (ordering_reverse g) t) ≡ Less → (i ≡ Equal) × (g ≡ Equal)
+squeezed Less g r t le lt = absurd (cc)
+squeezed Greater g r t le lt = absurd (cc)
+squeezed Equal Less r t le lt = absurd (cc)
+squeezed Equal Greater r t le lt = absurd (cc)
+squeezed Equal Equal r t le lt = (refl, refl)
+
+squeezed_one : (i r t : Ordering) → is_le (ordering_then i r) ≡ true → ordering_then (ordering_reverse i) t ≡ Less → i ≡ Equal
+squeezed_one Less r t le lt = absurd (cc)
+squeezed_one Greater r t le lt = absurd (cc)
+squeezed_one Equal r t le lt = refl
+
+turned : {K : Type 0} {R : K → K → Ordering} → IsTotalOrder R → (a b x : K) → b ≡ x → R a b ≡ ordering_reverse (R x a)
+turned {R = R} o a b x is = o.antisymm a b ∙ ap (λ y. ordering_reverse (R y a)) is
+
+pub eventgroup_whole : (instance : InstanceId) (eventgroup : ℕ) (a b : Subscription) → is_le (subscription_cmp (least_to instance eventgroup) a) ≡ true → subscription_cmp a b ≡ Less → is_to instance eventgroup b ≡ true
+    → is_to instance eventgroup a ≡ true
+eventgroup_whole instance eventgroup a b from lt to =
+    let same = same_eventgroup instance eventgroup b to in
+    let of = turned instances_total a.instance b.instance instance same.0 in
+    let in_group = turned nat_cmp_total a.eventgroup b.eventgroup eventgroup (sym same.1) in
+    let rest : Ordering = ordering_then (address_cmp a.peer b.peer) (ordering_then (endpoint_cmp a.endpoint b.endpoint) (nat_cmp a.counter b.counter)) in
+    let both = squeezed (instance_cmp instance a.instance) (nat_cmp eventgroup a.eventgroup) _ rest from (sym (ap (λ i. ordering_then i (ordering_then (nat_cmp a.eventgroup b.eventgroup) rest)) of ∙ ap (λ g. ordering_then (ordering_reverse (instance_cmp instance a.instance)) (ordering_then g rest)) in_group) ∙ lt) in
+    let at_instance : is_of_instance instance a ≡ true = ap (λ i. is_of_instance i a) (exact_instances instance a.instance both.0) ∙ own_test instances_total a.instance in
+    let at_eventgroup : eventgroup ≡ a.eventgroup = exact_unsigned eventgroup a.eventgroup both.1 in
+    and_from _ _ at_instance (grind (arith, nat_tests))
+
+pub instance_whole : (instance : InstanceId) (a b : Subscription) → is_le (subscription_cmp (least_to instance 0) a) ≡ true → subscription_cmp a b ≡ Less → is_of_instance instance b ≡ true → is_of_instance instance a ≡ true
+instance_whole instance a b from lt to =
+    let of = turned instances_total a.instance b.instance instance (same_by_test exact_instances b.instance instance to) in
+    let rest : Ordering = ordering_then (nat_cmp a.eventgroup b.eventgroup) (ordering_then (address_cmp a.peer b.peer) (ordering_then (endpoint_cmp a.endpoint b.endpoint) (nat_cmp a.counter b.counter))) in
+    let is = squeezed_one (instance_cmp instance a.instance) _ rest from (sym (ap (λ i. ordering_then i rest) of) ∙ lt) in
+    ap (λ i. is_of_instance i a) (exact_instances instance a.instance is) ∙ own_test instances_total a.instance
+
+-- ---- their entries
+
+abbrev Entry : Type 0
+Entry = Subscription × Lasting (Unit {0})
+
+abbrev from_least : InstanceId → ℕ → SubscriberMap → List Entry
+from_least instance eventgroup m = filter (λ e. is_le (subscription_cmp (least_to instance eventgroup) e.0)) (entries m)
+
+abbrev is_live_at : ℕ → Entry → Bool
+is_live_at now e = not (has_passed now e.1.until)
+
+eventgroup_run : (instance : InstanceId) (eventgroup : ℕ) (m : SubscriberMap) → AllHaveOctets m
+    → take_while (λ e. is_to instance eventgroup e.0) (from_least instance eventgroup m) ≡ filter (λ e. is_to instance eventgroup e.0) (entries m)
+eventgroup_run instance eventgroup m octets =
+    run_is subscriptions_total (is_to instance eventgroup) (least_to instance eventgroup) (eventgroup_whole instance eventgroup) (entries m) (true_from (entries_sorted m))
+    (λ k there to. first_of_eventgroup instance eventgroup k (octets k (contains_key-keys m k ∙ there)) to)
+
+instance_run : (instance : InstanceId) (m : SubscriberMap) → AllHaveOctets m
+    → take_while (λ e. is_of_instance instance e.0) (from_least instance 0 m) ≡ filter (λ e. is_of_instance instance e.0) (entries m)
+instance_run instance m octets =
+    run_is subscriptions_total (is_of_instance instance) (least_to instance 0) (instance_whole instance) (entries m) (true_from (entries_sorted m))
+    (λ k there of. first_of_instance instance k (octets k (contains_key-keys m k ∙ there)) of)
+
+swapped : (a b c : Bool) → (a && (b && c)) ≡ (b && (a && c))
+swapped true b c = refl
+swapped false true c = refl
+swapped false false c = refl
+
+-- how many there are beside one
+pub counted_beside : (s : Subscription) (now : ℕ) (m : SubscriberMap) → AllHaveOctets m
+    → length (filter (λ e. not (has_passed now e.1.until) && not (eq_by_cmp subscription_cmp e.0 s)) (take_while (λ e. is_to s.instance s.eventgroup e.0) (from_least s.instance s.eventgroup m)))
+    ≡ count_beside s (unexpired now m)
+counted_beside s now m octets =
+    let other : Subscription → Bool = λ k. not (eq_by_cmp subscription_cmp k s) in
+    let to : Subscription → Bool = is_to s.instance s.eventgroup in
+    ap (λ es. length (filter (λ e. is_live_at now e && other e.0) es)) (eventgroup_run s.instance s.eventgroup m octets)
+    ∙ ap length (filter_twice (λ e. to e.0) (λ e. is_live_at now e && other e.0) (entries m)
+    ∙ filter_alike (λ e. to e.0 && (is_live_at now e && other e.0)) (λ e. is_live_at now e && (to e.0 && other e.0)) (entries m) (λ e. swapped (to e.0) (is_live_at now e) (other e.0)))
+    ∙ length-filter_is subscriptions_total exact_subscriptions (λ _ lasting. not (has_passed now lasting.until)) (λ k. to k && other k) (entries m) (entries_distinct subscriptions_total exact_subscriptions m)
+    ∙ ap (λ n. len (retain_keys (retain n (λ _ lasting. not (has_passed now lasting.until))) (λ k. to k && other k))) (from_entries-entries subscriptions_total exact_subscriptions m)
+    ∙ others_counted s (unexpired now m)
+
+or_false : (b : Bool) → b ≡ (b || false)
+or_false true = refl
+or_false false = refl
+
+-- whether an endpoint is among those to an eventgroup
+pub endpoint_in_run : (instance : InstanceId) (eventgroup : ℕ) (endpoint : SocketAddrV4) (now : ℕ) (m : SubscriberMap) → AllHaveOctets m
+    → list_any (λ e. not (has_passed now e.1.until) && eq_by_cmp endpoint_cmp endpoint e.0.endpoint) (take_while (λ e. is_to instance eventgroup e.0) (from_least instance eventgroup m))
+    ≡ list_any (eq_by_cmp endpoint_cmp endpoint) (endpoints_of instance (eventgroup ∷ []) (unexpired now m))
+endpoint_in_run instance eventgroup endpoint now m octets =
+    let at : Subscription → Bool = λ s. eq_by_cmp endpoint_cmp endpoint s.endpoint in
+    let to : Subscription → Bool = is_to instance eventgroup in
+    ap (list_any (λ e. is_live_at now e && at e.0)) (eventgroup_run instance eventgroup m octets)
+    ∙ any_filter (λ e. is_live_at now e && at e.0) (λ e. to e.0) (entries m)
+    ∙ any_same (λ e. to e.0 && (is_live_at now e && at e.0)) (λ e. is_live_at now e && (to e.0 && at e.0)) (entries m) (λ e. swapped (to e.0) (is_live_at now e) (at e.0))
+    ∙ any_unexpired subscriptions_total exact_subscriptions (λ s. to s && at s) now m
+    ∙ any_same (λ s. to s && at s) (λ s. is_to_any instance (eventgroup ∷ []) s && at s) (keys (unexpired now m)) (λ s. ap (λ b. (is_of_instance instance s && b) && at s) (or_false (nat_eq eventgroup s.eventgroup)))
+    ∙ any_endpoint instance (eventgroup ∷ []) endpoint (unexpired now m)
+
+-- whether there is one to any of several eventgroups
+pub any_in_run : (instance : InstanceId) (eventgroups : List ℕ) (now : ℕ) (m : SubscriberMap) → AllHaveOctets m
+    → list_any (λ e. not (has_passed now e.1.until) && list_any (λ g. nat_eq g e.0.eventgroup) eventgroups) (take_while (λ e. is_of_instance instance e.0) (from_least instance 0 m))
+    ≡ list_any (is_to_any instance eventgroups) (keys (unexpired now m))
+any_in_run instance eventgroups now m octets =
+    let among : Subscription → Bool = λ s. list_any (λ g. nat_eq g s.eventgroup) eventgroups in
+    let of : Subscription → Bool = is_of_instance instance in
+    ap (list_any (λ e. is_live_at now e && among e.0)) (instance_run instance m octets)
+    ∙ any_filter (λ e. is_live_at now e && among e.0) (λ e. of e.0) (entries m)
+    ∙ any_same (λ e. of e.0 && (is_live_at now e && among e.0)) (λ e. is_live_at now e && (of e.0 && among e.0)) (entries m) (λ e. swapped (of e.0) (is_live_at now e) (among e.0))
+    ∙ any_unexpired subscriptions_total exact_subscriptions (is_to_any instance eventgroups) now m
+
+-- the endpoints of those
+pub collected_in_run : (instance : InstanceId) (eventgroups : List ℕ) (now : ℕ) (m : SubscriberMap) (n : BTreeSet SocketAddrV4) → AllHaveOctets m
+    → IsFromIterResult endpoint_cmp (map (λ e. e.0.endpoint) (filter (λ e. not (has_passed now e.1.until) && list_any (λ g. nat_eq g e.0.eventgroup) eventgroups) (take_while (λ e. is_of_instance instance e.0) (from_least instance 0 m)))) n
+    → n.keys ≡ endpoints_of instance eventgroups (unexpired now m)
+collected_in_run instance eventgroups now m n octets is =
+    let among : Subscription → Bool = λ s. list_any (λ g. nat_eq g s.eventgroup) eventgroups in
+    let of : Subscription → Bool = is_of_instance instance in
+    let same : map (λ (e : Entry). e.0.endpoint) (filter (λ e. is_live_at now e && among e.0) (take_while (λ e. of e.0) (from_least instance 0 m)))
+    ≡ map (λ (e : Entry). e.0.endpoint) (filter (λ e. is_live_at now e && is_to_any instance eventgroups e.0) (entries m)) =
+    ap (λ es. map (λ (e : Entry). e.0.endpoint) (filter (λ e. is_live_at now e && among e.0) es)) (instance_run instance m octets)
+    ∙ ap (map (λ (e : Entry). e.0.endpoint)) (filter_twice (λ e. of e.0) (λ e. is_live_at now e && among e.0) (entries m)
+    ∙ filter_alike (λ e. of e.0 && (is_live_at now e && among e.0)) (λ e. is_live_at now e && (of e.0 && among e.0)) (entries m) (λ e. swapped (of e.0) (is_live_at now e) (among e.0))) in
+    collected_unexpired subscriptions_total exact_subscriptions endpoints_total exact_endpoints (λ (s : Subscription). s.endpoint) (is_to_any instance eventgroups) now m n
+    (subst (λ xs. IsFromIterResult endpoint_cmp xs n) same is)
