@@ -7,7 +7,8 @@
 //! - [`Offers`]: the instances that a node offers, and when each sends its next Offer; [`Sought`] is
 //!   what a Find asks for;
 //! - [`Seeker`]: the instances that a node wants, what it knows of each, and when each that is still
-//!   searched for sends its next Find; [`ReceivedOffer`] is what it learns from.
+//!   searched for sends its next Find; [`ReceivedOffer`] is what it learns from;
+//! - [`laws`]: at which moments Offers and Finds go out.
 #![tactic(auto)]
 
 mod chosen;
