@@ -14,6 +14,7 @@
 //!   and [`SubscribeError`] with its [`Cause`] why it is not accepted;
 //! - [`Subscriptions`]: the eventgroups that a client wished, and how far each [`Wish`] is;
 //! - [`laws`]: what the definitions behind the contracts promise.
+//! - [`laws`]: at which moments Offers and Finds go out.
 #![tactic(auto)]
 
 mod chosen;

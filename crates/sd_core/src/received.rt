@@ -11,7 +11,7 @@ pub struct ReceivedOffer {
     pub instance: InstanceId,
     /// The major version of its interface.
     pub major: u8,
-    /// For how long it is offered.
+    /// For how long it is offered; 0 is that of a StopOffer.
     pub ttl: Ttl,
     /// The first of the Offer's IPv4 endpoints over UDP, if it has one: where the instance is reached.
     pub endpoint: Option<SocketAddrV4>,
