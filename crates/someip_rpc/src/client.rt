@@ -65,6 +65,15 @@ impl ClientCore {
         }
     }
 
+    /// How many calls wait for their answer, those among them whose time has passed since the last
+    /// tick.
+    pub fn pending_calls(&self) -> usize
+        ensures count { result ≡ finite.len self.now.pending }
+        ensures few { result ≤ 1024 }
+    {
+        self.pending.len()
+    }
+
     /// Calls a method of a service instance that is offered at an endpoint, or at none if no offer is
     /// known, and answers what is to be sent. The call takes the next session of its Message ID, in
     /// cyclic order from 1 to FFFF, that does not wait; a REQUEST then waits for its answer.

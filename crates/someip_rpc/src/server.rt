@@ -70,6 +70,14 @@ impl ServerCore {
         }
     }
 
+    /// How many requests wait for their answer.
+    pub fn open_requests(&self) -> usize
+        ensures count { result ≡ finite.len self.now.requests }
+        ensures few { result ≤ 1024 }
+    {
+        self.requests.len()
+    }
+
     /// Takes a message that came from an endpoint to that of an instance, which is up or not. A REQUEST
     /// is handed up with the next token, and waits for its answer; or it is refused by an ERROR that
     /// tells the first check that it fails. A REQUEST_NO_RETURN is handed up or dropped, and every other

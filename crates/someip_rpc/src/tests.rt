@@ -6,6 +6,7 @@ use std::net::{Ipv4Addr, SocketAddrV4};
 use std::test::Fail;
 
 mod events;
+mod long;
 mod requests;
 
 /// The method 0423 of the service 1111.
@@ -193,6 +194,7 @@ fn calls_that_are_refused(rt: HostRuntime) -> Result<(), Fail> {
     assert!(rt; none == Err(RpcError::NotOffered));
     let long = client.call(&rules(), request, &long, Some(server()), now);
     assert!(rt; long == Err(RpcError::TooLong));
+    assert_eq!(rt; client.pending_calls(), 1024);
     let full = client.call(&rules(), request, &[], Some(server()), now);
     assert!(rt; full == Err(RpcError::Busy));
     let oneway = client.call(

@@ -219,6 +219,7 @@ fn open_requests_fill_up(rt: HostRuntime) -> Result<(), Fail> {
     let taken = arrives(&mut server, &service, &oneway);
     assert!(rt; taken == Some(Arrived::Oneway));
     server.answer(512, Reply::Response(ReturnCode::E_OK), &[], 1400)?;
+    assert_eq!(rt; server.open_requests(), 1023);
     let free = arrives(&mut server, &service, &request(1));
     assert!(rt; free == Some(Arrived::Request(1025)));
     server.clear();
