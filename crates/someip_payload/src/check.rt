@@ -70,7 +70,7 @@ fn are_variants_within(variants: &[(u32, Shape)], limit: u32) -> bool
     true
 }
 
-// Whether no part of the shape is one that no value can have.
+/// Whether no part of the shape is one that no value can have.
 #[cycle(sound)]
 fn is_sound(alloc: Global, shape: &Shape) -> Result<bool, AllocError>
     ensures { IfOk result (λ b. b ≡ is_form (form shape.now)) }
@@ -147,7 +147,7 @@ fn is_repetition(shape: &Shape) -> bool
     matches!(shape, Shape::Fixed(_, _))
 }
 
-// Whether no type number is 0 or stands twice.
+/// Whether no type number is 0 or stands twice.
 fn have_numbers(alloc: Global, variants: &[(u32, Shape)]) -> Result<bool, AllocError>
     ensures { IfOk result (λ b. b ≡ are_numbers [] (all_variants variants.now)) }
 {

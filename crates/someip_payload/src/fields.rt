@@ -11,7 +11,7 @@ use crate::number::{Size, size_of};
 use crate::shape::Width;
 use crate::window::Window;
 
-// Something at the front passes the end of the window.
+/// Something at the front passes the end of the window.
 pub(crate) fn short(window: Window<'_>) -> PayloadError
     ensures { result ≡ short_at (seen window.entry) }
 {
@@ -69,7 +69,7 @@ pub(crate) fn number(size: Size, window: Window<'_>) -> Result<(u64, Window<'_>)
     }
 }
 
-// The body of so many bytes, whose length field stands at the start, and what comes after it.
+/// The body of so many bytes, whose length field stands at the start, and what comes after it.
 #[tactic(auto, unfolding(crate::specs::Reading::window_at))]
 pub(crate) fn sized<'a>(
     len: u64,
@@ -97,7 +97,7 @@ pub(crate) fn sized<'a>(
     ))
 }
 
-// The body after a length field, and what comes after it.
+/// The body after a length field, and what comes after it.
 #[tactic(auto, unfolding(crate::specs::Reading::body_at))]
 pub(crate) fn body(
     width: Width,

@@ -17,7 +17,7 @@ pub(crate) enum Size {
     S64,
 }
 
-// How many bits a length field has.
+/// How many bits a length field has.
 pub(crate) fn size_of(width: Width) -> Size
     ensures { result ≡ size_of width }
 {
@@ -28,7 +28,7 @@ pub(crate) fn size_of(width: Width) -> Size
     }
 }
 
-// Whether a number of this size can have the value.
+/// Whether a number of this size can have the value.
 pub(crate) fn has_number(size: Size, n: u64) -> bool
     ensures { IsTrue result ↔ (n < limit_of size) }
 {
@@ -40,7 +40,7 @@ pub(crate) fn has_number(size: Size, n: u64) -> bool
     }
 }
 
-// Whether a signed number of this size can have the value.
+/// Whether a signed number of this size can have the value.
 pub(crate) fn has_signed(size: Size, z: i64) -> bool
     ensures { result ≡ is_signed size z }
 {
@@ -52,7 +52,7 @@ pub(crate) fn has_signed(size: Size, z: i64) -> bool
     }
 }
 
-// The signed number whose two's complement has these bits.
+/// The signed number whose two's complement has these bits.
 pub(crate) fn signed_of(size: Size, n: u64) -> i64
     requires { n < limit_of size }
     ensures { result ≡ cast_signed (width_of size) n }
@@ -65,7 +65,7 @@ pub(crate) fn signed_of(size: Size, n: u64) -> i64
     }
 }
 
-// The bits of a signed number in two's complement.
+/// The bits of a signed number in two's complement.
 pub(crate) fn bits_of(size: Size, z: i64) -> u64
     requires { is_signed size z ≡ true }
     ensures { result ≡ cast_unsigned (width_of size) z }
@@ -78,7 +78,7 @@ pub(crate) fn bits_of(size: Size, z: i64) -> u64
     }
 }
 
-// Adds a number that the size can have.
+/// Adds a number that the size can have.
 pub(crate) fn put_bytes(size: Size, n: u64, out: &mut Vec<u8>) -> Result<(), AllocError>
     requires { n < limit_of size }
     ensures { OnOk result (out.new.items ≡ out.old.items ++ number size n) }

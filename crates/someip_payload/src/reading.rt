@@ -131,7 +131,7 @@ fn value<'a>(
     }
 }
 
-// Elements until the window is used up.
+/// Elements until the window is used up.
 #[cycle(read)]
 fn items(
     alloc: Global,
@@ -156,7 +156,7 @@ fn items(
     Ok(values)
 }
 
-// Exactly so many elements.
+/// Exactly so many elements.
 #[cycle(read)]
 fn fixed<'a>(
     alloc: Global,
@@ -194,7 +194,7 @@ fn members<'a>(
     Ok((values, window))
 }
 
-// A length, a type number and a body.
+/// A length, a type number and a body.
 #[cycle(read)]
 #[tactic(auto, unfolding(crate::specs::Reading::union_at))]
 fn union<'a>(
@@ -217,7 +217,7 @@ fn union<'a>(
     Ok((Value::Union(None), rest))
 }
 
-// The variant of the number at the place, whose union begins at the start.
+/// The variant of the number at the place, whose union begins at the start.
 #[cycle(read)]
 fn variant<'a>(
     alloc: Global,

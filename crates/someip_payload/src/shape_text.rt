@@ -15,7 +15,7 @@ use crate::shape::{Encoding, Shape, Width};
 use crate::shape_text_error::ShapeTextError;
 use std::alloc::Global;
 
-// How many shapes may lie around a shape in a text.
+/// How many shapes may lie around a shape in a text.
 const MOST_AROUND: u32 = 64;
 
 #[derive(Clone, Copy)]
@@ -37,7 +37,7 @@ enum Word {
     Union,
 }
 
-// What a shape's text begins with. No word begins another one.
+/// What a shape's text begins with. No word begins another one.
 const WORDS: [(&str, Word); 15] = [
     ("bool", Word::Bool),
     ("u8", Word::U8),
@@ -78,7 +78,7 @@ pub fn read_shape(alloc: Global, text: &str) -> Result<Shape, ShapeTextError>
     Ok(shape)
 }
 
-// The shape at a place, inside which so many others may lie, and the place after it.
+/// The shape at a place, inside which so many others may lie, and the place after it.
 #[cycle(shape)]
 fn shape_at(
     alloc: Global,
@@ -118,7 +118,7 @@ fn shape_at(
     }
 }
 
-// The rest of a shape after the word `utf8`.
+/// The rest of a shape after the word `utf8`.
 fn utf8_at(text: &[u8], at: usize) -> Result<(Shape, usize), ShapeTextError>
     requires { at ≤ length text.now }
     ensures found { IfOk result (λ x. IsTextOf (form x.0) (codes "utf8" ++ slice_range text.now at x.1)) }
@@ -132,7 +132,7 @@ fn utf8_at(text: &[u8], at: usize) -> Result<(Shape, usize), ShapeTextError>
     Ok((Shape::Text(Encoding::Utf8, or_32(width)), end))
 }
 
-// The rest of a shape after the word `utf16`.
+/// The rest of a shape after the word `utf16`.
 fn utf16_at(text: &[u8], at: usize) -> Result<(Shape, usize), ShapeTextError>
     requires { at ≤ length text.now }
     ensures found { IfOk result (λ x. IsTextOf (form x.0) (codes "utf16" ++ slice_range text.now at x.1)) }
@@ -146,7 +146,7 @@ fn utf16_at(text: &[u8], at: usize) -> Result<(Shape, usize), ShapeTextError>
     Ok((Shape::Text(Encoding::Utf16, or_32(width)), end))
 }
 
-// The rest of a shape after the word `array`.
+/// The rest of a shape after the word `array`.
 #[cycle(shape)]
 fn array_at(
     alloc: Global,
@@ -168,7 +168,7 @@ fn array_at(
     Ok((Shape::Array(or_32(width), max, element), end))
 }
 
-// The rest of a shape after the word `fixed`.
+/// The rest of a shape after the word `fixed`.
 #[cycle(shape)]
 fn fixed_at(
     alloc: Global,
@@ -189,7 +189,7 @@ fn fixed_at(
     Ok((Shape::Fixed(count, element), end))
 }
 
-// A number of repetitions and the shape of what is repeated, in angle brackets.
+/// A number of repetitions and the shape of what is repeated, in angle brackets.
 #[cycle(shape)]
 fn repeated_at(
     alloc: Global,
@@ -215,7 +215,7 @@ fn repeated_at(
     Ok((number, Box::new(alloc, element)?, end))
 }
 
-// The rest of a shape after the word `struct`.
+/// The rest of a shape after the word `struct`.
 #[cycle(shape)]
 fn struct_at(
     alloc: Global,
@@ -238,7 +238,7 @@ fn struct_at(
     Ok((Shape::Struct(width, members), end))
 }
 
-// Members with commas between them, and a bracket after the last.
+/// Members with commas between them, and a bracket after the last.
 #[cycle(shape)]
 fn members_at(
     alloc: Global,
@@ -271,7 +271,7 @@ fn members_at(
     }
 }
 
-// The rest of a shape after the word `union`.
+/// The rest of a shape after the word `union`.
 #[cycle(shape)]
 fn union_at(
     alloc: Global,
@@ -293,7 +293,7 @@ fn union_at(
     Ok((Shape::Union(variants), end))
 }
 
-// Variants with commas between them, and a bracket after the last.
+/// Variants with commas between them, and a bracket after the last.
 #[cycle(shape)]
 fn variants_at(
     alloc: Global,
@@ -328,7 +328,7 @@ fn variants_at(
     }
 }
 
-// The width of a length field, where one is written.
+/// The width of a length field, where one is written.
 fn width_at(text: &[u8], at: usize) -> Result<(Option<Width>, usize), ShapeTextError>
     requires { at ≤ length text.now }
     ensures found { IfOk result (λ x. slice_range text.now at x.1 ≡ width_text x.0) }
@@ -350,7 +350,7 @@ fn or_32(width: Option<Width>) -> Width
     width.unwrap_or(Width::W32)
 }
 
-// The word that a shape's text begins with, and the place after it.
+/// The word that a shape's text begins with, and the place after it.
 fn first_word(text: &[u8], at: usize) -> Result<(Word, usize), ShapeTextError>
     requires { at ≤ length text.now }
     ensures found { IfOk result (λ x. slice_range text.now at x.1 ≡ word_text x.0) }
@@ -362,8 +362,8 @@ fn first_word(text: &[u8], at: usize) -> Result<(Word, usize), ShapeTextError>
     word_at(&WORDS, text, at)
 }
 
-// The word at a place, and the place after it. The fault is at the first byte at which none of
-// the words goes on.
+/// The word at a place, and the place after it. The fault is at the first byte at which none of
+/// the words goes on.
 fn word_at<T: Copy>(
     words: &[(&str, T)],
     text: &[u8],
@@ -387,7 +387,7 @@ fn word_at<T: Copy>(
     Err(ShapeTextError::BadShape(at + longest_front(words, rest)))
 }
 
-// How many bytes a text has in common with the word that goes on longest with it.
+/// How many bytes a text has in common with the word that goes on longest with it.
 fn longest_front<T: Copy>(words: &[(&str, T)], text: &[u8]) -> usize
     ensures { result ≤ length text.now }
 {
@@ -398,7 +398,7 @@ fn longest_front<T: Copy>(words: &[(&str, T)], text: &[u8]) -> usize
     most
 }
 
-// How many bytes two texts have in common at their front.
+/// How many bytes two texts have in common at their front.
 fn common_len(a: &[u8], b: &[u8]) -> usize
     ensures bound_a { result ≤ length a.now }
     ensures bound_b { result ≤ length b.now }
@@ -432,7 +432,7 @@ fn byte_at(byte: u8, text: &[u8], at: usize) -> Result<usize, ShapeTextError>
     Ok(at + 1)
 }
 
-// A decimal number without leading zeros. The fault is at the first digit that is one too many.
+/// A decimal number without leading zeros. The fault is at the first digit that is one too many.
 fn number_at(text: &[u8], at: usize) -> Result<(u32, usize), ShapeTextError>
     requires { at ≤ length text.now }
     ensures found { IfOk result (λ x. slice_range text.now at x.1 ≡ decimal x.0) }

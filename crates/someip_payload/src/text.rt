@@ -11,7 +11,7 @@ use crate::error::PayloadError;
 use crate::shape::Encoding;
 use std::alloc::{AllocError, Global};
 
-// The text of a body whose length field stands at the place.
+/// The text of a body whose length field stands at the place.
 #[tactic(auto, unfolding(crate::specs::Reading::text_at))]
 pub(crate) fn text(
     alloc: Global,
@@ -43,7 +43,7 @@ fn utf8(alloc: Global, place: usize, body: &[u8]) -> Result<String, PayloadError
     }
 }
 
-// What comes after the byte order mark of UTF-8, if there is one.
+/// What comes after the byte order mark of UTF-8, if there is one.
 fn after_mark(bytes: &[u8]) -> &[u8]
     ensures { result.now ≡ without_mark bytes.now }
 {
@@ -70,14 +70,14 @@ fn utf16(alloc: Global, place: usize, units: &[u16]) -> Result<String, PayloadEr
     }
 }
 
-// Whether the byte order mark has its lower byte first.
+/// Whether the byte order mark has its lower byte first.
 fn is_little_endian(body: &[u8]) -> bool
     ensures { result ≡ is_little body.now }
 {
     body.len() > 1 && body[0] == 0xff && body[1] == 0xfe
 }
 
-// The units of UTF-16, without an odd byte at the end.
+/// The units of UTF-16, without an odd byte at the end.
 fn units(alloc: Global, is_big: bool, bytes: &[u8]) -> Result<Vec<u16>, AllocError>
     ensures { IfOk result (λ v. v.items ≡ units_of is_big bytes.now) }
 {
@@ -100,7 +100,7 @@ fn unit(is_big: bool, first: u8, second: u8) -> u16
     }
 }
 
-// Adds a text with mark and terminator.
+/// Adds a text with mark and terminator.
 #[tactic(auto, unfolding(crate::specs::Writing::text_body))]
 pub(crate) fn put_text(encoding: Encoding, text: &str, out: &mut Vec<u8>) -> Result<(), AllocError>
     ensures { OnOk result (out.new.items ≡ out.old.items ++ text_body encoding text.now) }
@@ -122,7 +122,7 @@ pub(crate) fn put_text(encoding: Encoding, text: &str, out: &mut Vec<u8>) -> Res
     Ok(())
 }
 
-// Adds the units of a character, each with its higher byte first.
+/// Adds the units of a character, each with its higher byte first.
 fn put_char(c: char, out: &mut Vec<u8>) -> Result<(), AllocError>
     ensures { OnOk result (out.new.items ≡ out.old.items ++ flat_map (unit_bytes true) (encode_utf16 c)) }
 {

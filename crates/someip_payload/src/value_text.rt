@@ -37,7 +37,7 @@ impl Display for Value {
     }
 }
 
-// The texts of values, with commas between them.
+/// The texts of values, with commas between them.
 #[cycle(value_text)]
 fn write_values<W: fmt::Write>(f: &mut fmt::Formatter<W>, values: &[Value]) -> fmt::Result
     ensures { WritesOnOk W.write_str_gives f.old result (listed (map value_text values.now)) f.new }
@@ -53,7 +53,7 @@ fn write_values<W: fmt::Write>(f: &mut fmt::Formatter<W>, values: &[Value]) -> f
     Ok(())
 }
 
-// The text between quotes.
+/// The text between quotes.
 fn write_quoted<W: fmt::Write>(f: &mut fmt::Formatter<W>, text: &str) -> fmt::Result
     ensures { WritesOnOk W.write_str_gives f.old result (quoted text.now) f.new }
 {
@@ -64,7 +64,7 @@ fn write_quoted<W: fmt::Write>(f: &mut fmt::Formatter<W>, text: &str) -> fmt::Re
     write!(f, "\"")
 }
 
-// A character between quotes. Quotes, backslashes and control characters of ASCII are escaped.
+/// A character between quotes. Quotes, backslashes and control characters of ASCII are escaped.
 fn write_escaped<W: fmt::Write>(f: &mut fmt::Formatter<W>, c: char) -> fmt::Result
     ensures { WritesOnOk W.write_str_gives f.old result (escaped c) f.new }
 {

@@ -168,7 +168,7 @@ fn put_members(
     Ok(())
 }
 
-// A choice of no variant is a length and a type number of 0.
+/// A choice of no variant is a length and a type number of 0.
 #[cycle(put)]
 #[tactic(auto, unfolding(crate::specs::Writing::text_of))]
 fn put_union(
