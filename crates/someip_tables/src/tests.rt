@@ -95,6 +95,9 @@ fn a_map_that_changes(rt: HostRuntime) -> Result<(), Fail> {
     assert!(rt; seen.next() == Some((6, 60)));
     assert!(rt; seen.next() == Some((7, 71)));
     assert!(rt; seen.next().is_none());
+    let mut on = map.iter_from(7).map(|(key, _)| *key);
+    assert!(rt; on.next() == Some(7));
+    assert!(rt; on.next().is_none());
     assert!(rt;
         map.remove(&6)
             == Some(Lasting {
