@@ -2,6 +2,7 @@
 use crate::{InstanceId, Phases};
 
 mod offers;
+mod reboots;
 mod seeker;
 mod subscribers;
 mod subscriptions;

@@ -32,6 +32,22 @@ fn counter(number: u8) -> Option<SubscriptionCounter> {
     SubscriptionCounter::new(number)
 }
 
+/// What a host of the network says of an eventgroup.
+fn answer(
+    number: u16,
+    id: u16,
+    has_wanted_major: bool,
+    host: u8,
+    count: u8,
+) -> Result<SubscribeAnswer, Fail> {
+    Ok(SubscribeAnswer {
+        eventgroup: group(number, id),
+        has_wanted_major,
+        peer: Ipv4Addr::new(192, 168, 0, host),
+        counter: counter(count).ok_or("a counter")?,
+    })
+}
+
 #[test]
 fn counters_go_on(rt: HostRuntime) -> Result<(), Fail> {
     let mut subscriptions = Subscriptions::new(rt.alloc());
@@ -54,52 +70,41 @@ fn counters_go_on(rt: HostRuntime) -> Result<(), Fail> {
 #[test]
 fn acks_are_compared(rt: HostRuntime) -> Result<(), Fail> {
     let mut subscriptions = Subscriptions::new(rt.alloc());
-    let first = counter(0).ok_or("counter")?;
-    let second = counter(1).ok_or("counter")?;
-    let five = Ttl::new(5).ok_or("ttl")?;
+    let five = Ttl::new(5).ok_or("a TTL")?;
     subscriptions.want(group(1, 1), Some(server()), at(0))?;
-    let good = SubscribeAnswer {
-        eventgroup: group(1, 1),
-        has_wanted_major: true,
-        peer: server(),
-        counter: first,
-    };
-    let others = [
-        SubscribeAnswer {
-            counter: second,
-            ..good
-        },
-        SubscribeAnswer {
-            peer: other_server(),
-            ..good
-        },
-        SubscribeAnswer {
-            has_wanted_major: false,
-            ..good
-        },
-        SubscribeAnswer {
-            eventgroup: group(1, 2),
-            ..good
-        },
-        SubscribeAnswer {
-            eventgroup: group(2, 1),
-            ..good
-        },
-    ];
-    for other in others {
+    for (number, id, has_wanted_major, host, count) in [
+        (1, 1, true, 1, 1),
+        (1, 1, true, 9, 0),
+        (1, 1, false, 1, 0),
+        (1, 2, true, 1, 0),
+        (2, 1, true, 1, 0),
+    ] {
+        let other = answer(number, id, has_wanted_major, host, count)?;
         assert!(rt; subscriptions.ack(other, five, at(100)) == Acked::NotPending);
+        let other = answer(number, id, has_wanted_major, host, count)?;
         assert!(rt; !subscriptions.nack(other, at(100)));
     }
     assert!(rt; !subscriptions.is_subscribed(&group(1, 1), at(100)));
-    assert!(rt; subscriptions.ack(good, five, at(100)) == Acked::Subscribed);
-    assert!(rt; subscriptions.is_subscribed(&group(1, 1), at(5099)));
-    assert!(rt; !subscriptions.is_subscribed(&group(1, 1), at(5100)));
-    let one = Ttl::new(1).ok_or("ttl")?;
-    assert!(rt; subscriptions.ack(good, one, at(200)) == Acked::Renewed);
-    assert!(rt; subscriptions.is_subscribed(&group(1, 1), at(1199)));
-    assert!(rt; !subscriptions.is_subscribed(&group(1, 1), at(1200)));
-    assert!(rt; subscriptions.ack(good, five, at(1200)) == Acked::NotPending);
-    assert!(rt; !subscriptions.nack(good, at(1200)));
+    Ok(())
+}
+
+#[test]
+fn the_latest_ack_decides(rt: HostRuntime) -> Result<(), Fail> {
+    let mut subscriptions = Subscriptions::new(rt.alloc());
+    subscriptions.want(group(1, 1), Some(server()), at(0))?;
+    for (ttl, millis, told, until) in [
+        (5, 100, Acked::Subscribed, 5100),
+        (1, 200, Acked::Renewed, 1200),
+        (5, 1200, Acked::NotPending, 1200),
+    ] {
+        let good = answer(1, 1, true, 1, 0)?;
+        let ttl = Ttl::new(ttl).ok_or("a TTL")?;
+        assert!(rt; subscriptions.ack(good, ttl, at(millis)) == told);
+        assert!(rt; subscriptions.is_subscribed(&group(1, 1), at(until - 1)));
+        assert!(rt; !subscriptions.is_subscribed(&group(1, 1), at(until)));
+    }
+    let late = answer(1, 1, true, 1, 0)?;
+    assert!(rt; !subscriptions.nack(late, at(1200)));
     Ok(())
 }
 
@@ -125,14 +130,10 @@ fn offers_begin_and_renew(rt: HostRuntime) -> Result<(), Fail> {
         let sent = subscriptions.offer(rt.alloc(), instance(1), server(), at(millis))?;
         assert!(rt; sent.as_slice() == both.as_slice());
     }
-    let answer = SubscribeAnswer {
-        eventgroup: group(1, 1),
-        has_wanted_major: true,
-        peer: server(),
-        counter: first,
-    };
-    assert!(rt; subscriptions.nack(answer, at(1000)));
-    assert!(rt; !subscriptions.nack(answer, at(1000)));
+    let nack = answer(1, 1, true, 1, 0)?;
+    assert!(rt; subscriptions.nack(nack, at(1000)));
+    let again = answer(1, 1, true, 1, 0)?;
+    assert!(rt; !subscriptions.nack(again, at(1000)));
     let next = [
         OutgoingSubscribe {
             eventgroup: group(1, 1),
@@ -156,7 +157,6 @@ fn offers_begin_and_renew(rt: HostRuntime) -> Result<(), Fail> {
 #[test]
 fn subscriptions_end(rt: HostRuntime) -> Result<(), Fail> {
     let mut subscriptions = Subscriptions::new(rt.alloc());
-    let first = counter(0).ok_or("counter")?;
     let one = Ttl::new(1).ok_or("ttl")?;
     for (eventgroup, peer) in [
         (group(2, 1), server()),
@@ -171,12 +171,7 @@ fn subscriptions_end(rt: HostRuntime) -> Result<(), Fail> {
     subscriptions.want(group(1, 1), Some(server()), at(0))?;
     let ended = subscriptions.peer_reboot(rt.alloc(), server())?;
     assert!(rt; ended.as_slice() == [group(1, 1), group(2, 1)].as_slice());
-    let acked = SubscribeAnswer {
-        eventgroup: group(3, 1),
-        has_wanted_major: true,
-        peer: other_server(),
-        counter: first,
-    };
+    let acked = answer(3, 1, true, 9, 0)?;
     assert!(rt; subscriptions.ack(acked, one, at(0)) == Acked::Subscribed);
     assert!(rt; subscriptions.tick(rt.alloc(), at(999))?.is_empty());
     let ended = subscriptions.tick(rt.alloc(), at(1000))?;
@@ -190,13 +185,8 @@ fn a_wish_is_taken_back(rt: HostRuntime) -> Result<(), Fail> {
     let mut subscriptions = Subscriptions::new(rt.alloc());
     let first = counter(0).ok_or("counter")?;
     subscriptions.want(group(1, 1), Some(server()), at(0))?;
-    let answer = SubscribeAnswer {
-        eventgroup: group(1, 1),
-        has_wanted_major: true,
-        peer: server(),
-        counter: first,
-    };
-    assert!(rt; subscriptions.ack(answer, Ttl::UNTIL_REBOOT, at(0)) == Acked::Subscribed);
+    let acked = answer(1, 1, true, 1, 0)?;
+    assert!(rt; subscriptions.ack(acked, Ttl::UNTIL_REBOOT, at(0)) == Acked::Subscribed);
     let stood = Beginning {
         peer: server(),
         counter: first,
