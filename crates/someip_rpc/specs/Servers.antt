@@ -1,11 +1,8 @@
 -- What a server core keeps, and its answers (SOME/IP Protocol, "Request/Response Communication").
-use Rattle.std.specs.Prelude.{ℕ, ◌+◌, ◌==◌, nat_lt, Bool, true, false, if◌then◌else◌, Option, None, Some, refl}
+use Rattle.std.specs.Prelude.{ℕ, ◌+◌, ◌==◌, nat_lt, Bool, false, if◌then◌else◌, Option, None, Some, refl}
 use Rattle.std.specs.Coded.{Coded, code_by, coded×, coded_ℕ}
-use Rattle.std.specs.Ordering.{nat_cmp}
 use Rattle.std.specs.FinMap as finite
 use Rattle.std.specs.FinMap.{FinMap}
-use Rattle.std.specs.declared.net.socket_addr.SocketAddrV4.{SocketAddrV4}
-use Rattle.someip_wire.specs.declared.header.Header.{Header}
 use Rattle.someip_wire.specs.declared.header.MessageType.{MessageType}
 use Rattle.someip_wire.specs.declared.header.MessageType.TheVariants as kinds
 use Rattle.someip_rpc.specs.declared.error.RpcError.{RpcError}
@@ -15,9 +12,8 @@ use Rattle.someip_rpc.specs.declared.request.Arrived.TheVariants as arrived
 use Rattle.someip_rpc.specs.declared.request.Asked.{Asked}
 use Rattle.someip_rpc.specs.declared.request.Reply.{Reply}
 use Rattle.someip_rpc.specs.declared.request.Reply.TheVariants.{Response, Error}
-use Rattle.someip_rpc.specs.declared.service.ServiceRules.{ServiceRules}
 use Rattle.someip_rpc.specs.Ids.{event_cmp, coded_event}
-use Rattle.someip_rpc.specs.Requests.{OpenRequests, answer_header, asked, coded_open}
+use Rattle.someip_rpc.specs.Requests.{OpenRequests, coded_open}
 
 -- the session that each event of an instance was given last
 abbrev pub EventSessions : Type 0
