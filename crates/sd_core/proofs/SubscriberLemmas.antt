@@ -1,12 +1,11 @@
 -- Subscriptions as a map: how many there are to an eventgroup, and where their events go.
-use Rattle.std.proofs.Common.{◌≡◌, ◌≢◌, ℕ, ◌+◌, ◌≤◌, ◌<◌, nat_le, Bool, true, false, cond, not, ◌&&◌, ◌||◌, List, [], ◌∷◌, map, filter, length, Option, None, Some, Bor, refl, ap, sym, ◌∙◌, arith}
+use Rattle.std.proofs.Common.{◌≡◌, ◌≢◌, ℕ, ◌+◌, ◌≤◌, ◌<◌, Bool, true, false, cond, not, ◌&&◌, ◌||◌, List, [], ◌∷◌, map, filter, length, Option, None, Some, Bor, refl, ap, sym, ◌∙◌, arith}
 use Rattle.std.specs.Option.{is_some, option_copied}
 use Rattle.std.specs.List.{list_any}
 use Rattle.std.specs.declared.cmp.Ordering.{Ordering}
 use Rattle.std.specs.Ordering.{eq_by_cmp}
 use Rattle.std.specs.Cmp.{IsTotalOrder}
 use Rattle.std.specs.FinMap.{FinMap, IsAntisymmetric, get, insert, remove, len, keys, entries, from_entries, retain_keys, get-remove, get-retain_keys, same_map}
-use Rattle.std.proofs.lemmas.Bool.Decides.{nat_tests}
 use Rattle.std.specs.declared.net.socket_addr.SocketAddrV4.{SocketAddrV4}
 use Rattle.someip_tables.specs.declared.deadline.Deadline.{Deadline}
 use Rattle.someip_tables.specs.declared.lasting.Lasting.{Lasting}
@@ -21,8 +20,6 @@ use Rattle.someip_tables.proofs.Expiry.{get-unexpired, unexpired-unexpired}
 use Rattle.someip_tables.proofs.MapLaws.{retain-insert_kept, retain-insert_dropped, insert-remove, len-insert-≤, len-remove-≤}
 use Rattle.someip_tables.proofs.Members.{any_map, any_filter, any_keys}
 use Rattle.someip_tables.proofs.Sorted.{any-sorted_set}
-use Rattle.sd_core.specs.declared.error.Cause.{Cause}
-use Rattle.sd_core.specs.declared.error.Cause.TheVariants.{Full}
 use Rattle.sd_core.specs.declared.keys.InstanceId.{InstanceId}
 use Rattle.sd_core.specs.declared.subscription.Subscription.{Subscription}
 use Rattle.sd_core.specs.SubscriptionKeys.{subscription_cmp}

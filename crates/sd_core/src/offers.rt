@@ -32,6 +32,7 @@ struct Place {
 /// An instance keeps its place while it is down, so that [`Offers::start`] takes no memory.
 #[derive(Drop)]
 pub struct Offers {
+    alloc: Global,
     places: BTreeMap<InstanceId, Place>,
 }
 
@@ -53,6 +54,7 @@ impl Offers {
         ensures { result ≡ record { versions = finite.empty; up = finite.empty } }
     {
         Offers {
+            alloc,
             places: BTreeMap::new(alloc),
         }
     }
@@ -87,18 +89,13 @@ impl Offers {
     /// however late it is, and the next is due a delay after this moment (SOME/IP Service Discovery
     /// Protocol, "Repetition Phase", "Main Phase"). Running out of memory leaves all as it was, and comes
     /// only where an Offer is due.
-    pub fn tick(
-        &mut self,
-        alloc: Global,
-        now: Moment,
-        phases: Phases,
-    ) -> Result<Vec<InstanceId>, AllocError>
+    pub fn tick(&mut self, now: Moment, phases: Phases) -> Result<Vec<InstanceId>, AllocError>
         ensures due { IfOk result (λ due. due.items ≡ finite.keys (due_at now self.old.up)) }
         ensures after { OnOk result (self.new ≡ after_tick phases now self.old) }
         ensures err { OnErr result (self.new ≡ self.old) }
         ensures grows { OnErr result (due_at now self.old.up ≢ finite.empty) }
     {
-        let due = due_now(&self.places, alloc, now)?;
+        let due = due_now(&self.places, self.alloc, now)?;
         advance(&mut self.places, now, phases);
         Ok(due)
     }
@@ -106,11 +103,11 @@ impl Offers {
     /// The instances that answer a Find, by rising instance: those that it asks for, that are up and
     /// have sent their first Offer (SOME/IP Service Discovery Protocol, "Find Service entry"). It takes
     /// memory only where there are any.
-    pub fn find(&self, alloc: Global, sought: Sought) -> Result<Vec<InstanceId>, AllocError>
+    pub fn find(&self, sought: Sought) -> Result<Vec<InstanceId>, AllocError>
         ensures found { IfOk result (λ found. found.items ≡ finite.keys (answering sought self.now)) }
         ensures grows { OnErr result (answering sought self.now ≢ finite.empty) }
     {
-        keys_where(&self.places, alloc, |instance, place| {
+        keys_where(&self.places, self.alloc, |instance, place| {
             sought.fits(instance, &place.version) && has_sent(&place.sending)
         })
     }

@@ -41,6 +41,7 @@ pub struct Ticked {
 /// is known of it, so that [`Seeker::start`] and [`Seeker::offer`] take no memory.
 #[derive(Drop)]
 pub struct Seeker {
+    alloc: Global,
     wants: BTreeMap<InstanceId, Want>,
 }
 
@@ -66,6 +67,7 @@ impl Seeker {
         } }
     {
         Seeker {
+            alloc,
             wants: BTreeMap::new(alloc),
         }
     }
@@ -103,7 +105,7 @@ impl Seeker {
     /// for and due send a Find, one each, however late. The next is due a delay after this moment, and
     /// none after the repetition phase (SOME/IP Service Discovery Protocol, "Repetition Phase"). Running
     /// out of memory leaves all as it was, and comes only where an offer ends or a Find is due.
-    pub fn tick(&mut self, alloc: Global, now: Moment, phases: Phases) -> Result<Ticked, AllocError>
+    pub fn tick(&mut self, now: Moment, phases: Phases) -> Result<Ticked, AllocError>
         ensures ended { IfOk result (λ ticked.
             ticked.ended.items ≡ finite.keys (expired now self.old.known)) }
         ensures finds { IfOk result (λ ticked.
@@ -112,8 +114,8 @@ impl Seeker {
         ensures err { OnErr result (self.new ≡ self.old) }
         ensures grows { OnErr result (¬ (IsQuiet now self.old)) }
     {
-        let ended = passed_now(&self.wants, alloc, now)?;
-        let finds = due_now(&self.wants, alloc, now)?;
+        let ended = passed_now(&self.wants, self.alloc, now)?;
+        let finds = due_now(&self.wants, self.alloc, now)?;
         advance(&mut self.wants, now, phases);
         Ok(Ticked { ended, finds })
     }
@@ -153,7 +155,6 @@ impl Seeker {
     /// memory leaves all as it was, and comes only where an offer ends.
     pub fn peer_reboot(
         &mut self,
-        alloc: Global,
         peer: Ipv4Addr,
         now: Moment,
     ) -> Result<Vec<InstanceId>, AllocError>
@@ -163,7 +164,7 @@ impl Seeker {
         ensures err { OnErr result (self.new ≡ self.old) }
         ensures grows { OnErr result (known_of peer now self.old ≢ finite.empty) }
     {
-        let ended = known_now(&self.wants, alloc, peer, now)?;
+        let ended = known_now(&self.wants, self.alloc, peer, now)?;
         forget(&mut self.wants, peer, now);
         Ok(ended)
     }

@@ -35,6 +35,7 @@ use std::net::Ipv4Addr;
 /// An eventgroup that is wished no more keeps its place, since its counter goes on.
 #[derive(Drop)]
 pub struct Subscriptions {
+    alloc: Global,
     places: BTreeMap<Eventgroup, Wish>,
 }
 
@@ -56,6 +57,7 @@ impl Subscriptions {
         ensures { result ≡ finite.empty }
     {
         Subscriptions {
+            alloc,
             places: BTreeMap::new(alloc),
         }
     }
@@ -112,7 +114,6 @@ impl Subscriptions {
     /// Subscribe goes out.
     pub fn offer(
         &mut self,
-        alloc: Global,
         instance: InstanceId,
         peer: Ipv4Addr,
         now: Moment,
@@ -122,7 +123,7 @@ impl Subscriptions {
         ensures err { OnErr result (self.new ≡ self.old) }
         ensures grows { OnErr result (subscribes now instance peer self.old ≢ []) }
     {
-        let sent = subscribes(&self.places, alloc, instance, peer, now)?;
+        let sent = subscribes(&self.places, self.alloc, instance, peer, now)?;
         renew(&mut self.places, instance, peer, now);
         Ok(sent)
     }
@@ -153,11 +154,7 @@ impl Subscriptions {
     /// that were begun there end, and are told by rising Eventgroup ID. The wishes stand.
     ///
     /// What is refused because memory ran out leaves all as it was; memory is taken only where one ends.
-    pub fn stop(
-        &mut self,
-        alloc: Global,
-        instance: InstanceId,
-    ) -> Result<Vec<Eventgroup>, AllocError>
+    pub fn stop(&mut self, instance: InstanceId) -> Result<Vec<Eventgroup>, AllocError>
         ensures ended { IfOk result (λ ended. ended.items ≡ finite.keys (begun_where
             (λ eventgroup beginning. eq_by_cmp instance_cmp eventgroup.instance instance) self.old)) }
         ensures after { OnOk result (self.new ≡ ended_where
@@ -167,18 +164,14 @@ impl Subscriptions {
             (λ eventgroup beginning. eq_by_cmp instance_cmp eventgroup.instance instance) self.old
             ≢ finite.empty) }
     {
-        end(&mut self.places, alloc, Ending::Offer(instance))
+        end(&mut self.places, self.alloc, Ending::Offer(instance))
     }
 
     /// A peer began again: the subscriptions that were begun there end, and are told by rising service,
     /// instance and Eventgroup ID. The wishes stand.
     ///
     /// What is refused because memory ran out leaves all as it was; memory is taken only where one ends.
-    pub fn peer_reboot(
-        &mut self,
-        alloc: Global,
-        peer: Ipv4Addr,
-    ) -> Result<Vec<Eventgroup>, AllocError>
+    pub fn peer_reboot(&mut self, peer: Ipv4Addr) -> Result<Vec<Eventgroup>, AllocError>
         ensures ended { IfOk result (λ ended. ended.items
             ≡ finite.keys (begun_where (λ eventgroup beginning. is_with peer beginning) self.old)) }
         ensures after { OnOk result (self.new
@@ -187,14 +180,14 @@ impl Subscriptions {
         ensures grows { OnErr result
             (begun_where (λ eventgroup beginning. is_with peer beginning) self.old ≢ finite.empty) }
     {
-        end(&mut self.places, alloc, Ending::Reboot(peer))
+        end(&mut self.places, self.alloc, Ending::Reboot(peer))
     }
 
     /// Ends the subscriptions whose Ack's time has passed, and tells them by rising service, instance
     /// and Eventgroup ID. The wishes stand.
     ///
     /// What is refused because memory ran out leaves all as it was; memory is taken only where one ends.
-    pub fn tick(&mut self, alloc: Global, now: Moment) -> Result<Vec<Eventgroup>, AllocError>
+    pub fn tick(&mut self, now: Moment) -> Result<Vec<Eventgroup>, AllocError>
         ensures ended { IfOk result (λ ended. ended.items
             ≡ finite.keys (begun_where (λ eventgroup beginning. is_over now beginning) self.old)) }
         ensures after { OnOk result (self.new
@@ -203,7 +196,7 @@ impl Subscriptions {
         ensures grows { OnErr result
             (begun_where (λ eventgroup beginning. is_over now beginning) self.old ≢ finite.empty) }
     {
-        end(&mut self.places, alloc, Ending::Time(now))
+        end(&mut self.places, self.alloc, Ending::Time(now))
     }
 
     /// Whether the client is subscribed: the server acknowledged the subscription that stands, and the

@@ -14,7 +14,7 @@ fn offers_go_out_in_phases(rt: HostRuntime) -> Result<(), Fail> {
     let moments = [10, 40, 100, 220, 1220];
     for millis in 0..1500 {
         let now = Moment::new(millis).ok_or("late")?;
-        let due = offers.tick(rt.alloc(), now, THREE)?;
+        let due = offers.tick(now, THREE)?;
         if at < 5 && millis == moments[at] {
             assert!(rt; due.as_slice() == [instance(1)].as_slice());
             at += 1;
@@ -38,7 +38,7 @@ fn offers_without_repetitions(rt: HostRuntime) -> Result<(), Fail> {
     offers.start(10);
     for (millis, count) in [(9, 0), (10, 1), (1009, 0), (1010, 1), (2009, 0), (2010, 1)] {
         let now = Moment::new(millis).ok_or("late")?;
-        let due = offers.tick(rt.alloc(), now, phases)?;
+        let due = offers.tick(now, phases)?;
         assert!(rt; due.len() == count);
     }
     Ok(())
@@ -53,7 +53,7 @@ fn one_late_tick_sends_one_offer(rt: HostRuntime) -> Result<(), Fail> {
     let both = [instance(1), instance(2)];
     for (millis, sends) in [(1000, true), (1029, false), (1030, true)] {
         let now = Moment::new(millis).ok_or("late")?;
-        let due = offers.tick(rt.alloc(), now, THREE)?;
+        let due = offers.tick(now, THREE)?;
         if sends {
             assert!(rt; due.as_slice() == both.as_slice());
         } else {
@@ -76,21 +76,21 @@ fn finds_are_answered(rt: HostRuntime) -> Result<(), Fail> {
     offers.add(instance(2), Version { major: 2, minor: 7 })?;
     offers.start(10);
     let before = Moment::new(9).ok_or("late")?;
-    let _ = offers.tick(rt.alloc(), before, THREE)?;
-    let found = offers.find(rt.alloc(), any)?;
+    let _ = offers.tick(before, THREE)?;
+    let found = offers.find(any)?;
     assert!(rt; found.is_empty());
     let first = Moment::new(10).ok_or("late")?;
-    let _ = offers.tick(rt.alloc(), first, THREE)?;
-    let found = offers.find(rt.alloc(), any)?;
+    let _ = offers.tick(first, THREE)?;
+    let found = offers.find(any)?;
     assert!(rt; found.as_slice() == [instance(1), instance(2)].as_slice());
     assert!(rt; offers.stop(instance(1)));
     assert!(rt; !offers.stop(instance(1)));
     assert!(rt; !offers.is_up(instance(1)));
-    let found = offers.find(rt.alloc(), any)?;
+    let found = offers.find(any)?;
     assert!(rt; found.as_slice() == [instance(2)].as_slice());
     offers.start(10);
     assert!(rt; offers.is_up(instance(1)));
-    let found = offers.find(rt.alloc(), any)?;
+    let found = offers.find(any)?;
     assert!(rt; found.is_empty());
     Ok(())
 }

@@ -53,13 +53,13 @@ fn a_reboot_ends_what_was_learned_from_that_server(rt: HostRuntime) -> Result<()
         match told {
             Seen::Same => {
                 assert!(rt; seeker.offer(&offer(number), now).is_ok());
-                let sent = subscriptions.offer(rt.alloc(), of_server, server(number), now)?;
+                let sent = subscriptions.offer(of_server, server(number), now)?;
                 assert!(rt; sent.len() == 1);
             }
             Seen::Rebooted => {
-                let gone = seeker.peer_reboot(rt.alloc(), server(number), now)?;
+                let gone = seeker.peer_reboot(server(number), now)?;
                 assert!(rt; gone.as_slice() == [of_server].as_slice());
-                let ended = subscriptions.peer_reboot(rt.alloc(), server(number))?;
+                let ended = subscriptions.peer_reboot(server(number))?;
                 assert!(rt; ended.as_slice() == [group(number)].as_slice());
             }
         }

@@ -42,7 +42,7 @@ fn finds_go_out_in_the_repetition_phase(rt: HostRuntime) -> Result<(), Fail> {
     let moments = [10, 40, 100, 220];
     for millis in 0..1500 {
         let now = Moment::new(millis).ok_or("late")?;
-        let ticked = seeker.tick(rt.alloc(), now, THREE)?;
+        let ticked = seeker.tick(now, THREE)?;
         assert!(rt; ticked.ended.is_empty());
         if at < 4 && millis == moments[at] {
             assert!(rt; ticked.finds.as_slice() == [instance(1)].as_slice());
@@ -63,7 +63,7 @@ fn finds_end_when_an_offer_is_known(rt: HostRuntime) -> Result<(), Fail> {
     let offer = offer_at(1, 30509, 1, Ttl::new(3).ok_or("ttl")?);
     for millis in 0..3500 {
         let now = Moment::new(millis).ok_or("late")?;
-        let ticked = seeker.tick(rt.alloc(), now, THREE)?;
+        let ticked = seeker.tick(now, THREE)?;
         assert!(rt; ticked.finds.is_empty() == (millis != 10 && millis != 40));
         assert!(rt; ticked.ended.is_empty() == (millis != 3050));
         if millis == 50 {
@@ -83,7 +83,7 @@ fn one_late_tick_sends_one_find(rt: HostRuntime) -> Result<(), Fail> {
     let both = [instance(1), instance(2)];
     for (millis, sends) in [(1000, true), (1029, false), (1030, true), (1090, true)] {
         let now = Moment::new(millis).ok_or("late")?;
-        let ticked = seeker.tick(rt.alloc(), now, THREE)?;
+        let ticked = seeker.tick(now, THREE)?;
         if sends {
             assert!(rt; ticked.finds.as_slice() == both.as_slice());
         } else {
@@ -105,12 +105,12 @@ fn finds_without_repetitions(rt: HostRuntime) -> Result<(), Fail> {
     seeker.start(10);
     for (millis, count) in [(9, 0), (10, 1), (40, 0), (1010, 0), (5000, 0)] {
         let now = Moment::new(millis).ok_or("late")?;
-        let ticked = seeker.tick(rt.alloc(), now, phases)?;
+        let ticked = seeker.tick(now, phases)?;
         assert!(rt; ticked.finds.len() == count);
     }
     seeker.start(20);
     let again = Moment::new(20).ok_or("late")?;
-    let ticked = seeker.tick(rt.alloc(), again, phases)?;
+    let ticked = seeker.tick(again, phases)?;
     assert!(rt; ticked.finds.len() == 1);
     Ok(())
 }
@@ -197,14 +197,14 @@ fn offers_end_together(rt: HostRuntime) -> Result<(), Fail> {
         let offer = offer_at(number, 30509, by, ttl);
         assert!(rt; seeker.offer(&offer, now) == Ok(Counted::New));
     }
-    let ended = seeker.peer_reboot(rt.alloc(), peer(2), now)?;
+    let ended = seeker.peer_reboot(peer(2), now)?;
     assert!(rt; ended.as_slice() == [instance(2)].as_slice());
-    let ended = seeker.peer_reboot(rt.alloc(), peer(2), now)?;
+    let ended = seeker.peer_reboot(peer(2), now)?;
     assert!(rt; ended.is_empty());
     let at = Moment::new(3050).ok_or("late")?;
-    let ticked = seeker.tick(rt.alloc(), at, THREE)?;
+    let ticked = seeker.tick(at, THREE)?;
     assert!(rt; ticked.ended.as_slice() == [instance(1), instance(3)].as_slice());
-    let ticked = seeker.tick(rt.alloc(), at, THREE)?;
+    let ticked = seeker.tick(at, THREE)?;
     assert!(rt; ticked.ended.is_empty());
     Ok(())
 }

@@ -127,7 +127,7 @@ fn offers_begin_and_renew(rt: HostRuntime) -> Result<(), Fail> {
         },
     ];
     for millis in [0, 1000] {
-        let sent = subscriptions.offer(rt.alloc(), instance(1), server(), at(millis))?;
+        let sent = subscriptions.offer(instance(1), server(), at(millis))?;
         assert!(rt; sent.as_slice() == both.as_slice());
     }
     let nack = answer(1, 1, true, 1, 0)?;
@@ -144,11 +144,11 @@ fn offers_begin_and_renew(rt: HostRuntime) -> Result<(), Fail> {
             counter: first,
         },
     ];
-    let sent = subscriptions.offer(rt.alloc(), instance(1), server(), at(1000))?;
+    let sent = subscriptions.offer(instance(1), server(), at(1000))?;
     assert!(rt; sent.as_slice() == next.as_slice());
     assert!(rt;
         subscriptions
-            .offer(rt.alloc(), instance(3), server(), at(1000))?
+            .offer(instance(3), server(), at(1000))?
             .is_empty()
     );
     Ok(())
@@ -166,17 +166,17 @@ fn subscriptions_end(rt: HostRuntime) -> Result<(), Fail> {
     ] {
         subscriptions.want(eventgroup, Some(peer), at(0))?;
     }
-    let ended = subscriptions.stop(rt.alloc(), instance(1))?;
+    let ended = subscriptions.stop(instance(1))?;
     assert!(rt; ended.as_slice() == [group(1, 1), group(1, 2)].as_slice());
     subscriptions.want(group(1, 1), Some(server()), at(0))?;
-    let ended = subscriptions.peer_reboot(rt.alloc(), server())?;
+    let ended = subscriptions.peer_reboot(server())?;
     assert!(rt; ended.as_slice() == [group(1, 1), group(2, 1)].as_slice());
     let acked = answer(3, 1, true, 9, 0)?;
     assert!(rt; subscriptions.ack(acked, one, at(0)) == Acked::Subscribed);
-    assert!(rt; subscriptions.tick(rt.alloc(), at(999))?.is_empty());
-    let ended = subscriptions.tick(rt.alloc(), at(1000))?;
+    assert!(rt; subscriptions.tick(at(999))?.is_empty());
+    let ended = subscriptions.tick(at(1000))?;
     assert!(rt; ended.as_slice() == [group(3, 1)].as_slice());
-    assert!(rt; subscriptions.tick(rt.alloc(), at(1000))?.is_empty());
+    assert!(rt; subscriptions.tick(at(1000))?.is_empty());
     Ok(())
 }
 
@@ -196,7 +196,7 @@ fn a_wish_is_taken_back(rt: HostRuntime) -> Result<(), Fail> {
     assert!(rt; !subscriptions.is_subscribed(&group(1, 1), at(0)));
     assert!(rt;
         subscriptions
-            .offer(rt.alloc(), instance(1), server(), at(0))?
+            .offer(instance(1), server(), at(0))?
             .is_empty()
     );
     Ok(())
