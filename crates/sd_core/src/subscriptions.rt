@@ -10,7 +10,8 @@ ghost use Rattle.sd_core.specs.Changed.{changed_at};
 ghost use Rattle.sd_core.specs.Wishes.{wish_of, wanted, sent_at_once, standing, unwished};
 ghost use Rattle.sd_core.specs.Wishes.{offered, subscribes, acked_wish, nacked_wish, told_by_ack};
 ghost use Rattle.sd_core.specs.Wishes.{is_answered, is_subscribed, begun_where, ended_where};
-ghost use Rattle.sd_core.specs.Wishes.{is_over, is_with};
+ghost use Rattle.sd_core.specs.Endings.{ends_at};
+ghost use Rattle.sd_core.specs.Wishes.{is_with};
 
 use crate::ending::{Ending, end};
 use crate::eventgroup::Eventgroup;
@@ -164,7 +165,7 @@ impl Subscriptions {
             (λ eventgroup beginning. eq_by_cmp instance_cmp eventgroup.instance instance) self.old
             ≢ finite.empty) }
     {
-        end(&mut self.places, self.alloc, Ending::Offer(instance))
+        end(&mut self.places, self.alloc, Ending::Offer(instance), &[])
     }
 
     /// A peer began again: the subscriptions that were begun there end, and are told by rising service,
@@ -180,23 +181,28 @@ impl Subscriptions {
         ensures grows { OnErr result
             (begun_where (λ eventgroup beginning. is_with peer beginning) self.old ≢ finite.empty) }
     {
-        end(&mut self.places, self.alloc, Ending::Reboot(peer))
+        end(&mut self.places, self.alloc, Ending::Reboot(peer), &[])
     }
 
-    /// Ends the subscriptions whose Ack's time has passed, and tells them by rising service, instance
-    /// and Eventgroup ID. The wishes stand.
+    /// A moment came: the subscriptions end whose Ack's time has passed, and those of these instances,
+    /// whose known offers passed with it. They are told by rising service, instance and Eventgroup ID.
+    /// The wishes stand.
     ///
     /// What is refused because memory ran out leaves all as it was; memory is taken only where one ends.
-    pub fn tick(&mut self, now: Moment) -> Result<Vec<Eventgroup>, AllocError>
+    pub fn tick(
+        &mut self,
+        now: Moment,
+        instances: &[InstanceId],
+    ) -> Result<Vec<Eventgroup>, AllocError>
         ensures ended { IfOk result (λ ended. ended.items
-            ≡ finite.keys (begun_where (λ eventgroup beginning. is_over now beginning) self.old)) }
+            ≡ finite.keys (begun_where (ends_at now instances.now) self.old)) }
         ensures after { OnOk result (self.new
-            ≡ ended_where (λ eventgroup beginning. is_over now beginning) self.old) }
+            ≡ ended_where (ends_at now instances.now) self.old) }
         ensures err { OnErr result (self.new ≡ self.old) }
         ensures grows { OnErr result
-            (begun_where (λ eventgroup beginning. is_over now beginning) self.old ≢ finite.empty) }
+            (begun_where (ends_at now instances.now) self.old ≢ finite.empty) }
     {
-        end(&mut self.places, self.alloc, Ending::Time(now))
+        end(&mut self.places, self.alloc, Ending::Time(now), instances)
     }
 
     /// Whether the client is subscribed: the server acknowledged the subscription that stands, and the

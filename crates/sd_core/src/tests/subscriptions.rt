@@ -173,10 +173,10 @@ fn subscriptions_end(rt: HostRuntime) -> Result<(), Fail> {
     assert!(rt; ended.as_slice() == [group(1, 1), group(2, 1)].as_slice());
     let acked = answer(3, 1, true, 9, 0)?;
     assert!(rt; subscriptions.ack(acked, one, at(0)) == Acked::Subscribed);
-    assert!(rt; subscriptions.tick(at(999))?.is_empty());
-    let ended = subscriptions.tick(at(1000))?;
+    assert!(rt; subscriptions.tick(at(999), &[])?.is_empty());
+    let ended = subscriptions.tick(at(1000), &[])?;
     assert!(rt; ended.as_slice() == [group(3, 1)].as_slice());
-    assert!(rt; subscriptions.tick(at(1000))?.is_empty());
+    assert!(rt; subscriptions.tick(at(1000), &[])?.is_empty());
     Ok(())
 }
 

@@ -7,5 +7,5 @@ use Rattle.sd_core.proofs.ending.wait_again.Goals as goal
 
 pub returns : goal.returns
 returns c =
-    changed-entries eventgroups_total exact_eventgroups (λ eventgroup wish. ended_wish (ends_by c.args.ending eventgroup) wish) c.args.places.now.entries c.retain.new.self.entries
-    (map_keyed_pairs _ (λ eventgroup wish. ended_wish (ends_by c.args.ending eventgroup) wish) _ (λ k v b w f' t. search rules) _ _ c.retain.ensures.filtered)
+    changed-entries eventgroups_total exact_eventgroups (λ eventgroup wish. ended_wish (ends_by c.args.ending c.args.passed.now eventgroup) wish) c.args.places.now.entries c.retain.new.self.entries
+    (map_keyed_pairs _ (λ eventgroup wish. ended_wish (ends_by c.args.ending c.args.passed.now eventgroup) wish) _ (λ k v b w f' t. search rules) _ _ c.retain.ensures.filtered)

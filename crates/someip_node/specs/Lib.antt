@@ -1,0 +1,14 @@
+pub mod Setups
+pub mod Entries
+pub mod Outputs
+pub mod Tables
+pub mod Items
+pub mod Outcomes
+pub mod Messages
+pub mod Learning
+pub mod Subscribing
+pub mod Calls
+pub mod Plans
+pub mod Handling
+pub mod Inputs
+pub mod Working

@@ -1,0 +1,49 @@
+//! Why a call of a node is refused.
+ghost use Rattle.std.specs.Prelude.{◌≡◌};
+ghost use Rattle.someip_node.specs.declared.error.NodeError.TheVariants.{OutOfMemory};
+
+use someip_rpc::RpcError;
+use std::alloc::{AllocError, AllocFailed};
+use thiserror::Error;
+
+/// Why a call of a node is refused. But for `OutOfMemory` the node is as it was.
+#[derive(Clone, Copy, Debug, PartialEq, Eq, Error)]
+pub enum NodeError {
+    /// A value of the configuration is outside its range, or two of them clash.
+    #[error("BadConfig")]
+    BadConfig,
+    /// The delay is outside the range that the configuration gives.
+    #[error("BadDelay")]
+    BadDelay,
+    /// The clock would go past 2^63 - 1 milliseconds.
+    #[error("ClockPast")]
+    ClockPast,
+    /// The eventgroup is not one of those that the configuration wants.
+    #[error("NotWanted")]
+    NotWanted,
+    /// Memory ran out in an earlier call, and the node was not restarted since.
+    #[error("Failed")]
+    Failed,
+    /// Memory ran out: the node has failed.
+    #[error("out of memory")]
+    OutOfMemory,
+    /// A call, an answer or a publication is refused, for a reason other than memory.
+    #[error("{0}")]
+    Rpc(RpcError),
+}
+
+impl From<AllocError> for NodeError {
+    ghost from_gives = { λ _ error. error ≡ OutOfMemory };
+
+    fn from(_error: AllocError) -> NodeError {
+        NodeError::OutOfMemory
+    }
+}
+
+impl<T: Drop> From<AllocFailed<T>> for NodeError {
+    ghost from_gives = { λ _ error. error ≡ OutOfMemory };
+
+    fn from(_error: AllocFailed<T>) -> NodeError {
+        NodeError::OutOfMemory
+    }
+}
