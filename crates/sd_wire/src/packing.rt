@@ -81,7 +81,7 @@ pub(crate) fn pool_text(alloc: Global, pool: &[SdOption]) -> Result<Vec<u8>, All
     requires { length pool.now ≤ 270 }
     ensures text { IfOk result (λ text. text.items ≡ pool_bytes pool.now) }
     ensures fits { IfOk result (λ text. AllByRecursion OptionFits pool.now) }
-    ensures len { IfOk result (λ text. length text.items < 2 ^ 32) }
+    ensures len { IfOk result (λ text. length text.items ≤ 17_695_260) }
 {
     let mut text = Vec::new(alloc);
     for option in pool {

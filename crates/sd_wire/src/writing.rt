@@ -1,5 +1,5 @@
 //! The bytes of messages (SOME/IP Service Discovery, "SOME/IP-SD Header").
-ghost use Rattle.std.specs.Prelude.{◌≡◌, ◌<◌, ◌≤◌, ◌^◌, ◌++◌, ℕ, List, length, IfOk, IfErr, OnOk, OnErr, Some};
+ghost use Rattle.std.specs.Prelude.{◌≡◌, ◌<◌, ◌≤◌, ◌^◌, ◌+◌, ◌++◌, ℕ, List, length, IfOk, IfErr, OnOk, OnErr, Some};
 ghost use Rattle.sd_wire.specs.declared.error.SdError.TheVariants.{OutOfMemory};
 ghost use Rattle.sd_wire.specs.Fields.{number32};
 ghost use Rattle.sd_wire.specs.Values.{view_message};
@@ -51,6 +51,8 @@ pub fn write_sd(message: &SdMessage, out: &mut Vec<u8>) -> Result<(), SdError>
     // Entries that fit a datagram are written, unless memory runs out.
     ensures fits { FitsDatagram (view_message message.now).entries
         → IfErr result (λ e. e ≡ OutOfMemory) }
+    // However long its options are, they leave room for a header before it.
+    ensures bounded { OnOk result (length out.new.items ≤ length out.old.items + 2 ^ 25) }
     // A refused message leaves the vector as it was.
     ensures kept { OnErr result (out.new.items ≡ out.old.items) }
 {
@@ -65,6 +67,7 @@ fn text_of(alloc: Global, message: &SdMessage) -> Result<Vec<u8>, SdError>
     ensures writes { IfOk result (λ text. WritesSd (view_message message.now) text.items) }
     ensures holds { IfOk result (λ text. Sd (as_read (view_message message.now)) text.items) }
     ensures refused { IfErr result (λ e. IsWriteError (view_message message.now) e) }
+    ensures bounded { IfOk result (λ text. length text.items ≤ 2 ^ 25) }
 {
     let (entries, pool) = pack(alloc, message.entries)?;
     let options = pool_text(alloc, &pool)?;

@@ -1,1 +1,3 @@
 pub mod WrittenLemmas
+pub mod FrontSizeLemmas
+pub mod WorkLemmas

@@ -1,6 +1,6 @@
 -- The entries and messages of Service Discovery that a node sends (SOME/IP Service Discovery Protocol, "Entry Format",
 -- "Options Format", "SOME/IP-SD Header").
-use Rattle.std.specs.Prelude.{ℕ, true, List, [], ◌∷◌, unwrap_or}
+use Rattle.std.specs.Prelude.{ℕ, Bool, true, List, [], ◌∷◌, unwrap_or}
 use Rattle.std.specs.declared.net.socket_addr.SocketAddrV4.{SocketAddrV4}
 use Rattle.someip_wire.specs.declared.header.Header.{Header}
 use Rattle.someip_wire.specs.declared.header.MessageType.TheVariants.{Notification}
@@ -92,11 +92,15 @@ discovery_header session = record {
   code = record { 0 = 0 };
 }
 
--- a message with these entries: the Unicast flag is always set
+-- the payload of a message with these entries: the Unicast flag is always set
+abbrev pub discovery_payload : Bool → List EntryValue → List ℕ
+discovery_payload reboot entries = unwrap_or (message_bytes (record { flags = record { reboot = reboot; unicast = true }; entries = entries })) []
+
+-- a message with these entries
 abbrev pub discovery_message : Stamp → List EntryValue → MessageValue
 discovery_message stamp entries = record {
   header = discovery_header stamp.session;
-  payload = unwrap_or (message_bytes (record { flags = record { reboot = stamp.reboot; unicast = true }; entries = entries })) [];
+  payload = discovery_payload stamp.reboot entries;
 }
 
 -- the entries of the messages in which some entries go out: as many in each as fit

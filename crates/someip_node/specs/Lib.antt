@@ -12,3 +12,5 @@ pub mod Plans
 pub mod Handling
 pub mod Inputs
 pub mod Working
+pub mod Receivers
+pub mod FrontSizes

@@ -11,6 +11,7 @@ mod error;
 mod giving;
 mod output;
 mod payload;
+mod receiver;
 mod sending;
 mod target;
 
