@@ -14,3 +14,4 @@ pub mod Inputs
 pub mod Working
 pub mod Receivers
 pub mod FrontSizes
+pub mod Passings

@@ -10,10 +10,12 @@ mod entry_making;
 mod error;
 mod giving;
 mod output;
+mod passed;
 mod payload;
 mod receiver;
 mod sending;
 mod target;
+mod ticking;
 
 pub use config::{Common, Config, OfferedService, WantedService};
 pub use drops::DropReason;

@@ -1,0 +1,188 @@
+//! The clock of a node.
+ghost use Rattle.std.specs.Prelude.{◌≡◌, ◌+◌, ◌++◌, map, IfOk, OnOk};
+ghost use Rattle.std.specs.List.{flat_map};
+ghost use Rattle.std.specs.FinMap as finite;
+ghost use Rattle.someip_tables.specs.Lastings.{expired, unexpired};
+ghost use Rattle.sd_wire.specs.Values.{view_entry};
+ghost use Rattle.someip_node.specs.Calls.{find_of};
+ghost use Rattle.someip_node.specs.Inputs.{tick_plan};
+ghost use Rattle.someip_node.specs.Items.{changed, Ticked};
+ghost use Rattle.someip_node.specs.Passings.{HasPassed, entries_of, told_of};
+ghost use Rattle.someip_node.specs.Plans.{act, plain, run, Ticks};
+ghost use Rattle.someip_node.specs.Subscribing.{offer_of};
+ghost use Rattle.someip_node.specs.Working.{working};
+ghost use Rattle.someip_node.specs.declared.output.Output.TheVariants.{TimedOut};
+
+use crate::endings::tell_endings;
+use crate::engine::Engine;
+use crate::entry_making::{find_entry, offer_entry};
+use crate::giving::Giving;
+use crate::output::Output;
+use crate::passed::Passed;
+use crate::receiver::Receiver;
+use sd_core::InstanceId;
+use sd_wire::Entry;
+use someip_rpc::{CallKey, ClientCore};
+use someip_tables::Moment;
+use someip_tp::Reassembly;
+use std::alloc::{AllocError, Global};
+use std::collections::BTreeSet;
+
+impl<R: Reassembly> Engine<R> {
+    /// The clock goes on by so many milliseconds, to this moment.
+    pub(crate) fn tick(
+        &mut self,
+        ms: u64,
+        now: Moment,
+        giving: &mut Giving,
+    ) -> Result<(), AllocError>
+        requires { now ≡ self.old.clock + ms }
+        ensures { OnOk result (working self.new giving.new
+            ≡ run plain (tick_plan ms) (working self.old giving.old)) }
+    {
+        let passed = self.advance(ms, now, giving)?;
+        let entries = self.due_entries(&passed)?;
+        self.send_entries(Receiver::Group, &entries, giving)
+    }
+
+    /// Lets the clock go on, tells what ends with that, and answers what it brings.
+    fn advance(
+        &mut self,
+        ms: u64,
+        now: Moment,
+        giving: &mut Giving,
+    ) -> Result<Passed, AllocError>
+        requires { now ≡ self.old.clock + ms }
+        ensures passed { IfOk result (HasPassed now self.old) }
+        ensures work { OnOk result (working self.new giving.new
+            ≡ run plain (act (Ticks ms)) (working self.old giving.old)) }
+    {
+        let passed = self.pass(ms, now)?;
+        self.tell_passed(&passed, &mut giving.outputs)?;
+        Ok(passed)
+    }
+
+    /// Lets the clock go on, and answers what that brings.
+    fn pass(&mut self, ms: u64, now: Moment) -> Result<Passed, AllocError>
+        requires { now ≡ self.old.clock + ms }
+        ensures passed { IfOk result (HasPassed now self.old) }
+        ensures ticked { OnOk result (self.new ≡ changed self.old (Ticked ms)) }
+    {
+        let phases = self.config.common.phases;
+        let calls = end_calls(&mut self.client, now)?;
+        let wanted = self.seeker.tick(now, phases)?;
+        let lapsed = self.subscriptions.tick(now, &wanted.ended)?;
+        let offers = self.offers.tick(now, phases)?;
+        self.subscribers.tick(now);
+        self.store.expire(now.as_millis());
+        self.clock = now;
+        Ok(Passed {
+            calls,
+            gone: wanted.ended,
+            lapsed,
+            offers,
+            finds: wanted.finds,
+        })
+    }
+
+    /// Tells what ended.
+    fn tell_passed(&self, passed: &Passed, outputs: &mut Vec<Output>) -> Result<(), AllocError>
+        ensures { OnOk result (outputs.new.items
+            ≡ outputs.old.items ++ told_of self.now.config passed.now) }
+    {
+        tell_timed_out(&passed.calls, outputs)?;
+        tell_endings(&self.config, &passed.gone, &passed.lapsed, outputs)
+    }
+
+    /// The Offers and Finds that go out.
+    fn due_entries(&self, passed: &Passed) -> Result<Vec<Entry>, AllocError>
+        ensures { IfOk result (λ entries.
+            map view_entry entries.items ≡ entries_of self.now passed.now) }
+    {
+        let mut entries = Vec::new(self.alloc);
+        self.add_offers(&passed.offers, &mut entries)?;
+        self.add_finds(&passed.finds, &mut entries)?;
+        Ok(entries)
+    }
+
+    /// Adds the Offers of instances.
+    pub(crate) fn add_offers(
+        &self,
+        instances: &[InstanceId],
+        entries: &mut Vec<Entry>,
+    ) -> Result<(), AllocError>
+        ensures { OnOk result (map view_entry entries.new.items
+            ≡ map view_entry entries.old.items ++ flat_map (offer_of self.now) instances.now) }
+    {
+        for instance in instances {
+            self.add_offer(*instance, entries)?;
+        }
+        Ok(())
+    }
+
+    /// Adds the Offer of an instance.
+    fn add_offer(&self, instance: InstanceId, entries: &mut Vec<Entry>) -> Result<(), AllocError>
+        ensures { OnOk result (map view_entry entries.new.items
+            ≡ map view_entry entries.old.items ++ offer_of self.now instance) }
+    {
+        if let Some(service) = self.config.offers.get(&instance) {
+            entries.push(offer_entry(self.alloc, instance, service.ttl, service)?)?;
+        }
+        Ok(())
+    }
+
+    /// Adds the Finds of instances.
+    fn add_finds(
+        &self,
+        instances: &[InstanceId],
+        entries: &mut Vec<Entry>,
+    ) -> Result<(), AllocError>
+        ensures { OnOk result (map view_entry entries.new.items
+            ≡ map view_entry entries.old.items ++ flat_map (find_of self.now) instances.now) }
+    {
+        for instance in instances {
+            self.add_find(*instance, entries)?;
+        }
+        Ok(())
+    }
+
+    /// Adds the Find of an instance.
+    fn add_find(&self, instance: InstanceId, entries: &mut Vec<Entry>) -> Result<(), AllocError>
+        ensures { OnOk result (map view_entry entries.new.items
+            ≡ map view_entry entries.old.items ++ find_of self.now instance) }
+    {
+        if let Some(want) = self.config.wants.get(&instance) {
+            entries.push(find_entry(self.alloc, instance, want.major))?;
+        }
+        Ok(())
+    }
+}
+
+/// Ends the calls whose time has passed.
+fn end_calls(client: &mut ClientCore, now: Moment) -> Result<BTreeSet<CallKey>, AllocError>
+    ensures calls { IfOk result (λ calls. calls.keys ≡ finite.keys (expired now client.old.pending)) }
+    ensures ended { OnOk result (client.new
+        ≡ record client.old { pending = unexpired now client.old.pending }) }
+{
+    match client.tick(now) {
+        Ok(calls) => Ok(calls),
+        Err(_) => Err(AllocError),
+    }
+}
+
+/// Tells the calls whose time has passed.
+fn tell_timed_out(
+    calls: &BTreeSet<CallKey>,
+    outputs: &mut Vec<Output>,
+) -> Result<(), AllocError>
+    ensures { OnOk result (outputs.new.items ≡ outputs.old.items
+        ++ map (λ call. TimedOut call.message call.session) calls.now.keys) }
+{
+    for call in calls {
+        outputs.push(Output::TimedOut {
+            message: call.message,
+            session: call.session,
+        })?;
+    }
+    Ok(())
+}
