@@ -4,3 +4,4 @@ pub mod WorkLemmas
 pub mod ListLemmas
 pub mod PassingLemmas
 pub mod TableLemmas
+pub mod CallLemmas

@@ -34,6 +34,7 @@ use Rattle.someip_rpc.specs.Events.{event_header, event_of, next_session_of, pub
 use Rattle.someip_rpc.specs.Requests.{answer_header}
 use Rattle.someip_rpc.specs.Servers.{answer_refusal, code_of_reply, kind_of_reply}
 use Rattle.someip_rpc.specs.Sessions.{next_of, next_session}
+use Rattle.someip_node.specs.declared.config.Config.{Config}
 use Rattle.someip_node.specs.declared.config.OfferedService.{OfferedService}
 use Rattle.someip_node.specs.declared.config.WantedService.{WantedService}
 use Rattle.someip_node.specs.declared.error.NodeError.{NodeError}
@@ -96,12 +97,16 @@ due_entries now t = flat_map (offer_of t) (finite.keys (due_at now t.offers.up))
 
 -- ---- calls
 
+-- the major version in which an instance is wanted
+abbrev pub wanted_major : Config → InstanceId → ℕ
+wanted_major config instance = option_map_or (λ want. want.major) (wanted_as config instance) 0
+
 -- what is called: the method, in the wanted major version
 abbrev pub call_of : CallKind → InstanceId → ℕ → Tables → Call
 call_of kind instance method t = record {
   kind = kind;
   message = record { service = instance.service; method = method };
-  interface = option_map_or (λ want. want.major) (wanted_as t.config instance) 0;
+  interface = wanted_major t.config instance;
 }
 
 -- the first session from one on, in cyclic order, that does not wait, of so many
@@ -121,9 +126,13 @@ session_of call t = first_free (waiting_calls t) call.message (next_of t.client.
 abbrev pub as_node_error : Option RpcError → Option NodeError
 as_node_error = option_map Rpc
 
+-- why a call of a kind with so many bytes is refused
+abbrev pub call_refusal_of : CallKind → InstanceId → ℕ → Tables → Option NodeError
+call_refusal_of kind instance size t =
+    as_node_error (call_refusal (client_rules t.config) kind size (known_endpoint t instance) (waiting_calls t))
+
 abbrev pub calling_refusal : CallKind → InstanceId → List ℕ → Tables → Option NodeError
-calling_refusal kind instance payload t =
-    as_node_error (call_refusal (client_rules t.config) kind (length payload) (known_endpoint t instance) (waiting_calls t))
+calling_refusal kind instance payload t = call_refusal_of kind instance (length payload) t
 
 abbrev pub calls_at : Call → List ℕ → SocketAddrV4 → Tables → Outcome
 calls_at call payload peer t = record {

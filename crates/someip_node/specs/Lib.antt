@@ -15,3 +15,5 @@ pub mod Working
 pub mod Receivers
 pub mod FrontSizes
 pub mod Passings
+pub mod Handled
+pub mod Errors

@@ -1,6 +1,7 @@
 //! Why a call of a node is refused.
 ghost use Rattle.std.specs.Prelude.{◌≡◌};
 ghost use Rattle.someip_node.specs.declared.error.NodeError.TheVariants.{OutOfMemory};
+ghost use Rattle.someip_node.specs.Errors.{rpc_error};
 
 use someip_rpc::RpcError;
 use std::alloc::{AllocError, AllocFailed};
@@ -45,5 +46,16 @@ impl<T: Drop> From<AllocFailed<T>> for NodeError {
 
     fn from(_error: AllocFailed<T>) -> NodeError {
         NodeError::OutOfMemory
+    }
+}
+
+impl From<RpcError> for NodeError {
+    ghost from_gives = { λ refusal error. error ≡ rpc_error refusal };
+
+    fn from(refusal: RpcError) -> NodeError {
+        match refusal {
+            RpcError::OutOfMemory => NodeError::OutOfMemory,
+            refusal => NodeError::Rpc(refusal),
+        }
     }
 }

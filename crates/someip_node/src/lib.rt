@@ -2,6 +2,7 @@
 #![tactic(auto)]
 
 mod announcing;
+mod calling;
 mod config;
 mod drops;
 mod endings;
@@ -14,6 +15,7 @@ mod passed;
 mod payload;
 mod receiver;
 mod sending;
+mod setups;
 mod target;
 mod ticking;
 
