@@ -5,3 +5,4 @@ pub mod ListLemmas
 pub mod PassingLemmas
 pub mod TableLemmas
 pub mod CallLemmas
+pub mod PublishingLemmas

@@ -17,3 +17,4 @@ pub mod FrontSizes
 pub mod Passings
 pub mod Handled
 pub mod Errors
+pub mod Publishings

@@ -2,6 +2,7 @@
 #![tactic(auto)]
 
 mod announcing;
+mod answering;
 mod calling;
 mod config;
 mod drops;
@@ -13,6 +14,7 @@ mod giving;
 mod output;
 mod passed;
 mod payload;
+mod publishing;
 mod receiver;
 mod sending;
 mod setups;
