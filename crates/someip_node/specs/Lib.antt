@@ -18,3 +18,4 @@ pub mod Passings
 pub mod Handled
 pub mod Errors
 pub mod Publishings
+pub mod GoodConfigs
