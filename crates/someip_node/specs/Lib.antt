@@ -12,3 +12,4 @@ pub mod Plans
 pub mod Handling
 pub mod Inputs
 pub mod Working
+pub mod Arrivals
