@@ -1,11 +1,14 @@
 -- What is given of what the parts of a node say of a message.
-use Rattle.std.specs.Prelude.{ℕ, List, [], ◌∷◌, None, Some}
+use Rattle.std.specs.Prelude.{ℕ, List, [], ◌∷◌, Option, None, Some, Result, Ok, Err}
 use Rattle.someip_wire.specs.declared.header.Header.{Header}
 use Rattle.sd_core.specs.declared.keys.InstanceId.{InstanceId}
+use Rattle.someip_rpc.specs.declared.error.DropCause.{DropCause}
+use Rattle.someip_rpc.specs.declared.ids.CallKey.{CallKey}
 use Rattle.someip_rpc.specs.declared.request.Arrived.{Arrived}
 use Rattle.someip_rpc.specs.declared.request.Arrived.TheVariants as arrived
-use Rattle.someip_node.specs.declared.drops.DropReason.TheVariants.{Request as OfRequest}
-use Rattle.someip_node.specs.declared.output.Output.TheVariants.{Dropped}
+use Rattle.someip_node.specs.declared.drops.DropReason.TheVariants.{Answer, NotSubscribed, Request as OfRequest}
+use Rattle.someip_node.specs.declared.output.Output.{Output}
+use Rattle.someip_node.specs.declared.output.Output.TheVariants.{Answered, Dropped, Event}
 use Rattle.someip_node.specs.Messages.{handed_up}
 use Rattle.someip_node.specs.Outputs.{Given, Sends, Tells}
 
@@ -16,3 +19,13 @@ given_of instance header payload arrived.Oneway = Tells (handed_up instance None
 given_of instance header payload (arrived.Refused answer) =
     Sends answer.from answer.to (record { header = answer.message.header; payload = [] }) ∷ []
 given_of instance header payload (arrived.Dropped fault) = Tells (Dropped (OfRequest fault)) ∷ []
+
+-- what is given of a message that came to the client as an answer, by the call that it answers
+abbrev pub given_of_answer : Header → List ℕ → Result CallKey DropCause → List Output
+given_of_answer header payload (Ok call) = Answered call.message call.session header.code payload ∷ []
+given_of_answer header payload (Err cause) = Dropped (Answer cause) ∷ []
+
+-- and as an event, by the instance that it is of
+abbrev pub given_of_event : Header → List ℕ → Option InstanceId → List Output
+given_of_event header payload (Some instance) = Event instance header.method payload ∷ []
+given_of_event header payload None = Dropped NotSubscribed ∷ []

@@ -2,6 +2,7 @@
 #![tactic(auto)]
 
 mod announcing;
+mod client;
 mod config;
 mod drops;
 mod endings;
@@ -13,6 +14,7 @@ mod output;
 mod payload;
 mod sending;
 mod serving;
+mod setups;
 mod target;
 
 pub use config::{Common, Config, OfferedService, WantedService};
