@@ -12,6 +12,7 @@ mod error;
 mod giving;
 mod output;
 mod payload;
+mod segments;
 mod sending;
 mod serving;
 mod setups;
