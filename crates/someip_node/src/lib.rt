@@ -4,6 +4,8 @@
 mod announcing;
 mod client;
 mod config;
+mod datagram;
+mod discovery;
 mod drops;
 mod endings;
 mod engine;

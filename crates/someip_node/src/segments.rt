@@ -5,7 +5,7 @@ ghost use Rattle.someip_tp.specs.Offers.{judgement, message_at, parts_after, par
 ghost use Rattle.someip_tp.specs.Parts.{NoneAfter};
 ghost use Rattle.someip_tp.specs.Words.{segment_in};
 ghost use Rattle.someip_node.specs.Arrivals.{offer_of, refused_as, taken_by};
-ghost use Rattle.someip_node.specs.Handling.{completed_plan, segment_plan, whole_plan};
+ghost use Rattle.someip_node.specs.Handling.{completed_plan, segment_plan};
 ghost use Rattle.someip_node.specs.Messages.{completed, completed_by};
 ghost use Rattle.someip_node.specs.Plans.{act, plain, run, TakesSegment};
 ghost use Rattle.someip_node.specs.Working.{working};
@@ -114,21 +114,6 @@ impl<R: Reassembly> Engine<R> {
             }
             None => Ok(()),
         }
-    }
-
-    pub(crate) fn whole(
-        &mut self,
-        target: Target,
-        from: SocketAddrV4,
-        header: &Header,
-        payload: &[u8],
-        giving: &mut Giving,
-    ) -> Result<(), AllocError>
-        ensures { OnOk result (working self.new giving.new
-            ≡ run plain (whole_plan target from header.now payload.now)
-            (working self.old giving.old)) }
-    {
-        Err(AllocError)
     }
 }
 
