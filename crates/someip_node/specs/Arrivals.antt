@@ -15,9 +15,16 @@ use Rattle.someip_rpc.specs.declared.request.Arrived.TheVariants as arrived
 use Rattle.someip_node.specs.declared.drops.DropReason.TheVariants.{Answer, NotSubscribed, Request as OfRequest, Tp}
 use Rattle.someip_node.specs.declared.output.Output.{Output}
 use Rattle.someip_node.specs.declared.output.Output.TheVariants.{Answered, Dropped, Event}
+use Rattle.someip_node.specs.declared.received.ReceivedPayload.{ReceivedPayload}
+use Rattle.someip_node.specs.declared.received.ReceivedPayload.TheVariants.{Lent, Reassembled}
 use Rattle.someip_node.specs.declared.segments.OfferedSegment.{OfferedSegment}
 use Rattle.someip_node.specs.Messages.{handed_up}
 use Rattle.someip_node.specs.Outputs.{Given, Sends, Tells}
+
+-- the payload of a message that came
+abbrev pub bytes_in : ReceivedPayload → List ℕ
+bytes_in (Lent bytes) = bytes.now
+bytes_in (Reassembled payload) = payload
 
 -- ---- messages
 

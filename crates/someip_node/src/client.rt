@@ -3,7 +3,7 @@ ghost use Rattle.std.specs.Prelude.{◌≡◌, ◌++◌, false, OnOk};
 ghost use Rattle.std.specs.Option.{option_map_or};
 ghost use Rattle.std.specs.Ordering.{eq_by_cmp};
 ghost use Rattle.someip_tables.specs.Endpoints.{endpoint_cmp};
-ghost use Rattle.someip_node.specs.Arrivals.{given_of_answer, given_of_event};
+ghost use Rattle.someip_node.specs.Arrivals.{bytes_in, given_of_answer, given_of_event};
 ghost use Rattle.someip_node.specs.Messages.{is_subscribed_by, publisher, publishes, takes_event};
 ghost use Rattle.someip_node.specs.Plans.{act, plain, run, TakesAnswer, TakesEvent};
 ghost use Rattle.someip_node.specs.Tables.{known_endpoint};
@@ -14,7 +14,7 @@ use crate::drops::DropReason;
 use crate::engine::Engine;
 use crate::giving::Giving;
 use crate::output::Output;
-use crate::payload::Payload;
+use crate::received::ReceivedPayload;
 use crate::setups::client_rules;
 use sd_core::{Eventgroup, InstanceId};
 use someip_rpc::{CallKey, DropCause};
@@ -31,11 +31,11 @@ impl<R: Reassembly> Engine<R> {
         &mut self,
         from: SocketAddrV4,
         header: &Header,
-        payload: &[u8],
+        payload: ReceivedPayload<'_>,
         giving: &mut Giving,
     ) -> Result<(), AllocError>
         ensures { OnOk result (working self.new giving.new
-            ≡ run plain (act (TakesAnswer from header.now payload.now))
+            ≡ run plain (act (TakesAnswer from header.now (bytes_in payload.entry)))
             (working self.old giving.old)) }
     {
         let rules = client_rules(&self.config);
@@ -48,11 +48,11 @@ impl<R: Reassembly> Engine<R> {
         &mut self,
         from: SocketAddrV4,
         header: &Header,
-        payload: &[u8],
+        payload: ReceivedPayload<'_>,
         giving: &mut Giving,
     ) -> Result<(), AllocError>
         ensures { OnOk result (working self.new giving.new
-            ≡ run plain (act (TakesEvent from header.now payload.now))
+            ≡ run plain (act (TakesEvent from header.now (bytes_in payload.entry)))
             (working self.old giving.old)) }
     {
         let publisher = self.publisher(from, header);
@@ -132,18 +132,18 @@ fn give_answer(
     alloc: Global,
     answered: Result<CallKey, DropCause>,
     header: &Header,
-    payload: &[u8],
+    payload: ReceivedPayload<'_>,
     outputs: &mut Vec<Output>,
 ) -> Result<(), AllocError>
     ensures { OnOk result (outputs.new.items
-        ≡ outputs.old.items ++ given_of_answer header.now payload.now answered) }
+        ≡ outputs.old.items ++ given_of_answer header.now (bytes_in payload.entry) answered) }
 {
     let output = match answered {
         Ok(call) => Output::Answered {
             message: call.message,
             session: call.session,
             code: header.code,
-            payload: Payload::copy(alloc, payload)?,
+            payload: payload.into_payload(alloc)?,
         },
         Err(cause) => Output::Dropped {
             reason: DropReason::Answer(cause),
@@ -158,17 +158,17 @@ fn give_event(
     alloc: Global,
     publisher: Option<InstanceId>,
     header: &Header,
-    payload: &[u8],
+    payload: ReceivedPayload<'_>,
     outputs: &mut Vec<Output>,
 ) -> Result<(), AllocError>
     ensures { OnOk result (outputs.new.items
-        ≡ outputs.old.items ++ given_of_event header.now payload.now publisher) }
+        ≡ outputs.old.items ++ given_of_event header.now (bytes_in payload.entry) publisher) }
 {
     let output = match publisher {
         Some(instance) => Output::Event {
             instance,
             event: header.method,
-            payload: Payload::copy(alloc, payload)?,
+            payload: payload.into_payload(alloc)?,
         },
         None => Output::Dropped {
             reason: DropReason::NotSubscribed,

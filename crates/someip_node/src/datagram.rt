@@ -2,6 +2,7 @@
 ghost use Rattle.std.specs.Prelude.{◌≡◌, OnOk};
 ghost use Rattle.someip_wire.specs.Reading.{items_of};
 ghost use Rattle.someip_wire.specs.View.{view, view_item};
+ghost use Rattle.someip_node.specs.Arrivals.{bytes_in};
 ghost use Rattle.someip_node.specs.Handling.{client_plan, datagram_plan, instance_target};
 ghost use Rattle.someip_node.specs.Handling.{item_plan, items_plan, message_at_plan, message_plan};
 ghost use Rattle.someip_node.specs.Handling.{own_target, target_of, target_plan, whole_plan};
@@ -13,6 +14,7 @@ use crate::drops::DropReason;
 use crate::engine::Engine;
 use crate::giving::Giving;
 use crate::output::Output;
+use crate::received::ReceivedPayload;
 use crate::setups::DISCOVERY_PORT;
 use crate::target::Target;
 use sd_core::InstanceId;
@@ -181,7 +183,8 @@ impl<R: Reassembly> Engine<R> {
         if message.header.kind.has_tp_flag() {
             self.segment(target, from, to, &message.header, message.payload, giving)
         } else {
-            self.whole(target, from, &message.header, message.payload, giving)
+            let payload = ReceivedPayload::Lent(message.payload);
+            self.whole(target, from, &message.header, payload, giving)
         }
     }
 
@@ -191,11 +194,11 @@ impl<R: Reassembly> Engine<R> {
         target: Target,
         from: SocketAddrV4,
         header: &Header,
-        payload: &[u8],
+        payload: ReceivedPayload<'_>,
         giving: &mut Giving,
     ) -> Result<(), AllocError>
         ensures { OnOk result (working self.new giving.new
-            ≡ run plain (whole_plan target from header.now payload.now)
+            ≡ run plain (whole_plan target from header.now (bytes_in payload.entry))
             (working self.old giving.old)) }
     {
         match target {
@@ -210,11 +213,11 @@ impl<R: Reassembly> Engine<R> {
         &mut self,
         from: SocketAddrV4,
         header: &Header,
-        payload: &[u8],
+        payload: ReceivedPayload<'_>,
         giving: &mut Giving,
     ) -> Result<(), AllocError>
         ensures { OnOk result (working self.new giving.new
-            ≡ run plain (client_plan from header.now payload.now header.now.kind)
+            ≡ run plain (client_plan from header.now (bytes_in payload.entry) header.now.kind)
             (working self.old giving.old)) }
     {
         match header.kind {

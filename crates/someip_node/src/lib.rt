@@ -14,6 +14,7 @@ mod error;
 mod giving;
 mod output;
 mod payload;
+mod received;
 mod segments;
 mod sending;
 mod serving;

@@ -15,6 +15,7 @@ use crate::engine::Engine;
 use crate::giving::Giving;
 use crate::output::Output;
 use crate::payload::Payload;
+use crate::received::ReceivedPayload;
 use crate::target::Target;
 use someip_tables::Moment;
 use someip_tp::{Offered, Reassembly, ReassemblyKey, TpError, read_segment};
@@ -110,7 +111,8 @@ impl<R: Reassembly> Engine<R> {
                     kind: header.kind.without_tp_flag(),
                     ..*header
                 };
-                self.whole(target, from, &header, payload.as_slice(), giving)
+                let payload = ReceivedPayload::Reassembled(payload);
+                self.whole(target, from, &header, payload, giving)
             }
             None => Ok(()),
         }

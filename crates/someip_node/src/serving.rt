@@ -3,7 +3,7 @@ ghost use Rattle.std.specs.Prelude.{◌≡◌, ◌++◌, ◌∷◌, [], IfOk, On
 ghost use Rattle.std.specs.List.{flat_map};
 ghost use Rattle.someip_rpc.specs.Requests.{BecomesOf, asked, request_fault};
 ghost use Rattle.someip_rpc.specs.Servers.{after_arrival};
-ghost use Rattle.someip_node.specs.Arrivals.{given_of};
+ghost use Rattle.someip_node.specs.Arrivals.{bytes_in, given_of};
 ghost use Rattle.someip_node.specs.Messages.{handed_up};
 ghost use Rattle.someip_node.specs.Outputs.{datagrams_of, written};
 ghost use Rattle.someip_node.specs.Plans.{act, plain, run, TakesRequest};
@@ -13,7 +13,7 @@ use crate::drops::DropReason;
 use crate::engine::Engine;
 use crate::giving::Giving;
 use crate::output::Output;
-use crate::payload::Payload;
+use crate::received::ReceivedPayload;
 use crate::sending::send;
 use sd_core::InstanceId;
 use someip_rpc::{Arrived, Outgoing, ServerCore, ServiceRules};
@@ -29,11 +29,11 @@ impl<R: Reassembly> Engine<R> {
         instance: InstanceId,
         from: SocketAddrV4,
         header: &Header,
-        payload: &[u8],
+        payload: ReceivedPayload<'_>,
         giving: &mut Giving,
     ) -> Result<(), AllocError>
         ensures { OnOk result (working self.new giving.new
-            ≡ run plain (act (TakesRequest instance from header.now payload.now))
+            ≡ run plain (act (TakesRequest instance from header.now (bytes_in payload.entry)))
             (working self.old giving.old)) }
     {
         let is_up = self.offers.is_up(instance);
@@ -79,12 +79,12 @@ fn give_arrived(
     alloc: Global,
     instance: InstanceId,
     header: &Header,
-    payload: &[u8],
+    payload: ReceivedPayload<'_>,
     arrived: Arrived,
     outputs: &mut Vec<Output>,
 ) -> Result<(), AllocError>
     ensures { OnOk result (outputs.new.items ≡ outputs.old.items
-        ++ flat_map written (given_of instance header.now payload.now arrived)) }
+        ++ flat_map written (given_of instance header.now (bytes_in payload.entry) arrived)) }
 {
     match arrived {
         Arrived::Request(token) => {
@@ -119,13 +119,13 @@ fn hand_up(
     instance: InstanceId,
     token: Option<u64>,
     header: &Header,
-    payload: &[u8],
+    payload: ReceivedPayload<'_>,
     outputs: &mut Vec<Output>,
 ) -> Result<(), AllocError>
     ensures { OnOk result (outputs.new.items
-        ≡ outputs.old.items ++ handed_up instance token header.now payload.now ∷ []) }
+        ≡ outputs.old.items ++ handed_up instance token header.now (bytes_in payload.entry) ∷ []) }
 {
-    let payload = Payload::copy(alloc, payload)?;
+    let payload = payload.into_payload(alloc)?;
     outputs.push(Output::Request {
         token,
         instance,

@@ -1,4 +1,4 @@
-use Rattle.std.proofs.Common.{◌≡◌, ◌∙◌, sym, ap}
+use Rattle.std.proofs.Common.{◌∙◌, sym, ap}
 use Rattle.std.specs.FinMap as finite
 use Rattle.std.proofs.lemmas.Cmp.{nat_cmp_total}
 use Rattle.someip_tables.proofs.Trees.{get-map_of}
