@@ -6,3 +6,4 @@ pub mod PassingLemmas
 pub mod TableLemmas
 pub mod CallLemmas
 pub mod PublishingLemmas
+pub mod MessageLemmas

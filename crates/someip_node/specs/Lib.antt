@@ -19,3 +19,4 @@ pub mod Handled
 pub mod Errors
 pub mod Publishings
 pub mod GoodConfigs
+pub mod Arrivals
