@@ -12,6 +12,7 @@ mod giving;
 mod output;
 mod payload;
 mod sending;
+mod subscribing;
 mod target;
 
 pub use config::{Common, Config, OfferedService, WantedService};
