@@ -1,2 +1,3 @@
 pub mod WrittenLemmas
 pub mod SubscribingLemmas
+pub mod LearningLemmas
