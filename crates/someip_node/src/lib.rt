@@ -3,6 +3,7 @@
 
 mod announcing;
 mod config;
+mod discovery;
 mod drops;
 mod endings;
 mod engine;
@@ -10,6 +11,7 @@ mod entries;
 mod entry_making;
 mod error;
 mod giving;
+mod hearing;
 mod learning;
 mod output;
 mod payload;
