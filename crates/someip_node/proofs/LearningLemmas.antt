@@ -1,5 +1,5 @@
 -- What a client's tables are once it learned from an entry.
-use Rattle.std.proofs.Common.{◌≡◌, ℕ, true, List, [], ◌∷◌, ◌++◌, Option, None, Some, refl, ap, sym, ◌∙◌, append_assoc}
+use Rattle.std.proofs.Common.{◌≡◌, ℕ, true, List, ◌++◌, None, Some, refl}
 use Rattle.std.specs.List.{flat_map}
 use Rattle.std.proofs.lemmas.List.{append-nil}
 use Rattle.std.specs.Ordering.{eq_by_cmp}
@@ -7,11 +7,6 @@ use Rattle.std.specs.FinMap as finite
 use Rattle.std.specs.declared.net.ipv4_addr.Ipv4Addr.{Ipv4Addr}
 use Rattle.std.specs.declared.net.socket_addr.SocketAddrV4.{SocketAddrV4}
 use Rattle.sd_wire.specs.Values.{EntryValue}
-use Rattle.sd_session.specs.declared.peers.Seen.TheVariants.{Same, Rebooted as Restarted}
-use Rattle.sd_session.specs.declared.stamp.Channel.{Channel}
-use Rattle.sd_session.specs.declared.stamp.Stamp.{Stamp}
-use Rattle.sd_session.specs.Peers.{Held, stamps_after, stamps_of, told_by}
-use Rattle.sd_core.specs.declared.eventgroup.Eventgroup.{Eventgroup}
 use Rattle.sd_core.specs.declared.keys.InstanceId.{InstanceId}
 use Rattle.sd_core.specs.declared.received.Counted.{Counted}
 use Rattle.sd_core.specs.declared.received.ReceivedOffer.{ReceivedOffer}
@@ -19,10 +14,8 @@ use Rattle.sd_core.specs.Keys.{instance_cmp}
 use Rattle.sd_core.specs.SeekTables.{SeekTable, counted_as, is_stopped, known_at, learned, uncounted}
 use Rattle.sd_core.specs.Wishes.{begun_where, ended_where, offered, subscribes}
 use Rattle.someip_node.specs.declared.output.Output.{Output}
-use Rattle.someip_node.specs.declared.output.Output.TheVariants.{Rebooted}
-use Rattle.someip_node.specs.Items.{changed, PeerRebooted}
-use Rattle.someip_node.specs.Learning.{hearing, known_told, offer, offer_endings, reboot_endings, stop_offer, subscribe_to}
-use Rattle.someip_node.specs.Outcomes.{endings, unsubscribed}
+use Rattle.someip_node.specs.Learning.{known_told, offer, offer_endings, stop_offer, subscribe_to}
+use Rattle.someip_node.specs.Outcomes.{unsubscribed}
 use Rattle.someip_node.specs.Plans.{does, plain, work}
 use Rattle.someip_node.specs.Tables.{Tables}
 use Rattle.someip_node.proofs.WrittenLemmas.{told_written}
@@ -48,31 +41,3 @@ pub offer_stopped : (instance : InstanceId) (major : ℕ) (peer : Ipv4Addr) (t a
     → work after told replies ≡ does plain (stop_offer instance major peer) (work t outputs replies)
 offer_stopped instance major peer t after seek outputs told replies stopped seen tells changes =
     rw (stopped, tells, changes, seen, told_written (unsubscribed (finite.keys (begun_where (λ eventgroup beginning. eq_by_cmp instance_cmp eventgroup.instance instance) t.wishes))), append-nil replies) refl
-
--- ---- peers
-
--- a message of a peer came that goes on
-pub peer_heard : (peer : Ipv4Addr) (channel : Channel) (stamp : Stamp) (t : Tables) (held : Held) (outputs : List Output) (replies : List EntryValue)
-    → Same ≡ told_by channel stamp (stamps_of t.peers peer)
-    → held ≡ finite.insert t.peers peer (stamps_after channel stamp (stamps_of t.peers peer))
-    → work (record t { peers = held }) outputs replies ≡ does plain (hearing peer channel stamp) (work t outputs replies)
-peer_heard peer channel stamp t held outputs replies same keeps =
-    rw (← same, keeps, append-nil outputs, append-nil replies) refl
-
--- a message of a peer came that began again
-pub peer_rebooted : (peer : Ipv4Addr) (channel : Channel) (stamp : Stamp) (t after : Tables) (held : Held) (outputs told : List Output) (replies : List EntryValue)
-    → Restarted ≡ told_by channel stamp (stamps_of t.peers peer)
-    → held ≡ finite.insert t.peers peer (stamps_after channel stamp (stamps_of t.peers peer))
-    → told ≡ outputs ++ Rebooted peer ∷ reboot_endings peer t
-    → after ≡ changed (record t { peers = held }) (PeerRebooted peer)
-    → work after told replies ≡ does plain (hearing peer channel stamp) (work t outputs replies)
-peer_rebooted peer channel stamp t after held outputs told replies again keeps tells ends =
-    rw (← again, tells, ends, keeps, told_written (reboot_endings peer t), append-nil replies) refl
-
--- what is told as a peer began again
-pub reboot_told : (peer : Ipv4Addr) (instances gone known : List InstanceId) (ended begun : List Eventgroup) (outputs pushed told : List Output)
-    → pushed ≡ outputs ++ Rebooted peer ∷ [] → gone ≡ known → ended ≡ begun
-    → told ≡ pushed ++ endings instances gone ended
-    → told ≡ outputs ++ Rebooted peer ∷ endings instances known begun
-reboot_told peer instances gone known ended begun outputs pushed told pushes goes ends tells =
-    rw (tells, pushes, goes, ends) (append_assoc outputs (Rebooted peer ∷ []) (endings instances known begun))

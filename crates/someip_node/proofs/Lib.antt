@@ -1,3 +1,4 @@
 pub mod WrittenLemmas
 pub mod SubscribingLemmas
+pub mod HearingLemmas
 pub mod LearningLemmas

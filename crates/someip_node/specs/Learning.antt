@@ -142,12 +142,15 @@ ack_by answer ttl t =
 abbrev pub ack : Ipv4Addr → EventgroupEntry → Tables → Outcome
 ack peer head t = ack_by (answer_in peer head t) head.ttl t
 
+-- what is told of a Nack, which ended a subscription or did not
+abbrev pub nack_told : Eventgroup → Bool → List Output
+nack_told eventgroup ended = if ended then Unsubscribed eventgroup ∷ [] else Dropped NotPending ∷ []
+
 -- a Nack comes
 abbrev pub nack_by : SubscribeAnswer → Tables → Outcome
 nack_by answer t =
     meets (NackCame answer ∷ [])
-    (if is_answered t.clock answer (wish_of (finite.get t.wishes answer.eventgroup)).stage then Unsubscribed answer.eventgroup ∷ []
-    else Dropped NotPending ∷ [])
+    (nack_told answer.eventgroup (is_answered t.clock answer (wish_of (finite.get t.wishes answer.eventgroup)).stage))
 
 abbrev pub nack : Ipv4Addr → EventgroupEntry → Tables → Outcome
 nack peer head t = nack_by (answer_in peer head t) t

@@ -4,8 +4,8 @@ ghost use Rattle.std.specs.Result.{result_map_both};
 ghost use Rattle.someip_wire.specs.View.{view};
 ghost use Rattle.sd_wire.specs.Program.{reading};
 ghost use Rattle.sd_wire.specs.Values.{view_read, view_sd};
-ghost use Rattle.someip_node.specs.Handling.{discovery_plan, entries_plan, heard_plan, is_discovery};
-ghost use Rattle.someip_node.specs.Handling.{reading_plan, reply_plan};
+ghost use Rattle.someip_node.specs.Handling.{discovery_plan, entries_plan, heard_plan};
+ghost use Rattle.someip_node.specs.Handling.{is_discovery, reading_plan, reply_plan};
 ghost use Rattle.someip_node.specs.Plans.{plain, replying, run};
 ghost use Rattle.someip_node.specs.Working.{working};
 
@@ -31,7 +31,8 @@ impl<R: Reassembly> Engine<R> {
         giving: &mut Giving,
     ) -> Result<(), AllocError>
         ensures { OnOk result (working self.new giving.new
-            ≡ run plain (discovery_plan peer channel (view message.now)) (working self.old giving.old)) }
+            ≡ run plain (discovery_plan peer channel (view message.now))
+            (working self.old giving.old)) }
     {
         if !is_discovery(&message.header) {
             giving.outputs.push(Output::Dropped {
@@ -98,7 +99,8 @@ impl<R: Reassembly> Engine<R> {
         giving: &mut Giving,
     ) -> Result<(), AllocError>
         ensures { OnOk result (working self.new giving.new
-            ≡ run plain (entries_plan peer (map view_read entries.now)) (working self.old giving.old)) }
+            ≡ run plain (entries_plan peer (map view_read entries.now))
+            (working self.old giving.old)) }
     {
         self.entries(peer, entries, giving)?;
         self.reply(peer, giving)

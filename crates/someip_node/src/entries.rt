@@ -25,7 +25,8 @@ impl<R: Reassembly> Engine<R> {
         giving: &mut Giving,
     ) -> Result<(), AllocError>
         ensures { OnOk result (working self.new giving.new
-            ≡ run plain (each (entry_plan peer) (map view_read entries.now)) (working self.old giving.old)) }
+            ≡ run plain (each (entry_plan peer) (map view_read entries.now))
+            (working self.old giving.old)) }
     {
         for entry in entries {
             self.entry(peer, entry, giving)?;
@@ -102,8 +103,8 @@ impl<R: Reassembly> Engine<R> {
         }
     }
 
-    /// An entry comes with a run that goes past the options: a Subscribe is taken as one without options,
-    /// and any other is dropped.
+    /// An entry comes with a run that goes past the options: a Subscribe is taken as one without
+    /// options, and any other is dropped.
     fn bad_entry(
         &mut self,
         peer: Ipv4Addr,

@@ -19,9 +19,9 @@ use std::alloc::AllocError;
 use std::net::Ipv4Addr;
 
 impl<R: Reassembly> Engine<R> {
-    /// A message of Service Discovery comes with this stamp: its peer is heard, where there is room for
-    /// it, and the message is dropped where there is none. Says whether there is.
-    #[tactic(auto, using(crate::proofs::LearningLemmas::peer_heard))]
+    /// A message of Service Discovery comes with this stamp: its peer is heard, where there is room
+    /// for it, and the message is dropped where there is none. Says whether there is.
+    #[tactic(auto, using(crate::proofs::HearingLemmas::peer_heard))]
     pub(crate) fn hear(
         &mut self,
         peer: Ipv4Addr,

@@ -1,5 +1,5 @@
 //! What a client learns from the entries of Service Discovery: Offers, StopOffers, Acks and Nacks.
-ghost use Rattle.std.specs.Prelude.{◌≡◌, ◌++◌, map, if◌then◌else◌, IfErr, IfOk, None, OnErr, OnOk, Some, [], ◌∷◌};
+ghost use Rattle.std.specs.Prelude.{◌≡◌, ◌++◌, map, IfErr, IfOk, None, OnErr, OnOk, Some};
 ghost use Rattle.std.specs.FinMap as finite;
 ghost use Rattle.std.specs.List.{flat_map};
 ghost use Rattle.sd_wire.specs.Values.{view_entry};
@@ -7,12 +7,11 @@ ghost use Rattle.std.specs.Ordering.{eq_by_cmp};
 ghost use Rattle.sd_core.specs.Keys.{instance_cmp};
 ghost use Rattle.sd_core.specs.SeekTables.{counted_as, known_at, learned, uncounted};
 ghost use Rattle.sd_core.specs.Wishes.{ended_where, offered, subscribes};
-ghost use Rattle.someip_node.specs.declared.drops.DropReason.TheVariants.{NotPending};
-ghost use Rattle.someip_node.specs.declared.output.Output.TheVariants.{Dropped, Unsubscribed};
-ghost use Rattle.someip_node.specs.Learning.{ack_told, answer_in, eventgroup_in, known_told, offer_endings};
-ghost use Rattle.someip_node.specs.Learning.{subscribe_to, uncounted_by};
+ghost use Rattle.someip_node.specs.Learning.{ack_told, answer_in, eventgroup_in, known_told};
+ghost use Rattle.someip_node.specs.Learning.{nack_told, offer_endings, subscribe_to, uncounted_by};
 ghost use Rattle.someip_node.specs.Outputs.{written};
-ghost use Rattle.someip_node.specs.Plans.{act, plain, run, TakesAck, TakesNack, TakesOffer, TakesStopOffer};
+ghost use Rattle.someip_node.specs.Plans.{act, plain, run};
+ghost use Rattle.someip_node.specs.Plans.{TakesAck, TakesNack, TakesOffer, TakesStopOffer};
 ghost use Rattle.someip_node.specs.Working.{working};
 
 use crate::drops::DropReason;
@@ -65,7 +64,8 @@ impl<R: Reassembly> Engine<R> {
         }) }
         ensures entries { OnOk result (map view_entry entries.new.items
             ≡ map view_entry entries.old.items
-            ++ flat_map (subscribe_to self.old) (subscribes self.old.clock instance peer self.old.wishes)) }
+            ++ flat_map (subscribe_to self.old)
+            (subscribes self.old.clock instance peer self.old.wishes)) }
     {
         let subscribes = self.subscriptions.offer(instance, peer, self.clock)?;
         self.push_subscribes(&subscribes, entries)
@@ -279,8 +279,8 @@ fn tell_nack(
     ended: bool,
     outputs: &mut Vec<Output>,
 ) -> Result<(), AllocError>
-    ensures { OnOk result (outputs.new.items ≡ outputs.old.items
-        ++ (if ended then Unsubscribed (eventgroup_in head.now) ∷ [] else Dropped NotPending ∷ [])) }
+    ensures { OnOk result (outputs.new.items
+        ≡ outputs.old.items ++ nack_told (eventgroup_in head.now) ended) }
 {
     if ended {
         outputs.push(Output::Unsubscribed {

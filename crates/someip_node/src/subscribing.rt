@@ -8,7 +8,8 @@ ghost use Rattle.someip_node.specs.Entries.{ack_entry};
 ghost use Rattle.someip_node.specs.Items.{changed};
 ghost use Rattle.someip_node.specs.Learning.{eventgroup_in};
 ghost use Rattle.someip_node.specs.Outputs.{written};
-ghost use Rattle.someip_node.specs.Plans.{act, plain, run, TakesFind, TakesStopSubscribe, TakesSubscribe};
+ghost use Rattle.someip_node.specs.Plans.{act, plain, run};
+ghost use Rattle.someip_node.specs.Plans.{TakesFind, TakesStopSubscribe, TakesSubscribe};
 ghost use Rattle.someip_node.specs.Setups.{has_eventgroup, offered_as};
 ghost use Rattle.someip_node.specs.Subscribing.{offer_of, rules_by, rules_for, sought_by};
 ghost use Rattle.someip_node.specs.Subscribing.{subscribe_by, subscribe_in};
@@ -79,7 +80,8 @@ impl<R: Reassembly> Engine<R> {
         giving: &mut Giving,
     ) -> Result<(), AllocError>
         ensures { OnOk result (working self.new giving.new
-            ≡ run plain (act (TakesSubscribe peer head.now endpoint)) (working self.old giving.old)) }
+            ≡ run plain (act (TakesSubscribe peer head.now endpoint))
+            (working self.old giving.old)) }
     {
         let refusal = self.admit(peer, head, endpoint)?;
         tell_answer(self.alloc, peer, head, endpoint, refusal, giving)
@@ -123,7 +125,8 @@ impl<R: Reassembly> Engine<R> {
         giving: &mut Giving,
     ) -> Result<(), AllocError>
         ensures { OnOk result (working self.new giving.new
-            ≡ run plain (act (TakesStopSubscribe peer head.now endpoint)) (working self.old giving.old)) }
+            ≡ run plain (act (TakesStopSubscribe peer head.now endpoint))
+            (working self.old giving.old)) }
     {
         let Some(endpoint) = endpoint else {
             giving.outputs.push(Output::Dropped {
@@ -184,7 +187,8 @@ fn subscribe_in(peer: Ipv4Addr, head: &EventgroupEntry, endpoint: Option<SocketA
 
 /// What is known of the instance and the eventgroup that a Subscribe asks for.
 fn rules_by(config: &Config, head: &EventgroupEntry, up: bool) -> SubscribeRules
-    ensures { result ≡ rules_by head.now up (offered_as config.now (eventgroup_in head.now).instance) }
+    ensures { result
+        ≡ rules_by head.now up (offered_as config.now (eventgroup_in head.now).instance) }
 {
     match config.offers.get(&eventgroup_in(head).instance) {
         Some(service) => SubscribeRules {
@@ -213,7 +217,8 @@ fn has_eventgroup(service: &OfferedService, eventgroup: u16) -> bool
         .any(|(_, groups)| groups.contains(&eventgroup))
 }
 
-/// Tells that a Subscribe is accepted, or refused for this cause, and answers it by an Ack or a Nack.
+/// Tells that a Subscribe is accepted, or refused for this cause, and answers it by an Ack or a
+/// Nack.
 fn tell_answer(
     alloc: Global,
     peer: Ipv4Addr,

@@ -1,5 +1,5 @@
 use Rattle.std.proofs.Common.{◌∙◌}
-use Rattle.someip_node.proofs.LearningLemmas.{reboot_told}
+use Rattle.someip_node.proofs.HearingLemmas.{reboot_told}
 use Rattle.someip_node.proofs.engine.Engine.forget_peer.Goals as goal
 
 pub returns-clause-outputs : goal.returns-clause-outputs

@@ -1,5 +1,5 @@
 use Rattle.std.proofs.Common.{◌∙◌, sym}
-use Rattle.someip_node.proofs.LearningLemmas.{peer_rebooted}
+use Rattle.someip_node.proofs.HearingLemmas.{peer_rebooted}
 use Rattle.someip_node.proofs.engine.Engine.hear.Goals as goal
 
 pub returns-in_ok-forget_peer-in-Ok-Rebooted-clause-heard : goal.returns-in_ok-forget_peer-in-Ok-Rebooted-clause-heard

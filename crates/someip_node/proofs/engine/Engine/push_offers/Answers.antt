@@ -1,4 +1,3 @@
-use Rattle.std.proofs.Common.{rules, ℕ}
 use Rattle.someip_node.proofs.SubscribingLemmas.{one_added}
 use Rattle.someip_node.proofs.engine.Engine.push_offers.Goals as goal
 
