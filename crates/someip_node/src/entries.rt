@@ -3,7 +3,7 @@ ghost use Rattle.std.specs.Prelude.{◌≡◌, map, OnOk};
 ghost use Rattle.sd_wire.specs.Values.{view_read};
 ghost use Rattle.someip_node.specs.Handling.{bad_plan, entry_plan, eventgroup_plan, service_plan};
 ghost use Rattle.someip_node.specs.Learning.{received_offer};
-ghost use Rattle.someip_node.specs.Plans.{act, each, plain, run, Drops};
+ghost use Rattle.someip_node.specs.Plans.{each, plain, run};
 ghost use Rattle.someip_node.specs.Working.{working};
 
 use crate::drops::DropReason;
