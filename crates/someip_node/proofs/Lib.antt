@@ -7,3 +7,6 @@ pub mod TableLemmas
 pub mod CallLemmas
 pub mod PublishingLemmas
 pub mod MessageLemmas
+pub mod SubscribingLemmas
+pub mod HearingLemmas
+pub mod LearningLemmas

@@ -16,7 +16,7 @@ use Rattle.sd_core.specs.Wishes.{ended_where}
 use Rattle.someip_node.specs.Setups.{limits_of}
 use Rattle.someip_node.specs.Tables.{passed_instances}
 use Rattle.someip_node.proofs.TableLemmas.{same_tables}
-use Rattle.someip_node.specs.Inputs.{announce_plan, tick_plan}
+use Rattle.someip_node.specs.Inputs.{tick_plan}
 use Rattle.someip_node.specs.Plans.{act, plain, run, Ticks}
 use Rattle.someip_node.specs.Receivers.{messages_plan_to}
 use Rattle.someip_node.specs.Working.{working}
@@ -53,9 +53,9 @@ pub ticked_all : (t mid new : Tables) (old between after : Giving) (ms now : ℕ
 ticked_all t mid new old between after ms now passed entries sent (Err e) is p first due lent last = last
 ticked_all t mid new old between after ms now passed entries sent (Ok x) is p first due lent last =
     last
-    ∙ ap (λ (es : List EntryValue). run plain (announce_plan es) (working mid between))
+    ∙ ap (λ (es : List EntryValue). run plain (messages_plan_to Group es) (working mid between))
     (ap (map view_entry) lent ∙ due ∙ due_is t mid ms now passed is (ap (λ w. w.state) first) p)
-    ∙ ap (run plain (announce_plan (due_entries (t.clock + ms) t))) first
+    ∙ ap (run plain (messages_plan_to Group (due_entries (t.clock + ms) t))) first
 
 -- the tables, table by table
 pub ticked_is : (t new : Tables) (ms now : ℕ) → now ≡ t.clock + ms → new.config ≡ t.config → new.clock ≡ now → new.parts ≡ parts_at (limits_of t.config) now t.parts

@@ -34,11 +34,12 @@ use Rattle.someip_node.specs.declared.config.Config.{Config}
 use Rattle.someip_node.specs.declared.drops.DropReason.TheVariants.{BadRun, NoPort, NotSd, Own, PeersFull, Sd, Tp, Wire}
 use Rattle.someip_node.specs.declared.target.Target.{Target}
 use Rattle.someip_node.specs.declared.target.Target.TheVariants as target
-use Rattle.someip_node.specs.Entries.{fronts}
 use Rattle.someip_node.specs.Learning.{received_offer}
 use Rattle.someip_node.specs.Messages.{completed}
-use Rattle.someip_node.specs.Plans.{Plan, rest, act, both, asks, replying, each, Drops, Hears, RepliesTo, TakesAck, TakesAnswer, TakesEvent, TakesFind, TakesNack, TakesOffer, TakesRequest, TakesSegment, TakesStopOffer, TakesStopSubscribe, TakesSubscribe}
+use Rattle.someip_node.specs.Plans.{Plan, rest, act, both, asks, replying, each, Drops, Hears, TakesAck, TakesAnswer, TakesEvent, TakesFind, TakesNack, TakesOffer, TakesRequest, TakesSegment, TakesStopOffer, TakesStopSubscribe, TakesSubscribe}
+use Rattle.someip_node.specs.Receivers.{messages_plan_to}
 use Rattle.someip_node.specs.Setups.{instance_at, limits_of}
+use Rattle.someip_node.specs.declared.receiver.Receiver.TheVariants.{Peer}
 use Rattle.someip_node.specs.Tables.{Tables}
 
 -- ---- messages of the application
@@ -104,12 +105,9 @@ abbrev pub entry_plan : Ipv4Addr → ReadValue → Plan
 entry_plan peer (good e) = good_plan peer e.head (first_udp_endpoint (options_of e))
 entry_plan peer (bad_run head) = bad_plan peer head
 
--- the replies go to the peer in order, in as many messages as are needed
-abbrev pub reply_plan : Ipv4Addr → List EntryValue → Plan
-reply_plan peer replies = each (λ entries. act (RepliesTo peer entries)) (fronts replies)
-
+-- the entries are taken in order, and then the replies go to the peer in order, in as many messages as are needed
 abbrev pub entries_plan : Ipv4Addr → List ReadValue → Plan
-entries_plan peer entries = both (each (entry_plan peer) entries) (replying (reply_plan peer))
+entries_plan peer entries = both (each (entry_plan peer) entries) (replying (messages_plan_to (Peer peer)))
 
 -- a message of Service Discovery that was read: its peer, and then its entries in order
 abbrev pub heard_plan : Ipv4Addr → Channel → ℕ → SdValue → Plan

@@ -11,10 +11,11 @@ use Rattle.someip_rpc.specs.declared.call.CallKind.{CallKind}
 use Rattle.someip_rpc.specs.declared.request.Reply.{Reply}
 use Rattle.someip_node.specs.declared.error.NodeError.{NodeError}
 use Rattle.someip_node.specs.Calls.{answering_refusal, calling_refusal, due_entries, publishing_refusal, publishing_to_refusal, standing_of, stop_offer_of, stopping_refusal, subscribe_for, tick_refusal, wish_entries, wishing_refusal}
-use Rattle.someip_node.specs.Entries.{fronts}
 use Rattle.someip_node.specs.Handling.{datagram_plan}
-use Rattle.someip_node.specs.Plans.{Plan, rest, act, both, asks, each, Announces, Answers, Calls, Publishes, PublishesTo, RepliesTo, Stops, TakesBack, Ticks, Wishes}
+use Rattle.someip_node.specs.Plans.{Plan, rest, act, both, asks, Answers, Calls, Publishes, PublishesTo, Stops, TakesBack, Ticks, Wishes}
+use Rattle.someip_node.specs.Receivers.{message_plan_to, messages_plan_to}
 use Rattle.someip_node.specs.Tables.{Tables, known_peer}
+use Rattle.someip_node.specs.declared.receiver.Receiver.TheVariants.{Group, Peer}
 
 pub data Input : Type 0 where
   -- a datagram came from an endpoint to another
@@ -46,18 +47,14 @@ refusal_of (Subscribe eventgroup) t = wishing_refusal eventgroup t
 refusal_of (Unsubscribe eventgroup) t = wishing_refusal eventgroup t
 refusal_of (StopOffer instance) t = stopping_refusal instance t
 
--- entries go to the group, in as many messages as are needed
-abbrev pub announce_plan : List EntryValue → Plan
-announce_plan entries = each (λ front. act (Announces front)) (fronts entries)
-
 -- what has passed ends, and then the Offers and the Finds go out that are due
 abbrev pub tick_plan : ℕ → Plan
-tick_plan ms = asks (λ t. both (act (Ticks ms)) (announce_plan (due_entries (t.clock + ms) t)))
+tick_plan ms = asks (λ t. both (act (Ticks ms)) (messages_plan_to Group (due_entries (t.clock + ms) t)))
 
 -- entries go to the peer whose offer of an instance is known
 abbrev pub peer_plan : Option Ipv4Addr → List EntryValue → Plan
 peer_plan None entries = rest
-peer_plan (Some peer) entries = act (RepliesTo peer entries)
+peer_plan (Some peer) entries = message_plan_to (Peer peer) entries
 
 -- a wish: a Subscribe goes out at once where an offer of the instance is known
 abbrev pub subscribe_plan : Eventgroup → Plan
@@ -67,7 +64,7 @@ subscribe_plan eventgroup =
 -- a wish is taken back: the server of the subscription that stands is told before
 abbrev pub stop_subscribe_plan : Eventgroup → Option Beginning → Tables → Plan
 stop_subscribe_plan eventgroup None t = rest
-stop_subscribe_plan eventgroup (Some beginning) t = act (RepliesTo beginning.peer (subscribe_for t eventgroup (λ want. 0) beginning.counter))
+stop_subscribe_plan eventgroup (Some beginning) t = message_plan_to (Peer beginning.peer) (subscribe_for t eventgroup (λ want. 0) beginning.counter)
 
 abbrev pub unsubscribe_plan : Eventgroup → Plan
 unsubscribe_plan eventgroup =
@@ -75,7 +72,7 @@ unsubscribe_plan eventgroup =
 
 -- an offer is stopped: the group is told before
 abbrev pub stop_offer_plan : InstanceId → Plan
-stop_offer_plan instance = asks (λ t. both (act (Announces (stop_offer_of t instance))) (act (Stops instance)))
+stop_offer_plan instance = asks (λ t. both (message_plan_to Group (stop_offer_of t instance)) (act (Stops instance)))
 
 -- what is done with an input that is not refused
 abbrev pub plan_of : Input → Plan

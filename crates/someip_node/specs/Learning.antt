@@ -87,11 +87,15 @@ offer_counts offer endpoint t = record {
   replies = flat_map (subscribe_to t) (subscribes t.clock offer.instance offer.peer t.wishes);
 }
 
+-- an Offer does not count: one of an instance that is not wanted is passed over, and any other is dropped
+abbrev pub uncounted_by : Uncounted → Outcome
+uncounted_by Unwanted = nothing
+uncounted_by WithoutEndpoint = dropped NoEndpoint
+uncounted_by OfOtherPeer = dropped OtherPeer
+
 abbrev pub offer_by : ReceivedOffer → Option Uncounted → Tables → Outcome
 offer_by offer None t = option_map_or (λ endpoint. offer_counts offer endpoint t) offer.endpoint nothing
-offer_by offer (Some Unwanted) t = nothing
-offer_by offer (Some WithoutEndpoint) t = dropped NoEndpoint
-offer_by offer (Some OfOtherPeer) t = dropped OtherPeer
+offer_by offer (Some cause) t = uncounted_by cause
 
 -- an Offer comes
 abbrev pub offer : ReceivedOffer → Tables → Outcome
@@ -124,25 +128,29 @@ answer_in peer head t = record {
 }
 
 -- what is told of an Ack
-abbrev pub ack_told : SubscribeAnswer → Acked → List Output
-ack_told answer Begun = Subscribed answer.eventgroup answer.counter ∷ []
-ack_told answer Renewed = []
-ack_told answer Unasked = Dropped NotPending ∷ []
+abbrev pub ack_told : Eventgroup → ℕ → Acked → List Output
+ack_told eventgroup counter Begun = Subscribed eventgroup counter ∷ []
+ack_told eventgroup counter Renewed = []
+ack_told eventgroup counter Unasked = Dropped NotPending ∷ []
 
 -- an Ack comes
 abbrev pub ack_by : SubscribeAnswer → ℕ → Tables → Outcome
 ack_by answer ttl t =
-    meets (AckCame answer ttl ∷ []) (ack_told answer (told_by_ack t.clock answer (wish_of (finite.get t.wishes answer.eventgroup)).stage))
+    meets (AckCame answer ttl ∷ [])
+    (ack_told answer.eventgroup answer.counter (told_by_ack t.clock answer (wish_of (finite.get t.wishes answer.eventgroup)).stage))
 
 abbrev pub ack : Ipv4Addr → EventgroupEntry → Tables → Outcome
 ack peer head t = ack_by (answer_in peer head t) head.ttl t
+
+-- what is told of a Nack, which ended a subscription or did not
+abbrev pub nack_told : Eventgroup → Bool → List Output
+nack_told eventgroup ended = if ended then Unsubscribed eventgroup ∷ [] else Dropped NotPending ∷ []
 
 -- a Nack comes
 abbrev pub nack_by : SubscribeAnswer → Tables → Outcome
 nack_by answer t =
     meets (NackCame answer ∷ [])
-    (if is_answered t.clock answer (wish_of (finite.get t.wishes answer.eventgroup)).stage then Unsubscribed answer.eventgroup ∷ []
-    else Dropped NotPending ∷ [])
+    (nack_told answer.eventgroup (is_answered t.clock answer (wish_of (finite.get t.wishes answer.eventgroup)).stage))
 
 abbrev pub nack : Ipv4Addr → EventgroupEntry → Tables → Outcome
 nack peer head t = nack_by (answer_in peer head t) t

@@ -21,6 +21,7 @@ use crate::giving::Giving;
 use crate::output::Output;
 use crate::payload::Payload;
 use crate::receiver::Receiver;
+use crate::setups::{DISCOVERY_PORT, own_endpoint};
 use sd_session::{Counter, Stamp};
 use sd_wire::{Entry, SdError, SdFlags, SdMessage, split_entries, write_sd};
 use someip_tp::{Reassembly, append_message};
@@ -28,9 +29,6 @@ use someip_wire::{Header, Message, MessageType, ReturnCode};
 use std::alloc::{AllocError, Global};
 use std::collections::BTreeMap;
 use std::net::{Ipv4Addr, SocketAddrV4};
-
-/// The UDP port of Service Discovery.
-pub(crate) const DISCOVERY_PORT: u16 = 30490;
 
 impl<R: Reassembly> Engine<R> {
     /// Sends entries, in as many messages as are needed.
@@ -136,7 +134,7 @@ impl<R: Reassembly> Engine<R> {
     fn discovery_endpoint(&self) -> SocketAddrV4
         ensures { result ≡ discovery_endpoint self.now.config }
     {
-        SocketAddrV4::new(self.config.address, DISCOVERY_PORT)
+        own_endpoint(&self.config, DISCOVERY_PORT)
     }
 }
 

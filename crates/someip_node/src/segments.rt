@@ -59,7 +59,7 @@ impl<R: Reassembly> Engine<R> {
                     more,
                     bytes,
                 };
-                let whole = self.offer(segment, giving)?;
+                let whole = self.offer_segment(segment, giving)?;
                 self.completed(target, from, header, whole, giving)
             }
             Err(fault) => {
@@ -72,7 +72,7 @@ impl<R: Reassembly> Engine<R> {
     }
 
     /// Offers a segment to the store, and gives the message that it made whole.
-    fn offer(
+    fn offer_segment(
         &mut self,
         segment: OfferedSegment<'_>,
         giving: &mut Giving,
