@@ -1,1 +1,6 @@
 pub mod WrittenLemmas
+pub mod QuestionLemmas
+pub mod SubscriberLives
+pub mod CallLives
+pub mod CountLemmas
+pub mod DiscoveryLives

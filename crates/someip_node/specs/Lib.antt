@@ -12,3 +12,7 @@ pub mod Plans
 pub mod Handling
 pub mod Inputs
 pub mod Working
+pub mod Questions
+pub mod DiscoveryQuestions
+pub mod CallQuestions
+pub mod SubscriberQuestions
