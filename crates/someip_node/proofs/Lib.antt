@@ -4,3 +4,4 @@ pub mod SubscriberLives
 pub mod CallLives
 pub mod CountLemmas
 pub mod DiscoveryLives
+pub mod OfferLives

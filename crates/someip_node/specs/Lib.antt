@@ -16,3 +16,5 @@ pub mod Questions
 pub mod DiscoveryQuestions
 pub mod CallQuestions
 pub mod SubscriberQuestions
+pub mod OfferQuestions
+pub mod SeekQuestions
