@@ -5,3 +5,4 @@ pub mod CallLives
 pub mod CountLemmas
 pub mod DiscoveryLives
 pub mod OfferLives
+pub mod WishLives

@@ -18,3 +18,4 @@ pub mod CallQuestions
 pub mod SubscriberQuestions
 pub mod OfferQuestions
 pub mod SeekQuestions
+pub mod WishQuestions
