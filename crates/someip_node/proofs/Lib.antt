@@ -6,3 +6,4 @@ pub mod CountLemmas
 pub mod DiscoveryLives
 pub mod OfferLives
 pub mod WishLives
+pub mod Shown

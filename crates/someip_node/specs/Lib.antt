@@ -19,3 +19,4 @@ pub mod SubscriberQuestions
 pub mod OfferQuestions
 pub mod SeekQuestions
 pub mod WishQuestions
+pub mod History
