@@ -7,3 +7,4 @@ pub mod DiscoveryLives
 pub mod OfferLives
 pub mod WishLives
 pub mod Shown
+pub mod Stands

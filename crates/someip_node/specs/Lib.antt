@@ -20,3 +20,5 @@ pub mod OfferQuestions
 pub mod SeekQuestions
 pub mod WishQuestions
 pub mod History
+pub mod Starts
+pub mod Steps
