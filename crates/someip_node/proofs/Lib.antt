@@ -8,3 +8,4 @@ pub mod OfferLives
 pub mod WishLives
 pub mod Shown
 pub mod Stands
+pub mod NamedLemmas

@@ -74,8 +74,11 @@ abbrev pub session_by : Item → List Item → MessageId → Option ℕ → Opti
 session_by (Called call peer session) before q stood = if eq_by_cmp message_cmp q call.message then Some session else stood
 session_by item before q stood = stood
 
+abbrev pub last_session_at : List Item → MessageId → Option ℕ
+last_session_at = latest session_by (λ _. None)
+
 abbrev pub call_sessions_in : List Item → LastSessions
-call_sessions_in items = table_of (flat_map message_called items) (latest session_by (λ _. None) items)
+call_sessions_in items = table_of (flat_map message_called items) (last_session_at items)
 
 abbrev pub client_in : Config → List Item → Client
 client_in config items = record { pending = pending_in config (clock_at items) items; sessions = call_sessions_in items }
@@ -105,8 +108,11 @@ request_by (Requested request) before q stood = if eq_by_cmp nat_cmp q (next_tok
 request_by (Answered token) before q stood = if eq_by_cmp nat_cmp q token then None else stood
 request_by item before q stood = stood
 
+abbrev pub request_at : List Item → ℕ → Option Asked
+request_at = latest request_by (λ _. None)
+
 abbrev pub requests_in : List Item → OpenRequests
-requests_in items = table_of (tokens_in items) (latest request_by (λ _. None) items)
+requests_in items = table_of (tokens_in items) (request_at items)
 
 -- ---- events
 

@@ -22,3 +22,4 @@ pub mod WishQuestions
 pub mod History
 pub mod Starts
 pub mod Steps
+pub mod Lives
