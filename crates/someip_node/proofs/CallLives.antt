@@ -1,15 +1,12 @@
 -- What waits for its answer, and the sessions and tokens that were given, as each item changes them.
-use Rattle.std.proofs.Common.{◌≡◌, ℕ, suc, ◌+◌, Bool, true, false, cond, ◌||◌, List, [], ◌∷◌, filter, length, Option, None, Some, refl, ap, sym, ◌∙◌, arith}
-use Rattle.std.specs.List.{flat_map, list_any}
-use Rattle.std.specs.declared.cmp.Ordering.{Ordering}
-use Rattle.std.specs.Ordering.{eq_by_cmp, nat_cmp}
-use Rattle.std.specs.Cmp.{IsTotalOrder, nat_cmp_total}
-use Rattle.std.specs.FinMap.{FinMap, IsAntisymmetric, get, insert, remove}
+use Rattle.std.proofs.Common.{◌≡◌, ℕ, ◌+◌, List, ◌∷◌, refl, arith}
+use Rattle.std.specs.List.{flat_map}
+use Rattle.std.specs.Cmp.{nat_cmp_total}
+use Rattle.std.specs.FinMap.{insert, remove}
 use Rattle.std.proofs.lemmas.Map.Lookups.{exact_unsigned}
 use Rattle.std.specs.declared.net.socket_addr.SocketAddrV4.{SocketAddrV4}
 use Rattle.someip_tables.specs.declared.lasting.Lasting.{Lasting}
 use Rattle.someip_tables.specs.Lastings.{unexpired, unless_passed}
-use Rattle.someip_tables.proofs.Entries.{same_by_test}
 use Rattle.someip_rpc.specs.declared.call.Awaited.{Awaited}
 use Rattle.someip_rpc.specs.declared.call.Call.{Call}
 use Rattle.someip_rpc.specs.declared.call.CallKind.{CallKind}
@@ -18,17 +15,15 @@ use Rattle.someip_rpc.specs.declared.ids.CallKey.{CallKey}
 use Rattle.someip_rpc.specs.declared.ids.EventId.{EventId}
 use Rattle.someip_rpc.specs.declared.request.Asked.{Asked}
 use Rattle.someip_rpc.specs.Calls.{called, pending_after}
-use Rattle.someip_rpc.specs.Ids.{call_cmp}
 use Rattle.someip_rpc.specs.IdOrder.{calls_total, exact_calls, events_total, exact_events, messages_total, exact_messages}
-use Rattle.someip_rpc.specs.Servers.{Server}
-use Rattle.someip_rpc.specs.Sessions.{next_of, next_session, session_after, session_after_last}
+use Rattle.someip_rpc.specs.Sessions.{next_of, session_after, session_after_last}
 use Rattle.someip_node.specs.declared.config.Config.{Config}
 use Rattle.someip_node.specs.Items.{Item, AnswerTaken, Answered, Called, Published, Requested, Ticked}
-use Rattle.someip_node.specs.CallQuestions.{awaited_at, awaited_from, call_made, call_sessions_in, called_by, client_in, event_published, event_sessions_in, key_of, message_called, next_token, pending_in, request_by, requests_in, server_in, session_by, times_published, tokens_in, waiting_call}
-use Rattle.someip_node.specs.Questions.{clock_at, latest, table_of}
+use Rattle.someip_node.specs.CallQuestions.{awaited_at, awaited_from, call_made, call_sessions_in, called_by, client_in, event_published, event_sessions_in, key_of, message_called, next_token, pending_in, requests_in, server_in, tokens_in}
+use Rattle.someip_node.specs.Questions.{clock_at, table_of}
 use Rattle.someip_node.specs.Setups.{client_rules}
 use Rattle.someip_node.proofs.CountLemmas.{table-counted}
-use Rattle.someip_node.proofs.QuestionLemmas.{get-table_of, lasting-ticked, lasting-insert, lasting-remove, passed_later_too, table-insert, table-remove}
+use Rattle.someip_node.proofs.QuestionLemmas.{lasting-ticked, lasting-insert, lasting-remove, table-insert, table-remove}
 
 -- ---- calls
 

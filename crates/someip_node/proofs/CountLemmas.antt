@@ -4,7 +4,7 @@ use Rattle.std.specs.List.{list_any}
 use Rattle.std.specs.declared.cmp.Ordering.{Ordering}
 use Rattle.std.specs.Ordering.{eq_by_cmp}
 use Rattle.std.specs.Cmp.{IsTotalOrder}
-use Rattle.std.specs.FinMap.{FinMap, IsAntisymmetric, get, insert}
+use Rattle.std.specs.FinMap.{IsAntisymmetric, get, insert}
 use Rattle.someip_tables.proofs.Entries.{same_by_test}
 use Rattle.someip_node.specs.Questions.{table_of}
 use Rattle.someip_node.proofs.QuestionLemmas.{get-table_of, table-insert}

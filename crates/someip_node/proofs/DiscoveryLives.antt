@@ -1,5 +1,5 @@
 -- What was heard of peers, and the stamps of what goes out, as each item changes them.
-use Rattle.std.proofs.Common.{◌≡◌, Bool, true, false, cond, ◌||◌, List, [], ◌∷◌, Option, None, Some, refl, ap, sym, ◌∙◌}
+use Rattle.std.proofs.Common.{◌≡◌, Bool, true, false, cond, List, [], ◌∷◌, Option, None, Some, refl, ap, sym, ◌∙◌}
 use Rattle.std.specs.List.{flat_map, list_any}
 use Rattle.std.specs.Ordering.{eq_by_cmp}
 use Rattle.std.specs.FinMap.{get, insert}
@@ -14,7 +14,7 @@ use Rattle.sd_session.specs.declared.stamp.Stamp.{Stamp}
 use Rattle.sd_session.specs.Peers.{stamps_after, stamps_of, stamps_or_none}
 use Rattle.sd_session.specs.Sessions.{after_uses, following}
 use Rattle.someip_node.specs.Items.{Item, PeerAddressed, PeerHeard}
-use Rattle.someip_node.specs.DiscoveryQuestions.{peer_addressed, peer_heard, peers_in, stamps_at, stamps_by, unicast_in}
+use Rattle.someip_node.specs.DiscoveryQuestions.{peer_addressed, peer_heard, peers_in, stamps_at, unicast_in}
 use Rattle.someip_node.specs.Tables.{stamp_for, stamp_or_first}
 use Rattle.someip_node.proofs.CountLemmas.{table-counted}
 use Rattle.someip_node.proofs.QuestionLemmas.{get-named, table-insert}

@@ -9,3 +9,4 @@ pub mod WishLives
 pub mod Shown
 pub mod Stands
 pub mod NamedLemmas
+pub mod LiveLemmas

@@ -1,5 +1,5 @@
 -- What the tables of a history have of a key is what the history answers of it.
-use Rattle.std.proofs.Common.{◌≡◌, ℕ, Bool, true, false, cond, ◌||◌, List, [], ◌∷◌, ◌++◌, Option, None, Some, refl, ap, sym, ◌∙◌}
+use Rattle.std.proofs.Common.{◌≡◌, ℕ, Bool, true, false, cond, List, [], ◌∷◌, ◌++◌, Option, None, refl, ap}
 use Rattle.std.specs.List.{flat_map, list_any}
 use Rattle.std.specs.Ordering.{eq_by_cmp, nat_cmp}
 use Rattle.std.specs.Cmp.{nat_cmp_total}
@@ -16,7 +16,6 @@ use Rattle.someip_rpc.specs.declared.call.Awaited.{Awaited}
 use Rattle.someip_rpc.specs.declared.call.CallKind.{CallKind}
 use Rattle.someip_rpc.specs.declared.call.CallKind.TheVariants.{Request, RequestNoReturn}
 use Rattle.someip_rpc.specs.declared.ids.CallKey.{CallKey}
-use Rattle.someip_rpc.specs.declared.request.Asked.{Asked}
 use Rattle.someip_rpc.specs.Ids.{call_cmp}
 use Rattle.someip_rpc.specs.IdOrder.{calls_total, exact_calls}
 use Rattle.someip_node.specs.declared.config.Config.{Config}

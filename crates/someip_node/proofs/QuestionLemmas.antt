@@ -5,8 +5,7 @@ use Rattle.std.specs.Option.{option_map, option_and_then}
 use Rattle.std.specs.declared.cmp.Ordering.{Ordering}
 use Rattle.std.specs.Ordering.{eq_by_cmp}
 use Rattle.std.specs.Cmp.{IsTotalOrder}
-use Rattle.std.specs.FinMap.{FinMap, IsAntisymmetric, find, get, insert, remove, retain_keys, from_entries, get-from_entries, get-insert, get-remove, get-retain_keys, same_map}
-use Rattle.std.proofs.lemmas.Bool.Decides.{nat_tests}
+use Rattle.std.specs.FinMap.{IsAntisymmetric, find, get, insert, remove, retain_keys, get-from_entries, get-insert, get-remove, get-retain_keys, same_map}
 use Rattle.someip_tables.specs.declared.lasting.Lasting.{Lasting}
 use Rattle.someip_tables.specs.Deadlines.{has_passed}
 use Rattle.someip_tables.specs.Lastings.{unless_passed, unexpired}

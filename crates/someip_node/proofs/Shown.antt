@@ -1,5 +1,5 @@
 -- What a node does with its tables is what it does by its history.
-use Rattle.std.proofs.Common.{◌≡◌, ℕ, List, [], ◌∷◌, ◌++◌, refl, ap, ◌∙◌}
+use Rattle.std.proofs.Common.{◌≡◌, List, [], ◌∷◌, ◌++◌, refl, ap, ◌∙◌}
 use Rattle.std.specs.List.{flat_map, fold}
 use Rattle.someip_node.specs.History.{History, answers_of, historic, met}
 use Rattle.someip_node.specs.Items.{Item, AckCame, AnswerTaken, Answered, Called, GroupAddressed, MessageTaken, NackCame, OfferCounted, OfferStopped, OfferWithdrawn, PeerAddressed, PeerHeard, PeerRebooted, Published, Requested, SegmentOffered, SubscriptionAccepted, SubscriptionStopped, Ticked, Unwished, Wished, changed}

@@ -1,10 +1,9 @@
 -- A node that stands for a history.
-use Rattle.std.proofs.Common.{◌≡◌, ℕ, Bool, true, false, cond, ◌||◌, if◌then◌else◌, List, [], ◌∷◌, map, Option, None, Some, Result, Ok, Err, refl, ap, sym, ◌∙◌}
+use Rattle.std.proofs.Common.{◌≡◌, ℕ, Bool, true, false, cond, ◌||◌, if◌then◌else◌, List, [], ◌∷◌, map, Option, None, Some, Ok, Err, refl, ap, sym, ◌∙◌}
 use Rattle.std.specs.List.{list_any}
 use Rattle.std.specs.Option.{option_and_then}
 use Rattle.std.specs.Ordering.{eq_by_cmp}
 use Rattle.std.specs.FinMap.{find, get-from_entries, same_map}
-use Rattle.std.specs.Global.{Vec}
 use Rattle.std.proofs.lemmas.Option.{same_Some}
 use Rattle.sd_core.specs.declared.keys.InstanceId.{InstanceId}
 use Rattle.sd_core.specs.declared.sending.Sending.{Sending}
@@ -18,14 +17,13 @@ use Rattle.someip_node.specs.declared.config.Config.{Config}
 use Rattle.someip_node.specs.declared.error.NodeError.{NodeError}
 use Rattle.someip_node.specs.declared.error.NodeError.TheVariants.{OutOfMemory}
 use Rattle.someip_node.specs.declared.giving.Giving.{Giving}
-use Rattle.someip_node.specs.declared.output.Output.{Output}
 use Rattle.someip_node.specs.History.{History, answers_of, historic, start_of}
 use Rattle.someip_node.specs.Inputs.{Input, plan_of, refusal_of}
 use Rattle.someip_node.specs.OfferQuestions.{version_of}
-use Rattle.someip_node.specs.Plans.{Plan, Work, plain, run, work}
+use Rattle.someip_node.specs.Plans.{Work, plain, run, work}
 use Rattle.someip_node.specs.Questions.{table_of}
 use Rattle.someip_node.specs.Starts.{started_tables}
-use Rattle.someip_node.specs.Steps.{Gives, NodeView, StandsFor, from, step, unless_refused}
+use Rattle.someip_node.specs.Steps.{Gives, NodeView, StandsFor, from, step}
 use Rattle.someip_node.specs.Tables.{Tables}
 use Rattle.someip_node.specs.Working.{working}
 use Rattle.someip_node.proofs.QuestionLemmas.{get-table_of}

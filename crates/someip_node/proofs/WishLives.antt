@@ -1,7 +1,7 @@
 -- The eventgroups that a client wishes, as each item changes them.
 use Rattle.std.proofs.Common.{◌≡◌, ℕ, suc, ◌+◌, ◌%◌, Bool, true, false, not, cond, ◌&&◌, ◌||◌, List, [], ◌∷◌, Option, None, Some, refl, ap, sym, ◌∙◌, arith}
 use Rattle.std.specs.List.{flat_map, list_any}
-use Rattle.std.specs.Option.{is_some, option_map, option_map_or}
+use Rattle.std.specs.Option.{is_some, option_map}
 use Rattle.std.specs.Ordering.{eq_by_cmp}
 use Rattle.std.specs.FinMap.{get, insert, keys, contains_key-keys}
 use Rattle.std.specs.declared.net.ipv4_addr.Ipv4Addr.{Ipv4Addr}
@@ -20,7 +20,7 @@ use Rattle.sd_core.specs.declared.keys.InstanceId.{InstanceId}
 use Rattle.sd_core.specs.declared.received.KnownOffer.{KnownOffer}
 use Rattle.sd_core.specs.declared.received.ReceivedOffer.{ReceivedOffer}
 use Rattle.sd_core.specs.declared.wish.Beginning.{Beginning}
-use Rattle.sd_core.specs.declared.wish.Stage.TheVariants.{Begun, Unwished as NotWished, Waiting}
+use Rattle.sd_core.specs.declared.wish.Stage.TheVariants.{Begun, Waiting}
 use Rattle.sd_core.specs.declared.wish.SubscribeAnswer.{SubscribeAnswer}
 use Rattle.sd_core.specs.declared.wish.Wish.{Wish}
 use Rattle.sd_core.specs.Changed.{changed, changed_at}
@@ -29,11 +29,11 @@ use Rattle.sd_core.specs.EventgroupOrder.{eventgroups_total, exact_eventgroups}
 use Rattle.sd_core.specs.KeyOrder.{instances_total, exact_instances}
 use Rattle.sd_core.specs.Keys.{instance_cmp}
 use Rattle.sd_core.specs.SeekTables.{known_at, stands_by}
-use Rattle.sd_core.specs.Wishes.{acked_wish, ended_where, ended_wish, is_answered, is_over, is_with, is_wished, nacked_wish, offered, offered_wish, stage_acked, stands_with, subscribing, unwished, wanted, wish_of, wished}
+use Rattle.sd_core.specs.Wishes.{acked_wish, ended_where, ended_wish, is_over, is_with, is_wished, nacked_wish, offered, stands_with, subscribing, unwished, wanted, wish_of, wished}
 use Rattle.someip_node.specs.Items.{Item, AckCame, NackCame, OfferCounted, OfferWithdrawn, PeerRebooted, Ticked, Unwished, Wished}
-use Rattle.someip_node.specs.Questions.{clock_at, latest, table_of}
+use Rattle.someip_node.specs.Questions.{clock_at, table_of}
 use Rattle.someip_node.specs.SeekQuestions.{instance_counted, known_in, known_offer_at}
-use Rattle.someip_node.specs.WishQuestions.{Course, acked_if, answers_to, begins_at, course_at, course_by, ended_if, eventgroup_wished, goes_on, has_lapsed, is_wished_at, known_peer_at, same_eventgroup, stage_of, subscribes_at, subscribes_if_known, wish_at, wish_from, wishes_in}
+use Rattle.someip_node.specs.WishQuestions.{Course, acked_if, answers_to, begins_at, course_at, ended_if, eventgroup_wished, goes_on, has_lapsed, is_wished_at, known_peer_at, same_eventgroup, stage_of, subscribes_at, subscribes_if_known, wish_at, wish_from, wishes_in}
 use Rattle.someip_node.proofs.QuestionLemmas.{get-named, get-table_of, table-changed, table-insert}
 
 either : {X : Type 0} (b : Bool) (x : X) → cond b x x ≡ x
@@ -219,8 +219,6 @@ unwished_ended (item ∷ before) q not_wished = cases item not_wished (unwished_
         ap (kept_if (λ x. not (is_over (clock_at before + ms) x || has_lapsed (clock_at before + ms) (known_offer_at before q.instance)))) (rest is)
     cases item is rest = rest is
 
-
-
 -- one that was never wished
 abbrev never : Course
 never = record { beginning = None; begun = 0 }
@@ -242,31 +240,36 @@ unnamed (item ∷ before) q absent = cases item absent (unnamed before q)
     cases (Wished eventgroup) absent rest =
         let parts = or_parts (same_eventgroup q eventgroup) (is_named before q) absent in
         other (same_eventgroup q eventgroup) (is_wished_at before q) (course_at before q) _ parts.0 (rest parts.1)
-    cases (Unwished eventgroup) absent rest =
-        (ap (cond (same_eventgroup q eventgroup) false) (rest absent).0 ∙ either (same_eventgroup q eventgroup) false,
-        ap (ended_if (λ _. same_eventgroup q eventgroup)) (rest absent).1)
-    cases (OfferCounted offer endpoint) absent rest =
-        ((rest absent).0,
-        ap (λ w. cond (eq_by_cmp instance_cmp q.instance offer.instance && w) (subscribes_at (clock_at before) offer.peer (course_at before q)) (course_at before q)) (rest absent).0
-        ∙ not_both (eq_by_cmp instance_cmp q.instance offer.instance) (subscribes_at (clock_at before) offer.peer (course_at before q)) (course_at before q)
-        ∙ (rest absent).1)
-    cases (AckCame answer ttl) absent rest =
-        ((rest absent).0,
-        ap (λ c. cond (same_eventgroup q answer.eventgroup) (acked_if (answers_to (clock_at before) answer) (deadline_after (clock_at before) ttl) c) c) (rest absent).1
-        ∙ either (same_eventgroup q answer.eventgroup) never)
-    cases (NackCame answer) absent rest =
-        ((rest absent).0,
-        ap (λ c. cond (same_eventgroup q answer.eventgroup) (ended_if (answers_to (clock_at before) answer) c) c) (rest absent).1
-        ∙ either (same_eventgroup q answer.eventgroup) never)
+    cases (Unwished eventgroup) absent rest = (
+      ap (cond (same_eventgroup q eventgroup) false) (rest absent).0 ∙ either (same_eventgroup q eventgroup) false,
+      ap (ended_if (λ _. same_eventgroup q eventgroup)) (rest absent).1,
+    )
+    cases (OfferCounted offer endpoint) absent rest = (
+      (rest absent).0,
+      ap (λ w. cond (eq_by_cmp instance_cmp q.instance offer.instance && w) (subscribes_at (clock_at before) offer.peer (course_at before q)) (course_at before q)) (rest absent).0
+          ∙ not_both (eq_by_cmp instance_cmp q.instance offer.instance) (subscribes_at (clock_at before) offer.peer (course_at before q)) (course_at before q)
+          ∙ (rest absent).1,
+    )
+    cases (AckCame answer ttl) absent rest = (
+      (rest absent).0,
+      ap (λ c. cond (same_eventgroup q answer.eventgroup) (acked_if (answers_to (clock_at before) answer) (deadline_after (clock_at before) ttl) c) c) (rest absent).1
+          ∙ either (same_eventgroup q answer.eventgroup) never,
+    )
+    cases (NackCame answer) absent rest = (
+      (rest absent).0,
+      ap (λ c. cond (same_eventgroup q answer.eventgroup) (ended_if (answers_to (clock_at before) answer) c) c) (rest absent).1
+          ∙ either (same_eventgroup q answer.eventgroup) never,
+    )
     cases (OfferWithdrawn instance) absent rest = ((rest absent).0, ap (ended_if (λ _. eq_by_cmp instance_cmp q.instance instance)) (rest absent).1)
     cases (PeerRebooted peer) absent rest = ((rest absent).0, ap (ended_if (is_with peer)) (rest absent).1)
-    cases (Ticked ms) absent rest =
-        ((rest absent).0,
-        ap (ended_if (λ x. is_over (clock_at before + ms) x || has_lapsed (clock_at before + ms) (known_offer_at before q.instance))) (rest absent).1)
+    cases (Ticked ms) absent rest = (
+      (rest absent).0,
+      ap (ended_if (λ x. is_over (clock_at before + ms) x || has_lapsed (clock_at before + ms) (known_offer_at before q.instance))) (rest absent).1,
+    )
     cases item absent rest = rest absent
 
 -- the wish of an eventgroup
-get-wish : (items : List Item) (q : Eventgroup) → wish_of (get (wishes_in items) q) ≡ wish_at items q
+pub get-wish : (items : List Item) (q : Eventgroup) → wish_of (get (wishes_in items) q) ≡ wish_at items q
 get-wish items q =
     ap wish_of (get-table_of eventgroups_total exact_eventgroups (flat_map eventgroup_wished items) (λ x. Some (wish_at items x)) q)
     ∙ cases (is_named items q) refl

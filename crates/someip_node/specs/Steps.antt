@@ -1,5 +1,5 @@
 -- What a node gives for an input, by its history.
-use Rattle.std.specs.Prelude.{◌≡◌, List, [], Option, None, Some, Result, Ok, Err}
+use Rattle.std.specs.Prelude.{◌≡◌, [], Option, None, Some, Result, Ok, Err}
 use Rattle.std.specs.Global.{Vec}
 use Rattle.someip_node.specs.declared.config.Config.{Config}
 use Rattle.someip_node.specs.declared.error.NodeError.{NodeError}

@@ -9,6 +9,7 @@ mod engine;
 mod entry_making;
 mod error;
 mod giving;
+pub mod laws;
 mod output;
 mod payload;
 mod sending;

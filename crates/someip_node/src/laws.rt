@@ -1,0 +1,85 @@
+//! Laws of the definitions behind the contracts. Each is the contract of a function that does
+//! nothing: it says what holds of a node by what it met, whatever code keeps its tables.
+ghost use Rattle.std.specs.Prelude.{◌≡◌, ◌≢◌, ◌↔◌, ◌<◌, ◌*◌, ◌+◌, ℕ, IsTrue, IsFalse, List, [], ◌∷◌, Option, None, Some};
+ghost use Rattle.std.specs.FinMap as finite;
+ghost use Rattle.std.specs.declared.net.ipv4_addr.Ipv4Addr.{Ipv4Addr};
+ghost use Rattle.std.specs.declared.net.socket_addr.SocketAddrV4.{SocketAddrV4};
+ghost use Rattle.sd_core.specs.declared.eventgroup.Eventgroup.{Eventgroup};
+ghost use Rattle.sd_core.specs.declared.keys.InstanceId.{InstanceId};
+ghost use Rattle.sd_core.specs.declared.subscription.Subscription.{Subscription};
+ghost use Rattle.sd_core.specs.Wishes.{wish_of};
+ghost use Rattle.someip_rpc.specs.declared.ids.CallKey.{CallKey};
+ghost use Rattle.someip_tables.specs.Lastings.{unless_passed};
+ghost use Rattle.someip_node.specs.declared.config.Config.{Config};
+ghost use Rattle.someip_node.specs.CallQuestions.{awaited_at, request_at};
+ghost use Rattle.someip_node.specs.History.{History, answers_of, met, start_of};
+ghost use Rattle.someip_node.specs.Items.{Item, OfferStopped, PeerRebooted, SubscriptionAccepted, SubscriptionStopped, Ticked, changed};
+ghost use Rattle.someip_node.specs.Lives.{is_live};
+ghost use Rattle.someip_node.specs.Plans.{Plan, Work, plain, run, work};
+ghost use Rattle.someip_node.specs.History.{historic};
+ghost use Rattle.someip_node.specs.Questions.{clock_at};
+ghost use Rattle.someip_node.specs.SeekQuestions.{known_offer_at};
+ghost use Rattle.someip_node.specs.Starts.{started_tables};
+ghost use Rattle.someip_node.specs.SubscriberQuestions.{subscribed_at};
+ghost use Rattle.someip_node.specs.WishQuestions.{wish_at};
+
+/// The tables of a node are the answers to what it met: those of a start are the tables of a start,
+/// and an item changes the answers as it changes tables.
+pub fn tables_are_answers()
+    ensures started { (config : Config) (delay : ℕ)
+        → answers_of (start_of config delay) ≡ started_tables config delay }
+    ensures met { (h : History) (item : Item)
+        → answers_of (met h item) ≡ changed (answers_of h) item }
+{}
+
+/// What a plan does with the tables of a history is what it does with the history.
+pub fn plans_ask_the_history()
+    ensures { (plan : Plan) (w : Work History) → run plain plan (work (answers_of w.state) w.outputs w.replies)
+        ≡ work (answers_of (run historic plan w).state) (run historic plan w).outputs (run historic plan w).replies }
+{}
+
+/// What a table has of a key is what the history answers of that key alone.
+pub fn tables_answer_of_each_key()
+    ensures subscriptions { (h : History) (s : Subscription)
+        → finite.get (answers_of h).subscribers s
+        ≡ unless_passed (clock_at h.items) (subscribed_at h.items s) }
+    ensures calls { (h : History) (key : CallKey)
+        → finite.get (answers_of h).client.pending key
+        ≡ unless_passed (clock_at h.items) (awaited_at h.config h.items key) }
+    ensures requests { (h : History) (token : ℕ)
+        → finite.get (answers_of h).server.requests token ≡ request_at h.items token }
+    ensures known { (h : History) (instance : InstanceId)
+        → finite.get (answers_of h).seek.known instance ≡ known_offer_at h.items instance }
+    ensures wishes { (h : History) (eventgroup : Eventgroup)
+        → wish_of (finite.get (answers_of h).wishes eventgroup) ≡ wish_at h.items eventgroup }
+{}
+
+/// A subscription that was accepted lives for its TTL in seconds, up to but not at its end; with
+/// FFFFFF it lives on (SOME/IP Service Discovery Protocol, "TTL").
+pub fn subscriptions_live_for_their_ttl()
+    ensures timed { (items : List Item) (s : Subscription) (ttl ms : ℕ) → ttl ≢ 0xFFFFFF
+        → IsTrue (is_live (Ticked ms ∷ SubscriptionAccepted s ttl ∷ items) s) ↔ (ms < 1000 * ttl) }
+    ensures forever { (items : List Item) (s : Subscription) (ms : ℕ)
+        → IsTrue (is_live (Ticked ms ∷ SubscriptionAccepted s 0xFFFFFF ∷ items) s) }
+    ensures before_the_end { (s : Subscription)
+        → IsTrue (is_live (Ticked 2999 ∷ SubscriptionAccepted s 3 ∷ []) s) }
+    ensures at_the_end { (s : Subscription)
+        → IsFalse (is_live (Ticked 3000 ∷ SubscriptionAccepted s 3 ∷ []) s) }
+{}
+
+/// A subscription ends at once with its StopSubscribe, a stop of its instance's offer and a reboot of
+/// its peer, and what is said of another one leaves it.
+pub fn subscriptions_end_early()
+    ensures stopped { (items : List Item) (s : Subscription)
+        → IsFalse (is_live (SubscriptionStopped s ∷ items) s) }
+    ensures unoffered { (items : List Item) (s : Subscription)
+        → IsFalse (is_live (OfferStopped s.instance ∷ items) s) }
+    ensures rebooted { (items : List Item) (s : Subscription)
+        → IsFalse (is_live (PeerRebooted s.peer ∷ items) s) }
+    ensures other_stopped { (items : List Item) (s other : Subscription) → s ≢ other
+        → is_live (SubscriptionStopped other ∷ items) s ≡ is_live items s }
+    ensures other_accepted { (items : List Item) (s other : Subscription) (ttl : ℕ) → s ≢ other
+        → is_live (SubscriptionAccepted other ttl ∷ items) s ≡ is_live items s }
+    ensures other_rebooted { (items : List Item) (s : Subscription) (peer : Ipv4Addr)
+        → s.peer ≢ peer → is_live (PeerRebooted peer ∷ items) s ≡ is_live items s }
+{}
