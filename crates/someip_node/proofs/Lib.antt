@@ -9,4 +9,6 @@ pub mod WishLives
 pub mod Shown
 pub mod Stands
 pub mod NamedLemmas
+pub mod TimeLemmas
 pub mod LiveLemmas
+pub mod WaitLemmas

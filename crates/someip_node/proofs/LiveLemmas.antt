@@ -1,10 +1,8 @@
 -- Until when a subscription is live.
-use Rattle.std.proofs.Common.{◌≡◌, ◌≢◌, ◌↔◌, ℕ, ◌+◌, ◌*◌, ◌<◌, ◌==◌, nat_le, Bool, true, false, not, cond, List, [], ◌∷◌, Option, None, Some, refl, ap, sym, ◌∙◌, arith}
+use Rattle.std.proofs.Common.{◌≡◌, ◌≢◌, ◌↔◌, ℕ, ◌+◌, ◌*◌, ◌<◌, Bool, true, false, not, cond, List, [], ◌∷◌, Option, None, Some, refl, ap, sym, ◌∙◌}
 use Rattle.std.specs.Option.{is_some}
 use Rattle.std.specs.Ordering.{eq_by_cmp}
 use Rattle.std.specs.declared.net.ipv4_addr.Ipv4Addr.{Ipv4Addr}
-use Rattle.std.proofs.lemmas.Bool.Decides.{nat_tests}
-use Rattle.someip_tables.specs.declared.deadline.Deadline.TheVariants.{At, Never}
 use Rattle.someip_tables.specs.declared.lasting.Lasting.{Lasting}
 use Rattle.someip_tables.specs.Deadlines.{deadline_after, has_passed}
 use Rattle.someip_tables.specs.EndpointOrder.{addresses_total, exact_addresses}
@@ -19,6 +17,7 @@ use Rattle.someip_node.specs.Items.{Item, OfferStopped, PeerRebooted, Subscripti
 use Rattle.someip_node.specs.Lives.{is_live}
 use Rattle.someip_node.specs.Questions.{clock_at}
 use Rattle.someip_node.specs.SubscriberQuestions.{stands_until, subscribed_at}
+use Rattle.someip_node.proofs.TimeLemmas.{within_ttl}
 use Rattle.someip_node.proofs.NamedLemmas.{get-subscriber}
 
 -- by what stands of it
@@ -41,24 +40,9 @@ module _ (items : List Item) (s : Subscription) (ttl ms : ℕ) where
 
 pub lives_its_ttl : (items : List Item) (s : Subscription) (ttl ms : ℕ) → ttl ≢ 0xFFFFFF
     → (is_live (Ticked ms ∷ SubscriptionAccepted s ttl ∷ items) s ≡ true) ↔ (ms < 1000 * ttl)
-lives_its_ttl items s ttl ms timed = cases (ttl == 0xFFFFFF) refl (live_until items s ttl ms)
-  where
-    now : ℕ
-    now = clock_at items
-
-    before_it : (a m k : ℕ) → not (nat_le (a + m) (a + k)) ≡ true → k < m
-    before_it a m k e = grind (arith, nat_tests)
-
-    not_yet : (a m k : ℕ) → k < m → not (nat_le (a + m) (a + k)) ≡ true
-    not_yet a m k lt = grind (arith, nat_tests)
-
-    cases : (b : Bool) → (ttl == 0xFFFFFF) ≡ b → is_live (Ticked ms ∷ SubscriptionAccepted s ttl ∷ items) s ≡ not (has_passed (now + ms) (deadline_after now ttl))
-        → (is_live (Ticked ms ∷ SubscriptionAccepted s ttl ∷ items) s ≡ true) ↔ (ms < 1000 * ttl)
-    cases true b is = absurd (timed (grind (arith, nat_tests)))
-    cases false b is =
-        let live : is_live (Ticked ms ∷ SubscriptionAccepted s ttl ∷ items) s ≡ not (nat_le (now + 1000 * ttl) (now + ms)) =
-        is ∙ ap (λ f. not (has_passed (now + ms) (cond f Never (At (now + 1000 * ttl))))) b in
-        ((λ t. before_it now (1000 * ttl) ms (sym live ∙ t)), (λ lt. live ∙ not_yet now (1000 * ttl) ms lt))
+lives_its_ttl items s ttl ms timed =
+    let within = within_ttl (clock_at items) ttl ms timed in
+    ((λ t. within.0 (sym (live_until items s ttl ms) ∙ t)), (λ lt. live_until items s ttl ms ∙ within.1 lt))
 
 pub lives_on : (items : List Item) (s : Subscription) (ms : ℕ) → is_live (Ticked ms ∷ SubscriptionAccepted s 0xFFFFFF ∷ items) s ≡ true
 lives_on items s ms = live_until items s 0xFFFFFF ms

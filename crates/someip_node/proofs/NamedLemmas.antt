@@ -19,7 +19,7 @@ use Rattle.someip_rpc.specs.declared.ids.CallKey.{CallKey}
 use Rattle.someip_rpc.specs.Ids.{call_cmp}
 use Rattle.someip_rpc.specs.IdOrder.{calls_total, exact_calls}
 use Rattle.someip_node.specs.declared.config.Config.{Config}
-use Rattle.someip_node.specs.CallQuestions.{awaited_at, awaited_from, call_made, called_by, key_of, next_token, pending_in, request_at, requests_in, tokens_in, waiting_call}
+use Rattle.someip_node.specs.CallQuestions.{awaited_at, awaited_from, call_made, called_by, key_of, next_token, pending_in, open_request_at, requests_in, tokens_in, waiting_call}
 use Rattle.someip_node.specs.Items.{Item, AnswerTaken, Answered, Called, OfferStopped, PeerRebooted, Requested, SubscriptionAccepted, SubscriptionStopped}
 use Rattle.someip_node.specs.Questions.{clock_at}
 use Rattle.someip_node.specs.SubscriberQuestions.{accepted, subscribed_at, subscribers_in}
@@ -81,14 +81,14 @@ module _ (config : Config) where
 abbrev is_given : List Item → ℕ → Bool
 is_given items token = list_any (eq_by_cmp nat_cmp token) (tokens_in items)
 
-unrequested : (items : List Item) (token : ℕ) → is_given items token ≡ false → request_at items token ≡ None
+unrequested : (items : List Item) (token : ℕ) → is_given items token ≡ false → open_request_at items token ≡ None
 unrequested [] token absent = refl
 unrequested (item ∷ before) token absent = cases item absent (unrequested before token)
   where
-    cases : (item : Item) → is_given (item ∷ before) token ≡ false → (is_given before token ≡ false → request_at before token ≡ None) → request_at (item ∷ before) token ≡ None
+    cases : (item : Item) → is_given (item ∷ before) token ≡ false → (is_given before token ≡ false → open_request_at before token ≡ None) → open_request_at (item ∷ before) token ≡ None
     cases (Requested request) absent rest = let parts = or_parts (eq_by_cmp nat_cmp token (next_token before)) (is_given before token) absent in rw parts.0 (rest parts.1)
-    cases (Answered own) absent rest = still_none (eq_by_cmp nat_cmp token own) (request_at before token) (rest absent)
+    cases (Answered own) absent rest = still_none (eq_by_cmp nat_cmp token own) (open_request_at before token) (rest absent)
     cases item absent rest = rest absent
 
-pub get-request : (items : List Item) (token : ℕ) → get (requests_in items) token ≡ request_at items token
-get-request items token = get-named nat_cmp_total exact_unsigned (tokens_in items) (request_at items) token (unrequested items token)
+pub get-request : (items : List Item) (token : ℕ) → get (requests_in items) token ≡ open_request_at items token
+get-request items token = get-named nat_cmp_total exact_unsigned (tokens_in items) (open_request_at items) token (unrequested items token)

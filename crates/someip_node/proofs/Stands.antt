@@ -1,5 +1,5 @@
 -- A node that stands for a history.
-use Rattle.std.proofs.Common.{◌≡◌, ℕ, Bool, true, false, cond, ◌||◌, if◌then◌else◌, List, [], ◌∷◌, map, Option, None, Some, Ok, Err, refl, ap, sym, ◌∙◌}
+use Rattle.std.proofs.Common.{◌≡◌, ℕ, Bool, true, false, cond, ◌||◌, if◌then◌else◌, List, [], ◌∷◌, map, Option, None, Some, Ok, refl, ap, sym, ◌∙◌}
 use Rattle.std.specs.List.{list_any}
 use Rattle.std.specs.Option.{option_and_then}
 use Rattle.std.specs.Ordering.{eq_by_cmp}
@@ -14,8 +14,6 @@ use Rattle.sd_core.specs.Shown.{each}
 use Rattle.sd_core.proofs.ShownLemmas.{get-shown}
 use Rattle.someip_tables.specs.Tables.{map_of}
 use Rattle.someip_node.specs.declared.config.Config.{Config}
-use Rattle.someip_node.specs.declared.error.NodeError.{NodeError}
-use Rattle.someip_node.specs.declared.error.NodeError.TheVariants.{OutOfMemory}
 use Rattle.someip_node.specs.declared.giving.Giving.{Giving}
 use Rattle.someip_node.specs.History.{History, answers_of, historic, start_of}
 use Rattle.someip_node.specs.Inputs.{Input, plan_of, refusal_of}
@@ -23,7 +21,7 @@ use Rattle.someip_node.specs.OfferQuestions.{version_of}
 use Rattle.someip_node.specs.Plans.{Work, plain, run, work}
 use Rattle.someip_node.specs.Questions.{table_of}
 use Rattle.someip_node.specs.Starts.{started_tables}
-use Rattle.someip_node.specs.Steps.{Gives, NodeView, StandsFor, from, step}
+use Rattle.someip_node.specs.Steps.{Gives, NodeView, StandsFor, step, work_on}
 use Rattle.someip_node.specs.Tables.{Tables}
 use Rattle.someip_node.specs.Working.{working}
 use Rattle.someip_node.proofs.QuestionLemmas.{get-table_of}
@@ -72,6 +70,10 @@ pub stands : (failed : Bool) (t : Tables) (h : History) → failed ≡ false →
 stands true t h works is = absurd (cc)
 stands false t h works is = ap (seen false) is
 
+-- a node that was started has met nothing
+pub started_stands : (config : Config) (delay : ℕ) (t : Tables) → t ≡ started_tables config delay → StandsFor (seen false t) (start_of config delay)
+started_stands config delay t is = stands false t (start_of config delay) refl (is ∙ sym (answers_started config delay))
+
 pub none_of : {X : Type 0} (v : Option X) → ((x : X) → v ≡ Some x → ⊥) → v ≡ None
 none_of None not = refl
 none_of (Some x) not = absurd (not x refl)
@@ -92,13 +94,5 @@ module _ (h : History) (input : Input) (old : Tables) (is : old ≡ answers_of h
       → working new after ≡ run plain (plan_of input) (working old before) → Gives h (step h input) (Ok after.outputs) (seen false new)
   done_given new before after fine no_outputs no_replies done =
       rw (ap (refusal_of input) (sym is) ∙ fine)
-      (given (run historic (plan_of input) (from h)) new after
-      (done ∙ ap (run plain (plan_of input)) (working_none old before no_outputs no_replies ∙ ap (λ t. work t [] []) is) ∙ sym (run_shown (plan_of input) (from h))))
-
-  -- or memory ran out
-  pub failure_given : (error : NodeError) (new : NodeView) → refusal_of input old ≡ None → error ≡ OutOfMemory → new.tables ≡ None → Gives h (step h input) (Err error) new
-  failure_given error new fine memory failed = rw (ap (refusal_of input) (sym is) ∙ fine) (memory, failed)
-
-  -- one that is refused leaves the node as it was
-  pub refusal_given : (error : NodeError) (new : Tables) → refusal_of input old ≡ Some error → new ≡ old → Gives h (step h input) (Err error) (seen false new)
-  refusal_given error new refused same = rw (ap (refusal_of input) (sym is) ∙ refused) (refl, ap (seen false) (same ∙ is))
+      (given (run historic (plan_of input) (work_on h)) new after
+      (done ∙ ap (run plain (plan_of input)) (working_none old before no_outputs no_replies ∙ ap (λ t. work t [] []) is) ∙ sym (run_shown (plan_of input) (work_on h))))

@@ -33,7 +33,7 @@ use Rattle.sd_core.specs.Wishes.{acked_wish, ended_where, ended_wish, is_over, i
 use Rattle.someip_node.specs.Items.{Item, AckCame, NackCame, OfferCounted, OfferWithdrawn, PeerRebooted, Ticked, Unwished, Wished}
 use Rattle.someip_node.specs.Questions.{clock_at, table_of}
 use Rattle.someip_node.specs.SeekQuestions.{instance_counted, known_in, known_offer_at}
-use Rattle.someip_node.specs.WishQuestions.{Course, acked_if, answers_to, begins_at, course_at, ended_if, eventgroup_wished, goes_on, has_lapsed, is_wished_at, known_peer_at, same_eventgroup, stage_of, subscribes_at, subscribes_if_known, wish_at, wish_from, wishes_in}
+use Rattle.someip_node.specs.WishQuestions.{Course, acked_if, is_answered_by, begins_at, course_at, ended_if, eventgroup_wished, goes_on, has_lapsed, is_wished_at, known_peer_at, same_eventgroup, stage_of, subscribes_at, subscribes_if_known, wish_at, wish_from, wishes_in}
 use Rattle.someip_node.proofs.QuestionLemmas.{get-named, get-table_of, table-changed, table-insert}
 
 either : {X : Type 0} (b : Bool) (x : X) → cond b x x ≡ x
@@ -142,7 +142,7 @@ offered_is now peer true true c = subscribes_is now peer c ∙ cases c.beginning
     cases (Some x) = refl
 
 acked_is : (now : ℕ) (answer : SubscribeAnswer) (ttl : ℕ) (w : Bool) (c : Course)
-    → wish_from w (acked_if (answers_to now answer) (deadline_after now ttl) c) ≡ acked_wish now answer ttl (wish_from w c)
+    → wish_from w (acked_if (is_answered_by now answer) (deadline_after now ttl) c) ≡ acked_wish now answer ttl (wish_from w c)
 acked_is now answer ttl w c = cases w c.beginning
   where
     until : Deadline
@@ -154,16 +154,16 @@ acked_is now answer ttl w c = cases w c.beginning
     at x false = refl
 
     cases : (w : Bool) (b : Option Beginning)
-        → record { stage = stage_of w (option_map (λ x. cond (answers_to now answer x) (record x { until = Some until }) x) b); next_counter = c.begun % 16 }
+        → record { stage = stage_of w (option_map (λ x. cond (is_answered_by now answer x) (record x { until = Some until }) x) b); next_counter = c.begun % 16 }
         ≡ acked_wish now answer ttl (record { stage = stage_of w b; next_counter = c.begun % 16 })
     cases false b = refl
     cases true None = refl
-    cases true (Some x) = at x (answers_to now answer x)
+    cases true (Some x) = at x (is_answered_by now answer x)
 
-nacked_is : (now : ℕ) (answer : SubscribeAnswer) (w : Bool) (c : Course) → wish_from w (ended_if (answers_to now answer) c) ≡ nacked_wish now answer (wish_from w c)
-nacked_is now answer w c = ended_is w (answers_to now answer) c ∙ cases w c.beginning
+nacked_is : (now : ℕ) (answer : SubscribeAnswer) (w : Bool) (c : Course) → wish_from w (ended_if (is_answered_by now answer) c) ≡ nacked_wish now answer (wish_from w c)
+nacked_is now answer w c = ended_is w (is_answered_by now answer) c ∙ cases w c.beginning
   where
-    cases : (w : Bool) (b : Option Beginning) → ended_wish (answers_to now answer) (record { stage = stage_of w b; next_counter = c.begun % 16 })
+    cases : (w : Bool) (b : Option Beginning) → ended_wish (is_answered_by now answer) (record { stage = stage_of w b; next_counter = c.begun % 16 })
         ≡ nacked_wish now answer (record { stage = stage_of w b; next_counter = c.begun % 16 })
     cases false b = refl
     cases true None = refl
@@ -210,9 +210,9 @@ unwished_ended (item ∷ before) q not_wished = cases item not_wished (unwished_
         ∙ rest is
     cases (AckCame answer ttl) is rest =
         one_of (same_eventgroup q answer.eventgroup) (course_at before q) _ (rest is)
-        (ap (option_map (λ x. cond (answers_to (clock_at before) answer x) (record x { until = Some (deadline_after (clock_at before) ttl) }) x)) (rest is))
+        (ap (option_map (λ x. cond (is_answered_by (clock_at before) answer x) (record x { until = Some (deadline_after (clock_at before) ttl) }) x)) (rest is))
     cases (NackCame answer) is rest =
-        one_of (same_eventgroup q answer.eventgroup) (course_at before q) _ (rest is) (ap (kept_if (λ x. not (answers_to (clock_at before) answer x))) (rest is))
+        one_of (same_eventgroup q answer.eventgroup) (course_at before q) _ (rest is) (ap (kept_if (λ x. not (is_answered_by (clock_at before) answer x))) (rest is))
     cases (OfferWithdrawn instance) is rest = ap (kept_if (λ _. not (eq_by_cmp instance_cmp q.instance instance))) (rest is)
     cases (PeerRebooted peer) is rest = ap (kept_if (λ x. not (is_with peer x))) (rest is)
     cases (Ticked ms) is rest =
@@ -252,12 +252,12 @@ unnamed (item ∷ before) q absent = cases item absent (unnamed before q)
     )
     cases (AckCame answer ttl) absent rest = (
       (rest absent).0,
-      ap (λ c. cond (same_eventgroup q answer.eventgroup) (acked_if (answers_to (clock_at before) answer) (deadline_after (clock_at before) ttl) c) c) (rest absent).1
+      ap (λ c. cond (same_eventgroup q answer.eventgroup) (acked_if (is_answered_by (clock_at before) answer) (deadline_after (clock_at before) ttl) c) c) (rest absent).1
           ∙ either (same_eventgroup q answer.eventgroup) never,
     )
     cases (NackCame answer) absent rest = (
       (rest absent).0,
-      ap (λ c. cond (same_eventgroup q answer.eventgroup) (ended_if (answers_to (clock_at before) answer) c) c) (rest absent).1
+      ap (λ c. cond (same_eventgroup q answer.eventgroup) (ended_if (is_answered_by (clock_at before) answer) c) c) (rest absent).1
           ∙ either (same_eventgroup q answer.eventgroup) never,
     )
     cases (OfferWithdrawn instance) absent rest = ((rest absent).0, ap (ended_if (λ _. eq_by_cmp instance_cmp q.instance instance)) (rest absent).1)

@@ -103,16 +103,16 @@ tokens_in [] = []
 tokens_in (item ∷ before) = token_given item before (tokens_in before)
 
 -- the request of a token: it was handed up under it, and was not answered since
-abbrev pub request_by : Item → List Item → ℕ → Option Asked → Option Asked
-request_by (Requested request) before q stood = if eq_by_cmp nat_cmp q (next_token before) then Some request else stood
-request_by (Answered token) before q stood = if eq_by_cmp nat_cmp q token then None else stood
-request_by item before q stood = stood
+abbrev pub open_request_by : Item → List Item → ℕ → Option Asked → Option Asked
+open_request_by (Requested request) before q stood = if eq_by_cmp nat_cmp q (next_token before) then Some request else stood
+open_request_by (Answered token) before q stood = if eq_by_cmp nat_cmp q token then None else stood
+open_request_by item before q stood = stood
 
-abbrev pub request_at : List Item → ℕ → Option Asked
-request_at = latest request_by (λ _. None)
+abbrev pub open_request_at : List Item → ℕ → Option Asked
+open_request_at = latest open_request_by (λ _. None)
 
 abbrev pub requests_in : List Item → OpenRequests
-requests_in items = table_of (tokens_in items) (request_at items)
+requests_in items = table_of (tokens_in items) (open_request_at items)
 
 -- ---- events
 

@@ -20,13 +20,13 @@ abbrev pub StandsFor : NodeView → History → Type 0
 StandsFor node h = node ≡ record { config = h.config; tables = Some (answers_of h) }
 
 -- nothing was given yet
-abbrev pub from : History → Work History
-from h = record { state = h; outputs = []; replies = [] }
+abbrev pub work_on : History → Work History
+work_on h = record { state = h; outputs = []; replies = [] }
 
 -- what is done with an input unless it is refused, and the history with it
 abbrev pub unless_refused : Option NodeError → Plan → History → Result (Work History) NodeError
 unless_refused (Some refusal) plan h = Err refusal
-unless_refused None plan h = Ok (run historic plan (from h))
+unless_refused None plan h = Ok (run historic plan (work_on h))
 
 abbrev pub step : History → Input → Result (Work History) NodeError
 step h input = unless_refused (refusal_of input (answers_of h)) (plan_of input) h

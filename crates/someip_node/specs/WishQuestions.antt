@@ -71,8 +71,8 @@ subscribes_if_known now None course = course
 subscribes_if_known now (Some peer) course = subscribes_at now peer course
 
 -- an Ack or a Nack answers a subscription at a moment
-abbrev pub answers_to : ℕ → SubscribeAnswer → Beginning → Bool
-answers_to now answer beginning = is_answered now answer (Begun beginning)
+abbrev pub is_answered_by : ℕ → SubscribeAnswer → Beginning → Bool
+is_answered_by now answer beginning = is_answered now answer (Begun beginning)
 
 -- an Ack that answers it gives it a deadline
 abbrev pub acked_if : (Beginning → Bool) → Deadline → Course → Course
@@ -96,9 +96,9 @@ course_by (OfferCounted offer endpoint) before q stood =
 course_by (Wished eventgroup) before q stood =
     if same_eventgroup q eventgroup then subscribes_if_known (clock_at before) (known_peer_at before eventgroup.instance) stood else stood
 course_by (AckCame answer ttl) before q stood =
-    if same_eventgroup q answer.eventgroup then acked_if (answers_to (clock_at before) answer) (deadline_after (clock_at before) ttl) stood else stood
+    if same_eventgroup q answer.eventgroup then acked_if (is_answered_by (clock_at before) answer) (deadline_after (clock_at before) ttl) stood else stood
 course_by (NackCame answer) before q stood =
-    if same_eventgroup q answer.eventgroup then ended_if (answers_to (clock_at before) answer) stood else stood
+    if same_eventgroup q answer.eventgroup then ended_if (is_answered_by (clock_at before) answer) stood else stood
 course_by (Unwished eventgroup) before q stood = ended_if (λ _. same_eventgroup q eventgroup) stood
 course_by (OfferWithdrawn instance) before q stood = ended_if (λ _. eq_by_cmp instance_cmp q.instance instance) stood
 course_by (PeerRebooted peer) before q stood = ended_if (is_with peer) stood

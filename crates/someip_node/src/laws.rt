@@ -6,17 +6,19 @@ ghost use Rattle.std.specs.declared.net.ipv4_addr.Ipv4Addr.{Ipv4Addr};
 ghost use Rattle.std.specs.declared.net.socket_addr.SocketAddrV4.{SocketAddrV4};
 ghost use Rattle.sd_core.specs.declared.eventgroup.Eventgroup.{Eventgroup};
 ghost use Rattle.sd_core.specs.declared.keys.InstanceId.{InstanceId};
+ghost use Rattle.sd_core.specs.declared.received.ReceivedOffer.{ReceivedOffer};
 ghost use Rattle.sd_core.specs.declared.subscription.Subscription.{Subscription};
 ghost use Rattle.sd_core.specs.Wishes.{wish_of};
+ghost use Rattle.someip_rpc.specs.declared.call.Call.{Call};
+ghost use Rattle.someip_rpc.specs.declared.call.CallKind.TheVariants.{Request};
 ghost use Rattle.someip_rpc.specs.declared.ids.CallKey.{CallKey};
 ghost use Rattle.someip_tables.specs.Lastings.{unless_passed};
 ghost use Rattle.someip_node.specs.declared.config.Config.{Config};
-ghost use Rattle.someip_node.specs.CallQuestions.{awaited_at, request_at};
-ghost use Rattle.someip_node.specs.History.{History, answers_of, met, start_of};
-ghost use Rattle.someip_node.specs.Items.{Item, OfferStopped, PeerRebooted, SubscriptionAccepted, SubscriptionStopped, Ticked, changed};
-ghost use Rattle.someip_node.specs.Lives.{is_live};
+ghost use Rattle.someip_node.specs.CallQuestions.{awaited_at, key_of, open_request_at};
+ghost use Rattle.someip_node.specs.History.{History, answers_of, historic, met, start_of};
+ghost use Rattle.someip_node.specs.Items.{Item, AnswerTaken, Called, OfferCounted, OfferStopped, OfferWithdrawn, PeerRebooted, SubscriptionAccepted, SubscriptionStopped, Ticked, changed};
+ghost use Rattle.someip_node.specs.Lives.{is_known, is_live, is_waiting};
 ghost use Rattle.someip_node.specs.Plans.{Plan, Work, plain, run, work};
-ghost use Rattle.someip_node.specs.History.{historic};
 ghost use Rattle.someip_node.specs.Questions.{clock_at};
 ghost use Rattle.someip_node.specs.SeekQuestions.{known_offer_at};
 ghost use Rattle.someip_node.specs.Starts.{started_tables};
@@ -47,7 +49,7 @@ pub fn tables_answer_of_each_key()
         → finite.get (answers_of h).client.pending key
         ≡ unless_passed (clock_at h.items) (awaited_at h.config h.items key) }
     ensures requests { (h : History) (token : ℕ)
-        → finite.get (answers_of h).server.requests token ≡ request_at h.items token }
+        → finite.get (answers_of h).server.requests token ≡ open_request_at h.items token }
     ensures known { (h : History) (instance : InstanceId)
         → finite.get (answers_of h).seek.known instance ≡ known_offer_at h.items instance }
     ensures wishes { (h : History) (eventgroup : Eventgroup)
@@ -82,4 +84,26 @@ pub fn subscriptions_end_early()
         → is_live (SubscriptionAccepted other ttl ∷ items) s ≡ is_live items s }
     ensures other_rebooted { (items : List Item) (s : Subscription) (peer : Ipv4Addr)
         → s.peer ≢ peer → is_live (PeerRebooted peer ∷ items) s ≡ is_live items s }
+{}
+
+/// A call with a return waits for its answer as long as a call may wait, up to but not at the end of
+/// that time, and no longer once its answer was taken.
+pub fn calls_wait_for_their_time()
+    ensures timed { (config : Config) (items : List Item) (call : Call) (peer : SocketAddrV4)
+        (session ms : ℕ) → call.kind ≡ Request
+        → IsTrue (is_waiting config (Ticked ms ∷ Called call peer session ∷ items) (key_of call session))
+        ↔ (ms < config.common.call_timeout_ms) }
+    ensures answered { (config : Config) (items : List Item) (key : CallKey)
+        → IsFalse (is_waiting config (AnswerTaken key ∷ items) key) }
+{}
+
+/// An offer that counted is known for its TTL in seconds, up to but not at its end, and no longer once
+/// a StopOffer came (SOME/IP Service Discovery Protocol, "TTL", "Stop Offer Service entry").
+pub fn offers_are_known_for_their_ttl()
+    ensures timed { (items : List Item) (offer : ReceivedOffer) (endpoint : SocketAddrV4) (ms : ℕ)
+        → offer.ttl ≢ 0xFFFFFF
+        → IsTrue (is_known (Ticked ms ∷ OfferCounted offer endpoint ∷ items) offer.instance)
+        ↔ (ms < 1000 * offer.ttl) }
+    ensures withdrawn { (items : List Item) (instance : InstanceId)
+        → IsFalse (is_known (OfferWithdrawn instance ∷ items) instance) }
 {}
