@@ -23,3 +23,4 @@ pub mod History
 pub mod Starts
 pub mod Steps
 pub mod Lives
+pub mod HistoryExamples

@@ -12,11 +12,13 @@ ghost use Rattle.sd_core.specs.Wishes.{wish_of};
 ghost use Rattle.someip_rpc.specs.declared.call.Call.{Call};
 ghost use Rattle.someip_rpc.specs.declared.call.CallKind.TheVariants.{Request};
 ghost use Rattle.someip_rpc.specs.declared.ids.CallKey.{CallKey};
+ghost use Rattle.someip_tables.specs.declared.deadline.Deadline.TheVariants.{At};
 ghost use Rattle.someip_tables.specs.Lastings.{unless_passed};
 ghost use Rattle.someip_node.specs.declared.config.Config.{Config};
 ghost use Rattle.someip_node.specs.CallQuestions.{awaited_at, key_of, open_request_at};
 ghost use Rattle.someip_node.specs.History.{History, answers_of, historic, met, start_of};
-ghost use Rattle.someip_node.specs.Items.{Item, AnswerTaken, Called, OfferCounted, OfferStopped, OfferWithdrawn, PeerRebooted, SubscriptionAccepted, SubscriptionStopped, Ticked, changed};
+ghost use Rattle.someip_node.specs.HistoryExamples.{ack_of, acked_after, begun_with, endpoint, eventgroup, offer_for, other_server, server, subscribing_with, waiting_with};
+ghost use Rattle.someip_node.specs.Items.{Item, AckCame, AnswerTaken, Called, NackCame, OfferCounted, OfferStopped, OfferWithdrawn, PeerRebooted, SubscriptionAccepted, SubscriptionStopped, Ticked, changed};
 ghost use Rattle.someip_node.specs.Lives.{is_known, is_live, is_waiting};
 ghost use Rattle.someip_node.specs.Plans.{Plan, Work, plain, run, work};
 ghost use Rattle.someip_node.specs.Questions.{clock_at};
@@ -106,4 +108,25 @@ pub fn offers_are_known_for_their_ttl()
         ↔ (ms < 1000 * offer.ttl) }
     ensures withdrawn { (items : List Item) (instance : InstanceId)
         → IsFalse (is_known (OfferWithdrawn instance ∷ items) instance) }
+{}
+
+/// Examples: a client wishes an eventgroup, and its instance is offered; the Subscribe has the counter
+/// 0, and is acknowledged for 3 seconds. The subscription ends with these, or with an offer of 2 seconds,
+/// or as the server begins again. The next one has the counter 1.
+pub fn wishes_by_example()
+    ensures begins { wish_at (subscribing_with 10) eventgroup ≡ begun_with 0 None }
+    ensures before_the_end { wish_at (acked_after 10 2999) eventgroup ≡ begun_with 0 (Some (At 3000)) }
+    ensures at_the_end { wish_at (acked_after 10 3000) eventgroup ≡ waiting_with 1 }
+    ensures with_the_offer { wish_at (acked_after 2 2000) eventgroup ≡ waiting_with 1 }
+    ensures renewed { wish_at (OfferCounted (offer_for 10) endpoint ∷ acked_after 10 2999) eventgroup
+        ≡ begun_with 0 (Some (At 3000)) }
+    ensures begins_again { wish_at (OfferCounted (offer_for 10) endpoint ∷ acked_after 10 3000) eventgroup
+        ≡ begun_with 1 None }
+    ensures other_counter { wish_at (AckCame (ack_of 1) 3 ∷ subscribing_with 10) eventgroup
+        ≡ begun_with 0 None }
+    ensures server_rebooted { wish_at (PeerRebooted server ∷ acked_after 10 2999) eventgroup
+        ≡ waiting_with 1 }
+    ensures other_rebooted { wish_at (PeerRebooted other_server ∷ acked_after 10 2999) eventgroup
+        ≡ begun_with 0 (Some (At 3000)) }
+    ensures refused { wish_at (NackCame (ack_of 0) ∷ subscribing_with 10) eventgroup ≡ waiting_with 1 }
 {}
