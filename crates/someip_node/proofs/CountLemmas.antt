@@ -41,3 +41,13 @@ module _ {K : Type 0} {R : K → K → Ordering} (o : IsTotalOrder R) (exact : I
           ≡ cond t (Some after) (Some (f (length (filter (eq_by_cmp R q) ks))))
       at q true is = ap (λ x. Some (f (suc (length (filter (eq_by_cmp R x) ks))))) (same_by_test exact q k is) ∙ sym (ap Some given)
       at q false is = refl
+
+  -- what follows from how often a key was named, where no entry is as good as none before the first
+  pub get-counted : {V W : Type 0} (f : ℕ → V) (h : Option V → W) (ks : List K) (k : K) → h None ≡ h (Some (f 0))
+      → h (get (table_of {R = R} ks (λ q. Some (f (length (filter (eq_by_cmp R q) ks))))) k) ≡ h (Some (f (length (filter (eq_by_cmp R k) ks))))
+  get-counted f h ks k none = ap h (get-table_of o exact ks (λ q. Some (f (length (filter (eq_by_cmp R q) ks)))) k) ∙ cases (list_any (eq_by_cmp R k) ks) refl
+    where
+      cases : (b : Bool) → list_any (eq_by_cmp R k) ks ≡ b
+          → h (cond b (Some (f (length (filter (eq_by_cmp R k) ks)))) None) ≡ h (Some (f (length (filter (eq_by_cmp R k) ks))))
+      cases true is = refl
+      cases false is = none ∙ ap (λ n. h (Some (f n))) (sym (none_there k ks is))

@@ -31,6 +31,9 @@ unheard (item ∷ before) q absent = cases item absent (unheard before q)
         let parts = or_parts (eq_by_cmp address_cmp q peer) (list_any (eq_by_cmp address_cmp q) (flat_map peer_heard before)) absent in rw parts.0 (rest parts.1)
     cases item absent rest = rest absent
 
+pub get-peer : (items : List Item) (peer : Ipv4Addr) → get (peers_in items) peer ≡ stamps_at items peer
+get-peer items peer = get-named addresses_total exact_addresses (flat_map peer_heard items) (stamps_at items) peer (unheard items peer)
+
 module _ (items : List Item) where
   pub peers_heard : (peer : Ipv4Addr) (channel : Channel) (stamp : Stamp)
       → peers_in (PeerHeard peer channel stamp ∷ items) ≡ insert (peers_in items) peer (stamps_after channel stamp (stamps_of (peers_in items) peer))
@@ -40,12 +43,9 @@ module _ (items : List Item) where
       after : Option Stamps → Stamps
       after stood = stamps_after channel stamp (stamps_or_none stood)
 
-      known : get (peers_in items) peer ≡ stamps_at items peer
-      known = get-named addresses_total exact_addresses (flat_map peer_heard items) (stamps_at items) peer (unheard items peer)
-
       at : (q : Ipv4Addr) (t : Bool) → eq_by_cmp address_cmp q peer ≡ t
           → cond t (Some (after (stamps_at items q))) (stamps_at items q) ≡ cond t (Some (after (get (peers_in items) peer))) (stamps_at items q)
-      at q true is = ap (λ v. Some (after v)) (ap (stamps_at items) (same_by_test exact_addresses q peer is) ∙ sym known)
+      at q true is = ap (λ v. Some (after v)) (ap (stamps_at items) (same_by_test exact_addresses q peer is) ∙ sym (get-peer items peer))
       at q false is = refl
 
   pub unicast_addressed : (peer : Ipv4Addr) → unicast_in (PeerAddressed peer ∷ items) ≡ insert (unicast_in items) peer (following (stamp_for (unicast_in items) peer))

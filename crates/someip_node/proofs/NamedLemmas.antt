@@ -1,5 +1,5 @@
 -- What the tables of a history have of a key is what the history answers of it.
-use Rattle.std.proofs.Common.{◌≡◌, ℕ, Bool, true, false, cond, List, [], ◌∷◌, ◌++◌, Option, None, refl, ap}
+use Rattle.std.proofs.Common.{◌≡◌, ℕ, suc, Bool, true, false, cond, List, [], ◌∷◌, ◌++◌, Option, None, refl, ap}
 use Rattle.std.specs.List.{flat_map, list_any}
 use Rattle.std.specs.Ordering.{eq_by_cmp, nat_cmp}
 use Rattle.std.specs.Cmp.{nat_cmp_total}
@@ -16,13 +16,22 @@ use Rattle.someip_rpc.specs.declared.call.Awaited.{Awaited}
 use Rattle.someip_rpc.specs.declared.call.CallKind.{CallKind}
 use Rattle.someip_rpc.specs.declared.call.CallKind.TheVariants.{Request, RequestNoReturn}
 use Rattle.someip_rpc.specs.declared.ids.CallKey.{CallKey}
-use Rattle.someip_rpc.specs.Ids.{call_cmp}
-use Rattle.someip_rpc.specs.IdOrder.{calls_total, exact_calls}
+use Rattle.someip_rpc.specs.declared.ids.EventId.{EventId}
+use Rattle.someip_rpc.specs.declared.ids.MessageId.{MessageId}
+use Rattle.someip_rpc.specs.Ids.{call_cmp, message_cmp}
+use Rattle.someip_rpc.specs.Sessions.{next_of, session_after, session_after_last}
+use Rattle.someip_rpc.specs.IdOrder.{calls_total, exact_calls, events_total, exact_events, messages_total, exact_messages}
+use Rattle.sd_session.specs.Sessions.{after_uses}
+use Rattle.someip_tables.specs.EndpointOrder.{addresses_total, exact_addresses}
+use Rattle.std.specs.declared.net.ipv4_addr.Ipv4Addr.{Ipv4Addr}
 use Rattle.someip_node.specs.declared.config.Config.{Config}
-use Rattle.someip_node.specs.CallQuestions.{awaited_at, awaited_from, call_made, called_by, key_of, next_token, pending_in, open_request_at, requests_in, tokens_in, waiting_call}
+use Rattle.someip_node.specs.CallQuestions.{awaited_at, awaited_from, call_made, call_sessions_in, event_published, event_sessions_in, last_session_at, message_called, times_published, called_by, key_of, next_token, pending_in, open_request_at, requests_in, tokens_in, waiting_call}
+use Rattle.someip_node.specs.DiscoveryQuestions.{messages_to, peer_addressed, unicast_in}
 use Rattle.someip_node.specs.Items.{Item, AnswerTaken, Answered, Called, OfferStopped, PeerRebooted, Requested, SubscriptionAccepted, SubscriptionStopped}
 use Rattle.someip_node.specs.Questions.{clock_at}
 use Rattle.someip_node.specs.SubscriberQuestions.{accepted, subscribed_at, subscribers_in}
+use Rattle.someip_node.specs.Tables.{stamp_for, stamp_or_first}
+use Rattle.someip_node.proofs.CountLemmas.{get-counted}
 use Rattle.someip_node.proofs.QuestionLemmas.{get-named}
 
 -- what ends leaves nothing where nothing stood
@@ -92,3 +101,27 @@ unrequested (item ∷ before) token absent = cases item absent (unrequested befo
 
 pub get-request : (items : List Item) (token : ℕ) → get (requests_in items) token ≡ open_request_at items token
 get-request items token = get-named nat_cmp_total exact_unsigned (tokens_in items) (open_request_at items) token (unrequested items token)
+
+-- ---- sessions and stamps
+
+abbrev is_called : List Item → MessageId → Bool
+is_called items message = list_any (eq_by_cmp message_cmp message) (flat_map message_called items)
+
+uncalled : (items : List Item) (message : MessageId) → is_called items message ≡ false → last_session_at items message ≡ None
+uncalled [] message absent = refl
+uncalled (item ∷ before) message absent = cases item absent (uncalled before message)
+  where
+    cases : (item : Item) → is_called (item ∷ before) message ≡ false → (is_called before message ≡ false → last_session_at before message ≡ None)
+        → last_session_at (item ∷ before) message ≡ None
+    cases (Called call peer session) absent rest = let parts = or_parts (eq_by_cmp message_cmp message call.message) (is_called before message) absent in rw parts.0 (rest parts.1)
+    cases item absent rest = rest absent
+
+pub get-session : (items : List Item) (message : MessageId) → get (call_sessions_in items) message ≡ last_session_at items message
+get-session items message = get-named messages_total exact_messages (flat_map message_called items) (last_session_at items) message (uncalled items message)
+
+pub next-event_session : (items : List Item) (event : EventId) → next_of (event_sessions_in items) event ≡ session_after (suc (times_published items event)) 0
+next-event_session items event =
+    get-counted events_total exact_events (λ n. session_after n 0) session_after_last (flat_map event_published items) event refl
+
+pub stamp-next : (items : List Item) (peer : Ipv4Addr) → stamp_for (unicast_in items) peer ≡ after_uses (messages_to items peer)
+stamp-next items peer = get-counted addresses_total exact_addresses after_uses stamp_or_first (flat_map peer_addressed items) peer refl

@@ -1,7 +1,7 @@
 -- What a node does with its tables is what it does by its history.
 use Rattle.std.proofs.Common.{◌≡◌, List, [], ◌∷◌, ◌++◌, refl, ap, ◌∙◌}
 use Rattle.std.specs.List.{flat_map, fold}
-use Rattle.someip_node.specs.History.{History, answers_of, historic, met}
+use Rattle.someip_node.specs.History.{History, answers_of, historic, met, shown}
 use Rattle.someip_node.specs.Items.{Item, AckCame, AnswerTaken, Answered, Called, GroupAddressed, MessageTaken, NackCame, OfferCounted, OfferStopped, OfferWithdrawn, PeerAddressed, PeerHeard, PeerRebooted, Published, Requested, SegmentOffered, SubscriptionAccepted, SubscriptionStopped, Ticked, Unwished, Wished, changed}
 use Rattle.someip_node.specs.Outcomes.{Outcome}
 use Rattle.someip_node.specs.Outputs.{written}
@@ -62,10 +62,6 @@ answers_met_all h [] = refl
 answers_met_all h (item ∷ items) = answers_met_all (met h item) items ∙ ap (λ t. fold changed t items) (answers_met h item)
 
 -- ---- plans
-
--- work by a history, as its tables show it
-abbrev pub shown : Work History → Work Tables
-shown w = work (answers_of w.state) w.outputs w.replies
 
 pub does_shown : (outcome : Tables → Outcome) (w : Work History) → shown (does historic outcome w) ≡ does plain outcome (shown w)
 does_shown outcome w =

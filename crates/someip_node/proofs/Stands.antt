@@ -15,7 +15,7 @@ use Rattle.sd_core.proofs.ShownLemmas.{get-shown}
 use Rattle.someip_tables.specs.Tables.{map_of}
 use Rattle.someip_node.specs.declared.config.Config.{Config}
 use Rattle.someip_node.specs.declared.giving.Giving.{Giving}
-use Rattle.someip_node.specs.History.{History, answers_of, historic, start_of}
+use Rattle.someip_node.specs.History.{History, answers_of, historic, shown, start_of}
 use Rattle.someip_node.specs.Inputs.{Input, plan_of, refusal_of}
 use Rattle.someip_node.specs.OfferQuestions.{version_of}
 use Rattle.someip_node.specs.Plans.{Work, plain, run, work}
@@ -25,7 +25,7 @@ use Rattle.someip_node.specs.Steps.{Gives, NodeView, StandsFor, step, work_on}
 use Rattle.someip_node.specs.Tables.{Tables}
 use Rattle.someip_node.specs.Working.{working}
 use Rattle.someip_node.proofs.QuestionLemmas.{get-table_of}
-use Rattle.someip_node.proofs.Shown.{run_shown, shown}
+use Rattle.someip_node.proofs.Shown.{run_shown}
 
 -- ---- a start
 

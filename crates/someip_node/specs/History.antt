@@ -5,7 +5,7 @@ use Rattle.someip_node.specs.CallQuestions.{client_in, server_in}
 use Rattle.someip_node.specs.DiscoveryQuestions.{multicast_in, parts_in, peers_in, unicast_in}
 use Rattle.someip_node.specs.Items.{Item}
 use Rattle.someip_node.specs.OfferQuestions.{offers_in}
-use Rattle.someip_node.specs.Plans.{Kept}
+use Rattle.someip_node.specs.Plans.{Kept, Work, work}
 use Rattle.someip_node.specs.Questions.{clock_at}
 use Rattle.someip_node.specs.SeekQuestions.{seek_in}
 use Rattle.someip_node.specs.Setups.{limits_of}
@@ -48,3 +48,7 @@ answers_of h = record {
 -- a history is asked, and meets items
 abbrev pub historic : Kept History
 historic = record { ask = answers_of; meet = met }
+
+-- work by a history, as its tables show it
+abbrev pub shown : Work History → Work Tables
+shown w = work (answers_of w.state) w.outputs w.replies

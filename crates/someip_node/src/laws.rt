@@ -1,6 +1,6 @@
 //! Laws of the definitions behind the contracts. Each is the contract of a function that does
 //! nothing: it says what holds of a node by what it met, whatever code keeps its tables.
-ghost use Rattle.std.specs.Prelude.{◌≡◌, ◌≢◌, ◌↔◌, ◌<◌, ◌*◌, ◌+◌, ℕ, IsTrue, IsFalse, List, [], ◌∷◌, Option, None, Some};
+ghost use Rattle.std.specs.Prelude.{◌≡◌, ◌≢◌, ◌↔◌, ◌<◌, ◌*◌, ℕ, suc, IsTrue, IsFalse, List, [], ◌∷◌, Option, None, Some};
 ghost use Rattle.std.specs.FinMap as finite;
 ghost use Rattle.std.specs.declared.net.ipv4_addr.Ipv4Addr.{Ipv4Addr};
 ghost use Rattle.std.specs.declared.net.socket_addr.SocketAddrV4.{SocketAddrV4};
@@ -9,22 +9,28 @@ ghost use Rattle.sd_core.specs.declared.keys.InstanceId.{InstanceId};
 ghost use Rattle.sd_core.specs.declared.received.ReceivedOffer.{ReceivedOffer};
 ghost use Rattle.sd_core.specs.declared.subscription.Subscription.{Subscription};
 ghost use Rattle.sd_core.specs.Wishes.{wish_of};
+ghost use Rattle.sd_session.specs.Sessions.{after_uses};
 ghost use Rattle.someip_rpc.specs.declared.call.Call.{Call};
 ghost use Rattle.someip_rpc.specs.declared.call.CallKind.TheVariants.{Request};
 ghost use Rattle.someip_rpc.specs.declared.ids.CallKey.{CallKey};
+ghost use Rattle.someip_rpc.specs.declared.ids.EventId.{EventId};
+ghost use Rattle.someip_rpc.specs.declared.ids.MessageId.{MessageId};
+ghost use Rattle.someip_rpc.specs.Sessions.{next_of, session_after};
 ghost use Rattle.someip_tables.specs.declared.deadline.Deadline.TheVariants.{At};
 ghost use Rattle.someip_tables.specs.Lastings.{unless_passed};
 ghost use Rattle.someip_node.specs.declared.config.Config.{Config};
-ghost use Rattle.someip_node.specs.CallQuestions.{awaited_at, key_of, open_request_at};
-ghost use Rattle.someip_node.specs.History.{History, answers_of, historic, met, start_of};
+ghost use Rattle.someip_node.specs.CallQuestions.{awaited_at, key_of, last_session_at, open_request_at, times_published};
+ghost use Rattle.someip_node.specs.DiscoveryQuestions.{messages_to, stamps_at};
+ghost use Rattle.someip_node.specs.History.{History, answers_of, historic, met, shown, start_of};
 ghost use Rattle.someip_node.specs.HistoryExamples.{ack_of, acked_after, begun_with, endpoint, eventgroup, offer_for, other_server, server, subscribing_with, waiting_with};
 ghost use Rattle.someip_node.specs.Items.{Item, AckCame, AnswerTaken, Called, NackCame, OfferCounted, OfferStopped, OfferWithdrawn, PeerRebooted, SubscriptionAccepted, SubscriptionStopped, Ticked, changed};
 ghost use Rattle.someip_node.specs.Lives.{is_known, is_live, is_waiting};
-ghost use Rattle.someip_node.specs.Plans.{Plan, Work, plain, run, work};
+ghost use Rattle.someip_node.specs.Plans.{Plan, Work, plain, run};
 ghost use Rattle.someip_node.specs.Questions.{clock_at};
 ghost use Rattle.someip_node.specs.SeekQuestions.{known_offer_at};
 ghost use Rattle.someip_node.specs.Starts.{started_tables};
 ghost use Rattle.someip_node.specs.SubscriberQuestions.{subscribed_at};
+ghost use Rattle.someip_node.specs.Tables.{stamp_for};
 ghost use Rattle.someip_node.specs.WishQuestions.{wish_at};
 
 /// The tables of a node are the answers to what it met: those of a start are the tables of a start,
@@ -38,8 +44,8 @@ pub fn tables_are_answers()
 
 /// What a plan does with the tables of a history is what it does with the history.
 pub fn plans_ask_the_history()
-    ensures { (plan : Plan) (w : Work History) → run plain plan (work (answers_of w.state) w.outputs w.replies)
-        ≡ work (answers_of (run historic plan w).state) (run historic plan w).outputs (run historic plan w).replies }
+    ensures { (plan : Plan) (w : Work History)
+        → run plain plan (shown w) ≡ shown (run historic plan w) }
 {}
 
 /// What a table has of a key is what the history answers of that key alone.
@@ -54,8 +60,23 @@ pub fn tables_answer_of_each_key()
         → finite.get (answers_of h).server.requests token ≡ open_request_at h.items token }
     ensures known { (h : History) (instance : InstanceId)
         → finite.get (answers_of h).seek.known instance ≡ known_offer_at h.items instance }
+    ensures peers { (h : History) (peer : Ipv4Addr)
+        → finite.get (answers_of h).peers peer ≡ stamps_at h.items peer }
     ensures wishes { (h : History) (eventgroup : Eventgroup)
         → wish_of (finite.get (answers_of h).wishes eventgroup) ≡ wish_at h.items eventgroup }
+{}
+
+/// Sessions go on from what was given: the stamp of the next message of Service Discovery to a peer by
+/// how many it was sent, the session of an event by how often it was published, and that of a call by
+/// the last one of its Message ID.
+pub fn sessions_go_on()
+    ensures stamps { (h : History) (peer : Ipv4Addr)
+        → stamp_for (answers_of h).unicast peer ≡ after_uses (messages_to h.items peer) }
+    ensures events { (h : History) (event : EventId)
+        → next_of (answers_of h).server.sessions event
+        ≡ session_after (suc (times_published h.items event)) 0 }
+    ensures calls { (h : History) (message : MessageId)
+        → finite.get (answers_of h).client.sessions message ≡ last_session_at h.items message }
 {}
 
 /// A subscription that was accepted lives for its TTL in seconds, up to but not at its end; with

@@ -1,3 +1,4 @@
+use Rattle.someip_node.proofs.DiscoveryLives.{get-peer}
 use Rattle.someip_node.proofs.NamedLemmas.{get-pending, get-request, get-subscriber}
 use Rattle.someip_node.proofs.WishLives.{get-known, get-wish}
 use Rattle.someip_node.proofs.laws.tables_answer_of_each_key.Goals as goal
@@ -16,3 +17,6 @@ returns-clause-known c = λ h. get-known h.items
 
 pub returns-clause-wishes : goal.returns-clause-wishes
 returns-clause-wishes c = λ h. get-wish h.items
+
+pub returns-clause-peers : goal.returns-clause-peers
+returns-clause-peers c = λ h. get-peer h.items
