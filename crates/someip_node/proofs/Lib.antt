@@ -12,3 +12,4 @@ pub mod NamedLemmas
 pub mod TimeLemmas
 pub mod LiveLemmas
 pub mod WaitLemmas
+pub mod UpLemmas

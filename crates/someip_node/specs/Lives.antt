@@ -1,13 +1,16 @@
 -- What is live by what a node met.
-use Rattle.std.specs.Prelude.{Bool, List, is_some}
+use Rattle.std.specs.Prelude.{Bool, List, [], ◌∷◌, is_some}
+use Rattle.std.specs.List.{flat_map, list_any}
+use Rattle.std.specs.Ordering.{eq_by_cmp}
 use Rattle.std.specs.FinMap as finite
 use Rattle.sd_core.specs.declared.keys.InstanceId.{InstanceId}
+use Rattle.sd_core.specs.Keys.{instance_cmp}
 use Rattle.sd_core.specs.SeekTables.{known_at}
 use Rattle.sd_core.specs.declared.subscription.Subscription.{Subscription}
 use Rattle.someip_rpc.specs.declared.ids.CallKey.{CallKey}
 use Rattle.someip_node.specs.declared.config.Config.{Config}
 use Rattle.someip_node.specs.CallQuestions.{pending_in}
-use Rattle.someip_node.specs.Items.{Item}
+use Rattle.someip_node.specs.Items.{Item, OfferStopped}
 use Rattle.someip_node.specs.Questions.{clock_at}
 use Rattle.someip_node.specs.SeekQuestions.{known_in}
 use Rattle.someip_node.specs.SubscriberQuestions.{subscribers_in}
@@ -23,3 +26,11 @@ is_waiting config items key = is_some (finite.get (pending_in config (clock_at i
 -- the offer of an instance is known
 abbrev pub is_known : List Item → InstanceId → Bool
 is_known items instance = is_some (known_at (clock_at items) (finite.get (known_in items) instance))
+
+-- the offer of an instance was stopped
+abbrev pub offer_stopped : Item → List InstanceId
+offer_stopped (OfferStopped instance) = instance ∷ []
+offer_stopped item = []
+
+abbrev pub was_stopped : List Item → InstanceId → Bool
+was_stopped items instance = list_any (eq_by_cmp instance_cmp instance) (flat_map offer_stopped items)

@@ -1,6 +1,6 @@
 //! Laws of the definitions behind the contracts. Each is the contract of a function that does
 //! nothing: it says what holds of a node by what it met, whatever code keeps its tables.
-ghost use Rattle.std.specs.Prelude.{◌≡◌, ◌≢◌, ◌↔◌, ◌<◌, ◌*◌, ℕ, suc, IsTrue, IsFalse, List, [], ◌∷◌, Option, None, Some};
+ghost use Rattle.std.specs.Prelude.{◌≡◌, ◌≢◌, ◌↔◌, ◌<◌, ◌*◌, ℕ, suc, IsTrue, IsFalse, List, [], ◌∷◌, ◌&&◌, not, Option, None, Some, is_some};
 ghost use Rattle.std.specs.FinMap as finite;
 ghost use Rattle.std.specs.declared.net.ipv4_addr.Ipv4Addr.{Ipv4Addr};
 ghost use Rattle.std.specs.declared.net.socket_addr.SocketAddrV4.{SocketAddrV4};
@@ -24,13 +24,14 @@ ghost use Rattle.someip_node.specs.DiscoveryQuestions.{messages_to, stamps_at};
 ghost use Rattle.someip_node.specs.History.{History, answers_of, historic, met, shown, start_of};
 ghost use Rattle.someip_node.specs.HistoryExamples.{ack_of, acked_after, begun_with, endpoint, eventgroup, offer_for, other_server, server, subscribing_with, waiting_with};
 ghost use Rattle.someip_node.specs.Items.{Item, AckCame, AnswerTaken, Called, NackCame, OfferCounted, OfferStopped, OfferWithdrawn, PeerRebooted, SubscriptionAccepted, SubscriptionStopped, Ticked, changed};
-ghost use Rattle.someip_node.specs.Lives.{is_known, is_live, is_waiting};
+ghost use Rattle.someip_node.specs.Lives.{is_known, is_live, is_waiting, was_stopped};
 ghost use Rattle.someip_node.specs.Plans.{Plan, Work, plain, run};
 ghost use Rattle.someip_node.specs.Questions.{clock_at};
 ghost use Rattle.someip_node.specs.SeekQuestions.{known_offer_at};
+ghost use Rattle.someip_node.specs.Setups.{offered_as};
 ghost use Rattle.someip_node.specs.Starts.{started_tables};
 ghost use Rattle.someip_node.specs.SubscriberQuestions.{subscribed_at};
-ghost use Rattle.someip_node.specs.Tables.{stamp_for};
+ghost use Rattle.someip_node.specs.Tables.{is_up, stamp_for};
 ghost use Rattle.someip_node.specs.WishQuestions.{wish_at};
 
 /// The tables of a node are the answers to what it met: those of a start are the tables of a start,
@@ -150,4 +151,11 @@ pub fn wishes_by_example()
     ensures other_rebooted { wish_at (PeerRebooted other_server ∷ acked_after 10 2999) eventgroup
         ≡ begun_with 0 (Some (At 3000)) }
     ensures refused { wish_at (NackCame (ack_of 0) ∷ subscribing_with 10) eventgroup ≡ waiting_with 1 }
+{}
+
+/// An instance is up if the node is set up to offer it and its offer was not stopped.
+pub fn instances_are_up_until_stopped()
+    ensures { (h : History) (instance : InstanceId)
+        → is_up (answers_of h) instance
+        ≡ (is_some (offered_as h.config instance) && not (was_stopped h.items instance)) }
 {}
