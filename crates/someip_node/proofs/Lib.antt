@@ -13,3 +13,4 @@ pub mod TimeLemmas
 pub mod LiveLemmas
 pub mod WaitLemmas
 pub mod UpLemmas
+pub mod StandingLemmas

@@ -184,7 +184,7 @@ unwished_is false w c = ap (λ b. wish_from w (record { beginning = b; begun = c
 -- ---- eventgroups that are not wished
 
 -- no subscription stands of one
-unwished_ended : (items : List Item) (q : Eventgroup) → is_wished_at items q ≡ false → (course_at items q).beginning ≡ None
+pub unwished_ended : (items : List Item) (q : Eventgroup) → is_wished_at items q ≡ false → (course_at items q).beginning ≡ None
 unwished_ended [] q not_wished = refl
 unwished_ended (item ∷ before) q not_wished = cases item not_wished (unwished_ended before q)
   where

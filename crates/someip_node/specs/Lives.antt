@@ -1,11 +1,15 @@
 -- What is live by what a node met.
-use Rattle.std.specs.Prelude.{Bool, List, [], ◌∷◌, is_some}
+use Rattle.std.specs.Prelude.{Bool, true, false, List, [], ◌∷◌, Option, None, Some, is_some}
+use Rattle.std.specs.Option.{option_map_or}
 use Rattle.std.specs.List.{flat_map, list_any}
 use Rattle.std.specs.Ordering.{eq_by_cmp}
 use Rattle.std.specs.FinMap as finite
+use Rattle.someip_tables.specs.declared.lasting.Lasting.{Lasting}
 use Rattle.sd_core.specs.declared.keys.InstanceId.{InstanceId}
+use Rattle.sd_core.specs.declared.received.KnownOffer.{KnownOffer}
+use Rattle.sd_core.specs.declared.wish.Beginning.{Beginning}
 use Rattle.sd_core.specs.Keys.{instance_cmp}
-use Rattle.sd_core.specs.SeekTables.{known_at}
+use Rattle.sd_core.specs.SeekTables.{is_by, known_at}
 use Rattle.sd_core.specs.declared.subscription.Subscription.{Subscription}
 use Rattle.someip_rpc.specs.declared.ids.CallKey.{CallKey}
 use Rattle.someip_node.specs.declared.config.Config.{Config}
@@ -34,3 +38,8 @@ offer_stopped item = []
 
 abbrev pub was_stopped : List Item → InstanceId → Bool
 was_stopped items instance = list_any (eq_by_cmp instance_cmp instance) (flat_map offer_stopped items)
+
+-- a subscription was begun at the peer whose offer of its instance is known, if one was
+abbrev pub has_its_offer : Option Beginning → Option (Lasting KnownOffer) → Bool
+has_its_offer None known = true
+has_its_offer (Some beginning) known = option_map_or (λ lasting. is_by beginning.peer lasting.value) known false

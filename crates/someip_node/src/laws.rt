@@ -24,7 +24,7 @@ ghost use Rattle.someip_node.specs.DiscoveryQuestions.{messages_to, stamps_at};
 ghost use Rattle.someip_node.specs.History.{History, answers_of, historic, met, shown, start_of};
 ghost use Rattle.someip_node.specs.HistoryExamples.{ack_of, acked_after, begun_with, endpoint, eventgroup, offer_for, other_server, server, subscribing_with, waiting_with};
 ghost use Rattle.someip_node.specs.Items.{Item, AckCame, AnswerTaken, Called, NackCame, OfferCounted, OfferStopped, OfferWithdrawn, PeerRebooted, SubscriptionAccepted, SubscriptionStopped, Ticked, changed};
-ghost use Rattle.someip_node.specs.Lives.{is_known, is_live, is_waiting, was_stopped};
+ghost use Rattle.someip_node.specs.Lives.{has_its_offer, is_known, is_live, is_waiting, was_stopped};
 ghost use Rattle.someip_node.specs.Plans.{Plan, Work, plain, run};
 ghost use Rattle.someip_node.specs.Questions.{clock_at};
 ghost use Rattle.someip_node.specs.SeekQuestions.{known_offer_at};
@@ -32,7 +32,7 @@ ghost use Rattle.someip_node.specs.Setups.{offered_as};
 ghost use Rattle.someip_node.specs.Starts.{started_tables};
 ghost use Rattle.someip_node.specs.SubscriberQuestions.{subscribed_at};
 ghost use Rattle.someip_node.specs.Tables.{is_up, stamp_for};
-ghost use Rattle.someip_node.specs.WishQuestions.{wish_at};
+ghost use Rattle.someip_node.specs.WishQuestions.{course_at, is_wished_at, wish_at};
 
 /// The tables of a node are the answers to what it met: those of a start are the tables of a start,
 /// and an item changes the answers as it changes tables.
@@ -158,4 +158,14 @@ pub fn instances_are_up_until_stopped()
     ensures { (h : History) (instance : InstanceId)
         → is_up (answers_of h) instance
         ≡ (is_some (offered_as h.config instance) && not (was_stopped h.items instance)) }
+{}
+
+/// A subscription that a client began stands only while the eventgroup is wished, and while the offer
+/// that its server made of the instance is known.
+pub fn subscriptions_stand_with_their_offer()
+    ensures offer { (items : List Item) (eventgroup : Eventgroup)
+        → IsTrue (has_its_offer (course_at items eventgroup).beginning
+        (known_offer_at items eventgroup.instance)) }
+    ensures wished { (items : List Item) (eventgroup : Eventgroup)
+        → IsFalse (is_wished_at items eventgroup) → (course_at items eventgroup).beginning ≡ None }
 {}
