@@ -20,3 +20,15 @@ pub mod Errors
 pub mod Publishings
 pub mod GoodConfigs
 pub mod Arrivals
+pub mod Questions
+pub mod DiscoveryQuestions
+pub mod CallQuestions
+pub mod SubscriberQuestions
+pub mod OfferQuestions
+pub mod SeekQuestions
+pub mod WishQuestions
+pub mod History
+pub mod Starts
+pub mod Steps
+pub mod Lives
+pub mod HistoryExamples

@@ -17,6 +17,7 @@ mod error;
 mod giving;
 mod hearing;
 mod learning;
+pub mod laws;
 mod output;
 mod passed;
 mod payload;
