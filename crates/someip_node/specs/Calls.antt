@@ -43,6 +43,7 @@ use Rattle.someip_node.specs.declared.output.Output.{Output}
 use Rattle.someip_node.specs.declared.output.Output.TheVariants.{Called as CallOutput, TimedOut, Unsubscribed}
 use Rattle.someip_node.specs.Entries.{find_entry, offer_entry, subscribe_entry}
 use Rattle.someip_node.specs.Items.{Answered, Called, GroupAddressed, OfferStopped, PeerAddressed, Published, Ticked, Unwished, Wished}
+use Rattle.someip_node.specs.Learning.{subscribe_to}
 use Rattle.someip_node.specs.Outcomes.{Outcome, endings, meets, nothing}
 use Rattle.someip_node.specs.Outputs.{Given, Announces, Sends, Tells}
 use Rattle.someip_node.specs.Setups.{client_endpoint, client_rules, discovery_endpoint, group_endpoint, is_wanted_eventgroup, offered_as, wanted_as, wanted_instances}
@@ -229,16 +230,19 @@ publishes_to instance endpoint event payload t =
 abbrev pub wishing_refusal : Eventgroup → Tables → Option NodeError
 wishing_refusal eventgroup t = if is_wanted_eventgroup t.config eventgroup then None else Some NotWanted
 
--- the Subscribe or StopSubscribe of an eventgroup, with the wanted TTL or 0
-abbrev pub subscribe_for : Tables → Eventgroup → (WantedService → ℕ) → ℕ → List EntryValue
-subscribe_for t eventgroup ttl counter =
-    option_map_or (λ want. subscribe_entry (client_endpoint t.config) want.major (ttl want) eventgroup counter ∷ []) (wanted_as t.config eventgroup.instance) []
+-- the Subscribe of an eventgroup with a counter, if it has one
+abbrev pub wish_entries_by : Tables → Eventgroup → Option ℕ → List EntryValue
+wish_entries_by t eventgroup counter = option_map_or (λ c. subscribe_to t (record { eventgroup = eventgroup; counter = c })) counter []
 
 -- the Subscribe that a wish sends at once, if an offer of the instance is known
 abbrev pub wish_entries : Eventgroup → Tables → List EntryValue
 wish_entries eventgroup t =
-    option_map_or (subscribe_for t eventgroup (λ want. want.ttl))
-    (sent_at_once t.clock (known_peer t eventgroup.instance) (wish_of (finite.get t.wishes eventgroup))) []
+    wish_entries_by t eventgroup (sent_at_once t.clock (known_peer t eventgroup.instance) (wish_of (finite.get t.wishes eventgroup)))
+
+-- the StopSubscribe of an eventgroup, with the counter of its subscription
+abbrev pub stop_subscribe_of : Tables → Eventgroup → ℕ → List EntryValue
+stop_subscribe_of t eventgroup counter =
+    option_map_or (λ want. subscribe_entry (client_endpoint t.config) want.major 0 eventgroup counter ∷ []) (wanted_as t.config eventgroup.instance) []
 
 -- an eventgroup is wished
 abbrev pub wishes : Eventgroup → Tables → Outcome

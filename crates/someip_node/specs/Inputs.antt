@@ -10,7 +10,7 @@ use Rattle.std.specs.declared.net.ipv4_addr.Ipv4Addr.{Ipv4Addr}
 use Rattle.someip_rpc.specs.declared.call.CallKind.{CallKind}
 use Rattle.someip_rpc.specs.declared.request.Reply.{Reply}
 use Rattle.someip_node.specs.declared.error.NodeError.{NodeError}
-use Rattle.someip_node.specs.Calls.{answering_refusal, calling_refusal, due_entries, publishing_refusal, publishing_to_refusal, standing_of, stop_offer_of, stopping_refusal, subscribe_for, tick_refusal, wish_entries, wishing_refusal}
+use Rattle.someip_node.specs.Calls.{answering_refusal, calling_refusal, due_entries, publishing_refusal, publishing_to_refusal, standing_of, stop_offer_of, stop_subscribe_of, stopping_refusal, tick_refusal, wish_entries, wishing_refusal}
 use Rattle.someip_node.specs.Handling.{datagram_plan}
 use Rattle.someip_node.specs.Plans.{Plan, rest, act, both, asks, Answers, Calls, Publishes, PublishesTo, Stops, TakesBack, Ticks, Wishes}
 use Rattle.someip_node.specs.Receivers.{message_plan_to, messages_plan_to}
@@ -64,7 +64,7 @@ subscribe_plan eventgroup =
 -- a wish is taken back: the server of the subscription that stands is told before
 abbrev pub stop_subscribe_plan : Eventgroup → Option Beginning → Tables → Plan
 stop_subscribe_plan eventgroup None t = rest
-stop_subscribe_plan eventgroup (Some beginning) t = message_plan_to (Peer beginning.peer) (subscribe_for t eventgroup (λ want. 0) beginning.counter)
+stop_subscribe_plan eventgroup (Some beginning) t = message_plan_to (Peer beginning.peer) (stop_subscribe_of t eventgroup beginning.counter)
 
 abbrev pub unsubscribe_plan : Eventgroup → Plan
 unsubscribe_plan eventgroup =

@@ -1,9 +1,14 @@
 -- The tables of a node and what it gives so far, as work.
-use Rattle.std.specs.Prelude.{map}
+use Rattle.std.specs.Prelude.{[], ◌∷◌, ◌++◌, map}
 use Rattle.sd_wire.specs.Values.{view_entry}
 use Rattle.someip_node.specs.declared.giving.Giving.{Giving}
+use Rattle.someip_node.specs.declared.output.Output.{Output}
 use Rattle.someip_node.specs.Plans.{Work, work}
 use Rattle.someip_node.specs.Tables.{Tables}
 
 abbrev pub working : Tables → Giving → Work Tables
 working tables giving = work tables giving.outputs.items (map view_entry giving.replies.items)
+
+-- work, and then one more output
+abbrev pub told_after : Output → Work Tables → Work Tables
+told_after output w = record w { outputs = w.outputs ++ output ∷ [] }

@@ -88,7 +88,7 @@ impl<R: Reassembly> Engine<R> {
     }
 
     /// Adds a Subscribe, with the major version and the TTL that are wanted.
-    fn push_subscribe(
+    pub(crate) fn push_subscribe(
         &self,
         subscribe: OutgoingSubscribe,
         entries: &mut Vec<Entry>,

@@ -31,6 +31,7 @@ mod setups;
 mod subscribing;
 mod target;
 mod ticking;
+mod wishing;
 
 pub use config::{Common, Config, OfferedService, WantedService};
 pub use drops::DropReason;

@@ -9,13 +9,12 @@ ghost use Rattle.someip_node.specs.Inputs.{tick_plan};
 ghost use Rattle.someip_node.specs.Items.{changed, Ticked};
 ghost use Rattle.someip_node.specs.Passings.{HasPassed, entries_of, told_of};
 ghost use Rattle.someip_node.specs.Plans.{act, plain, run, Ticks};
-ghost use Rattle.someip_node.specs.Subscribing.{offer_of};
 ghost use Rattle.someip_node.specs.Working.{working};
 ghost use Rattle.someip_node.specs.declared.output.Output.TheVariants.{TimedOut};
 
 use crate::endings::tell_endings;
 use crate::engine::Engine;
-use crate::entry_making::{find_entry, offer_entry};
+use crate::entry_making::find_entry;
 use crate::giving::Giving;
 use crate::output::Output;
 use crate::passed::Passed;
@@ -100,39 +99,13 @@ impl<R: Reassembly> Engine<R> {
             map view_entry entries.items ≡ entries_of self.now passed.now) }
     {
         let mut entries = Vec::new(self.alloc);
-        self.add_offers(&passed.offers, &mut entries)?;
-        self.add_finds(&passed.finds, &mut entries)?;
+        self.push_offers(&passed.offers, &mut entries)?;
+        self.push_finds(&passed.finds, &mut entries)?;
         Ok(entries)
     }
 
-    /// Adds the Offers of instances.
-    pub(crate) fn add_offers(
-        &self,
-        instances: &[InstanceId],
-        entries: &mut Vec<Entry>,
-    ) -> Result<(), AllocError>
-        ensures { OnOk result (map view_entry entries.new.items
-            ≡ map view_entry entries.old.items ++ flat_map (offer_of self.now) instances.now) }
-    {
-        for instance in instances {
-            self.add_offer(*instance, entries)?;
-        }
-        Ok(())
-    }
-
-    /// Adds the Offer of an instance.
-    fn add_offer(&self, instance: InstanceId, entries: &mut Vec<Entry>) -> Result<(), AllocError>
-        ensures { OnOk result (map view_entry entries.new.items
-            ≡ map view_entry entries.old.items ++ offer_of self.now instance) }
-    {
-        if let Some(service) = self.config.offers.get(&instance) {
-            entries.push(offer_entry(self.alloc, instance, service.ttl, service)?)?;
-        }
-        Ok(())
-    }
-
     /// Adds the Finds of instances.
-    fn add_finds(
+    fn push_finds(
         &self,
         instances: &[InstanceId],
         entries: &mut Vec<Entry>,
@@ -141,13 +114,13 @@ impl<R: Reassembly> Engine<R> {
             ≡ map view_entry entries.old.items ++ flat_map (find_of self.now) instances.now) }
     {
         for instance in instances {
-            self.add_find(*instance, entries)?;
+            self.push_find(*instance, entries)?;
         }
         Ok(())
     }
 
     /// Adds the Find of an instance.
-    fn add_find(&self, instance: InstanceId, entries: &mut Vec<Entry>) -> Result<(), AllocError>
+    fn push_find(&self, instance: InstanceId, entries: &mut Vec<Entry>) -> Result<(), AllocError>
         ensures { OnOk result (map view_entry entries.new.items
             ≡ map view_entry entries.old.items ++ find_of self.now instance) }
     {

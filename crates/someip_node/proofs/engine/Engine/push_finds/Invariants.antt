@@ -2,7 +2,7 @@ use Rattle.std.proofs.Common.{◌≡◌, ◌++◌, drop, map}
 use Rattle.std.specs.List.{flat_map}
 use Rattle.sd_wire.specs.Values.{view_entry}
 use Rattle.someip_node.specs.Calls.{find_of}
-use Rattle.someip_node.proofs.engine.Engine.add_finds.Given as goal
+use Rattle.someip_node.proofs.engine.Engine.push_finds.Given as goal
 
 -- the entries so far, and those of the instances that are left, are all
 abbrev pub invariant-loop-instance : goal.invariant-loop-instance
