@@ -19,6 +19,7 @@ mod hearing;
 mod learning;
 pub mod laws;
 mod output;
+mod output_text;
 mod passed;
 mod payload;
 mod publishing;
