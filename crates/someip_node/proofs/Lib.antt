@@ -25,3 +25,4 @@ pub mod LiveLemmas
 pub mod WaitLemmas
 pub mod UpLemmas
 pub mod StandingLemmas
+pub mod HandledLemmas
