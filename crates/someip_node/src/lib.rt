@@ -16,6 +16,7 @@ mod entry_making;
 mod error;
 mod giving;
 mod hearing;
+mod judging;
 mod learning;
 pub mod laws;
 mod node;
