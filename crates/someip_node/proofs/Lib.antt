@@ -24,3 +24,4 @@ pub mod LiveLemmas
 pub mod WaitLemmas
 pub mod UpLemmas
 pub mod StandingLemmas
+pub mod HandledLemmas

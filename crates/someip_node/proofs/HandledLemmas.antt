@@ -1,0 +1,82 @@
+-- A node whose tables took an input.
+use Rattle.std.proofs.Common.{◌≡◌, Bool, true, false, if◌then◌else◌, [], Option, None, Some, Result, Ok, Err, refl, ap, sym, ◌∙◌, nat_lt}
+use Rattle.std.specs.Prelude.{IsSome}
+use Rattle.std.specs.Option.{option_map_or}
+use Rattle.std.specs.Global.{Vec}
+use Rattle.someip_rpc.specs.declared.error.RpcError.{RpcError}
+use Rattle.someip_rpc.specs.declared.error.RpcError.TheVariants.{NotOffered}
+use Rattle.someip_node.specs.declared.config.OfferedService.{OfferedService}
+use Rattle.someip_node.specs.declared.error.NodeError.{NodeError}
+use Rattle.someip_node.specs.declared.error.NodeError.TheVariants.{ClockPast, NotWanted, Rpc}
+use Rattle.someip_node.specs.declared.giving.Giving.{Giving}
+use Rattle.someip_node.specs.declared.output.Output.{Output}
+use Rattle.someip_node.specs.Calls.{as_node_error}
+use Rattle.someip_node.specs.Finishings.{given_by, is_fatal}
+use Rattle.someip_node.specs.Handled.{Handled, or_no_memory}
+use Rattle.someip_node.specs.History.{History, answers_of, historic}
+use Rattle.someip_node.specs.Inputs.{Input, Answer, Call, Datagram, Publish, PublishTo, StopOffer, Subscribe, Tick, Unsubscribe, plan_of, refusal_of}
+use Rattle.someip_node.specs.Plans.{plain, run}
+use Rattle.someip_node.specs.Setups.{is_wanted_eventgroup, offered_as}
+use Rattle.someip_node.specs.Steps.{Gives, StandsFor, step, unless_refused, work_on}
+use Rattle.someip_node.specs.Tables.{Tables, is_up}
+use Rattle.someip_node.specs.Working.{working}
+use Rattle.someip_node.proofs.Stands.{done_given, seen, stands}
+
+-- ---- no refusal is that memory ran out
+
+-- a refusal, or else an error that is none
+abbrev or_else : NodeError → Option NodeError → Bool
+or_else error refusal = is_fatal (Err (option_map_or (λ r. r) refusal error))
+
+none_refused : (refusal : NodeError) → None ≡ Some refusal → is_fatal (Err refusal) ≡ false
+none_refused refusal is = absurd (cc)
+
+this_refused : (error refusal : NodeError) → is_fatal (Err error) ≡ false → Some error ≡ Some refusal → is_fatal (Err refusal) ≡ false
+this_refused error refusal fine is = ap (or_else error) (sym is) ∙ fine
+
+refused_if : (b : Bool) (error refusal : NodeError) → is_fatal (Err error) ≡ false → (if b then None else Some error) ≡ Some refusal → is_fatal (Err refusal) ≡ false
+refused_if true error refusal fine is = none_refused refusal is
+refused_if false error refusal fine is = this_refused error refusal fine is
+
+ticked_refused : (b : Bool) (refusal : NodeError) → (if b then Some ClockPast else None) ≡ Some refusal → is_fatal (Err refusal) ≡ false
+ticked_refused true refusal is = this_refused ClockPast refusal refl is
+ticked_refused false refusal is = none_refused refusal is
+
+core_refused : (v : Option RpcError) (refusal : NodeError) → as_node_error v ≡ Some refusal → is_fatal (Err refusal) ≡ false
+core_refused None refusal is = none_refused refusal is
+core_refused (Some error) refusal is = this_refused (Rpc error) refusal refl is
+
+offered_refused : (f : OfferedService → Option RpcError) (service : Option OfferedService) (refusal : NodeError)
+    → option_map_or (λ s. as_node_error (f s)) service (Some (Rpc NotOffered)) ≡ Some refusal → is_fatal (Err refusal) ≡ false
+offered_refused f None refusal is = this_refused (Rpc NotOffered) refusal refl is
+offered_refused f (Some service) refusal is = core_refused (f service) refusal is
+
+refusal_is_no_end : (input : Input) (t : Tables) (refusal : NodeError) → refusal_of input t ≡ Some refusal → is_fatal (Err refusal) ≡ false
+refusal_is_no_end (Datagram from to bytes) t refusal is = none_refused refusal is
+refusal_is_no_end (Tick ms) t refusal is = ticked_refused _ refusal is
+refusal_is_no_end (Call kind instance method payload) t refusal is = core_refused _ refusal is
+refusal_is_no_end (Answer token reply payload) t refusal is = core_refused _ refusal is
+refusal_is_no_end (Publish instance event payload) t refusal is = offered_refused _ (offered_as t.config instance) refusal is
+refusal_is_no_end (PublishTo instance eventgroup endpoint event payload) t refusal is = offered_refused _ (offered_as t.config instance) refusal is
+refusal_is_no_end (Subscribe eventgroup) t refusal is = refused_if (is_wanted_eventgroup t.config eventgroup) NotWanted refusal refl is
+refusal_is_no_end (Unsubscribe eventgroup) t refusal is = refused_if (is_wanted_eventgroup t.config eventgroup) NotWanted refusal refl is
+refusal_is_no_end (StopOffer instance) t refusal is = refused_if (is_up t instance) (Rpc NotOffered) refusal refl is
+
+-- ---- a call of a node
+
+module _ (h : History) (input : Input) (old : Tables) (is : old ≡ answers_of h) where
+  -- it was refused, or memory ran out
+  error_given : (refusal : Option NodeError) (error : NodeError) (new : Tables) → refusal_of input old ≡ refusal → error ≡ or_no_memory refusal
+      → (IsSome refusal → new ≡ old) → Gives h (unless_refused refusal (plan_of input) h) (Err error) (seen (is_fatal (Err error)) new)
+  error_given None error new why told same = rw told (refl, refl)
+  error_given (Some refusal) error new why told same =
+      rw (told, refusal_is_no_end input old refusal why) (refl, stands false new h refl (same refl ∙ is))
+
+  pub handled_given : (done : Result (Unit {0}) NodeError) (before after : Giving) (new : Tables) (result : Result (Vec Output) NodeError) (failed : Bool)
+      → before.outputs.items ≡ [] → before.replies.items ≡ [] → Handled input old before done new after → failed ≡ is_fatal done
+      → result ≡ given_by done after → Gives h (step h input) result (seen failed new)
+  handled_given (Ok _) before after new result failed no_outputs no_replies handled fails gives =
+      rw (gives, fails) (done_given h input old is new before after handled.0 no_outputs no_replies handled.1)
+  handled_given (Err error) before after new result failed no_outputs no_replies handled fails gives =
+      rw (gives, fails, ap (refusal_of input) (sym is))
+      (error_given (refusal_of input old) error new refl handled.0 handled.1)

@@ -1,0 +1,12 @@
+use Rattle.std.proofs.Common.{◌∙◌}
+use Rattle.someip_node.specs.Inputs.{Call}
+use Rattle.someip_node.proofs.HandledLemmas.{handled_given}
+use Rattle.someip_node.proofs.Stands.{answers}
+use Rattle.someip_node.proofs.node.Node.call.Goals as goal
+
+pub returns-clause-reacts : goal.returns-clause-reacts
+returns-clause-reacts g c = λ h is.
+    handled_given h (Call c.args.kind c.args.instance c.args.method c.args.payload.now) c.self.inside.engine
+    (answers c.self.inside.failed c.self.inside.engine h c.if-self.false (c.self.view_is ∙ is))
+    c.call-done.result c.new-giving.result c.call-done.new.giving c.call-done.new.self _ _
+    c.new-giving.ensures.outputs c.new-giving.ensures.replies c.call-done.ensures c.finish.ensures.failed c.finish.ensures.given

@@ -1,0 +1,239 @@
+//! A node: its tables, unless memory ran out.
+ghost use Rattle.std.specs.Prelude.{◌≡◌};
+ghost use Rattle.someip_node.specs.Finishings.{given_by, is_fatal};
+ghost use Rattle.someip_node.specs.Handled.{Handled};
+ghost use Rattle.someip_node.specs.Inputs as input;
+ghost use Rattle.someip_node.specs.Steps.{Reacts, StaysFailed};
+
+use crate::engine::Engine;
+use crate::error::NodeError;
+use crate::giving::Giving;
+use crate::output::Output;
+use sd_core::InstanceId;
+use someip_rpc::{CallKind, Reply};
+use someip_tp::Reassembly;
+use std::alloc::Global;
+use std::marker::Model;
+use std::net::SocketAddrV4;
+
+/// A node. It stands for the history of what it met.
+#[derive(Drop)]
+pub struct Node<R: Reassembly> {
+    alloc: Global,
+    failed: bool,
+    engine: Engine<R>,
+}
+
+impl<R: Reassembly> Model for Node<R> {
+    ghost use Rattle.std.specs.Prelude.{if◌then◌else◌, None, Some};
+    ghost use Rattle.std.specs.Coded.{codes};
+    ghost use Rattle.someip_node.specs.contracts.config.Config as config_row;
+    ghost use Rattle.someip_tp.specs.Parts.{coded_parts};
+    ghost use Rattle.someip_node.specs.Steps.{NodeView};
+    ghost use Rattle.someip_node.specs.Tables.{coded_held, coded_stamps_to};
+    ghost use Rattle.sd_core.specs.OfferTables.{coded_offers};
+    ghost use Rattle.sd_core.specs.SeekTables.{coded_seek};
+    ghost use Rattle.sd_core.specs.SubscriberTables.{coded_subscribers};
+    ghost use Rattle.sd_core.specs.Wishes.{coded_wishes};
+    ghost use Rattle.someip_rpc.specs.Calls.{coded_client};
+    ghost use Rattle.someip_rpc.specs.Servers.{coded_server};
+
+    ghost Value = { NodeView };
+
+    ghost coded = { Prim.hlevel (codes, config_row.the_row.coded, coded_parts, coded_held, coded_stamps_to, coded_offers, coded_seek,
+      coded_subscribers, coded_wishes, coded_client, coded_server) };
+
+    ghost view = { λ n. record { config = n.engine.config; tables = if n.failed then None else Some n.engine } };
+}
+
+impl<R: Reassembly> Node<R> {
+    /// Takes a datagram that came from an endpoint to another, and gives what it brings: datagrams to
+    /// send, and what the application is told. A datagram is never refused: what cannot be taken is
+    /// dropped, and the reason is told (SOME/IP Protocol, "Transport Protocol"; SOME/IP Service
+    /// Discovery Protocol, "Message format").
+    pub fn on_datagram(
+        &mut self,
+        from: SocketAddrV4,
+        to: SocketAddrV4,
+        bytes: &[u8],
+    ) -> Result<Vec<Output>, NodeError>
+        ensures reacts { Reacts self.old (input.Datagram from to bytes.now) result self.new }
+        ensures failed { StaysFailed self.old result self.new }
+    {
+        if self.failed {
+            return Err(NodeError::Failed);
+        }
+        let mut giving = Giving::new(self.alloc);
+        let done = self.engine.take_datagram(from, to, bytes, &mut giving);
+        finish(&mut self.failed, done, giving)
+    }
+
+    /// Lets the node's clock go on by so many milliseconds. Offers, subscriptions, calls and messages
+    /// in part end whose time has passed, and then the Offers and Finds go out that are due (SOME/IP
+    /// Service Discovery Protocol, "Startup behavior").
+    ///
+    /// It is refused as `ClockPast` where the clock would go past 2^63 - 1 milliseconds.
+    pub fn tick(&mut self, ms: u64) -> Result<Vec<Output>, NodeError>
+        ensures reacts { Reacts self.old (input.Tick ms) result self.new }
+        ensures failed { StaysFailed self.old result self.new }
+    {
+        if self.failed {
+            return Err(NodeError::Failed);
+        }
+        let mut giving = Giving::new(self.alloc);
+        let done = self.engine.take_tick(ms, &mut giving);
+        finish(&mut self.failed, done, giving)
+    }
+
+    /// Calls a method of an instance that the node wants, at the endpoint of the offer that it knows.
+    /// A call that waits for its answer waits as long as the configuration says. A payload that does not
+    /// fit into one datagram goes out in segments (SOME/IP Protocol, "Request/Response communication",
+    /// "Transporting large SOME/IP messages of UDP").
+    ///
+    /// It is refused, by the first that holds, as `NotOffered` where no offer of the instance is known,
+    /// `TooLong` where the payload is longer than the message limit, and `Busy` where it would wait for
+    /// an answer and no further call can.
+    pub fn call(
+        &mut self,
+        kind: CallKind,
+        instance: InstanceId,
+        method: u16,
+        payload: &[u8],
+    ) -> Result<Vec<Output>, NodeError>
+        ensures reacts { Reacts self.old (input.Call kind instance method payload.now)
+            result self.new }
+        ensures failed { StaysFailed self.old result self.new }
+    {
+        if self.failed {
+            return Err(NodeError::Failed);
+        }
+        let mut giving = Giving::new(self.alloc);
+        let done = self
+            .engine
+            .call(kind, instance, method, payload, &mut giving);
+        finish(&mut self.failed, done, giving)
+    }
+
+    /// Answers the request that waits under a token, which then waits no longer (SOME/IP Protocol,
+    /// "Request/Response communication", "Error handling").
+    ///
+    /// It is refused, by the first that holds, as `UnknownToken` where no request waits under the token,
+    /// `BadErrorCode` where an ERROR has the code E_OK, and `TooLong` where the payload is longer than
+    /// the message limit.
+    pub fn answer(
+        &mut self,
+        token: u64,
+        reply: Reply,
+        payload: &[u8],
+    ) -> Result<Vec<Output>, NodeError>
+        ensures reacts { Reacts self.old (input.Answer token reply payload.now) result self.new }
+        ensures failed { StaysFailed self.old result self.new }
+    {
+        if self.failed {
+            return Err(NodeError::Failed);
+        }
+        let mut giving = Giving::new(self.alloc);
+        let done = self.engine.answer(token, reply, payload, &mut giving);
+        finish(&mut self.failed, done, giving)
+    }
+
+    /// Publishes an event of an instance that the node offers: one message to each endpoint that has a
+    /// live subscription to one of the event's eventgroups (SOME/IP Protocol, "Notification Events").
+    ///
+    /// It is refused, by the first that holds, as `NotOffered` where the instance is not up,
+    /// `UnknownEvent` where it has no such event, and `TooLong` where the payload is longer than the
+    /// message limit.
+    pub fn publish(
+        &mut self,
+        instance: InstanceId,
+        event: u16,
+        payload: &[u8],
+    ) -> Result<Vec<Output>, NodeError>
+        ensures reacts { Reacts self.old (input.Publish instance event payload.now) result self.new }
+        ensures failed { StaysFailed self.old result self.new }
+    {
+        if self.failed {
+            return Err(NodeError::Failed);
+        }
+        let mut giving = Giving::new(self.alloc);
+        let done = self.engine.publish(instance, event, payload, &mut giving);
+        finish(&mut self.failed, done, giving)
+    }
+
+    /// Publishes an event to one endpoint that has a live subscription to an eventgroup, as for the
+    /// value of a field when a subscription begins (SOME/IP Protocol, "Fields").
+    ///
+    /// It is refused, by the first that holds, as `NotOffered` where the instance is not up,
+    /// `UnknownEvent` where the eventgroup has no such event, `TooLong` where the payload is longer than
+    /// the message limit, and `NotSubscribed` where the endpoint has no such subscription.
+    pub fn publish_to(
+        &mut self,
+        instance: InstanceId,
+        eventgroup: u16,
+        endpoint: SocketAddrV4,
+        event: u16,
+        payload: &[u8],
+    ) -> Result<Vec<Output>, NodeError>
+        ensures reacts { Reacts self.old
+            (input.PublishTo instance eventgroup endpoint event payload.now) result self.new }
+        ensures failed { StaysFailed self.old result self.new }
+    {
+        if self.failed {
+            return Err(NodeError::Failed);
+        }
+        let mut giving = Giving::new(self.alloc);
+        let done = self
+            .engine
+            .publish_to(instance, eventgroup, endpoint, event, payload, &mut giving);
+        finish(&mut self.failed, done, giving)
+    }
+}
+
+impl<R: Reassembly> Engine<R> {
+    /// Takes a datagram.
+    fn take_datagram(
+        &mut self,
+        from: SocketAddrV4,
+        to: SocketAddrV4,
+        bytes: &[u8],
+        giving: &mut Giving,
+    ) -> Result<(), NodeError>
+        ensures { Handled (input.Datagram from to bytes.now)
+            self.old giving.old result self.new giving.new }
+    {
+        self.datagram(from, to, bytes, giving)?;
+        Ok(())
+    }
+
+    /// Lets the clock go on by so many milliseconds.
+    fn take_tick(&mut self, ms: u64, giving: &mut Giving) -> Result<(), NodeError>
+        ensures { Handled (input.Tick ms) self.old giving.old result self.new giving.new }
+    {
+        let Some(now) = self.clock.after(ms) else {
+            return Err(NodeError::ClockPast);
+        };
+        self.tick(ms, now, giving)?;
+        Ok(())
+    }
+}
+
+/// Ends a call: what it gives, or its error. Once memory ran out the node has failed.
+fn finish(
+    failed: &mut bool,
+    done: Result<(), NodeError>,
+    giving: Giving,
+) -> Result<Vec<Output>, NodeError>
+    ensures failed { failed.new ≡ is_fatal done }
+    ensures given { result ≡ given_by done giving }
+{
+    *failed = is_fatal(&done);
+    done?;
+    Ok(giving.outputs)
+}
+
+/// Whether memory ran out.
+fn is_fatal(done: &Result<(), NodeError>) -> bool
+    ensures { result ≡ is_fatal done.now }
+{
+    matches!(done, Err(NodeError::OutOfMemory))
+}
