@@ -9,7 +9,7 @@ use crate::engine::Engine;
 use crate::error::NodeError;
 use crate::giving::Giving;
 use crate::output::Output;
-use sd_core::InstanceId;
+use sd_core::{Eventgroup, InstanceId};
 use someip_rpc::{CallKind, Reply};
 use someip_tp::Reassembly;
 use std::alloc::Global;
@@ -185,6 +185,57 @@ impl<R: Reassembly> Node<R> {
         let done = self
             .engine
             .publish_to(instance, eventgroup, endpoint, event, payload, &mut giving);
+        finish(&mut self.failed, done, giving)
+    }
+
+    /// Wishes an eventgroup of an instance that the node wants. A Subscribe goes out at once where an
+    /// offer of the instance is known, and with each further Offer; a wish that stands already sends
+    /// one too (SOME/IP Service Discovery Protocol, "Subscribe Eventgroup entry").
+    ///
+    /// `NotWanted` where the configuration has no such eventgroup.
+    pub fn subscribe(&mut self, eventgroup: Eventgroup) -> Result<Vec<Output>, NodeError>
+        ensures reacts { Reacts self.old (input.Subscribe eventgroup) result self.new }
+        ensures failed { StaysFailed self.old result self.new }
+    {
+        if self.failed {
+            return Err(NodeError::Failed);
+        }
+        let mut giving = Giving::new(self.alloc);
+        let done = self.engine.subscribe_to(eventgroup, &mut giving);
+        finish(&mut self.failed, done, giving)
+    }
+
+    /// Takes the wish of an eventgroup back. The server of the subscription that stands is told by a
+    /// StopSubscribe; without a wish nothing happens (SOME/IP Service Discovery Protocol, "Stop
+    /// Subscribe Eventgroup entry").
+    ///
+    /// `NotWanted` where the configuration has no such eventgroup.
+    pub fn unsubscribe(&mut self, eventgroup: Eventgroup) -> Result<Vec<Output>, NodeError>
+        ensures reacts { Reacts self.old (input.Unsubscribe eventgroup) result self.new }
+        ensures failed { StaysFailed self.old result self.new }
+    {
+        if self.failed {
+            return Err(NodeError::Failed);
+        }
+        let mut giving = Giving::new(self.alloc);
+        let done = self.engine.unsubscribe_from(eventgroup, &mut giving);
+        finish(&mut self.failed, done, giving)
+    }
+
+    /// Stops the offer of an instance until the next restart: all nodes are told by a StopOffer, and its
+    /// subscriptions end. Requests that wait may still be answered (SOME/IP Service Discovery Protocol,
+    /// "Stop Offer Service entry").
+    ///
+    /// `NotOffered` where the instance is not offered.
+    pub fn stop_offer(&mut self, instance: InstanceId) -> Result<Vec<Output>, NodeError>
+        ensures reacts { Reacts self.old (input.StopOffer instance) result self.new }
+        ensures failed { StaysFailed self.old result self.new }
+    {
+        if self.failed {
+            return Err(NodeError::Failed);
+        }
+        let mut giving = Giving::new(self.alloc);
+        let done = self.engine.stop_offering(instance, &mut giving);
         finish(&mut self.failed, done, giving)
     }
 }

@@ -1,0 +1,12 @@
+use Rattle.std.proofs.Common.{◌∙◌}
+use Rattle.someip_node.specs.Inputs.{StopOffer}
+use Rattle.someip_node.proofs.HandledLemmas.{handled_given}
+use Rattle.someip_node.proofs.Stands.{answers}
+use Rattle.someip_node.proofs.node.Node.stop_offer.Goals as goal
+
+pub returns-clause-reacts : goal.returns-clause-reacts
+returns-clause-reacts g c = λ h is.
+    handled_given h (StopOffer c.args.instance) c.self.inside.engine
+    (answers c.self.inside.failed c.self.inside.engine h c.if-self.false (c.self.view_is ∙ is))
+    c.stop_offering-done.result c.new-giving.result c.stop_offering-done.new.giving c.stop_offering-done.new.self _ _
+    c.new-giving.ensures.outputs c.new-giving.ensures.replies c.stop_offering-done.ensures c.finish.ensures.failed c.finish.ensures.given

@@ -1,0 +1,12 @@
+use Rattle.std.proofs.Common.{◌∙◌}
+use Rattle.someip_node.specs.Inputs.{Unsubscribe}
+use Rattle.someip_node.proofs.HandledLemmas.{handled_given}
+use Rattle.someip_node.proofs.Stands.{answers}
+use Rattle.someip_node.proofs.node.Node.unsubscribe.Goals as goal
+
+pub returns-clause-reacts : goal.returns-clause-reacts
+returns-clause-reacts g c = λ h is.
+    handled_given h (Unsubscribe c.args.eventgroup) c.self.inside.engine
+    (answers c.self.inside.failed c.self.inside.engine h c.if-self.false (c.self.view_is ∙ is))
+    c.unsubscribe_from-done.result c.new-giving.result c.unsubscribe_from-done.new.giving c.unsubscribe_from-done.new.self _ _
+    c.new-giving.ensures.outputs c.new-giving.ensures.replies c.unsubscribe_from-done.ensures c.finish.ensures.failed c.finish.ensures.given
