@@ -1,5 +1,5 @@
 -- Which values a node may be set up with.
-use Rattle.std.specs.Prelude.{ℕ, ◌==◌, nat_le, Bool, not, ◌&&◌, List, filter, length}
+use Rattle.std.specs.Prelude.{ℕ, ◌==◌, nat_le, Bool, not, ◌&&◌, List, length}
 use Rattle.std.specs.List.{list_all, list_any}
 use Rattle.std.specs.BTreeSet.{BTreeSet, contains}
 use Rattle.std.specs.Ordering.{nat_cmp}
@@ -66,10 +66,6 @@ is_good_group group = is_good_id group.0 && list_all is_good_event group.1.keys
 -- an instance that it wants
 abbrev pub is_good_want : InstanceId × WantedService → Bool
 is_good_want want = is_good_instance want.0 && nat_le want.1.major 0xFE && not (want.1.ttl == 0) && list_all is_good_group want.1.groups.entries
-
--- the instances that have a port
-abbrev pub at_port : Config → ℕ → List (InstanceId × OfferedService)
-at_port config port = filter (λ offer. v4_port offer.1.rules.endpoint == port) config.offers.entries
 
 -- no two instances have one port
 abbrev pub has_own_ports : Config → Bool

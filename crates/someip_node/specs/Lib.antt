@@ -16,6 +16,7 @@ pub mod Receivers
 pub mod FrontSizes
 pub mod Passings
 pub mod Handled
+pub mod Ports
 pub mod Finishings
 pub mod Errors
 pub mod Publishings

@@ -1,8 +1,9 @@
 //! Which values a node may be set up with.
-ghost use Rattle.std.specs.Prelude.{◌≡◌, ◌==◌, nat_le, ◌&&◌, not, length};
+ghost use Rattle.std.specs.Prelude.{◌≡◌, length};
 ghost use Rattle.std.specs.List.{list_all, list_any};
 ghost use Rattle.std.specs.BTreeSet.{contains};
 ghost use Rattle.std.specs.Ordering.{nat_cmp};
+ghost use Rattle.someip_node.specs.Ports.{at_port, is_alone};
 ghost use Rattle.someip_node.specs.GoodConfigs as good;
 
 use crate::config::{Common, Config, OfferedService, WantedService};
@@ -190,19 +191,30 @@ fn are_good_wants(wants: &BTreeMap<InstanceId, WantedService>) -> bool
 fn has_own_ports(config: &Config) -> bool
     ensures { result ≡ good.has_own_ports config.now }
 {
-    config
-        .offers
-        .iter()
-        .all(|(_, service)| count_at(config, service.rules.endpoint.port()) == 1)
+    has_each_port_once(&config.offers)
+}
+
+/// Whether each instance is the only one at its port.
+fn has_each_port_once(offers: &BTreeMap<InstanceId, OfferedService>) -> bool
+    ensures { result ≡ list_all (λ offer. is_alone offers.now.entries offer.1)
+        offers.now.entries }
+{
+    offers.iter().all(|(_, service)| is_alone(offers, service))
+}
+
+/// Whether an instance is the only one at its port.
+fn is_alone(offers: &BTreeMap<InstanceId, OfferedService>, service: &OfferedService) -> bool
+    ensures { result ≡ is_alone offers.now.entries service.now }
+{
+    count_at(offers, service.rules.endpoint.port()) == 1
 }
 
 /// How many instances have a port.
-fn count_at(config: &Config, port: u16) -> usize
-    ensures { result ≡ length (good.at_port config.now port) }
+fn count_at(offers: &BTreeMap<InstanceId, OfferedService>, port: u16) -> usize
+    ensures { result ≡ length (at_port port offers.now.entries) }
 {
-    config
-        .offers
+    offers
         .iter()
-        .filter(|(_, service)| service.rules.endpoint.port() == port)
+        .filter(|(_, service)| is_same_key(&port, &service.rules.endpoint.port()))
         .count()
 }
