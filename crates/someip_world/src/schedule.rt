@@ -1,0 +1,64 @@
+//! Schedules: one step a line.
+//!
+//! ```text
+//! # a comment
+//! tick server 100
+//! call client 1234.0001 0421 12ff
+//! deliver 1 server
+//! answer server 1 00 aa*4
+//! ```
+ghost use Rattle.std.specs.Prelude.{◌≡◌, ◌==◌, Some, None, IfErr, IfOk, OnOk, map};
+ghost use Rattle.someip_world.specs.Schedule.{IsFoundOf, RefusesSchedule, first_bad, is_left_out};
+ghost use Rattle.someip_world.specs.Schedule.{steps_of};
+
+use crate::error::ScheduleError;
+use crate::step::Step;
+use crate::step_reading::step_of_line;
+use crate::step_words::WordFault;
+use std::alloc::Global;
+use std::str;
+
+/// Reads a schedule: one step a line.
+pub fn read_schedule(alloc: Global, text: &[u8]) -> Result<Vec<Step>, ScheduleError>
+    // The steps are those that the lines spell, in order, and no line is bad.
+    ensures found { IfOk result (λ steps. map (λ s. Some s) steps.items ≡ steps_of text.now) }
+    ensures only { OnOk result (first_bad text.now ≡ None) }
+
+    // The error names the first bad line.
+    ensures fault { IfErr result (RefusesSchedule text.now) }
+{
+    let mut steps = Vec::new(alloc);
+    for (i, line) in text.split(|b| *b == b'\n').enumerate() {
+        match step_of(alloc, line) {
+            Ok(Some(step)) => steps.push(step)?,
+            Ok(None) => {}
+            Err(WordFault::Bad) => return Err(ScheduleError::BadLine(i + 1)),
+            Err(WordFault::OutOfMemory) => return Err(ScheduleError::OutOfMemory),
+        }
+    }
+    Ok(steps)
+}
+
+/// The step that a line spells, if it is not skipped.
+fn step_of(alloc: Global, line: &[u8]) -> Result<Option<Step>, WordFault>
+    ensures { IsFoundOf line.now result }
+{
+    let Ok(text) = str::from_utf8(line) else {
+        return Err(WordFault::Bad);
+    };
+    if is_left_out(line) {
+        return Ok(None);
+    }
+    let step = step_of_line(alloc, text)?;
+    Ok(Some(step))
+}
+
+/// Whether a line is empty, or begins with `#`.
+fn is_left_out(line: &[u8]) -> bool
+    ensures { result ≡ is_left_out line.now }
+{
+    match line {
+        [] => true,
+        [first, ..] => *first == b'#',
+    }
+}

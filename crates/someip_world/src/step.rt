@@ -1,0 +1,103 @@
+//! The steps of a schedule.
+
+use crate::step_method::MethodId;
+use crate::step_name::NodeName;
+use sd_core::{Eventgroup, InstanceId};
+use someip_node::Payload;
+use someip_rpc::{CallKind, Reply};
+use std::net::SocketAddrV4;
+
+/// A step of a schedule: what is done in a world of nodes.
+#[derive(Drop)]
+pub enum Step {
+    /// The clock of a node goes on.
+    Tick {
+        /// The node.
+        node: NodeName,
+        /// By how many milliseconds.
+        ms: u64,
+    },
+    /// A datagram that was sent is delivered.
+    Deliver {
+        /// Which of those that were sent, counted from 1.
+        count: u64,
+        /// The node that it is delivered to.
+        node: NodeName,
+    },
+    /// A node calls a method.
+    Call {
+        /// The node.
+        node: NodeName,
+        /// Whether it waits for an answer.
+        kind: CallKind,
+        /// The instance that it calls.
+        instance: InstanceId,
+        /// The method.
+        method: MethodId,
+        /// The payload.
+        payload: Payload,
+    },
+    /// A node answers a request.
+    Answer {
+        /// The node.
+        node: NodeName,
+        /// What the request named for its answer.
+        token: u64,
+        /// Whether it is a RESPONSE or an ERROR, and its Return Code.
+        reply: Reply,
+        /// The payload.
+        payload: Payload,
+    },
+    /// A node publishes an event to those that subscribed to it.
+    Publish {
+        /// The node.
+        node: NodeName,
+        /// The instance whose event it is.
+        instance: InstanceId,
+        /// Event ID.
+        event: u16,
+        /// The payload.
+        payload: Payload,
+    },
+    /// A node publishes an event to one subscriber.
+    PublishTo {
+        /// The node.
+        node: NodeName,
+        /// The eventgroup that it subscribed to.
+        group: Eventgroup,
+        /// Its endpoint.
+        to: SocketAddrV4,
+        /// Event ID.
+        event: u16,
+        /// The payload.
+        payload: Payload,
+    },
+    /// A node subscribes to an eventgroup.
+    Subscribe {
+        /// The node.
+        node: NodeName,
+        /// The eventgroup.
+        group: Eventgroup,
+    },
+    /// A node gives up its subscription to an eventgroup.
+    Unsubscribe {
+        /// The node.
+        node: NodeName,
+        /// The eventgroup.
+        group: Eventgroup,
+    },
+    /// A node no longer offers an instance.
+    StopOffer {
+        /// The node.
+        node: NodeName,
+        /// The instance.
+        instance: InstanceId,
+    },
+    /// A node starts anew.
+    Restart {
+        /// The node.
+        node: NodeName,
+        /// After how many milliseconds it sends its first Offers and Finds.
+        delay: u64,
+    },
+}

@@ -1,0 +1,55 @@
+//! The names of nodes.
+ghost use Rattle.std.specs.Prelude.{◌≡◌, IfOk, IsTrue};
+ghost use Rattle.someip_world.specs.StepWords.{is_name, is_name_byte, name_in};
+
+use std::alloc::{AllocError, Global};
+use std::marker::Model;
+
+/// The name of a node: one to 16 letters from `a` to `z` and digits. Contracts see its bytes.
+#[derive(Drop)]
+pub struct NodeName {
+    text: String,
+}
+
+impl Model for NodeName {
+    ghost use Rattle.std.specs.Prelude.{ℕ, List, IsTrue, string_bytes};
+    ghost use Rattle.someip_world.specs.StepWords.{is_name};
+
+    ghost Value = { List ℕ };
+
+    ghost view = { λ n. string_bytes n.text };
+
+    ghost invariant = { λ n. IsTrue (is_name (string_bytes n.text)) };
+}
+
+impl NodeName {
+    /// The node of this name, if it is one.
+    pub fn read(alloc: Global, text: &str) -> Result<Option<NodeName>, AllocError>
+        ensures { IfOk result (λ found. found ≡ name_in text.now) }
+    {
+        if !is_name(text) {
+            return Ok(None);
+        }
+        let text = String::from_str(alloc, text)?;
+        Ok(Some(NodeName { text }))
+    }
+
+    /// The name.
+    pub fn as_str(&self) -> &str
+        ensures { result.now ≡ self.now }
+    {
+        self.text.as_str()
+    }
+}
+
+fn is_name(text: &str) -> bool
+    ensures { result ≡ is_name text.now }
+{
+    !text.is_empty() && text.len() <= 16 && text.bytes().all(|b| is_name_byte(b))
+}
+
+fn is_name_byte(b: u8) -> bool
+    ensures { result ≡ is_name_byte b }
+{
+    b.is_ascii_lowercase() || b.is_ascii_digit()
+}

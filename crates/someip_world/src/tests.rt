@@ -1,0 +1,153 @@
+//! Schedules, line by line: what each good line spells, and what almost right ones are refused for.
+use crate::error::ScheduleError;
+use crate::schedule::read_schedule;
+use crate::step::Step;
+use sd_core::{Eventgroup, InstanceId};
+use someip_rpc::{CallKind, Reply};
+use someip_wire::ReturnCode;
+use std::alloc::{AllocError, Global};
+use std::net::{Ipv4Addr, SocketAddrV4};
+use std::test::Fail;
+
+/// Lines that each spell one step.
+const GOOD: [&[u8]; 34] = [
+    b"tick a 0",
+    b"tick abcdefghijklmno7 18446744073709551615",
+    b"deliver 0 a",
+    b"deliver 12 server",
+    b"call a 1234.0001 7fff -",
+    b"call a 1234.ffFF 0000 12fF",
+    b"oneway a 1234.0001 0001 aa*0",
+    b"oneway a 1234.0001 0001 aA*1048576",
+    b"answer a 0 00 -",
+    b"answer a 18446744073709551615 ff 00",
+    b"error a 1 00 -",
+    b"error a 1 fF 0102",
+    b"publish a 1234.0001 0000 -",
+    b"publish a 1234.0001 ffff 00*1",
+    b"publish_to a 1234.0001 0001 0.0.0.0:0 8001 -",
+    b"publish_to a 1234.0001 0001 255.255.255.255:65535 8001 0a",
+    b"subscribe a 1234.0001 0001",
+    b"unsubscribe a 1234.0001 ffff",
+    b"stop_offer 0 1234.0001",
+    b"restart a 0",
+    b"restart a 18446744073709551615",
+    b"tick a 5\n",
+    b"\n\ntick a 5\n\n",
+    b"#\n# a comment  \r\ntick a 5",
+    b"# \xc3\xa4\ntick a 5",
+    b"tick 0123456789abcdef 10",
+    b"call a ABCD.EF01 7FFF 0A",
+    b"call tick 0000.0000 0000 00",
+    b"deliver 18446744073709551615 z9",
+    b"answer a 10 0A -",
+    b"publish_to a 1234.0001 0001 10.0.0.200:30490 8001 ff*2",
+    b"subscribe subscribe ffff.ffff ffff",
+    b"restart restart 1",
+    b"#tick\ntick a 5\n#",
+];
+
+/// Texts that spell no step, and have no bad line.
+const EMPTY: [&[u8]; 6] = [b"", b"\n", b"\n\n", b"#", b"# tick a 5\n", b"#\xc3\xa4\n\n#x"];
+
+/// Texts whose first line is bad.
+const BAD: [&[u8]; 85] = [
+    b"tick a",
+    b"tick",
+    b" ",
+    b"\r",
+    b"tick a 5\r",
+    b"tick  a 5",
+    b" tick a 5",
+    b"tick a 5 ",
+    b"tick a 5 6",
+    b"tick a\t5",
+    b"Tick a 5",
+    b"tock a 5",
+    b"tick a 05",
+    b"tick a 00",
+    b"tick a +5",
+    b"tick a -5",
+    b"tick a ",
+    b"tick a 5x",
+    b"tick a 18446744073709551616",
+    b"tick A 5",
+    b"tick a_b 5",
+    b"tick abcdefghijklmnopq 5",
+    b"tick \xc3\xa4 5",
+    b"tick \xff 5",
+    b"#\xff",
+    b"# \xc3",
+    b" # comment",
+    b"deliver a 0",
+    b"deliver 0",
+    b"deliver 01 a",
+    b"deliver 0 a b",
+    b"call a 1234.0001 8000 -",
+    b"call a 1234.0001 ffff -",
+    b"call a 1234.0001 001 -",
+    b"call a 1234.0001 00001 -",
+    b"call a 1234.0001 000g -",
+    b"call a 12340001 0001 -",
+    b"call a 1234.001 0001 -",
+    b"call a 1234.0001.0001 0001 -",
+    b"call a 1234:0001 0001 -",
+    b"call a 1234.0001 0001",
+    b"call a 1234.0001 0001 ",
+    b"call a 1234.0001 0001 - -",
+    b"call a 1234.0001 0001 --",
+    b"call a 1234.0001 0001 1",
+    b"call a 1234.0001 0001 123",
+    b"call a 1234.0001 0001 1g",
+    b"call a 1234.0001 0001 0x12",
+    b"call a 1234.0001 0001 aa*1048577",
+    b"call a 1234.0001 0001 aa*01",
+    b"call a 1234.0001 0001 aa*",
+    b"call a 1234.0001 0001 *1",
+    b"call a 1234.0001 0001 aaaa*1",
+    b"call a 1234.0001 0001 a*1",
+    b"call a 1234.0001 0001 aa*1*1",
+    b"call a 1234.0001 0001 aa*18446744073709551616",
+    b"call A 1234.0001 0001 -",
+    b"oneway a 1234.0001 8000 -",
+    b"answer a 1 0 -",
+    b"answer a 1 000 -",
+    b"answer a 01 00 -",
+    b"answer a 1 0g -",
+    b"answer a 1 00",
+    b"error a 1 -",
+    b"publish a 1234.0001 001 -",
+    b"publish a 1234.0001 0001",
+    b"publish_to a 1234.0001 0001 10.0.0.1:65536 8001 -",
+    b"publish_to a 1234.0001 0001 10.0.0.1:00 8001 -",
+    b"publish_to a 1234.0001 0001 10.0.0.1: 8001 -",
+    b"publish_to a 1234.0001 0001 10.0.0.1 8001 -",
+    b"publish_to a 1234.0001 0001 10.0.0:1 8001 -",
+    b"publish_to a 1234.0001 0001 10.0.0.0.1:1 8001 -",
+    b"publish_to a 1234.0001 0001 256.0.0.1:1 8001 -",
+    b"publish_to a 1234.0001 0001 01.0.0.1:1 8001 -",
+    b"publish_to a 1234.0001 0001 10.0.0.1:1:1 8001 -",
+    b"publish_to a 1234.0001 10.0.0.1:1 8001 -",
+    b"publish_to a 1234.0001 0001 10.0.0.1:1 8001",
+    b"subscribe a 1234.0001",
+    b"subscribe a 1234.0001 001",
+    b"unsubscribe a 1234.0001 0001 0001",
+    b"stop_offer a",
+    b"stop_offer a 1234",
+    b"restart a",
+    b"restart a 18446744073709551616",
+    b"start a 1",
+];
+
+#[test]
+fn good_lines_spell_one_step_each() {
+    let alloc = Global;
+    for line in GOOD {
+        let read = read_schedule(alloc, line);
+        let counted = match &read {
+            Ok(steps) => steps.len(),
+            Err(_) => 0,
+        };
+        assert_eq!(rt; counted, 1);
+    }
+}
