@@ -139,15 +139,29 @@ const BAD: [&[u8]; 85] = [
     b"start a 1",
 ];
 
+/// How many steps a text has, or which of its lines is bad.
+fn counted(alloc: Global, text: &[u8]) -> Result<usize, ScheduleError> {
+    let steps = read_schedule(alloc, text)?;
+    Ok(steps.len())
+}
+
 #[test]
-fn good_lines_spell_one_step_each() {
-    let alloc = Global;
-    for line in GOOD {
-        let read = read_schedule(alloc, line);
-        let counted = match &read {
-            Ok(steps) => steps.len(),
-            Err(_) => 0,
-        };
-        assert_eq!(rt; counted, 1);
+fn good_lines_spell_one_step_each(rt: HostRuntime) {
+    for text in GOOD {
+        assert_eq!(rt; counted(rt.alloc(), text), Ok(1), "{text:?}");
+    }
+}
+
+#[test]
+fn lines_that_are_skipped_spell_none(rt: HostRuntime) {
+    for text in EMPTY {
+        assert_eq!(rt; counted(rt.alloc(), text), Ok(0), "{text:?}");
+    }
+}
+
+#[test]
+fn almost_right_lines_are_bad(rt: HostRuntime) {
+    for text in BAD {
+        assert_eq!(rt; counted(rt.alloc(), text), Err(ScheduleError::BadLine(1)), "{text:?}");
     }
 }
