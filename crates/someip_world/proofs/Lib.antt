@@ -1,0 +1,3 @@
+pub mod StepLemmas
+pub mod WordLemmas
+pub mod ScheduleLemmas

@@ -4,7 +4,6 @@ use Rattle.std.specs.List.{list_all, position_or_len, before_first, after_first}
 use Rattle.std.specs.Int.{w16, from_be_bytes}
 use Rattle.std.specs.Result.{result_ok}
 use Rattle.std.specs.Option.{option_map}
-use Rattle.std.specs.Str.{all_ascii_digits}
 use Rattle.std.specs.Str.Parse.{digits_value}
 use Rattle.hex.specs.Hex.{decode_of, decode_sized}
 use Rattle.std.specs.declared.net.socket_addr.SocketAddrV4.{SocketAddrV4}
@@ -34,11 +33,19 @@ cut_in c word =
 
 -- ---- numbers
 
+-- a digit from 0 to 9
+abbrev pub is_digit : ℕ → Bool
+is_digit b = nat_le 0x30 b && nat_le b 0x39
+
+-- something stands first, and it is no zero that others follow
+abbrev pub begins_plain : List ℕ → Bool
+begins_plain [] = false
+begins_plain (first ∷ []) = true
+begins_plain (first ∷ second ∷ others) = not (first == 0x30)
+
 -- digits, at least one, without leading zeros
 abbrev pub is_plain : List ℕ → Bool
-is_plain [] = false
-is_plain (first ∷ others) =
-    all_ascii_digits (first ∷ others) && (not (first == 0x30) || length others == 0)
+is_plain word = begins_plain word && list_all is_digit word
 
 -- the number below this limit that digits write
 abbrev pub number_in : ℕ → List ℕ → Option ℕ
@@ -73,11 +80,11 @@ code_in word = do
 
 -- a letter from a to z, or a digit
 abbrev pub is_name_byte : ℕ → Bool
-is_name_byte b = (nat_le 0x61 b && nat_le b 0x7a) || (nat_le 0x30 b && nat_le b 0x39)
+is_name_byte b = (nat_le 0x61 b && nat_le b 0x7a) || is_digit b
 
 -- a node's name: one to 16 of these
 abbrev pub is_name : List ℕ → Bool
-is_name word = nat_lt 0 (length word) && nat_le (length word) 16 && list_all is_name_byte word
+is_name word = nat_le 1 (length word) && nat_le (length word) 16 && list_all is_name_byte word
 
 abbrev pub name_in : List ℕ → Option (List ℕ)
 name_in word = if is_name word then Some word else None

@@ -7,7 +7,9 @@
 //! deliver 1 server
 //! answer server 1 00 aa*4
 //! ```
-ghost use Rattle.std.specs.Prelude.{◌≡◌, ◌==◌, Some, None, IfErr, IfOk, OnOk, map};
+ghost use Rattle.std.specs.Prelude.{◌≡◌, ◌==◌, Some, None, IfErr, IfOk, OnOk, MatchOption};
+ghost use Rattle.std.specs.Prelude.{map, true, false};
+ghost use Rattle.std.specs.Str.{is_utf8};
 ghost use Rattle.someip_world.specs.Schedule.{IsFoundOf, RefusesSchedule, first_bad, is_left_out};
 ghost use Rattle.someip_world.specs.Schedule.{steps_of};
 
@@ -29,12 +31,13 @@ pub fn read_schedule(alloc: Global, text: &[u8]) -> Result<Vec<Step>, ScheduleEr
 {
     let mut steps = Vec::new(alloc);
     for (i, line) in text.split(|b| *b == b'\n').enumerate() {
-        match step_of(alloc, line) {
-            Ok(Some(step)) => steps.push(step)?,
-            Ok(None) => {}
+        let step = match step_of(alloc, line) {
+            Ok(Some(step)) => step,
+            Ok(None) => continue,
             Err(WordFault::Bad) => return Err(ScheduleError::BadLine(i + 1)),
             Err(WordFault::OutOfMemory) => return Err(ScheduleError::OutOfMemory),
-        }
+        };
+        steps.push(step)?;
     }
     Ok(steps)
 }
@@ -43,14 +46,24 @@ pub fn read_schedule(alloc: Global, text: &[u8]) -> Result<Vec<Step>, ScheduleEr
 fn step_of(alloc: Global, line: &[u8]) -> Result<Option<Step>, WordFault>
     ensures { IsFoundOf line.now result }
 {
-    let Ok(text) = str::from_utf8(line) else {
+    let Some(text) = text_of(line) else {
         return Err(WordFault::Bad);
     };
     if is_left_out(line) {
         return Ok(None);
     }
-    let step = step_of_line(alloc, text)?;
-    Ok(Some(step))
+    match step_of_line(alloc, text) {
+        Ok(step) => Ok(Some(step)),
+        Err(fault) => Err(fault),
+    }
+}
+
+/// The text of a line, if it is UTF-8.
+fn text_of(line: &[u8]) -> Option<&str>
+    ensures { MatchOption result (is_utf8 line.now ≡ false)
+        (λ text. (text.now ≡ line.now) × (is_utf8 line.now ≡ true)) }
+{
+    str::from_utf8(line).ok()
 }
 
 /// Whether a line is empty, or begins with `#`.

@@ -1,5 +1,6 @@
 //! The names of nodes.
 ghost use Rattle.std.specs.Prelude.{◌≡◌, IfOk, IsTrue};
+ghost use Rattle.std.specs.List.{list_all};
 ghost use Rattle.someip_world.specs.StepWords.{is_name, is_name_byte, name_in};
 
 use std::alloc::{AllocError, Global};
@@ -27,7 +28,7 @@ impl NodeName {
     pub fn read(alloc: Global, text: &str) -> Result<Option<NodeName>, AllocError>
         ensures { IfOk result (λ found. found ≡ name_in text.now) }
     {
-        if !is_name(text) {
+        if !is_name(text.as_bytes()) {
             return Ok(None);
         }
         let text = String::from_str(alloc, text)?;
@@ -42,14 +43,15 @@ impl NodeName {
     }
 }
 
-fn is_name(text: &str) -> bool
+fn is_name(text: &[u8]) -> bool
     ensures { result ≡ is_name text.now }
 {
-    !text.is_empty() && text.len() <= 16 && text.bytes().all(|b| is_name_byte(b))
+    1 <= text.len() && text.len() <= 16 && are_name_bytes(text)
 }
 
-fn is_name_byte(b: u8) -> bool
-    ensures { result ≡ is_name_byte b }
+fn are_name_bytes(text: &[u8]) -> bool
+    ensures { result ≡ list_all is_name_byte text.now }
 {
-    b.is_ascii_lowercase() || b.is_ascii_digit()
+    text.iter()
+        .all(|b| (b'a' <= *b && *b <= b'z') || (b'0' <= *b && *b <= b'9'))
 }

@@ -1,6 +1,8 @@
 //! The words of a line that are numbers, IDs and endpoints.
 ghost use Rattle.std.specs.Prelude.{◌≡◌, ◌<◌, ◌^◌, Some, None, MatchOption};
-ghost use Rattle.someip_world.specs.StepWords.{Reads, cut_in, is_plain, number_in, id_in, method_in};
+ghost use Rattle.std.specs.List.{list_all};
+ghost use Rattle.someip_world.specs.StepWords.{Reads, cut_in, is_digit, begins_plain};
+ghost use Rattle.someip_world.specs.StepWords.{is_plain, number_in, id_in, method_in};
 ghost use Rattle.someip_world.specs.StepWords.{byte_in, code_in, instance_in, group_in, address_in};
 ghost use Rattle.someip_world.specs.StepWords.{endpoint_in};
 ghost use Rattle.someip_world.specs.declared.step_words.WordFault.TheVariants.{OutOfMemory};
@@ -38,22 +40,34 @@ pub fn cut<'t>(word: &'t str, separator: char) -> Option<(&'t str, &'t str)>
 }
 
 /// Whether a word is digits without leading zeros.
-fn is_plain(word: &str) -> bool
+fn is_plain(word: &[u8]) -> bool
     ensures { result ≡ is_plain word.now }
 {
-    match word.as_bytes() {
+    begins_plain(word) && are_digits(word)
+}
+
+/// Whether something stands first, and it is no zero that others follow.
+fn begins_plain(word: &[u8]) -> bool
+    ensures { result ≡ begins_plain word.now }
+{
+    match word {
         [] => false,
-        [first, others @ ..] => {
-            word.bytes().all(|b| b.is_ascii_digit()) && (*first != b'0' || others.is_empty())
-        }
+        [_] => true,
+        [first, ..] => *first != b'0',
     }
+}
+
+fn are_digits(word: &[u8]) -> bool
+    ensures { result ≡ list_all is_digit word.now }
+{
+    word.iter().all(|b| b'0' <= *b && *b <= b'9')
 }
 
 /// A decimal number of 64 bits.
 pub fn number(word: &str) -> Option<u64>
     ensures { result ≡ number_in (2 ^ 64) word.now }
 {
-    if is_plain(word) {
+    if is_plain(word.as_bytes()) {
         word.parse::<u64>().ok()
     } else {
         None
@@ -64,7 +78,7 @@ pub fn number(word: &str) -> Option<u64>
 fn port(word: &str) -> Option<u16>
     ensures { result ≡ number_in (2 ^ 16) word.now }
 {
-    if is_plain(word) {
+    if is_plain(word.as_bytes()) {
         word.parse::<u16>().ok()
     } else {
         None
@@ -75,7 +89,7 @@ fn port(word: &str) -> Option<u16>
 fn octet(word: &str) -> Option<u8>
     ensures { result ≡ number_in (2 ^ 8) word.now }
 {
-    if is_plain(word) {
+    if is_plain(word.as_bytes()) {
         word.parse::<u8>().ok()
     } else {
         None
