@@ -19,6 +19,7 @@ pub use schedule::read_schedule;
 pub use step::Step;
 pub use step_method::MethodId;
 pub use step_name::NodeName;
+pub use step_payload::StepPayload;
 
 #[cfg(test)]
 mod tests;

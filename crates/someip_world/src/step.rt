@@ -2,8 +2,8 @@
 
 use crate::step_method::MethodId;
 use crate::step_name::NodeName;
+use crate::step_payload::StepPayload;
 use sd_core::{Eventgroup, InstanceId};
-use someip_node::Payload;
 use someip_rpc::{CallKind, Reply};
 use std::net::SocketAddrV4;
 
@@ -35,7 +35,7 @@ pub enum Step {
         /// The method.
         method: MethodId,
         /// The payload.
-        payload: Payload,
+        payload: StepPayload,
     },
     /// A node answers a request.
     Answer {
@@ -46,7 +46,7 @@ pub enum Step {
         /// Whether it is a RESPONSE or an ERROR, and its Return Code.
         reply: Reply,
         /// The payload.
-        payload: Payload,
+        payload: StepPayload,
     },
     /// A node publishes an event to those that subscribed to it.
     Publish {
@@ -57,7 +57,7 @@ pub enum Step {
         /// Event ID.
         event: u16,
         /// The payload.
-        payload: Payload,
+        payload: StepPayload,
     },
     /// A node publishes an event to one subscriber.
     PublishTo {
@@ -70,7 +70,7 @@ pub enum Step {
         /// Event ID.
         event: u16,
         /// The payload.
-        payload: Payload,
+        payload: StepPayload,
     },
     /// A node subscribes to an eventgroup.
     Subscribe {

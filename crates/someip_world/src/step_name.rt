@@ -1,8 +1,9 @@
 //! The names of nodes.
 ghost use Rattle.std.specs.Prelude.{◌≡◌, IfOk, IsTrue};
 ghost use Rattle.std.specs.List.{list_all};
-ghost use Rattle.someip_world.specs.StepWords.{is_name, is_name_byte, name_in};
+ghost use Rattle.someip_world.specs.StepWords.{Reads, is_name, is_name_byte, name_in};
 
+use crate::step_words::WordFault;
 use std::alloc::{AllocError, Global};
 use std::marker::Model;
 
@@ -54,4 +55,15 @@ fn are_name_bytes(text: &[u8]) -> bool
 {
     text.iter()
         .all(|b| (b'a' <= *b && *b <= b'z') || (b'0' <= *b && *b <= b'9'))
+}
+
+/// Reads a node's name.
+pub fn name(alloc: Global, word: &str) -> Result<NodeName, WordFault>
+    ensures { Reads (name_in word.now) result }
+{
+    match NodeName::read(alloc, word) {
+        Ok(Some(name)) => Ok(name),
+        Ok(None) => Err(WordFault::Bad),
+        Err(_) => Err(WordFault::OutOfMemory),
+    }
 }

@@ -1,53 +1,88 @@
-//! The words of a line that are payloads and names.
-ghost use Rattle.std.specs.Prelude.{◌≡◌, IfOk, map};
-ghost use Rattle.std.specs.Option.{option_map};
-ghost use Rattle.someip_world.specs.StepWords.{Reads, name_in, number_in, hex_in, repeated_in};
-ghost use Rattle.someip_world.specs.StepWords.{payload_in};
+//! The payloads of steps.
+ghost use Rattle.std.specs.Prelude.{◌≡◌, ◌++◌, IfOk, Some, None};
+ghost use Rattle.someip_world.specs.StepWords.{Reads, number_in, hex_in, repeated_in, payload_in};
 
-use crate::step_name::NodeName;
 use crate::step_words::{WordFault, byte, cut, number};
 use hex::FromHexError;
 use someip_node::Payload;
-use std::alloc::Global;
+use std::alloc::{AllocError, Global};
+use std::marker::Model;
 
-/// The largest count of `HH*N`.
+/// The largest N of `HH*N`.
 const REPEATED_LIMIT: u64 = 1_048_576;
 
-/// A node's name.
-pub fn name(alloc: Global, word: &str) -> Result<NodeName, WordFault>
-    ensures { Reads (name_in word.now) result }
-{
-    match NodeName::read(alloc, word) {
-        Ok(Some(name)) => Ok(name),
-        Ok(None) => Err(WordFault::Bad),
-        Err(_) => Err(WordFault::OutOfMemory),
+/// The payload of a step. Contracts see its bytes.
+///
+/// `HH*N` is kept as the byte and the number N, so that a schedule takes no more memory than its
+/// text does, however large the payloads are that it spells.
+#[derive(Drop)]
+pub struct StepPayload {
+    /// The bytes that the line spells one by one.
+    bytes: Vec<u8>,
+    /// The byte that follows them, so many times.
+    repeated: u8,
+    /// How many times.
+    count: usize,
+}
+
+impl Model for StepPayload {
+    ghost use Rattle.std.specs.Prelude.{ℕ, List, ◌++◌, replicate};
+
+    ghost Value = { List ℕ };
+
+    ghost view = { λ p. p.bytes.items ++ replicate p.count p.repeated };
+}
+
+impl StepPayload {
+    /// The payload.
+    pub fn to_payload(&self, alloc: Global) -> Result<Payload, AllocError>
+        ensures { IfOk result (λ payload. payload ≡ self.now) }
+    {
+        let mut bytes = self.bytes.to_vec(alloc)?;
+        let len = bytes.len().checked_add(self.count).ok_or(AllocError)?;
+        bytes.resize(len, self.repeated)?;
+        Ok(Payload::from_vec(bytes))
+    }
+
+    /// These bytes.
+    fn from_vec(bytes: Vec<u8>) -> StepPayload
+        ensures { result ≡ bytes.items }
+    {
+        StepPayload {
+            bytes,
+            repeated: 0,
+            count: 0,
+        }
     }
 }
 
-/// A payload: `-`, `HH*N` or pairs of hex digits.
-pub fn payload(alloc: Global, word: &str) -> Result<Payload, WordFault>
+/// Reads a payload: `-`, `HH*N` or pairs of hex digits.
+pub fn payload(alloc: Global, word: &str) -> Result<StepPayload, WordFault>
     ensures { Reads (payload_in word.now) result }
 {
     if word == "-" {
-        return Ok(Payload::from_vec(Vec::new(alloc)));
+        return Ok(StepPayload::from_vec(Vec::new(alloc)));
     }
     match cut(word, '*') {
-        Some((digits, count)) => repeated(alloc, digits, count),
+        Some((digits, count)) => match repeated(alloc, digits, count) {
+            Some(payload) => Ok(payload),
+            None => Err(WordFault::Bad),
+        },
         None => hex_bytes(alloc, word),
     }
 }
 
 /// So many times one byte.
-fn repeated(alloc: Global, digits: &str, count: &str) -> Result<Payload, WordFault>
-    ensures { Reads (repeated_in digits.now count.now) result }
+fn repeated(alloc: Global, digits: &str, count: &str) -> Option<StepPayload>
+    ensures { result ≡ repeated_in digits.now count.now }
 {
-    let (Some(byte), Some(count)) = (byte(digits), repetitions(count)) else {
-        return Err(WordFault::Bad);
-    };
-    match vec![in alloc; byte; count] {
-        Ok(bytes) => Ok(Payload::from_vec(bytes)),
-        Err(_) => Err(WordFault::OutOfMemory),
-    }
+    let repeated = byte(digits)?;
+    let count = repetitions(count)?;
+    Some(StepPayload {
+        bytes: Vec::new(alloc),
+        repeated,
+        count,
+    })
 }
 
 /// How often a byte is repeated.
@@ -63,14 +98,14 @@ fn repetitions(word: &str) -> Option<usize>
 }
 
 /// The bytes of pairs of hex digits.
-fn hex_bytes(alloc: Global, word: &str) -> Result<Payload, WordFault>
+fn hex_bytes(alloc: Global, word: &str) -> Result<StepPayload, WordFault>
     ensures { Reads (hex_in word.now) result }
 {
     if word.is_empty() {
         return Err(WordFault::Bad);
     }
     match hex::decode(alloc, word) {
-        Ok(bytes) => Ok(Payload::from_vec(bytes)),
+        Ok(bytes) => Ok(StepPayload::from_vec(bytes)),
         Err(FromHexError::OutOfMemory) => Err(WordFault::OutOfMemory),
         Err(_) => Err(WordFault::Bad),
     }

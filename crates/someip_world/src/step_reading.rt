@@ -8,7 +8,8 @@ ghost use Rattle.someip_rpc.specs.declared.request.Reply.TheVariants.{Response, 
 
 use crate::step::Step;
 use crate::step_command::{Command, command_of};
-use crate::step_payload::{name, payload};
+use crate::step_name::name;
+use crate::step_payload::payload;
 use crate::step_words::{WordFault, code, endpoint, group, id, instance, method, number};
 use someip_rpc::{CallKind, Reply};
 use std::alloc::{AllocError, Global};
