@@ -2,11 +2,7 @@
 use crate::error::ScheduleError;
 use crate::schedule::read_schedule;
 use crate::step::Step;
-use sd_core::{Eventgroup, InstanceId};
-use someip_rpc::{CallKind, Reply};
-use someip_wire::ReturnCode;
 use std::alloc::{AllocError, Global};
-use std::net::{Ipv4Addr, SocketAddrV4};
 use std::test::Fail;
 
 /// Lines that each spell one step.
@@ -164,4 +160,139 @@ fn almost_right_lines_are_bad(rt: HostRuntime) {
     for text in BAD {
         assert_eq!(rt; counted(rt.alloc(), text), Err(ScheduleError::BadLine(1)), "{text:?}");
     }
+}
+
+#[test]
+fn an_error_names_the_first_bad_line(rt: HostRuntime) -> Result<(), Fail> {
+    let rows: [(&[u8], usize); 5] = [
+        (b"tick a 5\n\n# x\ntick a 05\ntick a", 4),
+        (b"\n\ntick a", 3),
+        (b"tick a 5\n#\xff\n", 2),
+        (b"tick a 5\r\n", 1),
+        (b"tick a 5\ntick a 6\n \n", 3),
+    ];
+    for (text, line) in rows {
+        let read = counted(rt.alloc(), text);
+        assert_eq!(rt; read, Err(ScheduleError::BadLine(line)), "{text:?}");
+    }
+    let bad = ScheduleError::BadLine(7);
+    assert_eq!(rt; format!(in rt.alloc(); "{bad}")?.as_str(), "line 7: bad step");
+    let out = ScheduleError::OutOfMemory;
+    assert_eq!(rt; format!(in rt.alloc(); "{out}")?.as_str(), "out of memory");
+    Ok(())
+}
+
+/// A step of each kind, in the order of [`as_written`].
+const EACH: &[u8] = b"tick a 5
+deliver 7 b1
+call a 1234.00ff 7ffe 01ff
+oneway a 1234.00FF 0001 Ab*3
+answer a 9 80 -
+error a 10 01 00
+publish a 1234.0001 8001 -
+publish_to a 1234.0001 0002 10.0.0.200:30490 8003 0a
+subscribe a 1234.0001 fffe
+unsubscribe a 1234.0001 0003
+stop_offer a 1234.0001
+restart a 100
+";
+
+/// What a step says, in Rust's terms. A payload follows as its bytes.
+fn as_written(alloc: Global, step: &Step) -> Result<String, AllocError> {
+    match step {
+        Step::Tick { node, ms } => {
+            let node = node.as_str();
+            format!(in alloc; "{node} tick {ms}")
+        }
+        Step::Deliver { count, node } => {
+            let node = node.as_str();
+            format!(in alloc; "{node} deliver {count}")
+        }
+        Step::Call {
+            node,
+            kind,
+            instance,
+            method,
+            payload,
+        } => {
+            let (node, method) = (node.as_str(), method.id());
+            let payload = payload.to_payload(alloc)?;
+            let bytes = payload.as_slice();
+            format!(in alloc; "{node} {kind:?} {instance:?} {method} {bytes:?}")
+        }
+        Step::Answer {
+            node,
+            token,
+            reply,
+            payload,
+        } => {
+            let node = node.as_str();
+            let payload = payload.to_payload(alloc)?;
+            let bytes = payload.as_slice();
+            format!(in alloc; "{node} {token} {reply:?} {bytes:?}")
+        }
+        Step::Publish {
+            node,
+            instance,
+            event,
+            payload,
+        } => {
+            let node = node.as_str();
+            let payload = payload.to_payload(alloc)?;
+            let bytes = payload.as_slice();
+            format!(in alloc; "{node} publish {instance:?} {event} {bytes:?}")
+        }
+        Step::PublishTo {
+            node,
+            group,
+            to,
+            event,
+            payload,
+        } => {
+            let node = node.as_str();
+            let payload = payload.to_payload(alloc)?;
+            let bytes = payload.as_slice();
+            format!(in alloc; "{node} publish {group:?} {to} {event} {bytes:?}")
+        }
+        Step::Subscribe { node, group } => {
+            let node = node.as_str();
+            format!(in alloc; "{node} subscribe {group:?}")
+        }
+        Step::Unsubscribe { node, group } => {
+            let node = node.as_str();
+            format!(in alloc; "{node} unsubscribe {group:?}")
+        }
+        Step::StopOffer { node, instance } => {
+            let node = node.as_str();
+            format!(in alloc; "{node} stop {instance:?}")
+        }
+        Step::Restart { node, delay } => {
+            let node = node.as_str();
+            format!(in alloc; "{node} restart {delay}")
+        }
+    }
+}
+
+#[test]
+fn each_step_has_the_fields_of_its_line(rt: HostRuntime) -> Result<(), Fail> {
+    let wanted = [
+        "a tick 5",
+        "b1 deliver 7",
+        "a Request InstanceId { service: 4660, instance: 255 } 32766 [1, 255]",
+        "a RequestNoReturn InstanceId { service: 4660, instance: 255 } 1 [171, 171, 171]",
+        "a 9 Response(ReturnCode(128)) []",
+        "a 10 Error(ReturnCode(1)) [0]",
+        "a publish InstanceId { service: 4660, instance: 1 } 32769 []",
+        "a publish Eventgroup { instance: InstanceId { service: 4660, instance: 1 }, id: 2 } 10.0.0.200:30490 32771 [10]",
+        "a subscribe Eventgroup { instance: InstanceId { service: 4660, instance: 1 }, id: 65534 }",
+        "a unsubscribe Eventgroup { instance: InstanceId { service: 4660, instance: 1 }, id: 3 }",
+        "a stop InstanceId { service: 4660, instance: 1 }",
+        "a restart 100",
+    ];
+    let steps = read_schedule(rt.alloc(), EACH)?;
+    assert_eq!(rt; steps.len(), wanted.len());
+    for (step, text) in steps.iter().zip(wanted) {
+        assert_eq!(rt; as_written(rt.alloc(), step)?.as_str(), text);
+    }
+    Ok(())
 }
