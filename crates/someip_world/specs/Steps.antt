@@ -44,10 +44,10 @@ tick_in words = None
 
 -- N NODE
 abbrev pub deliver_in : List (List ℕ) → Option Step
-deliver_in (count ∷ node ∷ []) = do
-  count ← number_in (2 ^ 64) count
+deliver_in (number ∷ node ∷ []) = do
+  number ← number_in (2 ^ 64) number
   node ← name_in node
-  Some (Deliver count node)
+  Some (Deliver number node)
 deliver_in words = None
 
 -- NODE SI METHOD PAYLOAD

@@ -19,8 +19,8 @@ pub enum Step {
     },
     /// A datagram that was sent is delivered.
     Deliver {
-        /// Which of those that were sent, counted from 1.
-        count: u64,
+        /// Its number: those that were sent count from 1.
+        number: u64,
         /// The node that it is delivered to.
         node: NodeName,
     },
@@ -97,7 +97,7 @@ pub enum Step {
     Restart {
         /// The node.
         node: NodeName,
-        /// After how many milliseconds it sends its first Offers and Finds.
+        /// The delay before its first Offers and Finds, in milliseconds.
         delay: u64,
     },
 }

@@ -1,5 +1,5 @@
 //! The payloads of steps.
-ghost use Rattle.std.specs.Prelude.{◌≡◌, ◌++◌, IfOk, Some, None};
+ghost use Rattle.std.specs.Prelude.{◌≡◌, ◌↔◌, IfOk, IsTrue, length};
 ghost use Rattle.someip_world.specs.StepWords.{Reads, number_in, hex_in, repeated_in, payload_in};
 
 use crate::step_words::{WordFault, byte, cut, number};
@@ -26,21 +26,36 @@ pub struct StepPayload {
 }
 
 impl Model for StepPayload {
-    ghost use Rattle.std.specs.Prelude.{ℕ, List, ◌++◌, replicate};
+    ghost use Rattle.std.specs.Prelude.{ℕ, List, ◌++◌, ◌≤◌, replicate};
 
     ghost Value = { List ℕ };
 
     ghost view = { λ p. p.bytes.items ++ replicate p.count p.repeated };
+
+    ghost invariant = { λ p. p.count ≤ 1048576 };
 }
 
 impl StepPayload {
-    /// The payload.
+    /// How many bytes it has.
+    pub fn len(&self) -> usize
+        ensures { result ≡ length self.now }
+    {
+        self.bytes.len() + self.count
+    }
+
+    /// Whether it has none.
+    pub fn is_empty(&self) -> bool
+        ensures { IsTrue result ↔ (length self.now ≡ 0) }
+    {
+        self.len() == 0
+    }
+
+    /// The payload, byte for byte.
     pub fn to_payload(&self, alloc: Global) -> Result<Payload, AllocError>
         ensures { IfOk result (λ payload. payload ≡ self.now) }
     {
         let mut bytes = self.bytes.to_vec(alloc)?;
-        let len = bytes.len().checked_add(self.count).ok_or(AllocError)?;
-        bytes.resize(len, self.repeated)?;
+        bytes.resize(self.len(), self.repeated)?;
         Ok(Payload::from_vec(bytes))
     }
 

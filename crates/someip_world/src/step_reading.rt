@@ -78,12 +78,12 @@ fn tick(alloc: Global, words: &[&str]) -> Result<Step, WordFault>
 fn deliver(alloc: Global, words: &[&str]) -> Result<Step, WordFault>
     ensures { Reads (deliver_in (map (λ w. w.now) words.now)) result }
 {
-    let [count, node] = words else {
+    let [first, node] = words else {
         return Err(WordFault::Bad);
     };
-    let count = number(count).ok_or(WordFault::Bad)?;
+    let number = number(first).ok_or(WordFault::Bad)?;
     let node = name(alloc, node)?;
-    Ok(Step::Deliver { count, node })
+    Ok(Step::Deliver { number, node })
 }
 
 /// NODE SI METHOD PAYLOAD.

@@ -204,9 +204,9 @@ fn as_written(alloc: Global, step: &Step) -> Result<String, AllocError> {
             let node = node.as_str();
             format!(in alloc; "{node} tick {ms}")
         }
-        Step::Deliver { count, node } => {
+        Step::Deliver { number, node } => {
             let node = node.as_str();
-            format!(in alloc; "{node} deliver {count}")
+            format!(in alloc; "{node} deliver {number}")
         }
         Step::Call {
             node,
