@@ -1,3 +1,4 @@
 pub mod StepLemmas
 pub mod WordLemmas
+pub mod LineLemmas
 pub mod ScheduleLemmas

@@ -1,5 +1,6 @@
 -- What digits write.
-use Rattle.std.proofs.Common.{◌≡◌, ℕ, ◌+◌, ◌<◌, ◌≤◌, ◌^◌, Bool, true, false, cond, nat_lt, List, [], ◌∷◌, length, get_or, Option, Some, None, Result, Ok, Err, refl, sym, ap, ◌∙◌, inl, inr, arith, lt-ltb, le-ltb, le-leb, leb-true}
+use Rattle.std.proofs.lemmas.Fmt.{decimal_digit, decimal-digits_value, decimal_is_IsNumeral, digits_decimal, digits_value-decimal, first_decimal}
+use Rattle.std.proofs.Common.{◌≡◌, ◌==◌, ◌&&◌, not, zero, suc, decimal, ltb-true, ne_eqb, ℕ, ◌+◌, ◌<◌, ◌≤◌, ◌^◌, Bool, true, false, cond, nat_lt, List, [], ◌∷◌, length, get_or, Option, Some, None, Result, Ok, Err, refl, sym, ap, ◌∙◌, inl, inr, arith, lt-ltb, le-ltb, le-leb, leb-true}
 use Rattle.std.specs.List.{list_all}
 use Rattle.std.specs.Result.{OkIff, result_ok}
 use Rattle.std.specs.Str.Parse.{ParsesUnsigned, digits_value}
@@ -41,3 +42,43 @@ parsed k word r h plain =
     let parts = and_parts (begins_plain word) (list_all is_digit word) plain in
     rw plain
     (fitting r (0 < length word) (digits_value 10 word) (2 ^ k) (nonempty word parts.0) (parse_digits own k word r h parts.1))
+
+-- ---- decimal texts
+
+parts_of : (plain fits : Bool) (v n : ℕ) → cond (plain && fits) (Some v) None ≡ Some n → (plain ≡ true) × (fits ≡ true) × (v ≡ n)
+parts_of true true v n h = (refl, refl, cc h)
+parts_of true false v n h = absurd (cc h)
+parts_of false fits v n h = absurd (cc h)
+
+leads : (word : List ℕ) → begins_plain word ≡ true → get_or word 0 0 ≡ 48 → length word ≡ 1
+leads [] h nought = absurd (cc h)
+leads (c ∷ []) h nought = refl
+leads (c ∷ d ∷ word) h nought = absurd (let same : not (48 == 48) ≡ true = ap (λ b. not (b == 48)) (sym nought) ∙ h in cc same)
+
+-- a number is told only of its decimal text
+pub only_decimal : (limit n : ℕ) (word : List ℕ) → limit ≤ 2 ^ 64 → number_in limit word ≡ Some n → (word ≡ decimal n) × (n < limit)
+only_decimal limit n word small h =
+    let parts = parts_of (is_plain word) (nat_lt (digits_value 10 word) limit) (digits_value 10 word) n h in
+    let both = and_parts (begins_plain word) (list_all is_digit word) parts.0 in
+    let fits : digits_value 10 word < limit = ltb-true (digits_value 10 word) limit parts.1 in
+    let is = decimal-digits_value own word both.1 (nonempty word both.0) (leads word both.0) (omega (arith, fits, small)) in
+    (sym is ∙ ap decimal parts.2, omega (arith, fits, parts.2))
+
+begins : (word : List ℕ) → 0 < length word → (get_or word 0 0 ≡ 48 → length word ≡ 1) → begins_plain word ≡ true
+begins [] some lead = absurd (omega (arith, some))
+begins (c ∷ []) some lead = refl
+begins (c ∷ d ∷ word) some lead = rw (ne_eqb c 48 (λ z. omega (arith, lead z))) refl
+
+first_of_decimal : (n : ℕ) → n < 2 ^ 64 → get_or (decimal n) 0 0 ≡ 48 → length (decimal n) ≡ 1
+first_of_decimal zero small nought = ap length (decimal_digit 0 (omega arith))
+first_of_decimal (suc n) small nought = absurd (omega (arith, nought, first_decimal (suc n) (omega arith) small))
+
+-- and of each below the limit
+pub each_decimal : (limit n : ℕ) → n < limit → limit ≤ 2 ^ 64 → number_in limit (decimal n) ≡ Some n
+each_decimal limit n fits small =
+    let below : n < 2 ^ 64 = omega (arith, fits, small) in
+    let numeral = decimal_is_IsNumeral n below in
+    let starts = begins (decimal n) numeral.0.0 (first_of_decimal n below) in
+    let all : list_all is_digit (decimal n) ≡ true = digits_decimal own n below in
+    let value : digits_value 10 (decimal n) ≡ n = digits_value-decimal own n below in
+    rw (starts, all, value, lt-ltb n limit fits) refl

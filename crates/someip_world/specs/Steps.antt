@@ -1,6 +1,6 @@
 -- The step that a line of a schedule spells.
-use Rattle.std.specs.Prelude.{ℕ, ◌^◌, ◌==◌, if◌then◌else◌, List, [], ◌∷◌, codes, bytes_eq, Option, Some, None}
-use Rattle.std.specs.List.{slice_split}
+use Rattle.std.specs.Prelude.{ℕ, ◌≡◌, ◌^◌, ◌==◌, false, if◌then◌else◌, List, [], ◌∷◌, ◌++◌, codes, bytes_eq, Option, Some, None}
+use Rattle.std.specs.List.{list_any, slice_split}
 use Rattle.std.specs.Str.{is_utf8}
 use Rattle.someip_rpc.specs.declared.call.CallKind.{CallKind}
 use Rattle.someip_rpc.specs.declared.call.CallKind.TheVariants as kinds
@@ -16,6 +16,16 @@ use Rattle.someip_world.specs.StepWords.{◌>>=◌, number_in, id_in, method_in,
 -- the words of a line: what stands between single blanks
 abbrev pub words_in : List ℕ → List (List ℕ)
 words_in line = slice_split (λ b. b == 0x20) line
+
+-- a text has no blank in it
+abbrev pub IsUnparted : List ℕ → Type 0
+IsUnparted word = list_any (λ b. b == 0x20) word ≡ false
+
+-- words with single blanks between them
+abbrev pub joined : List (List ℕ) → List ℕ
+joined [] = []
+joined (word ∷ []) = word
+joined (word ∷ next ∷ others) = word ++ 0x20 ∷ joined (next ∷ others)
 
 -- what the first word asks for
 abbrev pub command_in : List ℕ → Option Command

@@ -1,11 +1,13 @@
 //! A world of SOME/IP nodes: how it is set up, and what is done in it step by step.
 //!
 //! - [`read_schedule`]: the steps of a schedule; [`Step`] is one of them, of the node of a
-//!   [`NodeName`].
+//!   [`NodeName`];
+//! - [`schedule_laws`]: what the definitions behind its contract promise.
 #![tactic(auto)]
 
 mod error;
 mod schedule;
+pub mod schedule_laws;
 mod step;
 mod step_command;
 mod step_method;
