@@ -53,8 +53,7 @@ fn is_name(text: &[u8]) -> bool
 fn are_name_bytes(text: &[u8]) -> bool
     ensures { result ≡ list_all is_name_byte text.now }
 {
-    text.iter()
-        .all(|b| (b'a' <= *b && *b <= b'z') || (b'0' <= *b && *b <= b'9'))
+    text.iter().all(|b| (b'a' <= *b && *b <= b'z') || (b'0' <= *b && *b <= b'9'))
 }
 
 /// Reads a node's name.

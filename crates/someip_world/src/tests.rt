@@ -44,7 +44,14 @@ const GOOD: [&[u8]; 34] = [
 ];
 
 /// Texts that spell no step, and have no bad line.
-const EMPTY: [&[u8]; 6] = [b"", b"\n", b"\n\n", b"#", b"# tick a 5\n", b"#\xc3\xa4\n\n#x"];
+const EMPTY: [&[u8]; 6] = [
+    b"",
+    b"\n",
+    b"\n\n",
+    b"#",
+    b"# tick a 5\n",
+    b"#\xc3\xa4\n\n#x",
+];
 
 /// Texts whose first line is bad.
 const BAD: [&[u8]; 85] = [
@@ -158,7 +165,11 @@ fn lines_that_are_skipped_spell_none(rt: HostRuntime) {
 #[test]
 fn almost_right_lines_are_bad(rt: HostRuntime) {
     for text in BAD {
-        assert_eq!(rt; counted(rt.alloc(), text), Err(ScheduleError::BadLine(1)), "{text:?}");
+        assert_eq!(rt;
+            counted(rt.alloc(), text),
+            Err(ScheduleError::BadLine(1)),
+            "{text:?}"
+        );
     }
 }
 
@@ -176,7 +187,10 @@ fn an_error_names_the_first_bad_line(rt: HostRuntime) -> Result<(), Fail> {
         assert_eq!(rt; read, Err(ScheduleError::BadLine(line)), "{text:?}");
     }
     let bad = ScheduleError::BadLine(7);
-    assert_eq!(rt; format!(in rt.alloc(); "{bad}")?.as_str(), "line 7: bad step");
+    assert_eq!(rt;
+        format!(in rt.alloc(); "{bad}")?.as_str(),
+        "line 7: bad step"
+    );
     let out = ScheduleError::OutOfMemory;
     assert_eq!(rt; format!(in rt.alloc(); "{out}")?.as_str(), "out of memory");
     Ok(())
