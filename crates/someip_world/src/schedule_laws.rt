@@ -2,7 +2,9 @@
 //! function that does nothing.
 ghost use Rattle.std.specs.Prelude.{◌≡◌, ◌<◌, ◌≤◌, ◌^◌, ◌∷◌, ℕ, List, Some, decimal};
 ghost use Rattle.std.specs.List.{AllByRecursion};
-ghost use Rattle.someip_world.specs.StepWords.{number_in};
+ghost use Rattle.std.specs.Net.Text.{socket_v4_text};
+ghost use Rattle.std.specs.declared.net.socket_addr.SocketAddrV4.{SocketAddrV4};
+ghost use Rattle.someip_world.specs.StepWords.{endpoint_in, number_in};
 ghost use Rattle.someip_world.specs.Steps.{IsUnparted, joined, words_in};
 
 /// Digits stand for a number exactly where they are its decimal text.
@@ -20,4 +22,10 @@ pub fn what_words_are()
     ensures only { (word : List ℕ) (others : List (List ℕ))
         → AllByRecursion IsUnparted (word ∷ others)
         → words_in (joined (word ∷ others)) ≡ word ∷ others }
+{}
+
+/// An endpoint is read only of the text that it is printed as, and of each.
+pub fn what_endpoints_say()
+    ensures only { (word : List ℕ) (endpoint : SocketAddrV4)
+        → endpoint_in word ≡ Some endpoint → word ≡ socket_v4_text endpoint }
 {}
