@@ -82,3 +82,7 @@ each_decimal limit n fits small =
     let all : list_all is_digit (decimal n) ≡ true = digits_decimal own n below in
     let value : digits_value 10 (decimal n) ≡ n = digits_value-decimal own n below in
     rw (starts, all, value, lt-ltb n limit fits) refl
+
+-- which is digits
+pub decimal_digits : (n : ℕ) → n < 2 ^ 64 → list_all is_digit (decimal n) ≡ true
+decimal_digits n small = digits_decimal own n small

@@ -1,6 +1,6 @@
 //! What the definitions behind the contracts of schedules promise. Each law is the contract of a
 //! function that does nothing.
-ghost use Rattle.std.specs.Prelude.{◌≡◌, ◌<◌, ◌≤◌, ◌^◌, ◌∷◌, ℕ, List, Some, decimal};
+ghost use Rattle.std.specs.Prelude.{◌≡◌, ◌<◌, ◌≤◌, ◌^◌, [], ◌∷◌, ℕ, List, Some, decimal};
 ghost use Rattle.std.specs.List.{AllByRecursion};
 ghost use Rattle.std.specs.Net.Text.{socket_v4_text};
 ghost use Rattle.std.specs.declared.net.socket_addr.SocketAddrV4.{SocketAddrV4};
@@ -28,4 +28,7 @@ pub fn what_words_are()
 pub fn what_endpoints_say()
     ensures only { (word : List ℕ) (endpoint : SocketAddrV4)
         → endpoint_in word ≡ Some endpoint → word ≡ socket_v4_text endpoint }
+    ensures each { (a b c d port : ℕ) → a < 2 ^ 8 → b < 2 ^ 8 → c < 2 ^ 8 → d < 2 ^ 8 → port < 2 ^ 16
+        → let endpoint : SocketAddrV4 = record { ip = record { octets = a ∷ b ∷ c ∷ d ∷ [] }; port = port } in
+        endpoint_in (socket_v4_text endpoint) ≡ Some endpoint }
 {}
