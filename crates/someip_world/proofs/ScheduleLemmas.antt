@@ -1,5 +1,5 @@
 -- Reading a schedule line by line.
-use Rattle.std.proofs.Common.{◌≡◌, ℕ, suc, ◌+◌, ◌==◌, ◌<◌, ◌≤◌, Bool, true, false, Bor, List, [], ◌∷◌, ◌++◌, length, get_or, drop, map, filter, Option, Some, None, Result, Ok, Err, refl, sym, ap, ◌∙◌, append_assoc, append-nil, arith, drop-cons, add-one}
+use Rattle.std.proofs.Common.{◌≡◌, ℕ, suc, ◌+◌, ◌==◌, ◌<◌, ◌≤◌, Bool, true, false, Bor, List, [], ◌∷◌, ◌++◌, length, get_or, drop, map, filter, Option, Some, None, Result, Ok, Err, refl, sym, ap, ◌∙◌, append_assoc, append-nil, length-append, arith, drop-cons, add-one}
 use denote.Param.Members.{Mut}
 use Rattle.std.proofs.lemmas.Iterator.{YieldsList}
 use Rattle.std.proofs.lemmas.Iterator.Consumers.{YieldsList-from_enumerate, YieldsList-at}
@@ -81,6 +81,17 @@ pub HasRead-bad : (found : List (Option Step)) (n : ℕ) (lines : List (List ℕ
 HasRead-bad found n lines line next read says h =
     let b : bad_from (n + 1) (drop n lines) ≡ Some (n + 1) = rw (next, read, says) refl in
     sym h.none_bad ∙ b
+
+-- where a line is read, the lines spell something
+pub HasRead-some : (found : List (Option Step)) (n : ℕ) (lines : List (List ℕ)) (line : List ℕ)
+    → drop n lines ≡ line ∷ drop (n + 1) lines → is_skipped line ≡ false
+    → HasRead found n lines → spelled_by lines ≡ [] → ⊥
+HasRead-some found n lines line next read h none =
+    let rest = spelled_by (drop (n + 1) lines) in
+    let s : spelled_by (drop n lines) ≡ step_in line ∷ rest = rw (next, read) refl in
+    let whole : found ++ (step_in line ∷ rest) ≡ [] = rw s at h.said ∙ none in
+    let empty = ap (λ (xs : List (Option Step)). length xs) whole in
+    omega (arith, empty, length-append found (step_in line ∷ rest))
 
 -- all lines are read
 pub HasRead-all : (found : List (Option Step)) (n : ℕ) (lines : List (List ℕ))

@@ -35,7 +35,7 @@ abbrev pub IsFoundOf : List ℕ → Result (Option Step) WordFault → Type 0
 IsFoundOf line (Ok None) = is_skipped line ≡ true
 IsFoundOf line (Ok (Some step)) = (is_skipped line ≡ false) × (step_in line ≡ Some step)
 IsFoundOf line (Err faults.Bad) = (is_skipped line ≡ false) × (step_in line ≡ None)
-IsFoundOf line (Err faults.OutOfMemory) = Unit {0}
+IsFoundOf line (Err faults.OutOfMemory) = is_skipped line ≡ false
 
 -- what the lines spell that are read, in order
 abbrev pub steps_of : List ℕ → List (Option Step)

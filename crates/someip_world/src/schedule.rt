@@ -8,7 +8,7 @@
 //! answer server 1 00 aa*4
 //! ```
 ghost use Rattle.std.specs.Prelude.{◌≡◌, ◌==◌, Some, None, IfErr, IfOk, OnOk, MatchOption};
-ghost use Rattle.std.specs.Prelude.{map, true, false};
+ghost use Rattle.std.specs.Prelude.{IsOk, [], map, true, false};
 ghost use Rattle.std.specs.Str.{is_utf8};
 ghost use Rattle.someip_world.specs.Schedule.{IsFoundOf, RefusesSchedule, first_bad, is_left_out};
 ghost use Rattle.someip_world.specs.Schedule.{steps_of};
@@ -28,6 +28,9 @@ pub fn read_schedule(alloc: Global, text: &[u8]) -> Result<Vec<Step>, ScheduleEr
 
     // The error names the first bad line.
     ensures fault { IfErr result (RefusesSchedule text.now) }
+
+    // A text with no line to read needs no memory.
+    ensures idle { steps_of text.now ≡ [] → IsOk result }
 {
     let mut steps = Vec::new(alloc);
     for (i, line) in text.split(|b| *b == b'\n').enumerate() {
