@@ -1,7 +1,6 @@
 -- The texts of endpoints.
-use Rattle.std.proofs.Common.{◌≡◌, ◌==◌, ◌&&◌, ◌||◌, not, ℕ, suc, ◌+◌, ◌<◌, ◌≤◌, ◌^◌, Bool, true, false, cond, nat_lt, List, [], ◌∷◌, ◌++◌, length, take, drop, get_or, decimal, codes, Option, Some, None, refl, sym, ap, ◌∙◌, arith, lt-ltb, ltb-true, eqb-true, eq-eqb, length-append}
+use Rattle.std.proofs.Common.{◌≡◌, ◌==◌, ◌||◌, ℕ, suc, ◌+◌, ◌<◌, ◌≤◌, ◌^◌, Bool, true, false, cond, nat_lt, List, [], ◌∷◌, ◌++◌, length, take, drop, get_or, decimal, codes, Option, Some, None, refl, sym, ap, ◌∙◌, arith, lt-ltb, ltb-true, eqb-true, eq-eqb, length-append}
 use Rattle.std.specs.List.{list_all, list_any, position_or_len, before_first, after_first}
-use Rattle.std.specs.Net.Socket.{v4_ip, v4_port}
 use Rattle.std.specs.Net.Text.{dotted_text, ipv4_text, socket_v4_text}
 use Rattle.std.specs.declared.net.socket_addr.SocketAddrV4.{SocketAddrV4}
 use Rattle.std.proofs.lemmas.Grind.{common_steps}

@@ -1,6 +1,5 @@
 -- Steps by how many words they have.
-use Rattle.std.proofs.Common.{◌≡◌, ℕ, List, [], ◌∷◌, length, get_or, map, Option, None, Bor, refl, ap, sym, ◌∙◌, arith}
-use Rattle.std.proofs.lemmas.List.{length-map}
+use Rattle.std.proofs.Common.{◌≡◌, ℕ, List, [], ◌∷◌, length, get_or, map, None, Bor, refl, arith}
 use Rattle.someip_rpc.specs.declared.call.CallKind.{CallKind}
 use Rattle.someip_world.specs.Steps.{call_in, Answered, answer_in, publish_in, publish_to_in}
 

@@ -1,6 +1,6 @@
 -- What the lines of a schedule say.
-use Rattle.std.specs.Prelude.{ℕ, ◌≡◌, Bool, not, ◌&&◌, ◌||◌, ◌==◌, true, false, nat_eq, if◌then◌else◌, List, [], ◌∷◌, filter, map, length, Option, Some, None, is_none, Result, Ok, Err}
-use Rattle.std.specs.List.{slice_split, starts_with, position_from}
+use Rattle.std.specs.Prelude.{ℕ, ◌≡◌, Bool, not, ◌&&◌, ◌==◌, true, false, List, [], ◌∷◌, filter, map, Option, Some, None, is_none, Result, Ok, Err}
+use Rattle.std.specs.List.{slice_split, position_from}
 use Rattle.std.specs.Str.{is_utf8}
 use Rattle.someip_world.specs.declared.error.ScheduleError.{ScheduleError}
 use Rattle.someip_world.specs.declared.error.ScheduleError.TheVariants.{BadLine, OutOfMemory}

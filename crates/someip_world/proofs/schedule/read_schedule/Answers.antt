@@ -1,4 +1,4 @@
-use Rattle.std.proofs.Common.{◌≡◌, Some, None, sym, ◌∙◌, rules, tests}
+use Rattle.std.proofs.Common.{Some, rules, tests}
 use Rattle.std.proofs.lemmas.Iterator.Consumers.{YieldsList-turn, YieldsList-end}
 use Rattle.std.proofs.lemmas.List.{map_push, length_push}
 use Rattle.someip_world.specs.Schedule.{lines_of}

@@ -1,4 +1,3 @@
-use Rattle.std.proofs.Common.{◌≡◌}
 use Rattle.someip_world.proofs.ScheduleLemmas.{decoded}
 use Rattle.someip_world.proofs.schedule.text_of.Goals as goal
 

@@ -1,5 +1,4 @@
-use Rattle.std.proofs.Common.{◌≡◌, sym, ◌∙◌, rules}
-use Rattle.someip_world.specs.StepWords.{is_plain}
+use Rattle.std.proofs.Common.{sym, ◌∙◌}
 use Rattle.someip_world.proofs.WordLemmas.{parsed}
 use Rattle.someip_world.proofs.step_words.number.Goals as goal
 
