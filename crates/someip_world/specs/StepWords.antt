@@ -118,13 +118,17 @@ address_in word = do
   d ← number_in (2 ^ 8) third.1
   Some (a ∷ b ∷ c ∷ d ∷ [])
 
+-- the endpoint of these octets and this port
+abbrev pub endpoint_of : List ℕ → ℕ → SocketAddrV4
+endpoint_of octets port = record { ip = record { octets = octets }; port = port }
+
 -- A.B.C.D:PORT
 abbrev pub endpoint_in : List ℕ → Option SocketAddrV4
 endpoint_in word = do
   parts ← cut_in 0x3a word
   octets ← address_in parts.0
   port ← number_in (2 ^ 16) parts.1
-  Some (record { ip = record { octets = octets }; port = port })
+  Some (endpoint_of octets port)
 
 -- ---- payloads
 

@@ -1,12 +1,22 @@
 //! Schedules: one step a line.
 //!
 //! ```text
-//! # a comment
+//! # The clock goes on, a client calls, and the server answers.
 //! tick server 100
 //! call client 1234.0001 0421 12ff
 //! deliver 1 server
 //! answer server 1 00 aa*4
 //! ```
+//!
+//! A line ends at byte 0a or at the text's end, and its words are parted by one blank (byte 20). Empty
+//! lines, and lines of UTF-8 that begin with `#`, are skipped. [`Step`] tells the forms of the others.
+//! In these
+//!
+//! - NODE is one to 16 letters from `a` to `z` and digits;
+//! - SI is `SERVICE.INSTANCE`, each of four hex digits, as METHOD, EVENT and GROUP; CODE has two;
+//! - numbers are decimal, below 2^64, without a sign or leading zeros;
+//! - EP is `A.B.C.D:PORT`;
+//! - PAYLOAD is pairs of hex digits, `-` for none, or `HH*N` for N times one byte, N at most 1048576.
 ghost use Rattle.std.specs.Prelude.{◌≡◌, ◌==◌, Some, None, IfErr, IfOk, OnOk, MatchOption};
 ghost use Rattle.std.specs.Prelude.{IsOk, [], map, true, false};
 ghost use Rattle.std.specs.Str.{is_utf8};
@@ -20,7 +30,9 @@ use crate::step_words::WordFault;
 use std::alloc::Global;
 use std::str;
 
-/// Reads a schedule: one step a line.
+/// Reads a schedule: the steps of its lines, in order. Lines count from 1, skipped ones too.
+///
+/// Its time grows with the length of the text alone, however often `HH*N` repeats a byte.
 pub fn read_schedule(alloc: Global, text: &[u8]) -> Result<Vec<Step>, ScheduleError>
     // The steps are those that the lines spell, in order, and no line is bad.
     ensures found { IfOk result (λ steps. map (λ s. Some s) steps.items ≡ steps_of text.now) }

@@ -4,7 +4,7 @@ ghost use Rattle.std.specs.Prelude.{◌≡◌, ◌<◌, ◌≤◌, ◌^◌, [], 
 ghost use Rattle.std.specs.List.{AllByRecursion};
 ghost use Rattle.std.specs.Net.Text.{socket_v4_text};
 ghost use Rattle.std.specs.declared.net.socket_addr.SocketAddrV4.{SocketAddrV4};
-ghost use Rattle.someip_world.specs.StepWords.{endpoint_in, number_in};
+ghost use Rattle.someip_world.specs.StepWords.{endpoint_in, endpoint_of, number_in};
 ghost use Rattle.someip_world.specs.Steps.{IsUnparted, joined, words_in};
 
 /// Digits stand for a number exactly where they are its decimal text.
@@ -28,7 +28,7 @@ pub fn what_words_are()
 pub fn what_endpoints_say()
     ensures only { (word : List ℕ) (endpoint : SocketAddrV4)
         → endpoint_in word ≡ Some endpoint → word ≡ socket_v4_text endpoint }
-    ensures each { (a b c d port : ℕ) → a < 2 ^ 8 → b < 2 ^ 8 → c < 2 ^ 8 → d < 2 ^ 8 → port < 2 ^ 16
-        → let endpoint : SocketAddrV4 = record { ip = record { octets = a ∷ b ∷ c ∷ d ∷ [] }; port = port } in
+    ensures each { (a b c d port : ℕ) → a < 2 ^ 8 → b < 2 ^ 8 → c < 2 ^ 8 → d < 2 ^ 8
+        → port < 2 ^ 16 → let endpoint = endpoint_of (a ∷ b ∷ c ∷ d ∷ []) port in
         endpoint_in (socket_v4_text endpoint) ≡ Some endpoint }
 {}

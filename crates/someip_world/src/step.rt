@@ -10,21 +10,24 @@ use std::net::SocketAddrV4;
 /// A step of a schedule: what is done in a world of nodes.
 #[derive(Drop)]
 pub enum Step {
-    /// The clock of a node goes on.
+    /// The clock of a node goes on:
+    /// `tick NODE MS`.
     Tick {
         /// The node.
         node: NodeName,
         /// By how many milliseconds.
         ms: u64,
     },
-    /// A datagram that was sent is delivered.
+    /// A datagram that was sent is delivered:
+    /// `deliver N NODE`.
     Deliver {
         /// Its number: those that were sent count from 1.
         number: u64,
         /// The node that it is delivered to.
         node: NodeName,
     },
-    /// A node calls a method.
+    /// A node calls a method:
+    /// `call NODE SI METHOD PAYLOAD` or `oneway NODE SI METHOD PAYLOAD`.
     Call {
         /// The node.
         node: NodeName,
@@ -37,7 +40,8 @@ pub enum Step {
         /// The payload.
         payload: StepPayload,
     },
-    /// A node answers a request.
+    /// A node answers a request:
+    /// `answer NODE T CODE PAYLOAD` or `error NODE T CODE PAYLOAD`.
     Answer {
         /// The node.
         node: NodeName,
@@ -48,7 +52,8 @@ pub enum Step {
         /// The payload.
         payload: StepPayload,
     },
-    /// A node publishes an event to those that subscribed to it.
+    /// A node publishes an event to those that subscribed to it:
+    /// `publish NODE SI EVENT PAYLOAD`.
     Publish {
         /// The node.
         node: NodeName,
@@ -59,7 +64,8 @@ pub enum Step {
         /// The payload.
         payload: StepPayload,
     },
-    /// A node publishes an event to one subscriber.
+    /// A node publishes an event to one subscriber:
+    /// `publish_to NODE SI GROUP EP EVENT PAYLOAD`.
     PublishTo {
         /// The node.
         node: NodeName,
@@ -72,28 +78,32 @@ pub enum Step {
         /// The payload.
         payload: StepPayload,
     },
-    /// A node subscribes to an eventgroup.
+    /// A node subscribes to an eventgroup:
+    /// `subscribe NODE SI GROUP`.
     Subscribe {
         /// The node.
         node: NodeName,
         /// The eventgroup.
         group: Eventgroup,
     },
-    /// A node gives up its subscription to an eventgroup.
+    /// A node gives up its subscription to an eventgroup:
+    /// `unsubscribe NODE SI GROUP`.
     Unsubscribe {
         /// The node.
         node: NodeName,
         /// The eventgroup.
         group: Eventgroup,
     },
-    /// A node no longer offers an instance.
+    /// A node no longer offers an instance:
+    /// `stop_offer NODE SI`.
     StopOffer {
         /// The node.
         node: NodeName,
         /// The instance.
         instance: InstanceId,
     },
-    /// A node starts anew.
+    /// A node starts anew:
+    /// `restart NODE DELAY`.
     Restart {
         /// The node.
         node: NodeName,
