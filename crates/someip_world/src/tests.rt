@@ -222,6 +222,29 @@ fn as_written(alloc: Global, step: &Step) -> Result<String, AllocError> {
             let node = node.as_str();
             format!(in alloc; "{node} deliver {number}")
         }
+        Step::Subscribe { node, group } => {
+            let node = node.as_str();
+            format!(in alloc; "{node} subscribe {group:?}")
+        }
+        Step::Unsubscribe { node, group } => {
+            let node = node.as_str();
+            format!(in alloc; "{node} unsubscribe {group:?}")
+        }
+        Step::StopOffer { node, instance } => {
+            let node = node.as_str();
+            format!(in alloc; "{node} stop {instance:?}")
+        }
+        Step::Restart { node, delay } => {
+            let node = node.as_str();
+            format!(in alloc; "{node} restart {delay}")
+        }
+        _ => as_carried(alloc, step),
+    }
+}
+
+/// The same of a step that has a payload.
+fn as_carried(alloc: Global, step: &Step) -> Result<String, AllocError> {
+    match step {
         Step::Call {
             node,
             kind,
@@ -245,6 +268,13 @@ fn as_written(alloc: Global, step: &Step) -> Result<String, AllocError> {
             let bytes = payload.as_slice();
             format!(in alloc; "{node} {token} {reply:?} {bytes:?}")
         }
+        _ => as_published(alloc, step),
+    }
+}
+
+/// The same of a step that publishes an event.
+fn as_published(alloc: Global, step: &Step) -> Result<String, AllocError> {
+    match step {
         Step::Publish {
             node,
             instance,
@@ -268,22 +298,7 @@ fn as_written(alloc: Global, step: &Step) -> Result<String, AllocError> {
             let bytes = payload.as_slice();
             format!(in alloc; "{node} publish {group:?} {to} {event} {bytes:?}")
         }
-        Step::Subscribe { node, group } => {
-            let node = node.as_str();
-            format!(in alloc; "{node} subscribe {group:?}")
-        }
-        Step::Unsubscribe { node, group } => {
-            let node = node.as_str();
-            format!(in alloc; "{node} unsubscribe {group:?}")
-        }
-        Step::StopOffer { node, instance } => {
-            let node = node.as_str();
-            format!(in alloc; "{node} stop {instance:?}")
-        }
-        Step::Restart { node, delay } => {
-            let node = node.as_str();
-            format!(in alloc; "{node} restart {delay}")
-        }
+        _ => Ok(String::new(alloc)),
     }
 }
 
