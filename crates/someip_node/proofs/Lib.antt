@@ -27,3 +27,4 @@ pub mod UpLemmas
 pub mod StandingLemmas
 pub mod HandledLemmas
 pub mod PortLemmas
+pub mod StartLemmas
