@@ -16,6 +16,10 @@ offer_entry e = (e.0, version_of e.1)
 abbrev pub want_entry : InstanceId × WantedService → InstanceId × ℕ
 want_entry e = (e.0, e.1.major)
 
+-- an instance that is offered, at its port
+abbrev pub port_entry : InstanceId × OfferedService → ℕ × InstanceId
+port_entry e = (e.1.rules.endpoint.port, e.0)
+
 module _ {K X A : Type 0} (R : K → K → Ordering) (f : A → K × X) where
   -- a map to which others are added, the last one first
   abbrev pub over : List A → FinMap R X → FinMap R X
