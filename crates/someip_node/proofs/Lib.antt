@@ -26,3 +26,4 @@ pub mod UpLemmas
 pub mod StandingLemmas
 pub mod HandledLemmas
 pub mod PortLemmas
+pub mod StartLemmas

@@ -1,5 +1,6 @@
 //! Which values a node may be set up with.
-ghost use Rattle.std.specs.Prelude.{◌≡◌, length};
+ghost use Rattle.std.specs.Prelude.{◌≡◌, ◌≤◌, length};
+ghost use Rattle.std.specs.Bool.{OnTrue};
 ghost use Rattle.std.specs.List.{list_all, list_any};
 ghost use Rattle.std.specs.BTreeSet.{contains};
 ghost use Rattle.std.specs.Ordering.{nat_cmp};
@@ -16,7 +17,8 @@ use std::collections::{BTreeMap, BTreeSet};
 
 /// Whether a node may be set up with this. It takes no memory.
 pub(crate) fn is_good(config: &Config) -> bool
-    ensures { result ≡ good.is_good config.now }
+    ensures good { result ≡ good.is_good config.now }
+    ensures limit { OnTrue result (config.now.common.message_limit ≤ 1048576) }
 {
     is_good_common(&config.common)
         && !is_same_key(&config.address, &config.common.group)
@@ -35,7 +37,8 @@ pub(crate) fn is_good_delay(config: &Config, delay: u32) -> bool
 
 /// Whether the delays, limits and timeouts of all nodes are in their ranges.
 fn is_good_common(common: &Common) -> bool
-    ensures { result ≡ good.is_good_common common.now }
+    ensures good { result ≡ good.is_good_common common.now }
+    ensures limit { OnTrue result (common.now.message_limit ≤ 1048576) }
 {
     common.initial_min_ms <= common.initial_max_ms
         && common.initial_max_ms <= 60000

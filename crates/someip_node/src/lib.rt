@@ -31,6 +31,7 @@ mod segments;
 mod sending;
 mod serving;
 mod setups;
+mod starting;
 mod subscribing;
 mod target;
 mod ticking;

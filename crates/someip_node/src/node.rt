@@ -1,10 +1,14 @@
 //! A node: its tables, unless memory ran out.
-ghost use Rattle.std.specs.Prelude.{◌≡◌};
+ghost use Rattle.std.specs.Prelude.{◌≡◌, OnOk, IfOk, IfErr, Err, true, false};
 ghost use Rattle.someip_node.specs.Finishings.{given_by, is_fatal};
+ghost use Rattle.someip_node.specs.GoodConfigs.{is_good, is_good_delay};
 ghost use Rattle.someip_node.specs.Handled.{Handled};
+ghost use Rattle.someip_node.specs.History.{start_of};
 ghost use Rattle.someip_node.specs.Inputs as input;
-ghost use Rattle.someip_node.specs.Steps.{Reacts, StaysFailed};
+ghost use Rattle.someip_node.specs.Steps.{Reacts, StandsFor, StaysFailed};
+ghost use Rattle.someip_node.specs.declared.error.NodeError.TheVariants as fault;
 
+use crate::config::Config;
 use crate::engine::Engine;
 use crate::error::NodeError;
 use crate::giving::Giving;
@@ -47,6 +51,31 @@ impl<R: Reassembly> Model for Node<R> {
 }
 
 impl<R: Reassembly> Node<R> {
+    /// A node with this configuration, all of whose instances are offered and searched for. Its first
+    /// Offers and Finds go out so many milliseconds after the start (SOME/IP Service Discovery Protocol,
+    /// "Startup behavior").
+    ///
+    /// It is refused as `BadConfig` where a value of the configuration is outside its range or two of
+    /// them clash, and else as `BadDelay` where the delay is outside the range that the configuration
+    /// gives. Neither takes memory.
+    pub fn start(alloc: Global, config: Config, delay: u32) -> Result<Node<R>, NodeError>
+        ensures ok { IfOk result (λ node. StandsFor node (start_of config delay)) }
+        ensures good { OnOk result
+            ((is_good config ≡ true) × (is_good_delay config delay ≡ true)) }
+        ensures bad_config { is_good config ≡ false → result ≡ Err fault.BadConfig }
+        ensures bad_delay { is_good config ≡ true → is_good_delay config delay ≡ false
+            → result ≡ Err fault.BadDelay }
+        ensures memory { is_good config ≡ true → is_good_delay config delay ≡ true
+            → IfErr result (λ error. error ≡ fault.OutOfMemory) }
+    {
+        let engine = Engine::<R>::start(alloc, config, delay)?;
+        Ok(Node {
+            alloc,
+            failed: false,
+            engine,
+        })
+    }
+
     /// Takes a datagram that came from an endpoint to another, and gives what it brings: datagrams to
     /// send, and what the application is told. A datagram is never refused: what cannot be taken is
     /// dropped, and the reason is told (SOME/IP Protocol, "Transport Protocol"; SOME/IP Service
