@@ -40,6 +40,8 @@ impl<R: Reassembly> Model for Engine<R> {
     ghost use Rattle.someip_tables.specs.Endpoints.{address_cmp};
     ghost use Rattle.someip_tables.specs.Tables.{map_of};
     ghost use Rattle.someip_tp.specs.Parts.{NoneAfter, coded_parts};
+    ghost use Rattle.someip_node.specs.OfferQuestions.{versions_of};
+    ghost use Rattle.someip_node.specs.SeekQuestions.{majors_of};
     ghost use Rattle.someip_node.specs.Setups.{limits_of, ports_of};
     ghost use Rattle.someip_node.specs.Tables.{Tables, coded_held, coded_stamps_to};
     ghost use Rattle.sd_core.specs.OfferTables.{coded_offers};
@@ -73,5 +75,6 @@ impl<R: Reassembly> Model for Engine<R> {
       (map_of nat_cmp n.ports.entries ≡ ports_of n.config)
       × (R.limits n.store ≡ limits_of n.config) × NoneAfter n.clock (R.parts n.store)
       × (n.peers.limit ≡ n.config.common.peers) × (n.config.common.message_limit ≤ 1048576)
+      × (n.offers.versions ≡ versions_of n.config) × (n.seeker.wanted ≡ majors_of n.config)
     };
 }

@@ -119,6 +119,23 @@ impl<R: Reassembly> Engine<R> {
         })
     }
 
+    /// All is as at a start, with the same configuration. It takes no memory.
+    pub(crate) fn restart(&mut self, delay: u32)
+        ensures { self.new ≡ started_tables self.old.config delay }
+    {
+        self.clock = Moment::start();
+        self.store.clear();
+        self.peers.clear();
+        self.multicast = Counter::new();
+        self.unicast.clear();
+        self.offers.start(delay);
+        self.seeker.start(delay);
+        self.subscribers.clear();
+        self.subscriptions.clear();
+        self.client.clear();
+        self.server.clear();
+    }
+
     /// A store for messages that come in part, without any.
     fn empty_store(alloc: Global, config: &Config) -> Result<R, AllocError>
         ensures parts { IfOk result (λ store. R.parts store ≡ finite.empty) }

@@ -14,6 +14,8 @@ invariant_of-self-2 g c = (
   rw (c.expire.ensures.parts, c.as_millis.ensures.value) (later c.self.inside.clock c.args.now _ (omega (arith, c.requires, ap (λ t. t.clock) c.self.view_is)) (none_after-parts_at c.self.inside.clock _ _ (g.R.Reassembly.parts c.self.inside.store) c.self.invariant.2)),
   c.self.invariant.3,
   c.self.invariant.4,
+  ap (λ offers. offers.versions) c.in_ok-offers.ensures.after ∙ c.self.invariant.5,
+  ap (λ seek. seek.wanted) c.in_ok-wanted.ensures.after ∙ c.self.invariant.6,
 )
 
 pub returns-clause-ticked : goal.returns-clause-ticked
