@@ -45,8 +45,19 @@ impl<R: Reassembly> Model for Node<R> {
 
     ghost Value = { NodeView };
 
-    ghost coded = { Prim.hlevel (codes, config_row.the_row.coded, coded_parts, coded_held, coded_stamps_to, coded_offers, coded_seek,
-      coded_subscribers, coded_wishes, coded_client, coded_server) };
+    ghost coded = { Prim.hlevel (
+      codes,
+      config_row.the_row.coded,
+      coded_parts,
+      coded_held,
+      coded_stamps_to,
+      coded_offers,
+      coded_seek,
+      coded_subscribers,
+      coded_wishes,
+      coded_client,
+      coded_server,
+    ) };
 
     ghost view = { λ n. record { config = n.engine.config; tables = if n.failed then None else Some n.engine } };
 }
@@ -233,9 +244,14 @@ impl<R: Reassembly> Node<R> {
             return Err(NodeError::Failed);
         }
         let mut giving = Giving::new(self.alloc);
-        let done = self
-            .engine
-            .publish_to(instance, eventgroup, endpoint, event, payload, &mut giving);
+        let done = self.engine.publish_to(
+            instance,
+            eventgroup,
+            endpoint,
+            event,
+            payload,
+            &mut giving,
+        );
         finish(&mut self.failed, done, giving)
     }
 }

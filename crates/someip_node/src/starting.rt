@@ -68,11 +68,7 @@ fn add_wants(
 
 impl<R: Reassembly> Engine<R> {
     /// The tables of a start, with a delay in milliseconds before the first Offers and Finds.
-    pub(crate) fn start(
-        alloc: Global,
-        config: Config,
-        delay: u32,
-    ) -> Result<Engine<R>, NodeError>
+    pub(crate) fn start(alloc: Global, config: Config, delay: u32) -> Result<Engine<R>, NodeError>
         ensures ok { IfOk result (λ e. e ≡ started_tables config delay) }
         ensures bad_config { is_good config ≡ false → result ≡ Err fault.BadConfig }
         ensures bad_delay { is_good config ≡ true → is_good_delay config delay ≡ false
