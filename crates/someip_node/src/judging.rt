@@ -119,9 +119,7 @@ fn has_good_eventgroups(event: u16, eventgroups: &BTreeSet<u16>) -> bool
 fn have_good_eventgroups(events: &BTreeMap<u16, BTreeSet<u16>>) -> bool
     ensures { result ≡ list_all good.has_good_eventgroups events.now.entries }
 {
-    events
-        .iter()
-        .all(|(event, eventgroups)| has_good_eventgroups(*event, eventgroups))
+    events.iter().all(|(event, eventgroups)| has_good_eventgroups(*event, eventgroups))
 }
 
 /// Whether a node may offer an instance so.
@@ -149,10 +147,7 @@ fn is_good_offer(config: &Config, instance: &InstanceId, service: &OfferedServic
 fn are_good_offers(config: &Config) -> bool
     ensures { result ≡ list_all (good.is_good_offer config.now) config.now.offers.entries }
 {
-    config
-        .offers
-        .iter()
-        .all(|(instance, service)| is_good_offer(config, instance, service))
+    config.offers.iter().all(|(instance, service)| is_good_offer(config, instance, service))
 }
 
 /// Whether a node may subscribe to an eventgroup so.

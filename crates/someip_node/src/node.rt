@@ -1,5 +1,5 @@
 //! A node: its tables, unless memory ran out.
-ghost use Rattle.std.specs.Prelude.{◌≡◌, OnOk, IfOk, IfErr, Err, true, false};
+ghost use Rattle.std.specs.Prelude.{◌≡◌, OnOk, OnErr, IfOk, IfErr, Err, true, false};
 ghost use Rattle.someip_node.specs.Finishings.{given_by, is_fatal};
 ghost use Rattle.someip_node.specs.GoodConfigs.{is_good, is_good_delay};
 ghost use Rattle.someip_node.specs.Handled.{Handled};
@@ -12,6 +12,7 @@ use crate::config::Config;
 use crate::engine::Engine;
 use crate::error::NodeError;
 use crate::giving::Giving;
+use crate::judging;
 use crate::output::Output;
 use sd_core::{Eventgroup, InstanceId};
 use someip_rpc::{CallKind, Reply};
@@ -44,8 +45,19 @@ impl<R: Reassembly> Model for Node<R> {
 
     ghost Value = { NodeView };
 
-    ghost coded = { Prim.hlevel (codes, config_row.the_row.coded, coded_parts, coded_held, coded_stamps_to, coded_offers, coded_seek,
-      coded_subscribers, coded_wishes, coded_client, coded_server) };
+    ghost coded = { Prim.hlevel (
+      codes,
+      config_row.the_row.coded,
+      coded_parts,
+      coded_held,
+      coded_stamps_to,
+      coded_offers,
+      coded_seek,
+      coded_subscribers,
+      coded_wishes,
+      coded_client,
+      coded_server,
+    ) };
 
     ghost view = { λ n. record { config = n.engine.config; tables = if n.failed then None else Some n.engine } };
 }
@@ -74,6 +86,27 @@ impl<R: Reassembly> Node<R> {
             failed: false,
             engine,
         })
+    }
+
+    /// Starts the node again with its configuration: it forgets all that it met, its sessions of Service
+    /// Discovery begin at 1 with the Reboot flag, and the first Offers and Finds go out so many
+    /// milliseconds after this (SOME/IP Service Discovery Protocol, "Startup behavior", "Detection of
+    /// reboots"). A node that failed works again. It takes no memory.
+    ///
+    /// It is refused as `BadDelay` where the delay is outside the range that the configuration gives.
+    pub fn restart(&mut self, delay: u32) -> Result<(), NodeError>
+        ensures ok { OnOk result (StandsFor self.new (start_of self.old.config delay)) }
+        ensures good { OnOk result (is_good_delay self.old.config delay ≡ true) }
+        ensures bad_delay { IfErr result (λ error. (error ≡ fault.BadDelay)
+            × (is_good_delay self.old.config delay ≡ false)) }
+        ensures unchanged { OnErr result (self.new ≡ self.old) }
+    {
+        if !judging::is_good_delay(&self.engine.config, delay) {
+            return Err(NodeError::BadDelay);
+        }
+        self.engine.restart(delay);
+        self.failed = false;
+        Ok(())
     }
 
     /// Takes a datagram that came from an endpoint to another, and gives what it brings: datagrams to
@@ -211,9 +244,14 @@ impl<R: Reassembly> Node<R> {
             return Err(NodeError::Failed);
         }
         let mut giving = Giving::new(self.alloc);
-        let done = self
-            .engine
-            .publish_to(instance, eventgroup, endpoint, event, payload, &mut giving);
+        let done = self.engine.publish_to(
+            instance,
+            eventgroup,
+            endpoint,
+            event,
+            payload,
+            &mut giving,
+        );
         finish(&mut self.failed, done, giving)
     }
 

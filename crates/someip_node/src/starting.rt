@@ -68,11 +68,7 @@ fn add_wants(
 
 impl<R: Reassembly> Engine<R> {
     /// The tables of a start, with a delay in milliseconds before the first Offers and Finds.
-    pub(crate) fn start(
-        alloc: Global,
-        config: Config,
-        delay: u32,
-    ) -> Result<Engine<R>, NodeError>
+    pub(crate) fn start(alloc: Global, config: Config, delay: u32) -> Result<Engine<R>, NodeError>
         ensures ok { IfOk result (λ e. e ≡ started_tables config delay) }
         ensures bad_config { is_good config ≡ false → result ≡ Err fault.BadConfig }
         ensures bad_delay { is_good config ≡ true → is_good_delay config delay ≡ false
@@ -117,6 +113,23 @@ impl<R: Reassembly> Engine<R> {
             client: ClientCore::new(alloc),
             server: ServerCore::new(alloc),
         })
+    }
+
+    /// All is as at a start, with the same configuration. It takes no memory.
+    pub(crate) fn restart(&mut self, delay: u32)
+        ensures { self.new ≡ started_tables self.old.config delay }
+    {
+        self.clock = Moment::start();
+        self.store.clear();
+        self.peers.clear();
+        self.multicast = Counter::new();
+        self.unicast.clear();
+        self.offers.start(delay);
+        self.seeker.start(delay);
+        self.subscribers.clear();
+        self.subscriptions.clear();
+        self.client.clear();
+        self.server.clear();
     }
 
     /// A store for messages that come in part, without any.

@@ -1,0 +1,8 @@
+use Rattle.std.proofs.Common.{ap, ◌∙◌}
+use Rattle.someip_node.specs.Starts.{started_tables}
+use Rattle.someip_node.proofs.Stands.{started_stands}
+use Rattle.someip_node.proofs.node.Node.restart.Goals as goal
+
+pub returns-clause-ok : goal.returns-clause-ok
+returns-clause-ok g c =
+    started_stands _ _ _ (c.restart.ensures ∙ ap (λ config. started_tables config c.args.delay) (ap (λ n. n.config) c.self.view_is))
