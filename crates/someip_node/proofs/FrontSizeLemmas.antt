@@ -26,7 +26,7 @@ few entries fits =
 front_few : (entries : List EntryValue) (n : ℕ) → IsLongestFront entries n → n ≤ 65535
 front_few entries n front =
     elim front.fits [
-      inl fits ↦ omega (arith, few (take n entries) fits, length-take n entries, front.within)
+      | inl fits ↦ omega (arith, few (take n entries) fits, length-take n entries, front.within)
       | inr one ↦ omega (arith, one)
     ]
 

@@ -44,14 +44,14 @@ module _ (t : Tables) (new : Server) (before after : Giving) (instance : Instanc
       rw (← offered, p.1, p.2, same, append-nil _) (
         ap as_node_error p.0,
         ap (λ os. work (record t { server = published service.rules event t.server }) (before.outputs.items ++ os) (map view_entry before.replies.items))
-        (sym (sent_to_all service.rules.endpoint (message_of_event service.rules event payload t.server) (endpoints_of instance (eventgroups_of service event) (live_subscribers t)))),
+            (sym (sent_to_all service.rules.endpoint (message_of_event service.rules event payload t.server) (endpoints_of instance (eventgroups_of service event) (live_subscribers t)))),
       )
   publishes_met (Err e) p = rw (← offered) (p.0, λ is. ap (λ s. record t { server = s }) (p.1 (some_mapped _ is)))
 
   pub publishes_to_met : (eventgroup : ℕ) (endpoint : SocketAddrV4) (result : Result (Unit {0}) NodeError)
       → PublishesTo service.rules (is_up t instance) t.config.common.message_limit (subscriber_at instance eventgroup endpoint t) event payload t.server before.outputs.items result new after.outputs.items
       → Handled (PublishTo instance eventgroup endpoint event payload) t before result (record t { server = new }) after
-  publishes_to_met eventgroup endpoint (Ok x) p = 
+  publishes_to_met eventgroup endpoint (Ok x) p =
       rw (← offered, p.1, p.2, same, append-nil (map view_entry before.replies.items), append-nil (datagrams_of service.rules.endpoint endpoint (message_of_event service.rules event payload t.server)))
       (ap as_node_error p.0, refl)
   publishes_to_met eventgroup endpoint (Err e) p = rw (← offered) (p.0, λ is. ap (λ s. record t { server = s }) (p.1 (some_mapped _ is)))
@@ -85,7 +85,7 @@ module _ (t self : Tables) (new : Server) (before after : Giving) (instance amon
       subst (λ l. PublishesTo service.rules (is_up t instance) l subscriber event payload t.server before.outputs.items result new after.outputs.items)
       (limit_is ∙ ap (λ s. s.config.common.message_limit) (sym is)) by_up in
       let by_subscriber : PublishesTo service.rules (is_up t instance) t.config.common.message_limit (subscriber_at instance eventgroup endpoint t) event payload t.server before.outputs.items
-          result new after.outputs.items =
+      result new after.outputs.items =
       subst (λ x. PublishesTo service.rules (is_up t instance) t.config.common.message_limit x event payload t.server before.outputs.items result new after.outputs.items)
       (subscriber_is ∙ ap (subscriber_at instance eventgroup endpoint) (sym is)) by_limit in
       subst (λ s. Handled (PublishTo instance eventgroup endpoint event payload) s before result (record t { server = new }) after) is

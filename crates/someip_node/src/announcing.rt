@@ -178,11 +178,7 @@ fn lengths_of_fronts(alloc: Global, entries: &[Entry]) -> Result<Vec<usize>, All
 }
 
 /// The bytes of a message with entries.
-fn discovery_bytes(
-    alloc: Global,
-    stamp: Stamp,
-    entries: &[Entry],
-) -> Result<Payload, AllocError>
+fn discovery_bytes(alloc: Global, stamp: Stamp, entries: &[Entry]) -> Result<Payload, AllocError>
     requires { length entries.now ≤ 65535 }
     ensures { IfOk result (λ bytes. bytes
         ≡ spelling (discovery_message stamp (map view_entry entries.now))) }
@@ -198,11 +194,7 @@ fn discovery_bytes(
 }
 
 /// The payload of a message with entries.
-fn discovery_payload(
-    alloc: Global,
-    reboot: bool,
-    entries: &[Entry],
-) -> Result<Vec<u8>, AllocError>
+fn discovery_payload(alloc: Global, reboot: bool, entries: &[Entry]) -> Result<Vec<u8>, AllocError>
     requires { length entries.now ≤ 65535 }
     ensures payload { IfOk result (λ payload. payload.items
         ≡ discovery_payload reboot (map view_entry entries.now)) }

@@ -53,8 +53,19 @@ impl<R: Reassembly> Model for Engine<R> {
 
     ghost Value = { Tables };
 
-    ghost coded = { Prim.hlevel (codes, config_row.the_row.coded, coded_parts, coded_held, coded_stamps_to, coded_offers, coded_seek,
-      coded_subscribers, coded_wishes, coded_client, coded_server) };
+    ghost coded = { Prim.hlevel (
+      codes,
+      config_row.the_row.coded,
+      coded_parts,
+      coded_held,
+      coded_stamps_to,
+      coded_offers,
+      coded_seek,
+      coded_subscribers,
+      coded_wishes,
+      coded_client,
+      coded_server,
+    ) };
 
     ghost view = { λ n. record {
       config = n.config;
@@ -72,9 +83,8 @@ impl<R: Reassembly> Model for Engine<R> {
     } };
 
     ghost invariant = { λ n.
-      (map_of nat_cmp n.ports.entries ≡ ports_of n.config)
-      × (R.limits n.store ≡ limits_of n.config) × NoneAfter n.clock (R.parts n.store)
-      × (n.peers.limit ≡ n.config.common.peers) × (n.config.common.message_limit ≤ 1048576)
-      × (n.offers.versions ≡ versions_of n.config) × (n.seeker.wanted ≡ majors_of n.config)
-    };
+        (map_of nat_cmp n.ports.entries ≡ ports_of n.config)
+        × (R.limits n.store ≡ limits_of n.config) × NoneAfter n.clock (R.parts n.store)
+        × (n.peers.limit ≡ n.config.common.peers) × (n.config.common.message_limit ≤ 1048576)
+        × (n.offers.versions ≡ versions_of n.config) × (n.seeker.wanted ≡ majors_of n.config) };
 }

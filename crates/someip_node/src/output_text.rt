@@ -6,7 +6,6 @@ use someip_rpc::MessageId;
 use std::fmt;
 use std::fmt::Display;
 
-
 /// As a line of a trace tells it, without the number of a datagram: IDs have four hex digits, codes two,
 /// and payloads are hex, or `-` where they are empty.
 ///

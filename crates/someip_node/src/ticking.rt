@@ -45,12 +45,7 @@ impl<R: Reassembly> Engine<R> {
     }
 
     /// Lets the clock go on, tells what ends with that, and answers what it brings.
-    fn advance(
-        &mut self,
-        ms: u64,
-        now: Moment,
-        giving: &mut Giving,
-    ) -> Result<Passed, AllocError>
+    fn advance(&mut self, ms: u64, now: Moment, giving: &mut Giving) -> Result<Passed, AllocError>
         requires { now ≡ self.old.clock + ms }
         ensures passed { IfOk result (HasPassed now self.old) }
         ensures work { OnOk result (working self.new giving.new
@@ -144,10 +139,7 @@ fn end_calls(client: &mut ClientCore, now: Moment) -> Result<BTreeSet<CallKey>, 
 }
 
 /// Tells the calls whose time has passed.
-fn tell_timed_out(
-    calls: &BTreeSet<CallKey>,
-    outputs: &mut Vec<Output>,
-) -> Result<(), AllocError>
+fn tell_timed_out(calls: &BTreeSet<CallKey>, outputs: &mut Vec<Output>) -> Result<(), AllocError>
     ensures { OnOk result (outputs.new.items ≡ outputs.old.items
         ++ map (λ call. TimedOut call.message call.session) calls.now.keys) }
 {
