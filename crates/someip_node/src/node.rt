@@ -111,8 +111,7 @@ impl<R: Reassembly> Node<R> {
 
     /// Takes a datagram that came from an endpoint to another, and gives what it brings: datagrams to
     /// send, and what the application is told. A datagram is never refused: what cannot be taken is
-    /// dropped, and the reason is told (SOME/IP Protocol, "Transport Protocol"; SOME/IP Service
-    /// Discovery Protocol, "Message format").
+    /// dropped, and the reason is told.
     pub fn on_datagram(
         &mut self,
         from: SocketAddrV4,
@@ -150,7 +149,7 @@ impl<R: Reassembly> Node<R> {
     /// Calls a method of an instance that the node wants, at the endpoint of the offer that it knows.
     /// A call that waits for its answer waits as long as the configuration says. A payload that does not
     /// fit into one datagram goes out in segments (SOME/IP Protocol, "Request/Response communication",
-    /// "Transporting large SOME/IP messages of UDP").
+    /// "SOME/IP-TP").
     ///
     /// It is refused, by the first that holds, as `NotOffered` where no offer of the instance is known,
     /// `TooLong` where the payload is longer than the message limit, and `Busy` where it would wait for
