@@ -43,3 +43,6 @@ pub use error::NodeError;
 pub use node::Node;
 pub use output::Output;
 pub use payload::Payload;
+
+#[cfg(test)]
+mod tests;
