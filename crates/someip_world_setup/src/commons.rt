@@ -1,0 +1,52 @@
+//! What all nodes share.
+
+use crate::addresses::address_at;
+use crate::error::SetupError;
+use crate::numbers::{byte, count_or, integer_or, time_or, word};
+use sd_core::Phases;
+use someip_node::Common;
+use toml::Value;
+
+/// The delays after the first one.
+fn phases(table: &Value) -> Result<Phases, SetupError> {
+    let base = word("base", integer_or(table, "base", 30)?, 1, 60000)?;
+    let repetitions = byte("repetitions", integer_or(table, "repetitions", 3)?, 16)?;
+    let cyclic = time_or(table, "cyclic", 1000)?;
+    Ok(Phases {
+        base,
+        repetitions,
+        cyclic,
+    })
+}
+
+/// The greatest payload of a message.
+fn message_limit(table: &Value) -> Result<usize, SetupError> {
+    let key = "message_limit";
+    Ok(word(key, integer_or(table, key, 65536)?, 1400, 1_048_576)? as usize)
+}
+
+/// What all nodes share.
+pub(crate) fn common(table: &Value) -> Result<Common, SetupError> {
+    let group = address_at(table, "group")?;
+    let least = integer_or(table, "initial_min", 10)?;
+    let initial_min_ms = word("initial_min", least, 0, 60000)?;
+    let greatest = integer_or(table, "initial_max", 100)?;
+    let initial_max_ms = word("initial_max", greatest, initial_min_ms, 60000)?;
+    let phases = phases(table)?;
+    let message_limit = message_limit(table)?;
+    let slots = count_or(table, "slots", 16)?;
+    let peers = count_or(table, "peers", 64)?;
+    let reassembly_timeout_ms = time_or(table, "reassembly_timeout", 1000)?;
+    let call_timeout_ms = time_or(table, "call_timeout", 2000)?;
+    Ok(Common {
+        group,
+        initial_min_ms,
+        initial_max_ms,
+        phases,
+        message_limit,
+        slots,
+        peers,
+        reassembly_timeout_ms,
+        call_timeout_ms,
+    })
+}
