@@ -1,4 +1,9 @@
 //! What all nodes share.
+ghost use Rattle.std.specs.Prelude.{pos, codes};
+ghost use Rattle.toml.specs.View.{view};
+ghost use Rattle.someip_world_setup.specs.Keys.{Gives, number_or};
+ghost use Rattle.someip_world_setup.specs.Says.{phases_of, common_of};
+ghost use Rattle.someip_world_setup.specs.Values.{phases_view, common_view};
 
 use crate::addresses::address_at;
 use crate::error::SetupError;
@@ -8,7 +13,9 @@ use someip_node::Common;
 use toml::Value;
 
 /// The delays after the first one.
-fn phases(table: &Value) -> Result<Phases, SetupError> {
+fn phases(table: &Value) -> Result<Phases, SetupError>
+    ensures { Gives phases_view result (phases_of (view table.now)) }
+{
     let base = word("base", integer_or(table, "base", 30)?, 1, 60000)?;
     let repetitions = byte("repetitions", integer_or(table, "repetitions", 3)?, 16)?;
     let cyclic = time_or(table, "cyclic", 1000)?;
@@ -20,13 +27,17 @@ fn phases(table: &Value) -> Result<Phases, SetupError> {
 }
 
 /// The greatest payload of a message.
-fn message_limit(table: &Value) -> Result<usize, SetupError> {
+fn message_limit(table: &Value) -> Result<usize, SetupError>
+    ensures { Gives (λ n. n) result (number_or (codes "message_limit") (pos 65536) 1400 1048576 (view table.now)) }
+{
     let key = "message_limit";
     Ok(word(key, integer_or(table, key, 65536)?, 1400, 1_048_576)? as usize)
 }
 
 /// What all nodes share.
-pub(crate) fn common(table: &Value) -> Result<Common, SetupError> {
+pub(crate) fn common(table: &Value) -> Result<Common, SetupError>
+    ensures { Gives common_view result (common_of (view table.now)) }
+{
     let group = address_at(table, "group")?;
     let least = integer_or(table, "initial_min", 10)?;
     let initial_min_ms = word("initial_min", least, 0, 60000)?;

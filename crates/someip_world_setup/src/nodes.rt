@@ -1,4 +1,10 @@
 //! The nodes.
+ghost use Rattle.std.specs.Prelude.{map};
+ghost use Rattle.toml.specs.View.{view};
+ghost use Rattle.someip_world_setup.specs.Keys.{Gives};
+ghost use Rattle.someip_world_setup.specs.Lists.{each};
+ghost use Rattle.someip_world_setup.specs.Says.{node_of, node_tables, setup_of};
+ghost use Rattle.someip_world_setup.specs.Values.{node_view, parts_view};
 
 use crate::addresses::address_at;
 use crate::commons::common;
@@ -13,7 +19,9 @@ use std::alloc::Global;
 use toml::Value;
 
 /// A node, whose delay lies between two times.
-fn node(alloc: Global, table: &Value, least: u32, most: u32) -> Result<NodeParts, SetupError> {
+fn node(alloc: Global, table: &Value, least: u32, most: u32) -> Result<NodeParts, SetupError>
+    ensures { Gives node_view result (node_of least most (view table.now)) }
+{
     let name = name_at(alloc, table)?;
     let address = address_at(table, "address")?;
     let client_id = short("client_id", integer(table, "client_id")?, 0, 0xffff)?;
@@ -39,7 +47,9 @@ fn nodes(
     tables: &[Value],
     least: u32,
     most: u32,
-) -> Result<Vec<NodeParts>, SetupError> {
+) -> Result<Vec<NodeParts>, SetupError>
+    ensures { Gives (λ v. map node_view v.items) result (each (node_of least most) (map view tables.now)) }
+{
     let mut nodes = Vec::new(alloc);
     for table in tables {
         nodes.push(node(alloc, table, least, most)?)?;
@@ -48,7 +58,9 @@ fn nodes(
 }
 
 /// The tables of the nodes, from 1 to 64.
-fn node_tables(tree: &Value) -> Result<&[Value], SetupError> {
+fn node_tables(tree: &Value) -> Result<&[Value], SetupError>
+    ensures { Gives (λ s. map view s.now) result (node_tables (view tree.now)) }
+{
     let tables = tables_at(tree, "node")?;
     if tables.is_empty() || 64 < tables.len() {
         return Err(SetupError::OutOfRange("node"));
@@ -57,7 +69,9 @@ fn node_tables(tree: &Value) -> Result<&[Value], SetupError> {
 }
 
 /// What a tree says.
-pub(crate) fn parts(alloc: Global, tree: &Value) -> Result<SetupParts, SetupError> {
+pub(crate) fn parts(alloc: Global, tree: &Value) -> Result<SetupParts, SetupError>
+    ensures { Gives parts_view result (setup_of (view tree.now)) }
+{
     let common = common(tree)?;
     let tables = node_tables(tree)?;
     let nodes = nodes(

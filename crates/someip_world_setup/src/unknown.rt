@@ -90,39 +90,62 @@ fn elements<'a>(table: &'a Value, key: &str) -> &'a [Value] {
     }
 }
 
-/// The least unknown key so many levels below a table.
-fn unknown_below(table: &Value, place: Place, levels: u32) -> Option<&str> {
-    if levels == 0 {
-        return first_unknown(table, place);
-    }
-    let below = levels - 1;
-    match place {
-        Place::Setup => unknown_among(elements(table, "node"), Place::Node, below),
-        Place::Node => lesser(
-            unknown_among(elements(table, "offer"), Place::Offer, below),
-            unknown_among(elements(table, "want"), Place::Want, below),
-        ),
-        Place::Offer => unknown_among(elements(table, "events"), Place::Event, below),
-        Place::Want => unknown_among(elements(table, "groups"), Place::Group, below),
-        Place::Event | Place::Group => None,
-    }
-}
-
-/// The least unknown key so many levels below the tables of a list.
-fn unknown_among(tables: &[Value], place: Place, levels: u32) -> Option<&str> {
+/// The least unknown key of the tables of a list.
+fn unknown_of(tables: &[Value], place: Place) -> Option<&str> {
     let mut least = None;
     for table in tables {
-        least = lesser(least, unknown_below(table, place, levels));
+        least = lesser(least, first_unknown(table, place));
     }
     least
 }
 
-/// Refuses a tree with an unknown key: the least one at the least depth.
-pub(crate) fn refuse_unknown(alloc: Global, tree: &Value) -> Result<(), SetupError> {
-    for levels in 0..4 {
-        if let Some(key) = unknown_below(tree, Place::Setup, levels) {
-            return Err(SetupError::UnknownKey(String::from_str(alloc, key)?));
-        }
+/// The least unknown key of the tables that stand in lists at a key.
+fn unknown_at<'a>(tables: &'a [Value], key: &str, place: Place) -> Option<&'a str> {
+    let mut least = None;
+    for table in tables {
+        least = lesser(least, unknown_of(elements(table, key), place));
     }
-    Ok(())
+    least
+}
+
+/// The least unknown key of the events and eventgroups of nodes.
+fn unknown_of_lists(nodes: &[Value]) -> Option<&str> {
+    let mut least = None;
+    for node in nodes {
+        let of_events = unknown_at(elements(node, "offer"), "events", Place::Event);
+        let of_groups = unknown_at(elements(node, "want"), "groups", Place::Group);
+        least = lesser(least, lesser(of_events, of_groups));
+    }
+    least
+}
+
+/// The least unknown key of the offers and wants of nodes.
+fn unknown_of_instances(nodes: &[Value]) -> Option<&str> {
+    lesser(
+        unknown_at(nodes, "offer", Place::Offer),
+        unknown_at(nodes, "want", Place::Want),
+    )
+}
+
+/// The least unknown key at the least depth that has one.
+fn unknown_in(tree: &Value) -> Option<&str> {
+    let nodes = elements(tree, "node");
+    if let Some(key) = first_unknown(tree, Place::Setup) {
+        return Some(key);
+    }
+    if let Some(key) = unknown_of(nodes, Place::Node) {
+        return Some(key);
+    }
+    if let Some(key) = unknown_of_instances(nodes) {
+        return Some(key);
+    }
+    unknown_of_lists(nodes)
+}
+
+/// Refuses a tree with an unknown key.
+pub(crate) fn refuse_unknown(alloc: Global, tree: &Value) -> Result<(), SetupError> {
+    match unknown_in(tree) {
+        Some(key) => Err(SetupError::UnknownKey(String::from_str(alloc, key)?)),
+        None => Ok(()),
+    }
 }

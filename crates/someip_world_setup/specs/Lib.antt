@@ -1,0 +1,4 @@
+pub mod Keys
+pub mod Lists
+pub mod Values
+pub mod Says
