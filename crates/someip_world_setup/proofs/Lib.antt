@@ -1,2 +1,4 @@
 pub mod ReadingLemmas
 pub mod AddressLemmas
+pub mod MakingLemmas
+pub mod FaultLemmas

@@ -1,4 +1,5 @@
 //! What a setup says, in the order of its text, before clashes are judged.
+ghost use Rattle.std.specs.Prelude.{◌≡◌};
 
 use sd_core::InstanceId;
 use sd_wire::Ttl;
@@ -60,7 +61,9 @@ pub(crate) struct SetupParts {
 
 impl OfferParts {
     /// The instance that is offered.
-    pub(crate) fn id(&self) -> InstanceId {
+    pub(crate) fn id(&self) -> InstanceId
+        ensures { result ≡ record { service = self.now.service; instance = self.now.instance } }
+    {
         InstanceId {
             service: self.service,
             instance: self.instance,
@@ -70,7 +73,9 @@ impl OfferParts {
 
 impl WantParts {
     /// The instance that is wanted.
-    pub(crate) fn id(&self) -> InstanceId {
+    pub(crate) fn id(&self) -> InstanceId
+        ensures { result ≡ record { service = self.now.service; instance = self.now.instance } }
+    {
         InstanceId {
             service: self.service,
             instance: self.instance,

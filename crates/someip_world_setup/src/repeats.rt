@@ -1,4 +1,6 @@
 //! IDs that stand twice.
+ghost use Rattle.std.specs.Prelude.{IfErr};
+ghost use Rattle.someip_world_setup.specs.Readings.{IsClash};
 
 use crate::error::SetupError;
 use crate::parts::{Listed, OfferParts, WantParts};
@@ -10,7 +12,9 @@ pub(crate) fn add_new(
     met: &mut BTreeSet<u16>,
     number: u16,
     key: &'static str,
-) -> Result<(), SetupError> {
+) -> Result<(), SetupError>
+    ensures { IfErr result IsClash }
+{
     if met.insert(number)? {
         Ok(())
     } else {
@@ -19,7 +23,9 @@ pub(crate) fn add_new(
 }
 
 /// Adds the IDs of a list to those that were met.
-fn add_ids(met: &mut BTreeSet<u16>, ids: &[u16]) -> Result<(), SetupError> {
+fn add_ids(met: &mut BTreeSet<u16>, ids: &[u16]) -> Result<(), SetupError>
+    ensures { IfErr result IsClash }
+{
     for id in ids {
         add_new(met, *id, "id")?;
     }
@@ -27,13 +33,17 @@ fn add_ids(met: &mut BTreeSet<u16>, ids: &[u16]) -> Result<(), SetupError> {
 }
 
 /// Refuses an ID that stands twice in a list.
-fn refuse_repeated(alloc: Global, ids: &[u16]) -> Result<(), SetupError> {
+fn refuse_repeated(alloc: Global, ids: &[u16]) -> Result<(), SetupError>
+    ensures { IfErr result IsClash }
+{
     let mut met = BTreeSet::new(alloc);
     add_ids(&mut met, ids)
 }
 
 /// Refuses an ID that stands twice in a list with others, or among the others of one.
-fn refuse_repeated_lists(alloc: Global, lists: &[Listed]) -> Result<(), SetupError> {
+fn refuse_repeated_lists(alloc: Global, lists: &[Listed]) -> Result<(), SetupError>
+    ensures { IfErr result IsClash }
+{
     let mut met = BTreeSet::new(alloc);
     for list in lists {
         add_new(&mut met, list.id, "id")?;
@@ -46,7 +56,9 @@ fn refuse_repeated_lists(alloc: Global, lists: &[Listed]) -> Result<(), SetupErr
 pub(crate) fn refuse_repeats_of_offer(
     alloc: Global,
     offer: &OfferParts,
-) -> Result<(), SetupError> {
+) -> Result<(), SetupError>
+    ensures { IfErr result IsClash }
+{
     let mut met = BTreeSet::new(alloc);
     add_ids(&mut met, &offer.methods)?;
     add_ids(&mut met, &offer.oneways)?;
@@ -54,6 +66,8 @@ pub(crate) fn refuse_repeats_of_offer(
 }
 
 /// Refuses an ID that stands twice in a want.
-pub(crate) fn refuse_repeats_of_want(alloc: Global, want: &WantParts) -> Result<(), SetupError> {
+pub(crate) fn refuse_repeats_of_want(alloc: Global, want: &WantParts) -> Result<(), SetupError>
+    ensures { IfErr result IsClash }
+{
     refuse_repeated_lists(alloc, &want.groups)
 }

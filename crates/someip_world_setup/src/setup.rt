@@ -1,4 +1,7 @@
 //! A setup.
+ghost use Rattle.std.specs.Prelude.{IfOk, IfErr, IsSomeAnd};
+ghost use Rattle.toml.specs.View.{view};
+ghost use Rattle.someip_world_setup.specs.Readings.{tree_of, IsSaid, Refuses, RefusesText};
 
 use crate::building::built_nodes;
 use crate::clashes::refuse_clashes;
@@ -30,18 +33,27 @@ pub struct Setup {
 }
 
 /// The setup that a tree says.
-fn setup_in(alloc: Global, tree: &Value) -> Result<Setup, SetupError> {
+fn setup_in(alloc: Global, tree: &Value) -> Result<Setup, SetupError>
+    ensures said { IfOk result (IsSaid (view tree.now)) }
+    ensures refused { IfErr result (Refuses (view tree.now)) }
+{
     let parts = parts(alloc, tree)?;
     refuse_unknown(alloc, tree)?;
     refuse_clashes(alloc, &parts)?;
     let common = parts.common;
-    let nodes = built_nodes(alloc, common, parts.nodes)?;
+    let nodes = built_nodes(alloc, common, &parts.nodes)?;
     Ok(Setup { common, nodes })
 }
 
 impl Setup {
     /// The setup that a text says.
-    pub fn read(alloc: Global, text: &str) -> Result<Setup, SetupError> {
+    pub fn read(alloc: Global, text: &str) -> Result<Setup, SetupError>
+        // It is what the tree of the text says, with the defaults.
+        ensures said { IfOk result (λ s. IsSomeAnd (tree_of text.now) (λ d. IsSaid d s)) }
+        // A text is refused as such where it is no TOML; and where a key is missing, of another kind or
+        // outside its range, its tree says no setup.
+        ensures refused { IfErr result (RefusesText (tree_of text.now)) }
+    {
         match toml::table_from_str(alloc, text) {
             Ok(table) => setup_in(alloc, &Value::Table(table)),
             Err(error) if error.is_memory() => Err(SetupError::OutOfMemory),

@@ -1,4 +1,6 @@
 //! Keys that the format does not have.
+ghost use Rattle.std.specs.Prelude.{IfErr};
+ghost use Rattle.someip_world_setup.specs.Readings.{IsUnknown};
 
 use crate::error::SetupError;
 use std::alloc::Global;
@@ -143,7 +145,9 @@ fn unknown_in(tree: &Value) -> Option<&str> {
 }
 
 /// Refuses a tree with an unknown key.
-pub(crate) fn refuse_unknown(alloc: Global, tree: &Value) -> Result<(), SetupError> {
+pub(crate) fn refuse_unknown(alloc: Global, tree: &Value) -> Result<(), SetupError>
+    ensures { IfErr result IsUnknown }
+{
     match unknown_in(tree) {
         Some(key) => Err(SetupError::UnknownKey(String::from_str(alloc, key)?)),
         None => Ok(()),
