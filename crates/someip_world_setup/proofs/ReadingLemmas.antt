@@ -56,5 +56,3 @@ module _ {B : Type 0} (f : Data → Option B) where
 pub elements-items_of : (ds : List Data) → elements (items_of ds) ≡ ds
 elements-items_of [] = refl
 elements-items_of (d ∷ ds) = ap (λ (t : List Data). d ∷ t) (elements-items_of ds)
-
-

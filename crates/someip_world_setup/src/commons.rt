@@ -1,5 +1,6 @@
 //! What all nodes share.
-ghost use Rattle.std.specs.Prelude.{pos, codes};
+ghost use Rattle.std.specs.Prelude.{◌≡◌, true, pos, codes, IfOk};
+ghost use Rattle.someip_node.specs.GoodConfigs.{is_within, is_good_common};
 ghost use Rattle.toml.specs.View.{view};
 ghost use Rattle.someip_world_setup.specs.Keys.{Gives, number_or};
 ghost use Rattle.someip_world_setup.specs.Says.{phases_of, common_of};
@@ -28,7 +29,8 @@ fn phases(table: &Value) -> Result<Phases, SetupError>
 
 /// The greatest payload of a message.
 fn message_limit(table: &Value) -> Result<usize, SetupError>
-    ensures { Gives (λ n. n) result (number_or (codes "message_limit") (pos 65536) 1400 1048576 (view table.now)) }
+    ensures good { IfOk result (λ n. is_within 1400 1048576 n ≡ true) }
+    ensures found { Gives (λ n. n) result (number_or (codes "message_limit") (pos 65536) 1400 1048576 (view table.now)) }
 {
     let key = "message_limit";
     Ok(word(key, integer_or(table, key, 65536)?, 1400, 1_048_576)? as usize)
@@ -36,7 +38,8 @@ fn message_limit(table: &Value) -> Result<usize, SetupError>
 
 /// What all nodes share.
 pub(crate) fn common(table: &Value) -> Result<Common, SetupError>
-    ensures { Gives common_view result (common_of (view table.now)) }
+    ensures found { Gives common_view result (common_of (view table.now)) }
+    ensures good { IfOk result (λ c. is_good_common c ≡ true) }
 {
     let group = address_at(table, "group")?;
     let least = integer_or(table, "initial_min", 10)?;

@@ -1,5 +1,6 @@
 //! The nodes.
-ghost use Rattle.std.specs.Prelude.{map};
+ghost use Rattle.std.specs.Prelude.{◌≡◌, true, map, IfOk};
+ghost use Rattle.someip_node.specs.GoodConfigs.{is_good_common};
 ghost use Rattle.toml.specs.View.{view};
 ghost use Rattle.someip_world_setup.specs.Keys.{Gives};
 ghost use Rattle.someip_world_setup.specs.Lists.{each};
@@ -70,15 +71,11 @@ fn node_tables(tree: &Value) -> Result<&[Value], SetupError>
 
 /// What a tree says.
 pub(crate) fn parts(alloc: Global, tree: &Value) -> Result<SetupParts, SetupError>
-    ensures { Gives parts_view result (setup_of (view tree.now)) }
+    ensures said { Gives parts_view result (setup_of (view tree.now)) }
+    ensures good { IfOk result (λ p. is_good_common p.common ≡ true) }
 {
     let common = common(tree)?;
     let tables = node_tables(tree)?;
-    let nodes = nodes(
-        alloc,
-        tables,
-        common.initial_min_ms,
-        common.initial_max_ms,
-    )?;
+    let nodes = nodes(alloc, tables, common.initial_min_ms, common.initial_max_ms)?;
     Ok(SetupParts { common, nodes })
 }

@@ -1,5 +1,6 @@
 //! The numbers at the keys of a table.
-ghost use Rattle.std.specs.Prelude.{◌≤◌, IfOk};
+ghost use Rattle.std.specs.Prelude.{◌≡◌, ◌≤◌, true, IfOk};
+ghost use Rattle.someip_node.specs.GoodConfigs.{is_within};
 ghost use Rattle.toml.specs.View.{view};
 ghost use Rattle.someip_world_setup.specs.Keys.{Gives, integer_at, integer_or, within};
 ghost use Rattle.someip_world_setup.specs.Says.{id_at, port_at, major_at, ttl_at, count_or, time_or};
@@ -19,11 +20,7 @@ pub(crate) fn integer(table: &Value, key: &'static str) -> Result<i64, SetupErro
 }
 
 /// The number at a key, or its default.
-pub(crate) fn integer_or(
-    table: &Value,
-    key: &'static str,
-    default: i64,
-) -> Result<i64, SetupError>
+pub(crate) fn integer_or(table: &Value, key: &'static str, default: i64) -> Result<i64, SetupError>
     ensures { Gives (λ z. z) result (integer_or key.now default (view table.now)) }
 {
     let Some(value) = table.get(key) else {
@@ -33,14 +30,10 @@ pub(crate) fn integer_or(
 }
 
 /// A number of 32 bits, from `low` to `high`.
-pub(crate) fn word(
-    key: &'static str,
-    number: i64,
-    low: u32,
-    high: u32,
-) -> Result<u32, SetupError>
+pub(crate) fn word(key: &'static str, number: i64, low: u32, high: u32) -> Result<u32, SetupError>
     ensures found { Gives (λ n. n) result (within low high number) }
     ensures range { IfOk result (λ n. (low ≤ n) × (n ≤ high)) }
+    ensures good { IfOk result (λ n. is_within low high n ≡ true) }
 {
     match u32::try_from(number) {
         Ok(number) if low <= number && number <= high => Ok(number),
@@ -49,14 +42,10 @@ pub(crate) fn word(
 }
 
 /// A number of 16 bits, from `low` to `high`.
-pub(crate) fn short(
-    key: &'static str,
-    number: i64,
-    low: u16,
-    high: u16,
-) -> Result<u16, SetupError>
+pub(crate) fn short(key: &'static str, number: i64, low: u16, high: u16) -> Result<u16, SetupError>
     ensures found { Gives (λ n. n) result (within low high number) }
     ensures range { IfOk result (λ n. (low ≤ n) × (n ≤ high)) }
+    ensures good { IfOk result (λ n. is_within low high n ≡ true) }
 {
     match u16::try_from(number) {
         Ok(number) if low <= number && number <= high => Ok(number),
@@ -105,13 +94,10 @@ pub(crate) fn ttl_at(table: &Value) -> Result<Ttl, SetupError>
 }
 
 /// The number of things at a key, from 1 to 1024, or its default.
-pub(crate) fn count_or(
-    table: &Value,
-    key: &'static str,
-    default: i64,
-) -> Result<usize, SetupError>
+pub(crate) fn count_or(table: &Value, key: &'static str, default: i64) -> Result<usize, SetupError>
     ensures found { Gives (λ n. n) result (count_or key.now default (view table.now)) }
     ensures range { IfOk result (λ n. (1 ≤ n) × (n ≤ 1024)) }
+    ensures good { IfOk result (λ n. is_within 1 1024 n ≡ true) }
 {
     Ok(word(key, integer_or(table, key, default)?, 1, 1024)? as usize)
 }
@@ -120,6 +106,7 @@ pub(crate) fn count_or(
 pub(crate) fn time_or(table: &Value, key: &'static str, default: i64) -> Result<u32, SetupError>
     ensures found { Gives (λ n. n) result (time_or key.now default (view table.now)) }
     ensures range { IfOk result (λ n. (1 ≤ n) × (n ≤ 3600000)) }
+    ensures good { IfOk result (λ n. is_within 1 3600000 n ≡ true) }
 {
     word(key, integer_or(table, key, default)?, 1, 3_600_000)
 }

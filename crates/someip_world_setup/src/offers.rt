@@ -8,18 +8,16 @@ ghost use Rattle.someip_world_setup.specs.Values.{listed_view, offer_view};
 
 use crate::error::SetupError;
 use crate::lists::ids;
-use crate::numbers::{count_or, id_at, integer, integer_or, major_at, port_at, short, ttl_at, word};
+use crate::numbers::{
+    count_or, id_at, integer, integer_or, major_at, port_at, short, ttl_at, word,
+};
 use crate::parts::{Listed, OfferParts};
 use crate::tables::{integers_at, integers_or_none, tables_or_none};
 use std::alloc::Global;
 use toml::Value;
 
 /// The methods at a key, up to 7FFF.
-fn methods_at(
-    alloc: Global,
-    table: &Value,
-    key: &'static str,
-) -> Result<Vec<u16>, SetupError>
+fn methods_at(alloc: Global, table: &Value, key: &'static str) -> Result<Vec<u16>, SetupError>
     ensures { Gives (λ v. v.items) result (methods_at key.now (view table.now)) }
 {
     ids(alloc, integers_or_none(table, key)?, key, 0, 0x7fff)

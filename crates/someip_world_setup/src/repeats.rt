@@ -53,10 +53,7 @@ fn refuse_repeated_lists(alloc: Global, lists: &[Listed]) -> Result<(), SetupErr
 }
 
 /// Refuses an ID that stands twice in an offer.
-pub(crate) fn refuse_repeats_of_offer(
-    alloc: Global,
-    offer: &OfferParts,
-) -> Result<(), SetupError>
+pub(crate) fn refuse_repeats_of_offer(alloc: Global, offer: &OfferParts) -> Result<(), SetupError>
     ensures { IfErr result IsClash }
 {
     let mut met = BTreeSet::new(alloc);

@@ -1,5 +1,6 @@
 //! A setup.
-ghost use Rattle.std.specs.Prelude.{IfOk, IfErr, IsSomeAnd};
+ghost use Rattle.std.specs.Prelude.{◌≡◌, true, IfOk, IfErr, IsSomeAnd};
+ghost use Rattle.someip_node.specs.GoodConfigs.{is_good_common};
 ghost use Rattle.toml.specs.View.{view};
 ghost use Rattle.someip_world_setup.specs.Readings.{tree_of, IsSaid, Refuses, RefusesText};
 
@@ -35,6 +36,7 @@ pub struct Setup {
 /// The setup that a tree says.
 fn setup_in(alloc: Global, tree: &Value) -> Result<Setup, SetupError>
     ensures said { IfOk result (IsSaid (view tree.now)) }
+    ensures good { IfOk result (λ s. is_good_common s.common ≡ true) }
     ensures refused { IfErr result (Refuses (view tree.now)) }
 {
     let parts = parts(alloc, tree)?;
@@ -50,6 +52,8 @@ impl Setup {
     pub fn read(alloc: Global, text: &str) -> Result<Setup, SetupError>
         // It is what the tree of the text says, with the defaults.
         ensures said { IfOk result (λ s. IsSomeAnd (tree_of text.now) (λ d. IsSaid d s)) }
+        // The delays, limits and timeouts of all nodes are in their ranges.
+        ensures good { IfOk result (λ s. is_good_common s.common ≡ true) }
         // A text is refused as such where it is no TOML; and where a key is missing, of another kind or
         // outside its range, its tree says no setup.
         ensures refused { IfErr result (RefusesText (tree_of text.now)) }

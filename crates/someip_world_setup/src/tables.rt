@@ -75,10 +75,7 @@ fn integers_of<'a>(value: &'a Value, key: &'static str) -> Result<&'a [Value], S
 }
 
 /// The tables at a key that is needed.
-pub(crate) fn tables_at<'a>(
-    table: &'a Value,
-    key: &'static str,
-) -> Result<&'a [Value], SetupError>
+pub(crate) fn tables_at<'a>(table: &'a Value, key: &'static str) -> Result<&'a [Value], SetupError>
     ensures { Gives (λ s. map view s.now) result (tables_at key.now (view table.now)) }
 {
     match table.get(key) {

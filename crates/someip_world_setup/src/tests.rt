@@ -10,10 +10,12 @@ mod faults;
 const COMMON: &str = "group = \"239.0.0.1\"\n";
 
 /// Its first node.
-const SERVER: &str = "[[node]]\nname = \"a\"\naddress = \"192.168.0.1\"\nclient_id = 0x0101\nclient_port = 40000\n[[node.offer]]\nservice = 0x1111\ninstance = 1\nmajor = 1\nttl = 3\nport = 30509\nmethods = [0x0421]\noneways = [0x0422]\nevents = [{ id = 0x8001, groups = [1] }]\n";
+const SERVER: &str =
+    "[[node]]\nname = \"a\"\naddress = \"192.168.0.1\"\nclient_id = 0x0101\nclient_port = 40000\n[[node.offer]]\nservice = 0x1111\ninstance = 1\nmajor = 1\nttl = 3\nport = 30509\nmethods = [0x0421]\noneways = [0x0422]\nevents = [{ id = 0x8001, groups = [1] }]\n";
 
 /// Its second node.
-const CLIENT: &str = "[[node]]\nname = \"b\"\naddress = \"192.168.0.2\"\nclient_id = 0x0102\nclient_port = 40001\n[[node.want]]\nservice = 0x1111\ninstance = 1\nmajor = 1\nttl = 3\ngroups = [{ id = 1, events = [0x8001] }]\n";
+const CLIENT: &str =
+    "[[node]]\nname = \"b\"\naddress = \"192.168.0.2\"\nclient_id = 0x0102\nclient_port = 40001\n[[node.want]]\nservice = 0x1111\ninstance = 1\nmajor = 1\nttl = 3\ngroups = [{ id = 1, events = [0x8001] }]\n";
 
 /// The text with another one in place of the first place of an old one.
 fn replaced(alloc: Global, text: &str, old: &str, new: &str) -> Result<String, AllocError> {

@@ -19,7 +19,13 @@ fn group(alloc: Global, table: &Value) -> Result<Listed, SetupError>
     ensures { Gives listed_view result (group_of (view table.now)) }
 {
     let id = id_at(table, "id")?;
-    let members = ids(alloc, integers_at(table, "events")?, "events", 0x8000, 0xfffe)?;
+    let members = ids(
+        alloc,
+        integers_at(table, "events")?,
+        "events",
+        0x8000,
+        0xfffe,
+    )?;
     Ok(Listed { id, members })
 }
 

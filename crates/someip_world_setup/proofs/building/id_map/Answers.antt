@@ -9,9 +9,9 @@ use Rattle.someip_world_setup.proofs.building.id_map.Goals as goal
 pub loop-list-preserved : goal.loop-list-preserved
 loop-list-preserved c =
     one_entry nat_cmp keys_of_set (λ x. list_entry (listed_view x)) c.loop-list.map.entries _ c.loop-list.list-index c.args.lists.now _ _ _ c.loop-list-test.true c.in_ok-insert.ensures.entries
-        (ap (λ (x : Listed). x.id) c.list-item.is)
-        (c.in_ok-id_set.ensures ∙ ap set_of c.deref.ensures.value ∙ ap (λ (x : Listed). set_of x.members.items) c.list-item.is)
-        c.loop-list.invariant
+    (ap (λ (x : Listed). x.id) c.list-item.is)
+    (c.in_ok-id_set.ensures ∙ ap set_of c.deref.ensures.value ∙ ap (λ (x : Listed). set_of x.members.items) c.list-item.is)
+    c.loop-list.invariant
 
 pub returns : goal.returns
 returns c =
