@@ -5,6 +5,8 @@ use std::net::Ipv4Addr;
 use std::test::Fail;
 
 mod faults;
+mod ids;
+mod instances;
 
 /// The worked setup, to its first node.
 const COMMON: &str = "group = \"239.0.0.1\"\n";
