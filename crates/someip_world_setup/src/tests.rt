@@ -7,6 +7,7 @@ use std::test::Fail;
 mod faults;
 mod ids;
 mod instances;
+mod nodes;
 
 /// The worked setup, to its first node.
 const COMMON: &str = "group = \"239.0.0.1\"\n";
