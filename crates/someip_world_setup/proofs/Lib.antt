@@ -1,0 +1,4 @@
+pub mod ReadingLemmas
+pub mod AddressLemmas
+pub mod MakingLemmas
+pub mod FaultLemmas

@@ -1,0 +1,154 @@
+-- The setup that a tree of TOML says, key by key, before clashes are judged.
+use Rattle.std.specs.Prelude.{ℕ, ℤ, pos, ◌==◌, ◌||◌, ◌&&◌, nat_le, if◌then◌else◌, codes, List, [], ◌∷◌, length, Option, Some, None}
+use Rattle.toml.specs.Data.{Data}
+use Rattle.someip_world_setup.specs.Keys.{◌>>=◌, number_at, number_or, name_at, address_at}
+use Rattle.someip_world_setup.specs.Lists.{each, tables_at, tables_or_none, integers_at, integers_or_none, ids_of}
+use Rattle.someip_world_setup.specs.Values.{ListedValue, OfferValue, WantValue, NodeValue, PhasesValue, CommonValue, SetupValue}
+
+-- an ID: of a service, of an instance or of an eventgroup
+abbrev pub id_at : List ℕ → Data → Option ℕ
+id_at key = number_at key 1 0xFFFE
+
+abbrev pub port_at : List ℕ → Data → Option ℕ
+port_at key = number_at key 1 0xFFFF
+
+abbrev pub major_at : Data → Option ℕ
+major_at = number_at (codes "major") 0 0xFE
+
+abbrev pub ttl_at : Data → Option ℕ
+ttl_at = number_at (codes "ttl") 1 0xFFFFFF
+
+-- ---- offers
+
+abbrev pub methods_at : List ℕ → Data → Option (List ℕ)
+methods_at key d = integers_or_none key d >>= ids_of 0 0x7FFF
+
+abbrev pub some_ids : List ℕ → Option (List ℕ)
+some_ids ids = if length ids == 0 then None else Some ids
+
+abbrev pub eventgroups_of : Data → Option (List ℕ)
+eventgroups_of d = integers_at (codes "groups") d >>= ids_of 1 0xFFFE >>= some_ids
+
+abbrev pub event_of : Data → Option ListedValue
+event_of d =
+    number_at (codes "id") 0x8000 0xFFFE d >>= λ id.
+    eventgroups_of d >>= λ members.
+    Some (record { id = id; members = members })
+
+abbrev pub offer_of : Data → Option OfferValue
+offer_of d =
+    id_at (codes "service") d >>= λ service.
+    id_at (codes "instance") d >>= λ instance.
+    major_at d >>= λ major.
+    number_or (codes "minor") (pos 0) 0 0xFFFFFFFE d >>= λ minor.
+    ttl_at d >>= λ ttl.
+    port_at (codes "port") d >>= λ port.
+    methods_at (codes "methods") d >>= λ methods.
+    methods_at (codes "oneways") d >>= λ oneways.
+    (tables_or_none (codes "events") d >>= each event_of) >>= λ events.
+    number_or (codes "subscribers") (pos 16) 1 1024 d >>= λ subscribers.
+    Some (record {
+      service = service;
+      instance = instance;
+      major = major;
+      minor = minor;
+      ttl = ttl;
+      port = port;
+      methods = methods;
+      oneways = oneways;
+      events = events;
+      subscribers = subscribers;
+    })
+
+-- ---- wants
+
+abbrev pub group_of : Data → Option ListedValue
+group_of d =
+    id_at (codes "id") d >>= λ id.
+    (integers_at (codes "events") d >>= ids_of 0x8000 0xFFFE) >>= λ members.
+    Some (record { id = id; members = members })
+
+abbrev pub want_of : Data → Option WantValue
+want_of d =
+    id_at (codes "service") d >>= λ service.
+    id_at (codes "instance") d >>= λ instance.
+    major_at d >>= λ major.
+    ttl_at d >>= λ ttl.
+    (tables_or_none (codes "groups") d >>= each group_of) >>= λ groups.
+    Some (record { service = service; instance = instance; major = major; ttl = ttl; groups = groups })
+
+-- ---- nodes
+
+-- a node, whose delay lies between two times
+abbrev pub node_of : ℕ → ℕ → Data → Option NodeValue
+node_of least most d =
+    name_at d >>= λ name.
+    address_at (codes "address") d >>= λ address.
+    number_at (codes "client_id") 0 0xFFFF d >>= λ client_id.
+    port_at (codes "client_port") d >>= λ client_port.
+    number_or (codes "delay") (pos least) least most d >>= λ delay.
+    (tables_or_none (codes "offer") d >>= each offer_of) >>= λ offers.
+    (tables_or_none (codes "want") d >>= each want_of) >>= λ wants.
+    Some (record {
+      name = name;
+      address = address;
+      client_id = client_id;
+      client_port = client_port;
+      delay = delay;
+      offers = offers;
+      wants = wants;
+    })
+
+-- 1 to 64 tables
+abbrev pub few_tables : List Data → Option (List Data)
+few_tables ds = if (length ds == 0) || nat_le 65 (length ds) then None else Some ds
+
+abbrev pub node_tables : Data → Option (List Data)
+node_tables d = tables_at (codes "node") d >>= few_tables
+
+-- ---- what all nodes share
+
+abbrev pub time_or : List ℕ → ℤ → Data → Option ℕ
+time_or key default = number_or key default 1 3600000
+
+abbrev pub count_or : List ℕ → ℤ → Data → Option ℕ
+count_or key default = number_or key default 1 1024
+
+abbrev pub phases_of : Data → Option PhasesValue
+phases_of d =
+    number_or (codes "base") (pos 30) 1 60000 d >>= λ base.
+    number_or (codes "repetitions") (pos 3) 0 16 d >>= λ repetitions.
+    time_or (codes "cyclic") (pos 1000) d >>= λ cyclic.
+    Some (record { base = base; repetitions = repetitions; cyclic = cyclic })
+
+abbrev pub common_of : Data → Option CommonValue
+common_of d =
+    address_at (codes "group") d >>= λ group.
+    number_or (codes "initial_min") (pos 10) 0 60000 d >>= λ initial_min.
+    number_or (codes "initial_max") (pos 100) initial_min 60000 d >>= λ initial_max.
+    phases_of d >>= λ phases.
+    number_or (codes "message_limit") (pos 65536) 1400 1048576 d >>= λ message_limit.
+    count_or (codes "slots") (pos 16) d >>= λ slots.
+    count_or (codes "peers") (pos 64) d >>= λ peers.
+    time_or (codes "reassembly_timeout") (pos 1000) d >>= λ reassembly_timeout.
+    time_or (codes "call_timeout") (pos 2000) d >>= λ call_timeout.
+    Some (record {
+      group = group;
+      initial_min = initial_min;
+      initial_max = initial_max;
+      phases = phases;
+      message_limit = message_limit;
+      slots = slots;
+      peers = peers;
+      reassembly_timeout = reassembly_timeout;
+      call_timeout = call_timeout;
+    })
+
+-- ---- the setup
+
+abbrev pub setup_of : Data → Option SetupValue
+setup_of d =
+    common_of d >>= λ common.
+    node_tables d >>= λ tables.
+    each (node_of common.initial_min common.initial_max) tables >>= λ nodes.
+    Some (record { common = common; nodes = nodes })

@@ -1,0 +1,81 @@
+//! The nodes.
+ghost use Rattle.std.specs.Prelude.{◌≡◌, true, map, IfOk};
+ghost use Rattle.someip_node.specs.GoodConfigs.{is_good_common};
+ghost use Rattle.toml.specs.View.{view};
+ghost use Rattle.someip_world_setup.specs.Keys.{Gives};
+ghost use Rattle.someip_world_setup.specs.Lists.{each};
+ghost use Rattle.someip_world_setup.specs.Says.{node_of, node_tables, setup_of};
+ghost use Rattle.someip_world_setup.specs.Values.{node_view, parts_view};
+
+use crate::addresses::address_at;
+use crate::commons::common;
+use crate::error::SetupError;
+use crate::names::name_at;
+use crate::numbers::{integer, integer_or, port_at, short, word};
+use crate::offers::offers;
+use crate::parts::{NodeParts, SetupParts};
+use crate::tables::{tables_at, tables_or_none};
+use crate::wants::wants;
+use std::alloc::Global;
+use toml::Value;
+
+/// A node, whose delay lies between two times.
+fn node(alloc: Global, table: &Value, least: u32, most: u32) -> Result<NodeParts, SetupError>
+    ensures { Gives node_view result (node_of least most (view table.now)) }
+{
+    let name = name_at(alloc, table)?;
+    let address = address_at(table, "address")?;
+    let client_id = short("client_id", integer(table, "client_id")?, 0, 0xffff)?;
+    let client_port = port_at(table, "client_port")?;
+    let delay = integer_or(table, "delay", i64::from(least))?;
+    let delay = word("delay", delay, least, most)?;
+    let offers = offers(alloc, tables_or_none(table, "offer")?)?;
+    let wants = wants(alloc, tables_or_none(table, "want")?)?;
+    Ok(NodeParts {
+        name,
+        address,
+        client_id,
+        client_port,
+        delay,
+        offers,
+        wants,
+    })
+}
+
+/// The nodes of a list, each with a delay between two times.
+fn nodes(
+    alloc: Global,
+    tables: &[Value],
+    least: u32,
+    most: u32,
+) -> Result<Vec<NodeParts>, SetupError>
+    ensures { Gives (λ v. map node_view v.items) result (each (node_of least most) (map view tables.now)) }
+{
+    let mut nodes = Vec::new(alloc);
+    for table in tables {
+        nodes.push(node(alloc, table, least, most)?)?;
+    }
+    Ok(nodes)
+}
+
+/// The tables of the nodes, from 1 to 64.
+fn node_tables(tree: &Value) -> Result<&[Value], SetupError>
+    ensures { Gives (λ s. map view s.now) result (node_tables (view tree.now)) }
+{
+    let tables = tables_at(tree, "node")?;
+    if tables.is_empty() || 64 < tables.len() {
+        return Err(SetupError::OutOfRange("node"));
+    }
+    Ok(tables)
+}
+
+/// What a tree says.
+pub(crate) fn parts(alloc: Global, tree: &Value) -> Result<SetupParts, SetupError>
+    ensures said { Gives parts_view result (setup_of (view tree.now)) }
+    ensures good { IfOk result (λ p. is_good_common p.common ≡ true) }
+{
+    let common = common(tree)?;
+    let tables = node_tables(tree)?;
+    let nodes = nodes(alloc, tables, common.initial_min_ms, common.initial_max_ms)?;
+    Ok(SetupParts { common, nodes })
+}

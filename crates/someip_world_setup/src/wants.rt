@@ -1,0 +1,70 @@
+//! The wants of a node.
+ghost use Rattle.std.specs.Prelude.{map};
+ghost use Rattle.toml.specs.View.{view};
+ghost use Rattle.someip_world_setup.specs.Keys.{Gives};
+ghost use Rattle.someip_world_setup.specs.Lists.{each};
+ghost use Rattle.someip_world_setup.specs.Says.{group_of, want_of};
+ghost use Rattle.someip_world_setup.specs.Values.{listed_view, want_view};
+
+use crate::error::SetupError;
+use crate::lists::ids;
+use crate::numbers::{id_at, major_at, ttl_at};
+use crate::parts::{Listed, WantParts};
+use crate::tables::{integers_at, tables_or_none};
+use std::alloc::Global;
+use toml::Value;
+
+/// An eventgroup, from 1 to FFFE, with its events, from 8000 to FFFE.
+fn group(alloc: Global, table: &Value) -> Result<Listed, SetupError>
+    ensures { Gives listed_view result (group_of (view table.now)) }
+{
+    let id = id_at(table, "id")?;
+    let members = ids(
+        alloc,
+        integers_at(table, "events")?,
+        "events",
+        0x8000,
+        0xfffe,
+    )?;
+    Ok(Listed { id, members })
+}
+
+/// The eventgroups of a want.
+fn groups(alloc: Global, tables: &[Value]) -> Result<Vec<Listed>, SetupError>
+    ensures { Gives (λ v. map listed_view v.items) result (each group_of (map view tables.now)) }
+{
+    let mut groups = Vec::new(alloc);
+    for table in tables {
+        groups.push(group(alloc, table)?)?;
+    }
+    Ok(groups)
+}
+
+/// A want.
+fn want(alloc: Global, table: &Value) -> Result<WantParts, SetupError>
+    ensures { Gives want_view result (want_of (view table.now)) }
+{
+    let service = id_at(table, "service")?;
+    let instance = id_at(table, "instance")?;
+    let major = major_at(table)?;
+    let ttl = ttl_at(table)?;
+    let groups = groups(alloc, tables_or_none(table, "groups")?)?;
+    Ok(WantParts {
+        service,
+        instance,
+        major,
+        ttl,
+        groups,
+    })
+}
+
+/// The wants of a node.
+pub(crate) fn wants(alloc: Global, tables: &[Value]) -> Result<Vec<WantParts>, SetupError>
+    ensures { Gives (λ v. map want_view v.items) result (each want_of (map view tables.now)) }
+{
+    let mut wants = Vec::new(alloc);
+    for table in tables {
+        wants.push(want(alloc, table)?)?;
+    }
+    Ok(wants)
+}
