@@ -23,7 +23,7 @@ use Rattle.sd_core.specs.Keys.{instance_cmp}
 use Rattle.sd_core.specs.KeyOrder.{instances_total, exact_instances}
 use Rattle.sd_core.specs.Shown.{shown}
 use Rattle.sd_core.specs.Sendings.{is_due, after_find, due_at}
-use Rattle.sd_core.specs.SeekTables.{seek_of, searching_from, seek_after_tick, known_at, offer_refusal, uncounted, stands_by, known_of, forgetting, is_wanted, is_stopped}
+use Rattle.sd_core.specs.SeekTables.{KnowsWanted, seek_of, searching_from, seek_after_tick, known_at, offer_refusal, uncounted, stands_by, known_of, forgetting, is_wanted, is_stopped}
 use Rattle.sd_core.proofs.ShownLemmas.{get-shown, shown-mapped, shown-mapped_same, shown-mapped_none, shown-kept, shown-insert, shown-insert_none, shown-insert_same, shown-empty, keys-shown, none-shown}
 
 abbrev Wants : Type 0
@@ -204,3 +204,13 @@ lost wants k w some = λ i. record {
   known = shown-insert_none instances_total exact_instances known_in wants k (record { major = w.major; known = None; finding = w.finding }) refl i;
   finding = shown-insert_same instances_total exact_instances finding_in wants k (record { major = w.major; known = None; finding = w.finding }) w some refl i;
 }
+
+-- an offer is known only of an instance that is wanted
+pub knows_wanted : (wants : WantMap) → KnowsWanted (seek_of wants)
+knows_wanted wants instance none =
+    get-shown instances_total exact_instances known_in wants instance
+    ∙ cases (finite.get wants instance) (sym (get-shown instances_total exact_instances major_of wants instance) ∙ none)
+  where
+    cases : (v : Option Want) → option_and_then major_of v ≡ None → option_and_then known_in v ≡ None
+    cases None is = refl
+    cases (Some w) is = absurd (cc)

@@ -15,3 +15,4 @@ pub mod SubscriptionKeys
 pub mod SubscriptionOrder
 pub mod SubscriberTables
 pub mod SubscriptionRuns
+pub mod Names

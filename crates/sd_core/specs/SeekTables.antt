@@ -60,6 +60,10 @@ seek_after_tick phases now table = record {
 abbrev pub IsQuiet : ℕ → SeekTable → Type 0
 IsQuiet now table = (expired now table.known ≡ finite.empty) × (due_at now table.finding ≡ finite.empty)
 
+-- an offer is known only of an instance that is wanted
+abbrev pub KnowsWanted : SeekTable → Type 0
+KnowsWanted table = (instance : InstanceId) → finite.get table.wanted instance ≡ None → finite.get table.known instance ≡ None
+
 -- the offer, unless it has passed
 abbrev pub known_at : ℕ → Option (Lasting KnownOffer) → Option KnownOffer
 known_at now lasting = option_map (λ l. l.value) (unless_passed now lasting)

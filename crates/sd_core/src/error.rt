@@ -1,4 +1,7 @@
 //! Why a Subscribe is not accepted.
+ghost use Rattle.std.specs.Prelude.{◌≡◌};
+ghost use Rattle.sd_core.specs.Names.{cause_name};
+
 use std::alloc::AllocError;
 use thiserror::Error;
 
@@ -21,6 +24,21 @@ pub enum Cause {
     /// The eventgroup has as many live subscriptions as it may have.
     #[error("Full")]
     Full,
+}
+
+impl Cause {
+    /// The name of the reason, as a trace tells it.
+    pub fn name(&self) -> &'static str
+        ensures { result.now ≡ cause_name self.now }
+    {
+        match self {
+            Cause::NotOffered => "NotOffered",
+            Cause::WrongMajor => "WrongMajor",
+            Cause::UnknownEventgroup => "UnknownEventgroup",
+            Cause::NoEndpoint => "NoEndpoint",
+            Cause::Full => "Full",
+        }
+    }
 }
 
 /// Why a Subscribe is not accepted. The subscriptions are as they were.

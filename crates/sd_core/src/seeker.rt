@@ -8,7 +8,7 @@ ghost use Rattle.someip_tables.specs.Tables.{map_of};
 ghost use Rattle.sd_core.specs.Keys.{instance_cmp};
 ghost use Rattle.sd_core.specs.Sendings.{due_at};
 ghost use Rattle.sd_core.specs.SeekTables.{seek_of, searching, searching_from, seek_after_tick};
-ghost use Rattle.sd_core.specs.SeekTables.{IsQuiet, uncounted, counted_as, known_at, learned};
+ghost use Rattle.sd_core.specs.SeekTables.{IsQuiet, KnowsWanted, uncounted, counted_as, known_at, learned};
 ghost use Rattle.sd_core.specs.SeekTables.{is_stopped, known_of, forgetting};
 
 use crate::chosen::keys_where;
@@ -104,7 +104,8 @@ impl Seeker {
     /// What a moment brings: the offers end whose time has passed, and the instances that are searched
     /// for and due send a Find, one each, however late. The next is due a delay after this moment, and
     /// none after the repetition phase (SOME/IP Service Discovery Protocol, "Repetition Phase"). Running
-    /// out of memory leaves all as it was, and comes only where an offer ends or a Find is due.
+    /// out of memory leaves all as it was, and comes only where an offer ends or a Find is due. An offer
+    /// is known only of an instance that is wanted.
     pub fn tick(&mut self, now: Moment, phases: Phases) -> Result<Ticked, AllocError>
         ensures ended { IfOk result (λ ticked.
             ticked.ended.items ≡ finite.keys (expired now self.old.known)) }
@@ -113,6 +114,7 @@ impl Seeker {
         ensures after { OnOk result (self.new ≡ seek_after_tick phases now self.old) }
         ensures err { OnErr result (self.new ≡ self.old) }
         ensures grows { OnErr result (¬ (IsQuiet now self.old)) }
+        ensures wanted { KnowsWanted self.old }
     {
         let ended = passed_now(&self.wants, self.alloc, now)?;
         let finds = due_now(&self.wants, self.alloc, now)?;

@@ -1,5 +1,5 @@
 //! Which peers were seen, and which of them began again.
-ghost use Rattle.std.specs.Prelude.{◌≡◌, ◌||◌, is_some, nat_lt};
+ghost use Rattle.std.specs.Prelude.{◌≡◌, ◌≤◌, ◌||◌, is_some, nat_lt};
 ghost use Rattle.std.specs.FinMap as finite;
 ghost use Rattle.someip_tables.specs.Endpoints.{address_cmp};
 ghost use Rattle.someip_tables.specs.Tables.{map_of};
@@ -43,6 +43,8 @@ pub struct PeerTable {
 }
 
 impl Model for PeerTable {
+    ghost use Rattle.std.specs.Prelude.{◌≤◌};
+    ghost use Rattle.std.specs.FinMap as finite;
     ghost use Rattle.someip_tables.specs.Endpoints.{address_cmp};
     ghost use Rattle.someip_tables.specs.Tables.{map_of};
     ghost use Rattle.sd_session.specs.Peers.{Peers, coded_peers};
@@ -52,6 +54,8 @@ impl Model for PeerTable {
     ghost coded = { coded_peers };
 
     ghost view = { λ t. record { limit = t.limit; held = map_of address_cmp t.peers.entries } };
+
+    ghost invariant = { λ t. finite.len (map_of address_cmp t.peers.entries) ≤ t.limit };
 }
 
 impl PeerTable {
@@ -87,9 +91,10 @@ impl PeerTable {
         enter(&mut self.peers, self.limit, peer, channel, stamp)
     }
 
-    /// How many peers there are.
+    /// How many peers there are: no more than the table's limit.
     pub fn len(&self) -> usize
-        ensures { result ≡ finite.len self.now.held }
+        ensures count { result ≡ finite.len self.now.held }
+        ensures few { result ≤ self.now.limit }
     {
         self.peers.len()
     }

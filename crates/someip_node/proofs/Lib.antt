@@ -2,6 +2,9 @@ pub mod WrittenLemmas
 pub mod FrontSizeLemmas
 pub mod WorkLemmas
 pub mod PassingLemmas
+pub mod QuietLemmas
+pub mod LimitLemmas
+pub mod ExampleLemmas
 pub mod TableLemmas
 pub mod CallLemmas
 pub mod PublishingLemmas
@@ -27,3 +30,13 @@ pub mod StandingLemmas
 pub mod HandledLemmas
 pub mod PortLemmas
 pub mod StartLemmas
+pub mod MemberLemmas
+pub mod PlanLemmas
+pub mod EntryRules
+pub mod ReplyLemmas
+pub mod DatagramRules
+pub mod StepRules
+pub mod MeaningLemmas
+pub mod MeetingLemmas
+pub mod HandUpLemmas
+pub mod PublishedLemmas

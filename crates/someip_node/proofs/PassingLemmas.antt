@@ -1,9 +1,20 @@
 -- What a moment brings, as the rule of the clock says it.
-use Rattle.std.proofs.Common.{◌≡◌, ℕ, ◌+◌, List, ◌++◌, map, refl, sym, ap, ◌∙◌}
+use Rattle.std.proofs.Common.{◌≡◌, ℕ, ◌+◌, List, [], ◌∷◌, ◌++◌, map, length, refl, sym, ap, ◌∙◌}
+use Rattle.std.proofs.Common.{Bool, true, false, IsTrue, IsFalse}
+use Rattle.sd_wire.specs.Fronts.{front_lengths}
+use Rattle.someip_node.specs.Entries.{fronts}
+use Rattle.std.proofs.lemmas.List.{append-nil}
+use Rattle.std.specs.FinMap as finite
+use Rattle.std.specs.FinMap.{FinMap}
+use Rattle.std.specs.declared.cmp.Ordering.{Ordering}
+use Rattle.sd_core.specs.declared.keys.InstanceId.{InstanceId}
+use Rattle.someip_node.specs.declared.config.Config.{Config}
+use Rattle.someip_node.specs.Outcomes.{endings}
+use Rattle.someip_node.specs.Setups.{wanted_instances}
+use Rattle.someip_node.proofs.WorkLemmas.{done}
 use Rattle.std.specs.List.{flat_map}
-use Rattle.std.proofs.Common.{OnOk, Result, Ok, Err}
+use Rattle.std.proofs.Common.{OnErr, OnOk, Result, Ok, Err}
 use Rattle.std.specs.declared.alloc.AllocError.{AllocError}
-use Rattle.sd_wire.specs.declared.entry.Entry.{Entry}
 use Rattle.sd_wire.specs.Values.{EntryValue, view_entry}
 use Rattle.someip_node.specs.declared.giving.Giving.{Giving}
 use Rattle.someip_node.specs.declared.receiver.Receiver.TheVariants.{Group}
@@ -17,16 +28,16 @@ use Rattle.someip_node.specs.Setups.{limits_of}
 use Rattle.someip_node.specs.Tables.{passed_instances}
 use Rattle.someip_node.proofs.TableLemmas.{same_tables}
 use Rattle.someip_node.specs.Inputs.{tick_plan}
-use Rattle.someip_node.specs.Plans.{act, plain, run, Ticks}
+use Rattle.someip_node.specs.Plans.{plain, run}
 use Rattle.someip_node.specs.Receivers.{messages_plan_to}
-use Rattle.someip_node.specs.Working.{working}
+use Rattle.someip_node.specs.Working.{told_all, working}
 use Rattle.someip_node.specs.declared.output.Output.{Output}
 use Rattle.someip_node.specs.declared.output.Output.TheVariants.{TimedOut}
 use Rattle.someip_node.specs.declared.passed.Passed.{Passed}
 use Rattle.someip_node.specs.Calls.{due_entries, lapsed, ticks, timed_out}
 use Rattle.someip_node.specs.Items.{changed, Ticked}
 use Rattle.someip_node.specs.Outputs.{written}
-use Rattle.someip_node.specs.Passings.{HasPassed, entries_of, told_of}
+use Rattle.someip_node.specs.Passings.{BringsNothing, HasPassed, IsNothing, entries_of, told_of}
 use Rattle.someip_node.specs.Tables.{Tables}
 use Rattle.someip_node.proofs.WrittenLemmas.{told_written}
 
@@ -44,19 +55,6 @@ pub due_is : (t new : Tables) (ms now : ℕ) (passed : Passed) → now ≡ t.clo
     → entries_of new passed ≡ due_entries (t.clock + ms) t
 due_is t new ms now passed is ticked p = ap (λ u. entries_of u passed) ticked ∙ rw (p.offers, p.finds, is) refl
 
--- the whole
-pub ticked_all : (t mid new : Tables) (old between after : Giving) (ms now : ℕ) (passed : Passed) (entries : List Entry) (sent : List Entry) (result : Result (Unit {0}) AllocError)
-    → now ≡ t.clock + ms → HasPassed now t passed → working mid between ≡ run plain (act (Ticks ms)) (working t old)
-    → map view_entry entries ≡ entries_of mid passed → sent ≡ entries
-    → OnOk result (working new after ≡ run plain (messages_plan_to Group (map view_entry sent)) (working mid between))
-    → OnOk result (working new after ≡ run plain (tick_plan ms) (working t old))
-ticked_all t mid new old between after ms now passed entries sent (Err e) is p first due lent last = last
-ticked_all t mid new old between after ms now passed entries sent (Ok x) is p first due lent last =
-    last
-    ∙ ap (λ (es : List EntryValue). run plain (messages_plan_to Group es) (working mid between))
-    (ap (map view_entry) lent ∙ due ∙ due_is t mid ms now passed is (ap (λ w. w.state) first) p)
-    ∙ ap (run plain (messages_plan_to Group (due_entries (t.clock + ms) t))) first
-
 -- the tables, table by table
 pub ticked_is : (t new : Tables) (ms now : ℕ) → now ≡ t.clock + ms → new.config ≡ t.config → new.clock ≡ now → new.parts ≡ parts_at (limits_of t.config) now t.parts
     → new.peers ≡ t.peers → new.multicast ≡ t.multicast → new.unicast ≡ t.unicast → new.offers ≡ after_tick t.config.common.phases now t.offers
@@ -68,3 +66,69 @@ ticked_is t new ms now is config clock parts peers multicast unicast offers seek
     (offers ∙ ap (λ n. after_tick t.config.common.phases n t.offers) is) (seek ∙ ap (λ n. seek_after_tick t.config.common.phases n t.seek) is)
     (subscribers ∙ ap (λ n. unexpired n t.subscribers) is) (wishes ∙ ap (λ n. ended_where (ends_at n (passed_instances n t)) t.wishes) is)
     (client ∙ ap (λ n. record t.client { pending = unexpired n t.client.pending }) is) server
+
+-- ---- a moment that brings nothing
+
+-- a map without keys is empty
+pub no_keys : {K V : Type 0} {R : K → K → Ordering} (m : FinMap R V) → finite.keys m ≡ [] → m ≡ finite.empty
+no_keys {K} {V} {R} m is = finite.empty_of_len m (finite.len-entries m ∙ none (finite.entries m) is)
+  where
+    none : (es : List (K × V)) → map (λ e. e.0) es ≡ [] → length es ≡ 0
+    none [] is = refl
+    none (e ∷ es) is = absurd (cc)
+
+pub on_err : {A E : Type 0} {P : Type 0} (r : Result A E) → P → OnErr r P
+on_err (Ok x) p = tt
+on_err (Err e) p = p
+
+-- nothing is told, and nothing goes out
+pub nothing_told : (config : Config) (passed : Passed) → IsNothing passed → told_of config passed ≡ []
+nothing_told config passed none = rw (none.calls, none.gone, none.lapsed) (nothing_ends (wanted_instances config))
+  where
+    nothing_ends : (instances : List InstanceId) → endings instances [] [] ≡ []
+    nothing_ends [] = refl
+    nothing_ends (i ∷ is) = nothing_ends is
+
+pub nothing_goes_out : (t : Tables) (passed : Passed) → IsNothing passed → entries_of t passed ≡ []
+nothing_goes_out t passed none = rw (none.offers, none.finds) refl
+
+no_fronts : fronts [] ≡ []
+unfolding front_lengths
+no_fronts = refl
+
+-- what ended is told, and what is due goes out
+pub passed_told : (t mid new : Tables) (old after : Giving) (ms now : ℕ) (passed : Passed) → now ≡ t.clock + ms → HasPassed now t passed → mid ≡ changed t (Ticked ms)
+    → working new after ≡ run plain (messages_plan_to Group (entries_of mid passed)) (told_all (told_of mid.config passed) (working mid old))
+    → working new after ≡ run plain (tick_plan ms) (working t old)
+passed_told t mid new old after ms now passed is p ticked told =
+    told
+    ∙ ap (λ (es : List EntryValue). run plain (messages_plan_to Group es) (told_all (told_of mid.config passed) (working mid old))) (due_is t mid ms now passed is ticked p)
+    ∙ ap (run plain (messages_plan_to Group (due_entries (t.clock + ms) t)))
+    (done (ticks ms) t mid old.outputs.items (old.outputs.items ++ told_of mid.config passed) (map view_entry old.replies.items) ticked
+    (told_is t mid ms now passed old.outputs.items _ is ticked p refl) refl)
+
+pub nothing_passed : (t mid : Tables) (old : Giving) (ms now : ℕ) (passed : Passed) → now ≡ t.clock + ms → HasPassed now t passed → mid ≡ changed t (Ticked ms) → IsNothing passed
+    → working mid old ≡ run plain (tick_plan ms) (working t old)
+nothing_passed t mid old ms now passed is p ticked none =
+    passed_told t mid mid old old ms now passed is p ticked
+    (rw (nothing_told mid.config passed none, nothing_goes_out mid passed none, append-nil old.outputs.items, no_fronts) refl)
+
+-- it brings nothing where what passed is nothing
+pub brings_nothing : (t : Tables) (now : ℕ) (passed : Passed) → HasPassed now t passed → BringsNothing now t → IsNothing passed
+brings_nothing t now passed p none = record {
+  calls = p.calls ∙ none.calls;
+  gone = p.gone ∙ none.gone;
+  lapsed = p.lapsed ∙ none.lapsed;
+  offers = p.offers ∙ none.offers;
+  finds = p.finds ∙ none.finds;
+}
+
+pub passed_told_ok : (t mid new : Tables) (old after : Giving) (ms now : ℕ) (passed : Passed) (result : Result (Unit {0}) AllocError) → now ≡ t.clock + ms → HasPassed now t passed
+    → mid ≡ changed t (Ticked ms)
+    → OnOk result (working new after ≡ run plain (messages_plan_to Group (entries_of mid passed)) (told_all (told_of mid.config passed) (working mid old)))
+    → OnOk result (working new after ≡ run plain (tick_plan ms) (working t old))
+passed_told_ok t mid new old after ms now passed (Ok _) is p ticked told = passed_told t mid new old after ms now passed is p ticked told
+passed_told_ok t mid new old after ms now passed (Err e) is p ticked told = told
+
+pub not_both : (b : Bool) → IsFalse b → IsTrue b → ⊥
+not_both b isnt is = absurd (cc)

@@ -30,7 +30,7 @@ some_mapped None is = cc
 some_mapped (Some e) is = refl
 
 -- a message to each of several endpoints
-sent_to_all : (from : SocketAddrV4) (m : MessageValue) (endpoints : List SocketAddrV4) → flat_map written (map (λ to. Sends from to m) endpoints) ≡ flat_map (λ to. datagrams_of from to m) endpoints
+pub sent_to_all : (from : SocketAddrV4) (m : MessageValue) (endpoints : List SocketAddrV4) → flat_map written (map (λ to. Sends from to m) endpoints) ≡ flat_map (λ to. datagrams_of from to m) endpoints
 sent_to_all from m [] = refl
 sent_to_all from m (to ∷ endpoints) = ap (λ os. datagrams_of from to m ++ os) (sent_to_all from m endpoints)
 

@@ -34,3 +34,16 @@ pub mod Starts
 pub mod Steps
 pub mod Lives
 pub mod HistoryExamples
+pub mod Copies
+pub mod Names
+pub mod Trails
+pub mod Packets
+pub mod Replies
+pub mod Bringing
+pub mod Sending
+pub mod Meanings
+pub mod Meetings
+pub mod HandUps
+pub mod Published
+pub mod WorkedExamples
+pub mod Limits

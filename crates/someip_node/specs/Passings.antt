@@ -1,5 +1,5 @@
 -- What a moment brings: the deadlines that passed with it, and the Offers and Finds that are due.
-use Rattle.std.specs.Prelude.{◌≡◌, ℕ, List, ◌++◌, map}
+use Rattle.std.specs.Prelude.{◌≡◌, ℕ, List, [], ◌++◌, map}
 use Rattle.std.specs.List.{flat_map}
 use Rattle.std.specs.FinMap as finite
 use Rattle.someip_tables.specs.Lastings.{expired}
@@ -33,3 +33,19 @@ told_of config passed =
 -- the entries that go out
 abbrev pub entries_of : Tables → Passed → List EntryValue
 entries_of t passed = flat_map (offer_of t) passed.offers.items ++ flat_map (find_of t) passed.finds.items
+
+-- nothing ends and nothing is due
+pub record IsNothing (passed : Passed) : Type 0 where
+  pub calls : passed.calls.keys ≡ []
+  pub gone : passed.gone.items ≡ []
+  pub lapsed : passed.lapsed.items ≡ []
+  pub offers : passed.offers.items ≡ []
+  pub finds : passed.finds.items ≡ []
+
+-- a moment brings nothing: no call, no known offer and no subscription ends with it, and no Offer and no Find is due
+pub record BringsNothing (now : ℕ) (t : Tables) : Type 0 where
+  pub calls : finite.keys (expired now t.client.pending) ≡ []
+  pub gone : passed_instances now t ≡ []
+  pub lapsed : finite.keys (begun_where (ends_at now (passed_instances now t)) t.wishes) ≡ []
+  pub offers : finite.keys (due_at now t.offers.up) ≡ []
+  pub finds : finite.keys (due_at now t.seek.finding) ≡ []

@@ -1,5 +1,5 @@
 -- What a node gives for an input, by its history.
-use Rattle.std.specs.Prelude.{◌≡◌, [], Option, None, Some, Result, Ok, Err}
+use Rattle.std.specs.Prelude.{◌≡◌, ◌≢◌, [], Option, None, Some, Result, Ok, Err}
 use Rattle.std.specs.Global.{Vec}
 use Rattle.someip_node.specs.declared.config.Config.{Config}
 use Rattle.someip_node.specs.declared.error.NodeError.{NodeError}
@@ -46,3 +46,7 @@ Reacts old input result new = (h : History) → StandsFor old h → Gives h (ste
 -- a node that failed answers that, and stays so
 abbrev pub StaysFailed : NodeView → Result (Vec Output) NodeError → NodeView → Type 0
 StaysFailed old result new = old.tables ≡ None → (result ≡ Err Failed) × (new ≡ old)
+
+-- where an input that is not refused gives nothing, memory does not run out
+abbrev pub TakesNoMemory : NodeView → Input → Result (Vec Output) NodeError → Type 0
+TakesNoMemory old input result = (h : History) (done : Work History) → StandsFor old h → step h input ≡ Ok done → done.outputs ≡ [] → result ≢ Err OutOfMemory

@@ -1,8 +1,10 @@
 //! What a node is set up with.
+ghost use Rattle.someip_node.specs.Copies.{IsCopy, IsCopyOfOffer, IsCopyOfWant};
 
 use sd_core::{InstanceId, Phases};
 use sd_wire::Ttl;
 use someip_rpc::ServiceRules;
+use std::alloc::AllocError;
 use std::collections::{BTreeMap, BTreeSet};
 use std::net::Ipv4Addr;
 
@@ -72,4 +74,48 @@ pub struct Config {
     pub offers: BTreeMap<InstanceId, OfferedService>,
     /// The instances that it wants, with services and instances from 1 to FFFE.
     pub wants: BTreeMap<InstanceId, WantedService>,
+}
+
+impl Clone for OfferedService {
+    ghost is_clone = { λ offer copy. IsCopyOfOffer offer copy };
+
+    fn clone(&self) -> Result<OfferedService, AllocError> {
+        let rules = self.rules.clone()?;
+        Ok(OfferedService {
+            rules,
+            minor: self.minor,
+            ttl: self.ttl,
+            subscribers: self.subscribers,
+        })
+    }
+}
+
+impl Clone for WantedService {
+    ghost is_clone = { λ want copy. IsCopyOfWant want copy };
+
+    fn clone(&self) -> Result<WantedService, AllocError> {
+        let groups = self.groups.clone()?;
+        Ok(WantedService {
+            major: self.major,
+            ttl: self.ttl,
+            groups,
+        })
+    }
+}
+
+impl Clone for Config {
+    ghost is_clone = { λ config copy. IsCopy config copy };
+
+    fn clone(&self) -> Result<Config, AllocError> {
+        let offers = self.offers.clone()?;
+        let wants = self.wants.clone()?;
+        Ok(Config {
+            common: self.common,
+            address: self.address,
+            client_id: self.client_id,
+            client_port: self.client_port,
+            offers,
+            wants,
+        })
+    }
 }

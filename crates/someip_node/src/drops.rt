@@ -1,4 +1,6 @@
 //! Why something that came is dropped.
+ghost use Rattle.std.specs.Prelude.{◌≡◌};
+ghost use Rattle.someip_node.specs.Names.{drop_name};
 
 use sd_wire::SdError;
 use someip_rpc::{DropCause, RequestFault};
@@ -52,4 +54,28 @@ pub enum DropReason {
     /// The segment is refused.
     #[error("{}", .0.name())]
     Tp(TpError),
+}
+
+impl DropReason {
+    /// The name of the reason, as a trace tells it.
+    pub fn name(&self) -> &'static str
+        ensures { result.now ≡ drop_name self.now }
+    {
+        match self {
+            DropReason::Own => "Own",
+            DropReason::NoPort => "NoPort",
+            DropReason::NotSd => "NotSd",
+            DropReason::PeersFull => "PeersFull",
+            DropReason::BadRun => "BadRun",
+            DropReason::NoEndpoint => "NoEndpoint",
+            DropReason::OtherPeer => "OtherPeer",
+            DropReason::NotPending => "NotPending",
+            DropReason::NotSubscribed => "NotSubscribed",
+            DropReason::Answer(cause) => cause.name(),
+            DropReason::Request(fault) => fault.name(),
+            DropReason::Wire(fault) => fault.name(),
+            DropReason::Sd(fault) => fault.name(),
+            DropReason::Tp(fault) => fault.name(),
+        }
+    }
 }

@@ -1,5 +1,6 @@
 //! The tables of a node.
 ghost use Rattle.std.specs.Prelude.{◌≡◌, IfOk};
+ghost use Rattle.someip_node.specs.Limits.{HoldsWithinLimits};
 
 use crate::config::Config;
 use sd_core::{InstanceId, Offers, Seeker, Subscribers, Subscriptions};
@@ -87,4 +88,16 @@ impl<R: Reassembly> Model for Engine<R> {
         × (R.limits n.store ≡ limits_of n.config) × NoneAfter n.clock (R.parts n.store)
         × (n.peers.limit ≡ n.config.common.peers) × (n.config.common.message_limit ≤ 1048576)
         × (n.offers.versions ≡ versions_of n.config) × (n.seeker.wanted ≡ majors_of n.config) };
+}
+
+impl<R: Reassembly> Engine<R> {
+    /// There are no more peers than the configuration allows, and at most 1024 calls and 1024 requests
+    /// wait for their answers.
+    pub(crate) fn holds_within_limits(&self)
+        ensures { HoldsWithinLimits self.now }
+    {
+        let _ = self.peers.len();
+        let _ = self.client.pending_calls();
+        let _ = self.server.open_requests();
+    }
 }

@@ -2,6 +2,7 @@
 ghost use Rattle.std.specs.Prelude.{◌≡◌};
 ghost use Rattle.someip_node.specs.declared.error.NodeError.TheVariants.{OutOfMemory};
 ghost use Rattle.someip_node.specs.Errors.{rpc_error};
+ghost use Rattle.someip_node.specs.Names.{node_error_name};
 
 use someip_rpc::RpcError;
 use std::alloc::{AllocError, AllocFailed};
@@ -31,6 +32,23 @@ pub enum NodeError {
     /// A call, an answer or a publication is refused, for a reason other than memory.
     #[error("{0}")]
     Rpc(RpcError),
+}
+
+impl NodeError {
+    /// The name of the refusal, as a trace tells it.
+    pub fn name(&self) -> &'static str
+        ensures { result.now ≡ node_error_name self.now }
+    {
+        match self {
+            NodeError::BadConfig => "BadConfig",
+            NodeError::BadDelay => "BadDelay",
+            NodeError::ClockPast => "ClockPast",
+            NodeError::NotWanted => "NotWanted",
+            NodeError::Failed => "Failed",
+            NodeError::OutOfMemory => "OutOfMemory",
+            NodeError::Rpc(refusal) => refusal.name(),
+        }
+    }
 }
 
 impl From<AllocError> for NodeError {

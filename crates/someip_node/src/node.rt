@@ -1,11 +1,14 @@
 //! A node: its tables, unless memory ran out.
-ghost use Rattle.std.specs.Prelude.{◌≡◌, OnOk, OnErr, IfOk, IfErr, Err, true, false};
+ghost use Rattle.std.specs.Prelude.{◌≡◌, ◌+◌, OnOk, OnErr, IfOk, IfErr, Err, true, false};
 ghost use Rattle.someip_node.specs.Finishings.{given_by, is_fatal};
 ghost use Rattle.someip_node.specs.GoodConfigs.{is_good, is_good_delay};
 ghost use Rattle.someip_node.specs.Handled.{Handled};
-ghost use Rattle.someip_node.specs.History.{start_of};
+ghost use Rattle.someip_node.specs.History.{History, answers_of, start_of};
+ghost use Rattle.someip_node.specs.Limits.{HoldsWithinLimits};
 ghost use Rattle.someip_node.specs.Inputs as input;
-ghost use Rattle.someip_node.specs.Steps.{Reacts, StandsFor, StaysFailed};
+ghost use Rattle.someip_node.specs.Passings.{BringsNothing};
+ghost use Rattle.sd_core.specs.SeekTables.{KnowsWanted};
+ghost use Rattle.someip_node.specs.Steps.{Reacts, StandsFor, StaysFailed, TakesNoMemory};
 ghost use Rattle.someip_node.specs.declared.error.NodeError.TheVariants as fault;
 
 use crate::config::Config;
@@ -88,6 +91,21 @@ impl<R: Reassembly> Node<R> {
         })
     }
 
+    /// What the node is set up with.
+    pub fn config(&self) -> &Config
+        ensures { result.now ≡ self.now.config }
+    {
+        &self.engine.config
+    }
+
+    /// Whatever a node met, it keeps no more peers than its configuration allows, and at most 1024 calls
+    /// and 1024 requests wait for their answers. This does nothing: its contract says so.
+    pub fn holds_within_limits(&self)
+        ensures { (h : History) → StandsFor self.now h → HoldsWithinLimits (answers_of h) }
+    {
+        self.engine.holds_within_limits();
+    }
+
     /// Starts the node again with its configuration: it forgets all that it met, its sessions of Service
     /// Discovery begin at 1 with the Reboot flag, and the first Offers and Finds go out so many
     /// milliseconds after this (SOME/IP Service Discovery Protocol, "Startup behavior", "Detection of
@@ -133,9 +151,11 @@ impl<R: Reassembly> Node<R> {
     /// in part end whose time has passed, and then the Offers and Finds go out that are due (SOME/IP
     /// Service Discovery Protocol, "Startup behavior").
     ///
-    /// It is refused as `ClockPast` where the clock would go past 2^63 - 1 milliseconds.
+    /// It is refused as `ClockPast` where the clock would go past 2^63 - 1 milliseconds. Where it gives
+    /// nothing it takes no memory.
     pub fn tick(&mut self, ms: u64) -> Result<Vec<Output>, NodeError>
         ensures reacts { Reacts self.old (input.Tick ms) result self.new }
+        ensures quiet { TakesNoMemory self.old (input.Tick ms) result }
         ensures failed { StaysFailed self.old result self.new }
     {
         if self.failed {
@@ -324,7 +344,9 @@ impl<R: Reassembly> Engine<R> {
 
     /// Lets the clock go on by so many milliseconds.
     fn take_tick(&mut self, ms: u64, giving: &mut Giving) -> Result<(), NodeError>
-        ensures { Handled (input.Tick ms) self.old giving.old result self.new giving.new }
+        ensures handled { Handled (input.Tick ms) self.old giving.old result self.new giving.new }
+        ensures grows { IfErr result (λ error. error ≡ fault.OutOfMemory
+            → KnowsWanted self.old.seek × ¬ (BringsNothing (self.old.clock + ms) self.old)) }
     {
         let Some(now) = self.clock.after(ms) else {
             return Err(NodeError::ClockPast);

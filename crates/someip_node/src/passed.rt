@@ -1,4 +1,6 @@
 //! What a moment brings.
+ghost use Rattle.std.specs.Prelude.{◌↔◌, IsTrue};
+ghost use Rattle.someip_node.specs.Passings.{IsNothing};
 
 use sd_core::{Eventgroup, InstanceId};
 use someip_rpc::CallKey;
@@ -17,4 +19,17 @@ pub(crate) struct Passed {
     pub(crate) offers: Vec<InstanceId>,
     /// The instances that send a Find, by rising instance.
     pub(crate) finds: Vec<InstanceId>,
+}
+
+impl Passed {
+    /// Whether nothing ends and nothing is due.
+    pub(crate) fn is_nothing(&self) -> bool
+        ensures { IsTrue result ↔ IsNothing self.now }
+    {
+        self.calls.is_empty()
+            && self.gone.is_empty()
+            && self.lapsed.is_empty()
+            && self.offers.is_empty()
+            && self.finds.is_empty()
+    }
 }

@@ -1,18 +1,23 @@
 //! Rows of nodes: what each gives, as lines of a trace.
-use crate::{Common, Config, Node, NodeError, OfferedService, Output};
-use sd_core::{InstanceId, Phases};
+use crate::{Common, Config, Node, OfferedService, WantedService};
+use acts::{Port, Row, first_wrong};
+use sd_core::{Eventgroup, InstanceId, Phases};
 use sd_wire::Ttl;
 use someip_rpc::ServiceRules;
 use someip_tp::SegmentList;
 use std::alloc::Global;
 use std::collections::{BTreeMap, BTreeSet};
-use std::fmt::Write;
 use std::net::{Ipv4Addr, SocketAddrV4};
 use std::test::Fail;
 
+mod acts;
 mod configs;
+mod discovery;
 mod drops;
+mod embedding;
+mod moments;
 mod requests;
+mod worked;
 
 /// The instance 0001 of the service 1111.
 const INSTANCE: InstanceId = InstanceId {
@@ -20,15 +25,26 @@ const INSTANCE: InstanceId = InstanceId {
     instance: 1,
 };
 
-/// A port of a host; host 0 is the multicast group.
-fn endpoint(host: u8, port: u16) -> SocketAddrV4 {
-    let address = if host == 0 {
-        Ipv4Addr::new(239, 0, 0, 1)
-    } else {
-        Ipv4Addr::new(192, 168, 0, host)
-    };
-    SocketAddrV4::new(address, port)
-}
+/// An eventgroup of it.
+const EVENTGROUP: Eventgroup = Eventgroup {
+    instance: INSTANCE,
+    id: 1,
+};
+
+/// The multicast group's port of Service Discovery.
+const SD_OF_ALL: Port = Port(0, 30490);
+
+/// The port of Service Discovery of the node that offers.
+const SD_OF_SERVER: Port = Port(1, 30490);
+
+/// The one of the node that wants.
+const SD_OF_CLIENT: Port = Port(2, 30490);
+
+/// The port of the instance.
+const SERVER: Port = Port(1, 30509);
+
+/// The port of the client of the node that wants.
+const CLIENT: Port = Port(2, 40001);
 
 fn common() -> Common {
     Common {
@@ -88,57 +104,48 @@ fn server_at(alloc: Global, port: u16) -> Result<Config, Fail> {
     })
 }
 
+/// The node 192.168.0.2, which wants the instance, and the event 8001 as one of the eventgroup 0001.
+fn client(alloc: Global) -> Result<Config, Fail> {
+    let mut events = BTreeSet::new(alloc);
+    events.insert(0x8001)?;
+    let mut groups = BTreeMap::new(alloc);
+    groups.insert(1, events)?;
+    let want = WantedService {
+        major: 1,
+        ttl: Ttl::new(3).ok_or("ttl")?,
+        groups,
+    };
+    let mut wants = BTreeMap::new(alloc);
+    wants.insert(INSTANCE, want)?;
+    Ok(Config {
+        common: common(),
+        address: Ipv4Addr::new(192, 168, 0, 2),
+        client_id: 0x0102,
+        client_port: 40001,
+        offers: BTreeMap::new(alloc),
+        wants,
+    })
+}
+
 /// The node that offers, at its start.
 fn server_node(alloc: Global) -> Result<Node<SegmentList>, Fail> {
     Ok(Node::start(alloc, server_at(alloc, 30509)?, 10)?)
 }
 
-/// Whether a node gives these lines, or refuses with that name.
-fn gives(
-    alloc: Global,
-    outputs: Result<Vec<Output>, NodeError>,
-    lines: &str,
-) -> Result<bool, Fail> {
-    let mut text = String::new(alloc);
-    match outputs {
-        Ok(outputs) => write_lines(&mut text, &outputs)?,
-        Err(refusal) => writeln!(text, "refused {refusal}")?,
-    }
-    Ok(text.as_str() == lines)
+/// The node that wants, at its start.
+fn client_node(alloc: Global) -> Result<Node<SegmentList>, Fail> {
+    Ok(Node::start(alloc, client(alloc)?, 10)?)
 }
 
-fn write_lines(text: &mut String, outputs: &[Output]) -> Result<(), Fail> {
-    for output in outputs {
-        writeln!(text, "{output}")?;
-    }
-    Ok(())
+/// The number of the first of these rows for which the node that offers gives other lines. It owns the
+/// node, so that no test does: a test that has to drop a node takes the prover far longer.
+fn first_wrong_of_server(alloc: Global, rows: &[Row]) -> Result<Option<usize>, Fail> {
+    let mut node = server_node(alloc)?;
+    first_wrong(alloc, &mut node, rows)
 }
 
-/// Whether a node gives these lines for a datagram in hex.
-fn takes(
-    alloc: Global,
-    node: &mut Node<SegmentList>,
-    from: SocketAddrV4,
-    to: SocketAddrV4,
-    bytes: &str,
-    lines: &str,
-) -> Result<bool, Fail> {
-    let bytes = hex::decode(alloc, bytes)?;
-    gives(alloc, node.on_datagram(from, to, &bytes), lines)
-}
-
-/// The first of these datagrams for which a node does not give the lines beside it.
-fn first_wrong(
-    alloc: Global,
-    node: &mut Node<SegmentList>,
-    from: SocketAddrV4,
-    to: SocketAddrV4,
-    rows: &[(&str, &str)],
-) -> Result<Option<usize>, Fail> {
-    for (index, (bytes, lines)) in rows.iter().enumerate() {
-        if !takes(alloc, node, from, to, bytes, lines)? {
-            return Ok(Some(index));
-        }
-    }
-    Ok(None)
+/// The same of the node that wants.
+fn first_wrong_of_client(alloc: Global, rows: &[Row]) -> Result<Option<usize>, Fail> {
+    let mut node = client_node(alloc)?;
+    first_wrong(alloc, &mut node, rows)
 }

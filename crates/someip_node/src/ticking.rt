@@ -1,5 +1,5 @@
 //! The clock of a node.
-ghost use Rattle.std.specs.Prelude.{◌≡◌, ◌+◌, ◌++◌, map, IfOk, OnOk};
+ghost use Rattle.std.specs.Prelude.{◌≡◌, ◌≢◌, ◌+◌, ◌++◌, map, IfOk, OnErr, OnOk};
 ghost use Rattle.std.specs.List.{flat_map};
 ghost use Rattle.std.specs.FinMap as finite;
 ghost use Rattle.someip_tables.specs.Lastings.{expired, unexpired};
@@ -7,9 +7,12 @@ ghost use Rattle.sd_wire.specs.Values.{view_entry};
 ghost use Rattle.someip_node.specs.Calls.{find_of};
 ghost use Rattle.someip_node.specs.Inputs.{tick_plan};
 ghost use Rattle.someip_node.specs.Items.{changed, Ticked};
-ghost use Rattle.someip_node.specs.Passings.{HasPassed, entries_of, told_of};
-ghost use Rattle.someip_node.specs.Plans.{act, plain, run, Ticks};
-ghost use Rattle.someip_node.specs.Working.{working};
+ghost use Rattle.sd_core.specs.SeekTables.{KnowsWanted};
+ghost use Rattle.someip_node.specs.Passings.{BringsNothing, HasPassed, entries_of, told_of};
+ghost use Rattle.someip_node.specs.Plans.{plain, run};
+ghost use Rattle.someip_node.specs.Receivers.{messages_plan_to};
+ghost use Rattle.someip_node.specs.Working.{told_all, working};
+ghost use Rattle.someip_node.specs.declared.receiver.Receiver.TheVariants.{Group};
 ghost use Rattle.someip_node.specs.declared.output.Output.TheVariants.{TimedOut};
 
 use crate::endings::tell_endings;
@@ -28,7 +31,8 @@ use std::alloc::{AllocError, Global};
 use std::collections::BTreeSet;
 
 impl<R: Reassembly> Engine<R> {
-    /// The clock goes on by so many milliseconds, to this moment.
+    /// The clock goes on by so many milliseconds, to this moment. A moment that brings nothing takes no
+    /// memory.
     pub(crate) fn tick(
         &mut self,
         ms: u64,
@@ -36,24 +40,27 @@ impl<R: Reassembly> Engine<R> {
         giving: &mut Giving,
     ) -> Result<(), AllocError>
         requires { now ≡ self.old.clock + ms }
-        ensures { OnOk result (working self.new giving.new
-            ≡ run plain (tick_plan ms) (working self.old giving.old)) }
-    {
-        let passed = self.advance(ms, now, giving)?;
-        let entries = self.due_entries(&passed)?;
-        self.send_entries(Receiver::Group, &entries, giving)
-    }
-
-    /// Lets the clock go on, tells what ends with that, and answers what it brings.
-    fn advance(&mut self, ms: u64, now: Moment, giving: &mut Giving) -> Result<Passed, AllocError>
-        requires { now ≡ self.old.clock + ms }
-        ensures passed { IfOk result (HasPassed now self.old) }
         ensures work { OnOk result (working self.new giving.new
-            ≡ run plain (act (Ticks ms)) (working self.old giving.old)) }
+            ≡ run plain (tick_plan ms) (working self.old giving.old)) }
+        ensures wanted { KnowsWanted self.old.seek }
+        ensures grows { OnErr result (¬ (BringsNothing now self.old)) }
     {
         let passed = self.pass(ms, now)?;
-        self.tell_passed(&passed, &mut giving.outputs)?;
-        Ok(passed)
+        if passed.is_nothing() {
+            return Ok(());
+        }
+        self.give_passed(&passed, giving)
+    }
+
+    /// Tells what ended, and sends the Offers and Finds that are due.
+    fn give_passed(&mut self, passed: &Passed, giving: &mut Giving) -> Result<(), AllocError>
+        ensures { OnOk result (working self.new giving.new
+            ≡ run plain (messages_plan_to Group (entries_of self.old passed.now))
+            (told_all (told_of self.old.config passed.now) (working self.old giving.old))) }
+    {
+        self.tell_passed(passed, &mut giving.outputs)?;
+        let entries = self.due_entries(passed)?;
+        self.send_entries(Receiver::Group, &entries, giving)
     }
 
     /// Lets the clock go on, and answers what that brings.
@@ -61,10 +68,12 @@ impl<R: Reassembly> Engine<R> {
         requires { now ≡ self.old.clock + ms }
         ensures passed { IfOk result (HasPassed now self.old) }
         ensures ticked { OnOk result (self.new ≡ changed self.old (Ticked ms)) }
+        ensures wanted { KnowsWanted self.old.seek }
+        ensures grows { OnErr result (¬ (BringsNothing now self.old)) }
     {
         let phases = self.config.common.phases;
-        let calls = end_calls(&mut self.client, now)?;
         let wanted = self.seeker.tick(now, phases)?;
+        let calls = end_calls(&mut self.client, now)?;
         let lapsed = self.subscriptions.tick(now, &wanted.ended)?;
         let offers = self.offers.tick(now, phases)?;
         self.subscribers.tick(now);
@@ -131,6 +140,7 @@ fn end_calls(client: &mut ClientCore, now: Moment) -> Result<BTreeSet<CallKey>, 
     ensures calls { IfOk result (λ calls. calls.keys ≡ finite.keys (expired now client.old.pending)) }
     ensures ended { OnOk result (client.new
         ≡ record client.old { pending = unexpired now client.old.pending }) }
+    ensures grows { OnErr result (expired now client.old.pending ≢ finite.empty) }
 {
     match client.tick(now) {
         Ok(calls) => Ok(calls),

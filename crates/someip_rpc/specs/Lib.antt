@@ -7,3 +7,5 @@ pub mod Requests
 pub mod OpenSlab
 pub mod Servers
 pub mod Events
+pub mod Copies
+pub mod Names

@@ -1,4 +1,7 @@
 //! Why a call is refused, and why what came is dropped.
+ghost use Rattle.std.specs.Prelude.{◌≡◌};
+ghost use Rattle.someip_rpc.specs.Names.{drop_cause_name, rpc_error_name};
+
 use std::alloc::AllocError;
 use thiserror::Error;
 
@@ -35,6 +38,25 @@ pub enum RpcError {
     OutOfMemory,
 }
 
+impl RpcError {
+    /// The name of the refusal, as a trace tells it.
+    pub fn name(&self) -> &'static str
+        ensures { result.now ≡ rpc_error_name self.now }
+    {
+        match self {
+            RpcError::NotOffered => "NotOffered",
+            RpcError::Busy => "Busy",
+            RpcError::TooLong => "TooLong",
+            RpcError::UnknownToken => "UnknownToken",
+            RpcError::NotPending => "NotPending",
+            RpcError::BadErrorCode => "BadErrorCode",
+            RpcError::UnknownEvent => "UnknownEvent",
+            RpcError::NotSubscribed => "NotSubscribed",
+            RpcError::OutOfMemory => "OutOfMemory",
+        }
+    }
+}
+
 impl From<AllocError> for RpcError {
     ghost use Rattle.std.specs.Prelude.{◌≡◌};
     ghost use Rattle.someip_rpc.specs.declared.error.RpcError.TheVariants.{OutOfMemory};
@@ -56,4 +78,16 @@ pub enum DropCause {
     /// The Message Type is none that is taken here.
     #[error("WrongType")]
     WrongType,
+}
+
+impl DropCause {
+    /// The name of the cause, as a trace tells it.
+    pub fn name(&self) -> &'static str
+        ensures { result.now ≡ drop_cause_name self.now }
+    {
+        match self {
+            DropCause::NotPending => "NotPending",
+            DropCause::WrongType => "WrongType",
+        }
+    }
 }

@@ -1,5 +1,6 @@
 //! What comes to a service instance, and what becomes of it.
 ghost use Rattle.std.specs.Prelude.{◌≡◌};
+ghost use Rattle.someip_rpc.specs.Names.{request_fault_name};
 ghost use Rattle.someip_rpc.specs.Requests.{answer_header, asked, fault_code};
 
 use crate::call::Outgoing;
@@ -96,6 +97,19 @@ pub enum RequestFault {
 }
 
 impl RequestFault {
+    /// The name of the fault, as a trace tells it.
+    pub fn name(&self) -> &'static str
+        ensures { result.now ≡ request_fault_name self.now }
+    {
+        match self {
+            RequestFault::UnknownService => "UnknownService",
+            RequestFault::WrongInterface => "WrongInterface",
+            RequestFault::UnknownMethod => "UnknownMethod",
+            RequestFault::WrongType => "WrongType",
+            RequestFault::NotReady => "NotReady",
+        }
+    }
+
     /// The Return Code of the ERROR that tells it (SOME/IP Protocol, "Return Code").
     pub fn code(self) -> ReturnCode
         ensures { result.0 ≡ fault_code self }

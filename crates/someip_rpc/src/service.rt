@@ -1,4 +1,7 @@
 //! A service instance, as it is set up at its server.
+ghost use Rattle.someip_rpc.specs.Copies.{IsCopyOfRules};
+
+use std::alloc::AllocError;
 use std::collections::{BTreeMap, BTreeSet};
 use std::net::SocketAddrV4;
 
@@ -19,4 +22,23 @@ pub struct ServiceRules {
     pub oneways: BTreeSet<u16>,
     /// The Event IDs, each with the eventgroups that it belongs to.
     pub events: BTreeMap<u16, BTreeSet<u16>>,
+}
+
+impl Clone for ServiceRules {
+    ghost is_clone = { λ rules copy. IsCopyOfRules rules copy };
+
+    fn clone(&self) -> Result<ServiceRules, AllocError> {
+        let methods = self.methods.clone()?;
+        let oneways = self.oneways.clone()?;
+        let events = self.events.clone()?;
+        Ok(ServiceRules {
+            service: self.service,
+            instance: self.instance,
+            major: self.major,
+            endpoint: self.endpoint,
+            methods,
+            oneways,
+            events,
+        })
+    }
 }

@@ -1,5 +1,9 @@
-pub mod StepLemmas
-pub mod WordLemmas
-pub mod LineLemmas
-pub mod EndpointLemmas
-pub mod ScheduleLemmas
+pub mod PlaceLemmas
+pub mod RunLemmas
+pub mod TurnLemmas
+pub mod OriginLemmas
+pub mod KnownOfferLemmas
+pub mod RunExampleLemmas
+pub mod AnnouncedLemmas
+pub mod OfferLemmas
+pub mod ConfiguredLemmas

@@ -1,3 +1,11 @@
-pub mod StepWords
-pub mod Steps
-pub mod Schedule
+pub mod Datagrams
+pub mod Places
+pub mod Deeds
+pub mod Runs
+pub mod Performing
+pub mod Running
+pub mod Turns
+pub mod Origins
+pub mod KnownOffers
+pub mod RunExamples
+pub mod Announced

@@ -1,27 +1,31 @@
-//! A world of SOME/IP nodes: how it is set up, and what is done in it step by step.
+//! A world of SOME/IP nodes: a setup says which nodes there are, a schedule what happens to them, and a
+//! run tells what each of them gives.
 //!
-//! - [`read_schedule`]: the steps of a schedule; [`Step`] is one of them, of the node of a
-//!   [`NodeName`];
-//! - [`schedule_laws`]: what the definitions behind its contract promise.
+//! - [`Setup::read`]: the setup of a network, read from TOML;
+//! - [`read_schedule`]: the steps of a schedule;
+//! - [`run`]: the trace of a schedule over the nodes of a setup, as [`Line`]s;
+//! - [`run_laws`]: what holds of every run, whatever its setup and schedule.
 #![tactic(auto)]
 
 mod error;
-mod schedule;
-pub mod schedule_laws;
-mod step;
-mod step_command;
-mod step_method;
-mod step_name;
-mod step_payload;
-mod step_reading;
-mod step_words;
+mod line;
+mod log;
+mod performing;
+pub mod run_laws;
+mod running;
+mod step_fault;
+mod telling;
+mod trace;
 
-pub use error::ScheduleError;
-pub use schedule::read_schedule;
-pub use step::Step;
-pub use step_method::MethodId;
-pub use step_name::NodeName;
-pub use step_payload::StepPayload;
+pub use error::RunError;
+pub use line::{Line, Told};
+pub use running::run;
+pub use someip_world_schedule::{
+    MethodId, NodeName, ScheduleError, Step, StepPayload, read_schedule,
+};
+pub use someip_world_setup::{Setup, SetupError, SetupNode};
+pub use step_fault::StepFault;
+pub use trace::Trace;
 
 #[cfg(test)]
 mod tests;

@@ -1,5 +1,5 @@
 -- What is read of the text of an address.
-use Rattle.std.proofs.Common.{◌≡◌, ℕ, List, [], ◌∷◌, ◌++◌, Option, Some, None, refl, sym, ap, ◌∙◌, append-nil, subst, arith}
+use Rattle.std.proofs.Common.{◌≡◌, ℕ, List, [], ◌∷◌, Option, Some, None, refl, sym, ◌∙◌, append-nil, subst, arith}
 use Rattle.std.specs.Option.{option_and_then}
 use Rattle.std.specs.Net.Grammar.{IsDotted, IsIpv4Text}
 use Rattle.std.specs.Net.Reader.{read_ipv4}

@@ -1,14 +1,13 @@
 -- Reading the elements of a list one after the other.
-use Rattle.std.proofs.Common.{◌≡◌, ℕ, ◌+◌, ◌<◌, ◌≤◌, List, [], ◌∷◌, ◌++◌, length, map, get_or, drop, Option, Some, None, option_map, Bool, ◌&&◌, refl, sym, ap, ◌∙◌, append_assoc, append-nil, arith}
+use Rattle.std.proofs.Common.{◌≡◌, ℕ, ◌+◌, ◌<◌, ◌≤◌, List, [], ◌∷◌, ◌++◌, length, map, get_or, drop, Option, Some, None, option_map, refl, sym, ap, ◌∙◌, append_assoc, append-nil}
 use Rattle.std.specs.Option.{option_and_then}
 use Rattle.std.proofs.lemmas.List.{drop_all, drop_more}
 use Rattle.toml.specs.Data.{Data}
-use Rattle.std.specs.List.{list_all}
 use Rattle.toml.specs.View.{view, items_of}
 use Rattle.toml.specs.declared.value.Value.{Value}
 use Rattle.someip_world_setup.specs.declared.error.SetupError.{SetupError}
 use Rattle.someip_world_setup.specs.declared.error.SetupError.TheVariants as errors
-use Rattle.someip_world_setup.specs.Keys.{Fails, Gives}
+use Rattle.someip_world_setup.specs.Keys.{Fails}
 use Rattle.someip_world_setup.specs.Lists.{each, elements}
 
 module _ {B : Type 0} (f : Data → Option B) where
@@ -36,8 +35,8 @@ module _ {B : Type 0} (f : Data → Option B) where
   fails_too (errors.Missing k) o p then h = then h
   fails_too (errors.WrongKind k) o p then h = then h
   fails_too (errors.OutOfRange k) o p then h = then h
-  fails_too (errors.UnknownKey k) o p then h = then h
-  fails_too (errors.Clash k) o p then h = then h
+  fails_too (errors.UnknownKey k) o p then h = absurd h
+  fails_too (errors.Clash k) o p then h = absurd h
 
   pub at_fault : (front : List B) (i : ℕ) (values : List Value) (d : Value) (e : SetupError) → i < length values → Fails e (f (view (get_or values i d))) → HasRead front i values → Fails e (each f (map view values))
   unfolding each

@@ -6,18 +6,20 @@ use Rattle.std.specs.Net.Reader.{read_ipv4}
 use Rattle.std.specs.declared.net.ipv4_addr.Ipv4Addr.{Ipv4Addr}
 use Rattle.toml.specs.Data.{Data, get, as_integer, as_str}
 use Rattle.someip_world_setup.specs.declared.error.SetupError.{SetupError}
-use Rattle.someip_world_setup.specs.declared.error.SetupError.TheVariants.{NotToml, OutOfMemory}
+use Rattle.someip_world_setup.specs.declared.error.SetupError.TheVariants.{Missing, WrongKind, OutOfRange, OutOfMemory}
 
 -- what is asked of what was found, if anything was
 infixl 10 ◌>>=◌
 abbrev pub ◌>>=◌ : {A B : Type 0} → Option A → (A → Option B) → Option B
 o >>= f = option_and_then f o
 
--- an error, but for memory, comes only where nothing is found; that the text is no TOML is never said of a tree
+-- an error, but for memory, comes only where nothing is found, and tells that a key is missing, or its value of another kind or outside its range
 abbrev pub Fails : {X : Type 0} → SetupError → Option X → Type 0
 Fails OutOfMemory found = Unit {0}
-Fails NotToml found = ⊥
-Fails _ found = found ≡ None
+Fails (Missing key) found = found ≡ None
+Fails (WrongKind key) found = found ≡ None
+Fails (OutOfRange key) found = found ≡ None
+Fails _ found = ⊥
 
 -- what is read is what is found
 abbrev pub Gives : {X Y : Type 0} → (X → Y) → Result X SetupError → Option Y → Type 0

@@ -1,6 +1,10 @@
 pub mod Keys
 pub mod Lists
+pub mod KnownKeys
 pub mod Values
 pub mod Says
+pub mod Clashes
+pub mod GoodSetups
 pub mod Made
 pub mod Readings
+pub mod Examples

@@ -1,7 +1,7 @@
 -- The lists at the keys of a table of TOML.
-use Rattle.std.specs.Prelude.{ℕ, ℤ, ◌&&◌, if◌then◌else◌, List, [], ◌∷◌, Option, Some, None, is_some, Bool}
+use Rattle.std.specs.Prelude.{ℕ, if◌then◌else◌, List, [], ◌∷◌, Option, Some, None, is_some, Bool}
 use Rattle.std.specs.List.{list_all}
-use Rattle.std.specs.Option.{option_and_then, option_map}
+use Rattle.std.specs.Option.{option_map}
 use Rattle.toml.specs.Data.{Data, Items, no_items, item, get, as_array, as_table, as_integer}
 use Rattle.someip_world_setup.specs.Keys.{◌>>=◌, within}
 

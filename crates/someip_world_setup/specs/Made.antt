@@ -2,7 +2,7 @@
 use Rattle.std.specs.Prelude.{ℕ, List, [], ◌∷◌, map, string_bytes}
 use Rattle.std.specs.declared.cmp.Ordering.{Ordering}
 use Rattle.std.specs.Ordering.{nat_cmp}
-use Rattle.std.specs.BTreeMap.{BTreeMap, insert_entry}
+use Rattle.std.specs.BTreeMap.{insert_entry}
 use Rattle.std.specs.BTreeSet.{BTreeSet, insert_key}
 use Rattle.std.specs.declared.net.ipv4_addr.Ipv4Addr.{Ipv4Addr}
 use Rattle.std.specs.declared.net.socket_addr.SocketAddrV4.{SocketAddrV4}
@@ -12,7 +12,7 @@ use Rattle.someip_node.specs.declared.config.Common.{Common}
 use Rattle.someip_node.specs.declared.config.Config.{Config}
 use Rattle.someip_node.specs.declared.config.OfferedService.{OfferedService}
 use Rattle.someip_node.specs.declared.config.WantedService.{WantedService}
-use Rattle.someip_world_setup.specs.declared.setup.Node.{Node}
+use Rattle.someip_world_setup.specs.declared.setup_node.SetupNode.{SetupNode}
 use Rattle.someip_world_setup.specs.Values.{ListedValue, OfferValue, WantValue, NodeValue}
 
 -- keys, with further ones at their places in the order, and entries, with further ones
@@ -92,7 +92,7 @@ config_view c = record {
   wants = seen wanted_view c.wants.entries;
 }
 
-abbrev pub made_view : Node → NodeMade
+abbrev pub made_view : SetupNode → NodeMade
 made_view n = record { name = string_bytes n.name; delay = n.delay; config = config_view n.config }
 
 -- ---- of what they are made

@@ -1,50 +1,72 @@
 -- What a text says.
-use Rattle.std.specs.Prelude.{◌≡◌, ℕ, List, map, Option, Some, None, IsSomeAnd}
-use Rattle.std.specs.Option.{option_map, option_and_then}
+use Rattle.std.specs.Prelude.{◌≡◌, ℕ, Bool, true, false, List, map, if◌then◌else◌, Option, Some, None, IsSomeAnd, Result, Ok, Err}
+use Rattle.std.specs.Option.{option_map}
 use Rattle.toml.specs.Data.{Data, table}
 use Rattle.toml.specs.Parse.{parse_document}
-use Rattle.someip_world_setup.specs.declared.setup.Setup.{Setup}
 use Rattle.someip_world_setup.specs.declared.error.SetupError.{SetupError}
 use Rattle.someip_world_setup.specs.declared.error.SetupError.TheVariants.{NotToml, Missing, WrongKind, OutOfRange, UnknownKey, Clash, OutOfMemory}
+use Rattle.someip_world_setup.specs.Keys.{◌>>=◌}
+use Rattle.someip_world_setup.specs.KnownKeys.{has_unknown_key}
 use Rattle.someip_world_setup.specs.Says.{setup_of}
 use Rattle.someip_world_setup.specs.Values.{SetupValue, common_view}
+use Rattle.someip_world_setup.specs.Clashes.{has_clash}
+use Rattle.someip_world_setup.specs.GoodSetups.{Network}
 use Rattle.someip_world_setup.specs.Made.{made_view, node_made}
 
 -- the tree of a text, if it is TOML
 abbrev pub tree_of : List ℕ → Option Data
 tree_of text = option_map table (parse_document text)
 
--- a setup has the values that were read, and the nodes that are made of them
-abbrev pub HasValues : Setup → SetupValue → Type 0
-HasValues setup v = (common_view setup.common ≡ v.common) × (map made_view setup.nodes.items ≡ map (node_made setup.common) v.nodes)
+-- the setup that a tree says, if each key is one of the format and no values clash
+abbrev pub without_clash : SetupValue → Option SetupValue
+without_clash v = if has_clash v then None else Some v
 
--- it is what a tree says
-abbrev pub IsSaid : Data → Setup → Type 0
-IsSaid tree setup = IsSomeAnd (setup_of tree) (HasValues setup)
+abbrev pub sound_setup_of : Data → Option SetupValue
+sound_setup_of tree = if has_unknown_key tree then None else setup_of tree >>= without_clash
 
--- a tree says no setup, where an error tells that a key is missing, or its value of another kind or outside its range
-abbrev pub Refuses : Data → SetupError → Type 0
-Refuses tree (Missing key) = setup_of tree ≡ None
-Refuses tree (WrongKind key) = setup_of tree ≡ None
-Refuses tree (OutOfRange key) = setup_of tree ≡ None
-Refuses tree (UnknownKey key) = Unit {0}
-Refuses tree (Clash key) = Unit {0}
-Refuses tree OutOfMemory = Unit {0}
-Refuses tree NotToml = ⊥
+-- the setup that a text says
+abbrev pub said_by : List ℕ → Option SetupValue
+said_by text = tree_of text >>= sound_setup_of
+
+-- a network has the values that were read, and the nodes that are made of them
+abbrev pub HasValues : Network → SetupValue → Type 0
+HasValues network v = (common_view network.common ≡ v.common) × (map made_view network.nodes ≡ map (node_made network.common) v.nodes)
+
+-- ---- faults
+
+-- an error, but for memory, comes only where a setup is not said
+abbrev pub IsOwed : Option SetupValue → SetupError → Type 0
+IsOwed said OutOfMemory = Unit {0}
+IsOwed said error = said ≡ None
+
+-- a tree has the fault that an error tells: a key is missing, or its value of another kind or outside its range, so that no values can be read; or it has an unknown key; or the values that are read clash
+abbrev pub HasFault : Data → SetupError → Type 0
+HasFault tree (Missing key) = setup_of tree ≡ None
+HasFault tree (WrongKind key) = setup_of tree ≡ None
+HasFault tree (OutOfRange key) = setup_of tree ≡ None
+HasFault tree (UnknownKey key) = has_unknown_key tree ≡ true
+HasFault tree (Clash key) = IsSomeAnd (setup_of tree) (λ v. has_clash v ≡ true)
+HasFault tree OutOfMemory = Unit {0}
+HasFault tree NotToml = ⊥
 
 -- the same of a text, which is no TOML where the error says so
-abbrev pub RefusesText : Option Data → SetupError → Type 0
-RefusesText tree NotToml = tree ≡ None
-RefusesText tree OutOfMemory = Unit {0}
-RefusesText tree error = IsSomeAnd tree (λ d. Refuses d error)
+abbrev pub TextHasFault : Option Data → SetupError → Type 0
+TextHasFault tree NotToml = tree ≡ None
+TextHasFault tree OutOfMemory = Unit {0}
+TextHasFault tree error = IsSomeAnd tree (λ d. HasFault d error)
 
--- a key is unknown, or two values clash, unless memory runs out
-abbrev pub IsUnknown : SetupError → Type 0
-IsUnknown (UnknownKey key) = Unit {0}
-IsUnknown OutOfMemory = Unit {0}
-IsUnknown _ = ⊥
+-- ---- refusals
 
-abbrev pub IsClash : SetupError → Type 0
-IsClash (Clash key) = Unit {0}
-IsClash OutOfMemory = Unit {0}
-IsClash _ = ⊥
+-- a tree is refused for an unknown key exactly where it has one, unless memory runs out
+abbrev pub RefusesKey : Bool → Result (Unit {0}) SetupError → Type 0
+RefusesKey unknown (Ok done) = unknown ≡ false
+RefusesKey unknown (Err (UnknownKey key)) = unknown ≡ true
+RefusesKey unknown (Err OutOfMemory) = Unit {0}
+RefusesKey unknown (Err error) = ⊥
+
+-- values are refused for a clash exactly where there is one, unless memory runs out
+abbrev pub RefusesClash : Bool → Result (Unit {0}) SetupError → Type 0
+RefusesClash clash (Ok done) = clash ≡ false
+RefusesClash clash (Err (Clash key)) = clash ≡ true
+RefusesClash clash (Err OutOfMemory) = Unit {0}
+RefusesClash clash (Err error) = ⊥

@@ -1,5 +1,5 @@
 -- The setup that a tree of TOML says, key by key, before clashes are judged.
-use Rattle.std.specs.Prelude.{ℕ, ℤ, pos, ◌==◌, ◌||◌, ◌&&◌, nat_le, if◌then◌else◌, codes, List, [], ◌∷◌, length, Option, Some, None}
+use Rattle.std.specs.Prelude.{ℕ, ℤ, pos, ◌==◌, ◌||◌, nat_le, if◌then◌else◌, codes, List, length, Option, Some, None}
 use Rattle.toml.specs.Data.{Data}
 use Rattle.someip_world_setup.specs.Keys.{◌>>=◌, number_at, number_or, name_at, address_at}
 use Rattle.someip_world_setup.specs.Lists.{each, tables_at, tables_or_none, integers_at, integers_or_none, ids_of}

@@ -4,7 +4,7 @@ ghost use Rattle.someip_world_setup.specs.Values.{listed_view, offer_view, want_
 ghost use Rattle.someip_world_setup.specs.Made.{keys_of_set, seen, set_of, lists_of, offer_made, want_made, offers_made, wants_made, config_made, node_made, offered_view, wanted_view, config_view, made_view};
 
 use crate::parts::{Listed, NodeParts, OfferParts, WantParts};
-use crate::setup::Node;
+use crate::setup_node::SetupNode;
 use sd_core::InstanceId;
 use someip_node::{Common, Config, OfferedService, WantedService};
 use someip_rpc::ServiceRules;
@@ -120,12 +120,12 @@ fn config(alloc: Global, common: Common, node: &NodeParts) -> Result<Config, All
 }
 
 /// A node with its configuration.
-fn built(alloc: Global, common: Common, node: &NodeParts) -> Result<Node, AllocError>
+fn built(alloc: Global, common: Common, node: &NodeParts) -> Result<SetupNode, AllocError>
     ensures { IfOk result (λ n. made_view n ≡ node_made common (node_view node.now)) }
 {
     let config = config(alloc, common, node)?;
     let name = node.name.clone()?;
-    Ok(Node {
+    Ok(SetupNode {
         name,
         delay: node.delay,
         config,
@@ -137,7 +137,7 @@ pub(crate) fn built_nodes(
     alloc: Global,
     common: Common,
     nodes: &[NodeParts],
-) -> Result<Vec<Node>, AllocError>
+) -> Result<Vec<SetupNode>, AllocError>
     ensures { IfOk result (λ v. map made_view v.items ≡ map (node_made common) (map node_view nodes.now)) }
 {
     let mut made = Vec::new(alloc);

@@ -1,158 +1,208 @@
 //! Values that may not be the same.
-ghost use Rattle.std.specs.Prelude.{IfErr};
-ghost use Rattle.someip_world_setup.specs.Readings.{IsClash};
+ghost use Rattle.std.specs.Prelude.{◌≡◌, ◌||◌, map, bytes_eq, string_bytes, IfOk};
+ghost use Rattle.std.specs.List.{list_any};
+ghost use Rattle.someip_world_setup.specs.Values.{listed_view, offer_view, want_view, node_view, parts_view};
+ghost use Rattle.someip_world_setup.specs.Clashes as clash;
+ghost use Rattle.someip_world_setup.specs.Readings.{RefusesClash};
 
 use crate::error::SetupError;
-use crate::parts::{NodeParts, OfferParts, SetupParts, WantParts};
-use crate::repeats::{add_new, refuse_repeats_of_offer, refuse_repeats_of_want};
-use sd_core::InstanceId;
-use std::alloc::Global;
-use std::collections::BTreeSet;
+use crate::gathered::{addresses, ids, methods, offered, ports, wanted};
+use crate::parts::{Listed, NodeParts, OfferParts, SetupParts, WantParts};
+use crate::repeats::has_repeat;
+use std::alloc::{AllocError, Global};
 use std::net::Ipv4Addr;
 
-/// The UDP port of Service Discovery.
-const DISCOVERY_PORT: u16 = 30490;
-
 /// Whether one of the nodes has a name.
-fn is_named(nodes: &[NodeParts], name: &str) -> bool {
-    nodes.iter().any(|n| n.name.as_str() == name)
+fn is_named(nodes: &[NodeParts], name: &str) -> bool
+    ensures { result ≡ list_any (λ n. bytes_eq name.now (string_bytes n.name)) nodes.now }
+{
+    nodes.iter().any(|n| name == n.name.as_str())
 }
 
-/// Refuses two nodes of one name.
-fn refuse_equal_names(nodes: &[NodeParts]) -> Result<(), SetupError>
-    ensures { IfErr result IsClash }
+/// Whether two nodes have one name.
+fn has_equal_names(nodes: &[NodeParts]) -> bool
+    ensures { result ≡ clash.has_equal_names (map node_view nodes.now) }
 {
     for i in 0..nodes.len() {
-        if is_named(&nodes[..i], nodes[i].name.as_str()) {
-            return Err(SetupError::Clash("name"));
+        if is_named(&nodes[i + 1..], nodes[i].name.as_str()) {
+            return true;
         }
     }
-    Ok(())
+    false
 }
 
-/// Whether one of the nodes has an address.
-fn is_addressed(nodes: &[NodeParts], address: Ipv4Addr) -> bool {
-    nodes.iter().any(|n| n.address == address)
-}
-
-/// Refuses two nodes of one address, and one with that of the multicast group.
-fn refuse_equal_addresses(nodes: &[NodeParts], group: Ipv4Addr) -> Result<(), SetupError>
-    ensures { IfErr result IsClash }
+/// Whether two nodes have one address, or one has that of the multicast group.
+fn has_equal_addresses(
+    alloc: Global,
+    group: Ipv4Addr,
+    nodes: &[NodeParts],
+) -> Result<bool, AllocError>
+    ensures { IfOk result (λ b. b ≡ clash.has_equal_addresses group (map node_view nodes.now)) }
 {
-    for i in 0..nodes.len() {
-        let address = nodes[i].address;
-        if address == group || is_addressed(&nodes[..i], address) {
-            return Err(SetupError::Clash("address"));
+    has_repeat(alloc, &addresses(alloc, group, nodes)?)
+}
+
+/// Whether a node has a port twice, or that of Service Discovery.
+fn has_equal_ports(alloc: Global, node: &NodeParts) -> Result<bool, AllocError>
+    ensures { IfOk result (λ b. b ≡ clash.has_equal_ports (node_view node.now)) }
+{
+    has_repeat(alloc, &ports(alloc, node)?)
+}
+
+/// Whether one of the nodes has a port twice, or that of Service Discovery.
+fn have_equal_ports(alloc: Global, nodes: &[NodeParts]) -> Result<bool, AllocError>
+    ensures { IfOk result (λ b. b ≡ list_any clash.has_equal_ports (map node_view nodes.now)) }
+{
+    for node in nodes {
+        if has_equal_ports(alloc, node)? {
+            return Ok(true);
         }
     }
-    Ok(())
+    Ok(false)
 }
 
-/// Refuses a port that a node has twice, or that is that of Service Discovery.
-fn refuse_equal_ports(alloc: Global, node: &NodeParts) -> Result<(), SetupError>
-    ensures { IfErr result IsClash }
+/// Whether an instance is offered twice.
+fn has_equal_offers(alloc: Global, nodes: &[NodeParts]) -> Result<bool, AllocError>
+    ensures { IfOk result (λ b. b ≡ clash.has_equal_offers (map node_view nodes.now)) }
 {
-    let mut met = BTreeSet::new(alloc);
-    add_new(&mut met, DISCOVERY_PORT, "port")?;
-    add_new(&mut met, node.client_port, "port")?;
-    for offer in &node.offers {
-        add_new(&mut met, offer.port, "port")?;
-    }
-    Ok(())
+    has_repeat(alloc, &offered(alloc, nodes)?)
 }
 
-/// Adds an instance to those that were met, which may not be there yet.
-fn add_instance(met: &mut BTreeSet<InstanceId>, instance: InstanceId) -> Result<(), SetupError>
-    ensures { IfErr result IsClash }
+/// Whether a node wants an instance twice.
+fn has_equal_wants(alloc: Global, node: &NodeParts) -> Result<bool, AllocError>
+    ensures { IfOk result (λ b. b ≡ clash.has_equal_wants (node_view node.now)) }
 {
-    if met.insert(instance)? {
-        Ok(())
-    } else {
-        Err(SetupError::Clash("instance"))
-    }
+    has_repeat(alloc, &wanted(alloc, node)?)
 }
 
-/// Adds the offered instances of a node to those that were met.
-fn add_offers(met: &mut BTreeSet<InstanceId>, offers: &[OfferParts]) -> Result<(), SetupError>
-    ensures { IfErr result IsClash }
+/// Whether one of the nodes wants an instance twice.
+fn have_equal_wants(alloc: Global, nodes: &[NodeParts]) -> Result<bool, AllocError>
+    ensures { IfOk result (λ b. b ≡ list_any clash.has_equal_wants (map node_view nodes.now)) }
+{
+    for node in nodes {
+        if has_equal_wants(alloc, node)? {
+            return Ok(true);
+        }
+    }
+    Ok(false)
+}
+
+/// Whether an ID stands twice among those that belong to one of a list.
+fn have_equal_members(alloc: Global, lists: &[Listed]) -> Result<bool, AllocError>
+    ensures { IfOk result (λ b. b ≡ list_any clash.has_equal_members (map listed_view lists.now)) }
+{
+    for list in lists {
+        if has_repeat(alloc, &list.members)? {
+            return Ok(true);
+        }
+    }
+    Ok(false)
+}
+
+/// Whether an ID stands twice in a list, or among those that belong to one of it.
+fn has_equal_ids(alloc: Global, lists: &[Listed]) -> Result<bool, AllocError>
+    ensures { IfOk result (λ b. b ≡ clash.has_equal_ids (map listed_view lists.now)) }
+{
+    if has_repeat(alloc, &ids(alloc, lists)?)? {
+        return Ok(true);
+    }
+    have_equal_members(alloc, lists)
+}
+
+/// Whether an ID stands twice in an offer.
+fn has_equal_ids_offered(alloc: Global, offer: &OfferParts) -> Result<bool, AllocError>
+    ensures { IfOk result (λ b. b ≡ clash.has_equal_ids_offered (offer_view offer.now)) }
+{
+    if has_repeat(alloc, &methods(alloc, offer)?)? {
+        return Ok(true);
+    }
+    has_equal_ids(alloc, &offer.events)
+}
+
+/// Whether an ID stands twice in one of the offers.
+fn have_equal_ids_offered(alloc: Global, offers: &[OfferParts]) -> Result<bool, AllocError>
+    ensures { IfOk result (λ b. b
+        ≡ list_any clash.has_equal_ids_offered (map offer_view offers.now)) }
 {
     for offer in offers {
-        add_instance(met, offer.id())?;
+        if has_equal_ids_offered(alloc, offer)? {
+            return Ok(true);
+        }
     }
-    Ok(())
+    Ok(false)
 }
 
-/// Refuses an instance that a node wants twice.
-fn refuse_equal_wants(alloc: Global, wants: &[WantParts]) -> Result<(), SetupError>
-    ensures { IfErr result IsClash }
+/// Whether an ID stands twice in a want.
+fn has_equal_ids_wanted(alloc: Global, want: &WantParts) -> Result<bool, AllocError>
+    ensures { IfOk result (λ b. b ≡ clash.has_equal_ids_wanted (want_view want.now)) }
 {
-    let mut met = BTreeSet::new(alloc);
-    for want in wants {
-        add_instance(&mut met, want.id())?;
-    }
-    Ok(())
+    has_equal_ids(alloc, &want.groups)
 }
 
-/// Refuses an instance that is offered twice, or that a node wants twice.
-fn refuse_equal_instances(alloc: Global, nodes: &[NodeParts]) -> Result<(), SetupError>
-    ensures { IfErr result IsClash }
-{
-    let mut met = BTreeSet::new(alloc);
-    for node in nodes {
-        add_offers(&mut met, &node.offers)?;
-        refuse_equal_wants(alloc, &node.wants)?;
-    }
-    Ok(())
-}
-
-/// Refuses the ports of nodes.
-fn refuse_ports(alloc: Global, nodes: &[NodeParts]) -> Result<(), SetupError>
-    ensures { IfErr result IsClash }
-{
-    for node in nodes {
-        refuse_equal_ports(alloc, node)?;
-    }
-    Ok(())
-}
-
-/// Refuses IDs that stand twice in an offer.
-fn refuse_ids_of_offers(alloc: Global, offers: &[OfferParts]) -> Result<(), SetupError>
-    ensures { IfErr result IsClash }
-{
-    for offer in offers {
-        refuse_repeats_of_offer(alloc, offer)?;
-    }
-    Ok(())
-}
-
-/// Refuses IDs that stand twice in a want.
-fn refuse_ids_of_wants(alloc: Global, wants: &[WantParts]) -> Result<(), SetupError>
-    ensures { IfErr result IsClash }
+/// Whether an ID stands twice in one of the wants.
+fn have_equal_ids_wanted(alloc: Global, wants: &[WantParts]) -> Result<bool, AllocError>
+    ensures { IfOk result (λ b. b ≡ list_any clash.has_equal_ids_wanted (map want_view wants.now)) }
 {
     for want in wants {
-        refuse_repeats_of_want(alloc, want)?;
+        if has_equal_ids_wanted(alloc, want)? {
+            return Ok(true);
+        }
     }
-    Ok(())
+    Ok(false)
 }
 
-/// Refuses IDs that stand twice in an offer or a want.
-fn refuse_ids(alloc: Global, nodes: &[NodeParts]) -> Result<(), SetupError>
-    ensures { IfErr result IsClash }
+/// Whether an ID stands twice in an offer or in a want of a node.
+fn has_equal_ids_of(alloc: Global, node: &NodeParts) -> Result<bool, AllocError>
+    ensures { IfOk result (λ b. b ≡ clash.has_equal_ids_of (node_view node.now)) }
+{
+    if have_equal_ids_offered(alloc, &node.offers)? {
+        return Ok(true);
+    }
+    have_equal_ids_wanted(alloc, &node.wants)
+}
+
+/// Whether an ID stands twice in an offer or in a want of one of the nodes.
+fn have_equal_ids_of(alloc: Global, nodes: &[NodeParts]) -> Result<bool, AllocError>
+    ensures { IfOk result (λ b. b ≡ list_any clash.has_equal_ids_of (map node_view nodes.now)) }
 {
     for node in nodes {
-        refuse_ids_of_offers(alloc, &node.offers)?;
-        refuse_ids_of_wants(alloc, &node.wants)?;
+        if has_equal_ids_of(alloc, node)? {
+            return Ok(true);
+        }
     }
-    Ok(())
+    Ok(false)
+}
+
+/// Whether an instance is offered twice, or wanted twice by a node.
+fn has_equal_instances(alloc: Global, nodes: &[NodeParts]) -> Result<bool, AllocError>
+    ensures { IfOk result (λ b. b ≡ (clash.has_equal_offers (map node_view nodes.now)
+        || list_any clash.has_equal_wants (map node_view nodes.now))) }
+{
+    if has_equal_offers(alloc, nodes)? {
+        return Ok(true);
+    }
+    have_equal_wants(alloc, nodes)
 }
 
 /// Refuses values that may not be the same, each kind over the whole setup before the next.
 pub(crate) fn refuse_clashes(alloc: Global, parts: &SetupParts) -> Result<(), SetupError>
-    ensures { IfErr result IsClash }
+    ensures { RefusesClash (clash.has_clash (parts_view parts.now)) result }
 {
-    refuse_equal_names(&parts.nodes)?;
-    refuse_equal_addresses(&parts.nodes, parts.common.group)?;
-    refuse_ports(alloc, &parts.nodes)?;
-    refuse_equal_instances(alloc, &parts.nodes)?;
-    refuse_ids(alloc, &parts.nodes)
+    let nodes = &parts.nodes;
+    if has_equal_names(nodes) {
+        return Err(SetupError::Clash("name"));
+    }
+    if has_equal_addresses(alloc, parts.common.group, nodes)? {
+        return Err(SetupError::Clash("address"));
+    }
+    if have_equal_ports(alloc, nodes)? {
+        return Err(SetupError::Clash("port"));
+    }
+    if has_equal_instances(alloc, nodes)? {
+        return Err(SetupError::Clash("instance"));
+    }
+    if have_equal_ids_of(alloc, nodes)? {
+        return Err(SetupError::Clash("id"));
+    }
+    Ok(())
 }

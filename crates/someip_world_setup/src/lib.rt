@@ -1,8 +1,9 @@
 //! The setup of a network, read from TOML: what its nodes share, and each node with what it offers and
 //! wants.
 //!
-//! - [`Setup`] and [`Node`]: what is read; [`Setup::read`] reads it;
-//! - [`SetupError`]: why a text is no setup.
+//! - [`Setup`] and [`SetupNode`]: what is read; [`Setup::read`] reads it;
+//! - [`SetupError`]: why a text is no setup;
+//! - [`laws`]: what the definitions behind the contracts promise.
 #![tactic(auto)]
 
 mod addresses;
@@ -10,6 +11,8 @@ mod building;
 mod clashes;
 mod commons;
 mod error;
+mod gathered;
+pub mod laws;
 mod lists;
 mod names;
 mod nodes;
@@ -18,12 +21,14 @@ mod offers;
 mod parts;
 mod repeats;
 mod setup;
+mod setup_node;
 mod tables;
 mod unknown;
 mod wants;
 
 pub use error::SetupError;
-pub use setup::{Node, Setup};
+pub use setup::Setup;
+pub use setup_node::SetupNode;
 
 #[cfg(test)]
 mod tests;

@@ -1,43 +1,44 @@
 //! A setup.
-ghost use Rattle.std.specs.Prelude.{◌≡◌, true, IfOk, IfErr, IsSomeAnd};
-ghost use Rattle.someip_node.specs.GoodConfigs.{is_good_common};
+ghost use Rattle.std.specs.Prelude.{◌≡◌, IfOk, IfErr, IsSomeAnd};
 ghost use Rattle.toml.specs.View.{view};
-ghost use Rattle.someip_world_setup.specs.Readings.{tree_of, IsSaid, Refuses, RefusesText};
+ghost use Rattle.someip_world_setup.specs.GoodSetups.{IsGoodNetwork};
+ghost use Rattle.someip_world_setup.specs.Readings.{tree_of, sound_setup_of, said_by, HasValues, IsOwed, HasFault, TextHasFault};
 
 use crate::building::built_nodes;
 use crate::clashes::refuse_clashes;
 use crate::error::SetupError;
 use crate::nodes::parts;
+use crate::setup_node::SetupNode;
 use crate::unknown::refuse_unknown;
-use someip_node::{Common, Config};
+use someip_node::Common;
 use std::alloc::Global;
+use std::marker::Model;
 use toml::Value;
 
-/// A node of a setup.
-#[derive(Debug, Drop)]
-pub struct Node {
-    /// Its name: 1 to 16 of a to z, 0 to 9.
-    pub name: String,
-    /// The delay before its first Offers and Finds, in milliseconds.
-    pub delay: u32,
-    /// What it is set up with.
-    pub config: Config,
-}
-
-/// What a network is set up with.
+/// What a network is set up with: values in their ranges, of which none clash. [`Setup::read`] makes
+/// it.
 #[derive(Debug, Drop)]
 pub struct Setup {
-    /// What all nodes share.
-    pub common: Common,
-    /// The nodes, in the order of the text.
-    pub nodes: Vec<Node>,
+    common: Common,
+    nodes: Vec<SetupNode>,
+}
+
+impl Model for Setup {
+    ghost use Rattle.someip_world_setup.specs.GoodSetups.{Network, coded_network, IsGoodNetwork};
+
+    ghost Value = { Network };
+
+    ghost coded = { coded_network };
+
+    ghost view = { λ s. record { common = s.common; nodes = s.nodes.items } };
+
+    ghost invariant = { λ s. IsGoodNetwork (record { common = s.common; nodes = s.nodes.items }) };
 }
 
 /// The setup that a tree says.
 fn setup_in(alloc: Global, tree: &Value) -> Result<Setup, SetupError>
-    ensures said { IfOk result (IsSaid (view tree.now)) }
-    ensures good { IfOk result (λ s. is_good_common s.common ≡ true) }
-    ensures refused { IfErr result (Refuses (view tree.now)) }
+    ensures said { IfOk result (λ s. IsSomeAnd (sound_setup_of (view tree.now)) (HasValues s)) }
+    ensures fault { IfErr result (HasFault (view tree.now)) }
 {
     let parts = parts(alloc, tree)?;
     refuse_unknown(alloc, tree)?;
@@ -50,18 +51,34 @@ fn setup_in(alloc: Global, tree: &Value) -> Result<Setup, SetupError>
 impl Setup {
     /// The setup that a text says.
     pub fn read(alloc: Global, text: &str) -> Result<Setup, SetupError>
-        // It is what the tree of the text says, with the defaults.
-        ensures said { IfOk result (λ s. IsSomeAnd (tree_of text.now) (λ d. IsSaid d s)) }
-        // The delays, limits and timeouts of all nodes are in their ranges.
-        ensures good { IfOk result (λ s. is_good_common s.common ≡ true) }
-        // A text is refused as such where it is no TOML; and where a key is missing, of another kind or
-        // outside its range, its tree says no setup.
-        ensures refused { IfErr result (RefusesText (tree_of text.now)) }
+        // It is what the tree of the text says, with the defaults; each key is one of the format, and
+        // no values clash.
+        ensures said { IfOk result (λ s. IsSomeAnd (said_by text.now) (HasValues s)) }
+        // Whatever setup a text says is read, unless memory runs out.
+        ensures only { IfErr result (IsOwed (said_by text.now)) }
+        // An error tells a fault that is there.
+        ensures fault { IfErr result (TextHasFault (tree_of text.now)) }
     {
         match toml::table_from_str(alloc, text) {
             Ok(table) => setup_in(alloc, &Value::Table(table)),
             Err(error) if error.is_memory() => Err(SetupError::OutOfMemory),
             Err(_) => Err(SetupError::NotToml),
         }
+    }
+
+    /// What all nodes share.
+    pub fn common(&self) -> &Common
+        ensures { result.now ≡ self.now.common }
+    {
+        &self.common
+    }
+
+    /// The nodes, in the order of the text.
+    pub fn nodes(&self) -> &[SetupNode]
+        ensures nodes { result.now ≡ self.now.nodes }
+        // Each can be started, and none clashes with another.
+        ensures good { IsGoodNetwork self.now }
+    {
+        &self.nodes
     }
 }

@@ -3,6 +3,7 @@ ghost use Rattle.std.specs.Prelude.{◌≡◌, map, option_map};
 ghost use Rattle.std.specs.List.{list_all};
 ghost use Rattle.toml.specs.View.{view};
 ghost use Rattle.someip_world_setup.specs.Keys.{Gives};
+ghost use Rattle.someip_world_setup.specs.KnownKeys.{listed_at};
 ghost use Rattle.someip_world_setup.specs.Lists.{as_list, is_table, is_integer, tables_of, integers_of, tables_at, tables_or_none, integers_at, integers_or_none};
 
 use crate::error::SetupError;
@@ -120,5 +121,18 @@ pub(crate) fn integers_or_none<'a>(
     match table.get(key) {
         Some(value) => integers_of(value, key),
         None => Ok(&[]),
+    }
+}
+
+/// The elements of the list at a key, or none where there is no list.
+pub(crate) fn listed_at<'a>(table: &'a Value, key: &str) -> &'a [Value]
+    ensures { map view result.now ≡ listed_at key.now (view table.now) }
+{
+    let Some(value) = table.get(key) else {
+        return &[];
+    };
+    match elements(value) {
+        Some(list) => list,
+        None => &[],
     }
 }

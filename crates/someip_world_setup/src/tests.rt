@@ -40,19 +40,19 @@ fn outcome(alloc: Global, text: &str) -> Result<String, AllocError> {
 fn the_worked_setup(rt: HostRuntime) -> Result<(), Fail> {
     let text = format!(in rt.alloc(); "{COMMON}{SERVER}{CLIENT}")?;
     let setup = Setup::read(rt.alloc(), text.as_str())?;
-    assert_eq!(rt; setup.common.group, Ipv4Addr::new(239, 0, 0, 1));
-    assert_eq!(rt; setup.common.initial_min_ms, 10);
-    assert_eq!(rt; setup.common.initial_max_ms, 100);
-    assert_eq!(rt; setup.common.phases.base, 30);
-    assert_eq!(rt; setup.common.phases.repetitions, 3);
-    assert_eq!(rt; setup.common.phases.cyclic, 1000);
-    assert_eq!(rt; setup.common.message_limit, 65536);
-    assert_eq!(rt; setup.common.slots, 16);
-    assert_eq!(rt; setup.common.peers, 64);
-    assert_eq!(rt; setup.common.reassembly_timeout_ms, 1000);
-    assert_eq!(rt; setup.common.call_timeout_ms, 2000);
-    assert_eq!(rt; setup.nodes.len(), 2);
-    let a = &setup.nodes[0];
+    assert_eq!(rt; setup.common().group, Ipv4Addr::new(239, 0, 0, 1));
+    assert_eq!(rt; setup.common().initial_min_ms, 10);
+    assert_eq!(rt; setup.common().initial_max_ms, 100);
+    assert_eq!(rt; setup.common().phases.base, 30);
+    assert_eq!(rt; setup.common().phases.repetitions, 3);
+    assert_eq!(rt; setup.common().phases.cyclic, 1000);
+    assert_eq!(rt; setup.common().message_limit, 65536);
+    assert_eq!(rt; setup.common().slots, 16);
+    assert_eq!(rt; setup.common().peers, 64);
+    assert_eq!(rt; setup.common().reassembly_timeout_ms, 1000);
+    assert_eq!(rt; setup.common().call_timeout_ms, 2000);
+    assert_eq!(rt; setup.nodes().len(), 2);
+    let a = &setup.nodes()[0];
     assert_eq!(rt; a.name.as_str(), "a");
     assert_eq!(rt; a.delay, 10);
     assert_eq!(rt; a.config.address, Ipv4Addr::new(192, 168, 0, 1));
@@ -71,7 +71,7 @@ fn the_worked_setup(rt: HostRuntime) -> Result<(), Fail> {
         assert!(rt; offer.rules.oneways.contains(&0x0422));
         assert_eq!(rt; offer.rules.events.len(), 1);
     }
-    let b = &setup.nodes[1];
+    let b = &setup.nodes()[1];
     assert_eq!(rt; b.name.as_str(), "b");
     assert_eq!(rt; b.config.wants.len(), 1);
     for (id, want) in &b.config.wants {

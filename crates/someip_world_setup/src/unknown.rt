@@ -1,14 +1,20 @@
 //! Keys that the format does not have.
-ghost use Rattle.std.specs.Prelude.{IfErr};
-ghost use Rattle.someip_world_setup.specs.Readings.{IsUnknown};
+ghost use Rattle.std.specs.Prelude.{◌≡◌, ◌||◌, not, map, codes, string_bytes};
+ghost use Rattle.std.specs.List.{list_any, find};
+ghost use Rattle.std.specs.Option.{is_some, option_map};
+ghost use Rattle.std.specs.BTreeMap.{keys};
+ghost use Rattle.toml.specs.View.{view};
+ghost use Rattle.someip_world_setup.specs.KnownKeys.{is_known, has_unknown, listed_at, listed_in, has_unknown_key};
+ghost use Rattle.someip_world_setup.specs.Readings.{RefusesKey};
 
 use crate::error::SetupError;
+use crate::tables::listed_at;
 use std::alloc::Global;
-use toml::Value;
+use toml::{Table, Value};
 
 /// What a table says.
 #[derive(Clone, Copy, Debug, PartialEq, Eq)]
-enum Place {
+pub(crate) enum Place {
     /// The setup.
     Setup,
     /// A node.
@@ -24,59 +30,98 @@ enum Place {
 }
 
 /// Whether a table at a place may have a key.
-fn is_known(place: Place, key: &str) -> bool {
+fn is_known(place: Place, key: &str) -> bool
+    ensures { result ≡ is_known place key.now }
+{
     match place {
         Place::Setup => is_known_of_setup(key),
         Place::Node => is_known_of_node(key),
         Place::Offer => is_known_of_offer(key),
-        Place::Want => matches!(key, "service" | "instance" | "major" | "ttl" | "groups"),
-        Place::Event => matches!(key, "id" | "groups"),
-        Place::Group => matches!(key, "id" | "events"),
+        Place::Want => is_known_of_want(key),
+        Place::Event => key == "id" || key == "groups",
+        Place::Group => key == "id" || key == "events",
     }
 }
 
 /// Whether the setup may have a key.
-fn is_known_of_setup(key: &str) -> bool {
-    matches!(
-        key,
-        "group" | "initial_min" | "initial_max" | "base" | "repetitions" | "cyclic"
-    ) || matches!(
-        key,
-        "message_limit" | "slots" | "peers" | "reassembly_timeout" | "call_timeout" | "node"
-    )
+fn is_known_of_setup(key: &str) -> bool
+    ensures { result ≡ is_known Place.Setup key.now }
+{
+    key == "group"
+        || key == "initial_min"
+        || key == "initial_max"
+        || key == "base"
+        || key == "repetitions"
+        || key == "cyclic"
+        || key == "message_limit"
+        || key == "slots"
+        || key == "peers"
+        || key == "reassembly_timeout"
+        || key == "call_timeout"
+        || key == "node"
 }
 
 /// Whether a node may have a key.
-fn is_known_of_node(key: &str) -> bool {
-    matches!(
-        key,
-        "name" | "address" | "client_id" | "client_port" | "delay" | "offer" | "want"
-    )
+fn is_known_of_node(key: &str) -> bool
+    ensures { result ≡ is_known Place.Node key.now }
+{
+    key == "name"
+        || key == "address"
+        || key == "client_id"
+        || key == "client_port"
+        || key == "delay"
+        || key == "offer"
+        || key == "want"
 }
 
 /// Whether an offer may have a key.
-fn is_known_of_offer(key: &str) -> bool {
-    matches!(
-        key,
-        "service" | "instance" | "major" | "minor" | "ttl" | "port"
-    ) || matches!(key, "methods" | "oneways" | "events" | "subscribers")
+fn is_known_of_offer(key: &str) -> bool
+    ensures { result ≡ is_known Place.Offer key.now }
+{
+    key == "service"
+        || key == "instance"
+        || key == "major"
+        || key == "minor"
+        || key == "ttl"
+        || key == "port"
+        || key == "methods"
+        || key == "oneways"
+        || key == "events"
+        || key == "subscribers"
+}
+
+/// Whether a want may have a key.
+fn is_known_of_want(key: &str) -> bool
+    ensures { result ≡ is_known Place.Want key.now }
+{
+    key == "service" || key == "instance" || key == "major" || key == "ttl" || key == "groups"
+}
+
+/// The least of the keys that a place does not know.
+fn unknown_member(members: &Table, place: Place) -> Option<&String>
+    ensures { option_map (λ key. key.now) result
+        ≡ find (λ key. not (is_known place (string_bytes key))) (keys members.now) }
+{
+    members.keys().find(|key| !is_known(place, key.as_str()))
 }
 
 /// The least key of a table that it may not have.
-fn first_unknown(table: &Value, place: Place) -> Option<&str> {
+fn first_unknown(table: &Value, place: Place) -> Option<&str>
+    ensures { is_some result ≡ has_unknown place (view table.now) }
+{
     let Some(members) = table.as_table() else {
         return None;
     };
-    for key in members.keys() {
-        if !is_known(place, key.as_str()) {
-            return Some(key.as_str());
-        }
+    match unknown_member(members, place) {
+        Some(key) => Some(key.as_str()),
+        None => None,
     }
-    None
 }
 
 /// The lesser of two keys by their bytes, if there is one.
-fn lesser<'a>(a: Option<&'a str>, b: Option<&'a str>) -> Option<&'a str> {
+fn lesser<'a>(a: Option<&'a str>, b: Option<&'a str>) -> Option<&'a str>
+    ensures { is_some result ≡ (is_some a.entry || is_some b.entry) }
+{
     match (a, b) {
         (Some(a), Some(b)) => Some(if b < a { b } else { a }),
         (Some(a), None) => Some(a),
@@ -84,16 +129,10 @@ fn lesser<'a>(a: Option<&'a str>, b: Option<&'a str>) -> Option<&'a str> {
     }
 }
 
-/// The elements of the list at a key.
-fn elements<'a>(table: &'a Value, key: &str) -> &'a [Value] {
-    match table.get(key) {
-        Some(Value::Array(list)) => list,
-        _ => &[],
-    }
-}
-
-/// The least unknown key of the tables of a list.
-fn unknown_of(tables: &[Value], place: Place) -> Option<&str> {
+/// The least unknown key of some tables.
+fn unknown_of(tables: &[Value], place: Place) -> Option<&str>
+    ensures { is_some result ≡ list_any (has_unknown place) (map view tables.now) }
+{
     let mut least = None;
     for table in tables {
         least = lesser(least, first_unknown(table, place));
@@ -102,36 +141,62 @@ fn unknown_of(tables: &[Value], place: Place) -> Option<&str> {
 }
 
 /// The least unknown key of the tables that stand in lists at a key.
-fn unknown_at<'a>(tables: &'a [Value], key: &str, place: Place) -> Option<&'a str> {
+fn unknown_at<'a>(tables: &'a [Value], key: &str, place: Place) -> Option<&'a str>
+    ensures { is_some result
+        ≡ list_any (has_unknown place) (listed_in key.now (map view tables.now)) }
+{
     let mut least = None;
     for table in tables {
-        least = lesser(least, unknown_of(elements(table, key), place));
+        least = lesser(least, unknown_of(listed_at(table, key), place));
     }
     least
 }
 
-/// The least unknown key of the events and eventgroups of nodes.
-fn unknown_of_lists(nodes: &[Value]) -> Option<&str> {
+/// The least unknown key of the tables that stand in lists at one key, of tables that stand in lists at
+/// another.
+fn unknown_below<'a>(tables: &'a [Value], outer: &str, inner: &str, place: Place) -> Option<&'a str>
+    ensures { is_some result
+        ≡ list_any (has_unknown place)
+        (listed_in inner.now (listed_in outer.now (map view tables.now))) }
+{
     let mut least = None;
-    for node in nodes {
-        let of_events = unknown_at(elements(node, "offer"), "events", Place::Event);
-        let of_groups = unknown_at(elements(node, "want"), "groups", Place::Group);
-        least = lesser(least, lesser(of_events, of_groups));
+    for table in tables {
+        least = lesser(least, unknown_at(listed_at(table, outer), inner, place));
     }
     least
 }
 
 /// The least unknown key of the offers and wants of nodes.
-fn unknown_of_instances(nodes: &[Value]) -> Option<&str> {
+fn unknown_of_instances(nodes: &[Value]) -> Option<&str>
+    ensures { is_some result
+        ≡ (list_any (has_unknown Place.Offer) (listed_in (codes "offer") (map view nodes.now))
+        || list_any (has_unknown Place.Want) (listed_in (codes "want") (map view nodes.now))) }
+{
     lesser(
         unknown_at(nodes, "offer", Place::Offer),
         unknown_at(nodes, "want", Place::Want),
     )
 }
 
+/// The least unknown key of the events and eventgroups of nodes.
+fn unknown_of_lists(nodes: &[Value]) -> Option<&str>
+    ensures { is_some result
+        ≡ (list_any (has_unknown Place.Event)
+        (listed_in (codes "events") (listed_in (codes "offer") (map view nodes.now)))
+        || list_any (has_unknown Place.Group)
+        (listed_in (codes "groups") (listed_in (codes "want") (map view nodes.now)))) }
+{
+    lesser(
+        unknown_below(nodes, "offer", "events", Place::Event),
+        unknown_below(nodes, "want", "groups", Place::Group),
+    )
+}
+
 /// The least unknown key at the least depth that has one.
-fn unknown_in(tree: &Value) -> Option<&str> {
-    let nodes = elements(tree, "node");
+fn unknown_in(tree: &Value) -> Option<&str>
+    ensures { is_some result ≡ has_unknown_key (view tree.now) }
+{
+    let nodes = listed_at(tree, "node");
     if let Some(key) = first_unknown(tree, Place::Setup) {
         return Some(key);
     }
@@ -146,7 +211,7 @@ fn unknown_in(tree: &Value) -> Option<&str> {
 
 /// Refuses a tree with an unknown key.
 pub(crate) fn refuse_unknown(alloc: Global, tree: &Value) -> Result<(), SetupError>
-    ensures { IfErr result IsUnknown }
+    ensures { RefusesKey (has_unknown_key (view tree.now)) result }
 {
     match unknown_in(tree) {
         Some(key) => Err(SetupError::UnknownKey(String::from_str(alloc, key)?)),

@@ -16,7 +16,7 @@ use Rattle.clap.specs.declared.parser.matches.Found.{Found}
 use Rattle.clap.specs.declared.parser.matches.SubCommand.{SubCommand}
 use Rattle.clap.proofs.WalkLemmas.{first_value-rows}
 use Rattle.clap.proofs.OnLiterals.{clap_on_literals}
-use Rattle.someipctl.specs.CommandLine.{IsTaken, cli, is_flag, request_by, request_in, requested, show_of, show_request, payload_of, vectors_of}
+use Rattle.someipctl.specs.CommandLine.{IsTaken, cli, is_flag, request_by, request_in, requested, show_of, show_request, payload_of, run_of, vectors_of}
 use Rattle.someipctl.proofs.ClapWalkLemmas.{EntersNoHelp, enters_subcommand, has_value, is_wanted, wanted_value}
 
 pub cli_is_free : is_simple_and_free cli ≡ true
@@ -86,6 +86,16 @@ vectors_asks : (s : Shape) → bytes_eq s.name (codes "show") ≡ false → byte
     → list_all has_value s.rules ≡ true → is_wanted (codes "file") s ≡ true → Asks s
 vectors_asks s other another is valued wanted name met named words none = rw (other, another, is) (vectors_some _ (wanted_value s (codes "file") valued wanted words none))
 
+run_some : (setup schedule : Option Text) → is_some setup ≡ true → is_some schedule ≡ true → IsSome (run_of setup schedule)
+run_some None schedule some more = absurd (true≢false (sym some))
+run_some (Some setup) None some more = absurd (true≢false (sym more))
+run_some (Some setup) (Some schedule) some more = refl
+
+run_asks : (s : Shape) → bytes_eq s.name (codes "show") ≡ false → bytes_eq s.name (codes "payload") ≡ false → bytes_eq s.name (codes "vectors") ≡ false
+    → bytes_eq s.name (codes "run") ≡ true → list_all has_value s.rules ≡ true → is_wanted (codes "setup") s ≡ true → is_wanted (codes "schedule") s ≡ true → Asks s
+run_asks s other another third is valued setup schedule name met named words none =
+    rw (other, another, third, is) (run_some _ _ (wanted_value s (codes "setup") valued setup words none) (wanted_value s (codes "schedule") valued schedule words none))
+
 -- no other name is that of `help`
 help_asks : (s : Shape) → label_of s ≡ (codes "help", []) → Asks s
 help_asks s is name met named words none = go (bytes_eq (codes "help") name) refl (subst (λ label. answers_to name label ≡ true) is met)
@@ -98,7 +108,7 @@ help_asks s is name met named words none = go (bytes_eq (codes "help") name) ref
     go false e t = absurd (true≢false (sym t))
 
 cli_asks : EachAsks (built cli).subs
-cli_asks = (show_asks _ refl refl refl, (payload_asks _ refl refl refl refl refl, (vectors_asks _ refl refl refl refl refl, (help_asks _ refl, tt))))
+cli_asks = (show_asks _ refl refl refl, (payload_asks _ refl refl refl refl refl, (vectors_asks _ refl refl refl refl refl, (run_asks _ refl refl refl refl refl refl refl, (help_asks _ refl, tt)))))
 
 pub taken_matches : (words : List Text) → IsTaken words → IsSome (requested words)
 taken_matches words none =
@@ -177,3 +187,10 @@ pub vectors_in : (m : ArgMatches) (name : Text) (f : Found) → subcommand_rows_
 vectors_in m name f is other another vectors =
     let there : request_by name (rows_of f) ≡ vectors_of (first_of (codes "file") (rows_of f)) = rw (other, another, vectors) refl in
     ap vectors_of (first_value-rows f (codes "file")) ∙ sym there ∙ sym (ap request_in is)
+
+pub run_in : (m : ArgMatches) (name : Text) (f : Found) → subcommand_rows_of m ≡ Some (name, rows_of f) → bytes_eq name (codes "show") ≡ false → bytes_eq name (codes "payload") ≡ false
+    → bytes_eq name (codes "vectors") ≡ false → bytes_eq name (codes "run") ≡ true
+    → run_of (first_value f (codes "setup")) (first_value f (codes "schedule")) ≡ request_in (subcommand_rows_of m)
+run_in m name f is other another third run =
+    let there : request_by name (rows_of f) ≡ run_of (first_of (codes "setup") (rows_of f)) (first_of (codes "schedule") (rows_of f)) = rw (other, another, third, run) refl in
+    ap₂ run_of (first_value-rows f (codes "setup")) (first_value-rows f (codes "schedule")) ∙ sym there ∙ sym (ap request_in is)

@@ -8,7 +8,7 @@ use Rattle.clap.specs.declared.Error.{Error}
 use Rattle.clap.specs.declared.error.ErrorKind.{ErrorKind}
 use Rattle.clap.specs.declared.error.ErrorKind.TheVariants as kind
 use Rattle.someipctl.specs.declared.command.Command.{Command}
-use Rattle.someipctl.specs.declared.command.Command.TheVariants.{Show, Payload, Vectors}
+use Rattle.someipctl.specs.declared.command.Command.TheVariants.{Show, Payload, Vectors, Run}
 use Rattle.someipctl.specs.declared.command.LineError.{LineError}
 use Rattle.someipctl.specs.declared.command.LineError.TheVariants.{Usage, Help, OutOfMemory}
 
@@ -30,13 +30,21 @@ payload = (with_rule (with_rule (new_app (codes "payload")) (required (codes "sh
 abbrev pub vectors : Shape
 vectors = (with_rule (new_app (codes "vectors")) (required (codes "file"))).top
 
+-- `run SETUP SCHEDULE`
+abbrev pub run : Shape
+run = (with_rule (with_rule (new_app (codes "run")) (required (codes "setup"))) (required (codes "schedule"))).top
+
 -- the program alone, which asks for a subcommand
 abbrev pub program : App
 program = on_top (λ top. record top { subcommand_required = true }) (new_app (codes "someipctl"))
 
+-- the program with the commands that read bytes
+abbrev pub reading : App
+reading = with_subcommand (with_subcommand program show) payload
+
 -- the command line
 abbrev pub cli : App
-cli = with_subcommand (with_subcommand (with_subcommand program show) payload) vectors
+cli = with_subcommand (with_subcommand reading vectors) run
 
 -- ---- what words ask for
 
@@ -45,12 +53,14 @@ pub data Request : Type 0 where
   show_request : Text → Request
   payload_request : Text → Text → Request
   vectors_request : Text → Request
+  run_request : Text → Text → Request
 
 -- what a command asks for
 abbrev pub request_of : Command → Request
 request_of (Show capture) = show_request capture.now
 request_of (Payload shape hex) = payload_request shape.now hex.now
 request_of (Vectors file) = vectors_request file.now
+request_of (Run setup schedule) = run_request setup.now schedule.now
 
 -- what `show` asks for, by its argument
 abbrev pub show_of : Option Text → Option Request
@@ -68,13 +78,20 @@ abbrev pub vectors_of : Option Text → Option Request
 vectors_of None = None
 vectors_of (Some file) = Some (vectors_request file)
 
+-- what `run` asks for, by its arguments
+abbrev pub run_of : Option Text → Option Text → Option Request
+run_of None schedule = None
+run_of (Some setup) None = None
+run_of (Some setup) (Some schedule) = Some (run_request setup schedule)
+
 -- what a subcommand asks for, by its name and what its arguments matched
 abbrev pub request_by : Text → List Row → Option Request
 request_by name rows =
     if bytes_eq name (codes "show") then show_of (first_of (codes "capture") rows)
     else (if bytes_eq name (codes "payload")
     then payload_of (first_of (codes "shape") rows) (first_of (codes "hex") rows)
-    else (if bytes_eq name (codes "vectors") then vectors_of (first_of (codes "file") rows) else None))
+    else (if bytes_eq name (codes "vectors") then vectors_of (first_of (codes "file") rows)
+    else (if bytes_eq name (codes "run") then run_of (first_of (codes "setup") rows) (first_of (codes "schedule") rows) else None)))
 
 -- what the subcommand that was entered asks for, where one was
 abbrev pub request_in : Option (Text × List Row) → Option Request

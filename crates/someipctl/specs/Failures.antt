@@ -7,18 +7,25 @@ use Rattle.someipctl_commands.specs.declared.outcome.Outcome.{Outcome}
 use Rattle.someipctl_commands.specs.declared.outcome.Outcome.TheVariants.{Done}
 use Rattle.std.specs.Borrow.{Bor}
 use Rattle.someipctl.specs.declared.failure.Failure.{Failure}
-use Rattle.someipctl.specs.declared.failure.Failure.TheVariants.{BadHex, BadVector, BadShape, BadPayloadHex, Usage, NotText, OutOfMemory, CannotRead, CannotWrite}
+use Rattle.someipctl.specs.declared.failure.Failure.TheVariants.{BadHex, BadVector, BadScheduleLine, BadSetup, BadStep, BadShape, BadPayloadHex, Usage, NotText, OutOfMemory, CannotRead, CannotWrite}
 use Rattle.someipctl_commands.specs.declared.payload.PayloadRefusal.{PayloadRefusal}
 use Rattle.someipctl_commands.specs.declared.payload.PayloadRefusal.TheVariants as payloads
 use Rattle.someipctl_commands.specs.declared.show.ShowError.{ShowError}
 use Rattle.someipctl_commands.specs.declared.show.ShowError.TheVariants as shows
 use Rattle.someipctl_commands.specs.declared.vectors.VectorsError.{VectorsError}
 use Rattle.someipctl_commands.specs.declared.vectors.VectorsError.TheVariants as vectors
+use Rattle.someipctl_run.specs.declared.error.RunFault.{RunFault}
+use Rattle.someipctl_run.specs.declared.error.RunFault.TheVariants as runs
+use Rattle.someipctl_run.specs.declared.error.SetupFault.{SetupFault}
+use Rattle.someipctl_run.specs.declared.error.SetupFault.TheVariants as setups
 
 -- the exit status of a failure
 abbrev pub status_of_failure : Failure → ℕ
 status_of_failure (BadHex line) = 1
 status_of_failure (BadVector line) = 1
+status_of_failure (BadScheduleLine line) = 1
+status_of_failure (BadSetup error) = 1
+status_of_failure (BadStep index fault) = 1
 status_of_failure (BadShape place) = 1
 status_of_failure BadPayloadHex = 1
 status_of_failure (Usage error) = 2
@@ -47,6 +54,20 @@ failure_of_vectors (vectors.BadVector line) path = BadVector line
 failure_of_vectors vectors.CannotRead path = CannotRead path
 failure_of_vectors vectors.CannotWrite path = CannotWrite
 failure_of_vectors vectors.OutOfMemory path = OutOfMemory
+
+-- why the setup at a path was not read
+abbrev pub failure_of_setup : SetupFault → Bor (List ℕ) → Failure
+failure_of_setup (setups.Refused error) path = BadSetup error
+failure_of_setup setups.CannotRead path = CannotRead path
+failure_of_setup setups.OutOfMemory path = OutOfMemory
+
+-- why the schedule at a path was not run
+abbrev pub failure_of_run : RunFault → Bor (List ℕ) → Failure
+failure_of_run (runs.BadLine line) path = BadScheduleLine line
+failure_of_run (runs.BadStep index fault) path = BadStep index fault
+failure_of_run runs.CannotRead path = CannotRead path
+failure_of_run runs.CannotWrite path = CannotWrite
+failure_of_run runs.OutOfMemory path = OutOfMemory
 
 -- the answer to a call for help: its text was written whole, or a beginning of it was and then writing failed
 abbrev pub AnswersHelp : List ℕ → Result Outcome Failure → Option (List ℕ) → Option (List ℕ) → Type 0

@@ -6,7 +6,7 @@ ghost use Rattle.clap.specs.declared.builder.Command.TheViews.{out-Command};
 ghost use Rattle.someipctl.specs.declared.command.LineError.TheVariants.{OutOfMemory};
 ghost use Rattle.someipctl.specs.CommandLine.{CallsForHelp, IsErrorOf, IsRefused, IsTaken, RefusesWords};
 ghost use Rattle.someipctl.specs.CommandLine.{cli, is_flag, line, request_in, request_of, requested};
-ghost use Rattle.someipctl.specs.CommandLine.{payload, payload_of, program, show, show_of};
+ghost use Rattle.someipctl.specs.CommandLine.{payload, payload_of, program, reading, run, run_of, show, show_of};
 ghost use Rattle.someipctl.specs.CommandLine.{vectors, vectors_of};
 
 use clap::error::ErrorKind;
@@ -34,6 +34,13 @@ pub enum Command<'w> {
     Vectors {
         /// The file's path, as it was given.
         file: &'w str,
+    },
+    /// Run a schedule over the nodes of a setup.
+    Run {
+        /// The setup's path, as it was given.
+        setup: &'w str,
+        /// The schedule's path, as it was given.
+        schedule: &'w str,
     },
 }
 
@@ -135,14 +142,50 @@ print
   2 differs
   passed 1 of 2";
 
+const RUN_EXAMPLE: &str = "\
+SETUP is a TOML file: what the nodes of a network share, and each node with what it offers and wants.
+  group = \"239.0.0.1\"
+  [[node]]
+  name = \"a\"
+  address = \"192.168.0.1\"
+  client_id = 0x0101
+  client_port = 40000
+  [[node.offer]]
+  service = 0x1111
+  instance = 1
+  major = 1
+  ttl = 3
+  port = 30509
+  methods = [0x0421]
+
+SCHEDULE has one step a line: what happens to a node. Lines that begin with # are comments.
+  tick NODE MS                 deliver N NODE
+  call NODE SI METHOD PAYLOAD  oneway NODE SI METHOD PAYLOAD
+  answer NODE T CODE PAYLOAD   error NODE T CODE PAYLOAD
+  publish NODE SI EVENT PAYLOAD
+  publish_to NODE SI GROUP EP EVENT PAYLOAD
+  subscribe NODE SI GROUP      unsubscribe NODE SI GROUP
+  stop_offer NODE SI           restart NODE DELAY
+So the step
+  tick a 10
+prints the Offer of node a as datagram 1, which a later `deliver 1 NODE` delivers.";
+
 /// The command line, as `clap` is told of it.
 fn definition<'d>(alloc: Global) -> Result<clap::Command<'d>, AllocError>
     ensures { IfOk result (λ command. app_of command ≡ cli) }
 {
+    reading_definition(alloc)?
+        .subcommand(vectors_definition(alloc)?)?
+        .subcommand(run_definition(alloc)?)
+}
+
+/// The program with the commands that read bytes.
+fn reading_definition<'d>(alloc: Global) -> Result<clap::Command<'d>, AllocError>
+    ensures { IfOk result (λ command. app_of command ≡ reading) }
+{
     program_definition(alloc)?
         .subcommand(show_definition(alloc)?)?
-        .subcommand(payload_definition(alloc)?)?
-        .subcommand(vectors_definition(alloc)?)
+        .subcommand(payload_definition(alloc)?)
 }
 
 /// The program without its commands.
@@ -151,7 +194,7 @@ fn program_definition<'d>(alloc: Global) -> Result<clap::Command<'d>, AllocError
 {
     let command = clap::Command::new(alloc, "someipctl")
         .bin_name("someipctl")?
-        .about("Shows SOME/IP messages")
+        .about("Shows SOME/IP messages, and runs nodes that send them")
         .after_help(PROGRAM_EXAMPLE)
         .subcommand_required(true);
     Ok(command)
@@ -180,6 +223,7 @@ fn matched<'w>(matches: &ArgMatches<'w>) -> Option<Command<'w>>
         "show" => show_matched(rest),
         "payload" => payload_matched(rest),
         "vectors" => vectors_matched(rest),
+        "run" => run_matched(rest),
         _ => None,
     }
 }
@@ -235,4 +279,29 @@ fn vectors_matched<'w>(matches: &ArgMatches<'w>) -> Option<Command<'w>>
 {
     let file = matches.get_str("file")?;
     Some(Command::Vectors { file })
+}
+
+fn run_definition<'d>(alloc: Global) -> Result<clap::Command<'d>, AllocError>
+    ensures shape { IfOk result (λ command. shape_of command ≡ run) }
+    ensures local { IfOk result (λ command. (out-Command command).has_globals ≡ false) }
+{
+    let setup = Arg::new(alloc, "setup").value_name("SETUP").required(true);
+    let schedule = Arg::new(alloc, "schedule")
+        .value_name("SCHEDULE")
+        .required(true);
+    clap::Command::new(alloc, "run")
+        .about("Runs a schedule over the nodes of a setup, and prints what they give")
+        .after_help(RUN_EXAMPLE)
+        .arg(setup)?
+        .arg(schedule)
+}
+
+fn run_matched<'w>(matches: &ArgMatches<'w>) -> Option<Command<'w>>
+    ensures { option_map request_of result
+        ≡ run_of (first_value (found_of matches.now) (codes "setup"))
+        (first_value (found_of matches.now) (codes "schedule")) }
+{
+    let setup = matches.get_str("setup")?;
+    let schedule = matches.get_str("schedule")?;
+    Some(Command::Run { setup, schedule })
 }

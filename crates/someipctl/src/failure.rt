@@ -1,11 +1,13 @@
 //! Why the program did not do its work.
 ghost use Rattle.std.specs.Prelude.{◌≡◌};
 ghost use Rattle.someipctl.specs.Failures.{status_of_failure, failure_of_show, failure_of_payload};
-ghost use Rattle.someipctl.specs.Failures.{failure_of_vectors};
+ghost use Rattle.someipctl.specs.Failures.{failure_of_run, failure_of_setup, failure_of_vectors};
 
+use someip_world::{SetupError, StepFault};
 use someipctl_commands::payload::PayloadRefusal;
 use someipctl_commands::show::ShowError;
 use someipctl_commands::vectors::VectorsError;
+use someipctl_run::{RunFault, SetupFault};
 use thiserror::Error;
 
 /// Why the program did not do its work. Printed, it is the text for standard error.
@@ -17,6 +19,15 @@ pub enum Failure<'p> {
     /// The line of this number of a file of vectors, counted from 1, is bad.
     #[error("line {0}: bad vector")]
     BadVector(usize),
+    /// The line of this number of a schedule, counted from 1, spells no step.
+    #[error("line {0}: bad step")]
+    BadScheduleLine(usize),
+    /// The text of a setup is none.
+    #[error("setup: {0}")]
+    BadSetup(SetupError),
+    /// The step of this index of a schedule, counted from 1, can't happen.
+    #[error("step {0}: {1}")]
+    BadStep(usize, StepFault),
     /// The text of a shape is none from this byte on.
     #[error("bad shape at {0}")]
     BadShape(usize),
@@ -49,6 +60,9 @@ impl<'p> Failure<'p> {
         match self {
             Failure::BadHex(_)
             | Failure::BadVector(_)
+            | Failure::BadScheduleLine(_)
+            | Failure::BadSetup(_)
+            | Failure::BadStep(_, _)
             | Failure::BadShape(_)
             | Failure::BadPayloadHex => 1,
             Failure::Usage(_) | Failure::NotText => 2,
@@ -78,6 +92,30 @@ impl<'p> Failure<'p> {
             VectorsError::CannotRead => Failure::CannotRead(path),
             VectorsError::CannotWrite => Failure::CannotWrite,
             VectorsError::OutOfMemory => Failure::OutOfMemory,
+        }
+    }
+
+    /// Why the setup at a path was not read.
+    pub fn of_setup(fault: SetupFault, path: &'p str) -> Failure<'p>
+        ensures { result ≡ failure_of_setup fault path.entry }
+    {
+        match fault {
+            SetupFault::Refused(error) => Failure::BadSetup(error),
+            SetupFault::CannotRead => Failure::CannotRead(path),
+            SetupFault::OutOfMemory => Failure::OutOfMemory,
+        }
+    }
+
+    /// Why the schedule at a path was not run.
+    pub fn of_run(fault: RunFault, path: &'p str) -> Failure<'p>
+        ensures { result ≡ failure_of_run fault path.entry }
+    {
+        match fault {
+            RunFault::BadLine(line) => Failure::BadScheduleLine(line),
+            RunFault::BadStep(index, fault) => Failure::BadStep(index, fault),
+            RunFault::CannotRead => Failure::CannotRead(path),
+            RunFault::CannotWrite => Failure::CannotWrite,
+            RunFault::OutOfMemory => Failure::OutOfMemory,
         }
     }
 

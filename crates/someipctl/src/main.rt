@@ -23,6 +23,7 @@ use someipctl_commands::Outcome;
 use someipctl_commands::payload::payload;
 use someipctl_commands::show::show;
 use someipctl_commands::vectors::vectors;
+use someipctl_run::{read_setup, run_schedule};
 use std::io::ErrorKind;
 use std::process::ExitCode;
 use std::rt::{Env, Files};
@@ -45,7 +46,7 @@ fn report<R: Eprint>(rt: &R, failure: Failure<'_>) -> u8
 {
     let status = failure.status();
     // Where standard error can't be written, the status is all that is left to say.
-    let _ = match failure {
+    let _ = match &failure {
         // The text of a usage fault is whole lines.
         Failure::Usage(error) => eprint!(rt; "{error}"),
         other => rt.eprintln(other),
@@ -85,6 +86,7 @@ fn run_command<'w, R: Files + Print + AllocGlobal>(
             payload(rt.alloc(), shape, hex, &mut io::writer(rt)).map_err(Failure::of_payload)
         }
         Command::Vectors { file } => judge_file(rt, file),
+        Command::Run { setup, schedule } => run_files(rt, setup, schedule),
     }
 }
 
@@ -104,6 +106,24 @@ fn judge_file<'p, R: Files + Print + AllocGlobal>(
     vectors(rt.alloc(), &mut file, &mut io::writer(rt)).map_err(|error| Failure::of_vectors(
         error, path,
     ))
+}
+
+/// Runs a schedule over a setup. Whatever is wrong with the setup is told before the schedule is looked
+/// at.
+fn run_files<'p, R: Files + Print + AllocGlobal>(
+    rt: &R,
+    setup: &'p str,
+    schedule: &'p str,
+) -> Result<Outcome, Failure<'p>> {
+    let mut file = open_file(rt, setup)?;
+    let network = read_setup(rt.alloc(), &mut file).map_err(|fault| Failure::of_setup(
+        fault, setup,
+    ))?;
+    let mut file = open_file(rt, schedule)?;
+    run_schedule(rt.alloc(), &network, &mut file, &mut io::writer(rt)).map_err(
+        |fault| Failure::of_run(fault, schedule),
+    )?;
+    Ok(Outcome::Done)
 }
 
 fn open_file<'p, R: Files>(rt: &R, path: &'p str) -> Result<R::File, Failure<'p>> {

@@ -4,9 +4,11 @@ use crate::failure::Failure;
 use crate::help::answer_error;
 use crate::{laws, run};
 use rows::rows;
+use someip_world::{SetupError, StepFault};
 use someipctl_commands::payload::PayloadRefusal;
 use someipctl_commands::show::ShowError;
 use someipctl_commands::vectors::VectorsError;
+use someipctl_run::{RunFault, SetupFault};
 use std::alloc::{AllocError, Global};
 use std::io;
 use std::io::{ErrorKind, Write};
@@ -54,6 +56,40 @@ fn failures_have_texts_and_statuses(rt: HostRuntime) -> Result<(), Fail> {
             Failure::NotText,
             "error: a word is no UTF-8\n\nUsage: someipctl <COMMAND>",
             2,
+        ),
+    ];
+    for (failure, text, status) in rows {
+        assert!(rt; failure.status() == status, "{text}");
+        let printed = failure.to_string(rt.alloc())?;
+        assert!(rt; printed.as_str() == text, "{text}");
+    }
+    Ok(())
+}
+
+/// Each failure of a run, its text for standard error and its exit status.
+#[test]
+fn failures_of_runs_have_texts_and_statuses(rt: HostRuntime) -> Result<(), Fail> {
+    let path = "a/b.txt";
+    let rows = [
+        (
+            Failure::of_setup(SetupFault::Refused(SetupError::Clash("port")), path),
+            "setup: Clash port",
+            1,
+        ),
+        (
+            Failure::of_setup(SetupFault::CannotRead, path),
+            "cannot read a/b.txt",
+            4,
+        ),
+        (
+            Failure::of_run(RunFault::BadLine(3), path),
+            "line 3: bad step",
+            1,
+        ),
+        (
+            Failure::of_run(RunFault::BadStep(1, StepFault::BadDelay), path),
+            "step 1: BadDelay",
+            1,
         ),
     ];
     for (failure, text, status) in rows {
@@ -119,7 +155,7 @@ fn status_of_run(rt: &HostRuntime, words: &[&str]) -> Result<u8, AllocError> {
 /// Runs of the program, and their exit statuses.
 #[test]
 fn runs_end_with_a_status(rt: HostRuntime) -> Result<(), Fail> {
-    let rows: [(&[&str], u8); 8] = [
+    let rows: [(&[&str], u8); 9] = [
         (
             &["someipctl", "payload", "array<2,u16>", "0000000400010002"],
             0,
@@ -131,6 +167,10 @@ fn runs_end_with_a_status(rt: HostRuntime) -> Result<(), Fail> {
         (&["someipctl"], 2),
         (&["someipctl", "show", "no/such/capture"], 4),
         (&["someipctl", "vectors", "no/such/file"], 4),
+        (
+            &["someipctl", "run", "no/such/setup", "no/such/schedule"],
+            4,
+        ),
     ];
     for (words, wanted) in rows {
         let status = status_of_run(&rt, words)?;
@@ -157,6 +197,9 @@ fn outcome(
             Ok(("payload", format!(in alloc; "{shape} {hex}")?))
         }
         Ok(Command::Vectors { file }) => Ok(("vectors", String::from_str(alloc, file)?)),
+        Ok(Command::Run { setup, schedule }) => {
+            Ok(("run", format!(in alloc; "{setup} {schedule}")?))
+        }
         Err(LineError::Help(text)) => Ok(("help", format!(in alloc; "{text}")?)),
         Err(LineError::Usage(text)) => Ok(("usage", format!(in alloc; "{text}")?)),
         Err(LineError::OutOfMemory) => Err(AllocError),

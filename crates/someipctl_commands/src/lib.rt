@@ -19,6 +19,7 @@ mod vector_lines;
 pub mod vectors;
 
 pub use capture::{CaptureError, read_capture};
+pub use input::{ReadFault, read_all};
 pub use outcome::Outcome;
 
 #[cfg(test)]

@@ -2,7 +2,7 @@
 /// Words, what they come to, and what is printed of that: a capture's path, or a part of a text.
 pub type Row = (&'static [&'static str], &'static str, &'static str);
 
-pub fn rows() -> [Row; 31] {
+pub fn rows() -> [Row; 34] {
     [
         (&["someipctl", "vectors", "x"], "vectors", "x"),
         (&["someipctl", "vectors", "-"], "vectors", "-"),
@@ -21,6 +21,13 @@ pub fn rows() -> [Row; 31] {
             "help",
             "  passed 1 of 2\n",
         ),
+        (&["someipctl", "run", "x", "y"], "run", "x y"),
+        (
+            &["someipctl", "run", "x"],
+            "usage",
+            "Usage: someipctl run <SETUP> <SCHEDULE>\n",
+        ),
+        (&["someipctl", "help", "run"], "help", "  deliver N NODE\n"),
         (&["someipctl", "show", "x"], "show", "x"),
         (&["someipctl", "show", "-"], "show", "-"),
         (&["someipctl", "show", ""], "show", ""),

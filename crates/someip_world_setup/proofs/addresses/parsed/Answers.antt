@@ -1,4 +1,3 @@
-use Rattle.std.proofs.Common.{◌∙◌}
 use Rattle.someip_world_setup.proofs.AddressLemmas.{reads_address, reads_none}
 use Rattle.someip_world_setup.proofs.addresses.parsed.Goals as goal
 

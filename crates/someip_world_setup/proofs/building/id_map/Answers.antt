@@ -1,8 +1,8 @@
-use Rattle.std.proofs.Common.{map, List, [], ap, sym, ◌∙◌}
+use Rattle.std.proofs.Common.{[], ap, ◌∙◌}
 use Rattle.std.specs.Ordering.{nat_cmp}
 use Rattle.someip_world_setup.specs.declared.parts.Listed.{Listed}
 use Rattle.someip_world_setup.specs.Values.{listed_view}
-use Rattle.someip_world_setup.specs.Made.{keys_of_set, list_entry, offer_entry, want_entry, offer_made, want_made, set_of, with_entries}
+use Rattle.someip_world_setup.specs.Made.{keys_of_set, list_entry, set_of, with_entries}
 use Rattle.someip_world_setup.proofs.MakingLemmas.{one_entry, all_entries, map_after}
 use Rattle.someip_world_setup.proofs.building.id_map.Goals as goal
 

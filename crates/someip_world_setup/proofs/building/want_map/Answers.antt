@@ -1,8 +1,8 @@
-use Rattle.std.proofs.Common.{map, List, [], ap, sym, ◌∙◌}
+use Rattle.std.proofs.Common.{[], ap, ◌∙◌}
 use Rattle.sd_core.specs.Keys.{instance_cmp}
 use Rattle.someip_world_setup.specs.declared.parts.WantParts.{WantParts}
 use Rattle.someip_world_setup.specs.Values.{want_view}
-use Rattle.someip_world_setup.specs.Made.{wanted_view, list_entry, offer_entry, want_entry, offer_made, want_made, set_of, with_entries}
+use Rattle.someip_world_setup.specs.Made.{wanted_view, want_entry, want_made, with_entries}
 use Rattle.someip_world_setup.proofs.MakingLemmas.{one_entry, all_entries, map_after}
 use Rattle.someip_world_setup.proofs.building.want_map.Goals as goal
 

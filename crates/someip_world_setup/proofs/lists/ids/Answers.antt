@@ -1,5 +1,3 @@
-use Rattle.std.proofs.Common.{map, sym, ◌∙◌}
-use Rattle.std.proofs.lemmas.List.{map_push}
 use Rattle.std.proofs.lemmas.Result.{err_from_is_err_and}
 use Rattle.someip_world_setup.specs.Lists.{id_of}
 use Rattle.someip_world_setup.proofs.ReadingLemmas.{after_one, at_fault, at_end}

@@ -1,6 +1,5 @@
-use Rattle.std.proofs.Common.{map, Option, Some, List, sym, ap, ◌∙◌, option_map}
+use Rattle.std.proofs.Common.{Option, Some, List, sym, ap, ◌∙◌, option_map}
 use Rattle.toml.specs.Data.{Data, Items}
-use Rattle.toml.specs.View.{view}
 use Rattle.someip_world_setup.specs.Lists.{elements}
 use Rattle.someip_world_setup.proofs.ReadingLemmas.{elements-items_of}
 use Rattle.someip_world_setup.proofs.tables.elements.Goals as goal

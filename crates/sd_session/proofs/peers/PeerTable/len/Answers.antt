@@ -1,5 +1,9 @@
+use Rattle.std.proofs.Common.{◌≤◌, ap, subst}
 use Rattle.sd_session.proofs.PeerLemmas.{len_is}
 use Rattle.sd_session.proofs.peers.PeerTable.len.Goals as goal
 
-pub returns : goal.returns
-returns c = rw (← c.self.view_is) (len_is c.self.inside.peers c.len.result c.len.ensures.len c.len.ensures.ordered)
+pub returns-clause-count : goal.returns-clause-count
+returns-clause-count c = rw (← c.self.view_is) (len_is c.self.inside.peers c.len.result c.len.ensures.len c.len.ensures.ordered)
+
+pub returns-clause-few : goal.returns-clause-few
+returns-clause-few c = rw (← c.self.view_is, len_is c.self.inside.peers c.len.result c.len.ensures.len c.len.ensures.ordered) c.self.invariant

@@ -2,9 +2,13 @@ use Rattle.std.proofs.Common.{◌∙◌, ◌+◌, refl, sym, ap, arith}
 use Rattle.someip_tp.specs.Parts.{parts_at}
 use Rattle.someip_tp.proofs.MomentLemmas.{later, none_after-parts_at}
 use Rattle.sd_core.specs.Endings.{ends_at}
-use Rattle.sd_core.specs.Wishes.{ended_where}
+use Rattle.std.specs.FinMap as finite
+use Rattle.someip_tables.specs.Lastings.{expired}
+use Rattle.sd_core.specs.Sendings.{due_at}
+use Rattle.someip_node.specs.Tables.{passed_instances}
+use Rattle.sd_core.specs.Wishes.{begun_where, ended_where}
 use Rattle.someip_node.specs.Items.{changed, Ticked}
-use Rattle.someip_node.proofs.PassingLemmas.{ticked_is}
+use Rattle.someip_node.proofs.PassingLemmas.{no_keys, on_err, ticked_is}
 use Rattle.someip_node.proofs.engine.Engine.pass.Goals as goal
 
 pub invariant_of-self-2 : goal.invariant_of-self-2
@@ -25,3 +29,26 @@ returns-clause-ticked g c =
     c.in_ok-wanted.ensures.after c.tick-4.ensures
     (c.in_ok-lapsed.ensures.after ∙ ap (λ instances. ended_where (ends_at c.args.now instances) c.self.inside.subscriptions) (c.deref.ensures.value ∙ c.in_ok-wanted.ensures.ended)) c.in_ok-calls.ensures.ended refl
     ∙ ap (λ t. changed t (Ticked c.args.ms)) c.self.view_is
+
+pub returns-in_err-wanted-clause-grows : goal.returns-in_err-wanted-clause-grows
+returns-in_err-wanted-clause-grows g c =
+    on_err c.from_residual.result (λ none. c.in_err-wanted.ensures.grows (
+      no_keys _ (ap (λ t. passed_instances c.args.now t) c.self.view_is ∙ none.gone),
+      no_keys _ (ap (λ t. finite.keys (due_at c.args.now t.seek.finding)) c.self.view_is ∙ none.finds),
+    ))
+
+pub returns-in_err-calls-clause-grows : goal.returns-in_err-calls-clause-grows
+returns-in_err-calls-clause-grows g c =
+    on_err c.from_residual-in_err-calls.result (λ none. c.in_err-calls.ensures.grows
+    (no_keys _ (ap (λ t. finite.keys (expired c.args.now t.client.pending)) c.self.view_is ∙ none.calls)))
+
+pub returns-in_err-lapsed-clause-grows : goal.returns-in_err-lapsed-clause-grows
+returns-in_err-lapsed-clause-grows g c =
+    on_err c.from_residual-in_err-lapsed.result (λ none. c.in_err-lapsed.ensures.grows
+    (ap (λ instances. begun_where (ends_at c.args.now instances) c.self.inside.subscriptions) (c.deref.ensures.value ∙ c.in_ok-wanted.ensures.ended)
+    ∙ no_keys _ (ap (λ t. finite.keys (begun_where (ends_at c.args.now (passed_instances c.args.now t)) t.wishes)) c.self.view_is ∙ none.lapsed)))
+
+pub returns-in_err-offers-clause-grows : goal.returns-in_err-offers-clause-grows
+returns-in_err-offers-clause-grows g c =
+    on_err c.from_residual-in_err-offers.result (λ none. c.in_err-offers.ensures.grows
+    (no_keys _ (ap (λ t. finite.keys (due_at c.args.now t.offers.up)) c.self.view_is ∙ none.offers)))

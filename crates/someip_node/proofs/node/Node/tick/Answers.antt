@@ -1,4 +1,7 @@
-use Rattle.std.proofs.Common.{◌∙◌}
+use Rattle.std.proofs.Common.{◌∙◌, ◌+◌, sym, subst}
+use Rattle.sd_core.specs.SeekTables.{KnowsWanted}
+use Rattle.someip_node.specs.Passings.{BringsNothing}
+use Rattle.someip_node.proofs.QuietLemmas.{quiet_step, ran_out}
 use Rattle.someip_node.specs.Inputs.{Tick}
 use Rattle.someip_node.proofs.HandledLemmas.{handled_given}
 use Rattle.someip_node.proofs.Stands.{answers}
@@ -9,4 +12,10 @@ returns-clause-reacts g c = λ h is.
     handled_given h (Tick c.args.ms) c.self.inside.engine
     (answers c.self.inside.failed c.self.inside.engine h c.if-self.false (c.self.view_is ∙ is))
     c.take_tick-done.result c.new-giving.result c.take_tick-done.new.giving c.take_tick-done.new.self _ _
-    c.new-giving.ensures.outputs c.new-giving.ensures.replies c.take_tick-done.ensures c.finish.ensures.failed c.finish.ensures.given
+    c.new-giving.ensures.outputs c.new-giving.ensures.replies c.take_tick-done.ensures.handled c.finish.ensures.failed c.finish.ensures.given
+
+pub returns-clause-quiet : goal.returns-clause-quiet
+returns-clause-quiet g c = λ h done stands is none out.
+    let same = answers c.self.inside.failed c.self.inside.engine h c.if-self.false (c.self.view_is ∙ stands) in
+    let grew = ran_out c.take_tick-done.result _ c.take_tick-done.ensures.grows (sym c.finish.ensures.given ∙ out) in
+    grew.1 (subst (λ t. BringsNothing (t.clock + c.args.ms) t) (sym same) (quiet_step h c.args.ms done (subst (λ t. KnowsWanted t.seek) same grew.0) is none))

@@ -1,5 +1,0 @@
-use Rattle.someip_world.proofs.EndpointLemmas.{only_endpoint, each_endpoint}
-use Rattle.someip_world.proofs.schedule_laws.what_endpoints_say.Goals as goal
-
-pub returns : goal.returns
-returns c = record { only = only_endpoint; each = each_endpoint }

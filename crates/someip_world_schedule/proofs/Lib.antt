@@ -1,0 +1,5 @@
+pub mod StepLemmas
+pub mod WordLemmas
+pub mod LineLemmas
+pub mod EndpointLemmas
+pub mod ScheduleLemmas

@@ -1,0 +1,4 @@
+pub mod StepWords
+pub mod Steps
+pub mod Schedule
+pub mod StepNodes

@@ -1,0 +1,163 @@
+-- The step that a line of a schedule spells.
+use Rattle.std.specs.Prelude.{ℕ, ◌≡◌, ◌^◌, ◌==◌, false, if◌then◌else◌, List, [], ◌∷◌, ◌++◌, codes, bytes_eq, Option, Some, None}
+use Rattle.std.specs.List.{list_any, slice_split}
+use Rattle.std.specs.Str.{is_utf8}
+use Rattle.someip_rpc.specs.declared.call.CallKind.{CallKind}
+use Rattle.someip_rpc.specs.declared.call.CallKind.TheVariants as kinds
+use Rattle.someip_rpc.specs.declared.request.Reply.{Reply}
+use Rattle.someip_rpc.specs.declared.request.Reply.TheVariants as replies
+use Rattle.someip_wire.specs.declared.header.ReturnCode.{ReturnCode}
+use Rattle.someip_world_schedule.specs.declared.step.Step.{Step}
+use Rattle.someip_world_schedule.specs.declared.step.Step.TheVariants.{Tick, Deliver, Call, Answer, Publish, PublishTo, Subscribe, Unsubscribe, StopOffer, Restart}
+use Rattle.someip_world_schedule.specs.declared.step_command.Command.{Command}
+use Rattle.someip_world_schedule.specs.declared.step_command.Command.TheVariants as commands
+use Rattle.someip_world_schedule.specs.StepWords.{◌>>=◌, number_in, id_in, method_in, code_in, name_in, instance_in, group_in, endpoint_in, payload_in}
+
+-- the words of a line: what stands between single blanks
+abbrev pub words_in : List ℕ → List (List ℕ)
+words_in line = slice_split (λ b. b == 0x20) line
+
+-- a text has no blank in it
+abbrev pub IsUnparted : List ℕ → Type 0
+IsUnparted word = list_any (λ b. b == 0x20) word ≡ false
+
+-- words with single blanks between them
+abbrev pub joined : List (List ℕ) → List ℕ
+joined [] = []
+joined (word ∷ []) = word
+joined (word ∷ next ∷ others) = word ++ 0x20 ∷ joined (next ∷ others)
+
+-- what the first word asks for
+abbrev pub command_in : List ℕ → Option Command
+command_in word =
+    if bytes_eq word (codes "tick") then Some commands.Tick
+    else if bytes_eq word (codes "deliver") then Some commands.Deliver
+    else if bytes_eq word (codes "call") then Some commands.Call
+    else if bytes_eq word (codes "oneway") then Some commands.Oneway
+    else if bytes_eq word (codes "answer") then Some commands.Answer
+    else if bytes_eq word (codes "error") then Some commands.Error
+    else if bytes_eq word (codes "publish") then Some commands.Publish
+    else if bytes_eq word (codes "publish_to") then Some commands.PublishTo
+    else if bytes_eq word (codes "subscribe") then Some commands.Subscribe
+    else if bytes_eq word (codes "unsubscribe") then Some commands.Unsubscribe
+    else if bytes_eq word (codes "stop_offer") then Some commands.StopOffer
+    else if bytes_eq word (codes "restart") then Some commands.Restart
+    else None
+
+-- NODE MS
+abbrev pub tick_in : List (List ℕ) → Option Step
+tick_in (node ∷ ms ∷ []) = do
+  node ← name_in node
+  ms ← number_in (2 ^ 64) ms
+  Some (Tick node ms)
+tick_in words = None
+
+-- N NODE
+abbrev pub deliver_in : List (List ℕ) → Option Step
+deliver_in (number ∷ node ∷ []) = do
+  number ← number_in (2 ^ 64) number
+  node ← name_in node
+  Some (Deliver number node)
+deliver_in words = None
+
+-- NODE SI METHOD PAYLOAD
+abbrev pub call_in : CallKind → List (List ℕ) → Option Step
+call_in kind (node ∷ instance ∷ method ∷ payload ∷ []) = do
+  node ← name_in node
+  instance ← instance_in instance
+  method ← method_in method
+  payload ← payload_in payload
+  Some (Call node kind instance method payload)
+call_in kind words = None
+
+-- how a request is answered
+abbrev pub Answered : Type 0
+Answered = ReturnCode → Reply
+
+-- NODE T CODE PAYLOAD
+abbrev pub answer_in : Answered → List (List ℕ) → Option Step
+answer_in reply (node ∷ token ∷ code ∷ payload ∷ []) = do
+  node ← name_in node
+  token ← number_in (2 ^ 64) token
+  code ← code_in code
+  payload ← payload_in payload
+  Some (Answer node token (reply code) payload)
+answer_in reply words = None
+
+-- NODE SI EVENT PAYLOAD
+abbrev pub publish_in : List (List ℕ) → Option Step
+publish_in (node ∷ instance ∷ event ∷ payload ∷ []) = do
+  node ← name_in node
+  instance ← instance_in instance
+  event ← id_in event
+  payload ← payload_in payload
+  Some (Publish node instance event payload)
+publish_in words = None
+
+-- NODE SI GROUP EP EVENT PAYLOAD
+abbrev pub publish_to_in : List (List ℕ) → Option Step
+publish_to_in (node ∷ instance ∷ group ∷ endpoint ∷ event ∷ payload ∷ []) = do
+  node ← name_in node
+  group ← group_in instance group
+  to ← endpoint_in endpoint
+  event ← id_in event
+  payload ← payload_in payload
+  Some (PublishTo node group to event payload)
+publish_to_in words = None
+
+-- NODE SI GROUP
+abbrev pub subscribe_in : List (List ℕ) → Option Step
+subscribe_in (node ∷ instance ∷ group ∷ []) = do
+  node ← name_in node
+  group ← group_in instance group
+  Some (Subscribe node group)
+subscribe_in words = None
+
+abbrev pub unsubscribe_in : List (List ℕ) → Option Step
+unsubscribe_in (node ∷ instance ∷ group ∷ []) = do
+  node ← name_in node
+  group ← group_in instance group
+  Some (Unsubscribe node group)
+unsubscribe_in words = None
+
+-- NODE SI
+abbrev pub stop_offer_in : List (List ℕ) → Option Step
+stop_offer_in (node ∷ instance ∷ []) = do
+  node ← name_in node
+  instance ← instance_in instance
+  Some (StopOffer node instance)
+stop_offer_in words = None
+
+-- NODE DELAY
+abbrev pub restart_in : List (List ℕ) → Option Step
+restart_in (node ∷ delay ∷ []) = do
+  node ← name_in node
+  delay ← number_in (2 ^ 64) delay
+  Some (Restart node delay)
+restart_in words = None
+
+-- the step of a command with these words after it
+abbrev pub commanded : Command → List (List ℕ) → Option Step
+commanded commands.Tick words = tick_in words
+commanded commands.Deliver words = deliver_in words
+commanded commands.Call words = call_in kinds.Request words
+commanded commands.Oneway words = call_in kinds.RequestNoReturn words
+commanded commands.Answer words = answer_in replies.Response words
+commanded commands.Error words = answer_in replies.Error words
+commanded commands.Publish words = publish_in words
+commanded commands.PublishTo words = publish_to_in words
+commanded commands.Subscribe words = subscribe_in words
+commanded commands.Unsubscribe words = unsubscribe_in words
+commanded commands.StopOffer words = stop_offer_in words
+commanded commands.Restart words = restart_in words
+
+-- the step that words spell, and none if they spell none
+abbrev pub step_of_words : List (List ℕ) → Option Step
+step_of_words [] = None
+step_of_words (word ∷ others) = do
+  command ← command_in word
+  commanded command others
+
+-- the step that a line spells. Only a line of UTF-8 spells one
+abbrev pub step_in : List ℕ → Option Step
+step_in line = if is_utf8 line then step_of_words (words_in line) else None

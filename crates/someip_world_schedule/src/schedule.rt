@@ -1,0 +1,92 @@
+//! Schedules: one step a line.
+//!
+//! ```text
+//! # The clock goes on, a client calls, and the server answers.
+//! tick server 100
+//! call client 1234.0001 0421 12ff
+//! deliver 1 server
+//! answer server 1 00 aa*4
+//! ```
+//!
+//! A line ends at byte 0a or at the text's end, and its words are parted by one blank (byte 20). Empty
+//! lines, and lines of UTF-8 that begin with `#`, are skipped. [`Step`] tells the forms of the others.
+//! In these
+//!
+//! - NODE is one to 16 letters from `a` to `z` and digits;
+//! - SI is `SERVICE.INSTANCE`, each of four hex digits, as METHOD, EVENT and GROUP; CODE has two;
+//! - numbers are decimal, below 2^64, without a sign or leading zeros;
+//! - EP is `A.B.C.D:PORT`;
+//! - PAYLOAD is pairs of hex digits, `-` for none, or `HH*N` for N times one byte, N at most 1048576.
+ghost use Rattle.std.specs.Prelude.{◌≡◌, ◌==◌, Some, None, IfErr, IfOk, OnOk, MatchOption};
+ghost use Rattle.std.specs.Prelude.{IsOk, [], map, true, false};
+ghost use Rattle.std.specs.Str.{is_utf8};
+ghost use Rattle.someip_world_schedule.specs.Schedule.{IsFoundOf, RefusesSchedule, first_bad, is_left_out};
+ghost use Rattle.someip_world_schedule.specs.Schedule.{steps_of};
+
+use crate::error::ScheduleError;
+use crate::step::Step;
+use crate::step_reading::step_of_line;
+use crate::step_words::WordFault;
+use std::alloc::Global;
+use std::str;
+
+/// Reads a schedule: the steps of its lines, in order. Lines count from 1, skipped ones too.
+///
+/// Its time grows with the length of the text alone, however often `HH*N` repeats a byte.
+pub fn read_schedule(alloc: Global, text: &[u8]) -> Result<Vec<Step>, ScheduleError>
+    // The steps are those that the lines spell, in order, and no line is bad.
+    ensures found { IfOk result (λ steps. map (λ s. Some s) steps.items ≡ steps_of text.now) }
+    ensures only { OnOk result (first_bad text.now ≡ None) }
+
+    // The error names the first bad line.
+    ensures fault { IfErr result (RefusesSchedule text.now) }
+
+    // A text with no line to read needs no memory.
+    ensures idle { steps_of text.now ≡ [] → IsOk result }
+{
+    let mut steps = Vec::new(alloc);
+    for (i, line) in text.split(|b| *b == b'\n').enumerate() {
+        let step = match step_of(alloc, line) {
+            Ok(Some(step)) => step,
+            Ok(None) => continue,
+            Err(WordFault::Bad) => return Err(ScheduleError::BadLine(i + 1)),
+            Err(WordFault::OutOfMemory) => return Err(ScheduleError::OutOfMemory),
+        };
+        steps.push(step)?;
+    }
+    Ok(steps)
+}
+
+/// The step that a line spells, if it is not skipped.
+fn step_of(alloc: Global, line: &[u8]) -> Result<Option<Step>, WordFault>
+    ensures { IsFoundOf line.now result }
+{
+    let Some(text) = text_of(line) else {
+        return Err(WordFault::Bad);
+    };
+    if is_left_out(line) {
+        return Ok(None);
+    }
+    match step_of_line(alloc, text) {
+        Ok(step) => Ok(Some(step)),
+        Err(fault) => Err(fault),
+    }
+}
+
+/// The text of a line, if it is UTF-8.
+fn text_of(line: &[u8]) -> Option<&str>
+    ensures { MatchOption result (is_utf8 line.now ≡ false)
+        (λ text. (text.now ≡ line.now) × (is_utf8 line.now ≡ true)) }
+{
+    str::from_utf8(line).ok()
+}
+
+/// Whether a line is empty, or begins with `#`.
+fn is_left_out(line: &[u8]) -> bool
+    ensures { result ≡ is_left_out line.now }
+{
+    match line {
+        [] => true,
+        [first, ..] => *first == b'#',
+    }
+}

@@ -1,0 +1,34 @@
+//! What the definitions behind the contracts of schedules promise. Each law is the contract of a
+//! function that does nothing.
+ghost use Rattle.std.specs.Prelude.{◌≡◌, ◌<◌, ◌≤◌, ◌^◌, [], ◌∷◌, ℕ, List, Some, decimal};
+ghost use Rattle.std.specs.List.{AllByRecursion};
+ghost use Rattle.std.specs.Net.Text.{socket_v4_text};
+ghost use Rattle.std.specs.declared.net.socket_addr.SocketAddrV4.{SocketAddrV4};
+ghost use Rattle.someip_world_schedule.specs.StepWords.{endpoint_in, endpoint_of, number_in};
+ghost use Rattle.someip_world_schedule.specs.Steps.{IsUnparted, joined, words_in};
+
+/// Digits stand for a number exactly where they are its decimal text.
+pub fn what_numbers_say()
+    ensures spelled { (limit n : ℕ) → n < limit → limit ≤ 2 ^ 64
+        → number_in limit (decimal n) ≡ Some n }
+    ensures only { (limit n : ℕ) (word : List ℕ) → limit ≤ 2 ^ 64 → number_in limit word ≡ Some n
+        → (word ≡ decimal n) × (n < limit) }
+{}
+
+/// The words of a line are those that single blanks join to it, and no others.
+pub fn what_words_are()
+    ensures spelled { (line : List ℕ) → joined (words_in line) ≡ line }
+    ensures unparted { (line : List ℕ) → AllByRecursion IsUnparted (words_in line) }
+    ensures only { (word : List ℕ) (others : List (List ℕ))
+        → AllByRecursion IsUnparted (word ∷ others)
+        → words_in (joined (word ∷ others)) ≡ word ∷ others }
+{}
+
+/// An endpoint is read only of the text that it is printed as, and of each.
+pub fn what_endpoints_say()
+    ensures only { (word : List ℕ) (endpoint : SocketAddrV4)
+        → endpoint_in word ≡ Some endpoint → word ≡ socket_v4_text endpoint }
+    ensures each { (a b c d port : ℕ) → a < 2 ^ 8 → b < 2 ^ 8 → c < 2 ^ 8 → d < 2 ^ 8
+        → port < 2 ^ 16 → let endpoint = endpoint_of (a ∷ b ∷ c ∷ d ∷ []) port in
+        endpoint_in (socket_v4_text endpoint) ≡ Some endpoint }
+{}

@@ -1,0 +1,233 @@
+//! The steps that words spell.
+ghost use Rattle.std.specs.Prelude.{◌≡◌, map, IfOk};
+ghost use Rattle.someip_world_schedule.specs.StepWords.{Reads};
+ghost use Rattle.someip_world_schedule.specs.Steps.{words_in, tick_in, deliver_in, call_in, answer_in};
+ghost use Rattle.someip_world_schedule.specs.Steps.{publish_in, publish_to_in, subscribe_in, unsubscribe_in};
+ghost use Rattle.someip_world_schedule.specs.Steps.{stop_offer_in, restart_in, commanded, step_of_words};
+ghost use Rattle.someip_rpc.specs.declared.request.Reply.TheVariants.{Response, Error};
+
+use crate::step::Step;
+use crate::step_command::{Command, command_of};
+use crate::step_name::name;
+use crate::step_payload::payload;
+use crate::step_words::{WordFault, code, endpoint, group, id, instance, method, number};
+use someip_rpc::{CallKind, Reply};
+use std::alloc::{AllocError, Global};
+
+/// The words of a line.
+fn words_of<'t>(alloc: Global, line: &'t str) -> Result<Vec<&'t str>, AllocError>
+    ensures { IfOk result (λ words. map (λ w. w.now) words.items ≡ words_in line.now) }
+{
+    line.split(' ').collect(alloc)
+}
+
+/// The step that a line of UTF-8 spells.
+pub fn step_of_line(alloc: Global, line: &str) -> Result<Step, WordFault>
+    ensures { Reads (step_of_words (words_in line.now)) result }
+{
+    let words = words_of(alloc, line)?;
+    step_of_words(alloc, words.as_slice())
+}
+
+/// The step that words spell.
+fn step_of_words(alloc: Global, words: &[&str]) -> Result<Step, WordFault>
+    ensures { Reads (step_of_words (map (λ w. w.now) words.now)) result }
+{
+    let [word, others @ ..] = words else {
+        return Err(WordFault::Bad);
+    };
+    match command_of(word) {
+        Some(command) => step_of(alloc, command, others),
+        None => Err(WordFault::Bad),
+    }
+}
+
+/// The step of a command and the words after it.
+fn step_of(alloc: Global, command: Command, words: &[&str]) -> Result<Step, WordFault>
+    ensures { Reads (commanded command (map (λ w. w.now) words.now)) result }
+{
+    match command {
+        Command::Tick => tick(alloc, words),
+        Command::Deliver => deliver(alloc, words),
+        Command::Call => call(alloc, CallKind::Request, words),
+        Command::Oneway => call(alloc, CallKind::RequestNoReturn, words),
+        Command::Answer => response(alloc, words),
+        Command::Error => error(alloc, words),
+        Command::Publish => publish(alloc, words),
+        Command::PublishTo => publish_to(alloc, words),
+        Command::Subscribe => subscribe(alloc, words),
+        Command::Unsubscribe => unsubscribe(alloc, words),
+        Command::StopOffer => stop_offer(alloc, words),
+        Command::Restart => restart(alloc, words),
+    }
+}
+
+/// NODE MS.
+fn tick(alloc: Global, words: &[&str]) -> Result<Step, WordFault>
+    ensures { Reads (tick_in (map (λ w. w.now) words.now)) result }
+{
+    let [node, ms] = words else {
+        return Err(WordFault::Bad);
+    };
+    let node = name(alloc, node)?;
+    let ms = number(ms).ok_or(WordFault::Bad)?;
+    Ok(Step::Tick { node, ms })
+}
+
+/// N NODE.
+fn deliver(alloc: Global, words: &[&str]) -> Result<Step, WordFault>
+    ensures { Reads (deliver_in (map (λ w. w.now) words.now)) result }
+{
+    let [first, node] = words else {
+        return Err(WordFault::Bad);
+    };
+    let number = number(first).ok_or(WordFault::Bad)?;
+    let node = name(alloc, node)?;
+    Ok(Step::Deliver { number, node })
+}
+
+/// NODE SI METHOD PAYLOAD.
+fn call(alloc: Global, kind: CallKind, words: &[&str]) -> Result<Step, WordFault>
+    ensures { Reads (call_in kind (map (λ w. w.now) words.now)) result }
+{
+    let [node, si, id, bytes] = words else {
+        return Err(WordFault::Bad);
+    };
+    let node = name(alloc, node)?;
+    let instance = instance(si).ok_or(WordFault::Bad)?;
+    let method = method(id).ok_or(WordFault::Bad)?;
+    let payload = payload(alloc, bytes)?;
+    Ok(Step::Call {
+        node,
+        kind,
+        instance,
+        method,
+        payload,
+    })
+}
+
+/// NODE T CODE PAYLOAD, of a RESPONSE.
+fn response(alloc: Global, words: &[&str]) -> Result<Step, WordFault>
+    ensures { Reads (answer_in Response (map (λ w. w.now) words.now)) result }
+{
+    let [node, token, code_word, bytes] = words else {
+        return Err(WordFault::Bad);
+    };
+    let node = name(alloc, node)?;
+    let token = number(token).ok_or(WordFault::Bad)?;
+    let code = code(code_word).ok_or(WordFault::Bad)?;
+    let payload = payload(alloc, bytes)?;
+    Ok(Step::Answer {
+        node,
+        token,
+        reply: Reply::Response(code),
+        payload,
+    })
+}
+
+/// NODE T CODE PAYLOAD, of an ERROR.
+fn error(alloc: Global, words: &[&str]) -> Result<Step, WordFault>
+    ensures { Reads (answer_in Error (map (λ w. w.now) words.now)) result }
+{
+    let [node, token, code_word, bytes] = words else {
+        return Err(WordFault::Bad);
+    };
+    let node = name(alloc, node)?;
+    let token = number(token).ok_or(WordFault::Bad)?;
+    let code = code(code_word).ok_or(WordFault::Bad)?;
+    let payload = payload(alloc, bytes)?;
+    Ok(Step::Answer {
+        node,
+        token,
+        reply: Reply::Error(code),
+        payload,
+    })
+}
+
+/// NODE SI EVENT PAYLOAD.
+fn publish(alloc: Global, words: &[&str]) -> Result<Step, WordFault>
+    ensures { Reads (publish_in (map (λ w. w.now) words.now)) result }
+{
+    let [node, si, event, bytes] = words else {
+        return Err(WordFault::Bad);
+    };
+    let node = name(alloc, node)?;
+    let instance = instance(si).ok_or(WordFault::Bad)?;
+    let event = id(event).ok_or(WordFault::Bad)?;
+    let payload = payload(alloc, bytes)?;
+    Ok(Step::Publish {
+        node,
+        instance,
+        event,
+        payload,
+    })
+}
+
+/// NODE SI GROUP EP EVENT PAYLOAD.
+fn publish_to(alloc: Global, words: &[&str]) -> Result<Step, WordFault>
+    ensures { Reads (publish_to_in (map (λ w. w.now) words.now)) result }
+{
+    let [node, si, eventgroup, ep, event, bytes] = words else {
+        return Err(WordFault::Bad);
+    };
+    let node = name(alloc, node)?;
+    let group = group(si, eventgroup).ok_or(WordFault::Bad)?;
+    let to = endpoint(ep).ok_or(WordFault::Bad)?;
+    let event = id(event).ok_or(WordFault::Bad)?;
+    let payload = payload(alloc, bytes)?;
+    Ok(Step::PublishTo {
+        node,
+        group,
+        to,
+        event,
+        payload,
+    })
+}
+
+/// NODE SI GROUP.
+fn subscribe(alloc: Global, words: &[&str]) -> Result<Step, WordFault>
+    ensures { Reads (subscribe_in (map (λ w. w.now) words.now)) result }
+{
+    let [node, si, eventgroup] = words else {
+        return Err(WordFault::Bad);
+    };
+    let node = name(alloc, node)?;
+    let group = group(si, eventgroup).ok_or(WordFault::Bad)?;
+    Ok(Step::Subscribe { node, group })
+}
+
+/// NODE SI GROUP.
+fn unsubscribe(alloc: Global, words: &[&str]) -> Result<Step, WordFault>
+    ensures { Reads (unsubscribe_in (map (λ w. w.now) words.now)) result }
+{
+    let [node, si, eventgroup] = words else {
+        return Err(WordFault::Bad);
+    };
+    let node = name(alloc, node)?;
+    let group = group(si, eventgroup).ok_or(WordFault::Bad)?;
+    Ok(Step::Unsubscribe { node, group })
+}
+
+/// NODE SI.
+fn stop_offer(alloc: Global, words: &[&str]) -> Result<Step, WordFault>
+    ensures { Reads (stop_offer_in (map (λ w. w.now) words.now)) result }
+{
+    let [node, si] = words else {
+        return Err(WordFault::Bad);
+    };
+    let node = name(alloc, node)?;
+    let instance = instance(si).ok_or(WordFault::Bad)?;
+    Ok(Step::StopOffer { node, instance })
+}
+
+/// NODE DELAY.
+fn restart(alloc: Global, words: &[&str]) -> Result<Step, WordFault>
+    ensures { Reads (restart_in (map (λ w. w.now) words.now)) result }
+{
+    let [node, delay] = words else {
+        return Err(WordFault::Bad);
+    };
+    let node = name(alloc, node)?;
+    let delay = number(delay).ok_or(WordFault::Bad)?;
+    Ok(Step::Restart { node, delay })
+}

@@ -1,0 +1,12 @@
+use Rattle.std.proofs.Common.{map, ◌∙◌}
+use Rattle.someip_world_setup.specs.Values.{want_view}
+use Rattle.someip_world_setup.specs.Clashes.{wanted_id}
+use Rattle.someip_world_setup.proofs.GatheredLemmas.{all_gathered}
+use Rattle.someip_world_setup.proofs.MakingLemmas.{map_after}
+use Rattle.someip_world_setup.proofs.gathered.wanted.Goals as goal
+
+pub returns : goal.returns
+returns c =
+    let done = rw c.deref-want-items.ensures.value at c.loop-want-test.false in
+    all_gathered (λ x. wanted_id (want_view x)) c.loop-want.instances.items c.loop-want.want-index c.args.node.now.wants.items (map (λ x. wanted_id (want_view x)) c.args.node.now.wants.items) done c.loop-want.invariant
+    ∙ map_after wanted_id want_view c.args.node.now.wants.items

@@ -1,0 +1,14 @@
+//! The nodes of a setup.
+
+use someip_node::Config;
+
+/// A node of a setup.
+#[derive(Debug, Drop)]
+pub struct SetupNode {
+    /// Its name: 1 to 16 of a to z, 0 to 9.
+    pub name: String,
+    /// The delay before its first Offers and Finds, in milliseconds.
+    pub delay: u32,
+    /// What it is set up with.
+    pub config: Config,
+}

@@ -1,0 +1,86 @@
+-- What the command does with a setup and a schedule.
+use Rattle.std.specs.Prelude.{ℕ, ◌≡◌, true, List, ◌++◌, map, Option, Some, None, Ok, Err, IsSomeAnd}
+use Rattle.std.specs.Io.KnownBytes.{Appends, Keeps}
+use Rattle.std.specs.Str.{is_utf8}
+use Rattle.someip_world.specs.Runs.{ComesTo}
+use Rattle.someip_world.specs.declared.error.RunError.TheVariants as runs
+use Rattle.someip_world.specs.declared.line.Line.{Line}
+use Rattle.someip_world_schedule.specs.Schedule.{first_bad, steps_of}
+use Rattle.someip_world_schedule.specs.declared.step.Step.{Step}
+use Rattle.someip_world_setup.specs.GoodSetups.{Network}
+use Rattle.someip_world_setup.specs.Readings.{HasValues, TextHasFault, said_by, tree_of}
+use Rattle.someip_world_setup.specs.declared.error.SetupError.TheVariants.{NotToml}
+use Rattle.someip_world_setup.specs.declared.setup_node.SetupNode.{SetupNode}
+use Rattle.someipctl_commands.specs.ShowResult.{WasLeft}
+use Rattle.someipctl_run.specs.Traces.{trace_text}
+use Rattle.someipctl_run.specs.declared.error.RunFault.{RunFault}
+use Rattle.someipctl_run.specs.declared.error.RunFault.TheVariants.{BadLine, BadStep, CannotRead, CannotWrite, OutOfMemory}
+use Rattle.someipctl_run.specs.declared.error.SetupFault.{SetupFault}
+use Rattle.someipctl_run.specs.declared.error.SetupFault.TheVariants as setups
+
+-- it holds of what the reader had left
+abbrev pub OfInput : Option (List ℕ) → (List ℕ → Type 0) → Type 0
+OfInput input P = (text : List ℕ) × WasLeft input text × P text
+
+-- ---- setups
+
+-- it is the setup that a text says
+abbrev pub IsSetupOf : List ℕ → Network → Type 0
+IsSetupOf text network = (is_utf8 text ≡ true) × IsSomeAnd (said_by text) (HasValues network)
+
+-- a text is refused: it is no UTF-8 and so no TOML, or it has the fault that is told
+abbrev pub RefusesSetup : List ℕ → SetupFault → Type 0
+RefusesSetup text (setups.Refused NotToml) = (is_utf8 text ≡ true) → tree_of text ≡ None
+RefusesSetup text (setups.Refused error) = (is_utf8 text ≡ true) × TextHasFault (tree_of text) error
+RefusesSetup text setups.CannotRead = ⊥
+RefusesSetup text setups.OutOfMemory = Unit {0}
+
+abbrev pub IsSetupOfInput : Option (List ℕ) → Network → Type 0
+IsSetupOfInput input network = OfInput input (λ text. IsSetupOf text network)
+
+abbrev pub RefusesInput : Option (List ℕ) → SetupFault → Type 0
+RefusesInput input (setups.Refused error) = OfInput input (λ text. RefusesSetup text (setups.Refused error))
+RefusesInput input setups.CannotRead = Unit {0}
+RefusesInput input setups.OutOfMemory = Unit {0}
+
+-- ---- schedules
+
+-- a text spells these steps: none of its lines is bad
+abbrev pub Spells : List ℕ → List Step → Type 0
+Spells text steps = (map (λ s. Some s) steps ≡ steps_of text) × (first_bad text ≡ None)
+
+-- these are the lines of the schedule's trace
+abbrev pub IsTraceOf : List SetupNode → List ℕ → List Line → Type 0
+IsTraceOf nodes text lines = (steps : List Step) × Spells text steps × ComesTo nodes steps (Ok lines)
+
+-- a schedule has no trace: a line is bad, or a step can't happen
+abbrev pub RefusesTrace : List SetupNode → List ℕ → RunFault → Type 0
+RefusesTrace nodes text (BadLine line) = first_bad text ≡ Some line
+RefusesTrace nodes text (BadStep index fault) = (steps : List Step) × Spells text steps × ComesTo nodes steps (Err (runs.BadStep index fault))
+RefusesTrace nodes text OutOfMemory = Unit {0}
+RefusesTrace nodes text fault = ⊥
+
+-- the trace was written
+abbrev pub Ran : List SetupNode → List ℕ → Option (List ℕ) → Option (List ℕ) → Type 0
+Ran nodes text before after = (lines : List Line) × IsTraceOf nodes text lines × Appends before after (trace_text nodes lines)
+
+-- a beginning of it was written
+abbrev pub RanPartly : List SetupNode → List ℕ → Option (List ℕ) → Option (List ℕ) → Type 0
+RanPartly nodes text before after =
+    (lines : List Line) × IsTraceOf nodes text lines × (sent : List ℕ) × (unsent : List ℕ) × Appends before after sent × (sent ++ unsent ≡ trace_text nodes lines)
+
+-- what a fault says of the schedule, and of what was written
+abbrev pub RefusesRun : List SetupNode → List ℕ → RunFault → Option (List ℕ) → Option (List ℕ) → Type 0
+RefusesRun nodes text (BadLine line) before after = RefusesTrace nodes text (BadLine line) × Keeps before after
+RefusesRun nodes text (BadStep index fault) before after = RefusesTrace nodes text (BadStep index fault) × Keeps before after
+RefusesRun nodes text CannotRead before after = ⊥
+RefusesRun nodes text CannotWrite before after = RanPartly nodes text before after
+RefusesRun nodes text OutOfMemory before after = Keeps before after
+
+abbrev pub RanInput : List SetupNode → Option (List ℕ) → Option (List ℕ) → Option (List ℕ) → Type 0
+RanInput nodes input before after = OfInput input (λ text. Ran nodes text before after)
+
+abbrev pub RefusesInputRun : List SetupNode → Option (List ℕ) → RunFault → Option (List ℕ) → Option (List ℕ) → Type 0
+RefusesInputRun nodes input CannotRead before after = Keeps before after
+RefusesInputRun nodes input OutOfMemory before after = Keeps before after
+RefusesInputRun nodes input fault before after = OfInput input (λ text. RefusesRun nodes text fault before after)

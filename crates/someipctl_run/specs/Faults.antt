@@ -1,0 +1,27 @@
+-- The faults of the command, by those of what it rests on.
+use Rattle.someip_world.specs.declared.error.RunError.{RunError}
+use Rattle.someip_world.specs.declared.error.RunError.TheVariants as runs
+use Rattle.someip_world_schedule.specs.declared.error.ScheduleError.{ScheduleError}
+use Rattle.someip_world_schedule.specs.declared.error.ScheduleError.TheVariants as schedules
+use Rattle.someipctl_commands.specs.declared.input.ReadFault.{ReadFault}
+use Rattle.someipctl_commands.specs.declared.input.ReadFault.TheVariants as inputs
+use Rattle.someipctl_run.specs.declared.error.RunFault.{RunFault}
+use Rattle.someipctl_run.specs.declared.error.RunFault.TheVariants.{BadLine, BadStep, CannotRead, OutOfMemory}
+use Rattle.someipctl_run.specs.declared.error.SetupFault.{SetupFault}
+use Rattle.someipctl_run.specs.declared.error.SetupFault.TheVariants as setups
+
+abbrev pub setup_fault_of_input : ReadFault → SetupFault
+setup_fault_of_input inputs.CannotRead = setups.CannotRead
+setup_fault_of_input inputs.OutOfMemory = setups.OutOfMemory
+
+abbrev pub fault_of_input : ReadFault → RunFault
+fault_of_input inputs.CannotRead = CannotRead
+fault_of_input inputs.OutOfMemory = OutOfMemory
+
+abbrev pub fault_of_schedule : ScheduleError → RunFault
+fault_of_schedule (schedules.BadLine line) = BadLine line
+fault_of_schedule schedules.OutOfMemory = OutOfMemory
+
+abbrev pub fault_of_run : RunError → RunFault
+fault_of_run (runs.BadStep index fault) = BadStep index fault
+fault_of_run runs.OutOfMemory = OutOfMemory

@@ -1,0 +1,103 @@
+//! Why a schedule is not run, or a setup not read.
+ghost use Rattle.std.specs.Prelude.{◌≡◌};
+ghost use Rattle.someipctl_run.specs.declared.error.RunFault.TheVariants.{CannotWrite, OutOfMemory};
+ghost use Rattle.someipctl_run.specs.Faults.{fault_of_input, fault_of_run, fault_of_schedule, setup_fault_of_input};
+
+use someip_world::{RunError, ScheduleError, SetupError, StepFault};
+use someipctl_commands::ReadFault;
+use std::alloc::AllocError;
+use thiserror::Error;
+
+/// Why a setup was not read.
+#[derive(Debug, Drop, Error)]
+pub enum SetupFault {
+    /// Its text is no setup.
+    #[error("setup: {0}")]
+    Refused(SetupError),
+    /// It could not be read.
+    #[error("cannot read")]
+    CannotRead,
+    /// Memory ran out.
+    #[error("out of memory")]
+    OutOfMemory,
+}
+
+/// Why a schedule was not run to its end.
+#[derive(Clone, Copy, Debug, PartialEq, Eq, Error)]
+pub enum RunFault {
+    /// The line of this number, counted from 1, spells no step. Nothing was written.
+    #[error("line {0}: bad step")]
+    BadLine(usize),
+    /// The step of this index, counted from 1, can't happen. Nothing was written.
+    #[error("step {0}: {1}")]
+    BadStep(usize, StepFault),
+    /// The schedule could not be read. Nothing was written.
+    #[error("cannot read")]
+    CannotRead,
+    /// Writing failed, or took nothing. A beginning of the text was written.
+    #[error("cannot write")]
+    CannotWrite,
+    /// Memory ran out. Nothing was written.
+    #[error("out of memory")]
+    OutOfMemory,
+}
+
+impl From<ReadFault> for SetupFault {
+    ghost from_gives = { λ fault e. e ≡ setup_fault_of_input fault };
+
+    fn from(fault: ReadFault) -> SetupFault {
+        match fault {
+            ReadFault::CannotRead => SetupFault::CannotRead,
+            ReadFault::OutOfMemory => SetupFault::OutOfMemory,
+        }
+    }
+}
+
+impl From<ReadFault> for RunFault {
+    ghost from_gives = { λ fault e. e ≡ fault_of_input fault };
+
+    fn from(fault: ReadFault) -> RunFault {
+        match fault {
+            ReadFault::CannotRead => RunFault::CannotRead,
+            ReadFault::OutOfMemory => RunFault::OutOfMemory,
+        }
+    }
+}
+
+impl From<ScheduleError> for RunFault {
+    ghost from_gives = { λ error e. e ≡ fault_of_schedule error };
+
+    fn from(error: ScheduleError) -> RunFault {
+        match error {
+            ScheduleError::BadLine(line) => RunFault::BadLine(line),
+            ScheduleError::OutOfMemory => RunFault::OutOfMemory,
+        }
+    }
+}
+
+impl From<RunError> for RunFault {
+    ghost from_gives = { λ error e. e ≡ fault_of_run error };
+
+    fn from(error: RunError) -> RunFault {
+        match error {
+            RunError::BadStep(index, fault) => RunFault::BadStep(index, fault),
+            RunError::OutOfMemory => RunFault::OutOfMemory,
+        }
+    }
+}
+
+impl From<someipctl_print::CannotWrite> for RunFault {
+    ghost from_gives = { λ _ e. e ≡ CannotWrite };
+
+    fn from(_error: someipctl_print::CannotWrite) -> RunFault {
+        RunFault::CannotWrite
+    }
+}
+
+impl From<AllocError> for RunFault {
+    ghost from_gives = { λ _ e. e ≡ OutOfMemory };
+
+    fn from(_error: AllocError) -> RunFault {
+        RunFault::OutOfMemory
+    }
+}

@@ -1,0 +1,120 @@
+//! The lines of a trace.
+ghost use Rattle.std.specs.Prelude.{◌≡◌, ◌<◌, OnOk, OnErr, is_some};
+ghost use Rattle.someip_world.specs.Datagrams.{datagram_in};
+ghost use Rattle.someipctl_print.specs.Sending.{Sends, Stops};
+ghost use Rattle.someipctl_run.specs.Outputs.{ended, told_words};
+ghost use Rattle.someipctl_run.specs.Traces.{line_head, line_text, lines_from, name_at, number_after};
+
+use crate::outputs::{put_named, put_output};
+use someip_node::Output;
+use someip_world::{Line, SetupNode, Told};
+use someipctl_print::{Buffer, CannotWrite, Part, put_parts};
+use std::io::Write;
+
+/// Prints lines over the nodes of a setup. The datagrams that they tell of are numbered from 1.
+pub(crate) fn put_lines<W: Write>(
+    buffer: &mut Buffer,
+    writer: &mut W,
+    nodes: &[SetupNode],
+    lines: &[Line],
+) -> Result<(), CannotWrite>
+    ensures ok { OnOk result (Sends (W.contents writer.old) buffer.old
+        (W.contents writer.new) buffer.new (lines_from nodes.now 1 lines.now)) }
+    ensures err { OnErr result (Stops (W.contents writer.old) buffer.old
+        (W.contents writer.new) (lines_from nodes.now 1 lines.now)) }
+{
+    let mut number = 1;
+    for line in lines {
+        put_line(buffer, writer, nodes, number, line)?;
+        number = number_after(number, line);
+    }
+    Ok(())
+}
+
+/// The number of the next datagram after a line.
+fn number_after(number: usize, line: &Line) -> usize
+    requires { number < usize.MAX }
+    ensures { result ≡ number_after number line.now }
+{
+    if is_datagram(line) {
+        number + 1
+    } else {
+        number
+    }
+}
+
+/// Whether a line tells of a datagram.
+fn is_datagram(line: &Line) -> bool
+    ensures { result ≡ is_some (datagram_in line.now) }
+{
+    matches!(&line.told, Told::Gave(Output::Sent { .. }))
+}
+
+/// Prints a line, where the next datagram has a number.
+fn put_line<W: Write>(
+    buffer: &mut Buffer,
+    writer: &mut W,
+    nodes: &[SetupNode],
+    number: usize,
+    line: &Line,
+) -> Result<(), CannotWrite>
+    ensures ok { OnOk result (Sends (W.contents writer.old) buffer.old
+        (W.contents writer.new) buffer.new (line_text nodes.now number line.now)) }
+    ensures err { OnErr result (Stops (W.contents writer.old) buffer.old
+        (W.contents writer.new) (line_text nodes.now number line.now)) }
+{
+    put_line_head(buffer, writer, nodes, line)?;
+    put_told(buffer, writer, number, &line.told)
+}
+
+/// Prints the index of a line's step and the name of its node.
+fn put_line_head<W: Write>(
+    buffer: &mut Buffer,
+    writer: &mut W,
+    nodes: &[SetupNode],
+    line: &Line,
+) -> Result<(), CannotWrite>
+    ensures ok { OnOk result (Sends (W.contents writer.old) buffer.old
+        (W.contents writer.new) buffer.new (line_head nodes.now line.now)) }
+    ensures err { OnErr result (Stops (W.contents writer.old) buffer.old
+        (W.contents writer.new) (line_head nodes.now line.now)) }
+{
+    put_parts(
+        buffer,
+        writer,
+        &[
+            Part::Number(line.step),
+            Part::Text(" "),
+            Part::Text(name_at(nodes, line.node)),
+            Part::Text(" "),
+        ],
+    )
+}
+
+/// The name of the node at a place.
+fn name_at(nodes: &[SetupNode], place: usize) -> &str
+    ensures { result.now ≡ name_at nodes.now place }
+{
+    match nodes.get(place) {
+        Some(node) => node.name.as_str(),
+        None => "",
+    }
+}
+
+/// Prints what a line tells, where the next datagram has a number.
+fn put_told<W: Write>(
+    buffer: &mut Buffer,
+    writer: &mut W,
+    number: usize,
+    told: &Told,
+) -> Result<(), CannotWrite>
+    ensures ok { OnOk result (Sends (W.contents writer.old) buffer.old
+        (W.contents writer.new) buffer.new (ended (told_words number told.now))) }
+    ensures err { OnErr result (Stops (W.contents writer.old) buffer.old
+        (W.contents writer.new) (ended (told_words number told.now))) }
+{
+    match told {
+        Told::Gave(output) => put_output(buffer, writer, number, output),
+        Told::Refused(refusal) => put_named(buffer, writer, "refused ", refusal.name()),
+    }
+}

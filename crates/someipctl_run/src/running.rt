@@ -1,0 +1,79 @@
+//! Running a schedule.
+ghost use Rattle.std.specs.Prelude.{◌≡◌, [], IfOk, IfErr, OnOk, OnErr};
+ghost use Rattle.std.specs.Io.KnownBytes.{Appends};
+ghost use Rattle.someipctl_print.specs.Sending.{Stops};
+ghost use Rattle.someipctl_run.specs.Commands.{IsTraceOf, Ran, RanInput, RefusesInputRun, RefusesRun, RefusesTrace};
+ghost use Rattle.someipctl_run.specs.Traces.{trace_text};
+
+use crate::error::RunFault;
+use crate::lines::put_lines;
+use someip_tp::SegmentList;
+use someip_world::{Line, Setup, SetupNode, Trace, read_schedule, run};
+use someipctl_commands::read_all;
+use someipctl_print::{Buffer, CannotWrite};
+use std::alloc::Global;
+use std::io::{Read, Write};
+
+/// Reads a schedule whole, runs it over a setup, and then writes the trace.
+pub fn run_schedule<R: Read, W: Write>(
+    alloc: Global,
+    setup: &Setup,
+    reader: &mut R,
+    writer: &mut W,
+) -> Result<(), RunFault>
+    // The trace of the schedule was written, byte for byte.
+    ensures ran { OnOk result (RanInput setup.now.nodes (R.remaining reader.old)
+        (W.contents writer.old) (W.contents writer.new)) }
+    // An error names the first bad line or the first step that can't happen, and leaves nothing
+    // written, but for one of writing: that leaves a beginning of the text.
+    ensures refused { IfErr result (λ fault. RefusesInputRun setup.now.nodes
+        (R.remaining reader.old) fault (W.contents writer.old) (W.contents writer.new)) }
+{
+    let text = read_all(alloc, reader)?;
+    run_text(alloc, setup, &text, writer)
+}
+
+/// Runs the schedule that a text spells over a setup, and then writes the trace.
+fn run_text<W: Write>(
+    alloc: Global,
+    setup: &Setup,
+    text: &[u8],
+    writer: &mut W,
+) -> Result<(), RunFault>
+    ensures ran { OnOk result (Ran setup.now.nodes text.now
+        (W.contents writer.old) (W.contents writer.new)) }
+    ensures refused { IfErr result (λ fault. RefusesRun setup.now.nodes text.now fault
+        (W.contents writer.old) (W.contents writer.new)) }
+{
+    let trace = trace_of(alloc, setup, text)?;
+    let mut buffer = Buffer::new(alloc)?;
+    write_lines(&mut buffer, writer, setup.nodes(), &trace.lines)?;
+    Ok(())
+}
+
+/// The trace of the schedule that a text spells over a setup.
+fn trace_of(alloc: Global, setup: &Setup, text: &[u8]) -> Result<Trace, RunFault>
+    ensures ok { IfOk result (λ trace. IsTraceOf setup.now.nodes text.now trace.lines.items) }
+    ensures err { IfErr result (RefusesTrace setup.now.nodes text.now) }
+{
+    let steps = read_schedule(alloc, text)?;
+    let trace = run::<SegmentList>(alloc, setup, &steps)?;
+    Ok(trace)
+}
+
+/// Writes lines through an empty buffer.
+fn write_lines<W: Write>(
+    buffer: &mut Buffer,
+    writer: &mut W,
+    nodes: &[SetupNode],
+    lines: &[Line],
+) -> Result<(), CannotWrite>
+    requires empty { buffer.old ≡ [] }
+    ensures ok { OnOk result (Appends (W.contents writer.old)
+        (W.contents writer.new) (trace_text nodes.now lines.now)) }
+    ensures err { OnErr result (Stops (W.contents writer.old) []
+        (W.contents writer.new) (trace_text nodes.now lines.now)) }
+{
+    put_lines(buffer, writer, nodes, lines)?;
+    buffer.flush(writer)
+}

@@ -1,0 +1,45 @@
+//! Reading a setup.
+ghost use Rattle.std.specs.Prelude.{◌≡◌, true, false, IfOk, IfErr, MatchOption};
+ghost use Rattle.std.specs.Str.{is_utf8};
+ghost use Rattle.someipctl_run.specs.Commands.{IsSetupOf, IsSetupOfInput, RefusesInput, RefusesSetup};
+
+use crate::error::SetupFault;
+use someip_world::{Setup, SetupError};
+use someipctl_commands::read_all;
+use std::alloc::Global;
+use std::io::Read;
+use std::str;
+
+/// Reads a setup whole.
+pub fn read_setup<R: Read>(alloc: Global, reader: &mut R) -> Result<Setup, SetupFault>
+    // It is the setup that the text says.
+    ensures said { IfOk result (IsSetupOfInput (R.remaining reader.old)) }
+    // A text that is refused has the fault that is told.
+    ensures refused { IfErr result (RefusesInput (R.remaining reader.old)) }
+{
+    let bytes = read_all(alloc, reader)?;
+    setup_of(alloc, &bytes)
+}
+
+/// The setup that some bytes say: bytes that are no UTF-8 are no TOML.
+fn setup_of(alloc: Global, bytes: &[u8]) -> Result<Setup, SetupFault>
+    ensures said { IfOk result (IsSetupOf bytes.now) }
+    ensures refused { IfErr result (RefusesSetup bytes.now) }
+{
+    let Some(text) = text_of(bytes) else {
+        return Err(SetupFault::Refused(SetupError::NotToml));
+    };
+    match Setup::read(alloc, text) {
+        Ok(setup) => Ok(setup),
+        Err(SetupError::OutOfMemory) => Err(SetupFault::OutOfMemory),
+        Err(error) => Err(SetupFault::Refused(error)),
+    }
+}
+
+/// The text that bytes are, if they are UTF-8.
+fn text_of(bytes: &[u8]) -> Option<&str>
+    ensures { MatchOption result (is_utf8 bytes.now ≡ false)
+        (λ text. (text.now ≡ bytes.now) × (is_utf8 bytes.now ≡ true)) }
+{
+    str::from_utf8(bytes).ok()
+}
