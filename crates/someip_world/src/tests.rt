@@ -39,15 +39,15 @@ fn ran(alloc: Global, schedule: &str) -> Result<Result<Trace, RunError>, Fail> {
 
 /// Whether a line tells in a step, of a node, that an offer is known.
 fn is_known(line: &Line, step: usize, node: usize) -> bool {
-    line.step == step
-        && line.node == node
-        && matches!(&line.told, Told::Gave(Output::Known { .. }))
+    line.step == step && line.node == node && matches!(&line.told, Told::Gave(Output::Known { .. }))
 }
 
 #[test]
 fn an_offer_is_known_where_it_is_delivered(rt: HostRuntime) -> Result<(), Fail> {
     let ran = ran(rt.alloc(), "tick a 10\ndeliver 1 b\n")?;
-    assert!(rt; matches!(&ran, Ok(trace) if trace.lines.len() == 2 && is_known(&trace.lines[1], 2, 1)));
+    assert!(rt;
+        matches!(&ran, Ok(trace) if trace.lines.len() == 2 && is_known(&trace.lines[1], 2, 1))
+    );
     Ok(())
 }
 
