@@ -5,22 +5,23 @@ use Rattle.std.specs.Option.{option_map_or}
 use Rattle.std.specs.Global.{Vec}
 use Rattle.someip_rpc.specs.declared.error.RpcError.{RpcError}
 use Rattle.someip_rpc.specs.declared.error.RpcError.TheVariants.{NotOffered}
-use Rattle.someip_node.specs.declared.config.OfferedService.{OfferedService}
-use Rattle.someip_node.specs.declared.error.NodeError.{NodeError}
-use Rattle.someip_node.specs.declared.error.NodeError.TheVariants.{ClockPast, NotWanted, Rpc}
-use Rattle.someip_node.specs.declared.giving.Giving.{Giving}
-use Rattle.someip_node.specs.declared.output.Output.{Output}
-use Rattle.someip_node.specs.Calls.{as_node_error}
+use Rattle.someip_node_rules.specs.declared.config.OfferedService.{OfferedService}
+use Rattle.someip_node_rules.specs.declared.error.NodeError.{NodeError}
+use Rattle.someip_node_rules.specs.declared.error.NodeError.TheVariants.{ClockPast, NotWanted, Rpc}
+use Rattle.someip_node_engine.specs.declared.giving.Giving.{Giving}
+use Rattle.someip_node_rules.specs.declared.output.Output.{Output}
+use Rattle.someip_node_rules.specs.Calls.{as_node_error}
 use Rattle.someip_node.specs.Finishings.{given_by, is_fatal}
-use Rattle.someip_node.specs.Handled.{Handled, or_no_memory}
-use Rattle.someip_node.specs.History.{History, answers_of, historic}
-use Rattle.someip_node.specs.Inputs.{Input, Answer, Call, Datagram, Publish, PublishTo, StopOffer, Subscribe, Tick, Unsubscribe, plan_of, refusal_of}
-use Rattle.someip_node.specs.Plans.{plain, run}
-use Rattle.someip_node.specs.Setups.{is_wanted_eventgroup, offered_as}
-use Rattle.someip_node.specs.Steps.{Gives, StandsFor, step, unless_refused, work_on}
-use Rattle.someip_node.specs.Tables.{Tables, is_up}
-use Rattle.someip_node.specs.Working.{working}
-use Rattle.someip_node.proofs.Stands.{done_given, seen, stands}
+use Rattle.someip_node_engine.specs.Handled.{Handled, or_no_memory}
+use Rattle.someip_node_rules.specs.History.{History, answers_of, historic, shown}
+use Rattle.someip_node_rules.specs.Inputs.{Input, Answer, Call, Datagram, Publish, PublishTo, StopOffer, Subscribe, Tick, Unsubscribe, plan_of, refusal_of}
+use Rattle.someip_node_rules.specs.Plans.{Work, plain, run, work}
+use Rattle.someip_node_rules.specs.Setups.{is_wanted_eventgroup, offered_as}
+use Rattle.someip_node_rules.specs.Steps.{Gives, StandsFor, step, unless_refused, work_on}
+use Rattle.someip_node_rules.specs.Tables.{Tables, is_up}
+use Rattle.someip_node_engine.specs.Working.{working}
+use Rattle.someip_node_rules.proofs.Shown.{run_shown}
+use Rattle.someip_node_rules.proofs.Stands.{seen, stands}
 
 -- ---- no refusal is that memory ran out
 
@@ -63,6 +64,23 @@ refusal_is_no_end (Unsubscribe eventgroup) t refusal is = refused_if (is_wanted_
 refusal_is_no_end (StopOffer instance) t refusal is = refused_if (is_up t instance) (Rpc NotOffered) refusal refl is
 
 -- ---- a call of a node
+
+-- what was done with the tables is what is done by the history
+given : (w : Work History) (t : Tables) (giving : Giving) → working t giving ≡ shown w → (giving.outputs.items ≡ w.outputs) × StandsFor (seen false t) w.state
+given w t giving is = (ap (λ v. v.outputs) is, stands false t w.state refl (ap (λ v. v.state) is))
+
+-- nothing is given at first
+working_none : (t : Tables) (giving : Giving) → giving.outputs.items ≡ [] → giving.replies.items ≡ [] → working t giving ≡ work t [] []
+working_none t giving no_outputs no_replies = rw (no_outputs, no_replies) refl
+
+module _ (h : History) (input : Input) (old : Tables) (is : old ≡ answers_of h) where
+  -- an input that is not refused is done
+  done_given : (new : Tables) (before after : Giving) → refusal_of input old ≡ None → before.outputs.items ≡ [] → before.replies.items ≡ []
+      → working new after ≡ run plain (plan_of input) (working old before) → Gives h (step h input) (Ok after.outputs) (seen false new)
+  done_given new before after fine no_outputs no_replies done =
+      rw (ap (refusal_of input) (sym is) ∙ fine)
+      (given (run historic (plan_of input) (work_on h)) new after
+      (done ∙ ap (run plain (plan_of input)) (working_none old before no_outputs no_replies ∙ ap (λ t. work t [] []) is) ∙ sym (run_shown (plan_of input) (work_on h))))
 
 module _ (h : History) (input : Input) (old : Tables) (is : old ≡ answers_of h) where
   -- it was refused, or memory ran out

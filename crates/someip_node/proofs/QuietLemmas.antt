@@ -28,33 +28,33 @@ use Rattle.sd_core.specs.KeyOrder.{instances_total, exact_instances}
 use Rattle.sd_core.specs.SeekTables.{KnowsWanted}
 use Rattle.sd_core.specs.Sendings.{due_at}
 use Rattle.sd_core.specs.Wishes.{begun_where, has_begun, wish_of}
-use Rattle.someip_node.specs.Calls.{due_entries, find_of, lapsed, ticks, timed_out}
-use Rattle.someip_node.specs.declared.output.Output.{Output}
-use Rattle.someip_node.specs.declared.error.NodeError.{NodeError}
-use Rattle.someip_node.specs.declared.error.NodeError.TheVariants.{ClockPast, OutOfMemory}
-use Rattle.someip_node.specs.declared.giving.Giving.{Giving}
+use Rattle.someip_node_rules.specs.Calls.{due_entries, find_of, lapsed, ticks, timed_out}
+use Rattle.someip_node_rules.specs.declared.output.Output.{Output}
+use Rattle.someip_node_rules.specs.declared.error.NodeError.{NodeError}
+use Rattle.someip_node_rules.specs.declared.error.NodeError.TheVariants.{ClockPast, OutOfMemory}
+use Rattle.someip_node_engine.specs.declared.giving.Giving.{Giving}
 use Rattle.someip_node.specs.Finishings.{given_by}
-use Rattle.someip_node.specs.declared.receiver.Receiver.TheVariants.{Group}
-use Rattle.someip_node.specs.History.{History, answers_of, historic}
-use Rattle.someip_node.specs.Inputs.{Tick, tick_plan}
-use Rattle.someip_node.specs.Lives.{has_its_offer}
-use Rattle.someip_node.specs.OfferQuestions.{offering_at}
-use Rattle.someip_node.specs.Outcomes.{endings, endings_of}
-use Rattle.someip_node.specs.Outputs.{written}
-use Rattle.someip_node.specs.Passings.{BringsNothing}
-use Rattle.someip_node.specs.Plans.{Announces, Plan, Work, act, does, each, rule, run}
-use Rattle.someip_node.specs.Receivers.{message_plan_to, messages_plan_to}
-use Rattle.someip_node.specs.SeekQuestions.{finding_at, known_offer_at}
-use Rattle.someip_node.specs.Setups.{wanted_instances}
-use Rattle.someip_node.specs.Steps.{step, unless_refused, work_on}
-use Rattle.someip_node.specs.Subscribing.{offer_of}
-use Rattle.someip_node.specs.Tables.{Tables, passed_instances}
-use Rattle.someip_node.specs.WishQuestions.{course_at, is_wished_at, stage_of}
-use Rattle.someip_node.proofs.PlanLemmas.{outputs_of_run}
-use Rattle.someip_node.proofs.QuestionLemmas.{get-table_of}
-use Rattle.someip_node.proofs.StandingLemmas.{has_offer}
-use Rattle.someip_node.proofs.WishLives.{get-known, get-wish}
-use Rattle.someip_node.proofs.WrittenLemmas.{told_written}
+use Rattle.someip_node_rules.specs.declared.receiver.Receiver.TheVariants.{Group}
+use Rattle.someip_node_rules.specs.History.{History, answers_of, historic}
+use Rattle.someip_node_rules.specs.Inputs.{Tick, tick_plan}
+use Rattle.someip_node_rules.specs.Lives.{has_its_offer}
+use Rattle.someip_node_rules.specs.OfferQuestions.{offering_at}
+use Rattle.someip_node_rules.specs.Outcomes.{endings, endings_of}
+use Rattle.someip_node_rules.specs.Outputs.{written}
+use Rattle.someip_node_engine.specs.Passings.{BringsNothing}
+use Rattle.someip_node_rules.specs.Plans.{Announces, Plan, Work, act, does, each, rule, run}
+use Rattle.someip_node_rules.specs.Receivers.{message_plan_to, messages_plan_to}
+use Rattle.someip_node_rules.specs.SeekQuestions.{finding_at, known_offer_at}
+use Rattle.someip_node_rules.specs.Setups.{wanted_instances}
+use Rattle.someip_node_rules.specs.Steps.{step, unless_refused, work_on}
+use Rattle.someip_node_rules.specs.Subscribing.{offer_of}
+use Rattle.someip_node_rules.specs.Tables.{Tables, passed_instances}
+use Rattle.someip_node_rules.specs.WishQuestions.{course_at, is_wished_at, stage_of}
+use Rattle.someip_node_rules.proofs.PlanLemmas.{outputs_of_run}
+use Rattle.someip_node_rules.proofs.QuestionLemmas.{get-table_of}
+use Rattle.someip_node_rules.proofs.StandingLemmas.{has_offer}
+use Rattle.someip_node_rules.proofs.WishLives.{get-known, get-wish}
+use Rattle.someip_node_rules.proofs.WrittenLemmas.{told_written}
 
 -- ---- lists
 

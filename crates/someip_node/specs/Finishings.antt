@@ -1,10 +1,10 @@
 -- How a call of a node ends, by how its tables took the input.
 use Rattle.std.specs.Prelude.{Bool, true, false, Result, Ok, Err}
 use Rattle.std.specs.Global.{Vec}
-use Rattle.someip_node.specs.declared.error.NodeError.{NodeError}
-use Rattle.someip_node.specs.declared.error.NodeError.TheVariants.{OutOfMemory}
-use Rattle.someip_node.specs.declared.giving.Giving.{Giving}
-use Rattle.someip_node.specs.declared.output.Output.{Output}
+use Rattle.someip_node_rules.specs.declared.error.NodeError.{NodeError}
+use Rattle.someip_node_rules.specs.declared.error.NodeError.TheVariants.{OutOfMemory}
+use Rattle.someip_node_engine.specs.declared.giving.Giving.{Giving}
+use Rattle.someip_node_rules.specs.declared.output.Output.{Output}
 
 -- memory ran out
 abbrev pub is_fatal : Result (Unit {0}) NodeError → Bool

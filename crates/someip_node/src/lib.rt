@@ -1,51 +1,19 @@
 //! A SOME/IP node: it offers services and uses others, by datagrams that are carried for it.
+//!
+//! - [`Node`]: a node, driven from outside; [`Config`] is what it is started with, [`Output`] what it
+//!   gives, [`NodeError`] why it refuses;
+//! - [`laws`], [`given_laws`], [`limit_laws`], [`example_laws`]: what holds of every node, whatever it met.
+//!
+//! What a node is and does is defined in `someip_node_rules`; `someip_node_engine` carries it out.
 #![tactic(auto)]
 
-mod announcing;
-mod answering;
-mod calling;
-mod client;
-mod config;
-mod datagram;
-mod discovery;
-mod drops;
-mod endings;
-mod engine;
-mod entries;
-mod entry_making;
-mod error;
-pub mod example_laws;
-pub mod given_laws;
-mod giving;
-mod hearing;
-mod judging;
-pub mod laws;
-mod learning;
-pub mod limit_laws;
 mod node;
-mod output;
-mod output_text;
-mod passed;
-mod payload;
-mod publishing;
-mod received;
-mod receiver;
-mod segments;
-mod sending;
-mod serving;
-mod setups;
-mod starting;
-mod subscribing;
-mod target;
-mod ticking;
-mod wishing;
 
-pub use config::{Common, Config, OfferedService, WantedService};
-pub use drops::DropReason;
-pub use error::NodeError;
 pub use node::Node;
-pub use output::Output;
-pub use payload::Payload;
+pub use someip_node_rules::{
+    Common, Config, DropReason, NodeError, OfferedService, Output, Payload, WantedService,
+    example_laws, given_laws, laws, limit_laws,
+};
 
 #[cfg(test)]
 mod tests;

@@ -1,23 +1,16 @@
 //! A node: its tables, unless memory ran out.
-ghost use Rattle.std.specs.Prelude.{◌≡◌, ◌+◌, OnOk, OnErr, IfOk, IfErr, Err, true, false};
+ghost use Rattle.std.specs.Prelude.{◌≡◌, OnOk, OnErr, IfOk, IfErr, Err, true, false};
 ghost use Rattle.someip_node.specs.Finishings.{given_by, is_fatal};
-ghost use Rattle.someip_node.specs.GoodConfigs.{is_good, is_good_delay};
-ghost use Rattle.someip_node.specs.Handled.{Handled};
-ghost use Rattle.someip_node.specs.History.{History, answers_of, start_of};
-ghost use Rattle.someip_node.specs.Limits.{HoldsWithinLimits};
-ghost use Rattle.someip_node.specs.Inputs as input;
-ghost use Rattle.someip_node.specs.Passings.{BringsNothing};
-ghost use Rattle.sd_core.specs.SeekTables.{KnowsWanted};
-ghost use Rattle.someip_node.specs.Steps.{Reacts, StandsFor, StaysFailed, TakesNoMemory};
-ghost use Rattle.someip_node.specs.declared.error.NodeError.TheVariants as fault;
+ghost use Rattle.someip_node_rules.specs.GoodConfigs.{is_good, is_good_delay};
+ghost use Rattle.someip_node_rules.specs.History.{History, answers_of, start_of};
+ghost use Rattle.someip_node_rules.specs.Limits.{HoldsWithinLimits};
+ghost use Rattle.someip_node_rules.specs.Inputs as input;
+ghost use Rattle.someip_node_rules.specs.Steps.{Reacts, StandsFor, StaysFailed, TakesNoMemory};
+ghost use Rattle.someip_node_rules.specs.declared.error.NodeError.TheVariants as fault;
 
-use crate::config::Config;
-use crate::engine::Engine;
-use crate::error::NodeError;
-use crate::giving::Giving;
-use crate::judging;
-use crate::output::Output;
 use sd_core::{Eventgroup, InstanceId};
+use someip_node_engine::{Engine, Giving, is_good_delay};
+use someip_node_rules::{Config, NodeError, Output};
 use someip_rpc::{CallKind, Reply};
 use someip_tp::Reassembly;
 use std::alloc::Global;
@@ -35,10 +28,10 @@ pub struct Node<R: Reassembly> {
 impl<R: Reassembly> Model for Node<R> {
     ghost use Rattle.std.specs.Prelude.{if◌then◌else◌, None, Some};
     ghost use Rattle.std.specs.Coded.{codes};
-    ghost use Rattle.someip_node.specs.contracts.config.Config as config_row;
+    ghost use Rattle.someip_node_rules.specs.contracts.config.Config as config_row;
     ghost use Rattle.someip_tp.specs.Parts.{coded_parts};
-    ghost use Rattle.someip_node.specs.Steps.{NodeView};
-    ghost use Rattle.someip_node.specs.Tables.{coded_held, coded_stamps_to};
+    ghost use Rattle.someip_node_rules.specs.Steps.{NodeView};
+    ghost use Rattle.someip_node_rules.specs.Tables.{coded_held, coded_stamps_to};
     ghost use Rattle.sd_core.specs.OfferTables.{coded_offers};
     ghost use Rattle.sd_core.specs.SeekTables.{coded_seek};
     ghost use Rattle.sd_core.specs.SubscriberTables.{coded_subscribers};
@@ -95,7 +88,7 @@ impl<R: Reassembly> Node<R> {
     pub fn config(&self) -> &Config
         ensures { result.now ≡ self.now.config }
     {
-        &self.engine.config
+        self.engine.config()
     }
 
     /// Whatever a node met, it keeps no more peers than its configuration allows, and at most 1024 calls
@@ -119,7 +112,7 @@ impl<R: Reassembly> Node<R> {
             × (is_good_delay self.old.config delay ≡ false)) }
         ensures unchanged { OnErr result (self.new ≡ self.old) }
     {
-        if !judging::is_good_delay(&self.engine.config, delay) {
+        if !is_good_delay(self.engine.config(), delay) {
             return Err(NodeError::BadDelay);
         }
         self.engine.restart(delay);
@@ -323,36 +316,6 @@ impl<R: Reassembly> Node<R> {
         let mut giving = Giving::new(self.alloc);
         let done = self.engine.stop_offering(instance, &mut giving);
         finish(&mut self.failed, done, giving)
-    }
-}
-
-impl<R: Reassembly> Engine<R> {
-    /// Takes a datagram.
-    fn take_datagram(
-        &mut self,
-        from: SocketAddrV4,
-        to: SocketAddrV4,
-        bytes: &[u8],
-        giving: &mut Giving,
-    ) -> Result<(), NodeError>
-        ensures { Handled (input.Datagram from to bytes.now)
-            self.old giving.old result self.new giving.new }
-    {
-        self.datagram(from, to, bytes, giving)?;
-        Ok(())
-    }
-
-    /// Lets the clock go on by so many milliseconds.
-    fn take_tick(&mut self, ms: u64, giving: &mut Giving) -> Result<(), NodeError>
-        ensures handled { Handled (input.Tick ms) self.old giving.old result self.new giving.new }
-        ensures grows { IfErr result (λ error. error ≡ fault.OutOfMemory
-            → KnowsWanted self.old.seek × ¬ (BringsNothing (self.old.clock + ms) self.old)) }
-    {
-        let Some(now) = self.clock.after(ms) else {
-            return Err(NodeError::ClockPast);
-        };
-        self.tick(ms, now, giving)?;
-        Ok(())
     }
 }
 

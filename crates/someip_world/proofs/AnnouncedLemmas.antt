@@ -22,18 +22,18 @@ use Rattle.sd_wire.proofs.SdLemmas.{holds_read}
 use Rattle.sd_wire.proofs.WriteLemmas.{written_is_read}
 use Rattle.sd_session.specs.declared.stamp.Stamp.{Stamp}
 use Rattle.sd_session.specs.Sessions.{after_uses}
-use Rattle.someip_node.specs.Entries.{discovery_message, discovery_payload}
-use Rattle.someip_node.specs.Handling.{is_discovery, is_notification}
-use Rattle.someip_node.specs.DiscoveryQuestions.{group_addressed, messages_to}
-use Rattle.someip_node.specs.History.{History, answers_of}
-use Rattle.someip_node.specs.Inputs.{Input}
-use Rattle.someip_node.specs.Meanings.{GivenBy}
-use Rattle.someip_node.specs.Outputs as outputs
-use Rattle.someip_node.specs.Plans.{Rule, Announces, RepliesTo}
-use Rattle.someip_node.specs.Sending as sending
-use Rattle.someip_node.proofs.NamedLemmas.{stamp-next}
-use Rattle.someip_node.specs.Packets.{Packet, HasDiscovery, HasMessage, HasServiceEntry}
-use Rattle.someip_node.proofs.MemberLemmas.{all_map, all_members, all_weaker, at_member}
+use Rattle.someip_node_rules.specs.Entries.{discovery_message, discovery_payload}
+use Rattle.someip_node_rules.specs.Handling.{is_discovery, is_notification}
+use Rattle.someip_node_rules.specs.DiscoveryQuestions.{group_addressed, messages_to}
+use Rattle.someip_node_rules.specs.History.{History, answers_of}
+use Rattle.someip_node_rules.specs.Inputs.{Input}
+use Rattle.someip_node_rules.specs.Meanings.{GivenBy}
+use Rattle.someip_node_rules.specs.Outputs as outputs
+use Rattle.someip_node_rules.specs.Plans.{Rule, Announces, RepliesTo}
+use Rattle.someip_node_rules.specs.Sending as sending
+use Rattle.someip_node_rules.proofs.NamedLemmas.{stamp-next}
+use Rattle.someip_node_rules.specs.Packets.{Packet, HasDiscovery, HasMessage, HasServiceEntry}
+use Rattle.someip_node_rules.proofs.MemberLemmas.{all_map, all_members, all_weaker, at_member}
 
 -- ---- the message of a datagram
 

@@ -12,16 +12,16 @@ use Rattle.sd_wire.specs.declared.entry.ServiceEntry.{ServiceEntry}
 use Rattle.sd_wire.specs.Kinds.{is_offer}
 use Rattle.sd_core.specs.declared.keys.InstanceId.{InstanceId}
 use Rattle.sd_core.specs.declared.received.KnownOffer.{KnownOffer}
-use Rattle.someip_node.specs.declared.config.Config.{Config}
-use Rattle.someip_node.specs.declared.output.Output.TheVariants.{Sent}
-use Rattle.someip_node.specs.Entries.{discovery_message}
-use Rattle.someip_node.specs.History.{History, answers_of}
-use Rattle.someip_node.specs.Inputs.{Input}
-use Rattle.someip_node.specs.Meanings.{GivenBy, IsTold}
-use Rattle.someip_node.specs.Outputs.{Given, Announces, Sends, Tells, datagram_of, written}
-use Rattle.someip_node.specs.Packets.{Packet, HasServiceEntry}
-use Rattle.someip_node.specs.SeekQuestions.{known_offer_at}
-use Rattle.someip_node.proofs.MemberLemmas.{all_both, all_map, all_weaker, at_member}
+use Rattle.someip_node_rules.specs.declared.config.Config.{Config}
+use Rattle.someip_node_rules.specs.declared.output.Output.TheVariants.{Sent}
+use Rattle.someip_node_rules.specs.Entries.{discovery_message}
+use Rattle.someip_node_rules.specs.History.{History, answers_of}
+use Rattle.someip_node_rules.specs.Inputs.{Input}
+use Rattle.someip_node_rules.specs.Meanings.{GivenBy, IsTold}
+use Rattle.someip_node_rules.specs.Outputs.{Given, Announces, Sends, Tells, datagram_of, written}
+use Rattle.someip_node_rules.specs.Packets.{Packet, HasServiceEntry}
+use Rattle.someip_node_rules.specs.SeekQuestions.{known_offer_at}
+use Rattle.someip_node_rules.proofs.MemberLemmas.{all_both, all_map, all_weaker, at_member}
 use Rattle.someip_world_schedule.specs.declared.step.Step.{Step}
 use Rattle.someip_world_setup.specs.declared.setup_node.SetupNode.{SetupNode}
 use Rattle.someip_world.specs.Announced.{AllFits, FitsWire, IsAsConfigured, IsConfigured}

@@ -19,17 +19,17 @@ use Rattle.sd_core.specs.declared.received.Uncounted.TheVariants.{Unwanted, NoEn
 use Rattle.sd_core.specs.Keys.{instance_cmp}
 use Rattle.sd_core.specs.KeyOrder.{exact_instances}
 use Rattle.sd_core.specs.SeekTables.{is_by, known_at, offer_refusal, stands_by}
-use Rattle.someip_node.specs.Bringing.{Brings, OfEntry}
-use Rattle.someip_node.specs.History.{History, answers_of}
-use Rattle.someip_node.specs.Inputs as inputs
-use Rattle.someip_node.specs.Inputs.{Input}
-use Rattle.someip_node.specs.Items as items
-use Rattle.someip_node.specs.Items.{Item}
-use Rattle.someip_node.specs.Packets.{Packet, HasServiceEntry}
-use Rattle.someip_node.specs.Plans.{TakesOffer}
-use Rattle.someip_node.specs.Questions.{clock_at}
-use Rattle.someip_node.specs.SeekQuestions.{known_offer_at, majors_of, offer_from}
-use Rattle.someip_node.specs.declared.config.Config.{Config}
+use Rattle.someip_node_rules.specs.Bringing.{Brings, OfEntry}
+use Rattle.someip_node_rules.specs.History.{History, answers_of}
+use Rattle.someip_node_rules.specs.Inputs as inputs
+use Rattle.someip_node_rules.specs.Inputs.{Input}
+use Rattle.someip_node_rules.specs.Items as items
+use Rattle.someip_node_rules.specs.Items.{Item}
+use Rattle.someip_node_rules.specs.Packets.{Packet, HasServiceEntry}
+use Rattle.someip_node_rules.specs.Plans.{TakesOffer}
+use Rattle.someip_node_rules.specs.Questions.{clock_at}
+use Rattle.someip_node_rules.specs.SeekQuestions.{known_offer_at, majors_of, offer_from}
+use Rattle.someip_node_rules.specs.declared.config.Config.{Config}
 use Rattle.someip_world_schedule.specs.declared.step.Step.{Step}
 use Rattle.someip_world_schedule.specs.declared.step.Step.TheVariants as steps
 use Rattle.someip_world_setup.specs.declared.setup_node.SetupNode.{SetupNode}

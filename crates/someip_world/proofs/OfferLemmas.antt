@@ -15,24 +15,24 @@ use Rattle.sd_session.specs.declared.stamp.Stamp.{Stamp}
 use Rattle.sd_core.specs.declared.eventgroup.Eventgroup as groups
 use Rattle.sd_core.specs.declared.keys.InstanceId.{InstanceId}
 use Rattle.sd_core.specs.declared.wish.OutgoingSubscribe.{OutgoingSubscribe}
-use Rattle.someip_node.specs.declared.config.Config.{Config}
-use Rattle.someip_node.specs.declared.config.OfferedService.{OfferedService}
-use Rattle.someip_node.specs.declared.config.WantedService.{WantedService}
-use Rattle.someip_node.specs.Bringing.{Brings, RepliesToEntry}
-use Rattle.someip_node.specs.Calls.{stop_offer_of, stop_subscribe_of, wish_entries, wish_entries_by}
-use Rattle.someip_node.specs.Entries.{ack_entry, find_entry, offer_entry, subscribe_entry}
-use Rattle.someip_node.specs.History.{History, answers_of}
-use Rattle.someip_node.specs.Inputs as inputs
-use Rattle.someip_node.specs.Inputs.{Input}
-use Rattle.someip_node.specs.Meanings.{GivenBy}
-use Rattle.someip_node.specs.Outputs as outputs
-use Rattle.someip_node.specs.Packets.{Packet}
-use Rattle.someip_node.specs.Plans.{Rule, Announces, RepliesTo, TakesFind, TakesOffer, TakesSubscribe}
-use Rattle.someip_node.specs.Replies.{IsDue, IsFindOf, IsOfferOf, IsReply, IsSubscribeOf}
-use Rattle.someip_node.specs.Sending as sending
-use Rattle.someip_node.specs.Setups.{client_endpoint, offered_as, wanted_as}
-use Rattle.someip_node.specs.Tables.{Tables}
-use Rattle.someip_node.proofs.MemberLemmas.{all_weaker, at_member}
+use Rattle.someip_node_rules.specs.declared.config.Config.{Config}
+use Rattle.someip_node_rules.specs.declared.config.OfferedService.{OfferedService}
+use Rattle.someip_node_rules.specs.declared.config.WantedService.{WantedService}
+use Rattle.someip_node_rules.specs.Bringing.{Brings, RepliesToEntry}
+use Rattle.someip_node_rules.specs.Calls.{stop_offer_of, stop_subscribe_of, wish_entries, wish_entries_by}
+use Rattle.someip_node_rules.specs.Entries.{ack_entry, find_entry, offer_entry, subscribe_entry}
+use Rattle.someip_node_rules.specs.History.{History, answers_of}
+use Rattle.someip_node_rules.specs.Inputs as inputs
+use Rattle.someip_node_rules.specs.Inputs.{Input}
+use Rattle.someip_node_rules.specs.Meanings.{GivenBy}
+use Rattle.someip_node_rules.specs.Outputs as outputs
+use Rattle.someip_node_rules.specs.Packets.{Packet}
+use Rattle.someip_node_rules.specs.Plans.{Rule, Announces, RepliesTo, TakesFind, TakesOffer, TakesSubscribe}
+use Rattle.someip_node_rules.specs.Replies.{IsDue, IsFindOf, IsOfferOf, IsReply, IsSubscribeOf}
+use Rattle.someip_node_rules.specs.Sending as sending
+use Rattle.someip_node_rules.specs.Setups.{client_endpoint, offered_as, wanted_as}
+use Rattle.someip_node_rules.specs.Tables.{Tables}
+use Rattle.someip_node_rules.proofs.MemberLemmas.{all_weaker, at_member}
 use Rattle.someip_world.specs.Announced.{IsConfigured}
 use Rattle.someip_world.specs.KnownOffers.{IsAnnounced}
 use Rattle.someip_world.proofs.OriginLemmas.{config_kept}

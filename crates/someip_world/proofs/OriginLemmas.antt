@@ -4,22 +4,22 @@ use Rattle.std.specs.List.{AllByRecursion, Contains, cons_option}
 use Rattle.std.proofs.lemmas.Bool.{eqb-true, eqb-false}
 use Rattle.std.proofs.lemmas.List.{take_all}
 use Rattle.std.proofs.lemmas.List.Elements.{filter_map-append}
-use Rattle.someip_node.specs.History.{History, met, start_of}
-use Rattle.someip_node.specs.Inputs.{Input}
-use Rattle.someip_node.specs.Items.{Item}
-use Rattle.someip_node.specs.Meanings.{GivenBy}
-use Rattle.someip_node.specs.Meetings.{MetBy}
-use Rattle.someip_node.specs.Outputs.{written}
-use Rattle.someip_node.specs.Plans.{Work}
-use Rattle.someip_node.specs.Steps.{step}
-use Rattle.someip_node.specs.Trails.{after, given_by, met_by, trail_of}
-use Rattle.someip_node.specs.declared.config.Config.{Config}
-use Rattle.someip_node.specs.declared.error.NodeError.{NodeError}
-use Rattle.someip_node.specs.declared.output.Output.{Output}
-use Rattle.someip_node.specs.declared.output.Output.TheVariants.{Sent}
-use Rattle.someip_node.proofs.MeaningLemmas.{all_given, outputs_written}
-use Rattle.someip_node.proofs.MeetingLemmas.{all_met, state_met}
-use Rattle.someip_node.proofs.MemberLemmas.{all_append, all_flat_map, all_from_members, all_weaker}
+use Rattle.someip_node_rules.specs.History.{History, met, start_of}
+use Rattle.someip_node_rules.specs.Inputs.{Input}
+use Rattle.someip_node_rules.specs.Items.{Item}
+use Rattle.someip_node_rules.specs.Meanings.{GivenBy}
+use Rattle.someip_node_rules.specs.Meetings.{MetBy}
+use Rattle.someip_node_rules.specs.Outputs.{written}
+use Rattle.someip_node_rules.specs.Plans.{Work}
+use Rattle.someip_node_rules.specs.Steps.{step}
+use Rattle.someip_node_rules.specs.Trails.{after, given_by, met_by, trail_of}
+use Rattle.someip_node_rules.specs.declared.config.Config.{Config}
+use Rattle.someip_node_rules.specs.declared.error.NodeError.{NodeError}
+use Rattle.someip_node_rules.specs.declared.output.Output.{Output}
+use Rattle.someip_node_rules.specs.declared.output.Output.TheVariants.{Sent}
+use Rattle.someip_node_rules.proofs.MeaningLemmas.{all_given, outputs_written}
+use Rattle.someip_node_rules.proofs.MeetingLemmas.{all_met, state_met}
+use Rattle.someip_node_rules.proofs.MemberLemmas.{all_append, all_flat_map, all_from_members, all_weaker}
 use Rattle.someip_world_schedule.specs.declared.step.Step.{Step}
 use Rattle.someip_world_setup.specs.declared.setup_node.SetupNode.{SetupNode}
 use Rattle.someip_world.specs.Datagrams.{SentDatagram, datagram_in, datagrams_in, sent_with}

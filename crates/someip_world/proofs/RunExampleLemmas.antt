@@ -19,25 +19,25 @@ use Rattle.sd_core.specs.SubscriptionKeys.{subscription_cmp}
 use Rattle.sd_core.specs.SubscriptionOrder.{exact_subscriptions}
 use Rattle.someip_rpc.specs.Events.{publish_refusal}
 use Rattle.someip_rpc.specs.declared.error.RpcError.TheVariants.{NotOffered, TooLong, UnknownEvent}
-use Rattle.someip_node.specs.declared.config.Config.{Config}
-use Rattle.someip_node.specs.declared.config.OfferedService.{OfferedService}
-use Rattle.someip_node.specs.declared.error.NodeError.TheVariants.{Rpc}
-use Rattle.someip_node.specs.Calls.{as_node_error, eventgroups_of, publishing_refusal}
-use Rattle.someip_node.specs.History.{History, answers_of, historic}
-use Rattle.someip_node.specs.Inputs as inputs
-use Rattle.someip_node.specs.Inputs.{plan_of}
-use Rattle.someip_node.specs.Lives.{is_live, was_stopped}
-use Rattle.someip_node.specs.Outputs.{datagrams_of}
-use Rattle.someip_node.specs.Plans.{Work, run}
-use Rattle.someip_node.specs.Published.{IsLiveAt, IsPublished, publication}
-use Rattle.someip_node.specs.Steps.{step, unless_refused, work_on}
-use Rattle.someip_node.specs.SubscriberQuestions.{stands_until}
-use Rattle.someip_node.specs.Tables.{is_up}
-use Rattle.someip_node.specs.Questions.{clock_at}
-use Rattle.someip_node.proofs.LiveLemmas.{ends_then, lives_before}
-use Rattle.someip_node.proofs.NamedLemmas.{get-subscriber}
-use Rattle.someip_node.proofs.PublishedLemmas.{is_published}
-use Rattle.someip_node.proofs.UpLemmas.{up_is}
+use Rattle.someip_node_rules.specs.declared.config.Config.{Config}
+use Rattle.someip_node_rules.specs.declared.config.OfferedService.{OfferedService}
+use Rattle.someip_node_rules.specs.declared.error.NodeError.TheVariants.{Rpc}
+use Rattle.someip_node_rules.specs.Calls.{as_node_error, eventgroups_of, publishing_refusal}
+use Rattle.someip_node_rules.specs.History.{History, answers_of, historic}
+use Rattle.someip_node_rules.specs.Inputs as inputs
+use Rattle.someip_node_rules.specs.Inputs.{plan_of}
+use Rattle.someip_node_rules.specs.Lives.{is_live, was_stopped}
+use Rattle.someip_node_rules.specs.Outputs.{datagrams_of}
+use Rattle.someip_node_rules.specs.Plans.{Work, run}
+use Rattle.someip_node_rules.specs.Published.{IsLiveAt, IsPublished, publication}
+use Rattle.someip_node_rules.specs.Steps.{step, unless_refused, work_on}
+use Rattle.someip_node_rules.specs.SubscriberQuestions.{stands_until}
+use Rattle.someip_node_rules.specs.Tables.{is_up}
+use Rattle.someip_node_rules.specs.Questions.{clock_at}
+use Rattle.someip_node_rules.proofs.LiveLemmas.{ends_then, lives_before}
+use Rattle.someip_node_rules.proofs.NamedLemmas.{get-subscriber}
+use Rattle.someip_node_rules.proofs.PublishedLemmas.{is_published}
+use Rattle.someip_node_rules.proofs.UpLemmas.{up_is}
 use Rattle.someip_world.specs.RunExamples.{CanPublish, GivesJust, subscribed_for}
 
 -- ---- a set of one endpoint, or of none

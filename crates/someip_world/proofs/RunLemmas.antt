@@ -5,12 +5,12 @@ use Rattle.std.specs.Global.{Vec}
 use Rattle.std.proofs.lemmas.List.{at_drop_more, map-set, length-map, take_more}
 use Rattle.std.proofs.Math.ListN.{drop_of_length-le}
 use Rattle.std.proofs.lemmas.Option.{slice_get-map, slice_get_past}
-use Rattle.someip_node.specs.History.{History}
-use Rattle.someip_node.specs.Plans.{Work}
-use Rattle.someip_node.specs.Steps.{NodeView, StandsFor}
-use Rattle.someip_node.specs.declared.config.Config.{Config}
-use Rattle.someip_node.specs.declared.error.NodeError.{NodeError}
-use Rattle.someip_node.specs.declared.output.Output.{Output}
+use Rattle.someip_node_rules.specs.History.{History}
+use Rattle.someip_node_rules.specs.Plans.{Work}
+use Rattle.someip_node_rules.specs.Steps.{NodeView, StandsFor}
+use Rattle.someip_node_rules.specs.declared.config.Config.{Config}
+use Rattle.someip_node_rules.specs.declared.error.NodeError.{NodeError}
+use Rattle.someip_node_rules.specs.declared.output.Output.{Output}
 use Rattle.someip_world_schedule.specs.declared.step.Step.{Step}
 use Rattle.someip_world_schedule.specs.StepNodes.{node_of}
 use Rattle.someip_world_setup.specs.declared.setup_node.SetupNode.{SetupNode}

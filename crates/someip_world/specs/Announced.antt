@@ -7,14 +7,14 @@ use Rattle.someip_wire.specs.Spelling.{Fits}
 use Rattle.sd_wire.specs.Splitting.{FitsDatagram}
 use Rattle.sd_wire.specs.Writing.{EntryFits}
 use Rattle.sd_core.specs.declared.keys.InstanceId.{InstanceId}
-use Rattle.someip_node.specs.History.{History}
-use Rattle.someip_node.specs.Inputs.{Input}
-use Rattle.someip_node.specs.Meanings.{GivenBy}
-use Rattle.someip_node.specs.Outputs.{Given, Announces, Sends, Tells}
-use Rattle.someip_node.specs.SeekQuestions.{majors_of}
-use Rattle.someip_node.specs.Setups.{offered_as}
-use Rattle.someip_node.specs.declared.config.Config.{Config}
-use Rattle.someip_node.specs.declared.config.OfferedService.{OfferedService}
+use Rattle.someip_node_rules.specs.History.{History}
+use Rattle.someip_node_rules.specs.Inputs.{Input}
+use Rattle.someip_node_rules.specs.Meanings.{GivenBy}
+use Rattle.someip_node_rules.specs.Outputs.{Given, Announces, Sends, Tells}
+use Rattle.someip_node_rules.specs.SeekQuestions.{majors_of}
+use Rattle.someip_node_rules.specs.Setups.{offered_as}
+use Rattle.someip_node_rules.specs.declared.config.Config.{Config}
+use Rattle.someip_node_rules.specs.declared.config.OfferedService.{OfferedService}
 use Rattle.someip_world_schedule.specs.declared.step.Step.{Step}
 use Rattle.someip_world_setup.specs.declared.setup_node.SetupNode.{SetupNode}
 use Rattle.someip_world.specs.Deeds.{Takes}

@@ -2,8 +2,8 @@
 use Rattle.std.specs.Prelude.{ℕ, zero, suc, List, Option, None, Some, slice_get}
 use Rattle.std.specs.List.{filter_map}
 use Rattle.std.specs.declared.net.socket_addr.SocketAddrV4.{SocketAddrV4}
-use Rattle.someip_node.specs.declared.output.Output.{Output}
-use Rattle.someip_node.specs.declared.output.Output.TheVariants.{Sent}
+use Rattle.someip_node_rules.specs.declared.output.Output.{Output}
+use Rattle.someip_node_rules.specs.declared.output.Output.TheVariants.{Sent}
 use Rattle.someip_world.specs.declared.line.Line.{Line}
 use Rattle.someip_world.specs.declared.line.Told.{Told}
 use Rattle.someip_world.specs.declared.line.Told.TheVariants.{Gave, Refused}

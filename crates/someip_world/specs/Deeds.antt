@@ -1,14 +1,14 @@
 -- What is done at a node in a step, or why the step is bad.
 use Rattle.std.specs.Prelude.{ℕ, ◌+◌, Bool, ◌||◌, if◌then◌else◌, nat_lt, List, length, Option, None, Some, Result, Ok, Err}
-use Rattle.someip_node.specs.declared.config.Config.{Config}
-use Rattle.someip_node.specs.GoodConfigs.{is_good_delay}
-use Rattle.someip_node.specs.Handling.{same_address}
-use Rattle.someip_node.specs.History.{History, start_of}
-use Rattle.someip_node.specs.Inputs as input
-use Rattle.someip_node.specs.Plans.{Work}
-use Rattle.someip_node.specs.Questions.{clock_at}
-use Rattle.someip_node.specs.Steps.{step, work_on}
-use Rattle.someip_node.specs.declared.error.NodeError.{NodeError}
+use Rattle.someip_node_rules.specs.declared.config.Config.{Config}
+use Rattle.someip_node_rules.specs.GoodConfigs.{is_good_delay}
+use Rattle.someip_node_rules.specs.Handling.{same_address}
+use Rattle.someip_node_rules.specs.History.{History, start_of}
+use Rattle.someip_node_rules.specs.Inputs as input
+use Rattle.someip_node_rules.specs.Plans.{Work}
+use Rattle.someip_node_rules.specs.Questions.{clock_at}
+use Rattle.someip_node_rules.specs.Steps.{step, work_on}
+use Rattle.someip_node_rules.specs.declared.error.NodeError.{NodeError}
 use Rattle.someip_world_schedule.specs.declared.step.Step.{Step}
 use Rattle.someip_world_schedule.specs.declared.step.Step.TheVariants.{Tick, Deliver, Call, Answer, Publish, PublishTo, Subscribe, Unsubscribe, StopOffer, Restart}
 use Rattle.someip_world.specs.declared.line.Line.{Line}

@@ -9,12 +9,12 @@ use Rattle.sd_wire.specs.Endpoints.{first_udp_endpoint, options_of}
 use Rattle.sd_wire.specs.Kinds.{is_offer}
 use Rattle.sd_wire.specs.Values.{EntryValue}
 use Rattle.sd_core.specs.declared.keys.InstanceId.{InstanceId}
-use Rattle.someip_node.specs.History.{History}
-use Rattle.someip_node.specs.Inputs.{Datagram}
-use Rattle.someip_node.specs.Packets.{Packet, HasServiceEntry}
-use Rattle.someip_node.specs.SeekQuestions.{majors_of}
-use Rattle.someip_node.specs.Trails.{IsLater}
-use Rattle.someip_node.specs.declared.config.Config.{Config}
+use Rattle.someip_node_rules.specs.History.{History}
+use Rattle.someip_node_rules.specs.Inputs.{Datagram}
+use Rattle.someip_node_rules.specs.Packets.{Packet, HasServiceEntry}
+use Rattle.someip_node_rules.specs.SeekQuestions.{majors_of}
+use Rattle.someip_node_rules.specs.Trails.{IsLater}
+use Rattle.someip_node_rules.specs.declared.config.Config.{Config}
 use Rattle.someip_world_schedule.specs.declared.step.Step.{Step}
 use Rattle.someip_world_setup.specs.declared.setup_node.SetupNode.{SetupNode}
 use Rattle.someip_world.specs.Deeds.{Takes}

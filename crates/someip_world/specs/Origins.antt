@@ -1,15 +1,15 @@
 -- Where the datagrams of a run and what its nodes met come from: each from a rule that was done in a step of the run.
 use Rattle.std.specs.Prelude.{◌≡◌, ℕ, List, slice_get, Some}
 use Rattle.std.specs.List.{AllByRecursion, Contains}
-use Rattle.someip_node.specs.History.{History}
-use Rattle.someip_node.specs.Inputs.{Input}
-use Rattle.someip_node.specs.Items.{Item}
-use Rattle.someip_node.specs.Meanings.{GivenBy}
-use Rattle.someip_node.specs.Meetings.{MetBy}
-use Rattle.someip_node.specs.Outputs.{Given, written}
-use Rattle.someip_node.specs.Trails.{IsLater}
-use Rattle.someip_node.specs.declared.config.Config.{Config}
-use Rattle.someip_node.specs.declared.output.Output.TheVariants.{Sent}
+use Rattle.someip_node_rules.specs.History.{History}
+use Rattle.someip_node_rules.specs.Inputs.{Input}
+use Rattle.someip_node_rules.specs.Items.{Item}
+use Rattle.someip_node_rules.specs.Meanings.{GivenBy}
+use Rattle.someip_node_rules.specs.Meetings.{MetBy}
+use Rattle.someip_node_rules.specs.Outputs.{Given, written}
+use Rattle.someip_node_rules.specs.Trails.{IsLater}
+use Rattle.someip_node_rules.specs.declared.config.Config.{Config}
+use Rattle.someip_node_rules.specs.declared.output.Output.TheVariants.{Sent}
 use Rattle.someip_world_schedule.specs.declared.step.Step.{Step}
 use Rattle.someip_world_setup.specs.declared.setup_node.SetupNode.{SetupNode}
 use Rattle.someip_world.specs.Datagrams.{SentDatagram}

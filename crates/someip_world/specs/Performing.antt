@@ -1,13 +1,13 @@
 -- What the functions of a run do at a node.
 use Rattle.std.specs.Prelude.{◌≡◌, ℕ, true, false, nat_lt, List, ◌++◌, length, Result, Ok, Err}
 use Rattle.std.specs.Global.{Vec}
-use Rattle.someip_node.specs.declared.config.Config.{Config}
-use Rattle.someip_node.specs.declared.error.NodeError.{NodeError}
-use Rattle.someip_node.specs.declared.error.NodeError.TheVariants as refusals
-use Rattle.someip_node.specs.declared.output.Output.{Output}
-use Rattle.someip_node.specs.History.{History}
-use Rattle.someip_node.specs.Plans.{Work}
-use Rattle.someip_node.specs.Steps.{NodeView, StandsFor}
+use Rattle.someip_node_rules.specs.declared.config.Config.{Config}
+use Rattle.someip_node_rules.specs.declared.error.NodeError.{NodeError}
+use Rattle.someip_node_rules.specs.declared.error.NodeError.TheVariants as refusals
+use Rattle.someip_node_rules.specs.declared.output.Output.{Output}
+use Rattle.someip_node_rules.specs.History.{History}
+use Rattle.someip_node_rules.specs.Plans.{Work}
+use Rattle.someip_node_rules.specs.Steps.{NodeView, StandsFor}
 use Rattle.someip_world.specs.declared.performing.StepError.{StepError}
 use Rattle.someip_world.specs.declared.performing.StepError.TheVariants.{Bad, Refused, OutOfMemory}
 use Rattle.someip_world.specs.declared.error.RunError.{RunError}

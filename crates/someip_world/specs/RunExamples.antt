@@ -3,16 +3,16 @@ use Rattle.std.specs.Prelude.{◌≡◌, ◌≤◌, ℕ, true, List, [], ◌∷�
 use Rattle.std.specs.List.{Contains}
 use Rattle.sd_core.specs.declared.subscription.Subscription.{Subscription}
 use Rattle.someip_rpc.specs.Events.{has_event}
-use Rattle.someip_node.specs.Calls.{eventgroups_of}
-use Rattle.someip_node.specs.History.{History}
-use Rattle.someip_node.specs.Inputs.{Input}
-use Rattle.someip_node.specs.Items.{SubscriptionAccepted, Ticked}
-use Rattle.someip_node.specs.Plans.{Work}
-use Rattle.someip_node.specs.Setups.{offered_as}
-use Rattle.someip_node.specs.Steps.{step}
-use Rattle.someip_node.specs.declared.config.Config.{Config}
-use Rattle.someip_node.specs.declared.config.OfferedService.{OfferedService}
-use Rattle.someip_node.specs.declared.output.Output.{Output}
+use Rattle.someip_node_rules.specs.Calls.{eventgroups_of}
+use Rattle.someip_node_rules.specs.History.{History}
+use Rattle.someip_node_rules.specs.Inputs.{Input}
+use Rattle.someip_node_rules.specs.Items.{SubscriptionAccepted, Ticked}
+use Rattle.someip_node_rules.specs.Plans.{Work}
+use Rattle.someip_node_rules.specs.Setups.{offered_as}
+use Rattle.someip_node_rules.specs.Steps.{step}
+use Rattle.someip_node_rules.specs.declared.config.Config.{Config}
+use Rattle.someip_node_rules.specs.declared.config.OfferedService.{OfferedService}
+use Rattle.someip_node_rules.specs.declared.output.Output.{Output}
 
 -- a server accepted a Subscribe with a TTL of 3 seconds, and some milliseconds went by
 abbrev pub subscribed_for : ℕ → Config → Subscription → History

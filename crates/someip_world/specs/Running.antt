@@ -1,10 +1,10 @@
 -- What the functions of a run do with its nodes.
 use Rattle.std.specs.Prelude.{◌≡◌, ℕ, List, map, Some, Result, Ok, Err}
 use Rattle.std.specs.List.{AllZip}
-use Rattle.someip_node.specs.Copies.{IsCopy}
-use Rattle.someip_node.specs.History.{History, answers_of, start_of}
-use Rattle.someip_node.specs.Steps.{NodeView}
-use Rattle.someip_node.specs.declared.config.Config.{Config}
+use Rattle.someip_node_rules.specs.Copies.{IsCopy}
+use Rattle.someip_node_rules.specs.History.{History, answers_of, start_of}
+use Rattle.someip_node_rules.specs.Steps.{NodeView}
+use Rattle.someip_node_rules.specs.declared.config.Config.{Config}
 use Rattle.someip_world_schedule.specs.declared.step.Step.{Step}
 use Rattle.someip_world_setup.specs.declared.setup_node.SetupNode.{SetupNode}
 use Rattle.someip_world.specs.declared.error.RunError.{RunError}

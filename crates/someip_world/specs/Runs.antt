@@ -1,12 +1,12 @@
 -- The trace of a schedule, by what the nodes met.
 use Rattle.std.specs.Prelude.{◌≡◌, ℕ, ◌+◌, List, [], ◌∷◌, ◌++◌, map, slice_get, slice_set, bytes_eq, string_bytes, Option, None, Some, Result, Ok, Err}
 use Rattle.std.specs.List.{AllZip, position_from}
-use Rattle.someip_node.specs.Copies.{IsCopy}
-use Rattle.someip_node.specs.History.{History, start_of}
-use Rattle.someip_node.specs.Plans.{Work}
-use Rattle.someip_node.specs.declared.config.Config.{Config}
-use Rattle.someip_node.specs.declared.error.NodeError.{NodeError}
-use Rattle.someip_node.specs.declared.output.Output.{Output}
+use Rattle.someip_node_rules.specs.Copies.{IsCopy}
+use Rattle.someip_node_rules.specs.History.{History, start_of}
+use Rattle.someip_node_rules.specs.Plans.{Work}
+use Rattle.someip_node_rules.specs.declared.config.Config.{Config}
+use Rattle.someip_node_rules.specs.declared.error.NodeError.{NodeError}
+use Rattle.someip_node_rules.specs.declared.output.Output.{Output}
 use Rattle.someip_world_schedule.specs.declared.step.Step.{Step}
 use Rattle.someip_world_schedule.specs.StepNodes.{node_of}
 use Rattle.someip_world_setup.specs.declared.setup_node.SetupNode.{SetupNode}

@@ -1,12 +1,12 @@
 -- The steps of a run one by one: the world before each, what its node does there, and the lines that tell of it in the trace.
 use Rattle.std.specs.Prelude.{◌≡◌, ◌⊎◌, ℕ, ◌+◌, ◌==◌, List, take, slice_get, Some, Ok, Err}
 use Rattle.std.specs.List.{filter}
-use Rattle.someip_node.specs.History.{History}
-use Rattle.someip_node.specs.Inputs.{Input}
-use Rattle.someip_node.specs.Plans.{Work}
-use Rattle.someip_node.specs.Steps.{step}
-use Rattle.someip_node.specs.declared.config.Config.{Config}
-use Rattle.someip_node.specs.declared.error.NodeError.{NodeError}
+use Rattle.someip_node_rules.specs.History.{History}
+use Rattle.someip_node_rules.specs.Inputs.{Input}
+use Rattle.someip_node_rules.specs.Plans.{Work}
+use Rattle.someip_node_rules.specs.Steps.{step}
+use Rattle.someip_node_rules.specs.declared.config.Config.{Config}
+use Rattle.someip_node_rules.specs.declared.error.NodeError.{NodeError}
 use Rattle.someip_world_schedule.specs.declared.step.Step.{Step}
 use Rattle.someip_world_schedule.specs.StepNodes.{node_of}
 use Rattle.someip_world_setup.specs.declared.setup_node.SetupNode.{SetupNode}

@@ -4,7 +4,7 @@ ghost use Rattle.someip_world_schedule.specs.StepWords.{Reads, number_in, hex_in
 
 use crate::step_words::{WordFault, byte, cut, number};
 use hex::FromHexError;
-use someip_node::Payload;
+use someip_node_rules::Payload;
 use std::alloc::{AllocError, Global};
 use std::marker::Model;
 

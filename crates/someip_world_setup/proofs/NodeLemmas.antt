@@ -16,11 +16,11 @@ use Rattle.std.proofs.lemmas.List.Sorted.{list_any-IsPermutation, length_permuta
 use Rattle.sd_core.specs.declared.keys.InstanceId.{InstanceId}
 use Rattle.sd_core.specs.Keys.{instance_cmp}
 use Rattle.sd_core.specs.KeyOrder.{instances_total}
-use Rattle.someip_node.specs.declared.config.Config.{Config}
-use Rattle.someip_node.specs.declared.config.OfferedService.{OfferedService}
-use Rattle.someip_node.specs.declared.config.WantedService.{WantedService}
-use Rattle.someip_node.specs.GoodConfigs.{is_within, is_good_port, is_good_id, is_good_event, is_good_instance, is_good_offer, is_good_want}
-use Rattle.someip_node.specs.Handling.{same_address}
+use Rattle.someip_node_rules.specs.declared.config.Config.{Config}
+use Rattle.someip_node_rules.specs.declared.config.OfferedService.{OfferedService}
+use Rattle.someip_node_rules.specs.declared.config.WantedService.{WantedService}
+use Rattle.someip_node_rules.specs.GoodConfigs.{is_within, is_good_port, is_good_id, is_good_event, is_good_instance, is_good_offer, is_good_want}
+use Rattle.someip_node_rules.specs.Handling.{same_address}
 use Rattle.someip_world_setup.specs.Clashes.{has_repeat, same_number, same_instance, offered_id, wanted_id, has_equal_members, has_equal_ids, has_equal_ids_offered, has_equal_ids_wanted}
 use Rattle.someip_world_setup.specs.Values.{ListedValue, OfferValue, WantValue}
 use Rattle.someip_world_setup.specs.Made.{OfferMade, WantMade, seen, keys_of_set, set_of, list_entry, lists_of, offered_view, wanted_view, offer_entry, want_entry, offers_made, wants_made}

@@ -5,7 +5,7 @@ use Rattle.std.specs.Ordering.{eq_by_cmp, nat_cmp}
 use Rattle.std.specs.declared.net.ipv4_addr.Ipv4Addr.{Ipv4Addr}
 use Rattle.sd_core.specs.declared.keys.InstanceId.{InstanceId}
 use Rattle.sd_core.specs.Keys.{instance_cmp}
-use Rattle.someip_node.specs.Handling.{same_address}
+use Rattle.someip_node_rules.specs.Handling.{same_address}
 use Rattle.someip_world_setup.specs.Values.{ListedValue, OfferValue, WantValue, NodeValue, SetupValue}
 
 -- one of a list is the same as a later one

@@ -4,11 +4,11 @@ use Rattle.std.specs.List.{All, flat_map}
 use Rattle.std.specs.declared.net.ipv4_addr.Ipv4Addr.{Ipv4Addr}
 use Rattle.sd_core.specs.declared.keys.InstanceId.{InstanceId}
 use Rattle.sd_core.specs.declared.phases.Phases.{Phases}
-use Rattle.someip_node.specs.declared.config.Common.{Common}
-use Rattle.someip_node.specs.GoodConfigs.{is_within, is_good_common, is_good, is_good_delay}
-use Rattle.someip_node.specs.Handling.{same_address}
+use Rattle.someip_node_rules.specs.declared.config.Common.{Common}
+use Rattle.someip_node_rules.specs.GoodConfigs.{is_within, is_good_common, is_good, is_good_delay}
+use Rattle.someip_node_rules.specs.Handling.{same_address}
 use Rattle.std.specs.Coded.{Coded, code_by, coded×, coded_list}
-use Rattle.someip_node.specs.contracts.config.Common as common
+use Rattle.someip_node_rules.specs.contracts.config.Common as common
 use Rattle.someip_world_setup.specs.contracts.setup_node.SetupNode as node
 use Rattle.someip_world_setup.specs.declared.setup_node.SetupNode.{SetupNode}
 use Rattle.someip_world_setup.specs.Keys.{is_name}

@@ -8,10 +8,10 @@ use Rattle.std.specs.declared.net.ipv4_addr.Ipv4Addr.{Ipv4Addr}
 use Rattle.std.specs.declared.net.socket_addr.SocketAddrV4.{SocketAddrV4}
 use Rattle.sd_core.specs.declared.keys.InstanceId.{InstanceId}
 use Rattle.sd_core.specs.Keys.{instance_cmp}
-use Rattle.someip_node.specs.declared.config.Common.{Common}
-use Rattle.someip_node.specs.declared.config.Config.{Config}
-use Rattle.someip_node.specs.declared.config.OfferedService.{OfferedService}
-use Rattle.someip_node.specs.declared.config.WantedService.{WantedService}
+use Rattle.someip_node_rules.specs.declared.config.Common.{Common}
+use Rattle.someip_node_rules.specs.declared.config.Config.{Config}
+use Rattle.someip_node_rules.specs.declared.config.OfferedService.{OfferedService}
+use Rattle.someip_node_rules.specs.declared.config.WantedService.{WantedService}
 use Rattle.someip_world_setup.specs.declared.setup_node.SetupNode.{SetupNode}
 use Rattle.someip_world_setup.specs.Values.{ListedValue, OfferValue, WantValue, NodeValue}
 

@@ -2,7 +2,7 @@
 use Rattle.std.specs.Prelude.{ℕ, List, map, string_bytes}
 use Rattle.std.specs.declared.net.ipv4_addr.Ipv4Addr.{Ipv4Addr}
 use Rattle.sd_core.specs.declared.phases.Phases.{Phases}
-use Rattle.someip_node.specs.declared.config.Common.{Common}
+use Rattle.someip_node_rules.specs.declared.config.Common.{Common}
 use Rattle.someip_world_setup.specs.declared.parts.Listed.{Listed}
 use Rattle.someip_world_setup.specs.declared.parts.OfferParts.{OfferParts}
 use Rattle.someip_world_setup.specs.declared.parts.WantParts.{WantParts}

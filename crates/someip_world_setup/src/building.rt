@@ -6,7 +6,7 @@ ghost use Rattle.someip_world_setup.specs.Made.{keys_of_set, seen, set_of, lists
 use crate::parts::{Listed, NodeParts, OfferParts, WantParts};
 use crate::setup_node::SetupNode;
 use sd_core::InstanceId;
-use someip_node::{Common, Config, OfferedService, WantedService};
+use someip_node_rules::{Common, Config, OfferedService, WantedService};
 use someip_rpc::ServiceRules;
 use std::alloc::{AllocError, Global};
 use std::collections::{BTreeMap, BTreeSet};

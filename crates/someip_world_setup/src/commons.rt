@@ -1,6 +1,6 @@
 //! What all nodes share.
 ghost use Rattle.std.specs.Prelude.{◌≡◌, true, pos, codes, IfOk};
-ghost use Rattle.someip_node.specs.GoodConfigs.{is_within, is_good_common};
+ghost use Rattle.someip_node_rules.specs.GoodConfigs.{is_within, is_good_common};
 ghost use Rattle.toml.specs.View.{view};
 ghost use Rattle.someip_world_setup.specs.Keys.{Gives, number_or};
 ghost use Rattle.someip_world_setup.specs.Says.{phases_of, common_of};
@@ -10,7 +10,7 @@ use crate::addresses::address_at;
 use crate::error::SetupError;
 use crate::numbers::{byte, count_or, integer_or, time_or, word};
 use sd_core::Phases;
-use someip_node::Common;
+use someip_node_rules::Common;
 use toml::Value;
 
 /// The delays after the first one.

@@ -1,6 +1,6 @@
 //! The nodes.
 ghost use Rattle.std.specs.Prelude.{◌≡◌, true, map, IfOk};
-ghost use Rattle.someip_node.specs.GoodConfigs.{is_good_common};
+ghost use Rattle.someip_node_rules.specs.GoodConfigs.{is_good_common};
 ghost use Rattle.toml.specs.View.{view};
 ghost use Rattle.someip_world_setup.specs.Keys.{Gives};
 ghost use Rattle.someip_world_setup.specs.Lists.{each};

@@ -1,6 +1,6 @@
 //! The numbers at the keys of a table.
 ghost use Rattle.std.specs.Prelude.{◌≡◌, ◌≤◌, true, IfOk};
-ghost use Rattle.someip_node.specs.GoodConfigs.{is_within};
+ghost use Rattle.someip_node_rules.specs.GoodConfigs.{is_within};
 ghost use Rattle.toml.specs.View.{view};
 ghost use Rattle.someip_world_setup.specs.Keys.{Gives, integer_at, integer_or, within};
 ghost use Rattle.someip_world_setup.specs.Says.{id_at, port_at, major_at, ttl_at, count_or, time_or};

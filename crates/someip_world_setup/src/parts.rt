@@ -3,7 +3,7 @@ ghost use Rattle.std.specs.Prelude.{◌≡◌};
 
 use sd_core::InstanceId;
 use sd_wire::Ttl;
-use someip_node::Common;
+use someip_node_rules::Common;
 use std::net::Ipv4Addr;
 
 /// An ID with others: an event with its eventgroups, or an eventgroup with its events.

@@ -10,7 +10,7 @@ use crate::error::SetupError;
 use crate::nodes::parts;
 use crate::setup_node::SetupNode;
 use crate::unknown::refuse_unknown;
-use someip_node::Common;
+use someip_node_rules::Common;
 use std::alloc::Global;
 use std::marker::Model;
 use toml::Value;

@@ -1,6 +1,6 @@
 //! The nodes of a setup.
 
-use someip_node::Config;
+use someip_node_rules::Config;
 
 /// A node of a setup.
 #[derive(Debug, Drop)]

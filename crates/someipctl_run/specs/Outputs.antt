@@ -1,9 +1,9 @@
 -- What a line of a trace tells, byte for byte.
 use Rattle.std.specs.Prelude.{ℕ, List, [], ◌∷◌, ◌++◌, codes, decimal}
 use Rattle.sd_core.specs.Names.{cause_name}
-use Rattle.someip_node.specs.Names.{drop_name, node_error_name}
-use Rattle.someip_node.specs.declared.output.Output.{Output}
-use Rattle.someip_node.specs.declared.output.Output.TheVariants.{Sent, Called, Request, Answered, TimedOut, Event, Known, Gone, Subscribed, Unsubscribed, Accepted, Nacked, Rebooted, Dropped}
+use Rattle.someip_node_rules.specs.Names.{drop_name, node_error_name}
+use Rattle.someip_node_rules.specs.declared.output.Output.{Output}
+use Rattle.someip_node_rules.specs.declared.output.Output.TheVariants.{Sent, Called, Request, Answered, TimedOut, Event, Known, Gone, Subscribed, Unsubscribed, Accepted, Nacked, Rebooted, Dropped}
 use Rattle.someip_world.specs.declared.line.Told.{Told}
 use Rattle.someip_world.specs.declared.line.Told.TheVariants.{Gave, Refused}
 use Rattle.someipctl_print.specs.Lines.{joined, payload_text}

@@ -1,7 +1,7 @@
 use Rattle.std.proofs.Common.{◌∙◌}
-use Rattle.someip_node.specs.Inputs.{Publish}
+use Rattle.someip_node_rules.specs.Inputs.{Publish}
 use Rattle.someip_node.proofs.HandledLemmas.{handled_given}
-use Rattle.someip_node.proofs.Stands.{answers}
+use Rattle.someip_node_rules.proofs.Stands.{answers}
 use Rattle.someip_node.proofs.node.Node.publish.Goals as goal
 
 pub returns-clause-reacts : goal.returns-clause-reacts

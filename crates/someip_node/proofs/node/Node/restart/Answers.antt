@@ -1,6 +1,6 @@
 use Rattle.std.proofs.Common.{ap, ◌∙◌}
-use Rattle.someip_node.specs.Starts.{started_tables}
-use Rattle.someip_node.proofs.Stands.{started_stands}
+use Rattle.someip_node_rules.specs.Starts.{started_tables}
+use Rattle.someip_node_rules.proofs.Stands.{started_stands}
 use Rattle.someip_node.proofs.node.Node.restart.Goals as goal
 
 pub returns-clause-ok : goal.returns-clause-ok

@@ -1,4 +1,4 @@
-use Rattle.someip_node.proofs.Stands.{started_stands}
+use Rattle.someip_node_rules.proofs.Stands.{started_stands}
 use Rattle.someip_node.proofs.node.Node.start.Goals as goal
 
 pub returns-clause-ok : goal.returns-clause-ok

@@ -1,10 +1,10 @@
 use Rattle.std.proofs.Common.{◌∙◌, ◌+◌, sym, subst}
 use Rattle.sd_core.specs.SeekTables.{KnowsWanted}
-use Rattle.someip_node.specs.Passings.{BringsNothing}
+use Rattle.someip_node_engine.specs.Passings.{BringsNothing}
 use Rattle.someip_node.proofs.QuietLemmas.{quiet_step, ran_out}
-use Rattle.someip_node.specs.Inputs.{Tick}
+use Rattle.someip_node_rules.specs.Inputs.{Tick}
 use Rattle.someip_node.proofs.HandledLemmas.{handled_given}
-use Rattle.someip_node.proofs.Stands.{answers}
+use Rattle.someip_node_rules.proofs.Stands.{answers}
 use Rattle.someip_node.proofs.node.Node.tick.Goals as goal
 
 pub returns-clause-reacts : goal.returns-clause-reacts

@@ -1,5 +1,0 @@
-use Rattle.someip_node.proofs.SubscribingLemmas.{one_added}
-use Rattle.someip_node.proofs.engine.Engine.push_offers.Goals as goal
-
-pub loop-instance-preserved : goal.loop-instance-preserved
-loop-instance-preserved g c = one_added _ _ _ _ _ _ _ c.loop-instance-test.true c.in_ok-push_offer.ensures c.loop-instance.invariant

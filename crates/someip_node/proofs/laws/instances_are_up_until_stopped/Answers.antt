@@ -1,5 +1,0 @@
-use Rattle.someip_node.proofs.UpLemmas.{up_is}
-use Rattle.someip_node.proofs.laws.instances_are_up_until_stopped.Goals as goal
-
-pub returns : goal.returns
-returns c = up_is

@@ -1,0 +1,12 @@
+pub mod FrontSizeLemmas
+pub mod WorkLemmas
+pub mod PassingLemmas
+pub mod TableLemmas
+pub mod CallLemmas
+pub mod PublishingLemmas
+pub mod MessageLemmas
+pub mod SubscribingLemmas
+pub mod HearingLemmas
+pub mod LearningLemmas
+pub mod PortLemmas
+pub mod StartLemmas

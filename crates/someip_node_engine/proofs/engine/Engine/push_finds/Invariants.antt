@@ -1,0 +1,10 @@
+use Rattle.std.proofs.Common.{◌≡◌, ◌++◌, drop, map}
+use Rattle.std.specs.List.{flat_map}
+use Rattle.sd_wire.specs.Values.{view_entry}
+use Rattle.someip_node_rules.specs.Calls.{find_of}
+use Rattle.someip_node_engine.proofs.engine.Engine.push_finds.Given as goal
+
+-- the entries so far, and those of the instances that are left, are all
+abbrev pub invariant-loop-instance : goal.invariant-loop-instance
+invariant-loop-instance g l =
+    map view_entry l.entries.items ++ flat_map (find_of l.self) (drop l.instance-index l.instances) ≡ map view_entry l.fn.entries.items ++ flat_map (find_of l.self) l.instances

@@ -1,0 +1,64 @@
+-- What is given of what the parts of a node say of a message.
+use Rattle.std.specs.Prelude.{ℕ, List, [], ◌∷◌, Option, None, Some, Result, Ok, Err}
+use Rattle.someip_wire.specs.declared.header.Header.{Header}
+use Rattle.someip_tp.specs.declared.error.TpError.{TpError}
+use Rattle.someip_tp.specs.declared.key.ReassemblyKey.{ReassemblyKey}
+use Rattle.someip_tp.specs.declared.reassembly.Offered.{Offered}
+use Rattle.someip_tp.specs.declared.reassembly.Offered.TheVariants.{Part, Whole}
+use Rattle.someip_tp.specs.Offers.{Offer, offer, parts_less}
+use Rattle.someip_tp.specs.Parts.{Parts}
+use Rattle.sd_core.specs.declared.keys.InstanceId.{InstanceId}
+use Rattle.someip_rpc.specs.declared.error.DropCause.{DropCause}
+use Rattle.someip_rpc.specs.declared.ids.CallKey.{CallKey}
+use Rattle.someip_rpc.specs.declared.request.Arrived.{Arrived}
+use Rattle.someip_rpc.specs.declared.request.Arrived.TheVariants as arrived
+use Rattle.someip_node_rules.specs.declared.drops.DropReason.TheVariants.{Answer, NotSubscribed, Request as OfRequest, Tp}
+use Rattle.someip_node_rules.specs.declared.output.Output.{Output}
+use Rattle.someip_node_rules.specs.declared.output.Output.TheVariants.{Answered, Dropped, Event}
+use Rattle.someip_node_engine.specs.declared.received.ReceivedPayload.{ReceivedPayload}
+use Rattle.someip_node_engine.specs.declared.received.ReceivedPayload.TheVariants.{Lent, Reassembled}
+use Rattle.someip_node_engine.specs.declared.segments.OfferedSegment.{OfferedSegment}
+use Rattle.someip_node_rules.specs.Messages.{handed_up}
+use Rattle.someip_node_rules.specs.Outputs.{Given, Sends, Tells}
+
+-- the payload of a message that came
+abbrev pub bytes_in : ReceivedPayload → List ℕ
+bytes_in (Lent bytes) = bytes.now
+bytes_in (Reassembled payload) = payload
+
+-- ---- messages
+
+-- what is given of a message that came to an instance, by what became of it
+abbrev pub given_of : InstanceId → Header → List ℕ → Arrived → List Given
+given_of instance header payload (arrived.Request token) = Tells (handed_up instance (Some token) header payload) ∷ []
+given_of instance header payload arrived.Oneway = Tells (handed_up instance None header payload) ∷ []
+given_of instance header payload (arrived.Refused answer) =
+    Sends answer.from answer.to (record { header = answer.message.header; payload = [] }) ∷ []
+given_of instance header payload (arrived.Dropped fault) = Tells (Dropped (OfRequest fault)) ∷ []
+
+-- what is given of a message that came to the client as an answer, by the call that it answers
+abbrev pub given_of_answer : Header → List ℕ → Result CallKey DropCause → List Output
+given_of_answer header payload (Ok call) = Answered call.message call.session header.code payload ∷ []
+given_of_answer header payload (Err cause) = Dropped (Answer cause) ∷ []
+
+-- and as an event, by the instance that it is of
+abbrev pub given_of_event : Header → List ℕ → Option InstanceId → List Output
+given_of_event header payload (Some instance) = Event instance header.method payload ∷ []
+given_of_event header payload None = Dropped NotSubscribed ∷ []
+
+-- ---- segments
+
+-- the offer of a segment to the store
+abbrev pub offer_of : OfferedSegment → Offer
+offer_of s = offer s.key s.offset s.more s.bytes.now
+
+-- the parts once a segment was judged, and the message that it made whole was taken
+abbrev pub taken_by : Result Offered TpError → ReassemblyKey → Parts → Parts
+taken_by (Ok Whole) key parts = parts_less parts key
+taken_by (Ok Part) key parts = parts
+taken_by (Err refusal) key parts = parts
+
+-- a segment that is refused is told
+abbrev pub refused_as : Result Offered TpError → List Output
+refused_as (Ok offered) = []
+refused_as (Err refusal) = Dropped (Tp refusal) ∷ []

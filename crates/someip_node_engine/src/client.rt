@@ -1,0 +1,177 @@
+//! Messages that come to the node's client.
+ghost use Rattle.std.specs.Prelude.{◌≡◌, ◌++◌, false, OnOk};
+ghost use Rattle.std.specs.Option.{option_map_or};
+ghost use Rattle.std.specs.Ordering.{eq_by_cmp};
+ghost use Rattle.someip_tables.specs.Endpoints.{endpoint_cmp};
+ghost use Rattle.someip_node_engine.specs.Arrivals.{bytes_in, given_of_answer, given_of_event};
+ghost use Rattle.someip_node_rules.specs.Messages.{is_subscribed_by, publisher, publishes, takes_event};
+ghost use Rattle.someip_node_rules.specs.Plans.{act, plain, run, TakesAnswer, TakesEvent};
+ghost use Rattle.someip_node_rules.specs.Tables.{known_endpoint};
+ghost use Rattle.someip_node_engine.specs.Working.{working};
+
+use crate::engine::Engine;
+use crate::giving::Giving;
+use crate::received::ReceivedPayload;
+use crate::setups::client_rules;
+use sd_core::{Eventgroup, InstanceId};
+use someip_node_rules::{DropReason, Output, WantedService};
+use someip_rpc::{CallKey, DropCause};
+use someip_tables::is_same_key;
+use someip_tp::Reassembly;
+use someip_wire::Header;
+use std::alloc::{AllocError, Global};
+use std::collections::BTreeSet;
+use std::net::SocketAddrV4;
+
+impl<R: Reassembly> Engine<R> {
+    /// Takes a message that comes to the client as the answer to a call.
+    pub(crate) fn answer_came(
+        &mut self,
+        from: SocketAddrV4,
+        header: &Header,
+        payload: ReceivedPayload<'_>,
+        giving: &mut Giving,
+    ) -> Result<(), AllocError>
+        ensures { OnOk result (working self.new giving.new
+            ≡ run plain (act (TakesAnswer from header.now (bytes_in payload.entry)))
+            (working self.old giving.old)) }
+    {
+        let rules = client_rules(&self.config);
+        let answered = self.client.on_answer(&rules, from, header, self.clock);
+        give_answer(self.alloc, answered, header, payload, &mut giving.outputs)
+    }
+
+    /// Takes a message that comes to the client as an event.
+    pub(crate) fn event_came(
+        &mut self,
+        from: SocketAddrV4,
+        header: &Header,
+        payload: ReceivedPayload<'_>,
+        giving: &mut Giving,
+    ) -> Result<(), AllocError>
+        ensures { OnOk result (working self.new giving.new
+            ≡ run plain (act (TakesEvent from header.now (bytes_in payload.entry)))
+            (working self.old giving.old)) }
+    {
+        let publisher = self.publisher(from, header);
+        give_event(self.alloc, publisher, header, payload, &mut giving.outputs)
+    }
+
+    /// The instance that an event is of: the first one, by rising instance.
+    fn publisher(&self, from: SocketAddrV4, header: &Header) -> Option<InstanceId>
+        ensures { result ≡ publisher self.now from header.now }
+    {
+        for (instance, want) in &self.config.wants {
+            if self.publishes(from, header, instance, want) {
+                return Some(*instance);
+            }
+        }
+        None
+    }
+
+    /// Whether an event is one of a wanted instance.
+    fn publishes(
+        &self,
+        from: SocketAddrV4,
+        header: &Header,
+        instance: &InstanceId,
+        want: &WantedService,
+    ) -> bool
+        ensures { result ≡ publishes self.now from header.now (instance.now, want.now) }
+    {
+        instance.service == header.service
+            && want.major == header.interface
+            && self.is_known_at(*instance, from)
+            && self.takes_event(*instance, want, header.method)
+    }
+
+    /// Whether the offer that is known of an instance has this endpoint.
+    fn is_known_at(&self, instance: InstanceId, from: SocketAddrV4) -> bool
+        ensures { result ≡ option_map_or (λ endpoint. eq_by_cmp endpoint_cmp endpoint from)
+            (known_endpoint self.now instance) false }
+    {
+        match self.seeker.known(instance, self.clock) {
+            Some(known) => is_same_key(&known.endpoint, &from),
+            None => false,
+        }
+    }
+
+    /// Whether the client is subscribed to an eventgroup of an instance that has the event.
+    fn takes_event(&self, instance: InstanceId, want: &WantedService, event: u16) -> bool
+        ensures { result ≡ takes_event self.now instance want.now event }
+    {
+        for (id, events) in &want.groups {
+            if self.is_subscribed_by(instance, *id, events, event) {
+                return true;
+            }
+        }
+        false
+    }
+
+    /// Whether the client is subscribed to an eventgroup, and the eventgroup has the event.
+    fn is_subscribed_by(
+        &self,
+        instance: InstanceId,
+        id: u16,
+        events: &BTreeSet<u16>,
+        event: u16,
+    ) -> bool
+        ensures { result ≡ is_subscribed_by self.now instance event (id, events.now) }
+    {
+        events.contains(&event)
+            && self
+                .subscriptions
+                .is_subscribed(&Eventgroup { instance, id }, self.clock)
+    }
+}
+
+/// Gives an answer that came, or says why it is dropped.
+fn give_answer(
+    alloc: Global,
+    answered: Result<CallKey, DropCause>,
+    header: &Header,
+    payload: ReceivedPayload<'_>,
+    outputs: &mut Vec<Output>,
+) -> Result<(), AllocError>
+    ensures { OnOk result (outputs.new.items
+        ≡ outputs.old.items ++ given_of_answer header.now (bytes_in payload.entry) answered) }
+{
+    let output = match answered {
+        Ok(call) => Output::Answered {
+            message: call.message,
+            session: call.session,
+            code: header.code,
+            payload: payload.into_payload(alloc)?,
+        },
+        Err(cause) => Output::Dropped {
+            reason: DropReason::Answer(cause),
+        },
+    };
+    outputs.push(output)?;
+    Ok(())
+}
+
+/// Gives an event that came, or says that the client is not subscribed to it.
+fn give_event(
+    alloc: Global,
+    publisher: Option<InstanceId>,
+    header: &Header,
+    payload: ReceivedPayload<'_>,
+    outputs: &mut Vec<Output>,
+) -> Result<(), AllocError>
+    ensures { OnOk result (outputs.new.items
+        ≡ outputs.old.items ++ given_of_event header.now (bytes_in payload.entry) publisher) }
+{
+    let output = match publisher {
+        Some(instance) => Output::Event {
+            instance,
+            event: header.method,
+            payload: payload.into_payload(alloc)?,
+        },
+        None => Output::Dropped {
+            reason: DropReason::NotSubscribed,
+        },
+    };
+    outputs.push(output)?;
+    Ok(())
+}

@@ -1,0 +1,139 @@
+//! Messages of Service Discovery that come.
+ghost use Rattle.std.specs.Prelude.{◌≡◌, map, IfOk, OnOk};
+ghost use Rattle.std.specs.Result.{result_map_both};
+ghost use Rattle.someip_wire.specs.View.{view};
+ghost use Rattle.sd_wire.specs.Program.{reading};
+ghost use Rattle.sd_wire.specs.Values.{view_read, view_sd};
+ghost use Rattle.someip_node_rules.specs.Handling.{discovery_plan, entries_plan, heard_plan};
+ghost use Rattle.someip_node_rules.specs.Handling.{is_discovery, reading_plan};
+ghost use Rattle.someip_node_rules.specs.Receivers.{messages_plan_to};
+ghost use Rattle.someip_node_rules.specs.declared.receiver.Receiver.TheVariants.{Peer};
+ghost use Rattle.someip_node_rules.specs.Plans.{plain, replying, run};
+ghost use Rattle.someip_node_engine.specs.Working.{working};
+
+use crate::engine::Engine;
+use crate::giving::Giving;
+use sd_session::{Channel, Stamp};
+use sd_wire::{ReadEntry, SdError, SdRead, read_sd};
+use someip_node_rules::{DropReason, Output, Receiver};
+use someip_tp::Reassembly;
+use someip_wire::{Header, Message, MessageType};
+use std::alloc::{AllocError, Global};
+use std::mem;
+use std::net::Ipv4Addr;
+
+impl<R: Reassembly> Engine<R> {
+    /// A message comes to Service Discovery.
+    pub(crate) fn discovery(
+        &mut self,
+        peer: Ipv4Addr,
+        channel: Channel,
+        message: &Message<'_>,
+        giving: &mut Giving,
+    ) -> Result<(), AllocError>
+        ensures { OnOk result (working self.new giving.new
+            ≡ run plain (discovery_plan peer channel (view message.now))
+            (working self.old giving.old)) }
+    {
+        if !is_discovery(&message.header) {
+            giving.outputs.push(Output::Dropped {
+                reason: DropReason::NotSd,
+            })?;
+            return Ok(());
+        }
+        let found = read_payload(self.alloc, message.payload)?;
+        self.found(peer, channel, message.header.session, found, giving)
+    }
+
+    /// A message was read, or has a fault.
+    fn found(
+        &mut self,
+        peer: Ipv4Addr,
+        channel: Channel,
+        session: u16,
+        found: Result<SdRead, SdError>,
+        giving: &mut Giving,
+    ) -> Result<(), AllocError>
+        ensures { OnOk result (working self.new giving.new
+            ≡ run plain (reading_plan peer channel session (result_map_both view_sd (λ e. e) found))
+            (working self.old giving.old)) }
+    {
+        match found {
+            Ok(read) => self.heard(peer, channel, session, &read, giving),
+            Err(fault) => {
+                giving.outputs.push(Output::Dropped {
+                    reason: DropReason::Sd(fault),
+                })?;
+                Ok(())
+            }
+        }
+    }
+
+    /// A message was read: its peer is heard, and then its entries are taken.
+    fn heard(
+        &mut self,
+        peer: Ipv4Addr,
+        channel: Channel,
+        session: u16,
+        read: &SdRead,
+        giving: &mut Giving,
+    ) -> Result<(), AllocError>
+        ensures { OnOk result (working self.new giving.new
+            ≡ run plain (heard_plan peer channel session (view_sd read.now))
+            (working self.old giving.old)) }
+    {
+        let stamp = Stamp {
+            session,
+            reboot: read.flags.reboot,
+        };
+        if self.hear(peer, channel, stamp, giving)? {
+            self.answered_entries(peer, &read.entries, giving)?;
+        }
+        Ok(())
+    }
+
+    /// The entries of a message come, and the replies to them go out.
+    fn answered_entries(
+        &mut self,
+        peer: Ipv4Addr,
+        entries: &[ReadEntry],
+        giving: &mut Giving,
+    ) -> Result<(), AllocError>
+        ensures { OnOk result (working self.new giving.new
+            ≡ run plain (entries_plan peer (map view_read entries.now))
+            (working self.old giving.old)) }
+    {
+        self.entries(peer, entries, giving)?;
+        self.reply(peer, giving)
+    }
+
+    /// The replies so far go out.
+    fn reply(&mut self, peer: Ipv4Addr, giving: &mut Giving) -> Result<(), AllocError>
+        ensures { OnOk result (working self.new giving.new
+            ≡ run plain (replying (messages_plan_to (Peer peer))) (working self.old giving.old)) }
+    {
+        let replies = mem::replace(&mut giving.replies, Vec::new(self.alloc));
+        self.send_entries(Receiver::Peer(peer), &replies, giving)
+    }
+}
+
+/// Whether this is the header of a message of Service Discovery.
+fn is_discovery(header: &Header) -> bool
+    ensures { result ≡ is_discovery header.now }
+{
+    header.service == 0xffff
+        && header.method == 0x8100
+        && header.interface == 1
+        && matches!(header.kind, MessageType::Notification)
+        && header.session != 0
+}
+
+/// Reads a message, and keeps want of memory apart.
+fn read_payload(alloc: Global, payload: &[u8]) -> Result<Result<SdRead, SdError>, AllocError>
+    ensures { IfOk result (λ found. result_map_both view_sd (λ e. e) found ≡ reading payload.now) }
+{
+    match read_sd(alloc, payload) {
+        Err(SdError::OutOfMemory) => Err(AllocError),
+        found => Ok(found),
+    }
+}

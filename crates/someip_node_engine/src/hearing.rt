@@ -1,0 +1,66 @@
+//! Peers that are heard, and what ends as one began again.
+ghost use Rattle.std.specs.Prelude.{◌≡◌, ◌++◌, ◌∷◌, if◌then◌else◌, IfOk, OnOk};
+ghost use Rattle.sd_session.specs.Peers.{may_hold};
+ghost use Rattle.someip_node_rules.specs.declared.drops.DropReason.TheVariants.{PeersFull};
+ghost use Rattle.someip_node_rules.specs.declared.output.Output.TheVariants.{Rebooted};
+ghost use Rattle.someip_node_rules.specs.Items.{changed, PeerRebooted};
+ghost use Rattle.someip_node_rules.specs.Learning.{reboot_endings};
+ghost use Rattle.someip_node_rules.specs.Plans.{act, plain, run, Drops, Hears};
+ghost use Rattle.someip_node_engine.specs.Working.{working};
+
+use crate::endings::tell_endings;
+use crate::engine::Engine;
+use crate::giving::Giving;
+use sd_session::{Channel, Seen, SessionError, Stamp};
+use someip_node_rules::{DropReason, Output};
+use someip_tp::Reassembly;
+use std::alloc::AllocError;
+use std::net::Ipv4Addr;
+
+impl<R: Reassembly> Engine<R> {
+    /// A message of Service Discovery comes with this stamp: its peer is heard, where there is room
+    /// for it, and the message is dropped where there is none. Says whether there is.
+    #[tactic(auto, using(crate::proofs::HearingLemmas::peer_heard))]
+    pub(crate) fn hear(
+        &mut self,
+        peer: Ipv4Addr,
+        channel: Channel,
+        stamp: Stamp,
+        giving: &mut Giving,
+    ) -> Result<bool, AllocError>
+        ensures room { IfOk result (λ has_room. has_room
+            ≡ may_hold self.old.config.common.peers self.old.peers peer) }
+        ensures heard { IfOk result (λ has_room. working self.new giving.new
+            ≡ run plain (if has_room then act (Hears peer channel stamp) else act (Drops PeersFull))
+            (working self.old giving.old)) }
+    {
+        match self.peers.saw(peer, channel, stamp.session, stamp.reboot) {
+            Ok(Seen::Same) => Ok(true),
+            Ok(Seen::Rebooted) => {
+                self.forget_peer(peer, &mut giving.outputs)?;
+                Ok(true)
+            }
+            Err(SessionError::PeersFull) => {
+                giving.outputs.push(Output::Dropped {
+                    reason: DropReason::PeersFull,
+                })?;
+                Ok(false)
+            }
+            Err(SessionError::OutOfMemory) => Err(AllocError),
+        }
+    }
+
+    /// All that was learned from a peer ends, since it began again.
+    fn forget_peer(&mut self, peer: Ipv4Addr, outputs: &mut Vec<Output>) -> Result<(), AllocError>
+        ensures tables { OnOk result (self.new ≡ changed self.old (PeerRebooted peer)) }
+        ensures outputs { OnOk result (outputs.new.items
+            ≡ outputs.old.items ++ Rebooted peer ∷ reboot_endings peer self.old) }
+    {
+        outputs.push(Output::Rebooted { peer })?;
+        let gone = self.seeker.peer_reboot(peer, self.clock)?;
+        let ended = self.subscriptions.peer_reboot(peer)?;
+        self.subscribers.peer_reboot(peer);
+        tell_endings(&self.config, &gone, &ended, outputs)?;
+        Ok(())
+    }
+}

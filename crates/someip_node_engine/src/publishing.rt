@@ -1,0 +1,237 @@
+//! The events that the application publishes.
+ghost use Rattle.std.specs.Prelude.{◌≡◌, ◌≤◌, ◌++◌, length, map, IfOk, OnOk};
+ghost use Rattle.std.specs.List.{flat_map};
+ghost use Rattle.someip_wire.specs.View.{view};
+ghost use Rattle.someip_tables.specs.Lastings.{unexpired};
+ghost use Rattle.sd_core.specs.SubscriberTables.{endpoints_of};
+ghost use Rattle.someip_node_rules.specs.Calls.{eventgroups_of, subscriber_at};
+ghost use Rattle.someip_node_engine.specs.Handled.{Handled};
+ghost use Rattle.someip_node_rules.specs.Inputs as input;
+ghost use Rattle.someip_node_rules.specs.Outputs.{datagrams_of};
+ghost use Rattle.someip_node_engine.specs.Publishings.{Publishes, PublishesTo};
+ghost use Rattle.someip_node_rules.specs.Tables.{is_up};
+
+use crate::engine::Engine;
+use crate::giving::Giving;
+use crate::sending::send;
+use sd_core::{InstanceId, Subscribers};
+use someip_node_rules::{NodeError, OfferedService, Output};
+use someip_rpc::{Publication, RpcError, ServerCore, Subscriber};
+use someip_tables::Moment;
+use someip_tp::Reassembly;
+use std::alloc::{AllocError, Global};
+use std::collections::BTreeSet;
+use std::net::SocketAddrV4;
+
+/// What a publication is bound by.
+#[derive(Clone, Copy)]
+struct Settings {
+    alloc: Global,
+    /// The instance that publishes.
+    instance: InstanceId,
+    /// Whether it is offered.
+    is_up: bool,
+    /// The greatest payload of a message, in bytes.
+    limit: usize,
+}
+
+impl<R: Reassembly> Engine<R> {
+    /// Publishes an event to each live endpoint of its eventgroups.
+    pub fn publish(
+        &mut self,
+        instance: InstanceId,
+        event: u16,
+        payload: &[u8],
+        giving: &mut Giving,
+    ) -> Result<(), NodeError>
+        ensures { Handled (input.Publish instance event payload.now)
+            self.old giving.old result self.new giving.new }
+    {
+        let settings = self.settings(instance);
+        let Some(service) = self.config.offers.get(&instance) else {
+            return Err(NodeError::Rpc(RpcError::NotOffered));
+        };
+        publish_by(
+            &mut self.server,
+            &self.subscribers,
+            self.clock,
+            service,
+            settings,
+            event,
+            payload,
+            &mut giving.outputs,
+        )
+    }
+
+    /// Publishes an event to one endpoint that is subscribed to an eventgroup.
+    pub fn publish_to(
+        &mut self,
+        instance: InstanceId,
+        eventgroup: u16,
+        endpoint: SocketAddrV4,
+        event: u16,
+        payload: &[u8],
+        giving: &mut Giving,
+    ) -> Result<(), NodeError>
+        ensures { Handled (input.PublishTo instance eventgroup endpoint event payload.now)
+            self.old giving.old result self.new giving.new }
+    {
+        let settings = self.settings(instance);
+        let subscriber = self.subscriber_at(instance, eventgroup, endpoint);
+        let Some(service) = self.config.offers.get(&instance) else {
+            return Err(NodeError::Rpc(RpcError::NotOffered));
+        };
+        publish_to_by(
+            &mut self.server,
+            service,
+            settings,
+            subscriber,
+            event,
+            payload,
+            &mut giving.outputs,
+        )
+    }
+
+    /// What a publication of an instance is bound by.
+    fn settings(&self, instance: InstanceId) -> Settings
+        ensures instance { result.instance ≡ instance }
+        ensures up { result.is_up ≡ is_up self.now instance }
+        ensures limit { result.limit ≡ self.now.config.common.message_limit }
+        ensures bound { result.limit ≤ 1048576 }
+    {
+        Settings {
+            alloc: self.alloc,
+            instance,
+            is_up: self.offers.is_up(instance),
+            limit: self.config.common.message_limit,
+        }
+    }
+
+    /// An endpoint, and whether it has a live subscription to an eventgroup.
+    fn subscriber_at(
+        &self,
+        instance: InstanceId,
+        eventgroup: u16,
+        endpoint: SocketAddrV4,
+    ) -> Subscriber
+        ensures { result ≡ subscriber_at instance eventgroup endpoint self.now }
+    {
+        Subscriber {
+            eventgroup,
+            endpoint,
+            is_live: self
+                .subscribers
+                .is_live(instance, eventgroup, endpoint, self.clock),
+        }
+    }
+}
+
+/// Publishes an event to each live endpoint of its eventgroups.
+fn publish_by(
+    server: &mut ServerCore,
+    subscribers: &Subscribers,
+    now: Moment,
+    service: &OfferedService,
+    settings: Settings,
+    event: u16,
+    payload: &[u8],
+    outputs: &mut Vec<Output>,
+) -> Result<(), NodeError>
+    requires { settings.limit ≤ 1048576 }
+    ensures { Publishes service.now.rules settings.is_up settings.limit event payload.now
+        (endpoints_of settings.instance (eventgroups_of service.now event)
+        (unexpired now subscribers.now)) server.old outputs.old.items result server.new outputs.new.items }
+{
+    let publication = server.publish(
+        &service.rules,
+        settings.is_up,
+        settings.limit,
+        event,
+        payload,
+    )?;
+    let endpoints = live_endpoints(
+        subscribers,
+        settings.alloc,
+        service,
+        settings.instance,
+        event,
+        now,
+    )?;
+    send_all(settings.alloc, &publication, &endpoints, outputs)?;
+    Ok(())
+}
+
+/// Publishes an event to one endpoint.
+fn publish_to_by(
+    server: &mut ServerCore,
+    service: &OfferedService,
+    settings: Settings,
+    subscriber: Subscriber,
+    event: u16,
+    payload: &[u8],
+    outputs: &mut Vec<Output>,
+) -> Result<(), NodeError>
+    requires { settings.limit ≤ 1048576 }
+    ensures { PublishesTo service.now.rules settings.is_up settings.limit subscriber event
+        payload.now server.old outputs.old.items result server.new outputs.new.items }
+{
+    let sent = server.publish_to(
+        &service.rules,
+        settings.is_up,
+        settings.limit,
+        &subscriber,
+        event,
+        payload,
+    )?;
+    send(settings.alloc, sent.from, sent.to, &sent.message, outputs)?;
+    Ok(())
+}
+
+/// The endpoints that an event of an instance goes to.
+fn live_endpoints(
+    subscribers: &Subscribers,
+    alloc: Global,
+    service: &OfferedService,
+    instance: InstanceId,
+    event: u16,
+    now: Moment,
+) -> Result<BTreeSet<SocketAddrV4>, AllocError>
+    ensures { IfOk result (λ endpoints. endpoints.keys ≡ endpoints_of instance
+        (eventgroups_of service.now event) (unexpired now subscribers.now)) }
+{
+    let eventgroups = eventgroups_of(alloc, service, event)?;
+    subscribers.live(instance, &eventgroups, now)
+}
+
+/// The eventgroups that an event belongs to.
+fn eventgroups_of(
+    alloc: Global,
+    service: &OfferedService,
+    event: u16,
+) -> Result<Vec<u16>, AllocError>
+    ensures { IfOk result (λ eventgroups. eventgroups.items ≡ eventgroups_of service.now event) }
+{
+    match service.rules.events.get(&event) {
+        Some(eventgroups) => eventgroups.iter().copied().collect(alloc),
+        None => Ok(Vec::new(alloc)),
+    }
+}
+
+/// Sends an event to each endpoint.
+fn send_all(
+    alloc: Global,
+    publication: &Publication<'_>,
+    endpoints: &BTreeSet<SocketAddrV4>,
+    outputs: &mut Vec<Output>,
+) -> Result<(), AllocError>
+    requires { length publication.now.message.payload.now ≤ 1048576 }
+    ensures { OnOk result (outputs.new.items ≡ outputs.old.items ++ flat_map
+        (λ to. datagrams_of publication.now.from to (view publication.now.message))
+        endpoints.now.keys) }
+{
+    for to in endpoints {
+        let sent = publication.to(*to);
+        send(alloc, sent.from, sent.to, &sent.message, outputs)?;
+    }
+    Ok(())
+}

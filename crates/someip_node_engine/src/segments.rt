@@ -1,0 +1,203 @@
+//! Segments that come.
+ghost use Rattle.std.specs.Prelude.{◌≡◌, ◌++◌, ◌%◌, IfOk, OnOk};
+ghost use Rattle.someip_tp.specs.Keys.{segment_key};
+ghost use Rattle.someip_tp.specs.Offers.{judgement, message_at, parts_after, parts_less};
+ghost use Rattle.someip_tp.specs.Parts.{NoneAfter};
+ghost use Rattle.someip_tp.specs.Words.{segment_in};
+ghost use Rattle.someip_node_engine.specs.Arrivals.{offer_of, refused_as, taken_by};
+ghost use Rattle.someip_node_rules.specs.Handling.{completed_plan, segment_plan};
+ghost use Rattle.someip_node_rules.specs.Messages.{completed, completed_by};
+ghost use Rattle.someip_node_rules.specs.Plans.{act, plain, run, TakesSegment};
+ghost use Rattle.someip_node_engine.specs.Working.{working};
+
+use crate::engine::Engine;
+use crate::giving::Giving;
+use crate::received::ReceivedPayload;
+use someip_node_rules::{DropReason, Output, Payload, Target};
+use someip_tables::Moment;
+use someip_tp::{Offered, Reassembly, ReassemblyKey, TpError, read_segment};
+use someip_wire::Header;
+use std::alloc::{AllocError, Global};
+use std::net::SocketAddrV4;
+
+/// A segment that is offered to the store.
+#[derive(Clone, Copy)]
+pub(crate) struct OfferedSegment<'a> {
+    /// The key of its message.
+    pub(crate) key: ReassemblyKey,
+    /// Its offset in bytes.
+    pub(crate) offset: u32,
+    /// Whether more segments follow.
+    pub(crate) more: bool,
+    /// Its slice.
+    pub(crate) bytes: &'a [u8],
+}
+
+impl<R: Reassembly> Engine<R> {
+    /// Takes a segment of a message that comes to where it is taken.
+    pub(crate) fn segment(
+        &mut self,
+        target: Target,
+        from: SocketAddrV4,
+        to: SocketAddrV4,
+        header: &Header,
+        payload: &[u8],
+        giving: &mut Giving,
+    ) -> Result<(), AllocError>
+        ensures { OnOk result (working self.new giving.new
+            ≡ run plain (segment_plan target from to header.now (segment_in payload.now))
+            (working self.old giving.old)) }
+    {
+        match read_segment(payload) {
+            Ok((offset, more, bytes)) => {
+                let segment = OfferedSegment {
+                    key: ReassemblyKey::new(from, to, header),
+                    offset,
+                    more,
+                    bytes,
+                };
+                let whole = self.offer_segment(segment, giving)?;
+                self.completed(target, from, header, whole, giving)
+            }
+            Err(fault) => {
+                giving.outputs.push(Output::Dropped {
+                    reason: DropReason::Tp(fault),
+                })?;
+                Ok(())
+            }
+        }
+    }
+
+    /// Offers a segment to the store, and gives the message that it made whole.
+    fn offer_segment(
+        &mut self,
+        segment: OfferedSegment<'_>,
+        giving: &mut Giving,
+    ) -> Result<Option<Payload>, AllocError>
+        requires { segment.offset % 16 ≡ 0 }
+        ensures whole { IfOk result (λ whole. whole ≡ completed (offer_of segment.entry) self.old) }
+        ensures work { OnOk result (working self.new giving.new
+            ≡ run plain (act (TakesSegment (offer_of segment.entry)))
+            (working self.old giving.old)) }
+    {
+        offer_to(
+            &mut self.store,
+            self.alloc,
+            self.clock,
+            segment,
+            &mut giving.outputs,
+        )
+    }
+
+    /// Takes the message that a segment made whole, if it did.
+    fn completed(
+        &mut self,
+        target: Target,
+        from: SocketAddrV4,
+        header: &Header,
+        whole: Option<Payload>,
+        giving: &mut Giving,
+    ) -> Result<(), AllocError>
+        ensures { OnOk result (working self.new giving.new
+            ≡ run plain (completed_plan target from header.now whole)
+            (working self.old giving.old)) }
+    {
+        match whole {
+            Some(payload) => {
+                let header = Header {
+                    kind: header.kind.without_tp_flag(),
+                    ..*header
+                };
+                let payload = ReceivedPayload::Reassembled(payload);
+                self.whole(target, from, &header, payload, giving)
+            }
+            None => Ok(()),
+        }
+    }
+}
+
+/// Offers a segment, and gives the message that it made whole.
+fn offer_to<R: Reassembly>(
+    store: &mut R,
+    alloc: Global,
+    now: Moment,
+    segment: OfferedSegment<'_>,
+    outputs: &mut Vec<Output>,
+) -> Result<Option<Payload>, AllocError>
+    requires aligned { segment.offset % 16 ≡ 0 }
+    requires moments { NoneAfter now (R.parts store.old) }
+    ensures whole { IfOk result (λ whole. whole ≡ completed_by
+        (judgement (R.limits store.old) now (offer_of segment.entry) (R.parts store.old))
+        (message_at (parts_after (R.limits store.old) now (offer_of segment.entry) (R.parts store.old))
+        segment.entry.key)) }
+    ensures parts { OnOk result (R.parts store.new ≡ taken_by
+        (judgement (R.limits store.old) now (offer_of segment.entry) (R.parts store.old))
+        segment.entry.key
+        (parts_after (R.limits store.old) now (offer_of segment.entry) (R.parts store.old))) }
+    ensures outputs { OnOk result (outputs.new.items ≡ outputs.old.items ++ refused_as
+        (judgement (R.limits store.old) now (offer_of segment.entry) (R.parts store.old))) }
+    ensures moments { NoneAfter now (R.parts store.new) }
+    ensures limits { R.limits store.new ≡ R.limits store.old }
+{
+    match offered(store, now.as_millis(), segment)? {
+        Ok(Offered::Part) => Ok(None),
+        Ok(Offered::Whole) => {
+            let message = take_whole(store, alloc, now, &segment.key)?;
+            Ok(message)
+        }
+        Err(refusal) => {
+            outputs.push(Output::Dropped {
+                reason: DropReason::Tp(refusal),
+            })?;
+            Ok(None)
+        }
+    }
+}
+
+/// Offers a segment, and keeps want of memory apart.
+fn offered<R: Reassembly>(
+    store: &mut R,
+    now: u64,
+    segment: OfferedSegment<'_>,
+) -> Result<Result<Offered, TpError>, AllocError>
+    requires aligned { segment.offset % 16 ≡ 0 }
+    requires moments { NoneAfter now (R.parts store.old) }
+    ensures judged { IfOk result (λ judged. judged
+        ≡ judgement (R.limits store.old) now (offer_of segment.entry) (R.parts store.old)) }
+    ensures parts { OnOk result (R.parts store.new
+        ≡ parts_after (R.limits store.old) now (offer_of segment.entry) (R.parts store.old)) }
+    ensures moments { NoneAfter now (R.parts store.new) }
+    ensures limits { R.limits store.new ≡ R.limits store.old }
+{
+    match store.offer(
+        segment.key,
+        segment.offset,
+        segment.more,
+        segment.bytes,
+        now,
+    ) {
+        Err(TpError::OutOfMemory) => Err(AllocError),
+        judged => Ok(judged),
+    }
+}
+
+/// Takes a whole message.
+fn take_whole<R: Reassembly>(
+    store: &mut R,
+    alloc: Global,
+    now: Moment,
+    key: &ReassemblyKey,
+) -> Result<Option<Payload>, AllocError>
+    requires { NoneAfter now (R.parts store.old) }
+    ensures whole { IfOk result (λ whole. whole ≡ message_at (R.parts store.old) key.now) }
+    ensures parts { OnOk result (R.parts store.new ≡ parts_less (R.parts store.old) key.now) }
+    ensures moments { NoneAfter now (R.parts store.new) }
+    ensures limits { R.limits store.new ≡ R.limits store.old }
+{
+    let mut bytes = Vec::new(alloc);
+    match store.take(key, &mut bytes) {
+        Ok(true) => Ok(Some(Payload::from_vec(bytes))),
+        Ok(false) => Ok(None),
+        Err(_) => Err(AllocError),
+    }
+}

@@ -1,0 +1,193 @@
+-- Each rule of what a datagram brings about is about what stands in the datagram.
+use Rattle.std.proofs.Common.{◌≡◌, ℕ, Bool, true, not, List, [], ◌∷◌, Option, None, Some, Result, Ok, Err, refl, inl, inr}
+use Rattle.std.specs.List.{AllByRecursion, Contains}
+use Rattle.std.proofs.lemmas.Bool.{cond_both}
+use Rattle.std.specs.Net.Socket.{v4_ip}
+use Rattle.std.specs.declared.net.socket_addr.SocketAddrV4.{SocketAddrV4}
+use Rattle.someip_wire.specs.declared.error.WireError.{WireError}
+use Rattle.someip_wire.specs.declared.header.Header.{Header}
+use Rattle.someip_wire.specs.declared.header.MessageType.{MessageType}
+use Rattle.someip_wire.specs.declared.header.MessageType.TheVariants as kinds
+use Rattle.someip_wire.specs.Kinds.{has_tp_flag, without_tp_flag}
+use Rattle.someip_wire.specs.Reading.{items_of}
+use Rattle.someip_wire.specs.Spelling.{MessageValue}
+use Rattle.someip_tp.specs.declared.error.TpError.{TpError}
+use Rattle.someip_tp.specs.Keys.{segment_key}
+use Rattle.someip_tp.specs.Offers.{Offer, offer}
+use Rattle.someip_tp.specs.Words.{segment_in}
+use Rattle.sd_wire.specs.declared.entry.EntryHead.{EntryHead}
+use Rattle.sd_wire.specs.declared.entry.EntryHead.TheVariants.{Service, Eventgroup}
+use Rattle.sd_wire.specs.declared.entry.EventgroupEntry.{EventgroupEntry}
+use Rattle.sd_wire.specs.declared.entry.ServiceEntry.{ServiceEntry}
+use Rattle.sd_wire.specs.declared.error.SdError.{SdError}
+use Rattle.sd_wire.specs.Endpoints.{first_udp_endpoint, options_of}
+use Rattle.sd_wire.specs.Kinds.{is_ack, is_find, is_stop_offer, is_stop_subscribe, is_subscribe}
+use Rattle.sd_wire.specs.Fronts.{front_lengths}
+use Rattle.sd_wire.specs.Program.{reading}
+use Rattle.sd_wire.specs.Values.{EntryValue, ReadValue, SdValue, good, bad_run}
+use Rattle.sd_session.specs.declared.stamp.Channel.{Channel}
+use Rattle.sd_session.specs.Peers.{may_hold}
+use Rattle.someip_node_rules.specs.declared.target.Target.{Target}
+use Rattle.someip_node_rules.specs.declared.target.Target.TheVariants.{Instance, Client, Discovery, Nowhere}
+use Rattle.someip_node_rules.specs.declared.receiver.Receiver.TheVariants.{Peer}
+use Rattle.someip_node_rules.specs.Bringing.{OfDatagram, RepliesToEntry}
+use Rattle.someip_node_rules.specs.Entries.{fronts}
+use Rattle.someip_node_rules.specs.Handling.{client_plan, completed_plan, datagram_plan, discovery_plan, entries_plan, entry_plan, eventgroup_plan, good_plan, heard_plan, is_discovery, item_plan, items_plan, message_plan, reading_plan, same_address, segment_plan, service_plan, target_of, target_plan, whole_plan}
+use Rattle.someip_node_rules.specs.History.{History, answers_of, historic}
+use Rattle.someip_node_rules.specs.Messages as messages
+use Rattle.someip_node_rules.specs.Packets.{Packet, Came, HasDiscovery, HasEntry, HasEventgroupEntry, HasMessage, HasSegment, HasServiceEntry}
+use Rattle.someip_node_rules.specs.Plans.{Plan, Rule, Work, does, each, run}
+use Rattle.someip_node_rules.specs.Receivers.{message_plan_to, messages_plan_to}
+use Rattle.someip_node_rules.specs.Steps.{work_on}
+use Rattle.someip_node_rules.specs.Trails.{IsLater}
+use Rattle.someip_node_rules.proofs.EntryRules.{is_nack_left, is_offer_left}
+use Rattle.someip_node_rules.proofs.MemberLemmas.{all_fronts, all_from_members, all_members}
+use Rattle.someip_node_rules.proofs.PlanLemmas.{Allows}
+
+module _ (h : History) (p : Packet) where
+  -- the history is on the way, and each reply is that of an entry of the datagram
+  abbrev pub OnWay : Work History → Type 0
+  OnWay w = IsLater h w.state × AllByRecursion (RepliesToEntry h p) w.replies
+
+  abbrev pub MayBe : Rule → Work History → Type 0
+  MayBe r w = OfDatagram h p r w.state
+
+  abbrev pub Allowed : Plan → Work History → Type 0
+  Allowed plan w = Allows historic OnWay MayBe plan w
+
+  pub at_once : OnWay (work_on h)
+  at_once = (([], refl), tt)
+
+  all_each : {X : Type 0} (Q : X → Type 0) (f : X → Plan) → ((x : X) → Q x → (w : Work History) → OnWay w → Allowed (f x) w)
+      → (xs : List X) → AllByRecursion Q xs → (w : Work History) → OnWay w → Allowed (each f xs) w
+  all_each Q f allow [] all w o = tt
+  all_each Q f allow (x ∷ xs) all w o = (allow x all.0 w o, λ o'. all_each Q f allow xs all.1 (run historic (f x) w) o')
+
+  -- ---- messages of the application
+
+  client_allowed : (header : Header) (payload : List ℕ) (kind : MessageType) → header.kind ≡ kind → target_of h.config p.to ≡ Client
+      → (w : Work History) → Came h p header payload w.state → Allowed (client_plan p.from header payload kind) w
+  client_allowed header payload kinds.Notification is client w came = (refl, client, is, came)
+  client_allowed header payload kinds.Request is client w came = (refl, client, came)
+  client_allowed header payload _ is client w came = (refl, client, came)
+
+  whole_allowed : (goal : Target) → target_of h.config p.to ≡ goal → (header : Header) (payload : List ℕ)
+      → (w : Work History) → Came h p header payload w.state → Allowed (whole_plan goal p.from header payload) w
+  whole_allowed (Instance instance) at header payload w came = (refl, at, came)
+  whole_allowed Client at header payload w came = client_allowed header payload header.kind refl at w came
+  whole_allowed (Discovery channel) at header payload w came = tt
+  whole_allowed Nowhere at header payload w came = tt
+
+  completed_allowed : (goal : Target) → target_of h.config p.to ≡ goal → (m : MessageValue) (o : Offer)
+      → HasSegment p (record m.header { kind = without_tp_flag m.header.kind }) o → (before : Work History) → OnWay before
+      → (whole : Option (List ℕ)) → messages.completed o (answers_of before.state) ≡ whole
+      → Allowed (completed_plan goal p.from m.header whole) (does historic (messages.segment o) before)
+  completed_allowed goal at m o s before way None is = tt
+  completed_allowed goal at m o s before way (Some payload) is =
+      whole_allowed goal at (record m.header { kind = without_tp_flag m.header.kind }) payload (does historic (messages.segment o) before)
+      (inr (record { offer = o; segment = s; held = before.state; later = way.0; whole = is; met = refl }))
+
+  segment_allowed : (goal : Target) → target_of h.config p.to ≡ goal → (m : MessageValue) → HasMessage p m → has_tp_flag m.header.kind ≡ true
+      → (read : Result (ℕ × Bool × List ℕ) TpError) → segment_in m.payload ≡ read → (w : Work History) → OnWay w
+      → Allowed (segment_plan goal p.from p.to m.header read) w
+  segment_allowed goal at m stands flagged (Err fault) is w way = tt
+  segment_allowed goal at m stands flagged (Ok r) is w way =
+      let o : Offer = offer (segment_key p.from p.to m.header) r.0 r.1 r.2 in
+      let s : HasSegment p (record m.header { kind = without_tp_flag m.header.kind }) o = record { message = m; stands = stands; flagged = flagged; whole = refl; read = r; reads = is; offered = refl } in
+      ((record m.header { kind = without_tp_flag m.header.kind }, s), λ _. completed_allowed goal at m o s w way (messages.completed o (answers_of w.state)) refl)
+
+  message_allowed : (goal : Target) → target_of h.config p.to ≡ goal → (m : MessageValue) → HasMessage p m
+      → (w : Work History) → OnWay w → Allowed (message_plan goal p.from p.to m) w
+  message_allowed goal at m stands w way =
+      cond_both (has_tp_flag m.header.kind) _ _ (λ x. Allowed x w) (λ flagged. segment_allowed goal at m stands flagged (segment_in m.payload) refl w way)
+      (λ whole. whole_allowed goal at m.header m.payload w (inl (record { stands = stands; whole = whole })))
+
+  -- ---- Service Discovery
+
+  module _ (channel : Channel) (at : target_of h.config p.to ≡ Discovery channel) (w : Work History) where
+    service_allowed : (head : ServiceEntry) (endpoint : Option SocketAddrV4) → HasServiceEntry p head endpoint → Allowed (service_plan (v4_ip p.from) head endpoint) w
+    service_allowed head endpoint stands =
+        cond_both (is_find head) _ _ (λ x. Allowed x w) (λ find. ((channel, at), (find, (endpoint, stands))))
+        (λ find.
+        cond_both (is_stop_offer head) _ _ (λ x. Allowed x w) (λ stop. ((channel, at), (head, stop, (endpoint, stands), refl, refl, refl)))
+        (λ stop. ((channel, at), (head, is_offer_left head find stop, stands, refl))))
+
+    eventgroup_allowed : (head : EventgroupEntry) (endpoint : Option SocketAddrV4) → HasEventgroupEntry p head endpoint → Allowed (eventgroup_plan (v4_ip p.from) head endpoint) w
+    eventgroup_allowed head endpoint stands =
+        cond_both (is_subscribe head) _ _ (λ x. Allowed x w) (λ subscribe. ((channel, at), (subscribe, refl, inl stands)))
+        (λ subscribe.
+        cond_both (is_stop_subscribe head) _ _ (λ x. Allowed x w) (λ stop. ((channel, at), (stop, refl, stands)))
+        (λ stop.
+        cond_both (is_ack head) _ _ (λ x. Allowed x w) (λ ack. ((channel, at), (ack, refl, (endpoint, stands))))
+        (λ ack. ((channel, at), (is_nack_left head subscribe stop ack, refl, (endpoint, stands))))))
+
+    entry_allowed : (e : ReadValue) → HasEntry p e → Allowed (entry_plan (v4_ip p.from) e) w
+    entry_allowed (good e) stands = by_head e.head refl
+      where
+        by_head : (head : EntryHead) → e.head ≡ head → Allowed (good_plan (v4_ip p.from) head (first_udp_endpoint (options_of e))) w
+        by_head (Service head) is = service_allowed head (first_udp_endpoint (options_of e)) (record { entry = e; stands = stands; is = is; found = refl })
+        by_head (Eventgroup head) is = eventgroup_allowed head (first_udp_endpoint (options_of e)) (record { entry = e; stands = stands; is = is; found = refl })
+    entry_allowed (bad_run (Service head)) stands = tt
+    entry_allowed (bad_run (Eventgroup head)) stands =
+        cond_both (is_subscribe head) _ _ (λ x. Allowed x w) (λ subscribe. ((channel, at), (subscribe, refl, inr (stands, refl)))) (λ _. tt)
+
+  replies_allowed : (entries : List EntryValue) → AllByRecursion (RepliesToEntry h p) entries → (w : Work History) → OnWay w
+      → Allowed (messages_plan_to (Peer (v4_ip p.from)) entries) w
+  replies_allowed entries all w way =
+      all_each (AllByRecursion (RepliesToEntry h p)) (message_plan_to (Peer (v4_ip p.from))) (λ front replies v _. (refl, replies))
+      (fronts entries) (all_fronts (RepliesToEntry h p) (front_lengths entries) entries all) w way
+
+  entries_allowed : (channel : Channel) → target_of h.config p.to ≡ Discovery channel → (entries : List ReadValue) → AllByRecursion (HasEntry p) entries
+      → (w : Work History) → OnWay w → Allowed (entries_plan (v4_ip p.from) entries) w
+  entries_allowed channel at entries all w way = (
+    all_each (HasEntry p) (entry_plan (v4_ip p.from)) (λ e stands v _. entry_allowed channel at v e stands) entries all w way,
+    λ then none. replies_allowed _ then.1 _ none,
+  )
+
+  heard_allowed : (channel : Channel) → target_of h.config p.to ≡ Discovery channel → (session : ℕ) (v : SdValue) → HasDiscovery p session v
+      → (w : Work History) → OnWay w → Allowed (heard_plan (v4_ip p.from) channel session v) w
+  heard_allowed channel at session v stands w way =
+      cond_both (not (may_hold (answers_of w.state).config.common.peers (answers_of w.state).peers (v4_ip p.from))) _ _ (λ x. Allowed x w) (λ _. tt)
+      (λ _. (
+        (refl, at, (v, stands, refl)),
+        λ then.
+            entries_allowed channel at v.entries
+            (all_from_members (HasEntry p) v.entries (λ e within. record { session = session; value = v; stands = stands; within = within })) _ then,
+      ))
+
+  reading_allowed : (channel : Channel) → target_of h.config p.to ≡ Discovery channel → (m : MessageValue) → HasMessage p m → is_discovery m.header ≡ true
+      → (read : Result SdValue SdError) → reading m.payload ≡ read → (w : Work History) → OnWay w
+      → Allowed (reading_plan (v4_ip p.from) channel m.header.session read) w
+  reading_allowed channel at m stands is_sd (Err fault) is w way = tt
+  reading_allowed channel at m stands is_sd (Ok v) is w way =
+      heard_allowed channel at m.header.session v (record { message = m; stands = stands; discovery = is_sd; numbered = refl; reads = is }) w way
+
+  discovery_allowed : (channel : Channel) → target_of h.config p.to ≡ Discovery channel → (m : MessageValue) → HasMessage p m
+      → (w : Work History) → OnWay w → Allowed (discovery_plan (v4_ip p.from) channel m) w
+  discovery_allowed channel at m stands w way =
+      cond_both (is_discovery m.header) _ _ (λ x. Allowed x w) (λ is_sd. reading_allowed channel at m stands is_sd (reading m.payload) refl w way) (λ _. tt)
+
+  -- ---- datagrams
+
+  item_allowed : (goal : Target) → target_of h.config p.to ≡ goal → (item : Result MessageValue WireError) → Contains (items_of p.bytes) item
+      → (w : Work History) → OnWay w → Allowed (item_plan goal p.from p.to item) w
+  item_allowed goal at (Err fault) stands w way = tt
+  item_allowed (Discovery channel) at (Ok m) stands w way = discovery_allowed channel at m stands w way
+  item_allowed (Instance instance) at (Ok m) stands w way = message_allowed (Instance instance) at m stands w way
+  item_allowed Client at (Ok m) stands w way = message_allowed Client at m stands w way
+  item_allowed Nowhere at (Ok m) stands w way = message_allowed Nowhere at m stands w way
+
+  items_allowed : (goal : Target) → target_of h.config p.to ≡ goal → (w : Work History) → OnWay w → Allowed (items_plan goal p.from p.to (items_of p.bytes)) w
+  items_allowed goal at w way =
+      all_each (Contains (items_of p.bytes)) (item_plan goal p.from p.to) (item_allowed goal at) (items_of p.bytes) (all_members (items_of p.bytes)) w way
+
+  target_allowed : (goal : Target) → target_of h.config p.to ≡ goal → (w : Work History) → OnWay w → Allowed (target_plan goal p.from p.to p.bytes) w
+  target_allowed Nowhere at w way = tt
+  target_allowed (Discovery channel) at w way = items_allowed (Discovery channel) at w way
+  target_allowed (Instance instance) at w way = items_allowed (Instance instance) at w way
+  target_allowed Client at w way = items_allowed Client at w way
+
+  pub datagram_allowed : Allowed (datagram_plan p.from p.to p.bytes) (work_on h)
+  datagram_allowed =
+      cond_both (same_address (v4_ip p.from) h.config.address) _ _ (λ x. Allowed x (work_on h)) (λ _. tt)
+      (λ _. target_allowed (target_of h.config p.to) refl (work_on h) at_once)

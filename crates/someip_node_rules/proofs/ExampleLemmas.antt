@@ -1,0 +1,171 @@
+-- What a node gives for a datagram, by computation.
+use Rattle.std.proofs.Common.{◌≡◌, ℕ, [], ◌∷◌, None, Ok, refl, ap, sym, ◌∙◌}
+use Rattle.std.specs.Cmp.{nat_cmp_total}
+use Rattle.std.specs.FinMap.{get-from_entries, len-empty}
+use Rattle.std.specs.Ordering.{nat_cmp}
+use Rattle.someip_wire.specs.Reading.{items_within}
+use Rattle.someip_rpc.specs.declared.request.RequestFault.TheVariants.{NotReady, UnknownMethod}
+use Rattle.someip_node_rules.specs.History.{start_of}
+use Rattle.someip_node_rules.specs.declared.config.Config.{Config}
+use Rattle.someip_node_rules.specs.declared.drops.DropReason.TheVariants as drop_reason
+use Rattle.someip_node_rules.specs.declared.output.Output.TheVariants.{Dropped, Request, Sent}
+use Rattle.someip_node_rules.specs.WorkedExamples.{IsServer, client, instance, refusing, served, server}
+use Rattle.std.proofs.Common.{Bool, true, false, if◌then◌else◌, ◌||◌, nat_le, List, Some, Result}
+use Rattle.someip_rpc.specs.declared.request.Asked.{Asked}
+use Rattle.std.specs.List.{flat_map}
+use Rattle.someip_wire.specs.Reading.{header_in}
+use Rattle.someip_rpc.specs.Requests.{request_fault}
+use Rattle.someip_node_rules.specs.declared.error.NodeError.{NodeError}
+use Rattle.someip_node_rules.specs.declared.output.Output.{Output}
+use Rattle.someip_node_rules.specs.History.{answers_of}
+use Rattle.someip_node_rules.specs.Messages.{by_type, oneway_by, request_by}
+use Rattle.someip_node_rules.specs.Outputs.{written}
+use Rattle.someip_node_rules.specs.Tables.{Tables, is_up}
+use Rattle.someip_node_rules.specs.WorkedExamples.{asking, service}
+use Rattle.someip_node_rules.proofs.UpLemmas.{up_is}
+use Rattle.std.proofs.Common.{◌&&◌, ◌==◌, not, Option}
+use Rattle.std.specs.Option.{is_some}
+use Rattle.std.specs.FinMap as finite
+use Rattle.std.specs.Map.{lookup}
+use Rattle.std.specs.BTreeMap.{is_at}
+use Rattle.std.specs.declared.net.ipv4_addr.Ipv4Addr.{Ipv4Addr}
+use Rattle.std.specs.declared.net.socket_addr.SocketAddrV4.{SocketAddrV4}
+use Rattle.someip_tables.specs.declared.lasting.Lasting.{Lasting}
+use Rattle.someip_tables.specs.Retained.{kept_if}
+use Rattle.someip_tables.proofs.Entries.{get-retain}
+use Rattle.someip_wire.specs.declared.header.Header.{Header}
+use Rattle.someip_wire.specs.declared.header.MessageType.{MessageType}
+use Rattle.someip_wire.specs.declared.header.MessageType.TheVariants.{Response}
+use Rattle.sd_wire.specs.Encoding.{message_bytes}
+use Rattle.sd_wire.specs.Program.{options_within, reading}
+use Rattle.sd_core.specs.declared.error.Cause.TheVariants.{NoEndpoint, UnknownEventgroup}
+use Rattle.sd_core.specs.declared.keys.InstanceId.{InstanceId}
+use Rattle.sd_core.specs.Keys.{instance_cmp}
+use Rattle.sd_core.specs.SubscriberTables.{nack_cause}
+use Rattle.someip_rpc.specs.declared.call.Awaited.{Awaited}
+use Rattle.someip_rpc.specs.declared.error.DropCause.{DropCause}
+use Rattle.someip_rpc.specs.declared.error.DropCause.TheVariants.{NotPending, WrongType}
+use Rattle.someip_rpc.specs.Answers.{answered_call, is_answer_to_a_call, is_answer_type, is_awaited, may_have_code}
+use Rattle.someip_rpc.specs.IdOrder.{calls_total, exact_calls}
+use Rattle.someip_node_rules.specs.declared.config.OfferedService.{OfferedService}
+use Rattle.someip_node_rules.specs.Entries.{discovery_payload}
+use Rattle.someip_node_rules.specs.History.{History}
+use Rattle.someip_node_rules.specs.Lives.{is_waiting}
+use Rattle.someip_node_rules.specs.Messages.{answer_by}
+use Rattle.someip_node_rules.specs.Outcomes.{Outcome, dropped}
+use Rattle.someip_node_rules.specs.Plans.{rule, TakesAnswer, TakesSubscribe}
+use Rattle.someip_node_rules.specs.Setups.{has_eventgroup}
+use Rattle.someip_node_rules.specs.Subscribing.{nacked_for, rules_by, subscribe_by, subscribe_in}
+use Rattle.someip_node_rules.specs.Tables.{live_subscribers, waiting_calls}
+use Rattle.someip_node_rules.specs.WorkedExamples.{bad_subscribe, nack, nack_payload, subscribe_head, subscribe_payload}
+
+module _ (config : Config) (is : IsServer config) where
+  -- the tables of the node at its start
+  t : Tables
+  t = answers_of (start_of config 10)
+
+  up : is_up (answers_of (start_of config 10)) instance ≡ true
+  up = up_is (start_of config 10) instance ∙ rw is.offers refl
+
+  -- what it gives for a message, by whether the instance is up
+  abbrev given_if : ℕ → ℕ → Bool → Result (List Output) NodeError
+  given_if method kind up =
+      let header = header_in (asking method kind) in
+      let rules = (service is.events).rules in
+      let fault = request_fault rules up header (answers_of (start_of config 10)).server.requests 1 in
+      Ok (flat_map written (by_type header.kind (request_by instance rules client header [] fault (answers_of (start_of config 10))) (oneway_by instance header [] fault)).given)
+
+  unknown_request_if : served config 0x23 0x00 ≡ given_if 0x23 0x00 (is_up (answers_of (start_of config 10)) instance)
+  unfolding items_within
+  unknown_request_if = rw (is.address, is.client_port, is.offers, get-from_entries nat_cmp_total ((30509, instance) ∷ []) 30509) refl
+
+  pub unknown_request : served config 0x23 0x00 ≡ Ok (Sent server client (refusing 0x23 0x03) ∷ [])
+  unknown_request = unknown_request_if ∙ ap (given_if 0x23 0x00) up
+
+  unknown_oneway_if : served config 0x23 0x01 ≡ given_if 0x23 0x01 (is_up (answers_of (start_of config 10)) instance)
+  unfolding items_within
+  unknown_oneway_if = rw (is.address, is.client_port, is.offers, get-from_entries nat_cmp_total ((30509, instance) ∷ []) 30509) refl
+
+  pub unknown_oneway : served config 0x23 0x01 ≡ Ok (Dropped (drop_reason.Request UnknownMethod) ∷ [])
+  unknown_oneway = unknown_oneway_if ∙ ap (given_if 0x23 0x01) up
+
+  known_oneway_if : served config 0x22 0x01 ≡ given_if 0x22 0x01 (is_up (answers_of (start_of config 10)) instance)
+  unfolding items_within
+  known_oneway_if = rw (is.address, is.client_port, is.offers, get-from_entries nat_cmp_total ((30509, instance) ∷ []) 30509) refl
+
+  pub known_oneway : served config 0x22 0x01 ≡ Ok (Request None instance 0x0422 [] ∷ [])
+  known_oneway = known_oneway_if ∙ ap (given_if 0x22 0x01) up
+
+  wrong_type_if : served config 0x22 0x00 ≡ given_if 0x22 0x00 (is_up (answers_of (start_of config 10)) instance)
+  unfolding items_within
+  wrong_type_if = rw (is.address, is.client_port, is.offers, get-from_entries nat_cmp_total ((30509, instance) ∷ []) 30509) refl
+
+  pub wrong_type : served config 0x22 0x00 ≡ Ok (Sent server client (refusing 0x22 0x0A) ∷ [])
+  wrong_type = wrong_type_if ∙ ap (given_if 0x22 0x00) up
+
+  known_request_if : served config 0x21 0x00 ≡ given_if 0x21 0x00 (is_up (answers_of (start_of config 10)) instance)
+  unfolding items_within
+  known_request_if = rw (is.address, is.client_port, is.offers, get-from_entries nat_cmp_total ((30509, instance) ∷ []) 30509) refl
+
+  -- the same, by whether a further request can wait
+  abbrev given_unless_full : Bool → Result (List Output) NodeError
+  given_unless_full full =
+      let header = header_in (asking 0x21 0x00) in
+      Ok (flat_map written (request_by instance (service is.events).rules client header [] (if full then Some NotReady else None) (answers_of (start_of config 10))).given)
+
+  pub known_request : served config 0x21 0x00 ≡ Ok (Request (Some 1) instance 0x0421 [] ∷ [])
+  known_request =
+      known_request_if ∙ ap (given_if 0x21 0x00) up
+      ∙ ap (λ n. given_unless_full (nat_le 1024 n || false)) (len-empty nat_cmp Asked)
+
+-- ---- a Subscribe whose run passes the options
+
+pub bad_read : reading subscribe_payload ≡ Ok bad_subscribe
+unfolding options_within
+bad_read = refl
+
+pub nack_written : discovery_payload true (nack ∷ []) ≡ nack_payload
+unfolding message_bytes
+nack_written = refl
+
+module _ (config : Config) (is : IsServer config) (peer : Ipv4Addr) where
+  -- what becomes of it, by whether the instance is up and has the eventgroup
+  abbrev nacked_by : Bool → Bool → Outcome
+  nacked_by up has =
+      subscribe_by subscribe_head (subscribe_in peer subscribe_head None)
+      (nack_cause (record { is_offered = up; is_same_major = true; is_known_eventgroup = has; limit = 16 }) (subscribe_in peer subscribe_head None) (live_subscribers (answers_of (start_of config 10))))
+
+  pub nacked : rule (TakesSubscribe peer subscribe_head None) (answers_of (start_of config 10)) ≡ nacked_by true (has_eventgroup (service is.events) 1)
+  nacked =
+      ap (λ service. subscribe_by subscribe_head (subscribe_in peer subscribe_head None) (nack_cause (rules_by subscribe_head (is_up (answers_of (start_of config 10)) instance) service) (subscribe_in peer subscribe_head None) (live_subscribers (answers_of (start_of config 10)))))
+      (ap (λ (es : List (InstanceId × OfferedService)). lookup (is_at (instance_cmp instance)) es) is.offers)
+      ∙ ap (λ b. nacked_by b (has_eventgroup (service is.events) 1)) (up config is)
+
+  pub no_endpoint : has_eventgroup (service is.events) 1 ≡ true → rule (TakesSubscribe peer subscribe_head None) (answers_of (start_of config 10)) ≡ nacked_for subscribe_head NoEndpoint
+  no_endpoint has = nacked ∙ ap (nacked_by true) has
+
+  pub no_eventgroup : has_eventgroup (service is.events) 1 ≡ false → rule (TakesSubscribe peer subscribe_head None) (answers_of (start_of config 10)) ≡ nacked_for subscribe_head UnknownEventgroup
+  no_eventgroup hasnt = nacked ∙ ap (nacked_by true) hasnt
+
+-- ---- an answer that comes late
+
+pub late_dropped : (h : History) (from : SocketAddrV4) (header : Header) (payload : List ℕ) → header.kind ≡ Response → is_waiting h.config h.items (answered_call header) ≡ false
+    → rule (TakesAnswer from header payload) (answers_of h) ≡ dropped (drop_reason.Answer NotPending)
+late_dropped h from header payload kind late =
+    let live = waiting_calls (answers_of h) in
+    let none : finite.get live (answered_call header) ≡ None = get-retain calls_total exact_calls (answers_of h).client.pending _ (answered_call header) ∙ gone _ (finite.get (answers_of h).client.pending (answered_call header)) late in
+    ap (λ (k : MessageType). answer_by header payload (drop_if (is_answer_type k) (is_answer_to_a_call h.config.client_id from header live))) kind
+    ∙ ap (λ v. answer_by header payload (drop_if true (may_have_code header.kind header.code.0 && (header.client == h.config.client_id) && is_awaited from header.interface v))) none
+    ∙ ap (λ b. answer_by header payload (drop_if true b)) (nothing (may_have_code header.kind header.code.0) (header.client == h.config.client_id))
+  where
+    drop_if : Bool → Bool → Option DropCause
+    drop_if answers waits = if not answers then Some WrongType else if waits then None else Some NotPending
+
+    gone : (p : Lasting Awaited → Bool) (v : Option (Lasting Awaited)) → is_some v ≡ false → kept_if p v ≡ None
+    gone p None late = refl
+    gone p (Some x) late = absurd (cc)
+
+    nothing : (a b : Bool) → (a && b && false) ≡ false
+    nothing true true = refl
+    nothing true false = refl
+    nothing false b = refl
