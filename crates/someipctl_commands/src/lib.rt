@@ -13,7 +13,7 @@ mod input;
 pub mod laws;
 mod outcome;
 pub mod payload;
-mod readings;
+mod read_datagram;
 pub mod show;
 mod vector_lines;
 pub mod vectors;
