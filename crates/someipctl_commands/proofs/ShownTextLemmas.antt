@@ -1,5 +1,5 @@
 -- The text of a datagram, and whether it ends in a fault.
-use Rattle.std.proofs.Common.{◌≡◌, ℕ, ◌+◌, ◌<◌, ◌≤◌, Bool, true, false, ◌||◌, List, [], ◌∷◌, length, get_or, drop, map, Option, Some, None, Vec, Global, Result, refl, sym, ap, ◌∙◌, length-append, arith}
+use Rattle.std.proofs.Common.{◌≡◌, ℕ, zero, suc, ◌+◌, ◌<◌, ◌≤◌, Bool, true, false, ◌||◌, List, [], ◌∷◌, length, get_or, drop, map, Option, Some, None, Vec, Global, Result, refl, sym, ap, ◌∙◌, length-append, arith}
 use Rattle.std.specs.List.{flat_map, list_any}
 use Rattle.std.proofs.lemmas.List.{nil_from_length}
 use Rattle.someip_wire.specs.declared.WireError.{WireError}
@@ -7,7 +7,6 @@ use Rattle.someip_wire.specs.Spelling.{MessageValue, spelling}
 use Rattle.someip_wire.specs.Datagram.{Datagram, items}
 use Rattle.someip_wire.specs.Reading.{items_of}
 use Rattle.someip_wire.proofs.DatagramLemmas.{items_from-nil}
-use Rattle.someipctl_print.proofs.DiscoveryLemmas.{next_left}
 use Rattle.someipctl_print.specs.Lines.{empty_line}
 use Rattle.someipctl_print.specs.Items.{lines_from, item_len, is_faulty}
 use Rattle.someipctl_commands.specs.ShownText.{datagram_text, has_fault}
@@ -47,9 +46,12 @@ items_within_datagram datagram given found =
 abbrev pub bytes_of_each : List (Vec ℕ Global) → List (List ℕ)
 bytes_of_each datagrams = map (λ d. d.items) datagrams
 
--- the datagram at a place, and those behind it
-pub next_datagram : (datagrams : List (List ℕ)) (i : ℕ) (d : List ℕ) → i < length datagrams → d ≡ get_or datagrams i d → drop i datagrams ≡ d ∷ drop (i + 1) datagrams
-next_datagram datagrams i d lt is = next_left datagrams i d lt is
+-- the datagram at a place, which has these bytes, and those behind it
+pub next_datagram : (datagrams : List (Vec ℕ Global)) (i : ℕ) (d : Vec ℕ Global) (bytes : List ℕ) → i < length datagrams → (get_or datagrams i d).items ≡ bytes
+    → drop i (bytes_of_each datagrams) ≡ bytes ∷ drop (i + 1) (bytes_of_each datagrams)
+next_datagram [] i d bytes lt is = absurd (omega (arith, lt))
+next_datagram (x ∷ xs) zero d bytes lt is = ap (λ (t : List ℕ). t ∷ bytes_of_each xs) is
+next_datagram (x ∷ xs) (suc i) d bytes lt is = let k : suc i + 1 ≡ suc (i + 1) = omega arith in rw k (next_datagram xs i d bytes (omega (arith, lt)) is)
 
 -- one more, of a list of which one may hold
 or_assoc : (a b c : Bool) → ((a || b) || c) ≡ (a || (b || c))

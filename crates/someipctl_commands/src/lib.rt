@@ -13,7 +13,7 @@ mod input;
 pub mod laws;
 mod outcome;
 pub mod payload;
-mod read_datagram;
+mod readings;
 pub mod show;
 mod vector_lines;
 pub mod vectors;

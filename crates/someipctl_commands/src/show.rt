@@ -1,10 +1,12 @@
 //! The command `show`: a capture's datagrams, message by message.
-ghost use Rattle.std.specs.Prelude.{◌≡◌, ◌≢◌, [], Some, OnOk, OnErr, IfOk, IfErr};
+ghost use Rattle.std.specs.Prelude.{◌≡◌, ◌≢◌, ◌++◌, [], Some, OnOk, OnErr, IfOk, IfErr, map};
 ghost use Rattle.std.specs.Io.KnownBytes.{Appends};
 ghost use Rattle.someip_wire.specs.Reading.{items_of};
 ghost use Rattle.someipctl_commands.specs.declared.show.ShowError.TheVariants.{CannotWrite, OutOfMemory};
 ghost use Rattle.someipctl_print.specs.Sending.{Sends, Stops};
+ghost use Rattle.someipctl_print.specs.Discovery.{view_reading};
 ghost use Rattle.someipctl_print.specs.Items.{lines_from};
+ghost use Rattle.someipctl_commands.specs.Readings.{BeginWith, readings_in, readings_of};
 ghost use Rattle.someipctl_commands.specs.ShownText.{datagram_text, shown_text, shown_outcome, has_fault};
 ghost use Rattle.someipctl_commands.specs.ShowResult.{Shows, RefusesShow};
 ghost use Rattle.someipctl_commands.specs.ShowResult.{error_of_capture, error_of_input};
@@ -12,7 +14,8 @@ ghost use Rattle.someipctl_commands.specs.ShowResult.{error_of_capture, error_of
 use crate::capture::{CaptureError, read_capture};
 use crate::input::{ReadFault, read_all};
 use crate::outcome::Outcome;
-use crate::read_datagram::{ReadDatagram, next_reading, read_all_datagrams};
+use crate::readings::{next_reading, read_ahead, read_datagram};
+use sd_wire::{SdError, SdRead};
 use someip_wire::Messages;
 use someipctl_print::{Buffer, item_len, put_empty, put_item};
 use std::alloc::{AllocError, Global};
@@ -69,9 +72,9 @@ pub fn show_capture<W: Write>(
     ensures there { result ≢ Err ShowError.CannotRead }
 {
     let datagrams = read_capture(alloc, text)?;
-    let datagrams = read_all_datagrams(alloc, &datagrams)?;
+    let readings = read_ahead(alloc, &datagrams)?;
     let mut buffer = Buffer::new(alloc)?;
-    let outcome = write_datagrams(&mut buffer, writer, &datagrams)?;
+    let outcome = write_datagrams(&mut buffer, writer, &datagrams, &readings)?;
     Ok(outcome)
 }
 
@@ -79,16 +82,19 @@ pub fn show_capture<W: Write>(
 fn write_datagrams<W: Write>(
     buffer: &mut Buffer,
     writer: &mut W,
-    datagrams: &[ReadDatagram<'_>],
+    datagrams: &[Vec<u8>],
+    readings: &[Result<SdRead, SdError>],
 ) -> Result<Outcome, someipctl_print::CannotWrite>
     requires empty { buffer.old ≡ [] }
+    requires read { map view_reading readings.now ≡ readings_of (map (λ d. d.items) datagrams.now) }
     ensures ok { OnOk result (Appends (W.contents writer.old)
-        (W.contents writer.new) (shown_text datagrams.now)) }
-    ensures outcome { IfOk result (λ outcome. outcome ≡ shown_outcome datagrams.now) }
+        (W.contents writer.new) (shown_text (map (λ d. d.items) datagrams.now))) }
+    ensures outcome { IfOk result (λ outcome.
+        outcome ≡ shown_outcome (map (λ d. d.items) datagrams.now)) }
     ensures err { OnErr result (Stops (W.contents writer.old) []
-        (W.contents writer.new) (shown_text datagrams.now)) }
+        (W.contents writer.new) (shown_text (map (λ d. d.items) datagrams.now))) }
 {
-    let outcome = put_datagrams(buffer, writer, datagrams)?;
+    let outcome = put_datagrams(buffer, writer, datagrams, readings)?;
     buffer.flush(writer)?;
     Ok(outcome)
 }
@@ -97,39 +103,48 @@ fn write_datagrams<W: Write>(
 fn put_datagrams<W: Write>(
     buffer: &mut Buffer,
     writer: &mut W,
-    datagrams: &[ReadDatagram<'_>],
+    datagrams: &[Vec<u8>],
+    readings: &[Result<SdRead, SdError>],
 ) -> Result<Outcome, someipctl_print::CannotWrite>
+    requires { map view_reading readings.now ≡ readings_of (map (λ d. d.items) datagrams.now) }
     ensures ok { OnOk result (Sends (W.contents writer.old) buffer.old
-        (W.contents writer.new) buffer.new (shown_text datagrams.now)) }
-    ensures outcome { IfOk result (λ outcome. outcome ≡ shown_outcome datagrams.now) }
+        (W.contents writer.new) buffer.new (shown_text (map (λ d. d.items) datagrams.now))) }
+    ensures outcome { IfOk result (λ outcome.
+        outcome ≡ shown_outcome (map (λ d. d.items) datagrams.now)) }
     ensures err { OnErr result (Stops (W.contents writer.old) buffer.old
-        (W.contents writer.new) (shown_text datagrams.now)) }
+        (W.contents writer.new) (shown_text (map (λ d. d.items) datagrams.now))) }
 {
     let mut fault_shown = false;
+    let mut left = readings;
     for (i, datagram) in datagrams.iter().enumerate() {
-        fault_shown |= put_datagram(buffer, writer, i + 1, datagram)?;
+        fault_shown |= put_datagram(buffer, writer, i + 1, datagram, &mut left)?;
     }
     Ok(Outcome::of(fault_shown))
 }
 
-/// Prints the text of the k-th datagram, and says whether a fault is in it.
+/// Prints the text of the k-th datagram, and says whether a fault is in it. What its Service Discovery
+/// messages hold is taken from what is left.
 fn put_datagram<W: Write>(
     buffer: &mut Buffer,
     writer: &mut W,
     k: usize,
-    datagram: &ReadDatagram<'_>,
+    datagram: &[u8],
+    left: &mut &[Result<SdRead, SdError>],
 ) -> Result<bool, someipctl_print::CannotWrite>
+    requires { BeginWith (map view_reading left.old.now) (readings_in (items_of datagram.now)) }
     ensures ok { OnOk result (Sends (W.contents writer.old) buffer.old
         (W.contents writer.new) buffer.new (datagram_text k datagram.now)) }
     ensures faulty { IfOk result (λ faulty. faulty ≡ has_fault datagram.now) }
+    ensures left { OnOk result (map view_reading left.old.now
+        ≡ readings_in (items_of datagram.now) ++ map view_reading left.new.now) }
     ensures err { OnErr result (Stops (W.contents writer.old) buffer.old
         (W.contents writer.new) (datagram_text k datagram.now)) }
 {
-    if datagram.bytes().is_empty() {
+    if datagram.is_empty() {
         put_empty(buffer, writer, k)?;
         return Ok(false);
     }
-    put_items(buffer, writer, k, datagram)
+    put_items(buffer, writer, k, datagram, left)
 }
 
 /// The text of a datagram as the first of a capture.
@@ -137,9 +152,11 @@ pub fn text_of_datagram(alloc: Global, datagram: &[u8]) -> Result<Vec<u8>, Alloc
     ensures { IfOk result (λ text. text.items ≡ datagram_text 1 datagram.now) }
 {
     let mut text = Vec::new(alloc);
-    let datagram = ReadDatagram::read(alloc, datagram)?;
+    let mut readings = Vec::new(alloc);
+    read_datagram(alloc, datagram, &mut readings)?;
     let mut buffer = Buffer::new(alloc)?;
-    put_datagram(&mut buffer, &mut text, 1, &datagram).map_err(|_| AllocError)?;
+    let mut left = readings.as_slice();
+    put_datagram(&mut buffer, &mut text, 1, datagram, &mut left).map_err(|_| AllocError)?;
     buffer.flush(&mut text).map_err(|_| AllocError)?;
     Ok(text)
 }
@@ -149,19 +166,22 @@ fn put_items<W: Write>(
     buffer: &mut Buffer,
     writer: &mut W,
     k: usize,
-    datagram: &ReadDatagram<'_>,
+    datagram: &[u8],
+    left: &mut &[Result<SdRead, SdError>],
 ) -> Result<bool, someipctl_print::CannotWrite>
+    requires { BeginWith (map view_reading left.old.now) (readings_in (items_of datagram.now)) }
     ensures ok { OnOk result (Sends (W.contents writer.old) buffer.old
         (W.contents writer.new) buffer.new (lines_from k 0 (items_of datagram.now))) }
     ensures faulty { IfOk result (λ faulty. faulty ≡ has_fault datagram.now) }
+    ensures left { OnOk result (map view_reading left.old.now
+        ≡ readings_in (items_of datagram.now) ++ map view_reading left.new.now) }
     ensures err { OnErr result (Stops (W.contents writer.old) buffer.old
         (W.contents writer.new) (lines_from k 0 (items_of datagram.now))) }
 {
     let mut faulty = false;
     let mut place = 0;
-    let mut left = datagram.readings();
-    for item in Messages::new(datagram.bytes()) {
-        let found = next_reading(&item, &mut left);
+    for item in Messages::new(datagram) {
+        let found = next_reading(&item, left);
         faulty |= put_item(buffer, writer, k, place, &item, found)?;
         place += item_len(&item);
     }

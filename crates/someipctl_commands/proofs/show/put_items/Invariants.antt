@@ -1,4 +1,6 @@
-use Rattle.std.proofs.Common.{◌≡◌, ◌≤◌, ◌+◌, ◌||◌, length, map}
+use Rattle.std.proofs.Common.{◌≡◌, ◌≤◌, ◌+◌, ◌||◌, ◌++◌, List, Result, length, map}
+use Rattle.sd_wire.specs.declared.SdError.{SdError}
+use Rattle.sd_wire.specs.Values.{SdValue}
 use Rattle.std.specs.List.{list_any}
 use Rattle.someipctl_commands.specs.Readings.{readings_in}
 use Rattle.someipctl_print.specs.Discovery.{view_reading}
@@ -12,4 +14,4 @@ invariant-loop-item g l =
     IsSending (g.W.Write.contents l.initial.writer) l.initial.buffer (g.W.Write.contents l.writer) l.buffer (lines_from l.k l.place l.item-iterator) (lines_from l.k 0 l.initial.item-iterator)
     × ((l.faulty || list_any is_faulty l.item-iterator) ≡ list_any is_faulty l.initial.item-iterator)
     × (l.place + items_len l.item-iterator ≤ length l.fn.datagram)
-    × (map view_reading l.left ≡ readings_in l.item-iterator)
+    × ((others : List (Result SdValue SdError)) × (map view_reading l.left.now ≡ readings_in l.item-iterator ++ others) × (map view_reading l.initial.left.now ≡ readings_in l.initial.item-iterator ++ others))

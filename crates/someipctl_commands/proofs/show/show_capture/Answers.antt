@@ -7,7 +7,7 @@ use Rattle.someipctl_commands.proofs.show.show_capture.Goals as goal
 pub returns-in_err-outcome-clause-refused : goal.returns-in_err-outcome-clause-refused
 returns-in_err-outcome-clause-refused g c =
     let p = err_from_is_err_and c.from_residual-in_err-outcome.result c.from_residual-in_err-outcome.ensures.1 in
-    rw (p.1, p.2) (shows_beginning c.args.text.now c.in_ok-datagrams.datagrams.items _ _ c.in_ok-datagrams.ensures.found (rw (c.deref-2.ensures.value, c.in_ok-datagrams-2.ensures, c.deref.ensures.value) at c.in_err-outcome.ensures.err))
+    rw (p.1, p.2) (shows_beginning c.args.text.now c.in_ok-datagrams.datagrams.items _ _ c.in_ok-datagrams.ensures.found (rw c.deref-2.ensures.value at c.in_err-outcome.ensures.err))
 
 pub returns-clause-shown : goal.returns-clause-shown
 returns-clause-shown g c = record {
@@ -15,6 +15,6 @@ returns-clause-shown g c = record {
   left = refl;
   datagrams = bytes_of_each c.in_ok-datagrams.datagrams.items;
   says = says c.args.text.now c.in_ok-datagrams.datagrams.items c.in_ok-datagrams.ensures.found;
-  wrote = rw (c.deref-2.ensures.value, c.in_ok-datagrams-2.ensures, c.deref.ensures.value) at c.in_ok-outcome.ensures.ok;
-  tells = rw (c.deref-2.ensures.value, c.in_ok-datagrams-2.ensures, c.deref.ensures.value) at c.in_ok-outcome.ensures.outcome;
+  wrote = rw c.deref-2.ensures.value at c.in_ok-outcome.ensures.ok;
+  tells = rw c.deref-2.ensures.value at c.in_ok-outcome.ensures.outcome;
 }

@@ -1,78 +1,45 @@
-//! A datagram beside what its messages of Service Discovery hold, which is read before anything is
-//! written.
+//! What the Service Discovery messages of a capture hold, read before anything is written.
 ghost use Rattle.std.specs.Prelude.{◌≡◌, ◌++◌, ◌∷◌, [], OnOk, IfOk, is_some, map};
 ghost use Rattle.std.specs.Option.{option_to_list};
 ghost use Rattle.someip_wire.specs.View.{view_item};
 ghost use Rattle.someip_wire.specs.Reading.{items_of};
 ghost use Rattle.sd_wire.specs.Program.{reading};
 ghost use Rattle.someipctl_print.specs.Discovery.{discovery_in, is_discovery, seen, view_reading};
-ghost use Rattle.someipctl_commands.specs.Readings.{BeginWith, readings_in};
+ghost use Rattle.someipctl_commands.specs.Readings.{BeginWith, readings_in, readings_of};
 
 use sd_wire::{SdError, SdRead, read_sd};
 use someip_wire::{Header, Message, MessageType, Messages, WireError};
 use std::alloc::{AllocError, Global};
-use std::marker::Model;
 
-/// A datagram with what the payloads of its Service Discovery messages hold, in their order. A contract
-/// sees the bytes of the datagram.
-#[derive(Drop)]
-pub struct ReadDatagram<'a> {
-    bytes: &'a [u8],
-    readings: Vec<Result<SdRead, SdError>>,
-}
-
-impl<'a> Model for ReadDatagram<'a> {
-    ghost use Rattle.std.specs.Prelude.{◌≡◌, ℕ, List, map};
-    ghost use Rattle.someip_wire.specs.Reading.{items_of};
-    ghost use Rattle.someipctl_print.specs.Discovery.{view_reading};
-    ghost use Rattle.someipctl_commands.specs.Readings.{readings_in};
-
-    ghost Value = { List ℕ };
-
-    ghost view = { λ d. d.bytes.now };
-
-    ghost invariant = { λ d. map view_reading d.readings.items ≡ readings_in (items_of d.bytes.now) };
-}
-
-impl<'a> ReadDatagram<'a> {
-    /// Reads the Service Discovery messages of a datagram. The only error is that memory ran out.
-    pub fn read(alloc: Global, bytes: &'a [u8]) -> Result<ReadDatagram<'a>, AllocError>
-        ensures { IfOk result (λ datagram. datagram ≡ bytes.now) }
-    {
-        let mut readings = Vec::new(alloc);
-        for item in Messages::new(bytes) {
-            read_item(alloc, &item, &mut readings)?;
-        }
-        Ok(ReadDatagram { bytes, readings })
-    }
-
-    /// The bytes.
-    pub fn bytes(&self) -> &'a [u8]
-        ensures { result.now ≡ self.now }
-    {
-        self.bytes
-    }
-
-    /// What its Service Discovery messages hold, in their order.
-    pub fn readings(&self) -> &[Result<SdRead, SdError>]
-        ensures { map view_reading result.now ≡ readings_in (items_of self.now) }
-    {
-        &self.readings
-    }
-}
-
-/// Reads each of these datagrams. The only error is that memory ran out.
-pub fn read_all_datagrams(
+/// What the payloads of the Service Discovery messages of these datagrams hold, in order. The only
+/// error is that memory ran out.
+pub fn read_ahead(
     alloc: Global,
     datagrams: &[Vec<u8>],
-) -> Result<Vec<ReadDatagram<'_>>, AllocError>
-    ensures { IfOk result (λ read. read.items ≡ map (λ d. d.items) datagrams.now) }
+) -> Result<Vec<Result<SdRead, SdError>>, AllocError>
+    ensures ok { IfOk result (λ readings.
+        map view_reading readings.items ≡ readings_of (map (λ d. d.items) datagrams.now)) }
 {
-    let mut read = Vec::with_capacity(alloc, datagrams.len())?;
+    let mut readings = Vec::new(alloc);
     for datagram in datagrams {
-        read.push(ReadDatagram::read(alloc, datagram)?)?;
+        read_datagram(alloc, datagram, &mut readings)?;
     }
-    Ok(read)
+    Ok(readings)
+}
+
+/// The same of one datagram, after what is there already.
+pub fn read_datagram(
+    alloc: Global,
+    datagram: &[u8],
+    readings: &mut Vec<Result<SdRead, SdError>>,
+) -> Result<(), AllocError>
+    ensures ok { OnOk result (map view_reading readings.new.items
+        ≡ map view_reading readings.old.items ++ readings_in (items_of datagram.now)) }
+{
+    for item in Messages::new(datagram) {
+        read_item(alloc, &item, readings)?;
+    }
+    Ok(())
 }
 
 /// Puts what an item holds for Service Discovery behind what is there, where it is such a message.
