@@ -1,13 +1,11 @@
 //! What the Service Discovery messages of a capture hold, read before anything is written.
-ghost use Rattle.std.specs.Prelude.{◌≡◌, ◌≢◌, ◌++◌, ◌∷◌, ◌+◌, [], length, map, OnOk, OnErr, IfOk, IfErr, is_some};
+ghost use Rattle.std.specs.Prelude.{◌≡◌, ◌++◌, ◌∷◌, [], OnOk, IfOk, is_some, map};
 ghost use Rattle.std.specs.Option.{option_to_list};
 ghost use Rattle.someip_wire.specs.View.{view_item};
 ghost use Rattle.someip_wire.specs.Reading.{items_of};
 ghost use Rattle.sd_wire.specs.Program.{reading};
-ghost use Rattle.someipctl_print.specs.Discovery.{is_discovery, view_reading, discovery_in};
-ghost use Rattle.someipctl_commands.specs.Readings.{readings_in, readings_of};
-ghost use Rattle.someipctl_print.specs.Discovery.{seen};
-ghost use Rattle.someipctl_commands.specs.Readings.{left_from, BeginWith, LeavesBehind};
+ghost use Rattle.someipctl_print.specs.Discovery.{discovery_in, is_discovery, seen, view_reading};
+ghost use Rattle.someipctl_commands.specs.Readings.{BeginWith, readings_in, readings_of};
 
 use sd_wire::{SdError, SdRead, read_sd};
 use someip_wire::{Header, Message, MessageType, Messages, WireError};
@@ -44,6 +42,7 @@ pub fn read_datagram(
     Ok(())
 }
 
+/// Puts what an item holds for Service Discovery behind what is there, where it is such a message.
 fn read_item(
     alloc: Global,
     item: &Result<Message<'_>, WireError>,
@@ -84,36 +83,22 @@ fn keep(
     Ok(())
 }
 
-/// Whether it is the header of a Service Discovery message.
-pub fn is_discovery(header: &Header) -> bool
-    ensures { result ≡ is_discovery header.now }
-{
-    header.service == 0xffff
-        && header.method == 0x8100
-        && header.interface == 1
-        && matches!(header.kind, MessageType::Notification)
-}
-
-/// What the payload of an item was read as, where it is a message of Service Discovery: the next of
-/// the readings. And the number of the one after it.
-pub fn reading_of<'r>(
+/// What an item holds for Service Discovery, where it is such a message: then it is the first of the
+/// readings that are left, and is taken from them.
+pub fn next_reading<'r>(
     item: &Result<Message<'_>, WireError>,
-    readings: &'r [Result<SdRead, SdError>],
-    next: usize,
-) -> (Option<&'r Result<SdRead, SdError>>, usize)
-    requires { BeginWith (left_from next readings.now)
+    left: &mut &'r [Result<SdRead, SdError>],
+) -> Option<&'r Result<SdRead, SdError>>
+    requires { BeginWith (map view_reading left.old.now)
         (option_to_list (discovery_in (view_item item.now))) }
-    ensures found { seen result.0 ≡ discovery_in (view_item item.now) }
-    ensures next { LeavesBehind (left_from next readings.now)
-        (option_to_list (discovery_in (view_item item.now))) (left_from result.1 readings.now) }
+    ensures found { seen result ≡ discovery_in (view_item item.now) }
+    ensures left { map view_reading left.old.now
+        ≡ option_to_list (seen result) ++ map view_reading left.new.now }
 {
-    if !holds_discovery(item) {
-        return (None, next);
-    }
-    if next < readings.len() {
-        (Some(&readings[next]), next + 1)
+    if holds_discovery(item) {
+        left.split_off_first()
     } else {
-        unreachable!()
+        None
     }
 }
 
@@ -124,4 +109,14 @@ fn holds_discovery(item: &Result<Message<'_>, WireError>) -> bool
         Ok(message) => is_discovery(&message.header),
         Err(_) => false,
     }
+}
+
+/// Whether it is the header of a Service Discovery message.
+fn is_discovery(header: &Header) -> bool
+    ensures { result ≡ is_discovery header.now }
+{
+    header.service == 0xffff
+        && header.method == 0x8100
+        && header.interface == 1
+        && matches!(header.kind, MessageType::Notification)
 }

@@ -1,11 +1,12 @@
 //! The command `show`: a capture's datagrams, message by message.
-ghost use Rattle.std.specs.Prelude.{◌≡◌, ◌≢◌, [], Some, OnOk, OnErr, IfOk, IfErr, map};
+ghost use Rattle.std.specs.Prelude.{◌≡◌, ◌≢◌, ◌++◌, [], Some, OnOk, OnErr, IfOk, IfErr, map};
 ghost use Rattle.std.specs.Io.KnownBytes.{Appends};
 ghost use Rattle.someip_wire.specs.Reading.{items_of};
 ghost use Rattle.someipctl_commands.specs.declared.show.ShowError.TheVariants.{CannotWrite, OutOfMemory};
 ghost use Rattle.someipctl_print.specs.Sending.{Sends, Stops};
+ghost use Rattle.someipctl_print.specs.Discovery.{view_reading};
 ghost use Rattle.someipctl_print.specs.Items.{lines_from};
-ghost use Rattle.someipctl_commands.specs.Readings.{readings_in, readings_of, left_from, BeginWith, LeavesBehind};
+ghost use Rattle.someipctl_commands.specs.Readings.{BeginWith, readings_in, readings_of};
 ghost use Rattle.someipctl_commands.specs.ShownText.{datagram_text, shown_text, shown_outcome, has_fault};
 ghost use Rattle.someipctl_commands.specs.ShowResult.{Shows, RefusesShow};
 ghost use Rattle.someipctl_commands.specs.ShowResult.{error_of_capture, error_of_input};
@@ -13,7 +14,7 @@ ghost use Rattle.someipctl_commands.specs.ShowResult.{error_of_capture, error_of
 use crate::capture::{CaptureError, read_capture};
 use crate::input::{ReadFault, read_all};
 use crate::outcome::Outcome;
-use crate::readings::{read_ahead, read_datagram, reading_of};
+use crate::readings::{next_reading, read_ahead, read_datagram};
 use sd_wire::{SdError, SdRead};
 use someip_wire::Messages;
 use someipctl_print::{Buffer, item_len, put_empty, put_item};
@@ -85,7 +86,7 @@ fn write_datagrams<W: Write>(
     readings: &[Result<SdRead, SdError>],
 ) -> Result<Outcome, someipctl_print::CannotWrite>
     requires empty { buffer.old ≡ [] }
-    requires read { left_from 0 readings.now ≡ readings_of (map (λ d. d.items) datagrams.now) }
+    requires read { map view_reading readings.now ≡ readings_of (map (λ d. d.items) datagrams.now) }
     ensures ok { OnOk result (Appends (W.contents writer.old)
         (W.contents writer.new) (shown_text (map (λ d. d.items) datagrams.now))) }
     ensures outcome { IfOk result (λ outcome.
@@ -105,7 +106,7 @@ fn put_datagrams<W: Write>(
     datagrams: &[Vec<u8>],
     readings: &[Result<SdRead, SdError>],
 ) -> Result<Outcome, someipctl_print::CannotWrite>
-    requires { left_from 0 readings.now ≡ readings_of (map (λ d. d.items) datagrams.now) }
+    requires { map view_reading readings.now ≡ readings_of (map (λ d. d.items) datagrams.now) }
     ensures ok { OnOk result (Sends (W.contents writer.old) buffer.old
         (W.contents writer.new) buffer.new (shown_text (map (λ d. d.items) datagrams.now))) }
     ensures outcome { IfOk result (λ outcome.
@@ -114,39 +115,36 @@ fn put_datagrams<W: Write>(
         (W.contents writer.new) (shown_text (map (λ d. d.items) datagrams.now))) }
 {
     let mut fault_shown = false;
-    let mut next = 0;
+    let mut left = readings;
     for (i, datagram) in datagrams.iter().enumerate() {
-        let (faulty, left) = put_datagram(buffer, writer, i + 1, datagram, readings, next)?;
-        fault_shown |= faulty;
-        next = left;
+        fault_shown |= put_datagram(buffer, writer, i + 1, datagram, &mut left)?;
     }
     Ok(Outcome::of(fault_shown))
 }
 
-/// Prints the text of the k-th datagram. Says whether a fault is in it, and the number of the first
-/// reading after its own.
+/// Prints the text of the k-th datagram, and says whether a fault is in it. What its Service Discovery
+/// messages hold is taken from what is left.
 fn put_datagram<W: Write>(
     buffer: &mut Buffer,
     writer: &mut W,
     k: usize,
     datagram: &[u8],
-    readings: &[Result<SdRead, SdError>],
-    next: usize,
-) -> Result<(bool, usize), someipctl_print::CannotWrite>
-    requires { BeginWith (left_from next readings.now) (readings_in (items_of datagram.now)) }
+    left: &mut &[Result<SdRead, SdError>],
+) -> Result<bool, someipctl_print::CannotWrite>
+    requires { BeginWith (map view_reading left.old.now) (readings_in (items_of datagram.now)) }
     ensures ok { OnOk result (Sends (W.contents writer.old) buffer.old
         (W.contents writer.new) buffer.new (datagram_text k datagram.now)) }
-    ensures faulty { IfOk result (λ r. r.0 ≡ has_fault datagram.now) }
-    ensures next { IfOk result (λ r. LeavesBehind (left_from next readings.now)
-        (readings_in (items_of datagram.now)) (left_from r.1 readings.now)) }
+    ensures faulty { IfOk result (λ faulty. faulty ≡ has_fault datagram.now) }
+    ensures left { OnOk result (map view_reading left.old.now
+        ≡ readings_in (items_of datagram.now) ++ map view_reading left.new.now) }
     ensures err { OnErr result (Stops (W.contents writer.old) buffer.old
         (W.contents writer.new) (datagram_text k datagram.now)) }
 {
     if datagram.is_empty() {
         put_empty(buffer, writer, k)?;
-        return Ok((false, next));
+        return Ok(false);
     }
-    put_items(buffer, writer, k, datagram, readings, next)
+    put_items(buffer, writer, k, datagram, left)
 }
 
 /// The text of a datagram as the first of a capture.
@@ -157,7 +155,8 @@ pub fn text_of_datagram(alloc: Global, datagram: &[u8]) -> Result<Vec<u8>, Alloc
     let mut readings = Vec::new(alloc);
     read_datagram(alloc, datagram, &mut readings)?;
     let mut buffer = Buffer::new(alloc)?;
-    put_datagram(&mut buffer, &mut text, 1, datagram, &readings, 0).map_err(|_| AllocError)?;
+    let mut left = readings.as_slice();
+    put_datagram(&mut buffer, &mut text, 1, datagram, &mut left).map_err(|_| AllocError)?;
     buffer.flush(&mut text).map_err(|_| AllocError)?;
     Ok(text)
 }
@@ -168,29 +167,25 @@ fn put_items<W: Write>(
     writer: &mut W,
     k: usize,
     datagram: &[u8],
-    readings: &[Result<SdRead, SdError>],
-    next: usize,
-) -> Result<(bool, usize), someipctl_print::CannotWrite>
-    requires { BeginWith (left_from next readings.now) (readings_in (items_of datagram.now)) }
+    left: &mut &[Result<SdRead, SdError>],
+) -> Result<bool, someipctl_print::CannotWrite>
+    requires { BeginWith (map view_reading left.old.now) (readings_in (items_of datagram.now)) }
     ensures ok { OnOk result (Sends (W.contents writer.old) buffer.old
         (W.contents writer.new) buffer.new (lines_from k 0 (items_of datagram.now))) }
-    ensures faulty { IfOk result (λ r. r.0 ≡ has_fault datagram.now) }
-    ensures next { IfOk result (λ r. LeavesBehind (left_from next readings.now)
-        (readings_in (items_of datagram.now)) (left_from r.1 readings.now)) }
+    ensures faulty { IfOk result (λ faulty. faulty ≡ has_fault datagram.now) }
+    ensures left { OnOk result (map view_reading left.old.now
+        ≡ readings_in (items_of datagram.now) ++ map view_reading left.new.now) }
     ensures err { OnErr result (Stops (W.contents writer.old) buffer.old
         (W.contents writer.new) (lines_from k 0 (items_of datagram.now))) }
 {
     let mut faulty = false;
     let mut place = 0;
-    let mut next = next;
     for item in Messages::new(datagram) {
-        let (found, left) = reading_of(&item, readings, next);
-        let fault_shown = put_item(buffer, writer, k, place, &item, found)?;
-        faulty |= fault_shown;
+        let found = next_reading(&item, left);
+        faulty |= put_item(buffer, writer, k, place, &item, found)?;
         place += item_len(&item);
-        next = left;
     }
-    Ok((faulty, next))
+    Ok(faulty)
 }
 
 impl From<CaptureError> for ShowError {

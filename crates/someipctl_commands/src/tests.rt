@@ -171,6 +171,18 @@ fn a_write_that_fails_leaves_a_beginning(rt: HostRuntime) {
     assert_eq!(rt; taken.as_slice(), REQUEST_LINE.as_bytes());
 }
 
+/// A write that fails after a fault was shown is told, and not the fault.
+#[test]
+fn a_write_that_fails_after_a_fault(rt: HostRuntime) {
+    let text = "1 fault Truncated at 4\n2 empty\n";
+    let (outcome, taken) = written(rt.alloc(), b"12340421\n-\n", 1, text.len(), false);
+    assert_eq!(rt; outcome, Ok(Outcome::FaultShown));
+    assert_eq!(rt; taken.as_slice(), text.as_bytes());
+    let (outcome, taken) = written(rt.alloc(), b"12340421\n-\n", 1, text.len() - 1, false);
+    assert_eq!(rt; outcome, Err(ShowError::CannotWrite));
+    assert_eq!(rt; taken.as_slice(), &text.as_bytes()[..text.len() - 1]);
+}
+
 /// A capture with payloads of these lengths, of bytes 5a, and the text that it shows.
 fn long_payloads(alloc: Global, lengths: &[u16]) -> Result<(String, String), AllocError> {
     let mut capture = String::new(alloc);

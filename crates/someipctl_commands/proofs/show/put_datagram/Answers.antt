@@ -1,7 +1,7 @@
-use Rattle.std.proofs.Common.{sym, rules}
+use Rattle.std.proofs.Common.{refl, sym, rules}
+use Rattle.someipctl_commands.proofs.ReadingsLemmas.{none_in_empty}
 use Rattle.someipctl_print.proofs.SendingLemmas.{OnErr-any}
 use Rattle.someipctl_commands.proofs.ShownTextLemmas.{datagram_text-empty, datagram_text-some, has_fault-empty}
-use Rattle.someipctl_commands.proofs.ReadingsLemmas.{none_in_empty}
 use Rattle.someipctl_commands.proofs.show.put_datagram.Goals as goal
 
 pub returns-in_err-put_empty-clause-err : goal.returns-in_err-put_empty-clause-err
@@ -19,5 +19,5 @@ returns-clause-ok g c = rw (datagram_text-some c.args.k c.args.datagram.now (sea
 pub returns-clause-err : goal.returns-clause-err
 returns-clause-err g c = rw (datagram_text-some c.args.k c.args.datagram.now (search rules)) c.put_items.ensures.err
 
-pub returns-then-is_empty-clause-next : goal.returns-then-is_empty-clause-next
-returns-then-is_empty-clause-next g c others = none_in_empty c.args.datagram.now _ others (search rules)
+pub returns-then-is_empty-clause-left : goal.returns-then-is_empty-clause-left
+returns-then-is_empty-clause-left g c = rw (none_in_empty c.args.datagram.now (search rules)) refl

@@ -1,6 +1,7 @@
 use Rattle.std.proofs.Common.{◌≡◌, ◌+◌, ◌||◌, drop, map}
 use Rattle.std.specs.List.{list_any}
-use Rattle.someipctl_commands.specs.Readings.{left_from, readings_of}
+use Rattle.someipctl_print.specs.Discovery.{view_reading}
+use Rattle.someipctl_commands.specs.Readings.{readings_of}
 use Rattle.someipctl_commands.specs.ShownText.{text_from, has_fault}
 use Rattle.someipctl_print.proofs.SendingLemmas.{IsSending}
 use Rattle.someipctl_commands.proofs.show.put_datagrams.Given as goal
@@ -10,4 +11,4 @@ invariant-loop-i g l =
     let all = map (λ d. d.items) l.datagrams in
     IsSending (g.W.Write.contents l.initial.writer) l.initial.buffer (g.W.Write.contents l.writer) l.buffer (text_from (l.i + 1) (drop l.i all)) (text_from 1 all)
     × ((l.fault_shown || list_any has_fault (drop l.i all)) ≡ list_any has_fault all)
-    × (left_from l.next l.readings ≡ readings_of (drop l.i all))
+    × (map view_reading l.left ≡ readings_of (drop l.i all))

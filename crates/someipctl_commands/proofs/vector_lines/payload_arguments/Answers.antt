@@ -1,8 +1,5 @@
-use Rattle.std.proofs.Common.{◌≡◌, None, Err, sym, ap, ◌∙◌, rules, arith}
-use Rattle.std.proofs.lemmas.Result.{err_from_is_err_and}
-use Rattle.someipctl_commands.specs.declared.vector_lines.LineFault.TheVariants.{Bad}
+use Rattle.std.proofs.Common.{◌≡◌, None, rules, arith}
 use Rattle.someipctl_commands.specs.Payload.{argument_bytes}
-use Rattle.someipctl_commands.specs.VectorLines.{fault_of_shape}
 use Rattle.someipctl_commands.proofs.BlankLemmas.{unparted_says_none, bad_shape_says_none, bad_hex_says_none}
 use Rattle.someipctl_commands.proofs.vector_lines.payload_arguments.Goals as goal
 

@@ -1,5 +1,4 @@
 use Rattle.std.proofs.Common.{rules}
-use Rattle.std.proofs.lemmas.Result.{err_from_is_err_and}
 use Rattle.someipctl_commands.proofs.VectorLemmas.{payload_asks_nothing}
 use Rattle.someipctl_commands.proofs.vector_lines.question_of.Goals as goal
 
