@@ -47,3 +47,4 @@ pub mod HandUps
 pub mod Published
 pub mod WorkedExamples
 pub mod Limits
+pub mod Fitting

@@ -15,6 +15,7 @@ mod entries;
 mod entry_making;
 mod error;
 pub mod example_laws;
+pub mod fit_laws;
 pub mod given_laws;
 mod giving;
 mod hearing;
