@@ -155,7 +155,7 @@ module _ (t : Tables) where
   publish_to_noted instance endpoint event payload None is = tt
   publish_to_noted instance endpoint event payload (Some service) is = ((instance, service, event, payload, is, refl, inr (endpoint, refl)), tt)
 
-  rule_noted : (r : Rule) → Noted r (rule r t)
+  pub rule_noted : (r : Rule) → Noted r (rule r t)
   rule_noted (Drops reason) = tt
   rule_noted (TakesSegment o) = segment_noted o _ refl
   rule_noted (TakesRequest instance from header payload) = instance_noted instance from header payload (offered_as t.config instance) refl

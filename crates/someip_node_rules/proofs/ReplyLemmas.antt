@@ -41,7 +41,7 @@ module _ (t : Tables) where
   offer_says instances instance among None is = tt
   offer_says instances instance among (Some service) is = ((instance, service, among, is, refl), tt)
 
-  offers_say : (instances : List InstanceId) → AllByRecursion (IsOfferOf t instances) (flat_map (offer_of t) instances)
+  pub offers_say : (instances : List InstanceId) → AllByRecursion (IsOfferOf t instances) (flat_map (offer_of t) instances)
   offers_say instances =
       all_flat_map (IsOfferOf t instances) (offer_of t) instances
       (all_weaker (Contains instances) (λ i. AllByRecursion (IsOfferOf t instances) (offer_of t i)) (λ i among. offer_says instances i among (offered_as t.config i) refl) instances
@@ -92,13 +92,13 @@ module _ (t : Tables) where
       let all : List OutgoingSubscribe = subscribes t.clock o.instance o.peer t.wishes in
       all_weaker (IsSubscribeOf t all) (IsReply (TakesOffer o) t) (λ e is. (counts, is)) (flat_map (subscribe_to t) all) (subscribes_say all)
 
-  offer_replied : (o : ReceivedOffer) (cause : Option Uncounted) → uncounted o t.clock t.seek ≡ cause → Replied (TakesOffer o) (offer_by o cause t)
+  pub offer_replied : (o : ReceivedOffer) (cause : Option Uncounted) → uncounted o t.clock t.seek ≡ cause → Replied (TakesOffer o) (offer_by o cause t)
   offer_replied o None counts = endpoint_replied o counts o.endpoint
   offer_replied o (Some Unwanted) counts = tt
   offer_replied o (Some NoEndpoint) counts = tt
   offer_replied o (Some OtherPeer) counts = tt
 
-  subscribe_replied : (peer : Ipv4Addr) (head : EventgroupEntry) (endpoint : Option SocketAddrV4) (cause : Option Cause)
+  pub subscribe_replied : (peer : Ipv4Addr) (head : EventgroupEntry) (endpoint : Option SocketAddrV4) (cause : Option Cause)
       → nack_cause (rules_for head t) (subscribe_in peer head endpoint) (live_subscribers t) ≡ cause
       → Replied (TakesSubscribe peer head endpoint) (subscribe_by head (subscribe_in peer head endpoint) cause)
   subscribe_replied peer head endpoint (Some cause) is = (inr (cause, is, refl), tt)

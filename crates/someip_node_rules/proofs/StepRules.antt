@@ -56,7 +56,7 @@ module _ (P : EntryValue → Type 0) where
   abbrev Replies : Outcome → Type 0
   Replies o = AllByRecursion P o.replies
 
-  segment_replies : (o : Offer) (r : Result Offered TpError) → Replies (segment_by o r)
+  pub segment_replies : (o : Offer) (r : Result Offered TpError) → Replies (segment_by o r)
   segment_replies o (Ok Part) = tt
   segment_replies o (Ok Whole) = tt
   segment_replies o (Err refusal) = tt
@@ -75,19 +75,19 @@ module _ (P : EntryValue → Type 0) where
     type_replies kinds.RequestNoReturn a b ra rb = rb
     type_replies _ a b ra rb = tt
 
-    instance_replies : (offered : Option OfferedService) → Replies (option_map_or (λ service. request_to instance service from header payload t) offered nothing)
+    pub instance_replies : (offered : Option OfferedService) → Replies (option_map_or (λ service. request_to instance service from header payload t) offered nothing)
     instance_replies None = tt
     instance_replies (Some service) = type_replies header.kind _ _ (request_replies service _) (oneway_replies instance header payload _)
 
-  answer_replies : (header : Header) (payload : List ℕ) (cause : Option DropCause) → Replies (answer_by header payload cause)
+  pub answer_replies : (header : Header) (payload : List ℕ) (cause : Option DropCause) → Replies (answer_by header payload cause)
   answer_replies header payload None = tt
   answer_replies header payload (Some cause) = tt
 
-  event_replies : (header : Header) (payload : List ℕ) (instance : Option InstanceId) → Replies (event_by header payload instance)
+  pub event_replies : (header : Header) (payload : List ℕ) (instance : Option InstanceId) → Replies (event_by header payload instance)
   event_replies header payload None = tt
   event_replies header payload (Some instance) = tt
 
-  hearing_replies : (peer : Ipv4Addr) (channel : Channel) (stamp : Stamp) (seen : Seen) (t : Tables) → Replies (hearing_by peer channel stamp seen t)
+  pub hearing_replies : (peer : Ipv4Addr) (channel : Channel) (stamp : Stamp) (seen : Seen) (t : Tables) → Replies (hearing_by peer channel stamp seen t)
   hearing_replies peer channel stamp Same t = tt
   hearing_replies peer channel stamp Rebooted t = tt
 
