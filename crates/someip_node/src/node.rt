@@ -6,6 +6,8 @@ ghost use Rattle.someip_node_rules.specs.History.{History, answers_of, start_of}
 ghost use Rattle.someip_node_rules.specs.Limits.{HoldsWithinLimits};
 ghost use Rattle.someip_node_rules.specs.Inputs as input;
 ghost use Rattle.someip_node_rules.specs.Steps.{Reacts, StandsFor, StaysFailed, TakesNoMemory};
+ghost use Rattle.someip_node_rules.specs.SubscriberLimits.{AreWithinLimits};
+ghost use Rattle.someip_node_rules.specs.SubscriberQuestions.{subscribers_in};
 ghost use Rattle.someip_node_rules.specs.declared.error.NodeError.TheVariants as fault;
 
 use sd_core::{Eventgroup, InstanceId};
@@ -26,11 +28,12 @@ pub struct Node<R: Reassembly> {
 }
 
 impl<R: Reassembly> Model for Node<R> {
-    ghost use Rattle.std.specs.Prelude.{if◌then◌else◌, None, Some};
+    ghost use Rattle.std.specs.Prelude.{◌≡◌, false, if◌then◌else◌, None, Some};
     ghost use Rattle.std.specs.Coded.{codes};
     ghost use Rattle.someip_node_rules.specs.contracts.config.Config as config_row;
     ghost use Rattle.someip_tp.specs.Parts.{coded_parts};
     ghost use Rattle.someip_node_rules.specs.Steps.{NodeView};
+    ghost use Rattle.someip_node_rules.specs.SubscriberLimits.{AreWithinLimits};
     ghost use Rattle.someip_node_rules.specs.Tables.{coded_held, coded_stamps_to};
     ghost use Rattle.sd_core.specs.OfferTables.{coded_offers};
     ghost use Rattle.sd_core.specs.SeekTables.{coded_seek};
@@ -56,6 +59,8 @@ impl<R: Reassembly> Model for Node<R> {
     ) };
 
     ghost view = { λ n. record { config = n.engine.config; tables = if n.failed then None else Some n.engine } };
+
+    ghost invariant = { λ n. n.failed ≡ false → AreWithinLimits n.engine.config n.engine.subscribers };
 }
 
 impl<R: Reassembly> Node<R> {
@@ -91,10 +96,13 @@ impl<R: Reassembly> Node<R> {
         self.engine.config()
     }
 
-    /// Whatever a node met, it keeps no more peers than its configuration allows, and at most 1024 calls
-    /// and 1024 requests wait for their answers. This does nothing: its contract says so.
+    /// Whatever a node met, it keeps no more peers than its configuration allows, at most 1024 calls and
+    /// 1024 requests wait for their answers, and no eventgroup has more live subscriptions than the
+    /// configuration allows. This does nothing: its contract says so.
     pub fn holds_within_limits(&self)
-        ensures { (h : History) → StandsFor self.now h → HoldsWithinLimits (answers_of h) }
+        ensures held { (h : History) → StandsFor self.now h → HoldsWithinLimits (answers_of h) }
+        ensures subscribers { (h : History) → StandsFor self.now h
+            → AreWithinLimits h.config (subscribers_in h.items) }
     {
         self.engine.holds_within_limits();
     }

@@ -26,3 +26,13 @@ pub mod MeaningLemmas
 pub mod MeetingLemmas
 pub mod HandUpLemmas
 pub mod PublishedLemmas
+pub mod LimitExampleLemmas
+pub mod SubscriberLimitLemmas
+pub mod CallExampleLemmas
+pub mod RuleReplies
+pub mod FitItems
+pub mod FitEntries
+pub mod FitRules
+pub mod FitPlans
+pub mod FitPackets
+pub mod FitExamples

@@ -55,7 +55,7 @@ use Rattle.someip_node_rules.proofs.StepRules.{all_said}
 
 module _ (t : Tables) where
   -- the items of a rule say what they should
-  abbrev Noted : Rule → Outcome → Type 0
+  abbrev pub Noted : Rule → Outcome → Type 0
   Noted r o = AllByRecursion (λ item. IsMet item r t) o.items
 
   segment_noted : (o : Offer) (result : Result Offered TpError) → judgement (limits_of t.config) t.clock o t.parts ≡ result → Noted (TakesSegment o) (segment_by o result)

@@ -39,3 +39,8 @@ pub mod HandUps
 pub mod Published
 pub mod WorkedExamples
 pub mod Limits
+pub mod Advances
+pub mod SubscriberLimits
+pub mod LimitExamples
+pub mod CallExamples
+pub mod Fitting

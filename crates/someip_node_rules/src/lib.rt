@@ -3,16 +3,18 @@
 //! - [`Config`], with [`Common`], [`OfferedService`] and [`WantedService`]: what a node is set up with;
 //! - [`Output`], with [`Payload`] and [`DropReason`]: what a node gives; [`NodeError`]: why it refuses;
 //! - [`Target`], [`Receiver`]: what is reached at its endpoints, and who it sends to;
-//! - [`laws`], [`given_laws`], [`limit_laws`], [`example_laws`]: what the definitions promise, whatever
-//!   code carries them out.
+//! - [`laws`], [`given_laws`], [`limit_laws`], [`subscriber_laws`], [`fit_laws`]: what the definitions
+//!   promise, whatever code carries them out; [`example_laws`], [`call_example_laws`]: worked steps.
 //!
 //! The definitions stand in `specs/`: what a node met, what it answers of that, and what it does next.
 #![tactic(auto)]
 
+pub mod call_example_laws;
 mod config;
 mod drops;
 mod error;
 pub mod example_laws;
+pub mod fit_laws;
 pub mod given_laws;
 pub mod laws;
 pub mod limit_laws;
@@ -20,6 +22,7 @@ mod output;
 mod output_text;
 mod payload;
 mod receiver;
+pub mod subscriber_laws;
 mod target;
 
 pub use config::{Common, Config, OfferedService, WantedService};

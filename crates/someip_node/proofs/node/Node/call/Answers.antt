@@ -1,7 +1,8 @@
-use Rattle.std.proofs.Common.{◌∙◌}
+use Rattle.std.proofs.Common.{sym, ◌∙◌}
 use Rattle.someip_node_rules.specs.Inputs.{Call}
 use Rattle.someip_node.proofs.HandledLemmas.{handled_given}
 use Rattle.someip_node_rules.proofs.Stands.{answers}
+use Rattle.someip_node.proofs.WithinLemmas.{handled_fits}
 use Rattle.someip_node.proofs.node.Node.call.Goals as goal
 
 pub returns-clause-reacts : goal.returns-clause-reacts
@@ -10,3 +11,8 @@ returns-clause-reacts g c = λ h is.
     (answers c.self.inside.failed c.self.inside.engine h c.if-self.false (c.self.view_is ∙ is))
     c.call-done.result c.new-giving.result c.call-done.new.giving c.call-done.new.self _ _
     c.new-giving.ensures.outputs c.new-giving.ensures.replies c.call-done.ensures c.finish.ensures.failed c.finish.ensures.given
+
+pub invariant_of-self : goal.invariant_of-self
+invariant_of-self g c = λ fine.
+    handled_fits (Call c.args.kind c.args.instance c.args.method c.args.payload.now) c.self.inside.engine c.new-giving.result c.call-done.new.self c.call-done.new.giving
+    (c.self.invariant c.if-self.false) c.call-done.result c.call-done.ensures (sym c.finish.ensures.failed ∙ fine)

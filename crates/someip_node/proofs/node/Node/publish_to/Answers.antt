@@ -1,7 +1,8 @@
-use Rattle.std.proofs.Common.{◌∙◌}
+use Rattle.std.proofs.Common.{sym, ◌∙◌}
 use Rattle.someip_node_rules.specs.Inputs.{PublishTo}
 use Rattle.someip_node.proofs.HandledLemmas.{handled_given}
 use Rattle.someip_node_rules.proofs.Stands.{answers}
+use Rattle.someip_node.proofs.WithinLemmas.{handled_fits}
 use Rattle.someip_node.proofs.node.Node.publish_to.Goals as goal
 
 pub returns-clause-reacts : goal.returns-clause-reacts
@@ -10,3 +11,8 @@ returns-clause-reacts g c = λ h is.
     (answers c.self.inside.failed c.self.inside.engine h c.if-self.false (c.self.view_is ∙ is))
     c.publish_to-done.result c.new-giving.result c.publish_to-done.new.giving c.publish_to-done.new.self _ _
     c.new-giving.ensures.outputs c.new-giving.ensures.replies c.publish_to-done.ensures c.finish.ensures.failed c.finish.ensures.given
+
+pub invariant_of-self : goal.invariant_of-self
+invariant_of-self g c = λ fine.
+    handled_fits (PublishTo c.args.instance c.args.eventgroup c.args.endpoint c.args.event c.args.payload.now) c.self.inside.engine c.new-giving.result c.publish_to-done.new.self c.publish_to-done.new.giving
+    (c.self.invariant c.if-self.false) c.publish_to-done.result c.publish_to-done.ensures (sym c.finish.ensures.failed ∙ fine)

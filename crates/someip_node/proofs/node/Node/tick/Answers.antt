@@ -5,6 +5,7 @@ use Rattle.someip_node.proofs.QuietLemmas.{quiet_step, ran_out}
 use Rattle.someip_node_rules.specs.Inputs.{Tick}
 use Rattle.someip_node.proofs.HandledLemmas.{handled_given}
 use Rattle.someip_node_rules.proofs.Stands.{answers}
+use Rattle.someip_node.proofs.WithinLemmas.{handled_fits}
 use Rattle.someip_node.proofs.node.Node.tick.Goals as goal
 
 pub returns-clause-reacts : goal.returns-clause-reacts
@@ -19,3 +20,8 @@ returns-clause-quiet g c = λ h done stands is none out.
     let same = answers c.self.inside.failed c.self.inside.engine h c.if-self.false (c.self.view_is ∙ stands) in
     let grew = ran_out c.take_tick-done.result _ c.take_tick-done.ensures.grows (sym c.finish.ensures.given ∙ out) in
     grew.1 (subst (λ t. BringsNothing (t.clock + c.args.ms) t) (sym same) (quiet_step h c.args.ms done (subst (λ t. KnowsWanted t.seek) same grew.0) is none))
+
+pub invariant_of-self : goal.invariant_of-self
+invariant_of-self g c = λ fine.
+    handled_fits (Tick c.args.ms) c.self.inside.engine c.new-giving.result c.take_tick-done.new.self c.take_tick-done.new.giving
+    (c.self.invariant c.if-self.false) c.take_tick-done.result c.take_tick-done.ensures.handled (sym c.finish.ensures.failed ∙ fine)

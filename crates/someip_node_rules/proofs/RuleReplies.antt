@@ -6,14 +6,14 @@ use Rattle.std.specs.FinMap as finite
 use Rattle.std.proofs.lemmas.Bool.{cond_both}
 use Rattle.sd_core.specs.OfferTables.{answering}
 use Rattle.sd_core.specs.SeekTables.{is_stopped}
-use Rattle.someip_node.specs.Outcomes.{Outcome, nothing}
-use Rattle.someip_node.specs.Plans.{Rule, Announces, Answers, Calls, Drops, Hears, Publishes, PublishesTo, RepliesTo, Stops, TakesAck, TakesAnswer, TakesBack, TakesEvent, TakesFind, TakesNack, TakesOffer, TakesRequest, TakesSegment, TakesStopOffer, TakesStopSubscribe, TakesSubscribe, Ticks, Wishes, rule}
-use Rattle.someip_node.specs.Replies.{IsReply}
-use Rattle.someip_node.specs.Setups.{offered_as}
-use Rattle.someip_node.specs.Subscribing.{sought_by}
-use Rattle.someip_node.specs.Tables.{Tables, known_endpoint}
-use Rattle.someip_node.proofs.ReplyLemmas.{offer_replied, offers_say, subscribe_replied}
-use Rattle.someip_node.proofs.StepRules.{answer_replies, event_replies, hearing_replies, instance_replies, segment_replies}
+use Rattle.someip_node_rules.specs.Outcomes.{Outcome, nothing}
+use Rattle.someip_node_rules.specs.Plans.{Rule, Announces, Answers, Calls, Drops, Hears, Publishes, PublishesTo, RepliesTo, Stops, TakesAck, TakesAnswer, TakesBack, TakesEvent, TakesFind, TakesNack, TakesOffer, TakesRequest, TakesSegment, TakesStopOffer, TakesStopSubscribe, TakesSubscribe, Ticks, Wishes, rule}
+use Rattle.someip_node_rules.specs.Replies.{IsReply}
+use Rattle.someip_node_rules.specs.Setups.{offered_as}
+use Rattle.someip_node_rules.specs.Subscribing.{sought_by}
+use Rattle.someip_node_rules.specs.Tables.{Tables, known_endpoint}
+use Rattle.someip_node_rules.proofs.ReplyLemmas.{offer_replied, offers_say, subscribe_replied}
+use Rattle.someip_node_rules.proofs.StepRules.{answer_replies, event_replies, hearing_replies, instance_replies, segment_replies}
 
 module _ (t : Tables) where
   abbrev Replied : Rule → Outcome → Type 0

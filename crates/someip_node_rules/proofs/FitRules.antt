@@ -27,29 +27,29 @@ use Rattle.someip_rpc.specs.Events.{event_header, event_of, next_session_of}
 use Rattle.someip_rpc.specs.Requests.{answer_header, asked, fault_code}
 use Rattle.someip_rpc.specs.Servers.{code_of_reply, kind_of_reply}
 use Rattle.someip_rpc.specs.Sessions.{session_after_last}
-use Rattle.someip_node.specs.declared.config.OfferedService.{OfferedService}
-use Rattle.someip_node.specs.declared.config.WantedService.{WantedService}
-use Rattle.someip_node.specs.CallQuestions.{times_published}
-use Rattle.someip_node.specs.Calls.{call_of, session_of}
-use Rattle.someip_node.specs.DiscoveryQuestions.{group_addressed, messages_to}
-use Rattle.someip_node.specs.Fitting.{FitsConfig, FitsHistory, FitsItem, FitsPayload, FitsWire}
-use Rattle.someip_node.specs.Handling.{is_discovery, is_notification}
-use Rattle.someip_node.specs.History.{History, answers_of}
-use Rattle.someip_node.specs.Items as items
-use Rattle.someip_node.specs.Items.{Item}
-use Rattle.someip_node.specs.Meanings.{Means}
-use Rattle.someip_node.specs.Meetings.{IsMet}
-use Rattle.someip_node.specs.Outputs as outputs
-use Rattle.someip_node.specs.Outputs.{Given}
-use Rattle.someip_node.specs.Plans.{Rule, Announces, Answers, Calls, Publishes, PublishesTo, RepliesTo, TakesRequest, TakesSubscribe, Wishes, rule}
-use Rattle.someip_node.specs.Sending.{IsAnnounced, IsAnswerTo, IsCallTo, IsErrorTo, IsEventTo, IsSent}
-use Rattle.someip_node.specs.Setups.{wanted_as}
-use Rattle.someip_node.specs.Tables.{Tables, waiting_calls}
-use Rattle.someip_node.proofs.FitEntries.{FitsFront, offer_fits, want_fits}
-use Rattle.someip_node.proofs.FitItems.{after_last_fits, free_fits, request_fits, session_after_fits}
-use Rattle.someip_node.proofs.MeetingLemmas.{rule_noted}
-use Rattle.someip_node.proofs.MemberLemmas.{all_weaker}
-use Rattle.someip_node.proofs.NamedLemmas.{get-session, next-event_session, stamp-next}
+use Rattle.someip_node_rules.specs.declared.config.OfferedService.{OfferedService}
+use Rattle.someip_node_rules.specs.declared.config.WantedService.{WantedService}
+use Rattle.someip_node_rules.specs.CallQuestions.{times_published}
+use Rattle.someip_node_rules.specs.Calls.{call_of, session_of}
+use Rattle.someip_node_rules.specs.DiscoveryQuestions.{group_addressed, messages_to}
+use Rattle.someip_node_rules.specs.Fitting.{FitsConfig, FitsHistory, FitsItem, FitsPayload, FitsWire}
+use Rattle.someip_node_rules.specs.Handling.{is_discovery, is_notification}
+use Rattle.someip_node_rules.specs.History.{History, answers_of}
+use Rattle.someip_node_rules.specs.Items as items
+use Rattle.someip_node_rules.specs.Items.{Item}
+use Rattle.someip_node_rules.specs.Meanings.{Means}
+use Rattle.someip_node_rules.specs.Meetings.{IsMet}
+use Rattle.someip_node_rules.specs.Outputs as outputs
+use Rattle.someip_node_rules.specs.Outputs.{Given}
+use Rattle.someip_node_rules.specs.Plans.{Rule, Announces, Answers, Calls, Publishes, PublishesTo, RepliesTo, TakesRequest, TakesSubscribe, Wishes, rule}
+use Rattle.someip_node_rules.specs.Sending.{IsAnnounced, IsAnswerTo, IsCallTo, IsErrorTo, IsEventTo, IsSent}
+use Rattle.someip_node_rules.specs.Setups.{wanted_as}
+use Rattle.someip_node_rules.specs.Tables.{Tables, waiting_calls}
+use Rattle.someip_node_rules.proofs.FitEntries.{FitsFront, offer_fits, want_fits}
+use Rattle.someip_node_rules.proofs.FitItems.{after_last_fits, free_fits, request_fits, session_after_fits}
+use Rattle.someip_node_rules.proofs.MeetingLemmas.{rule_noted}
+use Rattle.someip_node_rules.proofs.MemberLemmas.{all_weaker}
+use Rattle.someip_node_rules.proofs.NamedLemmas.{get-session, next-event_session, stamp-next}
 
 -- the numbers of a header fit their fields: those of a message without payload
 abbrev pub HeaderFits : Header → Type 0

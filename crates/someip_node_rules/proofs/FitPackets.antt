@@ -13,9 +13,9 @@ use Rattle.sd_wire.specs.Spelling.{HeadFits}
 use Rattle.sd_wire.specs.Values.{ReadValue, good, bad_run}
 use Rattle.sd_wire.proofs.FieldLemmas.{IsBytes-drop, IsBytes-take}
 use Rattle.sd_wire.proofs.SdLemmas.{reading_holds}
-use Rattle.someip_node.specs.Fitting.{FitsPacket, head_of}
-use Rattle.someip_node.specs.Packets.{Packet}
-use Rattle.someip_node.proofs.MemberLemmas.{all_both, at_member}
+use Rattle.someip_node_rules.specs.Fitting.{FitsPacket, head_of}
+use Rattle.someip_node_rules.specs.Packets.{Packet}
+use Rattle.someip_node_rules.proofs.MemberLemmas.{all_both, at_member}
 
 -- ---- bytes side by side
 

@@ -32,17 +32,17 @@ use Rattle.someip_rpc.specs.declared.request.Asked.{Asked}
 use Rattle.someip_rpc.specs.Calls.{Pending, is_pending}
 use Rattle.someip_rpc.specs.Ids.{message_cmp}
 use Rattle.someip_rpc.specs.Sessions.{next_session, session_after, session_after_last}
-use Rattle.someip_node.specs.CallQuestions.{last_session_at, next_token, open_request_at, requests_in}
-use Rattle.someip_node.specs.Calls.{first_free, first_free_of}
-use Rattle.someip_node.specs.Fitting.{FitsItem}
-use Rattle.someip_node.specs.Items.{Item, AckCame, Answered, Called, NackCame, OfferCounted, OfferWithdrawn, PeerRebooted, Requested, Ticked, Unwished, Wished}
-use Rattle.someip_node.specs.Questions.{clock_at, table_of}
-use Rattle.someip_node.specs.SeekQuestions.{known_offer_at}
-use Rattle.someip_node.specs.WishQuestions.{Course, acked_if, begins_at, course_at, ended_if, eventgroup_wished, goes_on, has_lapsed, is_answered_by, is_wished_at, known_peer_at, same_eventgroup, stage_of, subscribes_at, subscribes_if_known, wish_at, wishes_in}
-use Rattle.someip_node.proofs.MemberLemmas.{all_flat_map, all_weaker, at_member}
-use Rattle.someip_node.proofs.NamedLemmas.{get-request}
-use Rattle.someip_node.proofs.QuestionLemmas.{get-table_of}
-use Rattle.someip_node.proofs.WishLives.{get-wish}
+use Rattle.someip_node_rules.specs.CallQuestions.{last_session_at, next_token, open_request_at, requests_in}
+use Rattle.someip_node_rules.specs.Calls.{first_free, first_free_of}
+use Rattle.someip_node_rules.specs.Fitting.{FitsItem}
+use Rattle.someip_node_rules.specs.Items.{Item, AckCame, Answered, Called, NackCame, OfferCounted, OfferWithdrawn, PeerRebooted, Requested, Ticked, Unwished, Wished}
+use Rattle.someip_node_rules.specs.Questions.{clock_at, table_of}
+use Rattle.someip_node_rules.specs.SeekQuestions.{known_offer_at}
+use Rattle.someip_node_rules.specs.WishQuestions.{Course, acked_if, begins_at, course_at, ended_if, eventgroup_wished, goes_on, has_lapsed, is_answered_by, is_wished_at, known_peer_at, same_eventgroup, stage_of, subscribes_at, subscribes_if_known, wish_at, wishes_in}
+use Rattle.someip_node_rules.proofs.MemberLemmas.{all_flat_map, all_weaker, at_member}
+use Rattle.someip_node_rules.proofs.NamedLemmas.{get-request}
+use Rattle.someip_node_rules.proofs.QuestionLemmas.{get-table_of}
+use Rattle.someip_node_rules.proofs.WishLives.{get-wish}
 
 -- ---- the entries of a table
 

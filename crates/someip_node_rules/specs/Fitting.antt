@@ -15,15 +15,15 @@ use Rattle.sd_wire.specs.Writing.{EntryFits}
 use Rattle.sd_core.specs.declared.keys.InstanceId.{InstanceId}
 use Rattle.someip_rpc.specs.Requests.{answer_header}
 use Rattle.someip_rpc.specs.Servers.{code_of_reply}
-use Rattle.someip_node.specs.declared.config.Config.{Config}
-use Rattle.someip_node.specs.declared.config.OfferedService.{OfferedService}
-use Rattle.someip_node.specs.declared.config.WantedService.{WantedService}
-use Rattle.someip_node.specs.Handling.{is_discovery}
-use Rattle.someip_node.specs.History.{History}
-use Rattle.someip_node.specs.Inputs.{Input, Datagram, Tick, Call, Answer, Publish, PublishTo, Subscribe, Unsubscribe, StopOffer}
-use Rattle.someip_node.specs.Items.{Item, Called, Requested, Wished}
-use Rattle.someip_node.specs.Outputs.{Given, Announces, Sends, Tells}
-use Rattle.someip_node.specs.Packets.{Packet, HasEntry, HasMessage}
+use Rattle.someip_node_rules.specs.declared.config.Config.{Config}
+use Rattle.someip_node_rules.specs.declared.config.OfferedService.{OfferedService}
+use Rattle.someip_node_rules.specs.declared.config.WantedService.{WantedService}
+use Rattle.someip_node_rules.specs.Handling.{is_discovery}
+use Rattle.someip_node_rules.specs.History.{History}
+use Rattle.someip_node_rules.specs.Inputs.{Input, Datagram, Tick, Call, Answer, Publish, PublishTo, Subscribe, Unsubscribe, StopOffer}
+use Rattle.someip_node_rules.specs.Items.{Item, Called, Requested, Wished}
+use Rattle.someip_node_rules.specs.Outputs.{Given, Announces, Sends, Tells}
+use Rattle.someip_node_rules.specs.Packets.{Packet, HasEntry, HasMessage}
 
 -- ---- what is given
 

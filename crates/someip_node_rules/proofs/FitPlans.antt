@@ -37,37 +37,37 @@ use Rattle.sd_session.specs.Peers.{may_hold}
 use Rattle.sd_core.specs.declared.eventgroup.Eventgroup as groups
 use Rattle.sd_core.specs.declared.wish.Beginning.{Beginning}
 use Rattle.sd_core.specs.Wishes.{sent_at_once, wish_of}
-use Rattle.someip_node.specs.declared.config.Config.{Config}
-use Rattle.someip_node.specs.declared.receiver.Receiver.{Receiver}
-use Rattle.someip_node.specs.declared.receiver.Receiver.TheVariants.{Group, Peer}
-use Rattle.someip_node.specs.declared.target.Target.{Target}
-use Rattle.someip_node.specs.declared.target.Target.TheVariants.{Instance, Client, Discovery, Nowhere}
-use Rattle.someip_node.specs.Calls.{due_entries, standing_of, wish_entries, wish_entries_by}
-use Rattle.someip_node.specs.Entries.{fronts}
-use Rattle.someip_node.specs.Fitting.{FitsConfig, FitsHistory, FitsInput, FitsItem, FitsPacket, FitsWire, head_of}
-use Rattle.someip_node.specs.Handling.{client_plan, completed_plan, datagram_plan, discovery_plan, entries_plan, entry_plan, eventgroup_plan, good_plan, heard_plan, is_discovery, item_plan, items_plan, message_plan, reading_plan, same_address, segment_plan, service_plan, target_of, target_plan, whole_plan}
-use Rattle.someip_node.specs.History.{History, answers_of, historic, met, start_of}
-use Rattle.someip_node.specs.Meanings.{GivenBy}
-use Rattle.someip_node.specs.Outputs.{Given}
-use Rattle.someip_node.specs.Inputs.{Input, Datagram, Tick, Call, Answer, Publish, PublishTo, Subscribe, Unsubscribe, StopOffer, peer_plan, plan_of, stop_subscribe_plan}
-use Rattle.someip_node.specs.Items.{Item}
-use Rattle.someip_node.specs.Messages as messages
-use Rattle.someip_node.specs.Packets.{Packet, HasDiscovery, HasEntry, HasMessage}
-use Rattle.someip_node.specs.Plans.{Plan, Rule, Work, does, each, rule, run}
-use Rattle.someip_node.specs.Receivers.{message_plan_to, messages_plan_to}
-use Rattle.someip_node.specs.Replies.{IsDue, IsReply}
-use Rattle.someip_node.specs.Setups.{offered_as, wanted_as}
-use Rattle.someip_node.specs.Steps.{step, work_on}
-use Rattle.someip_node.specs.Tables.{known_peer}
-use Rattle.someip_node.specs.Trails.{after, met_by, trail_of}
-use Rattle.someip_node.proofs.FitEntries.{FitsEntry, FitsFront, FitsHead, due_fits, front_none, reply_fits, stop_front, subscribe_front}
-use Rattle.someip_node.proofs.FitItems.{at_once_fits, standing_fits}
-use Rattle.someip_node.proofs.FitRules.{FitsRule, HeaderFits, items_fit, means_fits}
-use Rattle.someip_node.proofs.MeetingLemmas.{state_met}
-use Rattle.someip_node.proofs.MemberLemmas.{all_append, all_both, all_fronts, all_from_members, all_members, all_weaker, at_member}
-use Rattle.someip_node.proofs.PlanLemmas.{Allows, Might, run_keeps, state_of_run, trail_keeps}
-use Rattle.someip_node.proofs.ReplyLemmas.{due_says}
-use Rattle.someip_node.proofs.RuleReplies.{rule_replied}
+use Rattle.someip_node_rules.specs.declared.config.Config.{Config}
+use Rattle.someip_node_rules.specs.declared.receiver.Receiver.{Receiver}
+use Rattle.someip_node_rules.specs.declared.receiver.Receiver.TheVariants.{Group, Peer}
+use Rattle.someip_node_rules.specs.declared.target.Target.{Target}
+use Rattle.someip_node_rules.specs.declared.target.Target.TheVariants.{Instance, Client, Discovery, Nowhere}
+use Rattle.someip_node_rules.specs.Calls.{due_entries, standing_of, wish_entries, wish_entries_by}
+use Rattle.someip_node_rules.specs.Entries.{fronts}
+use Rattle.someip_node_rules.specs.Fitting.{FitsConfig, FitsHistory, FitsInput, FitsItem, FitsPacket, FitsWire, head_of}
+use Rattle.someip_node_rules.specs.Handling.{client_plan, completed_plan, datagram_plan, discovery_plan, entries_plan, entry_plan, eventgroup_plan, good_plan, heard_plan, is_discovery, item_plan, items_plan, message_plan, reading_plan, same_address, segment_plan, service_plan, target_of, target_plan, whole_plan}
+use Rattle.someip_node_rules.specs.History.{History, answers_of, historic, met, start_of}
+use Rattle.someip_node_rules.specs.Meanings.{GivenBy}
+use Rattle.someip_node_rules.specs.Outputs.{Given}
+use Rattle.someip_node_rules.specs.Inputs.{Input, Datagram, Tick, Call, Answer, Publish, PublishTo, Subscribe, Unsubscribe, StopOffer, peer_plan, plan_of, stop_subscribe_plan}
+use Rattle.someip_node_rules.specs.Items.{Item}
+use Rattle.someip_node_rules.specs.Messages as messages
+use Rattle.someip_node_rules.specs.Packets.{Packet, HasDiscovery, HasEntry, HasMessage}
+use Rattle.someip_node_rules.specs.Plans.{Plan, Rule, Work, does, each, rule, run}
+use Rattle.someip_node_rules.specs.Receivers.{message_plan_to, messages_plan_to}
+use Rattle.someip_node_rules.specs.Replies.{IsDue, IsReply}
+use Rattle.someip_node_rules.specs.Setups.{offered_as, wanted_as}
+use Rattle.someip_node_rules.specs.Steps.{step, work_on}
+use Rattle.someip_node_rules.specs.Tables.{known_peer}
+use Rattle.someip_node_rules.specs.Trails.{after, met_by, trail_of}
+use Rattle.someip_node_rules.proofs.FitEntries.{FitsEntry, FitsFront, FitsHead, due_fits, front_none, reply_fits, stop_front, subscribe_front}
+use Rattle.someip_node_rules.proofs.FitItems.{at_once_fits, standing_fits}
+use Rattle.someip_node_rules.proofs.FitRules.{FitsRule, HeaderFits, items_fit, means_fits}
+use Rattle.someip_node_rules.proofs.MeetingLemmas.{state_met}
+use Rattle.someip_node_rules.proofs.MemberLemmas.{all_append, all_both, all_fronts, all_from_members, all_members, all_weaker, at_member}
+use Rattle.someip_node_rules.proofs.PlanLemmas.{Allows, Might, run_keeps, state_of_run, trail_keeps}
+use Rattle.someip_node_rules.proofs.ReplyLemmas.{due_says}
+use Rattle.someip_node_rules.proofs.RuleReplies.{rule_replied}
 
 -- ---- what a rule leaves
 

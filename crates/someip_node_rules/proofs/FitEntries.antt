@@ -20,18 +20,18 @@ use Rattle.sd_core.specs.declared.eventgroup.Eventgroup as groups
 use Rattle.sd_core.specs.declared.keys.InstanceId.{InstanceId}
 use Rattle.sd_core.specs.declared.wish.OutgoingSubscribe.{OutgoingSubscribe}
 use Rattle.sd_core.specs.KeyOrder.{exact_instances, instances_total}
-use Rattle.someip_node.specs.declared.config.Config.{Config}
-use Rattle.someip_node.specs.declared.config.OfferedService.{OfferedService}
-use Rattle.someip_node.specs.declared.config.WantedService.{WantedService}
-use Rattle.someip_node.specs.Entries.{ack_entry, find_entry, offer_entry, subscribe_entry}
-use Rattle.someip_node.specs.Fitting.{FitsConfig, FitsHistory, FitsItem, FitsOffer, FitsWant}
-use Rattle.someip_node.specs.History.{History, answers_of}
-use Rattle.someip_node.specs.Plans.{Rule, TakesFind, TakesOffer, TakesSubscribe}
-use Rattle.someip_node.specs.Replies.{IsDue, IsFindOf, IsOfferOf, IsReply, IsSubscribeOf}
-use Rattle.someip_node.specs.Setups.{client_endpoint, offered_as, wanted_as}
-use Rattle.someip_node.specs.Tables.{Tables}
-use Rattle.someip_node.proofs.FitItems.{FitsSubscribe, subscribes_fit}
-use Rattle.someip_node.proofs.MemberLemmas.{all_weaker, at_member}
+use Rattle.someip_node_rules.specs.declared.config.Config.{Config}
+use Rattle.someip_node_rules.specs.declared.config.OfferedService.{OfferedService}
+use Rattle.someip_node_rules.specs.declared.config.WantedService.{WantedService}
+use Rattle.someip_node_rules.specs.Entries.{ack_entry, find_entry, offer_entry, subscribe_entry}
+use Rattle.someip_node_rules.specs.Fitting.{FitsConfig, FitsHistory, FitsItem, FitsOffer, FitsWant}
+use Rattle.someip_node_rules.specs.History.{History, answers_of}
+use Rattle.someip_node_rules.specs.Plans.{Rule, TakesFind, TakesOffer, TakesSubscribe}
+use Rattle.someip_node_rules.specs.Replies.{IsDue, IsFindOf, IsOfferOf, IsReply, IsSubscribeOf}
+use Rattle.someip_node_rules.specs.Setups.{client_endpoint, offered_as, wanted_as}
+use Rattle.someip_node_rules.specs.Tables.{Tables}
+use Rattle.someip_node_rules.proofs.FitItems.{FitsSubscribe, subscribes_fit}
+use Rattle.someip_node_rules.proofs.MemberLemmas.{all_weaker, at_member}
 
 -- an entry fits its fields, and has no option or one endpoint
 abbrev pub FitsEntry : EntryValue → Type 0

@@ -7,18 +7,18 @@ ghost use Rattle.std.specs.declared.net.socket_addr.SocketAddrV4.{SocketAddrV4};
 ghost use Rattle.someip_wire.specs.Spelling.{IsBytes};
 ghost use Rattle.sd_wire.specs.Values.{EntryValue};
 ghost use Rattle.someip_rpc.specs.declared.call.Call.{Call};
-ghost use Rattle.someip_node.specs.declared.config.Config.{Config};
-ghost use Rattle.someip_node.specs.Fitting.{FitsConfig, FitsHistory, FitsInput, FitsItem, FitsOffer, FitsPacket, FitsWire};
-ghost use Rattle.someip_node.specs.History.{History, start_of};
-ghost use Rattle.someip_node.specs.Entries.{discovery_message};
-ghost use Rattle.someip_node.specs.Inputs.{Input, Publish};
-ghost use Rattle.someip_node.specs.Items.{Called};
-ghost use Rattle.someip_node.specs.Meanings.{GivenBy};
-ghost use Rattle.someip_node.specs.Outputs.{Announces, Given, Sends};
-ghost use Rattle.someip_node.specs.Packets.{Packet};
-ghost use Rattle.someip_node.specs.Plans.{Work};
-ghost use Rattle.someip_node.specs.Steps.{step};
-ghost use Rattle.someip_node.specs.WorkedExamples.{asking, instance, service};
+ghost use Rattle.someip_node_rules.specs.declared.config.Config.{Config};
+ghost use Rattle.someip_node_rules.specs.Fitting.{FitsConfig, FitsHistory, FitsInput, FitsItem, FitsOffer, FitsPacket, FitsWire};
+ghost use Rattle.someip_node_rules.specs.History.{History, start_of};
+ghost use Rattle.someip_node_rules.specs.Entries.{discovery_message};
+ghost use Rattle.someip_node_rules.specs.Inputs.{Input, Publish};
+ghost use Rattle.someip_node_rules.specs.Items.{Called};
+ghost use Rattle.someip_node_rules.specs.Meanings.{GivenBy};
+ghost use Rattle.someip_node_rules.specs.Outputs.{Announces, Given, Sends};
+ghost use Rattle.someip_node_rules.specs.Packets.{Packet};
+ghost use Rattle.someip_node_rules.specs.Plans.{Work};
+ghost use Rattle.someip_node_rules.specs.Steps.{step};
+ghost use Rattle.someip_node_rules.specs.WorkedExamples.{asking, instance, service};
 
 /// What a node gives for an input fits its fields, where the numbers of its configuration, of what it met
 /// and of the input do: a message of Service Discovery has a session and entries that fit theirs, and the

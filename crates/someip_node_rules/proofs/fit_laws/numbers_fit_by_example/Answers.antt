@@ -1,6 +1,6 @@
 use Rattle.std.proofs.Common.{arith}
-use Rattle.someip_node.proofs.FitExamples.{no_bytes, none_announced, none_come, offer_fits}
-use Rattle.someip_node.proofs.fit_laws.numbers_fit_by_example.Goals as goal
+use Rattle.someip_node_rules.proofs.FitExamples.{no_bytes, none_announced, none_come, offer_fits}
+use Rattle.someip_node_rules.proofs.fit_laws.numbers_fit_by_example.Goals as goal
 
 pub returns-clause-offer : goal.returns-clause-offer
 returns-clause-offer c = offer_fits

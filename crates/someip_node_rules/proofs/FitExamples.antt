@@ -9,12 +9,12 @@ use Rattle.someip_wire.specs.Faults.{length_field}
 use Rattle.someip_wire.specs.Reading.{items_from, items_of, message_in}
 use Rattle.someip_wire.proofs.DatagramLemmas.{items_from-message}
 use Rattle.sd_wire.proofs.FieldLemmas.{IsBytes-literal}
-use Rattle.someip_node.specs.Fitting.{FitsOffer, FitsPacket, FitsWire}
-use Rattle.someip_node.specs.Outputs.{Announces}
-use Rattle.someip_node.specs.Packets.{Packet, HasMessage}
-use Rattle.someip_node.specs.WorkedExamples.{asking, instance, service}
-use Rattle.someip_node.proofs.FitEntries.{front_none}
-use Rattle.someip_node.proofs.FitPackets.{bytes_fit}
+use Rattle.someip_node_rules.specs.Fitting.{FitsOffer, FitsPacket, FitsWire}
+use Rattle.someip_node_rules.specs.Outputs.{Announces}
+use Rattle.someip_node_rules.specs.Packets.{Packet, HasMessage}
+use Rattle.someip_node_rules.specs.WorkedExamples.{asking, instance, service}
+use Rattle.someip_node_rules.proofs.FitEntries.{front_none}
+use Rattle.someip_node_rules.proofs.FitPackets.{bytes_fit}
 
 pub offer_fits : (events : BTreeMap ℕ (BTreeSet ℕ)) → FitsOffer (instance, record (service events) { ttl = 0xFFFFFF })
 offer_fits events = record {

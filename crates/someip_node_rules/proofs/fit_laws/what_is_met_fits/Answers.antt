@@ -1,5 +1,5 @@
-use Rattle.someip_node.proofs.FitPlans.{done_fits, started_fits}
-use Rattle.someip_node.proofs.fit_laws.what_is_met_fits.Goals as goal
+use Rattle.someip_node_rules.proofs.FitPlans.{done_fits, started_fits}
+use Rattle.someip_node_rules.proofs.fit_laws.what_is_met_fits.Goals as goal
 
 pub returns-clause-started : goal.returns-clause-started
 returns-clause-started c = started_fits

@@ -1,5 +1,0 @@
-use Rattle.someip_node.proofs.FitPackets.{bytes_fit}
-use Rattle.someip_node.proofs.fit_laws.what_comes_fits.Goals as goal
-
-pub returns : goal.returns
-returns c = bytes_fit
