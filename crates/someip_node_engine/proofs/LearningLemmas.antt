@@ -1,5 +1,5 @@
 -- What a client's tables are once it learned from an entry.
-use Rattle.std.proofs.Common.{◌≡◌, ℕ, true, List, ◌++◌, None, Some, refl}
+use Rattle.std.proofs.Common.{◌≡◌, ℕ, true, List, ◌++◌, map, None, Some, refl}
 use Rattle.std.specs.List.{flat_map}
 use Rattle.std.proofs.lemmas.List.{append-nil}
 use Rattle.std.specs.Ordering.{eq_by_cmp}
@@ -16,9 +16,14 @@ use Rattle.sd_core.specs.Wishes.{begun_where, ended_where, offered, subscribes}
 use Rattle.someip_node_rules.specs.declared.output.Output.{Output}
 use Rattle.someip_node_rules.specs.Learning.{known_told, offer, offer_endings, stop_offer, subscribe_to}
 use Rattle.someip_node_rules.specs.Outcomes.{unsubscribed}
+use Rattle.someip_node_rules.specs.Outputs.{written, Tells}
 use Rattle.someip_node_rules.specs.Plans.{does, plain, work}
 use Rattle.someip_node_rules.specs.Tables.{Tables}
 use Rattle.someip_node_rules.proofs.WrittenLemmas.{told_written}
+
+-- what is told is given as it is
+pub told_as_it_is : (outputs : List Output) → flat_map written (map Tells outputs) ≡ outputs
+told_as_it_is = told_written
 
 -- an Offer counted
 pub offer_counted : (o : ReceivedOffer) (endpoint : SocketAddrV4) (counted : Counted) (t after : Tables) (seek : SeekTable) (outputs told : List Output) (replies sent : List EntryValue)

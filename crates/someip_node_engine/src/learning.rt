@@ -146,7 +146,7 @@ impl<R: Reassembly> Engine<R> {
     }
 
     /// An Ack comes.
-    #[tactic(auto, using(crate::proofs::WrittenLemmas::told_written))]
+    #[tactic(auto, using(crate::proofs::LearningLemmas::told_as_it_is))]
     pub(crate) fn ack(
         &mut self,
         peer: Ipv4Addr,
@@ -162,7 +162,7 @@ impl<R: Reassembly> Engine<R> {
     }
 
     /// A Nack comes.
-    #[tactic(auto, using(crate::proofs::WrittenLemmas::told_written))]
+    #[tactic(auto, using(crate::proofs::LearningLemmas::told_as_it_is))]
     pub(crate) fn nack(
         &mut self,
         peer: Ipv4Addr,
