@@ -1,7 +1,6 @@
 -- What is read of a datagram that was sent: its message, and the entries that were announced.
 use Rattle.std.proofs.Common.{◌≡◌, ◌≢◌, ℕ, zero, suc, ◌+◌, ◌<◌, ◌≤◌, ◌^◌, Bool, true, false, not, eqb, ◌&&◌, cond, List, [], ◌∷◌, ◌++◌, map, length, arith, Option, None, Result, Ok, refl, sym, ap, subst, ◌∙◌}
 use Rattle.std.specs.List.{AllByRecursion, Contains, flat_map}
-use Rattle.std.proofs.lemmas.Bool.{eqb-true, eqb-false}
 use Rattle.std.proofs.lemmas.List.{append-nil}
 use Rattle.std.specs.Option.{unwrap_or}
 use Rattle.std.specs.declared.net.socket_addr.SocketAddrV4.{SocketAddrV4}
@@ -32,6 +31,7 @@ use Rattle.someip_node_rules.specs.Outputs as outputs
 use Rattle.someip_node_rules.specs.Plans.{Rule, Announces, RepliesTo}
 use Rattle.someip_node_rules.specs.Sending as sending
 use Rattle.someip_node_rules.proofs.NamedLemmas.{stamp-next}
+use Rattle.someip_node_rules.proofs.FitRules.{other_service}
 use Rattle.someip_node_rules.specs.Packets.{Packet, HasDiscovery, HasMessage, HasServiceEntry}
 use Rattle.someip_node_rules.proofs.MemberLemmas.{all_map, all_members, all_weaker, at_member}
 
@@ -50,16 +50,16 @@ only_message p m other is fits has =
     let all : items_of p.bytes ≡ Ok m ∷ [] = ap items_of is ∙ one_message m fits in
     ok_same other m (at_member (λ x. x ≡ Ok m) (Ok m ∷ []) (Ok other) (refl, tt) (subst (λ xs. Contains xs (Ok other)) all has))
 
-first_of : (a b c d e : Bool) → (a && b && c && d && e) ≡ true → a ≡ true
-first_of true b c d e is = refl
-first_of false b c d e is = absurd cc
-
--- a message of another service holds no Service Discovery
-pub no_discovery : (p : Packet) (m : wire.MessageValue) (session : ℕ) (v : SdValue) → p.bytes ≡ spelling m → Fits m → m.header.service ≢ 0xFFFF → HasDiscovery p session v → ⊥
-no_discovery p m session v is fits ne has =
+-- a message that is not taken for one of Service Discovery holds none
+pub undiscovered : (p : Packet) (m : wire.MessageValue) (session : ℕ) (v : SdValue) → p.bytes ≡ spelling m → Fits m → is_discovery m.header ≡ false → HasDiscovery p session v → ⊥
+undiscovered p m session v is fits not has =
     let same = only_message p m has.message is fits has.stands in
     let found : is_discovery m.header ≡ true = subst (λ x. is_discovery x.header ≡ true) same has.discovery in
-    ne (eqb-true m.header.service 0xFFFF (first_of (eqb m.header.service 0xFFFF) (eqb m.header.method 0x8100) (eqb m.header.interface 1) (is_notification m.header.kind) (not (eqb m.header.session 0)) found))
+    absurd cc
+
+-- nor does one of another service
+pub no_discovery : (p : Packet) (m : wire.MessageValue) (session : ℕ) (v : SdValue) → p.bytes ≡ spelling m → Fits m → m.header.service ≢ 0xFFFF → HasDiscovery p session v → ⊥
+no_discovery p m session v is fits ne has = undiscovered p m session v is fits (other_service m.header ne) has
 
 -- ---- the entries that were announced
 
@@ -73,7 +73,7 @@ module _ (stamp : Stamp) (entries : List EntryValue) (numbered : stamp.session <
   payload_is : discovery_payload stamp.reboot entries ≡ text.0
   payload_is = ap (λ o. unwrap_or o []) (written_bytes m text.0 text.1)
 
-  announced_fits : Fits (discovery_message stamp entries)
+  pub announced_fits : Fits (discovery_message stamp entries)
   announced_fits =
       let short = text.2 in
       let long : length (discovery_payload stamp.reboot entries) ≡ length text.0 = ap length payload_is in
@@ -111,26 +111,3 @@ module _ (stamp : Stamp) (entries : List EntryValue) (numbered : stamp.session <
             (all_map (λ r. (e : EntryValue) → r ≡ good e → Contains entries e) good entries
             (all_weaker (Contains entries) (λ x. (e : EntryValue) → good x ≡ good e → Contains entries e) (λ x among e same. let one : x ≡ e = cc in subst (Contains entries) one among)
             entries (all_members entries))) within
-
--- ---- sessions
-
-pub session_fits : (n : ℕ) → (after_uses n).session < 2 ^ 16
-session_fits zero = omega arith
-session_fits (suc n) = cases (eqb (after_uses n).session 0xffff) refl (session_fits n)
-  where
-    cases : (b : Bool) → eqb (after_uses n).session 0xffff ≡ b → (after_uses n).session < 2 ^ 16 → cond b 1 ((after_uses n).session + 1) < 2 ^ 16
-    cases true e lt = omega arith
-    cases false e lt = let ne = eqb-false (after_uses n).session 0xffff e in omega (arith, lt, ne)
-
--- each message of Service Discovery that is given in a step has a session that fits its field
-stamp_fits : (r : Rule) (h : History) (from to : SocketAddrV4) (stamp : Stamp) (entries : List EntryValue) → sending.IsAnnounced r (answers_of h) from to stamp entries
-    → stamp.session < 2 ^ 16
-stamp_fits (Announces own) h from to stamp entries says =
-    subst (λ s. s.session < 2 ^ 16) (sym says.2) (session_fits (length (flat_map group_addressed h.items)))
-stamp_fits (RepliesTo peer own) h from to stamp entries says =
-    subst (λ s. s.session < 2 ^ 16) (sym (says.2 ∙ stamp-next h.items peer)) (session_fits (messages_to h.items peer))
-stamp_fits r h from to stamp entries says = absurd says
-
-pub given_session_fits : (h : History) (input : Input) (from to : SocketAddrV4) (stamp : Stamp) (entries : List EntryValue) → GivenBy h input (outputs.Announces from to stamp entries)
-    → stamp.session < 2 ^ 16
-given_session_fits h input from to stamp entries by = stamp_fits by.done.by by.done.before.state from to stamp entries by.holds

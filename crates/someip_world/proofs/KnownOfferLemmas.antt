@@ -140,12 +140,12 @@ module _ (h : History) (lines : List Line) (p : Packet) where
   delivered (steps.StopOffer node instance) is = absurd cc
   delivered (steps.Restart node delay) is = absurd (if_restarted _ delay Came BadDelay is)
 
-all_got : {X : Type 0} (P : X → Type 0) (xs : List X) (n : ℕ) (x : X) → AllByRecursion P xs → slice_get xs n ≡ Some x → P x
+pub all_got : {X : Type 0} (P : X → Type 0) (xs : List X) (n : ℕ) (x : X) → AllByRecursion P xs → slice_get xs n ≡ Some x → P x
 all_got P [] n x all is = absurd cc
 all_got P (y ∷ xs) zero x all is = let same : y ≡ x = cc in subst P same all.0
 all_got P (y ∷ xs) (suc n) x all is = all_got P xs n x all.1 is
 
-numbered : (P : SentDatagram → Type 0) (lines : List Line) (number : ℕ) (d : SentDatagram) → AllByRecursion P (datagrams_in lines) → datagram_at lines number ≡ Some d → P d
+pub numbered : (P : SentDatagram → Type 0) (lines : List Line) (number : ℕ) (d : SentDatagram) → AllByRecursion P (datagrams_in lines) → datagram_at lines number ≡ Some d → P d
 numbered P lines zero d all is = absurd cc
 numbered P lines (suc n) d all is = all_got P (datagrams_in lines) n d all is
 

@@ -6,4 +6,5 @@ pub mod KnownOfferLemmas
 pub mod RunExampleLemmas
 pub mod AnnouncedLemmas
 pub mod OfferLemmas
+pub mod FitRunLemmas
 pub mod ConfiguredLemmas

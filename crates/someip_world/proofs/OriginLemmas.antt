@@ -63,7 +63,7 @@ module _ (nodes : List SetupNode) (configs : List Config) (steps : List Step) (f
 -- ---- datagrams
 
 module _ (nodes : List SetupNode) (configs : List Config) (steps : List Step) (P : SentDatagram → Type 0) where
-  datagrams_of_outputs : (index place : ℕ) (outputs : List Output) → AllByRecursion (λ o. (d : SentDatagram) → sent_with o ≡ Some d → P d) outputs
+  pub datagrams_of_outputs : (index place : ℕ) (outputs : List Output) → AllByRecursion (λ o. (d : SentDatagram) → sent_with o ≡ Some d → P d) outputs
       → AllByRecursion P (datagrams_in (lines_of index place (Ok outputs)))
   datagrams_of_outputs index place [] all = tt
   datagrams_of_outputs index place (o ∷ outputs) all = cases (sent_with o) refl (datagrams_of_outputs index place outputs all.1)
@@ -74,7 +74,7 @@ module _ (nodes : List SetupNode) (configs : List Config) (steps : List Step) (P
       cases (Some d) is rest = (all.0 d is, rest)
 
 -- the output that sends a datagram
-sends : (o : Output) (d : SentDatagram) → sent_with o ≡ Some d → o ≡ Sent d.from d.to d.bytes
+pub sends : (o : Output) (d : SentDatagram) → sent_with o ≡ Some d → o ≡ Sent d.from d.to d.bytes
 sends (Sent from to bytes) d is = let e : d ≡ record { from = from; to = to; bytes = bytes } = cc in ap (λ x. Sent x.from x.to x.bytes) (sym e)
 sends o d is = absurd cc
 

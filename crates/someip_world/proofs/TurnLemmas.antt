@@ -27,8 +27,8 @@ use Rattle.someip_world.specs.declared.line.Line.{Line}
 use Rattle.someip_world.specs.declared.step_fault.StepFault.{StepFault}
 use Rattle.someip_world.specs.declared.step_fault.StepFault.TheVariants.{PayloadTooLong}
 use Rattle.someip_world.specs.Deeds.{Deed, Takes, deed_of, done_with, unless_long}
-use Rattle.someip_world.specs.Turns.{LeadTo, TakesIt, ToldTurn, Turn, lines_at}
-use Rattle.someip_world.specs.Runs.{World, given_in, happens, happens_at, happens_to, lines_of, place_of, run_from, run_of, then_on, told_by, unless_bad, world_after, world_of}
+use Rattle.someip_world.specs.Turns.{IsOfRun, LeadTo, TakesIt, ToldTurn, Turn, lines_at}
+use Rattle.someip_world.specs.Runs.{ComesTo, World, given_in, happens, happens_at, happens_to, lines_of, place_of, run_from, run_of, then_on, told_by, unless_bad, world_after, world_of}
 
 -- ---- a step that happened
 
@@ -303,3 +303,14 @@ module _ (nodes : List SetupNode) (configs : List Config) (steps : List Step) (l
       (λ h done. IsPublishedTo h group.instance group.id to event payload done) m
       (if_not_long m.turn.history.config payload (inputs.PublishTo group.instance group.id to event payload) m.turn.deed m.turn.due)
       (λ h done e. is_published_to h group.instance group.id to event payload done e)
+
+-- ---- a trace in hand
+
+pub of_run : (nodes : List SetupNode) (ss : List Step) (lines : List Line) → ComesTo nodes ss (Ok lines) → IsOfRun nodes ss lines
+of_run nodes ss lines comes = cases (run_from nodes 1 (world_of nodes comes.0) ss) refl comes.2
+  where
+    cases : (due : Result World RunError) → run_from nodes 1 (world_of nodes comes.0) ss ≡ due → told_by due ≡ Ok lines → IsOfRun nodes ss lines
+    cases (Ok w) led is =
+        let same : w.lines ≡ lines = cc in
+        record { configs = comes.0; copies = comes.1; comes = comes.2; world = w; led = led; told = same }
+    cases (Err error) led is = absurd cc

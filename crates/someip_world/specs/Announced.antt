@@ -1,21 +1,21 @@
 -- What nodes announce of the instances that they offer.
-use Rattle.std.specs.Prelude.{◌≡◌, ◌≢◌, ℕ, List, Option, Some, slice_get}
+use Rattle.std.specs.Prelude.{◌≡◌, ◌<◌, ◌^◌, ℕ, List, Option, Some, slice_get}
 use Rattle.std.specs.FinMap as finite
 use Rattle.std.specs.List.{AllByRecursion}
 use Rattle.std.specs.declared.net.socket_addr.SocketAddrV4.{SocketAddrV4}
-use Rattle.someip_wire.specs.Spelling.{Fits}
-use Rattle.sd_wire.specs.Splitting.{FitsDatagram}
-use Rattle.sd_wire.specs.Writing.{EntryFits}
 use Rattle.sd_core.specs.declared.keys.InstanceId.{InstanceId}
+use Rattle.someip_rpc.specs.Servers.{code_of_reply}
+use Rattle.someip_node_rules.specs.Fitting.{FitsConfig, FitsWire}
 use Rattle.someip_node_rules.specs.History.{History}
 use Rattle.someip_node_rules.specs.Inputs.{Input}
 use Rattle.someip_node_rules.specs.Meanings.{GivenBy}
-use Rattle.someip_node_rules.specs.Outputs.{Given, Announces, Sends, Tells}
+use Rattle.someip_node_rules.specs.Outputs.{Given}
 use Rattle.someip_node_rules.specs.SeekQuestions.{majors_of}
 use Rattle.someip_node_rules.specs.Setups.{offered_as}
 use Rattle.someip_node_rules.specs.declared.config.Config.{Config}
 use Rattle.someip_node_rules.specs.declared.config.OfferedService.{OfferedService}
 use Rattle.someip_world_schedule.specs.declared.step.Step.{Step}
+use Rattle.someip_world_schedule.specs.declared.step.Step.TheVariants.{Tick, Deliver, Call, Answer, Publish, PublishTo, Subscribe, Unsubscribe, StopOffer, Restart}
 use Rattle.someip_world_setup.specs.declared.setup_node.SetupNode.{SetupNode}
 use Rattle.someip_world.specs.Deeds.{Takes}
 use Rattle.someip_world.specs.Turns.{Turn}
@@ -27,12 +27,22 @@ pub record IsConfigured (config : Config) (instance : InstanceId) (major : ℕ) 
   pub versioned : service.rules.major ≡ major
   pub at : endpoint ≡ Some service.rules.endpoint
 
--- what is given fits its fields: a message of Service Discovery has entries that do, and that fit a datagram, and any other
--- message is not of the service of Service Discovery
-abbrev pub FitsWire : Given → Type 0
-FitsWire (Announces from to stamp entries) = AllByRecursion EntryFits entries × FitsDatagram entries
-FitsWire (Sends from to m) = Fits m × (m.header.service ≢ 0xFFFF)
-FitsWire (Tells output) = Unit {0}
+-- the numbers of a step that go out fit their fields. Its payload does where the step can happen
+abbrev pub FitsStep : Step → Type 0
+FitsStep (Tick node ms) = Unit {0}
+FitsStep (Deliver number node) = Unit {0}
+FitsStep (Call node kind instance method payload) = (instance.service < 2 ^ 16) × (method < 2 ^ 16)
+FitsStep (Answer node token reply payload) = code_of_reply reply < 2 ^ 8
+FitsStep (Publish node instance event payload) = event < 2 ^ 16
+FitsStep (PublishTo node group to event payload) = event < 2 ^ 16
+FitsStep (Subscribe node group) = group.id < 2 ^ 16
+FitsStep (Unsubscribe node group) = group.id < 2 ^ 16
+FitsStep (StopOffer node instance) = Unit {0}
+FitsStep (Restart node delay) = Unit {0}
+
+-- the numbers of the nodes of a setup fit
+abbrev pub FitNodes : List SetupNode → Type 0
+FitNodes nodes = AllByRecursion (λ node. FitsConfig node.config) nodes
 
 -- all that is given in the steps of a run fits its fields
 abbrev pub AllFits : List SetupNode → List Config → List Step → Type 0

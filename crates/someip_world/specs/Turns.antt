@@ -12,11 +12,21 @@ use Rattle.someip_world_schedule.specs.StepNodes.{node_of}
 use Rattle.someip_world_setup.specs.declared.setup_node.SetupNode.{SetupNode}
 use Rattle.someip_world.specs.declared.line.Line.{Line}
 use Rattle.someip_world.specs.Deeds.{Deed, Takes, deed_of, done_with}
-use Rattle.someip_world.specs.Runs.{World, given_in, lines_of, place_of, run_from, world_after, world_of}
+use Rattle.someip_world.specs.Runs.{AreCopies, World, given_in, lines_of, place_of, run_from, run_of, world_after, world_of}
 
 -- some steps, from the start of all nodes on, lead to this world
 abbrev pub LeadTo : List SetupNode → List Config → List Step → World → Type 0
 LeadTo nodes configs steps w = run_from nodes 1 (world_of nodes configs) steps ≡ Ok w
+
+-- Lines are those of a run of some steps over the nodes of a setup: over copies of their configurations the steps lead to a
+-- world that has told them
+pub record IsOfRun (nodes : List SetupNode) (steps : List Step) (lines : List Line) : Type 0 where
+  pub configs : List Config
+  pub copies : AreCopies nodes configs
+  pub comes : run_of nodes configs steps ≡ Ok lines
+  pub world : World
+  pub led : LeadTo nodes configs steps world
+  pub told : world.lines ≡ lines
 
 -- the lines that tell of the step of an index
 abbrev pub lines_at : ℕ → List Line → List Line

@@ -10,6 +10,7 @@
 mod error;
 mod line;
 mod log;
+pub mod numbers;
 mod performing;
 pub mod run_laws;
 mod running;

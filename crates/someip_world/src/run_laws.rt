@@ -1,6 +1,6 @@
 //! Laws of every run, whatever its nodes, configurations and steps. Each is the contract of a function
 //! that does nothing.
-ghost use Rattle.std.specs.Prelude.{◌≡◌, ◌≢◌, true, ◌<◌, ◌^◌, ℕ, List, [], Option, Some, Ok, slice_get};
+ghost use Rattle.std.specs.Prelude.{◌≡◌, ◌≢◌, true, ◌<◌, ◌^◌, ℕ, List, [], ◌∷◌, Option, Some, Ok, slice_get};
 ghost use Rattle.std.specs.List.{AllByRecursion};
 ghost use Rattle.std.specs.declared.net.socket_addr.SocketAddrV4.{SocketAddrV4};
 ghost use Rattle.someip_wire.specs.Spelling.{Fits, MessageValue, spelling};
@@ -21,6 +21,7 @@ ghost use Rattle.someip_world.specs.KnownOffers.{IsAnnounced, WasOffered};
 ghost use Rattle.someip_node_rules.specs.declared.config.Config.{Config};
 ghost use Rattle.someip_node_rules.specs.declared.config.OfferedService.{OfferedService};
 ghost use Rattle.someip_node_rules.specs.Outputs.{Announces, datagrams_of};
+ghost use Rattle.someip_node_rules.specs.Fitting.{FitsConfig};
 ghost use Rattle.someip_node_rules.specs.History.{History};
 ghost use Rattle.someip_node_rules.specs.Inputs as inputs;
 ghost use Rattle.someip_node_rules.specs.Inputs.{Input};
@@ -30,13 +31,14 @@ ghost use Rattle.someip_world_schedule.specs.declared.step.Step.{Step};
 ghost use Rattle.someip_world_schedule.specs.declared.step.Step.TheVariants.{Publish, PublishTo};
 ghost use Rattle.someip_world_setup.specs.declared.setup_node.SetupNode.{SetupNode};
 ghost use Rattle.someip_world.specs.declared.line.Line.{Line};
-ghost use Rattle.someip_world.specs.Turns.{LeadTo, TakesIt, ToldTurn};
+ghost use Rattle.someip_world.specs.Turns.{IsOfRun, LeadTo, TakesIt, ToldTurn};
 ghost use Rattle.sd_wire.specs.Kinds.{is_offer};
-ghost use Rattle.someip_world.specs.Announced.{AllFits, IsAsConfigured, IsConfigured};
+ghost use Rattle.someip_world.specs.Announced.{AllFits, FitNodes, FitsStep, IsAsConfigured, IsConfigured};
 ghost use Rattle.someip_world.specs.Datagrams.{datagrams_in};
 ghost use Rattle.someip_world.specs.Origins.{HasOrigins, WasSent};
 ghost use Rattle.someip_world.specs.RunExamples.{CanPublish, GivesJust, subscribed_for};
-ghost use Rattle.someip_world.specs.Runs.{World, run_of};
+ghost use Rattle.someip_world.specs.Runs.{AreCopies, IsRun, World, run_of};
+ghost use Rattle.someip_world.specs.declared.trace.Trace.{Trace};
 
 /// Each step of a run that has a trace is done by the node that it names, at the history of that node in
 /// the world to which the steps before it led. The lines of its index tell what the node then gives.
@@ -136,12 +138,47 @@ pub fn announced_offers_are_configured()
         head.major endpoint }
 {}
 
-/// Where all that is sent in a run fits its fields, the endpoint of a known offer is the one that a node
-/// is configured with for the instance, in the major version in which it is wanted.
+/// What is given in the steps of a run fits its fields, where the numbers of its configurations and of its
+/// steps do: each message of Service Discovery has a session and entries that fit theirs, and the entries
+/// fit one datagram; each other message fits, and is not taken for one of Service Discovery.
+/// `numbers::steps_fit` says that all steps of a program do.
+pub fn all_that_is_given_fits()
+    ensures given { (nodes : List SetupNode) (configs : List Config) (steps : List Step)
+        → AllByRecursion FitsConfig configs → AllByRecursion FitsStep steps
+        → AllFits nodes configs steps }
+    ensures copies { (nodes : List SetupNode) (configs : List Config) → FitNodes nodes
+        → AreCopies nodes configs → AllByRecursion FitsConfig configs }
+{}
+
+/// The endpoint of a known offer is the one that a node is configured with for the instance, in the major
+/// version in which it is wanted, where the numbers of the configurations and of the steps fit their
+/// fields.
 pub fn known_offers_are_configured()
     ensures { (nodes : List SetupNode) (configs : List Config) (steps : List Step) (w : World)
-        → LeadTo nodes configs steps w → AllFits nodes configs steps → (place : ℕ) (h : History)
-        (instance : InstanceId) (lasting : Lasting KnownOffer) → slice_get w.histories place ≡ Some h
+        → LeadTo nodes configs steps w → AllByRecursion FitsConfig configs
+        → AllByRecursion FitsStep steps → (place : ℕ) (h : History) (instance : InstanceId)
+        (lasting : Lasting KnownOffer) → slice_get w.histories place ≡ Some h
         → known_offer_at h.items instance ≡ Some lasting
         → IsAsConfigured configs h instance lasting.value.endpoint }
+{}
+
+/// What `run` returns is the trace of a run: over copies of the configurations of the setup's nodes the
+/// steps lead to a world that has told these lines. So each law here holds of it.
+pub fn a_trace_is_of_a_run()
+    ensures { (nodes : List SetupNode) (steps : List Step) (trace : Trace)
+        → IsRun nodes steps (Ok trace) → IsOfRun nodes steps trace.lines.items }
+{}
+
+/// Example: an Event ID of 16 bits in a step and one of 17, a Client ID of 17 bits in a setup, and the run
+/// of no step over no node, which tells nothing.
+pub fn runs_by_example()
+    ensures step { (node : List ℕ) (instance : InstanceId) (payload : List ℕ)
+        → FitsStep (Publish node instance 0xFFFF payload) }
+    ensures wide_step { (node : List ℕ) (instance : InstanceId) (payload : List ℕ)
+        → FitsStep (Publish node instance 0x10000 payload) → ⊥ }
+    ensures no_node { FitNodes [] }
+    ensures wide_node { (node : SetupNode) → node.config.client_id ≡ 0x10000
+        → FitNodes (node ∷ []) → ⊥ }
+    ensures no_step { IsOfRun [] [] [] }
+    ensures other_lines { (line : Line) → IsOfRun [] [] (line ∷ []) → ⊥ }
 {}
