@@ -1,6 +1,6 @@
 -- What is read of a datagram that was sent: its message, and the entries that were announced.
-use Rattle.std.proofs.Common.{◌≡◌, ◌≢◌, ℕ, zero, suc, ◌+◌, ◌<◌, ◌≤◌, ◌^◌, Bool, true, false, not, eqb, ◌&&◌, cond, List, [], ◌∷◌, ◌++◌, map, length, arith, Option, None, Result, Ok, refl, sym, ap, subst, ◌∙◌}
-use Rattle.std.specs.List.{AllByRecursion, Contains, flat_map}
+use Rattle.std.proofs.Common.{◌≡◌, ◌≢◌, ℕ, ◌<◌, ◌≤◌, ◌^◌, true, false, not, List, [], ◌∷◌, ◌++◌, map, length, arith, Option, None, Result, Ok, refl, sym, ap, subst, ◌∙◌}
+use Rattle.std.specs.List.{AllByRecursion, Contains}
 use Rattle.std.proofs.lemmas.List.{append-nil}
 use Rattle.std.specs.Option.{unwrap_or}
 use Rattle.std.specs.declared.net.socket_addr.SocketAddrV4.{SocketAddrV4}
@@ -20,17 +20,8 @@ use Rattle.sd_wire.proofs.FrontLemmas.{fits_with}
 use Rattle.sd_wire.proofs.SdLemmas.{holds_read}
 use Rattle.sd_wire.proofs.WriteLemmas.{written_is_read}
 use Rattle.sd_session.specs.declared.stamp.Stamp.{Stamp}
-use Rattle.sd_session.specs.Sessions.{after_uses}
 use Rattle.someip_node_rules.specs.Entries.{discovery_message, discovery_payload}
-use Rattle.someip_node_rules.specs.Handling.{is_discovery, is_notification}
-use Rattle.someip_node_rules.specs.DiscoveryQuestions.{group_addressed, messages_to}
-use Rattle.someip_node_rules.specs.History.{History, answers_of}
-use Rattle.someip_node_rules.specs.Inputs.{Input}
-use Rattle.someip_node_rules.specs.Meanings.{GivenBy}
-use Rattle.someip_node_rules.specs.Outputs as outputs
-use Rattle.someip_node_rules.specs.Plans.{Rule, Announces, RepliesTo}
-use Rattle.someip_node_rules.specs.Sending as sending
-use Rattle.someip_node_rules.proofs.NamedLemmas.{stamp-next}
+use Rattle.someip_node_rules.specs.Handling.{is_discovery}
 use Rattle.someip_node_rules.proofs.FitRules.{other_service}
 use Rattle.someip_node_rules.specs.Packets.{Packet, HasDiscovery, HasMessage, HasServiceEntry}
 use Rattle.someip_node_rules.proofs.MemberLemmas.{all_map, all_members, all_weaker, at_member}

@@ -1,12 +1,10 @@
 -- The endpoint of a known offer is a configured one.
-use Rattle.std.proofs.Common.{◌≡◌, ◌≢◌, ℕ, zero, suc, ◌+◌, ◌<◌, ◌≤◌, Bool, true, false, if◌then◌else◌, arith, List, [], ◌∷◌, map, drop, length, take, slice_get, Some, refl, sym, ap, subst, ◌∙◌}
+use Rattle.std.proofs.Common.{◌≡◌, ℕ, true, false, List, [], ◌∷◌, map, take, slice_get, Some, refl, sym, subst}
 use Rattle.std.specs.List.{AllByRecursion, Contains}
 use Rattle.std.specs.declared.net.socket_addr.SocketAddrV4.{SocketAddrV4}
 use Rattle.someip_tables.specs.declared.lasting.Lasting.{Lasting}
-use Rattle.someip_wire.specs.declared.header.Header.{Header}
-use Rattle.someip_wire.specs.Spelling.{Fits, MessageValue, spelling}
-use Rattle.someip_tp.specs.Segments.{segment_header, segments_within}
-use Rattle.someip_tp.specs.Sent.{PieceValue, Alone, InSegment, is_long, piece_message, segments_of, sent}
+use Rattle.someip_wire.specs.Spelling.{Fits, spelling}
+use Rattle.someip_tp.specs.Sent.{PieceValue, piece_message, sent}
 use Rattle.someip_tp.proofs.SentLemmas.{all_fit}
 use Rattle.sd_wire.specs.declared.entry.ServiceEntry.{ServiceEntry}
 use Rattle.sd_wire.specs.Kinds.{is_offer}
@@ -27,9 +25,8 @@ use Rattle.someip_node_rules.proofs.MemberLemmas.{all_both, all_map, all_take, a
 use Rattle.someip_world_schedule.specs.declared.step.Step.{Step}
 use Rattle.someip_world_setup.specs.declared.setup_node.SetupNode.{SetupNode}
 use Rattle.someip_world.specs.Announced.{FitsStep, IsAsConfigured, IsConfigured}
-use Rattle.someip_world.specs.Deeds.{done_with}
-use Rattle.someip_world.specs.Runs.{World, world_after}
-use Rattle.someip_world.specs.Turns.{LeadTo, Turn}
+use Rattle.someip_world.specs.Runs.{World}
+use Rattle.someip_world.specs.Turns.{LeadTo}
 use Rattle.someip_world.proofs.AnnouncedLemmas.{entry_read, undiscovered}
 use Rattle.someip_world.proofs.FitRunLemmas.{all_given_fits, pieces_undiscovered}
 use Rattle.someip_world.proofs.KnownOfferLemmas.{was_offered}

@@ -1,23 +1,22 @@
 -- All that is given in a run fits its fields.
-use Rattle.std.proofs.Common.{◌≡◌, ℕ, zero, suc, ◌+◌, ◌<◌, ◌≤◌, ◌^◌, Bool, true, false, arith, List, [], ◌∷◌, ◌++◌, drop, length, map, take, slice_get, slice_set, Option, None, Some, Result, Ok, Err, if◌then◌else◌, refl, sym, ap, subst, ◌∙◌}
+use Rattle.std.proofs.Common.{◌≡◌, ℕ, zero, suc, ◌+◌, ◌<◌, ◌^◌, Bool, true, false, arith, List, [], ◌∷◌, drop, length, map, take, slice_set, Option, None, Some, Result, Ok, Err, if◌then◌else◌, refl, sym, ap, subst, ◌∙◌}
 use Rattle.std.specs.Prelude.{nat_lt}
-use Rattle.std.specs.List.{AllByRecursion, AllZip, Contains, filter_map}
+use Rattle.std.specs.List.{AllByRecursion, AllZip, Contains}
 use Rattle.std.proofs.lemmas.Bool.{ltb-false}
 use Rattle.std.proofs.lemmas.List.Elements.{filter_map-append}
 use Rattle.std.specs.Net.Addr.{IsIpv4Addr}
 use Rattle.std.specs.Net.Socket.{IsSocketAddrV4}
-use Rattle.std.specs.declared.net.socket_addr.SocketAddrV4.{SocketAddrV4}
 use Rattle.someip_wire.specs.declared.header.Header.{Header}
 use Rattle.someip_wire.specs.declared.header.MessageType.{MessageType}
 use Rattle.someip_wire.specs.declared.header.MessageType.TheVariants as kinds
 use Rattle.someip_wire.specs.Kinds.{with_tp_flag}
 use Rattle.someip_wire.specs.Spelling.{Fits, MessageValue, spelling}
 use Rattle.someip_tp.specs.Segments.{segment_header, segments_within}
-use Rattle.someip_tp.specs.Sent.{PieceValue, Alone, InSegment, is_long, piece_message, segments_of, sent}
+use Rattle.someip_tp.specs.Sent.{Alone, InSegment, is_long, piece_message, segments_of, sent}
 use Rattle.someip_tp.proofs.SentLemmas.{all_fit}
 use Rattle.sd_wire.specs.Spelling.{HeadFits}
 use Rattle.sd_wire.specs.Splitting.{FitsDatagram}
-use Rattle.sd_wire.specs.Values.{EntryValue, ReadValue, good}
+use Rattle.sd_wire.specs.Values.{EntryValue, good}
 use Rattle.sd_wire.specs.Writing.{EntryFits}
 use Rattle.sd_session.specs.declared.stamp.Stamp.{Stamp}
 use Rattle.sd_core.specs.declared.keys.InstanceId.{InstanceId}
@@ -26,24 +25,23 @@ use Rattle.someip_node_rules.specs.declared.config.OfferedService.{OfferedServic
 use Rattle.someip_node_rules.specs.declared.config.WantedService.{WantedService}
 use Rattle.someip_node_rules.specs.declared.error.NodeError.{NodeError}
 use Rattle.someip_node_rules.specs.declared.output.Output.{Output}
-use Rattle.someip_node_rules.specs.declared.output.Output.TheVariants.{Sent}
 use Rattle.someip_node_rules.specs.Copies.{IsCopy, IsCopyOfOffer, IsCopyOfWant}
 use Rattle.someip_node_rules.specs.Entries.{discovery_message}
 use Rattle.someip_node_rules.specs.Fitting.{FitsConfig, FitsHistory, FitsInput, FitsInstance, FitsOffer, FitsPacket, FitsPayload, FitsWant, FitsWire, head_of}
 use Rattle.someip_node_rules.specs.Handling.{is_discovery, is_notification}
-use Rattle.someip_node_rules.specs.History.{History, answers_of, start_of}
+use Rattle.someip_node_rules.specs.History.{History, answers_of}
 use Rattle.someip_node_rules.specs.Inputs as inputs
 use Rattle.someip_node_rules.specs.Inputs.{Input}
 use Rattle.someip_node_rules.specs.Meanings.{GivenBy, IsTold}
 use Rattle.someip_node_rules.specs.Outputs.{Given, Announces, Sends, Tells, datagram_of, written}
-use Rattle.someip_node_rules.specs.Packets.{Packet, HasEntry, HasMessage}
+use Rattle.someip_node_rules.specs.Packets.{Packet}
 use Rattle.someip_node_rules.specs.Plans.{Work}
 use Rattle.someip_node_rules.specs.Steps.{step}
 use Rattle.someip_node_rules.specs.Trails.{given_by, trail_of}
 use Rattle.someip_node_rules.proofs.FitPlans.{done_fits, given_fits}
 use Rattle.someip_node_rules.proofs.FitRules.{no_notification}
 use Rattle.someip_node_rules.proofs.MeaningLemmas.{all_given, outputs_written}
-use Rattle.someip_node_rules.proofs.MemberLemmas.{all_append, all_both, all_flat_map, all_from_members, all_map, all_take, all_weaker, at_member}
+use Rattle.someip_node_rules.proofs.MemberLemmas.{all_append, all_both, all_flat_map, all_map, all_take, all_weaker, at_member}
 use Rattle.someip_world_schedule.specs.declared.step.Step.{Step}
 use Rattle.someip_world_schedule.specs.declared.step.Step.TheVariants as steps
 use Rattle.someip_world_setup.specs.declared.setup_node.SetupNode.{SetupNode}
@@ -52,8 +50,8 @@ use Rattle.someip_world.specs.declared.line.Line.{Line}
 use Rattle.someip_world.specs.declared.step_fault.StepFault.{StepFault}
 use Rattle.someip_world.specs.declared.step_fault.StepFault.TheVariants.{BadDelay, ClockPast, NotAddressed, PayloadTooLong}
 use Rattle.someip_world.specs.Datagrams.{SentDatagram, datagram_at, datagram_in, datagrams_in, sent_with}
-use Rattle.someip_world.specs.Deeds.{Deed, Takes, Restarts, deed_of, delivery, done_with, is_addressed, unless_long}
-use Rattle.someip_world.specs.Runs.{AreCopies, World, given_in, history_after, lines_of, started, world_after, world_of}
+use Rattle.someip_world.specs.Deeds.{Deed, Takes, Restarts, deed_of, delivery, done_with, is_addressed}
+use Rattle.someip_world.specs.Runs.{AreCopies, World, given_in, history_after, lines_of, started, world_after}
 use Rattle.someip_world.specs.Turns.{LeadTo, Turn}
 use Rattle.someip_world.proofs.AnnouncedLemmas.{announced_fits, only_message, undiscovered, value_read}
 use Rattle.someip_world.proofs.KnownOfferLemmas.{all_got, numbered}

@@ -8,3 +8,4 @@ pub mod AnnouncedLemmas
 pub mod OfferLemmas
 pub mod FitRunLemmas
 pub mod ConfiguredLemmas
+pub mod NumberLemmas
