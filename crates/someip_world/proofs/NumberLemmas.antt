@@ -5,7 +5,6 @@ use Rattle.std.specs.List.{AllByRecursion, list_all, list_any}
 use Rattle.std.specs.Net.Socket.{v4_ip, v4_port}
 use Rattle.std.specs.Ordering.{nat_cmp}
 use Rattle.std.proofs.lemmas.Bool.{and_parts, eqb-true, leb-true}
-use Rattle.std.proofs.lemmas.List.Elements.{recursion_from_All}
 use Rattle.sd_core.specs.declared.keys.InstanceId.{InstanceId}
 use Rattle.someip_node_rules.specs.declared.config.Common.{Common}
 use Rattle.someip_node_rules.specs.declared.config.Config.{Config}
@@ -13,8 +12,7 @@ use Rattle.someip_node_rules.specs.declared.config.OfferedService.{OfferedServic
 use Rattle.someip_node_rules.specs.Fitting.{FitsOffer}
 use Rattle.someip_node_rules.specs.GoodConfigs.{is_good, is_good_common, is_good_id, is_good_instance, is_good_offer, is_good_port, is_good_want, is_within, are_good_methods, has_good_eventgroups, has_own_ports}
 use Rattle.someip_node_rules.specs.Handling.{same_address}
-use Rattle.someip_node_rules.proofs.MemberLemmas.{all_both, all_weaker}
-use Rattle.someip_world_setup.specs.GoodSetups.{IsGoodNetwork, IsGoodNode, Network}
+use Rattle.someip_node_rules.proofs.MemberLemmas.{all_both}
 
 -- ---- what holds of each of a list, and of the first of many
 
@@ -65,7 +63,7 @@ module _ (config : Config) (offer : InstanceId × OfferedService) where
       let own : offer.1.rules.service ≡ offer.0.service = eqb-true offer.1.rules.service offer.0.service parts.1 in
       omega (arith, below, own, same)
 
--- ---- configurations, and networks of them
+-- ---- configurations
 
 module _ (config : Config) (good : is_good config ≡ true) where
   good_common : is_good_common config.common ≡ true
@@ -89,8 +87,3 @@ module _ (config : Config) (good : is_good config ≡ true) where
       all_both (λ offer. offer.1.rules.service ≢ 0xFFFF → FitsOffer offer) (λ offer. is_good_offer config offer ≡ true) FitsOffer
       (λ offer fits own. fits (other_offer config offer own)) config.offers.entries all
       (each_passes (is_good_offer config) config.offers.entries good_offers)
-
-pub nodes_are_good : (network : Network) → IsGoodNetwork network → AllByRecursion (λ node. is_good node.config ≡ true) network.nodes
-nodes_are_good network good =
-    all_weaker (IsGoodNode network.common) (λ node. is_good node.config ≡ true) (λ node own. own.config) network.nodes
-    (recursion_from_All (IsGoodNode network.common) network.nodes good.nodes)

@@ -1,6 +1,6 @@
 //! Laws of every run, whatever its nodes, configurations and steps. Each is the contract of a function
 //! that does nothing.
-ghost use Rattle.std.specs.Prelude.{◌≡◌, ◌≢◌, true, ◌<◌, ◌^◌, ℕ, List, [], ◌∷◌, Option, Some, Ok, slice_get};
+ghost use Rattle.std.specs.Prelude.{◌≡◌, ◌≢◌, true, ◌<◌, ◌^◌, ℕ, List, [], ◌∷◌, Option, Some, Ok, slice_get, take};
 ghost use Rattle.std.specs.List.{AllByRecursion};
 ghost use Rattle.std.specs.declared.net.socket_addr.SocketAddrV4.{SocketAddrV4};
 ghost use Rattle.someip_wire.specs.Spelling.{Fits, MessageValue, spelling};
@@ -39,6 +39,10 @@ ghost use Rattle.someip_world.specs.Origins.{HasOrigins, WasSent};
 ghost use Rattle.someip_world.specs.RunExamples.{CanPublish, GivesJust, subscribed_for};
 ghost use Rattle.someip_world.specs.Runs.{AreCopies, IsRun, World, run_of};
 ghost use Rattle.someip_world.specs.declared.trace.Trace.{Trace};
+
+use crate::numbers::{setup_fits, steps_fit};
+use someip_world_schedule::Step;
+use someip_world_setup::Setup;
 
 /// Each step of a run that has a trace is done by the node that it names, at the history of that node in
 /// the world to which the steps before it led. The lines of its index tell what the node then gives.
@@ -141,7 +145,7 @@ pub fn announced_offers_are_configured()
 /// What is given in the steps of a run fits its fields, where the numbers of its configurations and of its
 /// steps do: each message of Service Discovery has a session and entries that fit theirs, and the entries
 /// fit one datagram; each other message fits, and is not taken for one of Service Discovery.
-/// `numbers::steps_fit` says that all steps of a program do.
+/// `numbers::setup_fits` and `numbers::steps_fit` say that all setups and steps of a program do.
 pub fn all_that_is_given_fits()
     ensures given { (nodes : List SetupNode) (configs : List Config) (steps : List Step)
         → AllByRecursion FitsConfig configs → AllByRecursion FitsStep steps
@@ -161,6 +165,29 @@ pub fn known_offers_are_configured()
         → known_offer_at h.items instance ≡ Some lasting
         → IsAsConfigured configs h instance lasting.value.endpoint }
 {}
+
+/// What is given in a run over the nodes of a setup fits its fields, whatever the setup and the steps.
+pub fn all_that_a_setup_gives_fits(setup: &Setup, steps: &[Step])
+    ensures { (configs : List Config) → AreCopies setup.now.nodes configs
+        → AllFits setup.now.nodes configs steps.now }
+{
+    setup_fits(setup);
+    steps_fit(steps);
+}
+
+/// The endpoint of an offer that a node knows in a run over the nodes of a setup, after any number of the
+/// steps, is the one that a node of the setup is configured with for the instance, in the major version in
+/// which it is wanted.
+pub fn known_offers_are_of_the_setup(setup: &Setup, steps: &[Step])
+    ensures { (configs : List Config) (i : ℕ) (w : World) → AreCopies setup.now.nodes configs
+        → LeadTo setup.now.nodes configs (take i steps.now) w
+        → (place : ℕ) (h : History) (instance : InstanceId) (lasting : Lasting KnownOffer)
+        → slice_get w.histories place ≡ Some h → known_offer_at h.items instance ≡ Some lasting
+        → IsAsConfigured configs h instance lasting.value.endpoint }
+{
+    setup_fits(setup);
+    steps_fit(steps);
+}
 
 /// What `run` returns is the trace of a run: over copies of the configurations of the setup's nodes the
 /// steps lead to a world that has told these lines. So each law here holds of it.

@@ -1,0 +1,11 @@
+use Rattle.std.proofs.Common.{take}
+use Rattle.someip_node_rules.proofs.MemberLemmas.{all_take}
+use Rattle.someip_world.specs.Announced.{FitsStep}
+use Rattle.someip_world.proofs.ConfiguredLemmas.{as_configured}
+use Rattle.someip_world.proofs.FitRunLemmas.{copies_fit}
+use Rattle.someip_world.proofs.run_laws.known_offers_are_of_the_setup.Goals as goal
+
+pub returns : goal.returns
+returns c configs i w are led =
+    as_configured c.args.setup.now.nodes configs (take i c.args.steps.now) w led (copies_fit c.args.setup.now.nodes configs are c.setup_fits.ensures)
+    (all_take FitsStep i c.args.steps.now c.steps_fit.ensures)
