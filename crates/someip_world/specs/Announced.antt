@@ -4,13 +4,15 @@ use Rattle.std.specs.FinMap as finite
 use Rattle.std.specs.List.{AllByRecursion}
 use Rattle.std.specs.declared.net.socket_addr.SocketAddrV4.{SocketAddrV4}
 use Rattle.sd_core.specs.declared.keys.InstanceId.{InstanceId}
+use Rattle.sd_core.specs.declared.received.KnownOffer.{KnownOffer}
+use Rattle.someip_tables.specs.declared.lasting.Lasting.{Lasting}
 use Rattle.someip_rpc.specs.Servers.{code_of_reply}
 use Rattle.someip_node_rules.specs.Fitting.{FitsConfig, FitsWire}
 use Rattle.someip_node_rules.specs.History.{History}
 use Rattle.someip_node_rules.specs.Inputs.{Input}
 use Rattle.someip_node_rules.specs.Meanings.{GivenBy}
 use Rattle.someip_node_rules.specs.Outputs.{Given}
-use Rattle.someip_node_rules.specs.SeekQuestions.{majors_of}
+use Rattle.someip_node_rules.specs.SeekQuestions.{known_offer_at, majors_of}
 use Rattle.someip_node_rules.specs.Setups.{offered_as}
 use Rattle.someip_node_rules.specs.declared.config.Config.{Config}
 use Rattle.someip_node_rules.specs.declared.config.OfferedService.{OfferedService}
@@ -18,6 +20,7 @@ use Rattle.someip_world_schedule.specs.declared.step.Step.{Step}
 use Rattle.someip_world_schedule.specs.declared.step.Step.TheVariants.{Tick, Deliver, Call, Answer, Publish, PublishTo, Subscribe, Unsubscribe, StopOffer, Restart}
 use Rattle.someip_world_setup.specs.declared.setup_node.SetupNode.{SetupNode}
 use Rattle.someip_world.specs.Deeds.{Takes}
+use Rattle.someip_world.specs.Runs.{World}
 use Rattle.someip_world.specs.Turns.{Turn}
 
 -- a node is configured to offer an instance in a major version, at an endpoint
@@ -61,3 +64,9 @@ pub record IsAsConfigured (configs : List Config) (h : History) (instance : Inst
   pub major : ℕ
   pub wanted : finite.get (majors_of h.config) instance ≡ Some major
   pub offered : IsConfiguredIn configs instance major endpoint
+
+-- each offer that a node of a world knows has the endpoint that a node is configured with for the instance
+abbrev pub KnowsAsConfigured : List Config → World → Type 0
+KnowsAsConfigured configs w =
+    (place : ℕ) (h : History) (instance : InstanceId) (lasting : Lasting KnownOffer) → slice_get w.histories place ≡ Some h
+    → known_offer_at h.items instance ≡ Some lasting → IsAsConfigured configs h instance lasting.value.endpoint

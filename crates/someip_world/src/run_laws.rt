@@ -33,7 +33,7 @@ ghost use Rattle.someip_world_setup.specs.declared.setup_node.SetupNode.{SetupNo
 ghost use Rattle.someip_world.specs.declared.line.Line.{Line};
 ghost use Rattle.someip_world.specs.Turns.{IsOfRun, LeadTo, TakesIt, ToldTurn};
 ghost use Rattle.sd_wire.specs.Kinds.{is_offer};
-ghost use Rattle.someip_world.specs.Announced.{AllFits, FitNodes, FitsStep, IsAsConfigured, IsConfigured};
+ghost use Rattle.someip_world.specs.Announced.{AllFits, FitNodes, FitsStep, IsConfigured, KnowsAsConfigured};
 ghost use Rattle.someip_world.specs.Datagrams.{datagrams_in};
 ghost use Rattle.someip_world.specs.Origins.{HasOrigins, WasSent};
 ghost use Rattle.someip_world.specs.RunExamples.{CanPublish, GivesJust, subscribed_for};
@@ -160,10 +160,7 @@ pub fn all_that_is_given_fits()
 pub fn known_offers_are_configured()
     ensures { (nodes : List SetupNode) (configs : List Config) (steps : List Step) (w : World)
         → LeadTo nodes configs steps w → AllByRecursion FitsConfig configs
-        → AllByRecursion FitsStep steps → (place : ℕ) (h : History) (instance : InstanceId)
-        (lasting : Lasting KnownOffer) → slice_get w.histories place ≡ Some h
-        → known_offer_at h.items instance ≡ Some lasting
-        → IsAsConfigured configs h instance lasting.value.endpoint }
+        → AllByRecursion FitsStep steps → KnowsAsConfigured configs w }
 {}
 
 /// What is given in a run over the nodes of a setup fits its fields, whatever the setup and the steps.
@@ -175,15 +172,14 @@ pub fn all_that_a_setup_gives_fits(setup: &Setup, steps: &[Step])
     steps_fit(steps);
 }
 
-/// The endpoint of an offer that a node knows in a run over the nodes of a setup, after any number of the
-/// steps, is the one that a node of the setup is configured with for the instance, in the major version in
-/// which it is wanted.
+/// The endpoint of an offer that a node knows in a run over the nodes of a setup is one that a node of the
+/// setup is configured with for the instance, in the major version in which it is wanted: after any number
+/// of the steps, and at the end of each run that has a trace.
 pub fn known_offers_are_of_the_setup(setup: &Setup, steps: &[Step])
-    ensures { (configs : List Config) (i : ℕ) (w : World) → AreCopies setup.now.nodes configs
-        → LeadTo setup.now.nodes configs (take i steps.now) w
-        → (place : ℕ) (h : History) (instance : InstanceId) (lasting : Lasting KnownOffer)
-        → slice_get w.histories place ≡ Some h → known_offer_at h.items instance ≡ Some lasting
-        → IsAsConfigured configs h instance lasting.value.endpoint }
+    ensures on_the_way { (configs : List Config) (i : ℕ) (w : World) → AreCopies setup.now.nodes configs
+        → LeadTo setup.now.nodes configs (take i steps.now) w → KnowsAsConfigured configs w }
+    ensures at_the_end { (lines : List Line) (run : IsOfRun setup.now.nodes steps.now lines)
+        → KnowsAsConfigured run.configs run.world }
 {
     setup_fits(setup);
     steps_fit(steps);
