@@ -11,3 +11,4 @@ pub mod RunLemmas
 pub mod SubscriberLemmas
 pub mod SubscriptionRunLemmas
 pub mod OctetLemmas
+pub mod PeerLemmas

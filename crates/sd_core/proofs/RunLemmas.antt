@@ -10,7 +10,7 @@ use Rattle.std.proofs.lemmas.Bool.{and_parts, or_left, or_right}
 use Rattle.std.proofs.lemmas.List.Sums.{take_while-cons}
 use Rattle.someip_tables.proofs.Entries.{own_test}
 
-less_by_test : (r : Ordering) → is_lt r ≡ true → r ≡ Less
+pub less_by_test : (r : Ordering) → is_lt r ≡ true → r ≡ Less
 less_by_test Less lt = refl
 less_by_test Equal lt = absurd (cc)
 less_by_test Greater lt = absurd (cc)

@@ -34,12 +34,12 @@ use Rattle.sd_core.specs.SubscriptionRuns.{AllHaveOctets, HasOctets, least_to, u
 use Rattle.sd_core.proofs.RunLemmas.{run_is, filter_twice}
 use Rattle.sd_core.proofs.SubscriberLemmas.{any_endpoint, any_unexpired, others_counted}
 
-le_then : (a b : Ordering) → is_le a ≡ true → is_le b ≡ true → is_le (ordering_then a b) ≡ true
+pub le_then : (a b : Ordering) → is_le a ≡ true → is_le b ≡ true → is_le (ordering_then a b) ≡ true
 le_then Less b x y = refl
 le_then Equal b x y = y
 le_then Greater b x y = cc
 
-zero_first : (n : ℕ) → is_le (nat_cmp 0 n) ≡ true
+pub zero_first : (n : ℕ) → is_le (nat_cmp 0 n) ≡ true
 zero_first n = cases (nat_lt 0 n) (nat_eq 0 n) refl refl
   where
     cases : (l e : Bool) → nat_lt 0 n ≡ l → nat_eq 0 n ≡ e → is_le (cond l Less (cond e Equal Greater)) ≡ true
@@ -47,7 +47,7 @@ zero_first n = cases (nat_lt 0 n) (nat_eq 0 n) refl refl
     cases false true lt eq = refl
     cases false false lt eq = absurd (grind (arith, nat_tests))
 
-octets_first : (xs : List ℕ) → length xs ≡ 4 → is_le (slice_cmp nat_cmp (0 ∷ 0 ∷ 0 ∷ 0 ∷ []) xs) ≡ true
+pub octets_first : (xs : List ℕ) → length xs ≡ 4 → is_le (slice_cmp nat_cmp (0 ∷ 0 ∷ 0 ∷ 0 ∷ []) xs) ≡ true
 octets_first [] four = absurd (omega arith)
 octets_first (a ∷ []) four = absurd (omega arith)
 octets_first (a ∷ b ∷ []) four = absurd (omega arith)
@@ -56,15 +56,18 @@ octets_first (a ∷ b ∷ c ∷ d ∷ []) four =
     le_then (nat_cmp 0 a) _ (zero_first a) (le_then (nat_cmp 0 b) _ (zero_first b) (le_then (nat_cmp 0 c) _ (zero_first c) (le_then (nat_cmp 0 d) _ (zero_first d) refl)))
 octets_first (a ∷ b ∷ c ∷ d ∷ e ∷ xs) four = absurd (omega arith)
 
+-- none to an endpoint comes before the least
+pub place_first : (s : Subscription) → HasOctets s → is_le (ordering_then (endpoint_cmp (record { ip = unspecified; port = 0 }) s.endpoint) (nat_cmp 0 s.counter)) ≡ true
+place_first s octets =
+    le_then (endpoint_cmp (record { ip = unspecified; port = 0 }) s.endpoint) _
+    (le_then (address_cmp unspecified (v4_ip s.endpoint)) _ (octets_first (ipv4_octets (v4_ip s.endpoint)) octets.1) (zero_first (v4_port s.endpoint)))
+    (zero_first s.counter)
+
 client_first : (s : Subscription) → HasOctets s
     → is_le (ordering_then (address_cmp unspecified s.peer) (ordering_then (endpoint_cmp (record { ip = unspecified; port = 0 }) s.endpoint) (nat_cmp 0 s.counter))) ≡ true
-client_first s octets =
-    le_then (address_cmp unspecified s.peer) _ (octets_first (ipv4_octets s.peer) octets.0)
-    (le_then (endpoint_cmp (record { ip = unspecified; port = 0 }) s.endpoint) _
-    (le_then (address_cmp unspecified (v4_ip s.endpoint)) _ (octets_first (ipv4_octets (v4_ip s.endpoint)) octets.1) (zero_first (v4_port s.endpoint)))
-    (zero_first s.counter))
+client_first s octets = le_then (address_cmp unspecified s.peer) _ (octets_first (ipv4_octets s.peer) octets.0) (place_first s octets)
 
-tied_le : {K : Type 0} {R : K → K → Ordering} → IsTotalOrder R → (a b : K) → a ≡ b → is_le (R a b) ≡ true
+pub tied_le : {K : Type 0} {R : K → K → Ordering} → IsTotalOrder R → (a b : K) → a ≡ b → is_le (R a b) ≡ true
 tied_le {R = R} o a b is = ap is_le (sym (ap (R a) is) ∙ tied_itself o a)
 
 same_eventgroup : (instance : InstanceId) (eventgroup : ℕ) (s : Subscription) → is_to instance eventgroup s ≡ true → (s.instance ≡ instance) × (eventgroup ≡ s.eventgroup)

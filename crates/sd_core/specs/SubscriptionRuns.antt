@@ -20,6 +20,10 @@ AllHaveOctets table = (s : Subscription) → is_some (finite.get table s) ≡ tr
 abbrev pub unspecified : Ipv4Addr
 unspecified = record { octets = 0 ∷ 0 ∷ 0 ∷ 0 ∷ [] }
 
+-- what no subscription of a peer to an eventgroup of an instance comes before
+abbrev pub least_of : InstanceId → ℕ → Ipv4Addr → Subscription
+least_of instance eventgroup peer = record { instance = instance; eventgroup = eventgroup; peer = peer; endpoint = record { ip = unspecified; port = 0 }; counter = 0 }
+
 -- what no subscription to an eventgroup of an instance comes before
 abbrev pub least_to : InstanceId → ℕ → Subscription
-least_to instance eventgroup = record { instance = instance; eventgroup = eventgroup; peer = unspecified; endpoint = record { ip = unspecified; port = 0 }; counter = 0 }
+least_to instance eventgroup = least_of instance eventgroup unspecified

@@ -1,15 +1,16 @@
 //! The table of the subscriptions that a server accepted. Those to an eventgroup stand one after the
 //! other in it, and so do those to an instance: what asks for these looks at no other.
-ghost use Rattle.std.specs.Prelude.{◌≡◌, ◌≢◌, ◌==◌, [], ◌∷◌, ◌&&◌, IfOk, OnOk, OnErr};
+ghost use Rattle.std.specs.Prelude.{◌≡◌, ◌≢◌, ◌==◌, true, [], ◌∷◌, not, ◌&&◌, if◌then◌else◌, IfOk, OnOk, OnErr};
 ghost use Rattle.std.specs.FinMap as finite;
-ghost use Rattle.std.specs.List.{list_any};
-ghost use Rattle.std.specs.Ordering.{eq_by_cmp};
+ghost use Rattle.std.specs.List.{find, list_any};
+ghost use Rattle.std.specs.declared.cmp.Ordering.TheVariants.{Less};
+ghost use Rattle.std.specs.Ordering.{eq_by_cmp, is_le};
 ghost use Rattle.someip_tables.specs.Endpoints.{endpoint_cmp};
 ghost use Rattle.someip_tables.specs.Lastings.{NeedsMemory, unexpired};
 ghost use Rattle.someip_tables.specs.Tables.{map_of};
 ghost use Rattle.sd_core.specs.SubscriptionKeys.{subscription_cmp};
-ghost use Rattle.sd_core.specs.SubscriptionRuns.{AllHaveOctets, HasOctets, least_to};
-ghost use Rattle.sd_core.specs.SubscriberTables.{count_beside, endpoints_of, is_of_instance};
+ghost use Rattle.sd_core.specs.SubscriptionRuns.{AllHaveOctets, HasOctets, least_of, least_to};
+ghost use Rattle.sd_core.specs.SubscriberTables.{count_beside, endpoints_of, is_of_instance, is_of_peer};
 ghost use Rattle.sd_core.specs.SubscriberTables.{is_to, is_to_any, subscribed_until};
 
 use crate::keys::InstanceId;
@@ -17,6 +18,7 @@ use crate::subscription::Subscription;
 use sd_wire::SubscriptionCounter;
 use someip_tables::{Deadline, DeadlineMap, Moment, is_same_key};
 use std::alloc::{AllocError, Global};
+use std::cmp::Ordering;
 use std::collections::BTreeSet;
 use std::net::{Ipv4Addr, SocketAddrV4};
 
@@ -132,9 +134,81 @@ fn collect_endpoints(
         .collect(alloc)
 }
 
+/// Ends the subscriptions of a peer. In each eventgroup they stand together, so it looks at these, and at
+/// two others of an eventgroup at most.
+pub(crate) fn end_of_peer(table: &mut SubscriberTable, peer: Ipv4Addr)
+    requires { AllHaveOctets (map_of subscription_cmp table.old) }
+    ensures { map_of subscription_cmp table.new
+        ≡ finite.retain_keys (map_of subscription_cmp table.old) (λ s. not (is_of_peer peer s)) }
+{
+    let mut next = first(table);
+    while let Some(found) = next {
+        end_if_of(table, &found, peer);
+        next = first_beside(table, &found, beyond(&found, peer));
+    }
+}
+
+/// Ends a subscription if it is of a peer.
+fn end_if_of(table: &mut SubscriberTable, one: &Subscription, peer: Ipv4Addr)
+    ensures { map_of subscription_cmp table.new ≡ (if is_of_peer peer one.now
+        then finite.remove (map_of subscription_cmp table.old) one.now
+        else map_of subscription_cmp table.old) }
+{
+    if is_same_key(&one.peer, &peer) {
+        table.remove(one);
+    }
+}
+
+/// The first subscription of all.
+fn first(table: &SubscriberTable) -> Option<Subscription>
+    ensures { result ≡ find (λ _. true) (finite.keys (map_of subscription_cmp table.now)) }
+{
+    let (one, _) = table.iter().next()?;
+    Some(*one)
+}
+
+/// The first subscription from a place on, one not among them.
+fn first_beside(
+    table: &SubscriberTable,
+    one: &Subscription,
+    place: Subscription,
+) -> Option<Subscription>
+    ensures { result ≡ find (λ s. is_le (subscription_cmp place s) && not (eq_by_cmp subscription_cmp s one.now))
+        (finite.keys (map_of subscription_cmp table.now)) }
+{
+    let (other, _) = table
+        .iter_from(place)
+        .find(|(other, _)| !is_same_key(*other, one))?;
+    Some(*other)
+}
+
+/// From where on the subscriptions of a peer stand after one: where they stand in its eventgroup, or in
+/// the next.
+fn beyond(one: &Subscription, peer: Ipv4Addr) -> Subscription
+    ensures reaches { (s : Subscription) → HasOctets s → is_of_peer peer s ≡ true
+        → subscription_cmp one.now s ≡ Less → is_le (subscription_cmp result s) ≡ true }
+    ensures rises { is_le (subscription_cmp one.now result) ≡ true }
+{
+    match one.peer.cmp(&peer) {
+        Ordering::Less => first_of(one.instance, one.eventgroup, peer),
+        Ordering::Equal => *one,
+        Ordering::Greater => match one.eventgroup.checked_add(1) {
+            Some(eventgroup) => first_of(one.instance, eventgroup, peer),
+            None => *one,
+        },
+    }
+}
+
 /// What no subscription to an eventgroup comes before.
 fn first_to(instance: InstanceId, eventgroup: u16) -> Subscription
     ensures { result ≡ least_to instance eventgroup }
+{
+    first_of(instance, eventgroup, Ipv4Addr::UNSPECIFIED)
+}
+
+/// What no subscription of a peer to an eventgroup comes before.
+fn first_of(instance: InstanceId, eventgroup: u16, peer: Ipv4Addr) -> Subscription
+    ensures { result ≡ least_of instance eventgroup peer }
 {
     let Some(counter) = SubscriptionCounter::new(0) else {
         unreachable!()
@@ -142,7 +216,7 @@ fn first_to(instance: InstanceId, eventgroup: u16) -> Subscription
     Subscription {
         instance,
         eventgroup,
-        peer: Ipv4Addr::UNSPECIFIED,
+        peer,
         endpoint: SocketAddrV4::new(Ipv4Addr::UNSPECIFIED, 0),
         counter,
     }

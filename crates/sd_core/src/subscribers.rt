@@ -17,7 +17,9 @@ ghost use Rattle.sd_core.specs.SubscriberTables.{subscriber_count, subscription_
 use crate::error::{Cause, SubscribeError};
 use crate::keys::InstanceId;
 use crate::subscribe::{Subscribe, SubscribeRules};
-use crate::subscriber_table::{SubscriberTable, count_beside, endpoints, has_endpoint, keep};
+use crate::subscriber_table::{
+    SubscriberTable, count_beside, end_of_peer, endpoints, has_endpoint, keep,
+};
 use crate::subscription::Subscription;
 use someip_tables::{Deadline, DeadlineMap, Moment, is_same_key};
 use std::alloc::{AllocError, Global};
@@ -121,12 +123,12 @@ impl Subscribers {
     }
 
     /// Ends the subscriptions of a peer that began again (SOME/IP Service Discovery Protocol,
-    /// "Detection of reboots"). It takes no memory.
+    /// "Detection of reboots"). It looks at those of the peer, and at two others of an eventgroup at most,
+    /// and takes no memory.
     pub fn peer_reboot(&mut self, peer: Ipv4Addr)
         ensures { self.new ≡ finite.retain_keys self.old (λ s. not (is_of_peer peer s)) }
     {
-        self.table
-            .retain_keys(|subscription| !is_same_key(&subscription.peer, &peer));
+        end_of_peer(&mut self.table, peer);
     }
 
     /// Drops what has expired. It takes no memory.
