@@ -1,15 +1,16 @@
 -- The subscriptions to an eventgroup, and those to an instance, stand one after the other.
-use Rattle.std.proofs.Common.{◌≡◌, ℕ, Bool, true, false, cond, not, ◌&&◌, ◌||◌, nat_lt, nat_eq, List, [], ◌∷◌, map, filter, take_while, length, refl, ap, sym, subst, ◌∙◌, arith}
+use Rattle.std.proofs.Common.{◌≡◌, ℕ, Bool, true, false, cond, not, ◌&&◌, ◌||◌, nat_lt, nat_eq, List, [], ◌∷◌, map, filter, take_while, drop, length, ◌≤◌, refl, ap, sym, ◌∙◌, arith}
 use Rattle.std.specs.List.{list_any}
 use Rattle.std.specs.declared.cmp.Ordering.{Ordering}
 use Rattle.std.specs.declared.cmp.Ordering.TheVariants.{Less, Equal, Greater}
 use Rattle.std.specs.Ordering.{eq_by_cmp, is_le, nat_cmp, ordering_then, ordering_reverse}
 use Rattle.std.specs.Cmp.{IsTotalOrder, nat_cmp_total, tied_itself}
 use Rattle.std.specs.Cmp.Lexicographic.{slice_cmp}
-use Rattle.std.specs.BTreeSet.{BTreeSet, IsFromIterResult}
+use Rattle.std.specs.BTreeSet.{BTreeSet, InsertsAll, IsOrdered}
 use Rattle.std.specs.FinMap.{len, keys, entries, retain_keys, entries_sorted, contains_key-keys}
 use Rattle.std.proofs.lemmas.Bool.{and_parts, and_from}
 use Rattle.std.proofs.lemmas.Bool.Decides.{nat_tests}
+use Rattle.std.proofs.lemmas.List.{length-drop}
 use Rattle.std.proofs.lemmas.Map.Lookups.{exact_unsigned}
 use Rattle.std.specs.declared.net.socket_addr.SocketAddrV4.{SocketAddrV4}
 use Rattle.std.specs.Net.Addr.{ipv4_octets}
@@ -20,9 +21,9 @@ use Rattle.someip_tables.specs.Endpoints.{address_cmp, endpoint_cmp}
 use Rattle.someip_tables.specs.EndpointOrder.{endpoints_total, exact_endpoints}
 use Rattle.someip_tables.specs.Lastings.{unexpired}
 use Rattle.someip_tables.specs.Retained.{retain}
-use Rattle.someip_tables.proofs.Collected.{collected_unexpired}
 use Rattle.someip_tables.proofs.Entries.{own_test, same_by_test, true_from, filter_alike, length-filter_is, from_entries-entries, entries_distinct}
-use Rattle.someip_tables.proofs.Members.{any_filter, any_same}
+use Rattle.someip_tables.proofs.Members.{any_filter, any_map, any_same}
+use Rattle.someip_tables.proofs.Sorted.{any-sorted_set, sorted_set-only}
 use Rattle.sd_core.specs.declared.keys.InstanceId.{InstanceId}
 use Rattle.sd_core.specs.declared.subscription.Subscription.{Subscription}
 use Rattle.sd_core.specs.Keys.{instance_cmp}
@@ -83,11 +84,6 @@ first_of_eventgroup instance eventgroup s octets to =
     le_then (instance_cmp instance s.instance) _ (tied_le instances_total instance s.instance (sym same.0))
     (le_then (nat_cmp eventgroup s.eventgroup) _ (tied_le nat_cmp_total eventgroup s.eventgroup same.1) (client_first s octets))
 
-pub first_of_instance : (instance : InstanceId) (s : Subscription) → HasOctets s → is_of_instance instance s ≡ true → is_le (subscription_cmp (least_to instance 0) s) ≡ true
-first_of_instance instance s octets of =
-    le_then (instance_cmp instance s.instance) _ (tied_le instances_total instance s.instance (sym (same_by_test exact_instances s.instance instance of)))
-    (le_then (nat_cmp 0 s.eventgroup) _ (zero_first s.eventgroup) (client_first s octets))
-
 -- what stands between two of a kind is of that kind
 squeezed : (i g r t : Ordering) → is_le (ordering_then i (ordering_then g r)) ≡ true → ordering_then (ordering_reverse i) (ordering_then (ordering_reverse g) t) ≡ Less → (i ≡ Equal) × (g ≡ Equal)
 squeezed Less g r t le lt = absurd (cc)
@@ -95,11 +91,6 @@ squeezed Greater g r t le lt = absurd (cc)
 squeezed Equal Less r t le lt = absurd (cc)
 squeezed Equal Greater r t le lt = absurd (cc)
 squeezed Equal Equal r t le lt = (refl, refl)
-
-squeezed_one : (i r t : Ordering) → is_le (ordering_then i r) ≡ true → ordering_then (ordering_reverse i) t ≡ Less → i ≡ Equal
-squeezed_one Less r t le lt = absurd (cc)
-squeezed_one Greater r t le lt = absurd (cc)
-squeezed_one Equal r t le lt = refl
 
 turned : {K : Type 0} {R : K → K → Ordering} → IsTotalOrder R → (a b x : K) → b ≡ x → R a b ≡ ordering_reverse (R x a)
 turned {R = R} o a b x is = o.antisymm a b ∙ ap (λ y. ordering_reverse (R y a)) is
@@ -115,13 +106,6 @@ eventgroup_whole instance eventgroup a b from lt to =
     let at_instance : is_of_instance instance a ≡ true = ap (λ i. is_of_instance i a) (exact_instances instance a.instance both.0) ∙ own_test instances_total a.instance in
     let at_eventgroup : eventgroup ≡ a.eventgroup = exact_unsigned eventgroup a.eventgroup both.1 in
     and_from _ _ at_instance (grind (arith, nat_tests))
-
-pub instance_whole : (instance : InstanceId) (a b : Subscription) → is_le (subscription_cmp (least_to instance 0) a) ≡ true → subscription_cmp a b ≡ Less → is_of_instance instance b ≡ true → is_of_instance instance a ≡ true
-instance_whole instance a b from lt to =
-    let of = turned instances_total a.instance b.instance instance (same_by_test exact_instances b.instance instance to) in
-    let rest : Ordering = ordering_then (nat_cmp a.eventgroup b.eventgroup) (ordering_then (address_cmp a.peer b.peer) (ordering_then (endpoint_cmp a.endpoint b.endpoint) (nat_cmp a.counter b.counter))) in
-    let is = squeezed_one (instance_cmp instance a.instance) _ rest from (sym (ap (λ i. ordering_then i rest) of) ∙ lt) in
-    ap (λ i. is_of_instance i a) (exact_instances instance a.instance is) ∙ own_test instances_total a.instance
 
 -- ---- their entries
 
@@ -139,12 +123,6 @@ eventgroup_run : (instance : InstanceId) (eventgroup : ℕ) (m : SubscriberMap) 
 eventgroup_run instance eventgroup m octets =
     run_is subscriptions_total (is_to instance eventgroup) (least_to instance eventgroup) (eventgroup_whole instance eventgroup) (entries m) (true_from (entries_sorted m))
     (λ k there to. first_of_eventgroup instance eventgroup k (octets k (contains_key-keys m k ∙ there)) to)
-
-instance_run : (instance : InstanceId) (m : SubscriberMap) → AllHaveOctets m
-    → take_while (λ e. is_of_instance instance e.0) (from_least instance 0 m) ≡ filter (λ e. is_of_instance instance e.0) (entries m)
-instance_run instance m octets =
-    run_is subscriptions_total (is_of_instance instance) (least_to instance 0) (instance_whole instance) (entries m) (true_from (entries_sorted m))
-    (λ k there of. first_of_instance instance k (octets k (contains_key-keys m k ∙ there)) of)
 
 swapped : (a b c : Bool) → (a && (b && c)) ≡ (b && (a && c))
 swapped true b c = refl
@@ -183,29 +161,116 @@ endpoint_in_run instance eventgroup endpoint now m octets =
     ∙ any_same (λ s. to s && at s) (λ s. is_to_any instance (eventgroup ∷ []) s && at s) (keys (unexpired now m)) (λ s. ap (λ b. (is_of_instance instance s && b) && at s) (or_false (nat_eq eventgroup s.eventgroup)))
     ∙ any_endpoint instance (eventgroup ∷ []) endpoint (unexpired now m)
 
--- whether there is one to any of several eventgroups
-pub any_in_run : (instance : InstanceId) (eventgroups : List ℕ) (now : ℕ) (m : SubscriberMap) → AllHaveOctets m
-    → list_any (λ e. not (has_passed now e.1.until) && list_any (λ g. nat_eq g e.0.eventgroup) eventgroups) (take_while (λ e. is_of_instance instance e.0) (from_least instance 0 m))
-    ≡ list_any (is_to_any instance eventgroups) (keys (unexpired now m))
-any_in_run instance eventgroups now m octets =
-    let among : Subscription → Bool = λ s. list_any (λ g. nat_eq g s.eventgroup) eventgroups in
-    let of : Subscription → Bool = is_of_instance instance in
-    ap (list_any (λ e. is_live_at now e && among e.0)) (instance_run instance m octets)
-    ∙ any_filter (λ e. is_live_at now e && among e.0) (λ e. of e.0) (entries m)
-    ∙ any_same (λ e. of e.0 && (is_live_at now e && among e.0)) (λ e. is_live_at now e && (of e.0 && among e.0)) (entries m) (λ e. swapped (of e.0) (is_live_at now e) (among e.0))
-    ∙ any_unexpired subscriptions_total exact_subscriptions (is_to_any instance eventgroups) now m
+both_swapped : (a b : Bool) → (a && b) ≡ (b && a)
+both_swapped true true = refl
+both_swapped true false = refl
+both_swapped false true = refl
+both_swapped false false = refl
 
--- the endpoints of those
-pub collected_in_run : (instance : InstanceId) (eventgroups : List ℕ) (now : ℕ) (m : SubscriberMap) (n : BTreeSet SocketAddrV4) → AllHaveOctets m
-    → IsFromIterResult endpoint_cmp (map (λ e. e.0.endpoint) (filter (λ e. not (has_passed now e.1.until) && list_any (λ g. nat_eq g e.0.eventgroup) eventgroups) (take_while (λ e. is_of_instance instance e.0) (from_least instance 0 m)))) n
-    → n.keys ≡ endpoints_of instance eventgroups (unexpired now m)
-collected_in_run instance eventgroups now m n octets is =
-    let among : Subscription → Bool = λ s. list_any (λ g. nat_eq g s.eventgroup) eventgroups in
-    let of : Subscription → Bool = is_of_instance instance in
-    let same : map (λ (e : Entry). e.0.endpoint) (filter (λ e. is_live_at now e && among e.0) (take_while (λ e. of e.0) (from_least instance 0 m)))
-    ≡ map (λ (e : Entry). e.0.endpoint) (filter (λ e. is_live_at now e && is_to_any instance eventgroups e.0) (entries m)) =
-    ap (λ es. map (λ (e : Entry). e.0.endpoint) (filter (λ e. is_live_at now e && among e.0) es)) (instance_run instance m octets)
-    ∙ ap (map (λ (e : Entry). e.0.endpoint)) (filter_twice (λ e. of e.0) (λ e. is_live_at now e && among e.0) (entries m)
-    ∙ filter_alike (λ e. of e.0 && (is_live_at now e && among e.0)) (λ e. is_live_at now e && (of e.0 && among e.0)) (entries m) (λ e. swapped (of e.0) (is_live_at now e) (among e.0))) in
-    collected_unexpired subscriptions_total exact_subscriptions endpoints_total exact_endpoints (λ (s : Subscription). s.endpoint) (is_to_any instance eventgroups) now m n
-    (subst (λ xs. IsFromIterResult endpoint_cmp xs n) same is)
+-- whether there is one to an eventgroup
+pub live_in_run : (instance : InstanceId) (eventgroup : ℕ) (now : ℕ) (m : SubscriberMap) → AllHaveOctets m
+    → list_any (λ e. not (has_passed now e.1.until)) (take_while (λ e. is_to instance eventgroup e.0) (from_least instance eventgroup m)) ≡ list_any (is_to instance eventgroup) (keys (unexpired now m))
+live_in_run instance eventgroup now m octets =
+    let to : Subscription → Bool = is_to instance eventgroup in
+    ap (list_any (λ e. is_live_at now e)) (eventgroup_run instance eventgroup m octets)
+    ∙ any_filter (λ e. is_live_at now e) (λ e. to e.0) (entries m)
+    ∙ any_same (λ e. to e.0 && is_live_at now e) (λ e. is_live_at now e && to e.0) (entries m) (λ e. both_swapped (to e.0) (is_live_at now e))
+    ∙ any_unexpired subscriptions_total exact_subscriptions to now m
+
+any_none : {X : Type 0} (xs : List X) → list_any (λ _. false) xs ≡ false
+any_none [] = refl
+any_none (x ∷ xs) = any_none xs
+
+any_either : {X : Type 0} (p q : X → Bool) (xs : List X) → (list_any p xs || list_any q xs) ≡ list_any (λ x. p x || q x) xs
+any_either p q [] = refl
+any_either p q (x ∷ xs) = turned_about (p x) (q x) (list_any p xs) (list_any q xs) ∙ ap (λ b. (p x || q x) || b) (any_either p q xs)
+  where
+    turned_about : (a b c d : Bool) → ((a || c) || (b || d)) ≡ ((a || b) || (c || d))
+    turned_about true b c d = refl
+    turned_about false true true d = refl
+    turned_about false true false d = refl
+    turned_about false false true d = refl
+    turned_about false false false d = refl
+
+none_of : (b : Bool) → (b && false) ≡ false
+none_of true = refl
+none_of false = refl
+
+either_of : (a b c : Bool) → ((a && b) || (a && c)) ≡ (a && (b || c))
+either_of true b c = refl
+either_of false b c = refl
+
+-- whether there is one to any of several eventgroups
+pub any_of_several : (instance : InstanceId) (eventgroups : List ℕ) (ks : List Subscription) → list_any (λ g. list_any (is_to instance g) ks) eventgroups ≡ list_any (is_to_any instance eventgroups) ks
+any_of_several instance [] ks = sym (any_same (is_to_any instance []) (λ _. false) ks (λ s. none_of (is_of_instance instance s)) ∙ any_none ks)
+any_of_several instance (g ∷ gs) ks =
+    ap (λ b. list_any (is_to instance g) ks || b) (any_of_several instance gs ks)
+    ∙ any_either (is_to instance g) (is_to_any instance gs) ks
+    ∙ any_same (λ s. is_to instance g s || is_to_any instance gs s) (is_to_any instance (g ∷ gs)) ks (λ s. either_of (is_of_instance instance s) (nat_eq g s.eventgroup) (list_any (λ h. nat_eq h s.eventgroup) gs))
+
+-- an endpoint is among those to several eventgroups where it is among those to one
+endpoint_of_several : (instance : InstanceId) (g : ℕ) (gs : List ℕ) (live : SubscriberMap) (q : SocketAddrV4)
+    → (list_any (eq_by_cmp endpoint_cmp q) (endpoints_of instance (g ∷ []) live) || list_any (eq_by_cmp endpoint_cmp q) (endpoints_of instance gs live)) ≡ list_any (eq_by_cmp endpoint_cmp q) (endpoints_of instance (g ∷ gs) live)
+endpoint_of_several instance g gs live q =
+    let at : Subscription → Bool = λ s. eq_by_cmp endpoint_cmp q s.endpoint in
+    ap (λ b. b || list_any (eq_by_cmp endpoint_cmp q) (endpoints_of instance gs live)) (sym (any_endpoint instance (g ∷ []) q live))
+    ∙ ap (λ b. list_any (λ s. is_to_any instance (g ∷ []) s && at s) (keys live) || b) (sym (any_endpoint instance gs q live))
+    ∙ any_either (λ s. is_to_any instance (g ∷ []) s && at s) (λ s. is_to_any instance gs s && at s) (keys live)
+    ∙ any_same (λ s. (is_to_any instance (g ∷ []) s && at s) || (is_to_any instance gs s && at s)) (λ s. is_to_any instance (g ∷ gs) s && at s) (keys live)
+    (λ s. parted (is_of_instance instance s) (nat_eq g s.eventgroup) (list_any (λ h. nat_eq h s.eventgroup) gs) (at s))
+    ∙ any_endpoint instance (g ∷ gs) q live
+  where
+    parted : (a b c d : Bool) → (((a && (b || false)) && d) || ((a && c) && d)) ≡ ((a && (b || c)) && d)
+    parted false b c d = refl
+    parted true true c true = refl
+    parted true true true false = refl
+    parted true true false false = refl
+    parted true false c d = refl
+
+-- those of what is left of the eventgroups, with those that were collected
+abbrev pub IsCollected : InstanceId → List ℕ → List ℕ → SubscriberMap → BTreeSet SocketAddrV4 → Type 0
+IsCollected instance all rest live n =
+    IsOrdered endpoint_cmp n
+    × ((q : SocketAddrV4) → (list_any (eq_by_cmp endpoint_cmp q) n.keys || list_any (eq_by_cmp endpoint_cmp q) (endpoints_of instance rest live)) ≡ list_any (eq_by_cmp endpoint_cmp q) (endpoints_of instance all live))
+
+or_moved : (a b c d e : Bool) → c ≡ (a || d) → (d || b) ≡ e → (c || b) ≡ (a || e)
+or_moved true b c d e is so = ap (λ x. x || b) is
+or_moved false b c d e is so = ap (λ x. x || b) is ∙ so
+
+pub collected_more : (instance : InstanceId) (all : List ℕ) (g : ℕ) (gs : List ℕ) (live : SubscriberMap) (old new : BTreeSet SocketAddrV4)
+    → IsCollected instance all (g ∷ gs) live old → InsertsAll endpoint_cmp old (endpoints_of instance (g ∷ []) live) new → IsCollected instance all gs live new
+collected_more instance all g gs live old new is more =
+    (more.1, λ q. or_moved _ _ _ _ _ (more.0 q) (endpoint_of_several instance g gs live q) ∙ is.1 q)
+
+pub collected_all : (instance : InstanceId) (all : List ℕ) (live : SubscriberMap) (n : BTreeSet SocketAddrV4) → IsCollected instance all [] live n → n.keys ≡ endpoints_of instance all live
+collected_all instance all live n is =
+    sorted_set-only endpoints_total exact_endpoints (map (λ (s : Subscription). s.endpoint) (filter (is_to_any instance all) (keys live))) n.keys is.0
+    (λ q. or_false (list_any (eq_by_cmp endpoint_cmp q) n.keys) ∙ ap (λ b. list_any (eq_by_cmp endpoint_cmp q) n.keys || b) (sym (none_to q)) ∙ is.1 q ∙ any-sorted_set endpoints_total exact_endpoints _ q)
+  where
+    none_to : (q : SocketAddrV4) → list_any (eq_by_cmp endpoint_cmp q) (endpoints_of instance [] live) ≡ false
+    none_to q =
+        sym (any_endpoint instance [] q live)
+        ∙ any_same (λ s. is_to_any instance [] s && eq_by_cmp endpoint_cmp q s.endpoint) (λ _. false) (keys live) (λ s. ap (λ b. b && eq_by_cmp endpoint_cmp q s.endpoint) (none_of (is_of_instance instance s)))
+        ∙ any_none (keys live)
+
+-- nothing is left past the end
+pub past_all : (xs : List ℕ) (i : ℕ) → length xs ≤ i → drop i xs ≡ []
+past_all xs i end = let left = length-drop i xs in none_left (drop i xs) (omega (arith, left, end))
+  where
+    none_left : (ys : List ℕ) → length ys ≡ 0 → ys ≡ []
+    none_left [] none = refl
+    none_left (y ∷ ys) none = absurd (omega arith)
+
+-- what comes of a run, as a set
+pub run_inserted : (instance : InstanceId) (eventgroup : ℕ) (now : ℕ) (m : SubscriberMap) (old new : BTreeSet SocketAddrV4) → AllHaveOctets m
+    → InsertsAll endpoint_cmp old (map (λ e. e.0.endpoint) (filter (λ e. not (has_passed now e.1.until)) (take_while (λ e. is_to instance eventgroup e.0) (from_least instance eventgroup m)))) new
+    → InsertsAll endpoint_cmp old (endpoints_of instance (eventgroup ∷ []) (unexpired now m)) new
+run_inserted instance eventgroup now m old new octets is =
+    (λ q. is.0 q ∙ ap (λ b. list_any (eq_by_cmp endpoint_cmp q) old.keys || b) (same q), is.1)
+  where
+    same : (q : SocketAddrV4) → list_any (eq_by_cmp endpoint_cmp q) (map (λ (e : Entry). e.0.endpoint) (filter (λ e. not (has_passed now e.1.until)) (take_while (λ e. is_to instance eventgroup e.0) (from_least instance eventgroup m))))
+        ≡ list_any (eq_by_cmp endpoint_cmp q) (endpoints_of instance (eventgroup ∷ []) (unexpired now m))
+    same q =
+        any_map (eq_by_cmp endpoint_cmp q) (λ (e : Entry). e.0.endpoint) (filter (λ e. is_live_at now e) (take_while (λ e. is_to instance eventgroup e.0) (from_least instance eventgroup m)))
+        ∙ any_filter (λ e. eq_by_cmp endpoint_cmp q e.0.endpoint) (λ e. is_live_at now e) (take_while (λ e. is_to instance eventgroup e.0) (from_least instance eventgroup m))
+        ∙ endpoint_in_run instance eventgroup q now m octets

@@ -1,6 +1,7 @@
 //! The table of the subscriptions that a server accepted. Those to an eventgroup stand one after the
-//! other in it, and so do those to an instance: what asks for these looks at no other.
+//! other in it, and among them those of a peer: what asks for these looks at no other.
 ghost use Rattle.std.specs.Prelude.{◌≡◌, ◌≢◌, ◌==◌, true, [], ◌∷◌, not, ◌&&◌, if◌then◌else◌, IfOk, OnOk, OnErr};
+ghost use Rattle.std.specs.BTreeSet.{InsertsAll};
 ghost use Rattle.std.specs.FinMap as finite;
 ghost use Rattle.std.specs.List.{find, list_any};
 ghost use Rattle.std.specs.declared.cmp.Ordering.TheVariants.{Less};
@@ -105,14 +106,24 @@ fn has_any(table: &SubscriberTable, instance: InstanceId, eventgroups: &[u16], n
     ensures { result ≡ list_any (is_to_any instance eventgroups.now)
         (finite.keys (unexpired now (map_of subscription_cmp table.now))) }
 {
-    table
-        .iter_from(first_to(instance, 0))
-        .take_while(|(one, _)| is_of_instance(one, instance))
-        .any(|(one, lasting)| {
-            !lasting.until.has_passed(now) && eventgroups.contains(&one.eventgroup)
-        })
+    eventgroups
+        .iter()
+        .any(|eventgroup| has_live(table, instance, *eventgroup, now))
 }
 
+/// Whether there is a live subscription to an eventgroup.
+fn has_live(table: &SubscriberTable, instance: InstanceId, eventgroup: u16, now: Moment) -> bool
+    requires { AllHaveOctets (map_of subscription_cmp table.now) }
+    ensures { result ≡ list_any (is_to instance eventgroup)
+        (finite.keys (unexpired now (map_of subscription_cmp table.now))) }
+{
+    table
+        .iter_from(first_to(instance, eventgroup))
+        .take_while(|(one, _)| is_to(one, instance, eventgroup))
+        .any(|(_, lasting)| !lasting.until.has_passed(now))
+}
+
+/// The endpoints of the live subscriptions to any of these eventgroups.
 fn collect_endpoints(
     table: &SubscriberTable,
     alloc: Global,
@@ -124,14 +135,32 @@ fn collect_endpoints(
     ensures { IfOk result (λ endpoints. endpoints.keys ≡ endpoints_of instance eventgroups.now
         (unexpired now (map_of subscription_cmp table.now))) }
 {
-    table
-        .iter_from(first_to(instance, 0))
-        .take_while(|(one, _)| is_of_instance(one, instance))
-        .filter(|(one, lasting)| {
-            !lasting.until.has_passed(now) && eventgroups.contains(&one.eventgroup)
-        })
-        .map(|(one, _)| one.endpoint)
-        .collect(alloc)
+    let mut endpoints = BTreeSet::new(alloc);
+    for eventgroup in eventgroups {
+        add_endpoints(&mut endpoints, table, instance, *eventgroup, now)?;
+    }
+    Ok(endpoints)
+}
+
+/// Adds the endpoints of the live subscriptions to an eventgroup to others.
+fn add_endpoints(
+    endpoints: &mut BTreeSet<SocketAddrV4>,
+    table: &SubscriberTable,
+    instance: InstanceId,
+    eventgroup: u16,
+    now: Moment,
+) -> Result<(), AllocError>
+    requires { AllHaveOctets (map_of subscription_cmp table.now) }
+    ensures { OnOk result (InsertsAll endpoint_cmp endpoints.old (endpoints_of instance (eventgroup ∷ [])
+        (unexpired now (map_of subscription_cmp table.now))) endpoints.new) }
+{
+    endpoints.extend(
+        table
+            .iter_from(first_to(instance, eventgroup))
+            .take_while(|(one, _)| is_to(one, instance, eventgroup))
+            .filter(|(_, lasting)| !lasting.until.has_passed(now))
+            .map(|(one, _)| one.endpoint),
+    )
 }
 
 /// Ends the subscriptions of a peer. In each eventgroup they stand together, so it looks at these, and at
