@@ -7,4 +7,3 @@ pub mod DueLemmas
 pub mod Expiry
 pub mod RetainLemmas
 pub mod ExpiredKeys
-pub mod Collected
