@@ -28,6 +28,7 @@ pub mod HandUpLemmas
 pub mod PublishedLemmas
 pub mod LimitExampleLemmas
 pub mod SubscriberLimitLemmas
+pub mod StepLemmas
 pub mod CallExampleLemmas
 pub mod RuleReplies
 pub mod FitItems
