@@ -1,20 +1,14 @@
 -- What a node gives for a call, for its answer, and for the absence of one, by computation.
-use Rattle.std.proofs.Common.{◌≡◌, ℕ, Bool, true, false, if◌then◌else◌, List, [], ◌∷◌, ◌++◌, map, Option, None, Some, Result, Ok, Err, not, arith, refl, ap, sym, ◌∙◌}
+use Rattle.std.proofs.Common.{◌≡◌, ℕ, false, if◌then◌else◌, List, [], ◌∷◌, ◌++◌, map, Option, None, Some, Result, Ok, Err, not, arith, refl, ap, ◌∙◌}
 use Rattle.std.specs.List.{flat_map}
-use Rattle.std.specs.List.Sorted.{IsStrictlySortedBy}
-use Rattle.std.specs.declared.cmp.Ordering.{Ordering}
-use Rattle.std.specs.Cmp.{IsTotalOrder}
-use Rattle.std.specs.FinMap.{IsAntisymmetric, from_entries, get, keys}
+use Rattle.std.specs.FinMap.{from_entries, get, keys}
 use Rattle.someip_wire.specs.Reading.{header_in, items_within}
 use Rattle.someip_tables.specs.declared.deadline.Deadline.TheVariants.{At}
 use Rattle.someip_tables.specs.declared.lasting.Lasting.{Lasting}
 use Rattle.someip_tables.specs.Deadlines.{has_passed}
 use Rattle.someip_tables.specs.Lastings.{expired, unless_passed}
-use Rattle.someip_tables.specs.Retained.{retain}
-use Rattle.someip_tables.proofs.Entries.{from_entries-filter}
 use Rattle.someip_tables.proofs.Expiry.{get-unexpired}
 use Rattle.someip_tables.proofs.MapLaws.{retain-empty}
-use Rattle.someip_tables.proofs.Trees.{entries-map_of}
 use Rattle.sd_wire.specs.Fronts.{front_lengths}
 use Rattle.sd_wire.specs.Values.{EntryValue}
 use Rattle.sd_core.specs.declared.eventgroup.Eventgroup.{Eventgroup}
@@ -66,23 +60,7 @@ use Rattle.someip_node_rules.specs.SeekQuestions.{offer_from}
 use Rattle.someip_node_rules.specs.Steps.{step}
 use Rattle.someip_node_rules.proofs.StepLemmas.{call_refused, first_call}
 use Rattle.someip_node_rules.proofs.NamedLemmas.{get-pending}
-
--- ---- the keys of one entry that pass a test
-
-module _ {K X : Type 0} {R : K → K → Ordering} (o : IsTotalOrder R) (exact : IsAntisymmetric R) (p : K → X → Bool) (k : K) (x : X) where
-  one_key : keys (from_entries {R = R} ((k, x) ∷ [])) ≡ k ∷ []
-  unfolding IsStrictlySortedBy
-  one_key = ap (map (λ (e : K × X). e.0)) (entries-map_of o exact ((k, x) ∷ []) (tt, tt))
-
-  kept_is : (b : Bool) → p k x ≡ b → retain (from_entries {R = R} ((k, x) ∷ [])) p ≡ from_entries (if b then (k, x) ∷ [] else [])
-  kept_is b is =
-      sym (from_entries-filter o exact (λ e. p e.0 e.1) ((k, x) ∷ []) refl) ∙ ap (λ b. from_entries {R = R} (if b then (k, x) ∷ [] else [])) is
-
-  pub key_kept : p k x ≡ true → keys (retain (from_entries {R = R} ((k, x) ∷ [])) p) ≡ k ∷ []
-  key_kept is = ap (λ m. keys m) (kept_is true is) ∙ one_key
-
-  pub key_dropped : p k x ≡ false → keys (retain (from_entries {R = R} ((k, x) ∷ [])) p) ≡ []
-  key_dropped is = ap (λ m. keys m) (kept_is false is) ∙ keys-empty X R
+use Rattle.someip_node_rules.proofs.OneEntryLemmas.{key_dropped, key_kept}
 
 module _ (config : Config) (is : IsClient config) where
   abbrev t : Tables

@@ -1,14 +1,14 @@
 -- What a node gives for a datagram, by computation.
-use Rattle.std.proofs.Common.{◌≡◌, ◌<◌, ◌++◌, ℕ, nat_lt, [], ◌∷◌, None, Ok, refl, ap, sym, ◌∙◌}
+use Rattle.std.proofs.Common.{◌≡◌, ◌<◌, ◌++◌, ℕ, [], ◌∷◌, None, Ok, refl, ap, ◌∙◌}
 use Rattle.std.specs.Cmp.{nat_cmp_total}
-use Rattle.std.specs.FinMap.{get-empty, get-from_entries, len-empty}
+use Rattle.std.specs.FinMap.{get-from_entries, len-empty}
 use Rattle.std.specs.Ordering.{nat_cmp}
 use Rattle.someip_wire.specs.Reading.{items_within}
 use Rattle.someip_rpc.specs.declared.request.RequestFault.TheVariants.{NotReady, UnknownMethod}
 use Rattle.someip_node_rules.specs.History.{met, start_of}
 use Rattle.someip_node_rules.specs.declared.config.Config.{Config}
 use Rattle.someip_node_rules.specs.declared.drops.DropReason.TheVariants as drop_reason
-use Rattle.someip_node_rules.specs.declared.output.Output.TheVariants.{Dropped, Nacked, Request, Sent}
+use Rattle.someip_node_rules.specs.declared.output.Output.TheVariants.{Dropped, Request, Sent}
 use Rattle.someip_node_rules.specs.WorkedExamples.{IsServer, client, instance, refusing, served, server}
 use Rattle.std.proofs.Common.{Bool, true, false, if◌then◌else◌, ◌||◌, nat_le, List, Some, Result}
 use Rattle.someip_rpc.specs.declared.request.Asked.{Asked}
@@ -58,27 +58,21 @@ use Rattle.someip_node_rules.specs.Setups.{has_eventgroup}
 use Rattle.someip_node_rules.specs.Subscribing.{nacked_for, rules_by, subscribe_by, subscribe_in}
 use Rattle.someip_node_rules.specs.Tables.{live_subscribers, waiting_calls}
 use Rattle.someip_node_rules.specs.WorkedExamples.{bad_subscribe, nack, nack_payload, subscribe_head, subscribe_payload}
-use Rattle.std.proofs.lemmas.Bool.{lt-ltb}
-use Rattle.someip_tables.specs.Endpoints.{address_cmp}
 use Rattle.someip_wire.specs.Spelling.{spelling}
 use Rattle.sd_wire.specs.Values.{bad_run}
 use Rattle.sd_wire.specs.declared.entry.EntryHead.TheVariants.{Eventgroup}
 use Rattle.sd_wire.specs.declared.entry.EventgroupEntry.{EventgroupEntry}
-use Rattle.sd_session.specs.declared.peers.Seen.TheVariants.{Same}
-use Rattle.sd_session.specs.declared.peers.Stamps.{Stamps}
 use Rattle.sd_session.specs.declared.stamp.Channel.TheVariants.{Unicast}
 use Rattle.sd_session.specs.declared.stamp.Stamp.{Stamp}
-use Rattle.sd_session.specs.Peers.{may_hold, stamps_of, stamps_or_none, told_by}
 use Rattle.sd_session.specs.Sessions.{after_uses}
 use Rattle.sd_core.specs.declared.error.Cause.{Cause}
 use Rattle.someip_node_rules.specs.Entries.{discovery_message}
 use Rattle.someip_node_rules.specs.Handling.{heard_plan, target_plan}
 use Rattle.someip_node_rules.specs.Items.{PeerHeard}
-use Rattle.someip_node_rules.specs.Plans.{act, both, rest}
-use Rattle.someip_node_rules.specs.Setups.{discovery_endpoint}
+use Rattle.someip_node_rules.specs.Plans.{both, rest}
 use Rattle.someip_node_rules.specs.declared.target.Target.TheVariants as target
 use Rattle.someip_node_rules.specs.WorkedExamples.{discovery_at, discovery_head, given_in, nack_given, server_address, bad_subscribed}
-use Rattle.someip_node_rules.proofs.StepLemmas.{one_entry, one_reply, sent_to_peer, work_after}
+use Rattle.someip_node_rules.proofs.StepLemmas.{has_room, is_new, one_entry, reply_goes, work_after}
 
 module _ (config : Config) (is : IsServer config) where
   -- the tables of the node at its start
@@ -188,14 +182,6 @@ module _ (config : Config) (is : IsServer config) (holds : 0 < config.common.pee
   unfolding items_within options_within
   read_bad = refl
 
-  room : may_hold config.common.peers (answers_of h).peers client.ip ≡ true
-  room =
-      ap (λ v. is_some v || nat_lt (finite.len (answers_of h).peers) config.common.peers) (get-empty address_cmp client.ip)
-      ∙ ap (λ n. nat_lt n config.common.peers) (len-empty address_cmp Stamps) ∙ lt-ltb 0 config.common.peers holds
-
-  same : told_by Unicast stamp (stamps_of (answers_of h).peers client.ip) ≡ Same
-  same = ap (λ v. told_by Unicast stamp (stamps_or_none v)) (get-empty address_cmp client.ip)
-
   still_up : is_up (answers_of once_heard) instance ≡ true
   still_up = up_is once_heard instance ∙ rw is.offers refl
 
@@ -218,10 +204,8 @@ module _ (config : Config) (is : IsServer config) (holds : 0 < config.common.pee
   nack_goes : (cause : Cause) → rule (TakesSubscribe client.ip head None) (answers_of once_heard) ≡ nacked_for head cause → bad_subscribed config ≡ nack_given cause
   nack_goes cause said =
       ap given_in (one_entry h (discovery_at client.ip) (discovery_at server_address) (discovery_head 0x30 ++ subscribe_payload) (target.Discovery Unicast) (rw is.address refl) (rw is.address refl)
-      Unicast 1 (record { reboot = true; unicast = true }) (bad_run (Eventgroup head)) (TakesSubscribe client.ip head None) (nacked_for head cause) read_bad room same refl said)
-      ∙ ap (λ w. Ok w.outputs) (one_reply (record (work_after once_heard (nacked_for head cause)) { replies = [] }) client.ip nack
-      ∙ sent_to_peer (record (work_after once_heard (nacked_for head cause)) { replies = [] }) client.ip (nack ∷ []))
-      ∙ ap (λ bytes. Ok (Nacked (record { instance = instance; id = 1 }) cause ∷ Sent (discovery_endpoint config) (discovery_at client.ip) bytes ∷ [])) nack_bytes
+      Unicast 1 (record { reboot = true; unicast = true }) (bad_run (Eventgroup head)) (TakesSubscribe client.ip head None) (nacked_for head cause) read_bad (has_room config.common.peers client.ip holds) (is_new Unicast stamp client.ip) refl said)
+      ∙ ap (λ w. Ok w.outputs) (reply_goes (record (work_after once_heard (nacked_for head cause)) { replies = [] }) client.ip nack (discovery_head 0x24 ++ nack_payload) nack_bytes)
       ∙ rw is.address refl
 
   pub nack_answers : has_eventgroup (service is.events) 1 ≡ true → bad_subscribed config ≡ nack_given NoEndpoint

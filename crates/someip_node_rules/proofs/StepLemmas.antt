@@ -1,13 +1,15 @@
 -- What a step gives, by what its rules say: of an input with one rule, of a message of Service Discovery with one entry,
 -- and of a call that is the first one.
-use Rattle.std.proofs.Common.{◌≡◌, ℕ, Bool, true, false, not, if◌then◌else◌, List, [], ◌∷◌, ◌++◌, length, Option, None, Some, Ok, Err, refl, ap, ◌∙◌}
+use Rattle.std.proofs.Common.{◌≡◌, ◌<◌, ◌||◌, ℕ, Bool, true, false, not, if◌then◌else◌, List, [], ◌∷◌, ◌++◌, length, None, Some, Ok, Err, refl, ap, ◌∙◌}
 use Rattle.std.specs.List.{flat_map, fold}
-use Rattle.std.specs.Option.{option_map_or}
-use Rattle.std.specs.FinMap.{empty, get, len-empty}
+use Rattle.std.specs.Option.{is_some, option_map_or}
+use Rattle.std.specs.FinMap.{empty, get, get-empty, len, len-empty}
 use Rattle.std.specs.Prelude.{nat_le, nat_lt}
 use Rattle.std.specs.declared.net.ipv4_addr.Ipv4Addr.{Ipv4Addr}
 use Rattle.std.specs.Net.Socket.{v4_ip}
 use Rattle.std.specs.declared.net.socket_addr.SocketAddrV4.{SocketAddrV4}
+use Rattle.std.proofs.lemmas.Bool.{lt-ltb}
+use Rattle.someip_tables.specs.Endpoints.{address_cmp}
 use Rattle.someip_tables.specs.declared.lasting.Lasting.{Lasting}
 use Rattle.someip_wire.specs.Spelling.{spelling}
 use Rattle.sd_wire.specs.declared.flags.SdFlags.{SdFlags}
@@ -15,10 +17,12 @@ use Rattle.sd_wire.specs.Fronts.{fits_datagram, front_lengths, fronts_of}
 use Rattle.sd_wire.specs.Values.{EntryValue, ReadValue}
 use Rattle.sd_session.specs.declared.peers.Seen.{Seen}
 use Rattle.sd_session.specs.declared.peers.Seen.TheVariants.{Same}
+use Rattle.sd_session.specs.declared.peers.Stamps.{Stamps}
 use Rattle.sd_session.specs.declared.stamp.Channel.{Channel}
+use Rattle.sd_session.specs.declared.stamp.Channel.TheVariants.{Multicast, Unicast}
 use Rattle.sd_session.specs.declared.stamp.Stamp.{Stamp}
 use Rattle.sd_session.specs.Sessions.{after_uses}
-use Rattle.sd_session.specs.Peers.{may_hold, stamps_of, told_by}
+use Rattle.sd_session.specs.Peers.{may_hold, no_stamps, stamps_of, stamps_or_none, told_by}
 use Rattle.sd_core.specs.declared.keys.InstanceId.{InstanceId}
 use Rattle.someip_rpc.specs.declared.call.Awaited.{Awaited}
 use Rattle.someip_rpc.specs.declared.call.Call.{Call}
@@ -27,13 +31,14 @@ use Rattle.someip_rpc.specs.declared.error.RpcError.TheVariants.{Busy, NotOffere
 use Rattle.someip_rpc.specs.Calls.{call_header, call_refusal, is_full}
 use Rattle.someip_rpc.specs.Ids.{call_cmp}
 use Rattle.someip_rpc.specs.Sessions.{next_of, session_after_last}
+use Rattle.someip_node_rules.specs.Advances.{after_inputs, stepped}
 use Rattle.someip_node_rules.specs.Calls.{as_node_error, call_of, calls_at, first_free, first_free_of, session_of}
 use Rattle.someip_node_rules.specs.DiscoveryQuestions.{messages_to}
 use Rattle.someip_node_rules.specs.Entries.{discovery_message, fronts}
 use Rattle.someip_node_rules.specs.Handling.{entries_plan, entry_plan, heard_plan, same_address, target_of, target_plan}
 use Rattle.someip_node_rules.specs.History.{History, answers_of, historic, met}
 use Rattle.someip_node_rules.specs.Inputs.{Input, Call as CallInput, Datagram, plan_of, refusal_of}
-use Rattle.someip_node_rules.specs.Items.{Called, PeerAddressed, PeerHeard}
+use Rattle.someip_node_rules.specs.Items.{Item, Called, PeerAddressed, PeerHeard}
 use Rattle.someip_node_rules.specs.Learning.{hearing_by}
 use Rattle.someip_node_rules.specs.Outcomes.{Outcome, nothing}
 use Rattle.someip_node_rules.specs.Outputs.{Announces, Sends, Tells, written}
@@ -42,6 +47,7 @@ use Rattle.someip_node_rules.specs.Receivers.{message_plan_to, messages_plan_to}
 use Rattle.someip_node_rules.specs.Setups.{client_endpoint, client_rules, discovery_endpoint}
 use Rattle.someip_node_rules.specs.Steps.{step, unless_refused, work_on}
 use Rattle.someip_node_rules.specs.Tables.{Tables, known_endpoint, waiting_calls}
+use Rattle.someip_node_rules.specs.declared.output.Output.{Output}
 use Rattle.someip_node_rules.specs.declared.output.Output.TheVariants.{Called as CallOutput, Sent}
 use Rattle.someip_node_rules.specs.declared.drops.DropReason.TheVariants.{Own, PeersFull}
 use Rattle.someip_node_rules.specs.declared.error.NodeError.TheVariants.{Rpc}
@@ -97,6 +103,20 @@ module _ (h : History) (from to : SocketAddrV4) (bytes : List ℕ) (goal : Targe
         ∙ ap (λ p. Ok (run historic (both (both p rest) (replying (messages_plan_to (Peer peer)))) (work_on once_heard))) one
         ∙ ap (λ (x : Outcome). Ok (run historic (messages_plan_to (Peer peer) x.replies) (record (work_after once_heard x) { replies = [] }))) said
 
+-- ---- a peer that is heard first
+
+pub has_room : (limit : ℕ) (peer : Ipv4Addr) → 0 < limit → may_hold limit empty peer ≡ true
+has_room limit peer some =
+    ap (λ v. is_some v || nat_lt (len (empty {X = Stamps} {R = address_cmp})) limit) (get-empty address_cmp peer)
+    ∙ ap (λ n. nat_lt n limit) (len-empty address_cmp Stamps) ∙ lt-ltb 0 limit some
+
+pub is_new : (channel : Channel) (stamp : Stamp) (peer : Ipv4Addr) → told_by channel stamp (stamps_of empty peer) ≡ Same
+is_new channel stamp peer = ap (λ v. told_by channel stamp (stamps_or_none v)) (get-empty address_cmp peer) ∙ none_on channel
+  where
+    none_on : (channel : Channel) → told_by channel stamp no_stamps ≡ Same
+    none_on Multicast = refl
+    none_on Unicast = refl
+
 -- ---- the messages of some entries
 
 -- no entries need no message, and one needs one
@@ -128,9 +148,22 @@ sent_to_peer w peer entries =
       replies = w.replies ++ [];
     }) (stamp-next w.state.items peer)
 
--- one reply goes out in one message, and none in none
-pub one_reply : (w : Work History) (peer : Ipv4Addr) (e : EntryValue) → run historic (messages_plan_to (Peer peer) (e ∷ [])) w ≡ run historic (act (RepliesTo peer (e ∷ []))) w
-one_reply w peer e = ap (λ messages. run historic (each (message_plan_to (Peer peer)) messages) w) (one_front e)
+-- one reply goes out in one message, in its bytes, and none in none
+pub reply_goes : (w : Work History) (peer : Ipv4Addr) (e : EntryValue) (bytes : List ℕ)
+    → spelling (discovery_message (after_uses (messages_to w.state.items peer)) (e ∷ [])) ≡ bytes
+    → run historic (messages_plan_to (Peer peer) (e ∷ [])) w
+    ≡ record {
+      state = met w.state (PeerAddressed peer);
+      outputs = w.outputs ++ Sent (discovery_endpoint w.state.config) (record { ip = peer; port = 30490 }) bytes ∷ [];
+      replies = w.replies ++ [];
+    }
+reply_goes w peer e bytes written =
+    ap (λ messages. run historic (each (message_plan_to (Peer peer)) messages) w) (one_front e) ∙ sent_to_peer w peer (e ∷ [])
+    ∙ ap (λ b. record {
+      state = met w.state (PeerAddressed peer);
+      outputs = w.outputs ++ Sent (discovery_endpoint w.state.config) (record { ip = peer; port = 30490 }) b ∷ [];
+      replies = w.replies ++ [];
+    }) written
 
 pub no_reply : (w : Work History) (peer : Ipv4Addr) → run historic (messages_plan_to (Peer peer) []) w ≡ w
 no_reply w peer = ap (λ messages. run historic (each (message_plan_to (Peer peer)) messages) w) no_front
@@ -184,3 +217,10 @@ pub call_refused : (h : History) (instance : InstanceId) (method : ℕ) (payload
     → step h (CallInput Request instance method payload) ≡ Err (Rpc NotOffered)
 call_refused h instance method payload none =
     ap (λ k. unless_refused (as_node_error (call_refusal (client_rules h.config) Request (length payload) k (waiting_calls (answers_of h)))) (act (Calls Request instance method payload)) h) none
+
+-- ---- one step after another
+
+-- a step from the history that the steps before lead to
+pub joins : (start h : History) (inputs : List Input) (input : Input) (outputs : List Output) (items : List Item) → after_inputs start inputs ≡ h
+    → step h input ≡ Ok (record { state = record h { items = items }; outputs = outputs; replies = [] }) → after_inputs start (input ∷ inputs) ≡ record h { items = items }
+joins start h inputs input outputs items before does = ap (λ x. stepped x (step x input)) before ∙ ap (stepped h) does
