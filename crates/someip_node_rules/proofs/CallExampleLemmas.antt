@@ -1,20 +1,14 @@
--- What a node gives for an answer, and for its absence, by computation.
-use Rattle.std.proofs.Common.{◌≡◌, ℕ, Bool, true, false, if◌then◌else◌, List, [], ◌∷◌, ◌++◌, map, Option, None, Some, Result, Ok, refl, ap, sym, ◌∙◌}
+-- What a node gives for a call, for its answer, and for the absence of one, by computation.
+use Rattle.std.proofs.Common.{◌≡◌, ℕ, false, if◌then◌else◌, List, [], ◌∷◌, ◌++◌, map, Option, None, Some, Result, Ok, Err, not, arith, refl, ap, ◌∙◌}
 use Rattle.std.specs.List.{flat_map}
-use Rattle.std.specs.List.Sorted.{IsStrictlySortedBy}
-use Rattle.std.specs.declared.cmp.Ordering.{Ordering}
-use Rattle.std.specs.Cmp.{IsTotalOrder}
-use Rattle.std.specs.FinMap.{IsAntisymmetric, from_entries, get, keys}
+use Rattle.std.specs.FinMap.{from_entries, get, keys}
 use Rattle.someip_wire.specs.Reading.{header_in, items_within}
 use Rattle.someip_tables.specs.declared.deadline.Deadline.TheVariants.{At}
 use Rattle.someip_tables.specs.declared.lasting.Lasting.{Lasting}
 use Rattle.someip_tables.specs.Deadlines.{has_passed}
 use Rattle.someip_tables.specs.Lastings.{expired, unless_passed}
-use Rattle.someip_tables.specs.Retained.{retain}
-use Rattle.someip_tables.proofs.Entries.{from_entries-filter}
 use Rattle.someip_tables.proofs.Expiry.{get-unexpired}
 use Rattle.someip_tables.proofs.MapLaws.{retain-empty}
-use Rattle.someip_tables.proofs.Trees.{entries-map_of}
 use Rattle.sd_wire.specs.Fronts.{front_lengths}
 use Rattle.sd_wire.specs.Values.{EntryValue}
 use Rattle.sd_core.specs.declared.eventgroup.Eventgroup.{Eventgroup}
@@ -37,12 +31,12 @@ use Rattle.someip_rpc.specs.IdOrder.{calls_total, exact_calls}
 use Rattle.someip_node_rules.specs.declared.config.Config.{Config}
 use Rattle.someip_node_rules.specs.declared.error.NodeError.{NodeError}
 use Rattle.someip_node_rules.specs.declared.output.Output.{Output}
-use Rattle.someip_node_rules.specs.declared.output.Output.TheVariants.{Answered, TimedOut}
+use Rattle.someip_node_rules.specs.declared.output.Output.TheVariants.{Answered, Called, Sent, TimedOut}
 use Rattle.someip_node_rules.specs.declared.receiver.Receiver.TheVariants.{Group}
 use Rattle.someip_node_rules.specs.Calls.{due_entries, find_of}
-use Rattle.someip_node_rules.specs.CallExamples.{IsClient, calling, message}
-use Rattle.someip_node_rules.specs.History.{answers_of, historic, met}
-use Rattle.someip_node_rules.specs.Inputs.{Datagram, Tick}
+use Rattle.someip_node_rules.specs.CallExamples.{IsClient, calling, knowing, message, offer}
+use Rattle.someip_node_rules.specs.History.{answers_of, historic, met, start_of}
+use Rattle.someip_node_rules.specs.Inputs.{Call, Datagram, Tick}
 use Rattle.someip_node_rules.specs.Items.{Ticked}
 use Rattle.someip_node_rules.specs.Messages.{answer_by}
 use Rattle.someip_node_rules.specs.Outcomes.{endings}
@@ -51,26 +45,22 @@ use Rattle.someip_node_rules.specs.Plans.{run}
 use Rattle.someip_node_rules.specs.Receivers.{messages_plan_to}
 use Rattle.someip_node_rules.specs.Setups.{wanted_instances}
 use Rattle.someip_node_rules.specs.Subscribing.{offer_of}
-use Rattle.someip_node_rules.specs.Tables.{Tables, passed_instances, waiting_calls}
-use Rattle.someip_node_rules.specs.WorkedExamples.{client, gives, instance, refusing, server}
+use Rattle.someip_node_rules.specs.Tables.{Tables, known_endpoint, passed_instances, waiting_calls}
+use Rattle.someip_node_rules.specs.WorkedExamples.{asking, client, given_in, gives, instance, refusing, server}
+use Rattle.std.specs.Option.{option_map}
+use Rattle.std.specs.FinMap.{empty, get-empty, get-from_entries}
+use Rattle.std.proofs.lemmas.Bool.{le-ltb}
+use Rattle.sd_core.specs.SeekTables.{known_at}
+use Rattle.someip_rpc.specs.declared.call.CallKind.TheVariants.{Request}
+use Rattle.someip_rpc.specs.declared.error.RpcError.TheVariants.{NotOffered}
+use Rattle.someip_rpc.specs.Ids.{message_cmp}
+use Rattle.someip_node_rules.specs.declared.error.NodeError.TheVariants.{Rpc}
+use Rattle.someip_node_rules.specs.Advances.{stepped}
+use Rattle.someip_node_rules.specs.SeekQuestions.{offer_from}
+use Rattle.someip_node_rules.specs.Steps.{step}
+use Rattle.someip_node_rules.proofs.StepLemmas.{call_refused, first_call}
 use Rattle.someip_node_rules.proofs.NamedLemmas.{get-pending}
-
--- ---- the keys of one entry that pass a test
-
-module _ {K X : Type 0} {R : K → K → Ordering} (o : IsTotalOrder R) (exact : IsAntisymmetric R) (p : K → X → Bool) (k : K) (x : X) where
-  one_key : keys (from_entries {R = R} ((k, x) ∷ [])) ≡ k ∷ []
-  unfolding IsStrictlySortedBy
-  one_key = ap (map (λ (e : K × X). e.0)) (entries-map_of o exact ((k, x) ∷ []) (tt, tt))
-
-  kept_is : (b : Bool) → p k x ≡ b → retain (from_entries {R = R} ((k, x) ∷ [])) p ≡ from_entries (if b then (k, x) ∷ [] else [])
-  kept_is b is =
-      sym (from_entries-filter o exact (λ e. p e.0 e.1) ((k, x) ∷ []) refl) ∙ ap (λ b. from_entries {R = R} (if b then (k, x) ∷ [] else [])) is
-
-  pub key_kept : p k x ≡ true → keys (retain (from_entries {R = R} ((k, x) ∷ [])) p) ≡ k ∷ []
-  key_kept is = ap (λ m. keys m) (kept_is true is) ∙ one_key
-
-  pub key_dropped : p k x ≡ false → keys (retain (from_entries {R = R} ((k, x) ∷ [])) p) ≡ []
-  key_dropped is = ap (λ m. keys m) (kept_is false is) ∙ keys-empty X R
+use Rattle.someip_node_rules.proofs.OneEntryLemmas.{key_dropped, key_kept}
 
 module _ (config : Config) (is : IsClient config) where
   abbrev t : Tables
@@ -78,6 +68,35 @@ module _ (config : Config) (is : IsClient config) where
 
   abbrev key : CallKey
   key = record { message = message; session = 1 }
+
+  -- ---- the call
+
+  known : known_endpoint (answers_of (knowing config)) instance ≡ Some server
+  known =
+      ap (λ k. option_map (λ k. k.endpoint) (known_at 0 k)) (get-from_entries instances_total ((instance, offer_from offer server 0) ∷ []) instance)
+
+  none_waits : waiting_calls (answers_of (knowing config)) ≡ empty
+  none_waits = retain-empty calls_total exact_calls (λ _ lasting. not (has_passed 0 lasting.until))
+
+  pub called_first : step (knowing config) (Call Request instance 0x0423 [])
+      ≡ Ok (record { state = calling config; outputs = Called message 1 ∷ Sent client server (asking 0x23 0x00) ∷ []; replies = [] })
+  called_first =
+      first_call (knowing config) instance 0x0423 [] server known none_waits (get-empty message_cmp message) (le-ltb config.common.message_limit 0 (omega arith))
+      ∙ rw (is.wants, is.major, is.address, is.client_port, is.client_id) refl
+
+  pub call_is_sent : gives (knowing config) (Call Request instance 0x0423 []) ≡ Ok (Called message 1 ∷ Sent client server (asking 0x23 0x00) ∷ [])
+  call_is_sent = ap given_in called_first
+
+  pub call_is_met : stepped (knowing config) (step (knowing config) (Call Request instance 0x0423 [])) ≡ calling config
+  call_is_met = ap (stepped (knowing config)) called_first
+
+  pub call_of_unknown : gives (start_of config 10) (Call Request instance 0x0423 []) ≡ Err (Rpc NotOffered)
+  call_of_unknown = ap given_in (call_refused (start_of config 10) instance 0x0423 [] (ap (λ k. option_map (λ k. k.endpoint) (known_at 0 k)) (get-empty instance_cmp instance)))
+
+  pub call_of_passed : gives (met (knowing config) (Ticked 3000)) (Call Request instance 0x0423 []) ≡ Err (Rpc NotOffered)
+  call_of_passed =
+      ap given_in (call_refused (met (knowing config) (Ticked 3000)) instance 0x0423 []
+      (ap (λ k. option_map (λ k. k.endpoint) (known_at 3000 k)) (get-empty instance_cmp instance)))
 
   -- ---- an answer
 

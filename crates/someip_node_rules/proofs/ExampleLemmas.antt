@@ -1,11 +1,11 @@
 -- What a node gives for a datagram, by computation.
-use Rattle.std.proofs.Common.{◌≡◌, ℕ, [], ◌∷◌, None, Ok, refl, ap, sym, ◌∙◌}
+use Rattle.std.proofs.Common.{◌≡◌, ◌<◌, ◌++◌, ℕ, [], ◌∷◌, None, Ok, refl, ap, ◌∙◌}
 use Rattle.std.specs.Cmp.{nat_cmp_total}
 use Rattle.std.specs.FinMap.{get-from_entries, len-empty}
 use Rattle.std.specs.Ordering.{nat_cmp}
 use Rattle.someip_wire.specs.Reading.{items_within}
 use Rattle.someip_rpc.specs.declared.request.RequestFault.TheVariants.{NotReady, UnknownMethod}
-use Rattle.someip_node_rules.specs.History.{start_of}
+use Rattle.someip_node_rules.specs.History.{met, start_of}
 use Rattle.someip_node_rules.specs.declared.config.Config.{Config}
 use Rattle.someip_node_rules.specs.declared.drops.DropReason.TheVariants as drop_reason
 use Rattle.someip_node_rules.specs.declared.output.Output.TheVariants.{Dropped, Request, Sent}
@@ -58,6 +58,21 @@ use Rattle.someip_node_rules.specs.Setups.{has_eventgroup}
 use Rattle.someip_node_rules.specs.Subscribing.{nacked_for, rules_by, subscribe_by, subscribe_in}
 use Rattle.someip_node_rules.specs.Tables.{live_subscribers, waiting_calls}
 use Rattle.someip_node_rules.specs.WorkedExamples.{bad_subscribe, nack, nack_payload, subscribe_head, subscribe_payload}
+use Rattle.someip_wire.specs.Spelling.{spelling}
+use Rattle.sd_wire.specs.Values.{bad_run}
+use Rattle.sd_wire.specs.declared.entry.EntryHead.TheVariants.{Eventgroup}
+use Rattle.sd_wire.specs.declared.entry.EventgroupEntry.{EventgroupEntry}
+use Rattle.sd_session.specs.declared.stamp.Channel.TheVariants.{Unicast}
+use Rattle.sd_session.specs.declared.stamp.Stamp.{Stamp}
+use Rattle.sd_session.specs.Sessions.{after_uses}
+use Rattle.sd_core.specs.declared.error.Cause.{Cause}
+use Rattle.someip_node_rules.specs.Entries.{discovery_message}
+use Rattle.someip_node_rules.specs.Handling.{heard_plan, target_plan}
+use Rattle.someip_node_rules.specs.Items.{PeerHeard}
+use Rattle.someip_node_rules.specs.Plans.{both, rest}
+use Rattle.someip_node_rules.specs.declared.target.Target.TheVariants as target
+use Rattle.someip_node_rules.specs.WorkedExamples.{discovery_at, discovery_head, given_in, nack_given, server_address, bad_subscribed}
+use Rattle.someip_node_rules.proofs.StepLemmas.{has_room, is_new, one_entry, reply_goes, work_after}
 
 module _ (config : Config) (is : IsServer config) where
   -- the tables of the node at its start
@@ -146,6 +161,58 @@ module _ (config : Config) (is : IsServer config) (peer : Ipv4Addr) where
 
   pub no_eventgroup : has_eventgroup (service is.events) 1 ≡ false → rule (TakesSubscribe peer subscribe_head None) (answers_of (start_of config 10)) ≡ nacked_for subscribe_head UnknownEventgroup
   no_eventgroup hasnt = nacked ∙ ap (nacked_by true) hasnt
+
+-- ---- it is answered in one step
+
+module _ (config : Config) (is : IsServer config) (holds : 0 < config.common.peers) where
+  abbrev h : History
+  h = start_of config 10
+
+  abbrev head : EventgroupEntry
+  head = subscribe_head
+
+  abbrev stamp : Stamp
+  stamp = record { session = 1; reboot = true }
+
+  abbrev once_heard : History
+  once_heard = met h (PeerHeard client.ip Unicast stamp)
+
+  read_bad : target_plan (target.Discovery Unicast) (discovery_at client.ip) (discovery_at server_address) (discovery_head 0x30 ++ subscribe_payload)
+      ≡ both (heard_plan client.ip Unicast 1 bad_subscribe) rest
+  unfolding items_within options_within
+  read_bad = refl
+
+  still_up : is_up (answers_of once_heard) instance ≡ true
+  still_up = up_is once_heard instance ∙ rw is.offers refl
+
+  abbrev refused_by : Bool → Bool → Outcome
+  refused_by up has =
+      subscribe_by head (subscribe_in client.ip head None)
+      (nack_cause (record { is_offered = up; is_same_major = true; is_known_eventgroup = has; limit = 16 }) (subscribe_in client.ip head None) (live_subscribers (answers_of once_heard)))
+
+  refused : (b : Bool) → has_eventgroup (service is.events) 1 ≡ b → rule (TakesSubscribe client.ip head None) (answers_of once_heard) ≡ refused_by true b
+  refused b has =
+      ap (λ service. subscribe_by head (subscribe_in client.ip head None) (nack_cause (rules_by head (is_up (answers_of once_heard) instance) service) (subscribe_in client.ip head None) (live_subscribers (answers_of once_heard))))
+      (ap (λ (es : List (InstanceId × OfferedService)). lookup (is_at (instance_cmp instance)) es) is.offers)
+      ∙ ap (λ up. refused_by up (has_eventgroup (service is.events) 1)) still_up ∙ ap (refused_by true) has
+
+  nack_bytes : spelling (discovery_message (after_uses 0) (nack ∷ [])) ≡ discovery_head 0x24 ++ nack_payload
+  unfolding message_bytes
+  nack_bytes = refl
+
+  -- the Nack goes out
+  nack_goes : (cause : Cause) → rule (TakesSubscribe client.ip head None) (answers_of once_heard) ≡ nacked_for head cause → bad_subscribed config ≡ nack_given cause
+  nack_goes cause said =
+      ap given_in (one_entry h (discovery_at client.ip) (discovery_at server_address) (discovery_head 0x30 ++ subscribe_payload) (target.Discovery Unicast) (rw is.address refl) (rw is.address refl)
+      Unicast 1 (record { reboot = true; unicast = true }) (bad_run (Eventgroup head)) (TakesSubscribe client.ip head None) (nacked_for head cause) read_bad (has_room config.common.peers client.ip holds) (is_new Unicast stamp client.ip) refl said)
+      ∙ ap (λ w. Ok w.outputs) (reply_goes (record (work_after once_heard (nacked_for head cause)) { replies = [] }) client.ip nack (discovery_head 0x24 ++ nack_payload) nack_bytes)
+      ∙ rw is.address refl
+
+  pub nack_answers : has_eventgroup (service is.events) 1 ≡ true → bad_subscribed config ≡ nack_given NoEndpoint
+  nack_answers has = nack_goes NoEndpoint (refused true has)
+
+  pub nack_answers_other : has_eventgroup (service is.events) 1 ≡ false → bad_subscribed config ≡ nack_given UnknownEventgroup
+  nack_answers_other has = nack_goes UnknownEventgroup (refused false has)
 
 -- ---- an answer that comes late
 

@@ -28,7 +28,13 @@ pub mod HandUpLemmas
 pub mod PublishedLemmas
 pub mod LimitExampleLemmas
 pub mod SubscriberLimitLemmas
+pub mod OneEntryLemmas
+pub mod StepLemmas
 pub mod CallExampleLemmas
+pub mod ServerRun
+pub mod ServerEvents
+pub mod ClientRun
+pub mod ClientEvents
 pub mod RuleReplies
 pub mod FitItems
 pub mod FitEntries

@@ -43,4 +43,5 @@ pub mod Advances
 pub mod SubscriberLimits
 pub mod LimitExamples
 pub mod CallExamples
+pub mod WorkedRun
 pub mod Fitting

@@ -1,5 +1,5 @@
 -- A node that offers an instance, and messages that come to it, as examples.
-use Rattle.std.specs.Prelude.{◌≡◌, ℕ, true, List, [], ◌∷◌, Result, Ok, Err}
+use Rattle.std.specs.Prelude.{◌≡◌, ◌++◌, ℕ, true, List, [], ◌∷◌, Result, Ok, Err}
 use Rattle.std.specs.BTreeMap.{BTreeMap}
 use Rattle.std.specs.BTreeSet.{BTreeSet}
 use Rattle.std.specs.declared.net.ipv4_addr.Ipv4Addr.{Ipv4Addr}
@@ -9,11 +9,13 @@ use Rattle.sd_wire.specs.declared.entry.EventgroupEntry.{EventgroupEntry}
 use Rattle.sd_wire.specs.declared.entry.EventgroupKind.TheVariants.{Subscribe}
 use Rattle.sd_wire.specs.Values.{EntryValue, SdValue, bad_run}
 use Rattle.someip_node_rules.specs.Entries.{ack_entry}
+use Rattle.sd_core.specs.declared.error.Cause.{Cause}
 use Rattle.sd_core.specs.declared.keys.InstanceId.{InstanceId}
 use Rattle.someip_node_rules.specs.declared.config.Config.{Config}
 use Rattle.someip_node_rules.specs.declared.config.OfferedService.{OfferedService}
 use Rattle.someip_node_rules.specs.declared.error.NodeError.{NodeError}
 use Rattle.someip_node_rules.specs.declared.output.Output.{Output}
+use Rattle.someip_node_rules.specs.declared.output.Output.TheVariants.{Nacked, Sent}
 use Rattle.someip_node_rules.specs.History.{History, start_of}
 use Rattle.someip_node_rules.specs.Inputs.{Input, Datagram}
 use Rattle.someip_node_rules.specs.Plans.{Work}
@@ -43,6 +45,10 @@ client = record { ip = record { octets = 192 ∷ 168 ∷ 0 ∷ 2 ∷ [] }; port 
 
 abbrev pub instance : InstanceId
 instance = record { service = 0x1111; instance = 1 }
+
+-- Service Discovery of a node
+abbrev pub discovery_at : Ipv4Addr → SocketAddrV4
+discovery_at address = record { ip = address; port = 30490 }
 
 -- the instance has the method 0421 and the oneway 0422
 abbrev pub service : BTreeMap ℕ (BTreeSet ℕ) → OfferedService
@@ -106,3 +112,17 @@ bad_subscribe = record { flags = record { reboot = true; unicast = true }; entri
 abbrev pub nack_payload : List ℕ
 nack_payload =
     0xc0 ∷ 0 ∷ 0 ∷ 0 ∷ 0 ∷ 0 ∷ 0 ∷ 16 ∷ 7 ∷ 0 ∷ 0 ∷ 0 ∷ 0x11 ∷ 0x11 ∷ 0 ∷ 1 ∷ 1 ∷ 0 ∷ 0 ∷ 0 ∷ 0 ∷ 0 ∷ 0 ∷ 1 ∷ 0 ∷ 0 ∷ 0 ∷ 0 ∷ []
+
+-- the header of a message of Service Discovery with a Length below 256, and the first session
+abbrev pub discovery_head : ℕ → List ℕ
+discovery_head length = 0xff ∷ 0xff ∷ 0x81 ∷ 0 ∷ 0 ∷ 0 ∷ 0 ∷ length ∷ 0 ∷ 0 ∷ 0 ∷ 1 ∷ 1 ∷ 1 ∷ 2 ∷ 0 ∷ []
+
+-- what a node gives for the message with that Subscribe, after its start
+abbrev pub bad_subscribed : Config → Result (List Output) NodeError
+bad_subscribed config =
+    gives (start_of config 10) (Datagram (discovery_at client.ip) (discovery_at server_address) (discovery_head 0x30 ++ subscribe_payload))
+
+-- it gives this: the Nack goes out, and its cause is told
+abbrev pub nack_given : Cause → Result (List Output) NodeError
+nack_given cause =
+    Ok (Nacked (record { instance = instance; id = 1 }) cause ∷ Sent (discovery_at server_address) (discovery_at client.ip) (discovery_head 0x24 ++ nack_payload) ∷ [])

@@ -1,6 +1,6 @@
 //! The definitions by example: what a node gives for a datagram, computed from them. Each is the
 //! contract of a function that does nothing.
-ghost use Rattle.std.specs.Prelude.{◌≡◌, ℕ, true, false, IsFalse, List, [], ◌∷◌, None, Ok, Some};
+ghost use Rattle.std.specs.Prelude.{◌≡◌, ◌<◌, ℕ, true, false, IsFalse, List, [], ◌∷◌, None, Ok, Some};
 ghost use Rattle.someip_rpc.specs.declared.request.RequestFault.TheVariants.{UnknownMethod};
 ghost use Rattle.std.specs.declared.net.ipv4_addr.Ipv4Addr.{Ipv4Addr};
 ghost use Rattle.std.specs.declared.net.socket_addr.SocketAddrV4.{SocketAddrV4};
@@ -25,7 +25,7 @@ ghost use Rattle.someip_node_rules.specs.declared.drops.DropReason.TheVariants.{
 ghost use Rattle.someip_node_rules.specs.declared.config.Config.{Config};
 ghost use Rattle.someip_node_rules.specs.declared.drops.DropReason.TheVariants as drop_reason;
 ghost use Rattle.someip_node_rules.specs.declared.output.Output.TheVariants.{Dropped, Request, Sent};
-ghost use Rattle.someip_node_rules.specs.WorkedExamples.{IsServer, bad_subscribe, client, instance, nack, nack_payload, refusing, served, server, service, subscribe_head, subscribe_payload};
+ghost use Rattle.someip_node_rules.specs.WorkedExamples.{IsServer, bad_subscribe, client, instance, nack, nack_payload, nack_given, refusing, served, server, service, subscribe_head, subscribe_payload, bad_subscribed};
 
 /// A REQUEST for a method that the instance does not have is answered by an ERROR with the code 03, and
 /// a REQUEST_NO_RETURN is dropped. A REQUEST for its method 0421 is handed up with the first token, and a
@@ -46,8 +46,9 @@ pub fn methods_by_example()
 
 /// A Subscribe whose run passes the options is answered by a Nack, as one without options, and any other
 /// entry with such a run is dropped: the message is read, its entry is taken, refused for want of an
-/// endpoint and answered, and that answer is written (SOME/IP Service Discovery Protocol, "Subscribe
-/// Eventgroup Negative Acknowledgement").
+/// endpoint and answered, and that answer is written. In one step, the datagram with it is given the
+/// datagram with its Nack, of a node that may tell peers apart (SOME/IP Service Discovery Protocol,
+/// "Subscribe Eventgroup Negative Acknowledgement").
 pub fn bad_runs_by_example()
     ensures read { reading subscribe_payload ≡ Ok bad_subscribe }
     ensures taken { (peer : Ipv4Addr) → entry_plan peer (bad_run (Eventgroup subscribe_head))
@@ -61,6 +62,12 @@ pub fn bad_runs_by_example()
         → rule (TakesSubscribe peer subscribe_head None) (answers_of (start_of config 10))
         ≡ nacked_for subscribe_head UnknownEventgroup }
     ensures written { discovery_payload true (nack ∷ []) ≡ nack_payload }
+    ensures answered { (config : Config) (is : IsServer config)
+        → has_eventgroup (service is.events) 1 ≡ true → 0 < config.common.peers
+        → bad_subscribed config ≡ nack_given NoEndpoint }
+    ensures other_answered { (config : Config) (is : IsServer config)
+        → has_eventgroup (service is.events) 1 ≡ false → 0 < config.common.peers
+        → bad_subscribed config ≡ nack_given UnknownEventgroup }
     ensures other_entry { (peer : Ipv4Addr) (head : ServiceEntry)
         → entry_plan peer (bad_run (Service head)) ≡ act (Drops BadRun) }
 {}

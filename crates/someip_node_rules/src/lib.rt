@@ -4,7 +4,8 @@
 //! - [`Output`], with [`Payload`] and [`DropReason`]: what a node gives; [`NodeError`]: why it refuses;
 //! - [`Target`], [`Receiver`]: what is reached at its endpoints, and who it sends to;
 //! - [`laws`], [`given_laws`], [`limit_laws`], [`subscriber_laws`], [`fit_laws`]: what the definitions
-//!   promise, whatever code carries them out; [`example_laws`], [`call_example_laws`]: worked steps.
+//!   promise, whatever code carries them out; [`example_laws`], [`call_example_laws`], [`run_example_laws`]:
+//!   worked steps.
 //!
 //! The definitions stand in `specs/`: what a node met, what it answers of that, and what it does next.
 #![tactic(auto)]
@@ -22,6 +23,7 @@ mod output;
 mod output_text;
 mod payload;
 mod receiver;
+pub mod run_example_laws;
 pub mod subscriber_laws;
 mod target;
 

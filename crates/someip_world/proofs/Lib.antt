@@ -9,3 +9,4 @@ pub mod OfferLemmas
 pub mod FitRunLemmas
 pub mod ConfiguredLemmas
 pub mod NumberLemmas
+pub mod WorkedTraceLemmas

@@ -9,3 +9,4 @@ pub mod Origins
 pub mod KnownOffers
 pub mod RunExamples
 pub mod Announced
+pub mod WorkedTrace

@@ -4,10 +4,12 @@
 //! - [`Setup::read`]: the setup of a network, read from TOML;
 //! - [`read_schedule`]: the steps of a schedule;
 //! - [`run`]: the trace of a schedule over the nodes of a setup, as [`Line`]s;
-//! - [`run_laws`]: what holds of every run, whatever its setup and schedule.
+//! - [`run_laws`]: what holds of every run, whatever its setup and schedule;
+//! - [`example_laws`]: a worked run.
 #![tactic(auto)]
 
 mod error;
+pub mod example_laws;
 mod line;
 mod log;
 pub mod numbers;
