@@ -27,13 +27,13 @@ use thiserror::Error;
 pub enum VectorsError {
     /// The line of this number, counted from 1, is the first that is no line of a file of vectors.
     /// Nothing was written.
-    #[error("line {0}: bad vector")]
+    #[error("line {}: {}", .0, LineFault::Bad)]
     BadVector(usize),
     /// The file could not be read. Nothing was written.
-    #[error("cannot read")]
+    #[error("{}", ReadFault::CannotRead)]
     CannotRead,
     /// Writing failed, or took nothing. A beginning of the text was written.
-    #[error("cannot write")]
+    #[error("{}", someipctl_print::CannotWrite)]
     CannotWrite,
     /// Memory ran out. Nothing was written.
     #[error("out of memory")]
