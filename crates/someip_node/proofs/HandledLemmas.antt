@@ -11,7 +11,7 @@ use Rattle.someip_node_rules.specs.declared.error.NodeError.TheVariants.{ClockPa
 use Rattle.someip_node_engine.specs.declared.giving.Giving.{Giving}
 use Rattle.someip_node_rules.specs.declared.output.Output.{Output}
 use Rattle.someip_node_rules.specs.Calls.{as_node_error}
-use Rattle.someip_node.specs.Finishings.{given_by, is_fatal}
+use Rattle.someip_node.specs.Finishings.{given_or_error, is_fatal}
 use Rattle.someip_node_engine.specs.Handled.{Handled, or_no_memory}
 use Rattle.someip_node_rules.specs.History.{History, answers_of, historic, shown}
 use Rattle.someip_node_rules.specs.Inputs.{Input, Answer, Call, Datagram, Publish, PublishTo, StopOffer, Subscribe, Tick, Unsubscribe, plan_of, refusal_of}
@@ -92,7 +92,7 @@ module _ (h : History) (input : Input) (old : Tables) (is : old ≡ answers_of h
 
   pub handled_given : (done : Result (Unit {0}) NodeError) (before after : Giving) (new : Tables) (result : Result (Vec Output) NodeError) (failed : Bool)
       → before.outputs.items ≡ [] → before.replies.items ≡ [] → Handled input old before done new after → failed ≡ is_fatal done
-      → result ≡ given_by done after → Gives h (step h input) result (seen failed new)
+      → result ≡ given_or_error done after → Gives h (step h input) result (seen failed new)
   handled_given (Ok _) before after new result failed no_outputs no_replies handled fails gives =
       rw (gives, fails) (done_given h input old is new before after handled.0 no_outputs no_replies handled.1)
   handled_given (Err error) before after new result failed no_outputs no_replies handled fails gives =

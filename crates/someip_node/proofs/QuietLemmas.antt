@@ -33,7 +33,7 @@ use Rattle.someip_node_rules.specs.declared.output.Output.{Output}
 use Rattle.someip_node_rules.specs.declared.error.NodeError.{NodeError}
 use Rattle.someip_node_rules.specs.declared.error.NodeError.TheVariants.{ClockPast, OutOfMemory}
 use Rattle.someip_node_engine.specs.declared.giving.Giving.{Giving}
-use Rattle.someip_node.specs.Finishings.{given_by}
+use Rattle.someip_node.specs.Finishings.{given_or_error}
 use Rattle.someip_node_rules.specs.declared.receiver.Receiver.TheVariants.{Group}
 use Rattle.someip_node_rules.specs.History.{History, answers_of, historic}
 use Rattle.someip_node_rules.specs.Inputs.{Tick, tick_plan}
@@ -248,6 +248,6 @@ quiet_step h ms done knows is none = cases (nat_lt 0x7FFF_FFFF_FFFF_FFFF ((answe
         quiet h ((answers_of h).clock + ms) knows (sym (told_written _) ∙ sent.0) sent.1
 
 -- memory ran out, so what that says holds
-pub ran_out : {P : Type 0} (done : Result (Unit {0}) NodeError) (after : Giving) → IfErr done (λ error. error ≡ OutOfMemory → P) → given_by done after ≡ Err OutOfMemory → P
+pub ran_out : {P : Type 0} (done : Result (Unit {0}) NodeError) (after : Giving) → IfErr done (λ error. error ≡ OutOfMemory → P) → given_or_error done after ≡ Err OutOfMemory → P
 ran_out (Ok _) after why is = absurd (cc)
 ran_out (Err error) after why is = why (cc)

@@ -12,6 +12,6 @@ is_fatal (Err OutOfMemory) = true
 is_fatal _ = false
 
 -- what is given, unless there was an error
-abbrev pub given_by : Result (Unit {0}) NodeError → Giving → Result (Vec Output) NodeError
-given_by (Ok _) giving = Ok giving.outputs
-given_by (Err error) giving = Err error
+abbrev pub given_or_error : Result (Unit {0}) NodeError → Giving → Result (Vec Output) NodeError
+given_or_error (Ok _) giving = Ok giving.outputs
+given_or_error (Err error) giving = Err error

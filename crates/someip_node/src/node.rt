@@ -1,6 +1,6 @@
 //! A node: its tables, unless memory ran out.
 ghost use Rattle.std.specs.Prelude.{◌≡◌, OnOk, OnErr, IfOk, IfErr, Err, true, false};
-ghost use Rattle.someip_node.specs.Finishings.{given_by, is_fatal};
+ghost use Rattle.someip_node.specs.Finishings.{given_or_error, is_fatal};
 ghost use Rattle.someip_node_rules.specs.GoodConfigs.{is_good, is_good_delay};
 ghost use Rattle.someip_node_rules.specs.History.{History, answers_of, start_of};
 ghost use Rattle.someip_node_rules.specs.Limits.{HoldsWithinLimits};
@@ -334,7 +334,7 @@ fn finish(
     giving: Giving,
 ) -> Result<Vec<Output>, NodeError>
     ensures failed { failed.new ≡ is_fatal done }
-    ensures given { result ≡ given_by done giving }
+    ensures given { result ≡ given_or_error done giving }
 {
     *failed = is_fatal(&done);
     done?;

@@ -22,9 +22,9 @@ use Rattle.someip_node_rules.specs.Messages.{handed_up}
 use Rattle.someip_node_rules.specs.Outputs.{Given, Sends, Tells}
 
 -- the payload of a message that came
-abbrev pub bytes_in : ReceivedPayload → List ℕ
-bytes_in (Lent bytes) = bytes.now
-bytes_in (Reassembled payload) = payload
+abbrev pub payload_bytes : ReceivedPayload → List ℕ
+payload_bytes (Lent bytes) = bytes.now
+payload_bytes (Reassembled payload) = payload
 
 -- ---- messages
 
@@ -49,14 +49,14 @@ given_of_event header payload None = Dropped NotSubscribed ∷ []
 -- ---- segments
 
 -- the offer of a segment to the store
-abbrev pub offer_of : OfferedSegment → Offer
-offer_of s = offer s.key s.offset s.more s.bytes.now
+abbrev pub segment_offer : OfferedSegment → Offer
+segment_offer s = offer s.key s.offset s.more s.bytes.now
 
 -- the parts once a segment was judged, and the message that it made whole was taken
-abbrev pub taken_by : Result Offered TpError → ReassemblyKey → Parts → Parts
-taken_by (Ok Whole) key parts = parts_less parts key
-taken_by (Ok Part) key parts = parts
-taken_by (Err refusal) key parts = parts
+abbrev pub parts_once_taken : Result Offered TpError → ReassemblyKey → Parts → Parts
+parts_once_taken (Ok Whole) key parts = parts_less parts key
+parts_once_taken (Ok Part) key parts = parts
+parts_once_taken (Err refusal) key parts = parts
 
 -- a segment that is refused is told
 abbrev pub refused_as : Result Offered TpError → List Output

@@ -3,7 +3,7 @@ ghost use Rattle.std.specs.Prelude.{◌≡◌, ◌++◌, false, OnOk};
 ghost use Rattle.std.specs.Option.{option_map_or};
 ghost use Rattle.std.specs.Ordering.{eq_by_cmp};
 ghost use Rattle.someip_tables.specs.Endpoints.{endpoint_cmp};
-ghost use Rattle.someip_node_engine.specs.Arrivals.{bytes_in, given_of_answer, given_of_event};
+ghost use Rattle.someip_node_engine.specs.Arrivals.{payload_bytes, given_of_answer, given_of_event};
 ghost use Rattle.someip_node_rules.specs.Messages.{is_subscribed_by, publisher, publishes, takes_event};
 ghost use Rattle.someip_node_rules.specs.Plans.{act, plain, run, TakesAnswer, TakesEvent};
 ghost use Rattle.someip_node_rules.specs.Tables.{known_endpoint};
@@ -33,7 +33,7 @@ impl<R: Reassembly> Engine<R> {
         giving: &mut Giving,
     ) -> Result<(), AllocError>
         ensures { OnOk result (working self.new giving.new
-            ≡ run plain (act (TakesAnswer from header.now (bytes_in payload.entry)))
+            ≡ run plain (act (TakesAnswer from header.now (payload_bytes payload.entry)))
             (working self.old giving.old)) }
     {
         let rules = client_rules(&self.config);
@@ -50,7 +50,7 @@ impl<R: Reassembly> Engine<R> {
         giving: &mut Giving,
     ) -> Result<(), AllocError>
         ensures { OnOk result (working self.new giving.new
-            ≡ run plain (act (TakesEvent from header.now (bytes_in payload.entry)))
+            ≡ run plain (act (TakesEvent from header.now (payload_bytes payload.entry)))
             (working self.old giving.old)) }
     {
         let publisher = self.publisher(from, header);
@@ -134,7 +134,7 @@ fn give_answer(
     outputs: &mut Vec<Output>,
 ) -> Result<(), AllocError>
     ensures { OnOk result (outputs.new.items
-        ≡ outputs.old.items ++ given_of_answer header.now (bytes_in payload.entry) answered) }
+        ≡ outputs.old.items ++ given_of_answer header.now (payload_bytes payload.entry) answered) }
 {
     let output = match answered {
         Ok(call) => Output::Answered {
@@ -160,7 +160,7 @@ fn give_event(
     outputs: &mut Vec<Output>,
 ) -> Result<(), AllocError>
     ensures { OnOk result (outputs.new.items
-        ≡ outputs.old.items ++ given_of_event header.now (bytes_in payload.entry) publisher) }
+        ≡ outputs.old.items ++ given_of_event header.now (payload_bytes payload.entry) publisher) }
 {
     let output = match publisher {
         Some(instance) => Output::Event {

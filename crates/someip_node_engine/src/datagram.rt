@@ -2,7 +2,7 @@
 ghost use Rattle.std.specs.Prelude.{◌≡◌, OnOk};
 ghost use Rattle.someip_wire.specs.Reading.{items_of};
 ghost use Rattle.someip_wire.specs.View.{view, view_item};
-ghost use Rattle.someip_node_engine.specs.Arrivals.{bytes_in};
+ghost use Rattle.someip_node_engine.specs.Arrivals.{payload_bytes};
 ghost use Rattle.someip_node_rules.specs.Handling.{client_plan, datagram_plan, instance_target};
 ghost use Rattle.someip_node_rules.specs.Handling.{item_plan, items_plan, message_at_plan, message_plan};
 ghost use Rattle.someip_node_rules.specs.Handling.{own_target, target_of, target_plan, whole_plan};
@@ -213,7 +213,7 @@ impl<R: Reassembly> Engine<R> {
         giving: &mut Giving,
     ) -> Result<(), AllocError>
         ensures { OnOk result (working self.new giving.new
-            ≡ run plain (whole_plan target from header.now (bytes_in payload.entry))
+            ≡ run plain (whole_plan target from header.now (payload_bytes payload.entry))
             (working self.old giving.old)) }
     {
         match target {
@@ -232,7 +232,7 @@ impl<R: Reassembly> Engine<R> {
         giving: &mut Giving,
     ) -> Result<(), AllocError>
         ensures { OnOk result (working self.new giving.new
-            ≡ run plain (client_plan from header.now (bytes_in payload.entry) header.now.kind)
+            ≡ run plain (client_plan from header.now (payload_bytes payload.entry) header.now.kind)
             (working self.old giving.old)) }
     {
         match header.kind {

@@ -1,6 +1,6 @@
 //! Payloads that come.
 ghost use Rattle.std.specs.Prelude.{◌≡◌, IfOk};
-ghost use Rattle.someip_node_engine.specs.Arrivals.{bytes_in};
+ghost use Rattle.someip_node_engine.specs.Arrivals.{payload_bytes};
 
 use someip_node_rules::Payload;
 use std::alloc::{AllocError, Global};
@@ -17,7 +17,7 @@ pub(crate) enum ReceivedPayload<'a> {
 impl ReceivedPayload<'_> {
     /// The payload as a node gives it: one that was put together is not copied again.
     pub(crate) fn into_payload(self, alloc: Global) -> Result<Payload, AllocError>
-        ensures { IfOk result (λ payload. payload ≡ bytes_in self.entry) }
+        ensures { IfOk result (λ payload. payload ≡ payload_bytes self.entry) }
     {
         match self {
             ReceivedPayload::Lent(bytes) => Payload::copy(alloc, bytes),

@@ -4,7 +4,7 @@ ghost use Rattle.someip_tp.specs.Keys.{segment_key};
 ghost use Rattle.someip_tp.specs.Offers.{judgement, message_at, parts_after, parts_less};
 ghost use Rattle.someip_tp.specs.Parts.{NoneAfter};
 ghost use Rattle.someip_tp.specs.Words.{segment_in};
-ghost use Rattle.someip_node_engine.specs.Arrivals.{offer_of, refused_as, taken_by};
+ghost use Rattle.someip_node_engine.specs.Arrivals.{segment_offer, refused_as, parts_once_taken};
 ghost use Rattle.someip_node_rules.specs.Handling.{completed_plan, segment_plan};
 ghost use Rattle.someip_node_rules.specs.Messages.{completed, completed_by};
 ghost use Rattle.someip_node_rules.specs.Plans.{act, plain, run, TakesSegment};
@@ -75,9 +75,9 @@ impl<R: Reassembly> Engine<R> {
         giving: &mut Giving,
     ) -> Result<Option<Payload>, AllocError>
         requires { segment.offset % 16 ≡ 0 }
-        ensures whole { IfOk result (λ whole. whole ≡ completed (offer_of segment.entry) self.old) }
+        ensures whole { IfOk result (λ whole. whole ≡ completed (segment_offer segment.entry) self.old) }
         ensures work { OnOk result (working self.new giving.new
-            ≡ run plain (act (TakesSegment (offer_of segment.entry)))
+            ≡ run plain (act (TakesSegment (segment_offer segment.entry)))
             (working self.old giving.old)) }
     {
         offer_to(
@@ -127,15 +127,15 @@ fn offer_to<R: Reassembly>(
     requires aligned { segment.offset % 16 ≡ 0 }
     requires moments { NoneAfter now (R.parts store.old) }
     ensures whole { IfOk result (λ whole. whole ≡ completed_by
-        (judgement (R.limits store.old) now (offer_of segment.entry) (R.parts store.old))
-        (message_at (parts_after (R.limits store.old) now (offer_of segment.entry) (R.parts store.old))
+        (judgement (R.limits store.old) now (segment_offer segment.entry) (R.parts store.old))
+        (message_at (parts_after (R.limits store.old) now (segment_offer segment.entry) (R.parts store.old))
         segment.entry.key)) }
-    ensures parts { OnOk result (R.parts store.new ≡ taken_by
-        (judgement (R.limits store.old) now (offer_of segment.entry) (R.parts store.old))
+    ensures parts { OnOk result (R.parts store.new ≡ parts_once_taken
+        (judgement (R.limits store.old) now (segment_offer segment.entry) (R.parts store.old))
         segment.entry.key
-        (parts_after (R.limits store.old) now (offer_of segment.entry) (R.parts store.old))) }
+        (parts_after (R.limits store.old) now (segment_offer segment.entry) (R.parts store.old))) }
     ensures outputs { OnOk result (outputs.new.items ≡ outputs.old.items ++ refused_as
-        (judgement (R.limits store.old) now (offer_of segment.entry) (R.parts store.old))) }
+        (judgement (R.limits store.old) now (segment_offer segment.entry) (R.parts store.old))) }
     ensures moments { NoneAfter now (R.parts store.new) }
     ensures limits { R.limits store.new ≡ R.limits store.old }
 {
@@ -163,9 +163,9 @@ fn offered<R: Reassembly>(
     requires aligned { segment.offset % 16 ≡ 0 }
     requires moments { NoneAfter now (R.parts store.old) }
     ensures judged { IfOk result (λ judged. judged
-        ≡ judgement (R.limits store.old) now (offer_of segment.entry) (R.parts store.old)) }
+        ≡ judgement (R.limits store.old) now (segment_offer segment.entry) (R.parts store.old)) }
     ensures parts { OnOk result (R.parts store.new
-        ≡ parts_after (R.limits store.old) now (offer_of segment.entry) (R.parts store.old)) }
+        ≡ parts_after (R.limits store.old) now (segment_offer segment.entry) (R.parts store.old)) }
     ensures moments { NoneAfter now (R.parts store.new) }
     ensures limits { R.limits store.new ≡ R.limits store.old }
 {

@@ -3,7 +3,7 @@ ghost use Rattle.std.specs.Prelude.{◌≡◌, ◌++◌, ◌∷◌, [], IfOk, On
 ghost use Rattle.std.specs.List.{flat_map};
 ghost use Rattle.someip_rpc.specs.Requests.{BecomesOf, asked, request_fault};
 ghost use Rattle.someip_rpc.specs.Servers.{after_arrival};
-ghost use Rattle.someip_node_engine.specs.Arrivals.{bytes_in, given_of};
+ghost use Rattle.someip_node_engine.specs.Arrivals.{payload_bytes, given_of};
 ghost use Rattle.someip_node_rules.specs.Messages.{handed_up};
 ghost use Rattle.someip_node_rules.specs.Outputs.{datagrams_of, written};
 ghost use Rattle.someip_node_rules.specs.Plans.{act, plain, run, TakesRequest};
@@ -32,7 +32,7 @@ impl<R: Reassembly> Engine<R> {
         giving: &mut Giving,
     ) -> Result<(), AllocError>
         ensures { OnOk result (working self.new giving.new
-            ≡ run plain (act (TakesRequest instance from header.now (bytes_in payload.entry)))
+            ≡ run plain (act (TakesRequest instance from header.now (payload_bytes payload.entry)))
             (working self.old giving.old)) }
     {
         let is_up = self.offers.is_up(instance);
@@ -83,7 +83,7 @@ fn give_arrived(
     outputs: &mut Vec<Output>,
 ) -> Result<(), AllocError>
     ensures { OnOk result (outputs.new.items ≡ outputs.old.items
-        ++ flat_map written (given_of instance header.now (bytes_in payload.entry) arrived)) }
+        ++ flat_map written (given_of instance header.now (payload_bytes payload.entry) arrived)) }
 {
     match arrived {
         Arrived::Request(token) => {
@@ -122,7 +122,7 @@ fn hand_up(
     outputs: &mut Vec<Output>,
 ) -> Result<(), AllocError>
     ensures { OnOk result (outputs.new.items
-        ≡ outputs.old.items ++ handed_up instance token header.now (bytes_in payload.entry) ∷ []) }
+        ≡ outputs.old.items ++ handed_up instance token header.now (payload_bytes payload.entry) ∷ []) }
 {
     let payload = payload.into_payload(alloc)?;
     outputs.push(Output::Request {

@@ -51,7 +51,7 @@ use Rattle.someip_world.specs.declared.step_fault.StepFault.{StepFault}
 use Rattle.someip_world.specs.declared.step_fault.StepFault.TheVariants.{BadDelay, ClockPast, NotAddressed, PayloadTooLong}
 use Rattle.someip_world.specs.Datagrams.{SentDatagram, datagram_at, datagram_in, datagrams_in, sent_with}
 use Rattle.someip_world.specs.Deeds.{Deed, Takes, Restarts, deed_of, delivery, done_with, is_addressed}
-use Rattle.someip_world.specs.Runs.{AreCopies, World, given_in, history_after, lines_of, started, world_after}
+use Rattle.someip_world.specs.Runs.{AreCopies, World, given_in, history_after, told_lines, started_nodes, world_after}
 use Rattle.someip_world.specs.Turns.{LeadTo, Turn}
 use Rattle.someip_world.proofs.AnnouncedLemmas.{announced_fits, only_message, undiscovered, value_read}
 use Rattle.someip_world.proofs.KnownOfferLemmas.{all_got, numbered}
@@ -192,7 +192,7 @@ all_set P [] n x all own = tt
 all_set P (y ∷ xs) zero x all own = (own, all.1)
 all_set P (y ∷ xs) (suc n) x all own = (all.0, all_set P xs n x all.1 own)
 
-started_all : (nodes : List SetupNode) (configs : List Config) → AllByRecursion FitsConfig configs → AllByRecursion FitsHistory (started nodes configs)
+started_all : (nodes : List SetupNode) (configs : List Config) → AllByRecursion FitsConfig configs → AllByRecursion FitsHistory (started_nodes nodes configs)
 started_all [] configs all = tt
 started_all (n ∷ nodes) [] all = tt
 started_all (n ∷ nodes) (c ∷ configs) all = ((all.0, tt), started_all nodes configs all.1)
@@ -200,7 +200,7 @@ started_all (n ∷ nodes) (c ∷ configs) all = ((all.0, tt), started_all nodes 
 module _ (nodes : List SetupNode) (configs : List Config) (ss : List Step) (i : ℕ) (s : Step) (t : Turn nodes configs ss i s) where
   module _ (own : FitsHistory t.history) where
     by_step : (input : Input) → FitsInput input → (due : Result (Work History) NodeError) → step t.history input ≡ due
-        → FitsHistory (history_after t.history due) × AllByRecursion FitsSent (datagrams_in (lines_of (i + 1) t.place (given_in due)))
+        → FitsHistory (history_after t.history due) × AllByRecursion FitsSent (datagrams_in (told_lines (i + 1) t.place (given_in due)))
     by_step input fits (Err refusal) is = (own, tt)
     by_step input fits (Ok done) is = (
       done_fits t.history input own fits done is,
@@ -212,7 +212,7 @@ module _ (nodes : List SetupNode) (configs : List Config) (ss : List Step) (i : 
     )
 
     by_deed : (deed : Deed) → FitsDeed deed → FitsHistory (history_after t.history (done_with t.history deed))
-        × AllByRecursion FitsSent (datagrams_in (lines_of (i + 1) t.place (given_in (done_with t.history deed))))
+        × AllByRecursion FitsSent (datagrams_in (told_lines (i + 1) t.place (given_in (done_with t.history deed))))
     by_deed (Takes input) fits = by_step input fits (step t.history input) refl
     by_deed (Restarts delay) fits = ((own.0, tt), tt)
 
@@ -222,8 +222,8 @@ module _ (nodes : List SetupNode) (configs : List Config) (ss : List Step) (i : 
       let deed = deed_fits t.history t.before.lines own was.1 s fits t.deed t.due in
       let news = by_deed own t.deed deed in (
         all_set FitsHistory t.before.histories t.place (history_after t.history (done_with t.history t.deed)) was.0 news.0,
-        subst (AllByRecursion FitsSent) (sym (filter_map-append datagram_in t.before.lines (lines_of (i + 1) t.place (given_in (done_with t.history t.deed)))))
-            (all_append FitsSent (datagrams_in t.before.lines) (datagrams_in (lines_of (i + 1) t.place (given_in (done_with t.history t.deed)))) was.1 news.1),
+        subst (AllByRecursion FitsSent) (sym (filter_map-append datagram_in t.before.lines (told_lines (i + 1) t.place (given_in (done_with t.history t.deed)))))
+            (all_append FitsSent (datagrams_in t.before.lines) (datagrams_in (told_lines (i + 1) t.place (given_in (done_with t.history t.deed)))) was.1 news.1),
       )
 
 module _ (nodes : List SetupNode) (configs : List Config) (fits : AllByRecursion FitsConfig configs) where

@@ -34,7 +34,7 @@ use Rattle.someip_node_rules.specs.Setups.{client_endpoint, offered_as, wanted_a
 use Rattle.someip_node_rules.specs.Tables.{Tables}
 use Rattle.someip_node_rules.proofs.MemberLemmas.{all_weaker, at_member}
 use Rattle.someip_world.specs.Announced.{IsConfigured}
-use Rattle.someip_world.specs.KnownOffers.{IsAnnounced}
+use Rattle.someip_world.specs.KnownOffers.{IsAmongAnnounced}
 use Rattle.someip_world.proofs.OriginLemmas.{config_kept}
 
 -- an Offer is of an instance that is configured; other entries are free
@@ -166,7 +166,7 @@ module _ (h : History) where
   rule_own input r at t from to stamp entries brings says = absurd says
 
 pub announced_own : (h : History) (input : Input) (from to : SocketAddrV4) (stamp : Stamp) (entries : List EntryValue) → GivenBy h input (outputs.Announces from to stamp entries)
-    → (head : ServiceEntry) (endpoint : Option SocketAddrV4) → IsAnnounced entries head endpoint → is_offer head ≡ true
+    → (head : ServiceEntry) (endpoint : Option SocketAddrV4) → IsAmongAnnounced entries head endpoint → is_offer head ≡ true
     → IsConfigured h.config (record { service = head.service; instance = head.instance }) head.major endpoint
 announced_own h input from to stamp entries given head endpoint announced offers =
     let all = rule_own h input given.done.by given.done.before.state (answers_of given.done.before.state) from to stamp entries given.brought.1 given.holds in

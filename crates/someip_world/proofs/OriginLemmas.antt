@@ -25,7 +25,7 @@ use Rattle.someip_world_setup.specs.declared.setup_node.SetupNode.{SetupNode}
 use Rattle.someip_world.specs.Datagrams.{SentDatagram, datagram_in, datagrams_in, sent_with}
 use Rattle.someip_world.specs.Deeds.{Deed, Takes, Restarts, done_with}
 use Rattle.someip_world.specs.Origins.{HasOrigins, WasMet, WasSent}
-use Rattle.someip_world.specs.Runs.{World, given_in, history_after, lines_of, started, world_after, world_of}
+use Rattle.someip_world.specs.Runs.{World, given_in, history_after, told_lines, started_nodes, world_after, world_of}
 use Rattle.someip_world.specs.Turns.{LeadTo, Turn}
 use Rattle.someip_world.proofs.TurnLemmas.{turn_in}
 
@@ -64,12 +64,12 @@ module _ (nodes : List SetupNode) (configs : List Config) (steps : List Step) (f
 
 module _ (nodes : List SetupNode) (configs : List Config) (steps : List Step) (P : SentDatagram → Type 0) where
   pub datagrams_of_outputs : (index place : ℕ) (outputs : List Output) → AllByRecursion (λ o. (d : SentDatagram) → sent_with o ≡ Some d → P d) outputs
-      → AllByRecursion P (datagrams_in (lines_of index place (Ok outputs)))
+      → AllByRecursion P (datagrams_in (told_lines index place (Ok outputs)))
   datagrams_of_outputs index place [] all = tt
   datagrams_of_outputs index place (o ∷ outputs) all = cases (sent_with o) refl (datagrams_of_outputs index place outputs all.1)
     where
-      cases : (d : Option SentDatagram) → sent_with o ≡ d → AllByRecursion P (datagrams_in (lines_of index place (Ok outputs)))
-          → AllByRecursion P (cons_option d (datagrams_in (lines_of index place (Ok outputs))))
+      cases : (d : Option SentDatagram) → sent_with o ≡ d → AllByRecursion P (datagrams_in (told_lines index place (Ok outputs)))
+          → AllByRecursion P (cons_option d (datagrams_in (told_lines index place (Ok outputs))))
       cases None is rest = rest
       cases (Some d) is rest = (all.0 d is, rest)
 
@@ -80,7 +80,7 @@ sends o d is = absurd cc
 
 module _ (nodes : List SetupNode) (configs : List Config) (steps : List Step) where
   sent_here : (i : ℕ) (s : Step) (t : Turn nodes configs steps i s) (input : Input) → t.deed ≡ Takes input → (due : Result (Work History) NodeError) → step t.history input ≡ due
-      → AllByRecursion (WasSent nodes configs steps) (datagrams_in (lines_of (i + 1) t.place (given_in due)))
+      → AllByRecursion (WasSent nodes configs steps) (datagrams_in (told_lines (i + 1) t.place (given_in due)))
   sent_here i s t input is (Err refusal) e = tt
   sent_here i s t input is (Ok done) e =
       datagrams_of_outputs nodes configs steps (WasSent nodes configs steps) (i + 1) t.place done.outputs
@@ -101,7 +101,7 @@ module _ (nodes : List SetupNode) (configs : List Config) (steps : List Step) wh
       IsOne o = (d : SentDatagram) → sent_with o ≡ Some d → WasSent nodes configs steps d
 
   sent_by : (i : ℕ) (s : Step) (t : Turn nodes configs steps i s) (deed : Deed) → t.deed ≡ deed
-      → AllByRecursion (WasSent nodes configs steps) (datagrams_in (lines_of (i + 1) t.place (given_in (done_with t.history deed))))
+      → AllByRecursion (WasSent nodes configs steps) (datagrams_in (told_lines (i + 1) t.place (given_in (done_with t.history deed))))
   sent_by i s t (Takes input) is = sent_here i s t input is (step t.history input) refl
   sent_by i s t (Restarts delay) is = tt
 
@@ -110,8 +110,8 @@ module _ (nodes : List SetupNode) (configs : List Config) (steps : List Step) wh
       at_end nodes configs steps final (λ w. AllByRecursion (WasSent nodes configs steps) (datagrams_in w.lines)) ends tt
       (λ i s t all.
       subst (AllByRecursion (WasSent nodes configs steps))
-      (sym (filter_map-append datagram_in t.before.lines (lines_of (i + 1) t.place (given_in (done_with t.history t.deed)))))
-      (all_append (WasSent nodes configs steps) (datagrams_in t.before.lines) (datagrams_in (lines_of (i + 1) t.place (given_in (done_with t.history t.deed)))) all
+      (sym (filter_map-append datagram_in t.before.lines (told_lines (i + 1) t.place (given_in (done_with t.history t.deed)))))
+      (all_append (WasSent nodes configs steps) (datagrams_in t.before.lines) (datagrams_in (told_lines (i + 1) t.place (given_in (done_with t.history t.deed)))) all
       (sent_by i s t t.deed refl)))
 
 -- ---- what nodes met
@@ -141,7 +141,7 @@ all_after P h [] old new = old
 all_after P h (x ∷ xs) old new = all_after P (met h x) xs (new.0, old) new.1
 
 module _ (nodes : List SetupNode) (configs : List Config) (steps : List Step) where
-  begun_so : (ns : List SetupNode) (cs : List Config) (place : ℕ) (h : History) → slice_get (started ns cs) place ≡ Some h
+  begun_so : (ns : List SetupNode) (cs : List Config) (place : ℕ) (h : History) → slice_get (started_nodes ns cs) place ≡ Some h
       → (config : Config) × (delay : ℕ) × (slice_get cs place ≡ Some config) × (h ≡ start_of config delay)
   begun_so [] cs place h is = absurd cc
   begun_so (n ∷ ns) [] place h is = absurd cc

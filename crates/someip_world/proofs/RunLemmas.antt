@@ -24,8 +24,8 @@ use Rattle.someip_world.specs.declared.step_fault.StepFault.{StepFault}
 use Rattle.someip_world.specs.declared.step_fault.StepFault.TheVariants.{UnknownNode}
 use Rattle.someip_world.specs.Deeds.{Deed, deed_of, done_with}
 use Rattle.someip_world.specs.Performing.{Does, Performs, Puts}
-use Rattle.someip_world.specs.Running.{AreStarted, Comes, Ends, IsStarted, Shows, view_of}
-use Rattle.someip_world.specs.Runs.{AreCopies, IsRun, World, happens, happens_at, lines_of, place_of, run_from, run_of, started, then_on, told_by, unless_bad, world_after, world_of}
+use Rattle.someip_world.specs.Running.{AreStarted, Comes, Ends, IsStarted, AreOfWorld, view_of}
+use Rattle.someip_world.specs.Runs.{AreCopies, IsRun, World, happens, happens_at, told_lines, place_of, run_from, run_of, started_nodes, then_on, run_lines, unless_bad, world_after, world_of}
 
 -- ---- the start
 
@@ -44,7 +44,7 @@ more_started nodes i node views new view all lt is one more =
 
 -- what was started, as copies of the configurations and the histories of their starts
 pub starts : (nodes : List SetupNode) (views : List NodeView) → AreStarted nodes views
-    → (configs : List Config) × AreCopies nodes configs × (views ≡ map view_of (started nodes configs))
+    → (configs : List Config) × AreCopies nodes configs × (views ≡ map view_of (started_nodes nodes configs))
 starts [] [] all = ([], tt, refl)
 starts [] (v ∷ views) all = absurd all
 starts (n ∷ nodes) [] all = absurd all
@@ -61,11 +61,11 @@ module _ (index place : ℕ) (w : World) (s : Step) (nodes : List NodeView) (h :
       → Comes index (Ok (world_after index place w h due)) result (slice_set nodes place new) after
   done (Ok work) (Ok outputs) (Ok _) after stand does told = (
     ap (λ ns. slice_set ns place new) stand ∙ ap (slice_set (map view_of w.histories) place) does.1 ∙ sym (map-set view_of w.histories place work.state),
-    told ∙ ap (λ os. w.lines ++ lines_of index place (Ok os)) does.0,
+    told ∙ ap (λ os. w.lines ++ told_lines index place (Ok os)) does.0,
   )
   done (Err refusal) (Err (Refused error)) (Ok _) after stand does told = (
     ap (λ ns. slice_set ns place new) stand ∙ ap (slice_set (map view_of w.histories) place) does.1 ∙ sym (map-set view_of w.histories place h),
-    told ∙ ap (λ e. w.lines ++ lines_of index place (Err e)) does.0,
+    told ∙ ap (λ e. w.lines ++ told_lines index place (Err e)) does.0,
   )
   done due given (Err errors.OutOfMemory) after stand does told = tt
   done (Ok work) (Ok outputs) (Err (BadStep at fault)) after stand does told = absurd cc
@@ -103,7 +103,7 @@ standing nodes hs k node all here =
 
 -- a step happens at the node of a place
 pub happened : (setup : List SetupNode) (index place : ℕ) (w : World) (s : Step) (nodes : List NodeView) (lines : List Line) (node new : NodeView) (given : Result (Vec Output) StepError)
-    (result : Result (Unit {0}) RunError) (after : List Line) → place_of setup (node_of s) ≡ Some place → Shows nodes lines w
+    (result : Result (Unit {0}) RunError) (after : List Line) → place_of setup (node_of s) ≡ Some place → AreOfWorld nodes lines w
     → slice_get nodes place ≡ Some node → ((h : History) → StandsFor node h → Performs h (deed_of h lines s) given new) → Puts index place given lines result after
     → Comes index (happens setup index w s) result (slice_set nodes place new) after
 happened setup index place w s nodes lines node new given result after named shows here performs told =
@@ -114,7 +114,7 @@ happened setup index place w s nodes lines node new given result after named sho
     (subst (λ ls. Puts index place given ls result after) shows.1 told))
 
 -- there is no node at a place past all
-pub nowhere : (index place : ℕ) (w : World) (s : Step) (nodes : List NodeView) (lines : List Line) → Shows nodes lines w → length nodes ≤ place
+pub nowhere : (index place : ℕ) (w : World) (s : Step) (nodes : List NodeView) (lines : List Line) → AreOfWorld nodes lines w → length nodes ≤ place
     → happens_at index w s place (slice_get w.histories place) ≡ Err UnknownNode
 nowhere index place w s nodes lines shows past =
     rw (slice_get_past w.histories place (omega (arith, past, ap length shows.0, length-map {A = History} {B = NodeView}))) refl
@@ -129,7 +129,7 @@ module _ (setup : List SetupNode) (first : World) (steps : List Step) where
   -- the run goes on from a world that the nodes and lines show
   pub record GoesOn (nodes : List NodeView) (lines : List Line) (i : ℕ) : Type 0 where
     pub now : World
-    pub shows : Shows nodes lines now
+    pub shows : AreOfWorld nodes lines now
     pub rest : run_from setup (i + 1) now (drop i steps) ≡ run_from setup 1 first steps
 
   -- what is left begins with the step
@@ -172,13 +172,13 @@ module _ (setup : List SetupNode) (first : World) (steps : List Step) where
 
 -- the world of a start, as the nodes that were started show it
 pub begun : (setup : List SetupNode) (views nodes : List NodeView) (lines : List Line) → views ≡ nodes → (all : AreStarted setup nodes) → lines ≡ []
-    → Shows views lines (world_of setup (starts setup nodes all).0)
+    → AreOfWorld views lines (world_of setup (starts setup nodes all).0)
 begun setup views nodes lines same all none = (same ∙ (starts setup nodes all).2, none)
 
 -- the outcome of all steps is that of the run
 pub run_told : (setup : List SetupNode) (configs : List Config) (steps : List Step) (due : Result World RunError) (lines : List Line) → run_from setup 1 (world_of setup configs) steps ≡ due
     → Ends due (Ok (record {})) lines → run_of setup configs steps ≡ Ok lines
-run_told setup configs steps (Ok w) lines is ends = ap told_by is ∙ ap Ok (sym ends)
+run_told setup configs steps (Ok w) lines is ends = ap run_lines is ∙ ap Ok (sym ends)
 run_told setup configs steps (Err error) lines is ends = absurd ends
 
 pub failed : (setup : List SetupNode) (configs : List Config) (steps : List Step) (error : RunError) (lines : List Line) → AreCopies setup configs
@@ -189,4 +189,4 @@ failed setup configs steps (BadStep at fault) lines are ends = (configs, are, ca
     cases : (due : Result World RunError) → run_from setup 1 (world_of setup configs) steps ≡ due → Ends due (Err (BadStep at fault)) lines
         → run_of setup configs steps ≡ Err (BadStep at fault)
     cases (Ok w) is e = absurd e
-    cases (Err error) is e = ap told_by is ∙ ap Err e
+    cases (Err error) is e = ap run_lines is ∙ ap Err e

@@ -28,7 +28,7 @@ use Rattle.someip_world.specs.declared.step_fault.StepFault.{StepFault}
 use Rattle.someip_world.specs.declared.step_fault.StepFault.TheVariants.{PayloadTooLong}
 use Rattle.someip_world.specs.Deeds.{Deed, Takes, deed_of, done_with, unless_long}
 use Rattle.someip_world.specs.Turns.{IsOfRun, LeadTo, TakesIt, ToldTurn, Turn, lines_at}
-use Rattle.someip_world.specs.Runs.{ComesTo, World, given_in, happens, happens_at, happens_to, lines_of, place_of, run_from, run_of, then_on, told_by, unless_bad, world_after, world_of}
+use Rattle.someip_world.specs.Runs.{ComesTo, World, given_in, happens, happens_at, happens_to, told_lines, place_of, run_from, run_of, then_on, run_lines, unless_bad, world_after, world_of}
 
 -- ---- a step that happened
 
@@ -82,11 +82,11 @@ within_more from later to (x ∷ xs) le all =
     let lower = all.0.0 in
     ((omega (arith, le, lower), all.0.1), within_more from later to xs le all.1)
 
-outputs_within : (index place : ℕ) (outputs : List Output) → AreWithin index (index + 1) (lines_of index place (Ok outputs))
+outputs_within : (index place : ℕ) (outputs : List Output) → AreWithin index (index + 1) (told_lines index place (Ok outputs))
 outputs_within index place [] = tt
 outputs_within index place (o ∷ outputs) = ((omega arith, omega arith), outputs_within index place outputs)
 
-told_within : (index place : ℕ) (given : Result (List Output) NodeError) → AreWithin index (index + 1) (lines_of index place given)
+told_within : (index place : ℕ) (given : Result (List Output) NodeError) → AreWithin index (index + 1) (told_lines index place given)
 told_within index place (Ok outputs) = outputs_within index place outputs
 told_within index place (Err refusal) = ((omega arith, omega arith), tt)
 
@@ -155,7 +155,7 @@ module _ (nodes : List SetupNode) where
       let one = first_step index w final s steps is in
       let h = happened_so nodes index w s one.0 one.1 in
       let rest = told_more (index + 1) one.0 final steps one.2 in
-      let own : List Line = lines_of index h.place (given_in (done_with h.history h.deed)) in
+      let own : List Line = told_lines index h.place (given_in (done_with h.history h.deed)) in
       record {
         more = own ++ rest.more;
         is = rest.is ∙ ap (λ x. x.lines ++ rest.more) h.is ∙ append_assoc w.lines own rest.more;
@@ -200,7 +200,7 @@ pub ends_in : (nodes : List SetupNode) (configs : List Config) (steps : List Ste
     → (final : World) × LeadTo nodes configs steps final × (final.lines ≡ lines)
 ends_in nodes configs steps lines is = cases (run_from nodes 1 (world_of nodes configs) steps) refl is
   where
-    cases : (due : Result World RunError) → run_from nodes 1 (world_of nodes configs) steps ≡ due → told_by due ≡ Ok lines
+    cases : (due : Result World RunError) → run_from nodes 1 (world_of nodes configs) steps ≡ due → run_lines due ≡ Ok lines
         → (final : World) × LeadTo nodes configs steps final × (final.lines ≡ lines)
     cases (Ok w) e t = (w, e, cc)
     cases (Err error) e t = absurd cc
@@ -236,7 +236,7 @@ module _ (nodes : List SetupNode) (configs : List Config) (steps : List Step) (l
 
   -- its lines are those of the node
   turn_told : (final : World) → LeadTo nodes configs steps final → final.lines ≡ lines → (t : Turn nodes configs steps i s)
-      → lines_at (i + 1) lines ≡ lines_of (i + 1) t.place (given_in (done_with t.history t.deed))
+      → lines_at (i + 1) lines ≡ told_lines (i + 1) t.place (given_in (done_with t.history t.deed))
   turn_told final is ends t =
       let next : World = world_after (i + 1) t.place t.before t.history (done_with t.history t.deed) in
       let way = went_through nodes 1 (world_of nodes configs) final steps i s is t.here in
@@ -244,7 +244,7 @@ module _ (nodes : List SetupNode) (configs : List Config) (steps : List Step) (l
       let same : next ≡ way.next = let leads = subst (λ k. LeadTo nodes configs (take k steps) way.next) counted way.leads in let other = t.leads in cc in
       let early = told_more nodes 1 (world_of nodes configs) t.before (take i steps) t.led in
       let late = told_more nodes (i + 1 + 1) way.next final (drop (suc i) steps) way.rest in
-      let own : List Line = lines_of (i + 1) t.place (given_in (done_with t.history t.deed)) in
+      let own : List Line = told_lines (i + 1) t.place (given_in (done_with t.history t.deed)) in
       own_lines own t.before.lines late.more (i + 1 + 1 + length (drop (suc i) steps))
       (sym ends ∙ late.is ∙ ap (λ x. x.lines ++ late.more) (sym same))
       (within_wider 1 (1 + length (take i steps)) (i + 1) t.before.lines (omega (arith, length-take i steps))
@@ -273,13 +273,13 @@ module _ (nodes : List SetupNode) (configs : List Config) (steps : List Step) (l
       → TakesIt nodes configs steps lines i s input Gives
   takes_it m is gives = record { turn = m.turn; takes = is; outcome = cases (step m.turn.history input) refl }
     where
-      told : (due : Result (Work History) NodeError) → step m.turn.history input ≡ due → lines_at (i + 1) lines ≡ lines_of (i + 1) m.turn.place (given_in due)
+      told : (due : Result (Work History) NodeError) → step m.turn.history input ≡ due → lines_at (i + 1) lines ≡ told_lines (i + 1) m.turn.place (given_in due)
       told due e =
-          m.told ∙ ap (λ d. lines_of (i + 1) m.turn.place (given_in (done_with m.turn.history d))) is ∙ ap (λ d. lines_of (i + 1) m.turn.place (given_in d)) e
+          m.told ∙ ap (λ d. told_lines (i + 1) m.turn.place (given_in (done_with m.turn.history d))) is ∙ ap (λ d. told_lines (i + 1) m.turn.place (given_in d)) e
 
       cases : (due : Result (Work History) NodeError) → step m.turn.history input ≡ due
-          → ((refusal : NodeError) × (step m.turn.history input ≡ Err refusal) × (lines_at (i + 1) lines ≡ lines_of (i + 1) m.turn.place (Err refusal)))
-          ⊎ ((done : Work History) × (step m.turn.history input ≡ Ok done) × (lines_at (i + 1) lines ≡ lines_of (i + 1) m.turn.place (Ok done.outputs))
+          → ((refusal : NodeError) × (step m.turn.history input ≡ Err refusal) × (lines_at (i + 1) lines ≡ told_lines (i + 1) m.turn.place (Err refusal)))
+          ⊎ ((done : Work History) × (step m.turn.history input ≡ Ok done) × (lines_at (i + 1) lines ≡ told_lines (i + 1) m.turn.place (Ok done.outputs))
           × Gives m.turn.history done)
       cases (Ok done) e = inr (done, e, told (Ok done) e, gives m.turn.history done e)
       cases (Err refusal) e = inl (refusal, e, told (Err refusal) e)
@@ -309,7 +309,7 @@ module _ (nodes : List SetupNode) (configs : List Config) (steps : List Step) (l
 pub of_run : (nodes : List SetupNode) (ss : List Step) (lines : List Line) → ComesTo nodes ss (Ok lines) → IsOfRun nodes ss lines
 of_run nodes ss lines comes = cases (run_from nodes 1 (world_of nodes comes.0) ss) refl comes.2
   where
-    cases : (due : Result World RunError) → run_from nodes 1 (world_of nodes comes.0) ss ≡ due → told_by due ≡ Ok lines → IsOfRun nodes ss lines
+    cases : (due : Result World RunError) → run_from nodes 1 (world_of nodes comes.0) ss ≡ due → run_lines due ≡ Ok lines → IsOfRun nodes ss lines
     cases (Ok w) led is =
         let same : w.lines ≡ lines = cc in
         record { configs = comes.0; copies = comes.1; comes = comes.2; world = w; led = led; told = same }

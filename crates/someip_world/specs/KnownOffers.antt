@@ -40,6 +40,6 @@ pub record WasOffered (nodes : List SetupNode) (configs : List Config) (steps : 
   pub wanted : finite.get (majors_of h.config) instance ≡ Some head.major
 
 -- this entry about an instance is among those that are announced, with this as the first endpoint over UDP
-abbrev pub IsAnnounced : List EntryValue → ServiceEntry → Option SocketAddrV4 → Type 0
-IsAnnounced entries head endpoint =
+abbrev pub IsAmongAnnounced : List EntryValue → ServiceEntry → Option SocketAddrV4 → Type 0
+IsAmongAnnounced entries head endpoint =
     (e : EntryValue) × Contains entries e × (e.head ≡ Service head) × (endpoint ≡ first_udp_endpoint (options_of e))

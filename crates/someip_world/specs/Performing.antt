@@ -16,7 +16,7 @@ use Rattle.someip_world.specs.declared.line.Line.{Line}
 use Rattle.someip_world.specs.declared.step_fault.StepFault.{StepFault}
 use Rattle.someip_world.specs.declared.step_fault.StepFault.TheVariants.{PayloadTooLong}
 use Rattle.someip_world.specs.Deeds.{Deed, done_with}
-use Rattle.someip_world.specs.Runs.{lines_of}
+use Rattle.someip_world.specs.Runs.{told_lines}
 
 -- a node's refusal, and its want of memory
 abbrev pub as_step_error : NodeError → StepError
@@ -49,8 +49,8 @@ Lends config payload result = ⊥
 
 -- what was given in a step is told in lines; the error of a bad step names it
 abbrev pub Puts : ℕ → ℕ → Result (Vec Output) StepError → List Line → Result (Unit {0}) RunError → List Line → Type 0
-Puts index place (Ok outputs) old (Ok _) new = new ≡ old ++ lines_of index place (Ok outputs.items)
-Puts index place (Err (Refused refusal)) old (Ok _) new = new ≡ old ++ lines_of index place (Err refusal)
+Puts index place (Ok outputs) old (Ok _) new = new ≡ old ++ told_lines index place (Ok outputs.items)
+Puts index place (Err (Refused refusal)) old (Ok _) new = new ≡ old ++ told_lines index place (Err refusal)
 Puts index place (Err (Bad fault)) old (Err error) new = error ≡ errors.BadStep index fault
 Puts index place (Ok outputs) old (Err error) new = error ≡ errors.OutOfMemory
 Puts index place (Err (Refused refusal)) old (Err error) new = error ≡ errors.OutOfMemory

@@ -25,19 +25,19 @@ abbrev pub AreStarted : List SetupNode → List NodeView → Type 0
 AreStarted nodes views = AllZip IsStarted nodes views
 
 -- nodes and lines are those of a world
-abbrev pub Shows : List NodeView → List Line → World → Type 0
-Shows nodes lines w = (nodes ≡ map view_of w.histories) × (lines ≡ w.lines)
+abbrev pub AreOfWorld : List NodeView → List Line → World → Type 0
+AreOfWorld nodes lines w = (nodes ≡ map view_of w.histories) × (lines ≡ w.lines)
 
 -- a step happened, or it is bad, or memory ran out
 abbrev pub Comes : ℕ → Result World StepFault → Result (Unit {0}) RunError → List NodeView → List Line → Type 0
-Comes index (Ok w) (Ok _) nodes lines = Shows nodes lines w
+Comes index (Ok w) (Ok _) nodes lines = AreOfWorld nodes lines w
 Comes index (Err fault) (Err (BadStep at told)) nodes lines = (at ≡ index) × (told ≡ fault)
 Comes index (Ok w) (Err OutOfMemory) nodes lines = Unit {0}
 Comes index due result nodes lines = ⊥
 
 abbrev pub Happens : List SetupNode → ℕ → Step → List NodeView → List Line → Result (Unit {0}) RunError → List NodeView → List Line → Type 0
 Happens setup index step old before result new after =
-    (w : World) → Shows old before w → Comes index (happens setup index w step) result new after
+    (w : World) → AreOfWorld old before w → Comes index (happens setup index w step) result new after
 
 -- all steps happened, or one is bad, or memory ran out
 abbrev pub Ends : Result World RunError → Result (Unit {0}) RunError → List Line → Type 0
@@ -47,4 +47,4 @@ Ends due (Err OutOfMemory) lines = Unit {0}
 Ends due result lines = ⊥
 
 abbrev pub RunsOn : List SetupNode → List Step → List NodeView → List Line → Result (Unit {0}) RunError → List Line → Type 0
-RunsOn setup steps old before result after = (w : World) → Shows old before w → Ends (run_from setup 1 w steps) result after
+RunsOn setup steps old before result after = (w : World) → AreOfWorld old before w → Ends (run_from setup 1 w steps) result after

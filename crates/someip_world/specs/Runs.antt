@@ -25,12 +25,12 @@ pub record World : Type 0 where
   pub lines : List Line
 
 -- every node was started with its configuration and its delay
-abbrev pub started : List SetupNode → List Config → List History
-started (node ∷ nodes) (config ∷ configs) = start_of config node.delay ∷ started nodes configs
-started nodes configs = []
+abbrev pub started_nodes : List SetupNode → List Config → List History
+started_nodes (node ∷ nodes) (config ∷ configs) = start_of config node.delay ∷ started_nodes nodes configs
+started_nodes nodes configs = []
 
 abbrev pub world_of : List SetupNode → List Config → World
-world_of nodes configs = record { histories = started nodes configs; lines = [] }
+world_of nodes configs = record { histories = started_nodes nodes configs; lines = [] }
 
 -- the place of the node of a name
 abbrev pub place_of : List SetupNode → List ℕ → Option ℕ
@@ -39,9 +39,9 @@ place_of nodes name = position_from (λ n. bytes_eq (string_bytes n.name) name) 
 -- ---- a step
 
 -- the lines of what a node gives in a step
-abbrev pub lines_of : ℕ → ℕ → Result (List Output) NodeError → List Line
-lines_of index place (Ok outputs) = map (λ output. record { step = index; node = place; told = Gave output }) outputs
-lines_of index place (Err refusal) = record { step = index; node = place; told = Refused refusal } ∷ []
+abbrev pub told_lines : ℕ → ℕ → Result (List Output) NodeError → List Line
+told_lines index place (Ok outputs) = map (λ output. record { step = index; node = place; told = Gave output }) outputs
+told_lines index place (Err refusal) = record { step = index; node = place; told = Refused refusal } ∷ []
 
 -- what a node gives
 abbrev pub given_in : Result (Work History) NodeError → Result (List Output) NodeError
@@ -57,7 +57,7 @@ history_after h (Err refusal) = h
 abbrev pub world_after : ℕ → ℕ → World → History → Result (Work History) NodeError → World
 world_after index place w h done = record {
   histories = slice_set w.histories place (history_after h done);
-  lines = w.lines ++ lines_of index place (given_in done);
+  lines = w.lines ++ told_lines index place (given_in done);
 }
 
 -- the world after a step, unless it is bad
@@ -91,13 +91,13 @@ run_from nodes index w [] = Ok w
 run_from nodes index w (s ∷ steps) = then_on index (happens nodes index w s) (λ next. run_from nodes (index + 1) next steps)
 
 -- what a run tells
-abbrev pub told_by : Result World RunError → Result (List Line) RunError
-told_by (Ok w) = Ok w.lines
-told_by (Err error) = Err error
+abbrev pub run_lines : Result World RunError → Result (List Line) RunError
+run_lines (Ok w) = Ok w.lines
+run_lines (Err error) = Err error
 
 -- the trace of a schedule over the nodes of a setup, with their configurations, or its first bad step
 abbrev pub run_of : List SetupNode → List Config → List Step → Result (List Line) RunError
-run_of nodes configs steps = told_by (run_from nodes 1 (world_of nodes configs) steps)
+run_of nodes configs steps = run_lines (run_from nodes 1 (world_of nodes configs) steps)
 
 -- these are copies of the configurations of some nodes
 abbrev pub AreCopies : List SetupNode → List Config → Type 0

@@ -12,7 +12,7 @@ use Rattle.someip_world_schedule.specs.StepNodes.{node_of}
 use Rattle.someip_world_setup.specs.declared.setup_node.SetupNode.{SetupNode}
 use Rattle.someip_world.specs.declared.line.Line.{Line}
 use Rattle.someip_world.specs.Deeds.{Deed, Takes, deed_of, done_with}
-use Rattle.someip_world.specs.Runs.{AreCopies, World, given_in, lines_of, place_of, run_from, run_of, world_after, world_of}
+use Rattle.someip_world.specs.Runs.{AreCopies, World, given_in, told_lines, place_of, run_from, run_of, world_after, world_of}
 
 -- some steps, from the start of all nodes on, lead to this world
 abbrev pub LeadTo : List SetupNode → List Config → List Step → World → Type 0
@@ -49,7 +49,7 @@ pub record Turn (nodes : List SetupNode) (configs : List Config) (steps : List S
 -- a step of a run whose lines in a trace tell what the node then gives, and nothing else
 pub record ToldTurn (nodes : List SetupNode) (configs : List Config) (steps : List Step) (lines : List Line) (i : ℕ) (s : Step) : Type 0 where
   pub turn : Turn nodes configs steps i s
-  pub told : lines_at (i + 1) lines ≡ lines_of (i + 1) turn.place (given_in (done_with turn.history turn.deed))
+  pub told : lines_at (i + 1) lines ≡ told_lines (i + 1) turn.place (given_in (done_with turn.history turn.deed))
 
 -- the node of a step takes an input: the trace tells its refusal alone, or what it gives, of which this holds
 pub record TakesIt (nodes : List SetupNode) (configs : List Config) (steps : List Step) (lines : List Line) (i : ℕ) (s : Step) (input : Input) (Gives : History → Work History → Type 0) : Type 0 where
@@ -57,7 +57,7 @@ pub record TakesIt (nodes : List SetupNode) (configs : List Config) (steps : Lis
   pub takes : turn.deed ≡ Takes input
   pub outcome :
       ((refusal : NodeError) × (step turn.history input ≡ Err refusal)
-      × (lines_at (i + 1) lines ≡ lines_of (i + 1) turn.place (Err refusal)))
+      × (lines_at (i + 1) lines ≡ told_lines (i + 1) turn.place (Err refusal)))
       ⊎ ((done : Work History) × (step turn.history input ≡ Ok done)
-      × (lines_at (i + 1) lines ≡ lines_of (i + 1) turn.place (Ok done.outputs))
+      × (lines_at (i + 1) lines ≡ told_lines (i + 1) turn.place (Ok done.outputs))
       × Gives turn.history done)

@@ -17,7 +17,7 @@ ghost use Rattle.sd_core.specs.declared.subscription.Subscription.{Subscription}
 ghost use Rattle.sd_core.specs.declared.received.KnownOffer.{KnownOffer};
 ghost use Rattle.someip_tables.specs.declared.lasting.Lasting.{Lasting};
 ghost use Rattle.someip_node_rules.specs.SeekQuestions.{known_offer_at};
-ghost use Rattle.someip_world.specs.KnownOffers.{IsAnnounced, WasOffered};
+ghost use Rattle.someip_world.specs.KnownOffers.{IsAmongAnnounced, WasOffered};
 ghost use Rattle.someip_node_rules.specs.declared.config.Config.{Config};
 ghost use Rattle.someip_node_rules.specs.declared.config.OfferedService.{OfferedService};
 ghost use Rattle.someip_node_rules.specs.Outputs.{Announces, datagrams_of};
@@ -122,7 +122,7 @@ pub fn entries_that_are_read_were_announced()
         → AllByRecursion EntryFits entries → FitsDatagram entries → (p : Packet)
         → p.bytes ≡ spelling (discovery_message stamp entries)
         → (head : ServiceEntry) (endpoint : Option SocketAddrV4) → HasServiceEntry p head endpoint
-        → IsAnnounced entries head endpoint }
+        → IsAmongAnnounced entries head endpoint }
 {}
 
 /// A datagram with a message of any other service holds no Service Discovery.
@@ -136,7 +136,7 @@ pub fn other_services_are_no_discovery()
 pub fn announced_offers_are_configured()
     ensures { (h : History) (input : Input) (from to : SocketAddrV4) (stamp : Stamp)
         (entries : List EntryValue) → GivenBy h input (Announces from to stamp entries)
-        → (head : ServiceEntry) (endpoint : Option SocketAddrV4) → IsAnnounced entries head endpoint
+        → (head : ServiceEntry) (endpoint : Option SocketAddrV4) → IsAmongAnnounced entries head endpoint
         → is_offer head ≡ true
         → IsConfigured h.config (record { service = head.service; instance = head.instance })
         head.major endpoint }

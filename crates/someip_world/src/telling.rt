@@ -1,6 +1,6 @@
 //! What a node gave in a step, as lines.
 ghost use Rattle.std.specs.Prelude.{◌≡◌, ◌++◌, OnOk, Ok};
-ghost use Rattle.someip_world.specs.Runs.{lines_of};
+ghost use Rattle.someip_world.specs.Runs.{told_lines};
 ghost use Rattle.someip_world.specs.Performing.{Puts};
 
 use crate::error::RunError;
@@ -17,7 +17,7 @@ fn tell_outputs(
     node: usize,
     outputs: Vec<Output>,
 ) -> Result<(), AllocError>
-    ensures { OnOk result (log.new ≡ log.old ++ lines_of step node (Ok outputs.items)) }
+    ensures { OnOk result (log.new ≡ log.old ++ told_lines step node (Ok outputs.items)) }
 {
     for output in outputs {
         let told = Told::Gave(output);

@@ -2,7 +2,7 @@
 use Rattle.std.proofs.Common.{◌≡◌, ◌==◌, ◌||◌, ℕ, Bool, true, false, List, [], ◌∷◌, ◌++◌, refl, sym, ap, ◌∙◌}
 use Rattle.std.specs.List.{list_any, AllByRecursion, onto_first}
 use Rattle.std.proofs.lemmas.Bool.{eqb-true}
-use Rattle.someip_world_schedule.specs.Steps.{IsUnparted, joined, words_in}
+use Rattle.someip_world_schedule.specs.Steps.{IsUnparted, joined_by_blanks, words_in}
 
 abbrev is_blank : ℕ → Bool
 is_blank b = b == 0x20
@@ -25,24 +25,24 @@ words_some (b ∷ line) = by_blank (is_blank b) refl
     by_blank false is = rw is (onto_some b (words_in line))
 
 -- a byte before the first word, and an empty word before others
-joined_onto : (b : ℕ) (words : List (List ℕ)) → joined (onto_first b words) ≡ b ∷ joined words
+joined_onto : (b : ℕ) (words : List (List ℕ)) → joined_by_blanks (onto_first b words) ≡ b ∷ joined_by_blanks words
 joined_onto b [] = refl
 joined_onto b (word ∷ []) = refl
 joined_onto b (word ∷ next ∷ others) = refl
 
-joined_after : (words : List (List ℕ)) → IsSome words → joined ([] ∷ words) ≡ 0x20 ∷ joined words
+joined_after : (words : List (List ℕ)) → IsSome words → joined_by_blanks ([] ∷ words) ≡ 0x20 ∷ joined_by_blanks words
 joined_after [] some = absurd some
 joined_after (word ∷ words) some = refl
 
-joined_step : (b : ℕ) (line : List ℕ) (blank : Bool) → is_blank b ≡ blank → joined (words_in line) ≡ line
-    → joined (words_in (b ∷ line)) ≡ b ∷ line
+joined_step : (b : ℕ) (line : List ℕ) (blank : Bool) → is_blank b ≡ blank → joined_by_blanks (words_in line) ≡ line
+    → joined_by_blanks (words_in (b ∷ line)) ≡ b ∷ line
 joined_step b line true is h =
     let same : b ≡ 0x20 = eqb-true b 0x20 is in
     rw is (joined_after (words_in line) (words_some line) ∙ ap (λ t. 0x20 ∷ t) h ∙ ap (λ c. c ∷ line) (sym same))
 joined_step b line false is h = rw is (joined_onto b (words_in line) ∙ ap (λ t. b ∷ t) h)
 
 -- a line is its words, joined
-pub line_joined : (line : List ℕ) → joined (words_in line) ≡ line
+pub line_joined : (line : List ℕ) → joined_by_blanks (words_in line) ≡ line
 line_joined [] = refl
 line_joined (b ∷ line) = joined_step b line (is_blank b) refl (line_joined line)
 
@@ -79,7 +79,7 @@ first_word (b ∷ word) rest h =
 
 -- and no other words without blanks are joined to it
 pub only_words : (word : List ℕ) (others : List (List ℕ)) → AllByRecursion IsUnparted (word ∷ others)
-    → words_in (joined (word ∷ others)) ≡ word ∷ others
+    → words_in (joined_by_blanks (word ∷ others)) ≡ word ∷ others
 only_words word [] h = last_word word h.0
 only_words word (next ∷ others) h =
-    first_word word (joined (next ∷ others)) h.0 ∙ ap (λ (ws : List (List ℕ)). word ∷ ws) (only_words next others h.1)
+    first_word word (joined_by_blanks (next ∷ others)) h.0 ∙ ap (λ (ws : List (List ℕ)). word ∷ ws) (only_words next others h.1)

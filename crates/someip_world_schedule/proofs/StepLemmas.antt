@@ -1,7 +1,7 @@
 -- Steps by how many words they have.
 use Rattle.std.proofs.Common.{◌≡◌, ℕ, List, [], ◌∷◌, length, get_or, map, None, Bor, refl, arith}
 use Rattle.someip_rpc.specs.declared.call.CallKind.{CallKind}
-use Rattle.someip_world_schedule.specs.Steps.{call_in, Answered, answer_in, publish_in, publish_to_in}
+use Rattle.someip_world_schedule.specs.Steps.{call_step, Answered, answer_step, publish_step, publish_to_step}
 
 -- what the words of a list stand for
 abbrev pub texts : List (Bor (List ℕ)) → List (List ℕ)
@@ -34,7 +34,7 @@ six (a ∷ b ∷ c ∷ e ∷ f ∷ g ∷ []) h = refl
 six (a ∷ b ∷ c ∷ e ∷ f ∷ g ∷ i ∷ ws) h = absurd (omega (arith, h))
 
 -- other numbers of words spell no such step
-pub no_call : (kind : CallKind) (ws : List (Bor (List ℕ))) → (length ws ≡ 4 → ⊥) → call_in kind (texts ws) ≡ None
+pub no_call : (kind : CallKind) (ws : List (Bor (List ℕ))) → (length ws ≡ 4 → ⊥) → call_step kind (texts ws) ≡ None
 no_call kind [] h = refl
 no_call kind (a ∷ []) h = refl
 no_call kind (a ∷ b ∷ []) h = refl
@@ -42,7 +42,7 @@ no_call kind (a ∷ b ∷ c ∷ []) h = refl
 no_call kind (a ∷ b ∷ c ∷ e ∷ []) h = absurd (h refl)
 no_call kind (a ∷ b ∷ c ∷ e ∷ f ∷ ws) h = refl
 
-pub no_answer : (reply : Answered) (ws : List (Bor (List ℕ))) → (length ws ≡ 4 → ⊥) → answer_in reply (texts ws) ≡ None
+pub no_answer : (reply : Answered) (ws : List (Bor (List ℕ))) → (length ws ≡ 4 → ⊥) → answer_step reply (texts ws) ≡ None
 no_answer reply [] h = refl
 no_answer reply (a ∷ []) h = refl
 no_answer reply (a ∷ b ∷ []) h = refl
@@ -50,7 +50,7 @@ no_answer reply (a ∷ b ∷ c ∷ []) h = refl
 no_answer reply (a ∷ b ∷ c ∷ e ∷ []) h = absurd (h refl)
 no_answer reply (a ∷ b ∷ c ∷ e ∷ f ∷ ws) h = refl
 
-pub no_publish : (ws : List (Bor (List ℕ))) → (length ws ≡ 4 → ⊥) → publish_in (texts ws) ≡ None
+pub no_publish : (ws : List (Bor (List ℕ))) → (length ws ≡ 4 → ⊥) → publish_step (texts ws) ≡ None
 no_publish [] h = refl
 no_publish (a ∷ []) h = refl
 no_publish (a ∷ b ∷ []) h = refl
@@ -58,7 +58,7 @@ no_publish (a ∷ b ∷ c ∷ []) h = refl
 no_publish (a ∷ b ∷ c ∷ e ∷ []) h = absurd (h refl)
 no_publish (a ∷ b ∷ c ∷ e ∷ f ∷ ws) h = refl
 
-pub no_publish_to : (ws : List (Bor (List ℕ))) → (length ws ≡ 6 → ⊥) → publish_to_in (texts ws) ≡ None
+pub no_publish_to : (ws : List (Bor (List ℕ))) → (length ws ≡ 6 → ⊥) → publish_to_step (texts ws) ≡ None
 no_publish_to [] h = refl
 no_publish_to (a ∷ []) h = refl
 no_publish_to (a ∷ b ∷ []) h = refl

@@ -14,10 +14,10 @@ use Rattle.someip_world_schedule.specs.declared.step_words.WordFault.{WordFault}
 use Rattle.someip_world_schedule.specs.declared.step_words.WordFault.TheVariants.{Bad, OutOfMemory}
 
 -- what comes of a reading is what the words stand for, and Bad where they stand for nothing
-abbrev pub Reads : {T : Type 0} → Option T → Result T WordFault → Type 0
-Reads found (Ok value) = found ≡ Some value
-Reads found (Err Bad) = found ≡ None
-Reads found (Err OutOfMemory) = Unit {0}
+abbrev pub IsReadOf : {T : Type 0} → Option T → Result T WordFault → Type 0
+IsReadOf found (Ok value) = found ≡ Some value
+IsReadOf found (Err Bad) = found ≡ None
+IsReadOf found (Err OutOfMemory) = Unit {0}
 
 -- the second step, if the first stands for something
 infixl 10 ◌>>=◌
@@ -144,10 +144,10 @@ repeated_in digits count = do
   n ← number_in 1048577 count
   Some (replicate n byte)
 
-abbrev pub bytes_in : List ℕ → Option (List ℕ × List ℕ) → Option (List ℕ)
-bytes_in word (Some parts) = repeated_in parts.0 parts.1
-bytes_in word None = hex_in word
+abbrev pub repeated_or_hex_in : List ℕ → Option (List ℕ × List ℕ) → Option (List ℕ)
+repeated_or_hex_in word (Some parts) = repeated_in parts.0 parts.1
+repeated_or_hex_in word None = hex_in word
 
 -- `-` for the empty payload, HH*N or pairs of hex digits
 abbrev pub payload_in : List ℕ → Option (List ℕ)
-payload_in word = if bytes_eq word (codes "-") then Some [] else bytes_in word (cut_in 0x2a word)
+payload_in word = if bytes_eq word (codes "-") then Some [] else repeated_or_hex_in word (cut_in 0x2a word)

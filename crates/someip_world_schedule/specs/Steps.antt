@@ -22,10 +22,10 @@ abbrev pub IsUnparted : List ℕ → Type 0
 IsUnparted word = list_any (λ b. b == 0x20) word ≡ false
 
 -- words with single blanks between them
-abbrev pub joined : List (List ℕ) → List ℕ
-joined [] = []
-joined (word ∷ []) = word
-joined (word ∷ next ∷ others) = word ++ 0x20 ∷ joined (next ∷ others)
+abbrev pub joined_by_blanks : List (List ℕ) → List ℕ
+joined_by_blanks [] = []
+joined_by_blanks (word ∷ []) = word
+joined_by_blanks (word ∷ next ∷ others) = word ++ 0x20 ∷ joined_by_blanks (next ∷ others)
 
 -- what the first word asks for
 abbrev pub command_in : List ℕ → Option Command
@@ -45,111 +45,111 @@ command_in word =
     else None
 
 -- NODE MS
-abbrev pub tick_in : List (List ℕ) → Option Step
-tick_in (node ∷ ms ∷ []) = do
+abbrev pub tick_step : List (List ℕ) → Option Step
+tick_step (node ∷ ms ∷ []) = do
   node ← name_in node
   ms ← number_in (2 ^ 64) ms
   Some (Tick node ms)
-tick_in words = None
+tick_step words = None
 
 -- N NODE
-abbrev pub deliver_in : List (List ℕ) → Option Step
-deliver_in (number ∷ node ∷ []) = do
+abbrev pub deliver_step : List (List ℕ) → Option Step
+deliver_step (number ∷ node ∷ []) = do
   number ← number_in (2 ^ 64) number
   node ← name_in node
   Some (Deliver number node)
-deliver_in words = None
+deliver_step words = None
 
 -- NODE SI METHOD PAYLOAD
-abbrev pub call_in : CallKind → List (List ℕ) → Option Step
-call_in kind (node ∷ instance ∷ method ∷ payload ∷ []) = do
+abbrev pub call_step : CallKind → List (List ℕ) → Option Step
+call_step kind (node ∷ instance ∷ method ∷ payload ∷ []) = do
   node ← name_in node
   instance ← instance_in instance
   method ← method_in method
   payload ← payload_in payload
   Some (Call node kind instance method payload)
-call_in kind words = None
+call_step kind words = None
 
 -- how a request is answered
 abbrev pub Answered : Type 0
 Answered = ReturnCode → Reply
 
 -- NODE T CODE PAYLOAD
-abbrev pub answer_in : Answered → List (List ℕ) → Option Step
-answer_in reply (node ∷ token ∷ code ∷ payload ∷ []) = do
+abbrev pub answer_step : Answered → List (List ℕ) → Option Step
+answer_step reply (node ∷ token ∷ code ∷ payload ∷ []) = do
   node ← name_in node
   token ← number_in (2 ^ 64) token
   code ← code_in code
   payload ← payload_in payload
   Some (Answer node token (reply code) payload)
-answer_in reply words = None
+answer_step reply words = None
 
 -- NODE SI EVENT PAYLOAD
-abbrev pub publish_in : List (List ℕ) → Option Step
-publish_in (node ∷ instance ∷ event ∷ payload ∷ []) = do
+abbrev pub publish_step : List (List ℕ) → Option Step
+publish_step (node ∷ instance ∷ event ∷ payload ∷ []) = do
   node ← name_in node
   instance ← instance_in instance
   event ← id_in event
   payload ← payload_in payload
   Some (Publish node instance event payload)
-publish_in words = None
+publish_step words = None
 
 -- NODE SI GROUP EP EVENT PAYLOAD
-abbrev pub publish_to_in : List (List ℕ) → Option Step
-publish_to_in (node ∷ instance ∷ group ∷ endpoint ∷ event ∷ payload ∷ []) = do
+abbrev pub publish_to_step : List (List ℕ) → Option Step
+publish_to_step (node ∷ instance ∷ group ∷ endpoint ∷ event ∷ payload ∷ []) = do
   node ← name_in node
   group ← group_in instance group
   to ← endpoint_in endpoint
   event ← id_in event
   payload ← payload_in payload
   Some (PublishTo node group to event payload)
-publish_to_in words = None
+publish_to_step words = None
 
 -- NODE SI GROUP
-abbrev pub subscribe_in : List (List ℕ) → Option Step
-subscribe_in (node ∷ instance ∷ group ∷ []) = do
+abbrev pub subscribe_step : List (List ℕ) → Option Step
+subscribe_step (node ∷ instance ∷ group ∷ []) = do
   node ← name_in node
   group ← group_in instance group
   Some (Subscribe node group)
-subscribe_in words = None
+subscribe_step words = None
 
-abbrev pub unsubscribe_in : List (List ℕ) → Option Step
-unsubscribe_in (node ∷ instance ∷ group ∷ []) = do
+abbrev pub unsubscribe_step : List (List ℕ) → Option Step
+unsubscribe_step (node ∷ instance ∷ group ∷ []) = do
   node ← name_in node
   group ← group_in instance group
   Some (Unsubscribe node group)
-unsubscribe_in words = None
+unsubscribe_step words = None
 
 -- NODE SI
-abbrev pub stop_offer_in : List (List ℕ) → Option Step
-stop_offer_in (node ∷ instance ∷ []) = do
+abbrev pub stop_offer_step : List (List ℕ) → Option Step
+stop_offer_step (node ∷ instance ∷ []) = do
   node ← name_in node
   instance ← instance_in instance
   Some (StopOffer node instance)
-stop_offer_in words = None
+stop_offer_step words = None
 
 -- NODE DELAY
-abbrev pub restart_in : List (List ℕ) → Option Step
-restart_in (node ∷ delay ∷ []) = do
+abbrev pub restart_step : List (List ℕ) → Option Step
+restart_step (node ∷ delay ∷ []) = do
   node ← name_in node
   delay ← number_in (2 ^ 64) delay
   Some (Restart node delay)
-restart_in words = None
+restart_step words = None
 
 -- the step of a command with these words after it
 abbrev pub commanded : Command → List (List ℕ) → Option Step
-commanded commands.Tick words = tick_in words
-commanded commands.Deliver words = deliver_in words
-commanded commands.Call words = call_in kinds.Request words
-commanded commands.Oneway words = call_in kinds.RequestNoReturn words
-commanded commands.Answer words = answer_in replies.Response words
-commanded commands.Error words = answer_in replies.Error words
-commanded commands.Publish words = publish_in words
-commanded commands.PublishTo words = publish_to_in words
-commanded commands.Subscribe words = subscribe_in words
-commanded commands.Unsubscribe words = unsubscribe_in words
-commanded commands.StopOffer words = stop_offer_in words
-commanded commands.Restart words = restart_in words
+commanded commands.Tick words = tick_step words
+commanded commands.Deliver words = deliver_step words
+commanded commands.Call words = call_step kinds.Request words
+commanded commands.Oneway words = call_step kinds.RequestNoReturn words
+commanded commands.Answer words = answer_step replies.Response words
+commanded commands.Error words = answer_step replies.Error words
+commanded commands.Publish words = publish_step words
+commanded commands.PublishTo words = publish_to_step words
+commanded commands.Subscribe words = subscribe_step words
+commanded commands.Unsubscribe words = unsubscribe_step words
+commanded commands.StopOffer words = stop_offer_step words
+commanded commands.Restart words = restart_step words
 
 -- the step that words spell, and none if they spell none
 abbrev pub step_of_words : List (List ℕ) → Option Step

@@ -5,7 +5,7 @@ ghost use Rattle.std.specs.List.{AllByRecursion};
 ghost use Rattle.std.specs.Net.Text.{socket_v4_text};
 ghost use Rattle.std.specs.declared.net.socket_addr.SocketAddrV4.{SocketAddrV4};
 ghost use Rattle.someip_world_schedule.specs.StepWords.{endpoint_in, endpoint_of, number_in};
-ghost use Rattle.someip_world_schedule.specs.Steps.{IsUnparted, joined, words_in};
+ghost use Rattle.someip_world_schedule.specs.Steps.{IsUnparted, joined_by_blanks, words_in};
 
 /// Digits stand for a number exactly where they are its decimal text.
 pub fn what_numbers_say()
@@ -17,11 +17,11 @@ pub fn what_numbers_say()
 
 /// The words of a line are those that single blanks join to it, and no others.
 pub fn what_words_are()
-    ensures spelled { (line : List ℕ) → joined (words_in line) ≡ line }
+    ensures spelled { (line : List ℕ) → joined_by_blanks (words_in line) ≡ line }
     ensures unparted { (line : List ℕ) → AllByRecursion IsUnparted (words_in line) }
     ensures only { (word : List ℕ) (others : List (List ℕ))
         → AllByRecursion IsUnparted (word ∷ others)
-        → words_in (joined (word ∷ others)) ≡ word ∷ others }
+        → words_in (joined_by_blanks (word ∷ others)) ≡ word ∷ others }
 {}
 
 /// An endpoint is read only of the text that it is printed as, and of each.

@@ -1,7 +1,7 @@
 //! The names of nodes.
 ghost use Rattle.std.specs.Prelude.{◌≡◌, IfOk, IsTrue};
 ghost use Rattle.std.specs.List.{list_all};
-ghost use Rattle.someip_world_schedule.specs.StepWords.{Reads, is_name, is_name_byte, name_in};
+ghost use Rattle.someip_world_schedule.specs.StepWords.{IsReadOf, is_name, is_name_byte, name_in};
 
 use crate::step_words::WordFault;
 use std::alloc::{AllocError, Global};
@@ -58,7 +58,7 @@ fn are_name_bytes(text: &[u8]) -> bool
 
 /// Reads a node's name.
 pub fn name(alloc: Global, word: &str) -> Result<NodeName, WordFault>
-    ensures { Reads (name_in word.now) result }
+    ensures { IsReadOf (name_in word.now) result }
 {
     match NodeName::read(alloc, word) {
         Ok(Some(name)) => Ok(name),

@@ -1,6 +1,6 @@
 //! The payloads of steps.
 ghost use Rattle.std.specs.Prelude.{◌≡◌, ◌↔◌, IfOk, IsTrue, length};
-ghost use Rattle.someip_world_schedule.specs.StepWords.{Reads, number_in, hex_in, repeated_in, payload_in};
+ghost use Rattle.someip_world_schedule.specs.StepWords.{IsReadOf, number_in, hex_in, repeated_in, payload_in};
 
 use crate::step_words::{WordFault, byte, cut, number};
 use hex::FromHexError;
@@ -73,7 +73,7 @@ impl StepPayload {
 
 /// Reads a payload: `-`, `HH*N` or pairs of hex digits.
 pub fn payload(alloc: Global, word: &str) -> Result<StepPayload, WordFault>
-    ensures { Reads (payload_in word.now) result }
+    ensures { IsReadOf (payload_in word.now) result }
 {
     if word == "-" {
         return Ok(StepPayload::from_vec(Vec::new(alloc)));
@@ -114,7 +114,7 @@ fn repetitions(word: &str) -> Option<usize>
 
 /// The bytes of pairs of hex digits.
 fn hex_bytes(alloc: Global, word: &str) -> Result<StepPayload, WordFault>
-    ensures { Reads (hex_in word.now) result }
+    ensures { IsReadOf (hex_in word.now) result }
 {
     if word.is_empty() {
         return Err(WordFault::Bad);

@@ -1,9 +1,9 @@
 //! The steps that words spell.
 ghost use Rattle.std.specs.Prelude.{◌≡◌, map, IfOk};
-ghost use Rattle.someip_world_schedule.specs.StepWords.{Reads};
-ghost use Rattle.someip_world_schedule.specs.Steps.{words_in, tick_in, deliver_in, call_in, answer_in};
-ghost use Rattle.someip_world_schedule.specs.Steps.{publish_in, publish_to_in, subscribe_in, unsubscribe_in};
-ghost use Rattle.someip_world_schedule.specs.Steps.{stop_offer_in, restart_in, commanded, step_of_words};
+ghost use Rattle.someip_world_schedule.specs.StepWords.{IsReadOf};
+ghost use Rattle.someip_world_schedule.specs.Steps.{words_in, tick_step, deliver_step, call_step, answer_step};
+ghost use Rattle.someip_world_schedule.specs.Steps.{publish_step, publish_to_step, subscribe_step, unsubscribe_step};
+ghost use Rattle.someip_world_schedule.specs.Steps.{stop_offer_step, restart_step, commanded, step_of_words};
 ghost use Rattle.someip_rpc.specs.declared.request.Reply.TheVariants.{Response, Error};
 
 use crate::step::Step;
@@ -23,7 +23,7 @@ fn words_of<'t>(alloc: Global, line: &'t str) -> Result<Vec<&'t str>, AllocError
 
 /// The step that a line of UTF-8 spells.
 pub fn step_of_line(alloc: Global, line: &str) -> Result<Step, WordFault>
-    ensures { Reads (step_of_words (words_in line.now)) result }
+    ensures { IsReadOf (step_of_words (words_in line.now)) result }
 {
     let words = words_of(alloc, line)?;
     step_of_words(alloc, words.as_slice())
@@ -31,7 +31,7 @@ pub fn step_of_line(alloc: Global, line: &str) -> Result<Step, WordFault>
 
 /// The step that words spell.
 fn step_of_words(alloc: Global, words: &[&str]) -> Result<Step, WordFault>
-    ensures { Reads (step_of_words (map (λ w. w.now) words.now)) result }
+    ensures { IsReadOf (step_of_words (map (λ w. w.now) words.now)) result }
 {
     let [word, others @ ..] = words else {
         return Err(WordFault::Bad);
@@ -44,7 +44,7 @@ fn step_of_words(alloc: Global, words: &[&str]) -> Result<Step, WordFault>
 
 /// The step of a command and the words after it.
 fn step_of(alloc: Global, command: Command, words: &[&str]) -> Result<Step, WordFault>
-    ensures { Reads (commanded command (map (λ w. w.now) words.now)) result }
+    ensures { IsReadOf (commanded command (map (λ w. w.now) words.now)) result }
 {
     match command {
         Command::Tick => tick(alloc, words),
@@ -64,7 +64,7 @@ fn step_of(alloc: Global, command: Command, words: &[&str]) -> Result<Step, Word
 
 /// NODE MS.
 fn tick(alloc: Global, words: &[&str]) -> Result<Step, WordFault>
-    ensures { Reads (tick_in (map (λ w. w.now) words.now)) result }
+    ensures { IsReadOf (tick_step (map (λ w. w.now) words.now)) result }
 {
     let [node, ms] = words else {
         return Err(WordFault::Bad);
@@ -76,7 +76,7 @@ fn tick(alloc: Global, words: &[&str]) -> Result<Step, WordFault>
 
 /// N NODE.
 fn deliver(alloc: Global, words: &[&str]) -> Result<Step, WordFault>
-    ensures { Reads (deliver_in (map (λ w. w.now) words.now)) result }
+    ensures { IsReadOf (deliver_step (map (λ w. w.now) words.now)) result }
 {
     let [first, node] = words else {
         return Err(WordFault::Bad);
@@ -88,7 +88,7 @@ fn deliver(alloc: Global, words: &[&str]) -> Result<Step, WordFault>
 
 /// NODE SI METHOD PAYLOAD.
 fn call(alloc: Global, kind: CallKind, words: &[&str]) -> Result<Step, WordFault>
-    ensures { Reads (call_in kind (map (λ w. w.now) words.now)) result }
+    ensures { IsReadOf (call_step kind (map (λ w. w.now) words.now)) result }
 {
     let [node, si, id, bytes] = words else {
         return Err(WordFault::Bad);
@@ -108,7 +108,7 @@ fn call(alloc: Global, kind: CallKind, words: &[&str]) -> Result<Step, WordFault
 
 /// NODE T CODE PAYLOAD, of a RESPONSE.
 fn response(alloc: Global, words: &[&str]) -> Result<Step, WordFault>
-    ensures { Reads (answer_in Response (map (λ w. w.now) words.now)) result }
+    ensures { IsReadOf (answer_step Response (map (λ w. w.now) words.now)) result }
 {
     let [node, token, code_word, bytes] = words else {
         return Err(WordFault::Bad);
@@ -127,7 +127,7 @@ fn response(alloc: Global, words: &[&str]) -> Result<Step, WordFault>
 
 /// NODE T CODE PAYLOAD, of an ERROR.
 fn error(alloc: Global, words: &[&str]) -> Result<Step, WordFault>
-    ensures { Reads (answer_in Error (map (λ w. w.now) words.now)) result }
+    ensures { IsReadOf (answer_step Error (map (λ w. w.now) words.now)) result }
 {
     let [node, token, code_word, bytes] = words else {
         return Err(WordFault::Bad);
@@ -146,7 +146,7 @@ fn error(alloc: Global, words: &[&str]) -> Result<Step, WordFault>
 
 /// NODE SI EVENT PAYLOAD.
 fn publish(alloc: Global, words: &[&str]) -> Result<Step, WordFault>
-    ensures { Reads (publish_in (map (λ w. w.now) words.now)) result }
+    ensures { IsReadOf (publish_step (map (λ w. w.now) words.now)) result }
 {
     let [node, si, event, bytes] = words else {
         return Err(WordFault::Bad);
@@ -165,7 +165,7 @@ fn publish(alloc: Global, words: &[&str]) -> Result<Step, WordFault>
 
 /// NODE SI GROUP EP EVENT PAYLOAD.
 fn publish_to(alloc: Global, words: &[&str]) -> Result<Step, WordFault>
-    ensures { Reads (publish_to_in (map (λ w. w.now) words.now)) result }
+    ensures { IsReadOf (publish_to_step (map (λ w. w.now) words.now)) result }
 {
     let [node, si, eventgroup, ep, event, bytes] = words else {
         return Err(WordFault::Bad);
@@ -186,7 +186,7 @@ fn publish_to(alloc: Global, words: &[&str]) -> Result<Step, WordFault>
 
 /// NODE SI GROUP.
 fn subscribe(alloc: Global, words: &[&str]) -> Result<Step, WordFault>
-    ensures { Reads (subscribe_in (map (λ w. w.now) words.now)) result }
+    ensures { IsReadOf (subscribe_step (map (λ w. w.now) words.now)) result }
 {
     let [node, si, eventgroup] = words else {
         return Err(WordFault::Bad);
@@ -198,7 +198,7 @@ fn subscribe(alloc: Global, words: &[&str]) -> Result<Step, WordFault>
 
 /// NODE SI GROUP.
 fn unsubscribe(alloc: Global, words: &[&str]) -> Result<Step, WordFault>
-    ensures { Reads (unsubscribe_in (map (λ w. w.now) words.now)) result }
+    ensures { IsReadOf (unsubscribe_step (map (λ w. w.now) words.now)) result }
 {
     let [node, si, eventgroup] = words else {
         return Err(WordFault::Bad);
@@ -210,7 +210,7 @@ fn unsubscribe(alloc: Global, words: &[&str]) -> Result<Step, WordFault>
 
 /// NODE SI.
 fn stop_offer(alloc: Global, words: &[&str]) -> Result<Step, WordFault>
-    ensures { Reads (stop_offer_in (map (λ w. w.now) words.now)) result }
+    ensures { IsReadOf (stop_offer_step (map (λ w. w.now) words.now)) result }
 {
     let [node, si] = words else {
         return Err(WordFault::Bad);
@@ -222,7 +222,7 @@ fn stop_offer(alloc: Global, words: &[&str]) -> Result<Step, WordFault>
 
 /// NODE DELAY.
 fn restart(alloc: Global, words: &[&str]) -> Result<Step, WordFault>
-    ensures { Reads (restart_in (map (λ w. w.now) words.now)) result }
+    ensures { IsReadOf (restart_step (map (λ w. w.now) words.now)) result }
 {
     let [node, delay] = words else {
         return Err(WordFault::Bad);

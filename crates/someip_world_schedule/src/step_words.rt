@@ -1,7 +1,7 @@
 //! The words of a line that are numbers, IDs and endpoints.
 ghost use Rattle.std.specs.Prelude.{◌≡◌, ◌<◌, ◌^◌, Some, None, MatchOption};
 ghost use Rattle.std.specs.List.{list_all};
-ghost use Rattle.someip_world_schedule.specs.StepWords.{Reads, cut_in, is_digit, begins_plain};
+ghost use Rattle.someip_world_schedule.specs.StepWords.{IsReadOf, cut_in, is_digit, begins_plain};
 ghost use Rattle.someip_world_schedule.specs.StepWords.{is_plain, number_in, id_in, method_in};
 ghost use Rattle.someip_world_schedule.specs.StepWords.{byte_in, code_in, instance_in, group_in, address_in};
 ghost use Rattle.someip_world_schedule.specs.StepWords.{endpoint_in};

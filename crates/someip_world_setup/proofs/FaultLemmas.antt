@@ -4,10 +4,10 @@ use Rattle.toml.specs.Data.{Data}
 use Rattle.someip_world_setup.specs.declared.error.SetupError.{SetupError}
 use Rattle.someip_world_setup.specs.declared.error.SetupError.TheVariants as errors
 use Rattle.someip_world_setup.specs.Readings.{HasFault, RefusesKey, RefusesClash}
-use Rattle.someip_world_setup.specs.Keys.{Fails}
+use Rattle.someip_world_setup.specs.Keys.{TellsNotFound}
 use Rattle.someip_world_setup.specs.KnownKeys.{has_unknown_key}
 use Rattle.someip_world_setup.specs.Clashes.{has_clash}
-use Rattle.someip_world_setup.specs.Says.{setup_of}
+use Rattle.someip_world_setup.specs.Says.{said_setup}
 use Rattle.someip_world_setup.specs.Values.{SetupValue}
 
 pub unknown_refuses : (d : Data) (e : SetupError) → RefusesKey (has_unknown_key d) (Err e) → HasFault d e
@@ -19,7 +19,7 @@ unknown_refuses d (errors.UnknownKey k) h = h
 unknown_refuses d (errors.Clash k) h = absurd h
 unknown_refuses d errors.OutOfMemory h = tt
 
-pub parts_refuse : (d : Data) (e : SetupError) → Fails e (setup_of d) → HasFault d e
+pub parts_refuse : (d : Data) (e : SetupError) → TellsNotFound e (said_setup d) → HasFault d e
 parts_refuse d errors.NotToml h = absurd h
 parts_refuse d (errors.Missing k) h = h
 parts_refuse d (errors.WrongKind k) h = h
@@ -28,7 +28,7 @@ parts_refuse d (errors.UnknownKey k) h = absurd h
 parts_refuse d (errors.Clash k) h = absurd h
 parts_refuse d errors.OutOfMemory h = tt
 
-pub clash_refuses : (d : Data) (v : SetupValue) (e : SetupError) → setup_of d ≡ Some v → RefusesClash (has_clash v) (Err e) → HasFault d e
+pub clash_refuses : (d : Data) (v : SetupValue) (e : SetupError) → said_setup d ≡ Some v → RefusesClash (has_clash v) (Err e) → HasFault d e
 clash_refuses d v errors.NotToml is h = absurd h
 clash_refuses d v (errors.Missing k) is h = absurd h
 clash_refuses d v (errors.WrongKind k) is h = absurd h

@@ -7,7 +7,7 @@ use Rattle.toml.specs.Data.{Data, Members, as_table}
 use Rattle.toml.specs.View.{members_view, table_view}
 use Rattle.toml.specs.declared.value.Value.{Value}
 use Rattle.someip_world_setup.specs.declared.unknown.Place.{Place}
-use Rattle.someip_world_setup.specs.KnownKeys.{is_known, keys_in, keys_of_members, has_unknown}
+use Rattle.someip_world_setup.specs.KnownKeys.{is_known_key, keys_in, keys_of_members, has_unknown}
 
 any-find : {A : Type 0} (p : A → Bool) (xs : List A) → is_some (find p xs) ≡ list_any p xs
 any-find p [] = refl
@@ -22,9 +22,9 @@ any-keys p [] = refl
 any-keys p (e ∷ es) = ap (λ b. p (string_bytes e.0) || b) (any-keys p es)
 
 -- the first of the keys that is unknown, if one is
-pub first_decides : (place : Place) (d : Data) (m : BTreeMap (String Global) Value) (first : Option (String Global)) → Some (table_view m) ≡ as_table d → first ≡ find (λ k. not (is_known place (string_bytes k))) (keys m) → is_some first ≡ has_unknown place d
+pub first_decides : (place : Place) (d : Data) (m : BTreeMap (String Global) Value) (first : Option (String Global)) → Some (table_view m) ≡ as_table d → first ≡ find (λ k. not (is_known_key place (string_bytes k))) (keys m) → is_some first ≡ has_unknown place d
 first_decides place d m first is found =
     ap (λ (o : Option (String Global)). is_some o) found
-    ∙ any-find (λ k. not (is_known place (string_bytes k))) (keys m)
-    ∙ sym (any-keys (λ k. not (is_known place k)) m.entries)
-    ∙ ap (λ (o : Option Members). list_any (λ k. not (is_known place k)) (keys_in o)) is
+    ∙ any-find (λ k. not (is_known_key place (string_bytes k))) (keys m)
+    ∙ sym (any-keys (λ k. not (is_known_key place k)) m.entries)
+    ∙ ap (λ (o : Option Members). list_any (λ k. not (is_known_key place k)) (keys_in o)) is

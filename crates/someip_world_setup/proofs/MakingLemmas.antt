@@ -4,7 +4,7 @@ use Rattle.std.specs.Ordering.{match_ordering, nat_cmp}
 use Rattle.std.specs.BTreeMap.{insert_entry}
 use Rattle.std.specs.BTreeSet.{insert_key}
 use Rattle.std.proofs.lemmas.List.{drop_all, drop_more}
-use Rattle.someip_world_setup.specs.Made.{with_keys, with_entries, set_of, seen}
+use Rattle.someip_world_setup.specs.Made.{with_keys, with_entries, set_of, plain_entries}
 
 -- ---- sets
 
@@ -20,28 +20,28 @@ all_keys keys i ids le h = sym (ap (with_keys keys) (drop_all i ids le)) ∙ h
 -- ---- maps
 
 module _ {K X Y : Type 0} (cmp : K → K → Ordering) (f : X → Y) where
-  seen_match : (o : Ordering) (e : K × X) (es : List (K × X)) (k : K) (v : X) (rest : List (K × X)) (more : List (K × Y)) → seen f rest ≡ more → seen f (match_ordering o ((k, v) ∷ e ∷ es) ((e.0, v) ∷ es) (e ∷ rest)) ≡ match_ordering o ((k, f v) ∷ (e.0, f e.1) ∷ seen f es) ((e.0, f v) ∷ seen f es) ((e.0, f e.1) ∷ more)
+  seen_match : (o : Ordering) (e : K × X) (es : List (K × X)) (k : K) (v : X) (rest : List (K × X)) (more : List (K × Y)) → plain_entries f rest ≡ more → plain_entries f (match_ordering o ((k, v) ∷ e ∷ es) ((e.0, v) ∷ es) (e ∷ rest)) ≡ match_ordering o ((k, f v) ∷ (e.0, f e.1) ∷ plain_entries f es) ((e.0, f v) ∷ plain_entries f es) ((e.0, f e.1) ∷ more)
   seen_match Less e es k v rest more h = refl
   seen_match Equal e es k v rest more h = refl
   seen_match Greater e es k v rest more h = ap (λ (t : List (K × Y)). (e.0, f e.1) ∷ t) h
 
-  pub seen-insert : (es : List (K × X)) (k : K) (v : X) → seen f (insert_entry cmp es k v) ≡ insert_entry cmp (seen f es) k (f v)
+  pub seen-insert : (es : List (K × X)) (k : K) (v : X) → plain_entries f (insert_entry cmp es k v) ≡ insert_entry cmp (plain_entries f es) k (f v)
   seen-insert [] k v = refl
-  seen-insert (e ∷ es) k v = seen_match (cmp k e.0) e es k v (insert_entry cmp es k v) (insert_entry cmp (seen f es) k (f v)) (seen-insert es k v)
+  seen-insert (e ∷ es) k v = seen_match (cmp k e.0) e es k v (insert_entry cmp es k v) (insert_entry cmp (plain_entries f es) k (f v)) (seen-insert es k v)
 
   module _ {A : Type 0} (g : A → K × Y) where
     abbrev pub HasEntries : List (K × X) → ℕ → List A → Type 0
-    HasEntries es i xs = with_entries cmp (seen f es) (map g (drop i xs)) ≡ with_entries cmp [] (map g xs)
+    HasEntries es i xs = with_entries cmp (plain_entries f es) (map g (drop i xs)) ≡ with_entries cmp [] (map g xs)
 
     pub one_entry : (es more : List (K × X)) (i : ℕ) (xs : List A) (d : A) (k : K) (v : X) → i < length xs → more ≡ insert_entry cmp es k v → k ≡ (g (get_or xs i d)).0 → f v ≡ (g (get_or xs i d)).1 → HasEntries es i xs → HasEntries more (i + 1) xs
     one_entry es more i xs d k v lt is key value h =
-        let grown : seen f more ≡ insert_entry cmp (seen f es) (g (get_or xs i d)).0 (g (get_or xs i d)).1 =
-        ap (seen f) is ∙ seen-insert es k v ∙ ap (λ (t : K). insert_entry cmp (seen f es) t (f v)) key ∙ ap (λ (t : Y). insert_entry cmp (seen f es) (g (get_or xs i d)).0 t) value in
+        let grown : plain_entries f more ≡ insert_entry cmp (plain_entries f es) (g (get_or xs i d)).0 (g (get_or xs i d)).1 =
+        ap (plain_entries f) is ∙ seen-insert es k v ∙ ap (λ (t : K). insert_entry cmp (plain_entries f es) t (f v)) key ∙ ap (λ (t : Y). insert_entry cmp (plain_entries f es) (g (get_or xs i d)).0 t) value in
         ap (λ (t : List (K × Y)). with_entries cmp t (map g (drop (i + 1) xs))) grown
-        ∙ sym (ap (λ (t : List A). with_entries cmp (seen f es) (map g t)) (drop_more xs i d lt)) ∙ h
+        ∙ sym (ap (λ (t : List A). with_entries cmp (plain_entries f es) (map g t)) (drop_more xs i d lt)) ∙ h
 
-    pub all_entries : (es : List (K × X)) (i : ℕ) (xs : List A) → length xs ≤ i → HasEntries es i xs → seen f es ≡ with_entries cmp [] (map g xs)
-    all_entries es i xs le h = sym (ap (λ (t : List A). with_entries cmp (seen f es) (map g t)) (drop_all i xs le)) ∙ h
+    pub all_entries : (es : List (K × X)) (i : ℕ) (xs : List A) → length xs ≤ i → HasEntries es i xs → plain_entries f es ≡ with_entries cmp [] (map g xs)
+    all_entries es i xs le h = sym (ap (λ (t : List A). with_entries cmp (plain_entries f es) (map g t)) (drop_all i xs le)) ∙ h
 
 -- ---- lists
 

@@ -24,7 +24,7 @@ use Rattle.someip_world_setup.specs.Keys.{is_name}
 use Rattle.someip_world_setup.specs.Clashes.{has_repeat, same_number, same_instance, has_equal_names, has_equal_addresses, has_equal_ports, offered_by, has_equal_offers, has_equal_wants, has_equal_ids_offered, has_equal_ids_wanted, has_equal_ids_of, has_clash}
 use Rattle.someip_world_setup.specs.GoodSetups.{IsGoodNode, instances_of, IsGoodNetwork}
 use Rattle.someip_world_setup.specs.Values.{OfferValue, NodeValue, common_view}
-use Rattle.someip_world_setup.specs.Made.{OfferMade, ConfigMade, NodeMade, seen, offered_view, config_view, made_view, offer_entry, want_entry, offers_made, wants_made, config_made, node_made}
+use Rattle.someip_world_setup.specs.Made.{OfferMade, ConfigMade, NodeMade, plain_entries, offered_view, config_view, made_view, keyed_offer, keyed_want, offers_made, wants_made, config_made, node_made}
 use Rattle.someip_world_setup.proofs.MakingLemmas.{map_after}
 use Rattle.someip_world_setup.proofs.OrderLemmas.{all-permutation, repeat-permutation, repeat-append}
 use Rattle.someip_world_setup.proofs.RangeLemmas.{NodeRange, SetupRange}
@@ -58,7 +58,7 @@ port_offered e = e.1.rules.endpoint.port
 -- ---- configurations
 
 module _ (common : Common) (n : NodeValue) (c : Config) (is : config_view c ≡ config_made common n) where
-  offers_are : seen offered_view c.offers.entries ≡ offers_made n.address n.offers
+  offers_are : plain_entries offered_view c.offers.entries ≡ offers_made n.address n.offers
   offers_are = ap (λ (m : ConfigMade). m.offers) is
 
   good_offers : (least most : ℕ) → NodeRange least most n → has_equal_ports n ≡ false → has_repeat same_instance (offered_by n) ≡ false → list_any has_equal_ids_offered n.offers ≡ false → list_all (is_good_offer c) c.offers.entries ≡ true
@@ -67,24 +67,24 @@ module _ (common : Common) (n : NodeValue) (c : Config) (is : config_view c ≡ 
       let discovery = or_parts (same_number 30490 n.client_port) (list_any (same_number 30490) (map (λ (o : OfferValue). o.port) n.offers)) a.0 in
       let client = or_parts (list_any (same_number n.client_port) (map (λ (o : OfferValue). o.port) n.offers)) (has_repeat same_number (map (λ (o : OfferValue). o.port) n.offers)) a.1 in
       offers_seen c c.offers.entries
-      ∙ ap (λ address. list_all (good_offer_made address c.client_port) (seen offered_view c.offers.entries)) (ap (λ (m : ConfigMade). m.address) is)
-      ∙ ap (λ port. list_all (good_offer_made n.address port) (seen offered_view c.offers.entries)) (ap (λ (m : ConfigMade). m.client_port) is)
+      ∙ ap (λ address. list_all (good_offer_made address c.client_port) (plain_entries offered_view c.offers.entries)) (ap (λ (m : ConfigMade). m.address) is)
+      ∙ ap (λ port. list_all (good_offer_made n.address port) (plain_entries offered_view c.offers.entries)) (ap (λ (m : ConfigMade). m.client_port) is)
       ∙ ap (list_all (good_offer_made n.address n.client_port)) offers_are
-      ∙ all-permutation (good_offer_made n.address n.client_port) (map (offer_entry n.address) n.offers) (offers_made n.address n.offers) (offers-permutation n.address n.offers offered)
+      ∙ all-permutation (good_offer_made n.address n.client_port) (map (keyed_offer n.address) n.offers) (offers_made n.address n.offers) (offers-permutation n.address n.offers offered)
       (offers_pass n.address n.client_port n.offers h.offers ids discovery.1 client.0)
 
   good_wants : (least most : ℕ) → NodeRange least most n → has_equal_wants n ≡ false → list_any has_equal_ids_wanted n.wants ≡ false → list_all is_good_want c.wants.entries ≡ true
   good_wants least most h wanted ids =
       wants_seen c.wants.entries
       ∙ ap (list_all good_want_made) (ap (λ (m : ConfigMade). m.wants) is)
-      ∙ all-permutation good_want_made (map want_entry n.wants) (wants_made n.wants) (wants-permutation n.wants wanted) (wants_pass n.wants h.wants ids)
+      ∙ all-permutation good_want_made (map keyed_want n.wants) (wants_made n.wants) (wants-permutation n.wants wanted) (wants_pass n.wants h.wants ids)
 
   own_ports : has_equal_ports n ≡ false → has_repeat same_instance (offered_by n) ≡ false → has_own_ports c ≡ true
   own_ports ports offered =
       let a = or_parts (list_any (same_number 30490) (n.client_port ∷ map (λ (o : OfferValue). o.port) n.offers)) (has_repeat same_number (n.client_port ∷ map (λ (o : OfferValue). o.port) n.offers)) ports in
       let client = or_parts (list_any (same_number n.client_port) (map (λ (o : OfferValue). o.port) n.offers)) (has_repeat same_number (map (λ (o : OfferValue). o.port) n.offers)) a.1 in
-      let apart : has_repeat same_number (map port_made (map (offer_entry n.address) n.offers)) ≡ false =
-      ap (has_repeat same_number) (sym (map_after port_made (offer_entry n.address) n.offers)) ∙ client.1 in
+      let apart : has_repeat same_number (map port_made (map (keyed_offer n.address) n.offers)) ≡ false =
+      ap (has_repeat same_number) (sym (map_after port_made (keyed_offer n.address) n.offers)) ∙ client.1 in
       let made : has_repeat same_number (map port_made (offers_made n.address n.offers)) ≡ false =
       repeat-permutation same_number (eq_by_cmp_equiv nat_cmp_total) _ _ (IsPermutation-map port_made _ _ (offers-permutation n.address n.offers offered)) apart in
       let kept : has_repeat same_number (map port_offered c.offers.entries) ≡ false =
@@ -150,10 +150,10 @@ instances-permutation : (common : Common) (ns : List NodeValue) → has_repeat s
 instances-permutation common [] h = IsPermutation-refl []
 instances-permutation common (n ∷ ns) h =
     let parts = repeat-append same_instance (offered_by n) (flat_map offered_by ns) h in
-    let here : IsPermutation (map (λ (e : InstanceId × OfferMade). e.0) (map (offer_entry n.address) n.offers)) (map (λ (e : InstanceId × OfferMade). e.0) (offers_made n.address n.offers)) =
+    let here : IsPermutation (map (λ (e : InstanceId × OfferMade). e.0) (map (keyed_offer n.address) n.offers)) (map (λ (e : InstanceId × OfferMade). e.0) (offers_made n.address n.offers)) =
     IsPermutation-map (λ (e : InstanceId × OfferMade). e.0) _ _ (offers-permutation n.address n.offers parts.0) in
     IsPermutation-append (offered_by n) (instances_made (node_made common n)) (flat_map offered_by ns) (flat_map instances_made (map (node_made common) ns))
-    (subst (λ t. IsPermutation t (instances_made (node_made common n))) (sym (map_after (λ (e : InstanceId × OfferMade). e.0) (offer_entry n.address) n.offers)) here)
+    (subst (λ t. IsPermutation t (instances_made (node_made common n))) (sym (map_after (λ (e : InstanceId × OfferMade). e.0) (keyed_offer n.address) n.offers)) here)
     (instances-permutation common ns parts.1)
 
 -- ---- the network

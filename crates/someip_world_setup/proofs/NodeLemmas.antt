@@ -23,7 +23,7 @@ use Rattle.someip_node_rules.specs.GoodConfigs.{is_within, is_good_port, is_good
 use Rattle.someip_node_rules.specs.Handling.{same_address}
 use Rattle.someip_world_setup.specs.Clashes.{has_repeat, same_number, same_instance, offered_id, wanted_id, has_equal_members, has_equal_ids, has_equal_ids_offered, has_equal_ids_wanted}
 use Rattle.someip_world_setup.specs.Values.{ListedValue, OfferValue, WantValue}
-use Rattle.someip_world_setup.specs.Made.{OfferMade, WantMade, seen, keys_of_set, set_of, list_entry, lists_of, offered_view, wanted_view, offer_entry, want_entry, offers_made, wants_made}
+use Rattle.someip_world_setup.specs.Made.{OfferMade, WantMade, plain_entries, keys_of_set, set_of, keyed_list, lists_of, offered_view, wanted_view, keyed_offer, keyed_want, offers_made, wants_made}
 use Rattle.someip_world_setup.proofs.MakingLemmas.{map_after}
 use Rattle.someip_world_setup.proofs.OrderLemmas.{all-permutation, set-permutation, map-permutation, repeat-append}
 use Rattle.someip_world_setup.proofs.RangeLemmas.{EventRange, OfferRange, GroupRange, WantRange}
@@ -56,11 +56,11 @@ offer_seen config e = rw (list_all-map good_event_made (λ (x : ℕ × BTreeSet 
 want_seen : (e : InstanceId × WantedService) → is_good_want e ≡ good_want_made (e.0, wanted_view e.1)
 want_seen e = rw (list_all-map good_group_made (λ (x : ℕ × BTreeSet ℕ). (x.0, keys_of_set x.1)) e.1.groups.entries) refl
 
-pub offers_seen : (config : Config) (es : List (InstanceId × OfferedService)) → list_all (is_good_offer config) es ≡ list_all (good_offer_made config.address config.client_port) (seen offered_view es)
+pub offers_seen : (config : Config) (es : List (InstanceId × OfferedService)) → list_all (is_good_offer config) es ≡ list_all (good_offer_made config.address config.client_port) (plain_entries offered_view es)
 offers_seen config [] = refl
 offers_seen config (e ∷ es) = rw (offer_seen config e, offers_seen config es) refl
 
-pub wants_seen : (es : List (InstanceId × WantedService)) → list_all is_good_want es ≡ list_all good_want_made (seen wanted_view es)
+pub wants_seen : (es : List (InstanceId × WantedService)) → list_all is_good_want es ≡ list_all good_want_made (plain_entries wanted_view es)
 wants_seen [] = refl
 wants_seen (e ∷ es) = rw (want_seen e, wants_seen es) refl
 
@@ -108,28 +108,28 @@ none_common_made xs ys h =
 
 -- ---- lists with others
 
-module _ (P : ListedValue → Type 0) (p : ℕ × List ℕ → Bool) (one : (l : ListedValue) → P l → has_equal_members l ≡ false → p (list_entry l) ≡ true) where
-  entries_pass : (ls : List ListedValue) → AllByRecursion P ls → list_any has_equal_members ls ≡ false → list_all p (map list_entry ls) ≡ true
+module _ (P : ListedValue → Type 0) (p : ℕ × List ℕ → Bool) (one : (l : ListedValue) → P l → has_equal_members l ≡ false → p (keyed_list l) ≡ true) where
+  entries_pass : (ls : List ListedValue) → AllByRecursion P ls → list_any has_equal_members ls ≡ false → list_all p (map keyed_list ls) ≡ true
   entries_pass [] h k = refl
   entries_pass (l ∷ ls) h k =
       let parts = or_parts (has_equal_members l) (list_any has_equal_members ls) k in
-      and_from (p (list_entry l)) (list_all p (map list_entry ls)) (one l h.0 parts.0) (entries_pass ls h.1 parts.1)
+      and_from (p (keyed_list l)) (list_all p (map keyed_list ls)) (one l h.0 parts.0) (entries_pass ls h.1 parts.1)
 
   lists_pass : (ls : List ListedValue) → AllByRecursion P ls → has_equal_ids ls ≡ false → list_all p (lists_of ls) ≡ true
   lists_pass ls h k =
       let parts = or_parts (has_repeat same_number (map (λ (l : ListedValue). l.id) ls)) (list_any has_equal_members ls) k in
-      all-permutation p (map list_entry ls) (lists_of ls)
-      (map-permutation nat_cmp nat_cmp_total (map list_entry ls) (ap (has_repeat same_number) (sym (map_after (λ (e : ℕ × List ℕ). e.0) list_entry ls)) ∙ parts.0))
+      all-permutation p (map keyed_list ls) (lists_of ls)
+      (map-permutation nat_cmp nat_cmp_total (map keyed_list ls) (ap (has_repeat same_number) (sym (map_after (λ (e : ℕ × List ℕ). e.0) keyed_list ls)) ∙ parts.0))
       (entries_pass ls h parts.1)
 
-good_event : (l : ListedValue) → EventRange l → has_equal_members l ≡ false → good_event_made (list_entry l) ≡ true
+good_event : (l : ListedValue) → EventRange l → has_equal_members l ≡ false → good_event_made (keyed_list l) ≡ true
 good_event l h k =
     let order = set-permutation l.members k in
     and_from _ _
     (and_from _ _ h.id (not_from_false _ (ap (λ n. n == 0) (length_permutation l.members (set_of l.members) order) ∙ h.some)))
     (all-permutation is_good_id l.members (set_of l.members) order h.members)
 
-good_group : (l : ListedValue) → GroupRange l → has_equal_members l ≡ false → good_group_made (list_entry l) ≡ true
+good_group : (l : ListedValue) → GroupRange l → has_equal_members l ≡ false → good_group_made (keyed_list l) ≡ true
 good_group l h k = and_from _ _ h.id (all-permutation is_good_event l.members (set_of l.members) (set-permutation l.members k) h.members)
 
 -- ---- ports
@@ -143,7 +143,7 @@ good_port port some other = and_from _ _ (not_from_false _ some) (not_from_false
 -- ---- offers
 
 good_offer : (address : Ipv4Addr) (client_port : ℕ) (o : OfferValue) → OfferRange o → has_equal_ids_offered o ≡ false
-    → same_number 30490 o.port ≡ false → same_number client_port o.port ≡ false → good_offer_made address client_port (offer_entry address o) ≡ true
+    → same_number 30490 o.port ≡ false → same_number client_port o.port ≡ false → good_offer_made address client_port (keyed_offer address o) ≡ true
 good_offer address client_port o h k discovery client =
     let parts = or_parts (has_repeat same_number (o.methods ++ o.oneways)) (has_equal_ids o.events) k in
     let each = repeat-append same_number o.methods o.oneways parts.0 in
@@ -163,14 +163,14 @@ good_offer address client_port o h k discovery client =
     (lists_pass EventRange good_event_made good_event o.events h.events parts.1))
     h.subscribers
 
-good_want : (w : WantValue) → WantRange w → has_equal_ids_wanted w ≡ false → good_want_made (want_entry w) ≡ true
+good_want : (w : WantValue) → WantRange w → has_equal_ids_wanted w ≡ false → good_want_made (keyed_want w) ≡ true
 good_want w h k =
     and_from _ _ (and_from _ _ (and_from _ _ h.id h.major) (not_from_false _ h.ttl)) (lists_pass GroupRange good_group_made good_group w.groups h.groups k)
 
 module _ (address : Ipv4Addr) (client_port : ℕ) where
   pub offers_pass : (os : List OfferValue) → AllByRecursion OfferRange os → list_any has_equal_ids_offered os ≡ false
       → list_any (same_number 30490) (map (λ o. o.port) os) ≡ false → list_any (same_number client_port) (map (λ o. o.port) os) ≡ false
-      → list_all (good_offer_made address client_port) (map (offer_entry address) os) ≡ true
+      → list_all (good_offer_made address client_port) (map (keyed_offer address) os) ≡ true
   offers_pass [] h k discovery client = refl
   offers_pass (o ∷ os) h k discovery client =
       let ids = or_parts (has_equal_ids_offered o) (list_any has_equal_ids_offered os) k in
@@ -178,17 +178,17 @@ module _ (address : Ipv4Addr) (client_port : ℕ) where
       let b = or_parts (same_number client_port o.port) (list_any (same_number client_port) (map (λ (o : OfferValue). o.port) os)) client in
       and_from _ _ (good_offer address client_port o h.0 ids.0 a.0 b.0) (offers_pass os h.1 ids.1 a.1 b.1)
 
-pub wants_pass : (ws : List WantValue) → AllByRecursion WantRange ws → list_any has_equal_ids_wanted ws ≡ false → list_all good_want_made (map want_entry ws) ≡ true
+pub wants_pass : (ws : List WantValue) → AllByRecursion WantRange ws → list_any has_equal_ids_wanted ws ≡ false → list_all good_want_made (map keyed_want ws) ≡ true
 wants_pass [] h k = refl
 wants_pass (w ∷ ws) h k =
     let ids = or_parts (has_equal_ids_wanted w) (list_any has_equal_ids_wanted ws) k in
     and_from _ _ (good_want w h.0 ids.0) (wants_pass ws h.1 ids.1)
 
 -- what is made of the offers of a node is what they are, in another order
-pub offers-permutation : (address : Ipv4Addr) (os : List OfferValue) → has_repeat same_instance (map offered_id os) ≡ false → IsPermutation (map (offer_entry address) os) (offers_made address os)
+pub offers-permutation : (address : Ipv4Addr) (os : List OfferValue) → has_repeat same_instance (map offered_id os) ≡ false → IsPermutation (map (keyed_offer address) os) (offers_made address os)
 offers-permutation address os h =
-    map-permutation instance_cmp instances_total (map (offer_entry address) os) (ap (has_repeat same_instance) (sym (map_after (λ (e : InstanceId × OfferMade). e.0) (offer_entry address) os)) ∙ h)
+    map-permutation instance_cmp instances_total (map (keyed_offer address) os) (ap (has_repeat same_instance) (sym (map_after (λ (e : InstanceId × OfferMade). e.0) (keyed_offer address) os)) ∙ h)
 
-pub wants-permutation : (ws : List WantValue) → has_repeat same_instance (map wanted_id ws) ≡ false → IsPermutation (map want_entry ws) (wants_made ws)
+pub wants-permutation : (ws : List WantValue) → has_repeat same_instance (map wanted_id ws) ≡ false → IsPermutation (map keyed_want ws) (wants_made ws)
 wants-permutation ws h =
-    map-permutation instance_cmp instances_total (map want_entry ws) (ap (has_repeat same_instance) (sym (map_after (λ (e : InstanceId × WantMade). e.0) want_entry ws)) ∙ h)
+    map-permutation instance_cmp instances_total (map keyed_want ws) (ap (has_repeat same_instance) (sym (map_after (λ (e : InstanceId × WantMade). e.0) keyed_want ws)) ∙ h)

@@ -6,10 +6,10 @@ use Rattle.std.proofs.lemmas.Bool.{and_parts, and_from, leb-true, le-leb, leb-fa
 use Rattle.toml.specs.Data.{Data, as_integer, as_str, get}
 use Rattle.someip_node_rules.specs.GoodConfigs.{is_within, is_good_id, is_good_event, is_good_instance}
 use Rattle.someip_world_setup.specs.Keys.{◌>>=◌, within, integer_at, integer_or, number_at, number_or, is_name, name_at, address_at}
-use Rattle.someip_world_setup.specs.Lists.{each, id_of, ids_of, tables_at, tables_or_none, integers_or_none, integers_at}
+use Rattle.someip_world_setup.specs.Lists.{found_at_each, id_of, ids_of, tables_at, tables_or_none, integers_or_none, integers_at}
 use Rattle.someip_world_setup.specs.Values.{ListedValue, OfferValue, WantValue, NodeValue, PhasesValue, SetupValue}
 use Rattle.someip_world_setup.specs.Clashes.{offered_id, wanted_id}
-use Rattle.someip_world_setup.specs.Says.{methods_at, some_ids, eventgroups_of, event_of, offer_of, group_of, want_of, node_of, few_tables, count_or, time_or, phases_of, common_of, setup_of}
+use Rattle.someip_world_setup.specs.Says.{methods_at, some_ids, groups_at, said_event, said_offer, said_group, said_want, said_node, few_tables, count_or, time_or, said_phases, said_common, said_setup}
 
 -- ---- numbers
 
@@ -54,12 +54,12 @@ default_in key default low high d = then_some (λ _. Unit {0}) (IsWithin low hig
 
 module _ {A B : Type 0} (P : B → Type 0) (f : A → Option B) (one : (x : A) → IfSome (f x) P) where
   -- each is in its range, and none is left out
-  pub each_in : (xs : List A) → IfSome (each f xs) (λ ys. AllByRecursion P ys × (length ys ≡ length xs))
-  unfolding each
+  pub each_in : (xs : List A) → IfSome (found_at_each f xs) (λ ys. AllByRecursion P ys × (length ys ≡ length xs))
+  unfolding found_at_each
   each_in [] = (tt, refl)
   each_in (x ∷ xs) =
-      then_some P (λ ys. AllByRecursion P ys × (length ys ≡ length (x ∷ xs))) (f x) (λ y. each f xs >>= λ ys. Some (y ∷ ys)) (one x) (λ y h.
-      then_some (λ ys. AllByRecursion P ys × (length ys ≡ length xs)) (λ ys. AllByRecursion P ys × (length ys ≡ length (x ∷ xs))) (each f xs) (λ ys. Some (y ∷ ys)) (each_in xs) (λ ys k.
+      then_some P (λ ys. AllByRecursion P ys × (length ys ≡ length (x ∷ xs))) (f x) (λ y. found_at_each f xs >>= λ ys. Some (y ∷ ys)) (one x) (λ y h.
+      then_some (λ ys. AllByRecursion P ys × (length ys ≡ length xs)) (λ ys. AllByRecursion P ys × (length ys ≡ length (x ∷ xs))) (found_at_each f xs) (λ ys. Some (y ∷ ys)) (each_in xs) (λ ys k.
       ((h, k.0), ap (λ n. suc n) k.1)))
 
 pub all_true : {A : Type 0} (P : A → Type 0) (p : A → Bool) (xs : List A) → ((x : A) → P x → p x ≡ true) → AllByRecursion P xs → list_all p xs ≡ true
@@ -76,10 +76,10 @@ ids_in low high p then ds =
     one d = then_some (λ _. Unit {0}) (IsWithin low high) (as_integer d) (within low high) (anything (as_integer d)) (λ z _. within_in low high z)
 
 -- the tables of a list, each in its range
-tables_in : {B : Type 0} (P : B → Type 0) (f : Data → Option B) → ((d : Data) → IfSome (f d) P) → (o : Option (List Data)) → IfSome (o >>= each f) (λ ys. AllByRecursion P ys)
+tables_in : {B : Type 0} (P : B → Type 0) (f : Data → Option B) → ((d : Data) → IfSome (f d) P) → (o : Option (List Data)) → IfSome (o >>= found_at_each f) (λ ys. AllByRecursion P ys)
 tables_in P f one o =
-    then_some (λ _. Unit {0}) (λ ys. AllByRecursion P ys) o (each f) (anything o) (λ ds _.
-    weaken (λ ys. AllByRecursion P ys × (length ys ≡ length ds)) (λ ys. AllByRecursion P ys) (each f ds) (λ ys h. h.0) (each_in P f one ds))
+    then_some (λ _. Unit {0}) (λ ys. AllByRecursion P ys) o (found_at_each f) (anything o) (λ ds _.
+    weaken (λ ys. AllByRecursion P ys × (length ys ≡ length ds)) (λ ys. AllByRecursion P ys) (found_at_each f ds) (λ ys h. h.0) (each_in P f one ds))
 
 -- ---- offers
 
@@ -106,13 +106,13 @@ some_in ids h = cases (length ids == 0) refl
     cases true is = tt
     cases false is = (h, is)
 
-eventgroups_in : (d : Data) → IfSome (eventgroups_of d) (λ ids. (list_all is_good_id ids ≡ true) × ((length ids == 0) ≡ false))
+eventgroups_in : (d : Data) → IfSome (groups_at d) (λ ids. (list_all is_good_id ids ≡ true) × ((length ids == 0) ≡ false))
 eventgroups_in d =
     then_some (λ ids. list_all is_good_id ids ≡ true) _ _ _
     (then_some (λ _. Unit {0}) _ _ _ (anything (integers_at (codes "groups") d)) (λ ds _. ids_in 1 0xFFFE is_good_id (λ n h. h) ds))
     some_in
 
-event_in : (d : Data) → IfSome (event_of d) EventRange
+event_in : (d : Data) → IfSome (said_event d) EventRange
 event_in d =
     then_some (IsWithin 0x8000 0xFFFE) EventRange _ _ (number_in (codes "id") 0x8000 0xFFFE d) (λ id is.
     then_some (λ ids. (list_all is_good_id ids ≡ true) × ((length ids == 0) ≡ false)) EventRange _ _ (eventgroups_in d) (λ members are.
@@ -122,10 +122,10 @@ methods_in : (key : List ℕ) (d : Data) → IfSome (methods_at key d) (λ ids. 
 methods_in key d =
     then_some (λ _. Unit {0}) _ _ _ (anything (integers_or_none key d)) (λ ds _. ids_in 0 0x7FFF (λ m. nat_le m 0x7FFF) (at_most 0 0x7FFF) ds)
 
-events_in : (d : Data) → IfSome (tables_or_none (codes "events") d >>= each event_of) (λ ls. AllByRecursion EventRange ls)
-events_in d = tables_in EventRange event_of event_in (tables_or_none (codes "events") d)
+events_in : (d : Data) → IfSome (tables_or_none (codes "events") d >>= found_at_each said_event) (λ ls. AllByRecursion EventRange ls)
+events_in d = tables_in EventRange said_event event_in (tables_or_none (codes "events") d)
 
-offer_in : (d : Data) → IfSome (offer_of d) OfferRange
+offer_in : (d : Data) → IfSome (said_offer d) OfferRange
 offer_in d =
     then_some (IsWithin 1 0xFFFE) OfferRange _ _ (number_in (codes "service") 1 0xFFFE d) (λ service a.
     then_some (IsWithin 1 0xFFFE) OfferRange _ _ (number_in (codes "instance") 1 0xFFFE d) (λ instance b.
@@ -172,20 +172,20 @@ pub record WantRange (w : WantValue) : Type 0 where
   pub ttl : (w.ttl == 0) ≡ false
   pub groups : AllByRecursion GroupRange w.groups
 
-group_in : (d : Data) → IfSome (group_of d) GroupRange
+group_in : (d : Data) → IfSome (said_group d) GroupRange
 group_in d =
     then_some (IsWithin 1 0xFFFE) GroupRange _ _ (number_in (codes "id") 1 0xFFFE d) (λ id is.
     then_some (λ ids. list_all is_good_event ids ≡ true) GroupRange _ _
     (then_some (λ _. Unit {0}) _ _ _ (anything (integers_at (codes "events") d)) (λ ds _. ids_in 0x8000 0xFFFE is_good_event (λ n h. h) ds)) (λ members are.
     let r : GroupRange (record { id = id; members = members }) = record { id = is; members = are } in r))
 
-want_in : (d : Data) → IfSome (want_of d) WantRange
+want_in : (d : Data) → IfSome (said_want d) WantRange
 want_in d =
     then_some (IsWithin 1 0xFFFE) WantRange _ _ (number_in (codes "service") 1 0xFFFE d) (λ service a.
     then_some (IsWithin 1 0xFFFE) WantRange _ _ (number_in (codes "instance") 1 0xFFFE d) (λ instance b.
     then_some (IsWithin 0 0xFE) WantRange _ _ (number_in (codes "major") 0 0xFE d) (λ major c.
     then_some (IsWithin 1 0xFFFFFF) WantRange _ _ (number_in (codes "ttl") 1 0xFFFFFF d) (λ ttl e.
-    then_some _ WantRange _ _ (tables_in GroupRange group_of group_in (tables_or_none (codes "groups") d)) (λ groups f.
+    then_some _ WantRange _ _ (tables_in GroupRange said_group group_in (tables_or_none (codes "groups") d)) (λ groups f.
     let r : WantRange (record { service = service; instance = instance; major = major; ttl = ttl; groups = groups }) = record {
       id = and_from (is_good_id service) (is_good_id instance) a b;
       major = at_most 0 0xFE major c;
@@ -205,15 +205,15 @@ pub record NodeRange (least most : ℕ) (n : NodeValue) : Type 0 where
 name_in : (d : Data) → IfSome (name_at d) (λ text. is_name text ≡ true)
 name_in d = then_some (λ _. Unit {0}) _ _ _ (anything (get (codes "name") d >>= as_str)) (λ text _. tested (is_name text) text is_name refl)
 
-node_in : (least most : ℕ) (d : Data) → IfSome (node_of least most d) (NodeRange least most)
+node_in : (least most : ℕ) (d : Data) → IfSome (said_node least most d) (NodeRange least most)
 node_in least most d =
     then_some _ (NodeRange least most) _ _ (name_in d) (λ name a.
     then_some (λ _. Unit {0}) (NodeRange least most) _ _ (anything (address_at (codes "address") d)) (λ address _.
     then_some (IsWithin 0 0xFFFF) (NodeRange least most) _ _ (number_in (codes "client_id") 0 0xFFFF d) (λ client_id _.
     then_some (IsWithin 1 0xFFFF) (NodeRange least most) _ _ (number_in (codes "client_port") 1 0xFFFF d) (λ client_port b.
     then_some (IsWithin least most) (NodeRange least most) _ _ (default_in (codes "delay") (pos least) least most d) (λ delay c.
-    then_some _ (NodeRange least most) _ _ (tables_in OfferRange offer_of offer_in (tables_or_none (codes "offer") d)) (λ offers e.
-    then_some _ (NodeRange least most) _ _ (tables_in WantRange want_of want_in (tables_or_none (codes "want") d)) (λ wants f.
+    then_some _ (NodeRange least most) _ _ (tables_in OfferRange said_offer offer_in (tables_or_none (codes "offer") d)) (λ offers e.
+    then_some _ (NodeRange least most) _ _ (tables_in WantRange said_want want_in (tables_or_none (codes "want") d)) (λ wants f.
     let r : NodeRange least most (record {
       name = name;
       address = address;
@@ -245,14 +245,14 @@ pub record PhasesRange (p : PhasesValue) : Type 0 where
   pub repetitions : nat_le p.repetitions 16 ≡ true
   pub cyclic : is_within 1 3600000 p.cyclic ≡ true
 
-phases_in : (d : Data) → IfSome (phases_of d) PhasesRange
+phases_in : (d : Data) → IfSome (said_phases d) PhasesRange
 phases_in d =
     then_some (IsWithin 1 60000) PhasesRange _ _ (default_in (codes "base") (pos 30) 1 60000 d) (λ base a.
     then_some (IsWithin 0 16) PhasesRange _ _ (default_in (codes "repetitions") (pos 3) 0 16 d) (λ repetitions b.
     then_some (IsWithin 1 3600000) PhasesRange _ _ (default_in (codes "cyclic") (pos 1000) 1 3600000 d) (λ cyclic c.
     let r : PhasesRange (record { base = base; repetitions = repetitions; cyclic = cyclic }) = record { base = a; repetitions = at_most 0 16 repetitions b; cyclic = c } in r)))
 
-common_in : (d : Data) → IfSome (common_of d) (λ v. PhasesRange v.phases)
+common_in : (d : Data) → IfSome (said_common d) (λ v. PhasesRange v.phases)
 common_in d =
     then_some (λ _. Unit {0}) (λ v. PhasesRange v.phases) _ _ (anything (address_at (codes "group") d)) (λ group _.
     then_some (λ _. Unit {0}) (λ v. PhasesRange v.phases) _ _ (anything (number_or (codes "initial_min") (pos 10) 0 60000 d)) (λ initial_min _.
@@ -272,11 +272,11 @@ pub record SetupRange (v : SetupValue) : Type 0 where
   pub count : is_within 1 64 (length v.nodes) ≡ true
   pub nodes : AllByRecursion (NodeRange v.common.initial_min v.common.initial_max) v.nodes
 
-pub setup_in : (d : Data) → IfSome (setup_of d) SetupRange
+pub setup_in : (d : Data) → IfSome (said_setup d) SetupRange
 setup_in d =
     then_some (λ v. PhasesRange v.phases) SetupRange _ _ (common_in d) (λ common a.
     then_some (λ ds. is_within 1 64 (length ds) ≡ true) SetupRange _ _
     (then_some (λ _. Unit {0}) _ _ _ (anything (tables_at (codes "node") d)) (λ ds _. few_in ds)) (λ tables b.
     then_some (λ ns. AllByRecursion (NodeRange common.initial_min common.initial_max) ns × (length ns ≡ length tables)) SetupRange _ _
-    (each_in (NodeRange common.initial_min common.initial_max) (node_of common.initial_min common.initial_max) (node_in common.initial_min common.initial_max) tables) (λ nodes c.
+    (each_in (NodeRange common.initial_min common.initial_max) (said_node common.initial_min common.initial_max) (node_in common.initial_min common.initial_max) tables) (λ nodes c.
     let r : SetupRange (record { common = common; nodes = nodes }) = record { phases = a; count = ap (is_within 1 64) c.1 ∙ b; nodes = c.0 } in r)))

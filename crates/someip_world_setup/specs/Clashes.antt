@@ -26,22 +26,22 @@ abbrev pub has_equal_names : List NodeValue → Bool
 has_equal_names nodes = has_repeat bytes_eq (map (λ n. n.name) nodes)
 
 -- the address of the multicast group, and then those of the nodes
-abbrev pub addresses_of : Ipv4Addr → List NodeValue → List Ipv4Addr
-addresses_of group nodes = group ∷ map (λ n. n.address) nodes
+abbrev pub taken_addresses : Ipv4Addr → List NodeValue → List Ipv4Addr
+taken_addresses group nodes = group ∷ map (λ n. n.address) nodes
 
 -- two nodes have one address, or one has that of the group
 abbrev pub has_equal_addresses : Ipv4Addr → List NodeValue → Bool
-has_equal_addresses group nodes = has_repeat same_address (addresses_of group nodes)
+has_equal_addresses group nodes = has_repeat same_address (taken_addresses group nodes)
 
 -- ---- ports
 
 -- the port of Service Discovery, that of a node's client, and those of its offers
-abbrev pub ports_of : NodeValue → List ℕ
-ports_of node = 30490 ∷ node.client_port ∷ map (λ o. o.port) node.offers
+abbrev pub taken_ports : NodeValue → List ℕ
+taken_ports node = 30490 ∷ node.client_port ∷ map (λ o. o.port) node.offers
 
 -- a node has a port twice, or that of Service Discovery
 abbrev pub has_equal_ports : NodeValue → Bool
-has_equal_ports node = has_repeat same_number (ports_of node)
+has_equal_ports node = has_repeat same_number (taken_ports node)
 
 -- ---- instances
 

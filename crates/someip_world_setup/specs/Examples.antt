@@ -94,21 +94,21 @@ abbrev pub single : Data → Data
 single d = array (item d no_items)
 
 -- a setup of one node, with one offer, or one want
-abbrev pub with_node : Data → Data
-with_node d = keyed (codes "node") (single d)
+abbrev pub tree_with_node : Data → Data
+tree_with_node d = keyed (codes "node") (single d)
 
-abbrev pub with_offer : Data → Data
-with_offer d = with_node (keyed (codes "offer") (single d))
+abbrev pub tree_with_offer : Data → Data
+tree_with_offer d = tree_with_node (keyed (codes "offer") (single d))
 
-abbrev pub with_want : Data → Data
-with_want d = with_node (keyed (codes "want") (single d))
+abbrev pub tree_with_want : Data → Data
+tree_with_want d = tree_with_node (keyed (codes "want") (single d))
 
 -- an event of the offer, or an eventgroup of the want
-abbrev pub with_event : Data → Data
-with_event d = with_offer (keyed (codes "events") (single d))
+abbrev pub tree_with_event : Data → Data
+tree_with_event d = tree_with_offer (keyed (codes "events") (single d))
 
-abbrev pub with_group : Data → Data
-with_group d = with_want (keyed (codes "groups") (single d))
+abbrev pub tree_with_group : Data → Data
+tree_with_group d = tree_with_want (keyed (codes "groups") (single d))
 
 -- ---- texts
 

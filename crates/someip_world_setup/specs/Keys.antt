@@ -14,17 +14,17 @@ abbrev pub ◌>>=◌ : {A B : Type 0} → Option A → (A → Option B) → Opti
 o >>= f = option_and_then f o
 
 -- an error, but for memory, comes only where nothing is found, and tells that a key is missing, or its value of another kind or outside its range
-abbrev pub Fails : {X : Type 0} → SetupError → Option X → Type 0
-Fails OutOfMemory found = Unit {0}
-Fails (Missing key) found = found ≡ None
-Fails (WrongKind key) found = found ≡ None
-Fails (OutOfRange key) found = found ≡ None
-Fails _ found = ⊥
+abbrev pub TellsNotFound : {X : Type 0} → SetupError → Option X → Type 0
+TellsNotFound OutOfMemory found = Unit {0}
+TellsNotFound (Missing key) found = found ≡ None
+TellsNotFound (WrongKind key) found = found ≡ None
+TellsNotFound (OutOfRange key) found = found ≡ None
+TellsNotFound _ found = ⊥
 
 -- what is read is what is found
-abbrev pub Gives : {X Y : Type 0} → (X → Y) → Result X SetupError → Option Y → Type 0
-Gives view (Ok x) found = found ≡ Some (view x)
-Gives view (Err e) found = Fails e found
+abbrev pub IsAsFound : {X Y : Type 0} → (X → Y) → Result X SetupError → Option Y → Type 0
+IsAsFound view (Ok x) found = found ≡ Some (view x)
+IsAsFound view (Err e) found = TellsNotFound e found
 
 -- a number lies between two others, or is one of them
 abbrev pub within : ℕ → ℕ → ℤ → Option ℕ

@@ -19,8 +19,8 @@ known_keys places.Want = codes "service" ∷ codes "instance" ∷ codes "major" 
 known_keys places.Event = codes "id" ∷ codes "groups" ∷ []
 known_keys places.Group = codes "id" ∷ codes "events" ∷ []
 
-abbrev pub is_known : Place → List ℕ → Bool
-is_known place key = list_any (bytes_eq key) (known_keys place)
+abbrev pub is_known_key : Place → List ℕ → Bool
+is_known_key place key = list_any (bytes_eq key) (known_keys place)
 
 -- the keys that a table has
 abbrev pub keys_of_members : Members → List (List ℕ)
@@ -36,7 +36,7 @@ keys_of d = keys_in (as_table d)
 
 -- one of them is not of its kind
 abbrev pub has_unknown : Place → Data → Bool
-has_unknown place d = list_any (λ key. not (is_known place key)) (keys_of d)
+has_unknown place d = list_any (λ key. not (is_known_key place key)) (keys_of d)
 
 -- the elements of the list at a key of a table, and those of several tables
 abbrev pub or_empty : Option (List Data) → List Data
@@ -54,27 +54,27 @@ abbrev pub listed_in : List ℕ → List Data → List Data
 listed_in key ds = flat_map (listed_at key) ds
 
 -- the tables of a setup
-abbrev pub nodes_in : Data → List Data
-nodes_in tree = listed_at (codes "node") tree
+abbrev pub listed_nodes : Data → List Data
+listed_nodes tree = listed_at (codes "node") tree
 
-abbrev pub offers_in : Data → List Data
-offers_in tree = listed_in (codes "offer") (nodes_in tree)
+abbrev pub listed_offers : Data → List Data
+listed_offers tree = listed_in (codes "offer") (listed_nodes tree)
 
-abbrev pub wants_in : Data → List Data
-wants_in tree = listed_in (codes "want") (nodes_in tree)
+abbrev pub listed_wants : Data → List Data
+listed_wants tree = listed_in (codes "want") (listed_nodes tree)
 
-abbrev pub events_in : Data → List Data
-events_in tree = listed_in (codes "events") (offers_in tree)
+abbrev pub listed_events : Data → List Data
+listed_events tree = listed_in (codes "events") (listed_offers tree)
 
-abbrev pub groups_in : Data → List Data
-groups_in tree = listed_in (codes "groups") (wants_in tree)
+abbrev pub listed_groups : Data → List Data
+listed_groups tree = listed_in (codes "groups") (listed_wants tree)
 
 -- one of the tables has a key that is not of its kind
 abbrev pub has_unknown_key : Data → Bool
 has_unknown_key tree =
     has_unknown places.Setup tree
-    || list_any (has_unknown places.Node) (nodes_in tree)
-    || list_any (has_unknown places.Offer) (offers_in tree)
-    || list_any (has_unknown places.Want) (wants_in tree)
-    || list_any (has_unknown places.Event) (events_in tree)
-    || list_any (has_unknown places.Group) (groups_in tree)
+    || list_any (has_unknown places.Node) (listed_nodes tree)
+    || list_any (has_unknown places.Offer) (listed_offers tree)
+    || list_any (has_unknown places.Want) (listed_wants tree)
+    || list_any (has_unknown places.Event) (listed_events tree)
+    || list_any (has_unknown places.Group) (listed_groups tree)

@@ -6,9 +6,9 @@ use Rattle.toml.specs.Data.{Data, Items, no_items, item, get, as_array, as_table
 use Rattle.someip_world_setup.specs.Keys.{◌>>=◌, within}
 
 -- what is found at each element, if it is found at all of them
-unfoldable pub each : {A B : Type 0} → (A → Option B) → List A → Option (List B)
-each f [] = Some []
-each f (x ∷ xs) = f x >>= λ y. each f xs >>= λ ys. Some (y ∷ ys)
+unfoldable pub found_at_each : {A B : Type 0} → (A → Option B) → List A → Option (List B)
+found_at_each f [] = Some []
+found_at_each f (x ∷ xs) = f x >>= λ y. found_at_each f xs >>= λ ys. Some (y ∷ ys)
 
 -- the elements of an array
 abbrev pub elements : Items → List Data
@@ -59,4 +59,4 @@ abbrev pub id_of : ℕ → ℕ → Data → Option ℕ
 id_of low high d = as_integer d >>= within low high
 
 abbrev pub ids_of : ℕ → ℕ → List Data → Option (List ℕ)
-ids_of low high = each (id_of low high)
+ids_of low high = found_at_each (id_of low high)

@@ -25,8 +25,8 @@ with_entries cmp entries [] = entries
 with_entries cmp entries (e ∷ es) = with_entries cmp (insert_entry cmp entries e.0 e.1) es
 
 -- the entries of a map, with each value as a plain one
-abbrev pub seen : {K X Y : Type 0} → (X → Y) → List (K × X) → List (K × Y)
-seen f = map (λ e. (e.0, f e.1))
+abbrev pub plain_entries : {K X Y : Type 0} → (X → Y) → List (K × X) → List (K × Y)
+plain_entries f = map (λ e. (e.0, f e.1))
 
 -- ---- what is made
 
@@ -73,14 +73,14 @@ offered_view o = record {
   endpoint = o.rules.endpoint;
   methods = o.rules.methods.keys;
   oneways = o.rules.oneways.keys;
-  events = seen keys_of_set o.rules.events.entries;
+  events = plain_entries keys_of_set o.rules.events.entries;
   minor = o.minor;
   ttl = o.ttl;
   subscribers = o.subscribers;
 }
 
 abbrev pub wanted_view : WantedService → WantMade
-wanted_view w = record { major = w.major; ttl = w.ttl; groups = seen keys_of_set w.groups.entries }
+wanted_view w = record { major = w.major; ttl = w.ttl; groups = plain_entries keys_of_set w.groups.entries }
 
 abbrev pub config_view : Config → ConfigMade
 config_view c = record {
@@ -88,8 +88,8 @@ config_view c = record {
   address = c.address;
   client_id = c.client_id;
   client_port = c.client_port;
-  offers = seen offered_view c.offers.entries;
-  wants = seen wanted_view c.wants.entries;
+  offers = plain_entries offered_view c.offers.entries;
+  wants = plain_entries wanted_view c.wants.entries;
 }
 
 abbrev pub made_view : SetupNode → NodeMade
@@ -100,11 +100,11 @@ made_view n = record { name = string_bytes n.name; delay = n.delay; config = con
 abbrev pub set_of : List ℕ → List ℕ
 set_of = with_keys []
 
-abbrev pub list_entry : ListedValue → ℕ × List ℕ
-list_entry l = (l.id, set_of l.members)
+abbrev pub keyed_list : ListedValue → ℕ × List ℕ
+keyed_list l = (l.id, set_of l.members)
 
 abbrev pub lists_of : List ListedValue → List (ℕ × List ℕ)
-lists_of ls = with_entries nat_cmp [] (map list_entry ls)
+lists_of ls = with_entries nat_cmp [] (map keyed_list ls)
 
 abbrev pub offer_made : Ipv4Addr → OfferValue → OfferMade
 offer_made address o = record {
@@ -120,20 +120,20 @@ offer_made address o = record {
   subscribers = o.subscribers;
 }
 
-abbrev pub offer_entry : Ipv4Addr → OfferValue → InstanceId × OfferMade
-offer_entry address o = (record { service = o.service; instance = o.instance }, offer_made address o)
+abbrev pub keyed_offer : Ipv4Addr → OfferValue → InstanceId × OfferMade
+keyed_offer address o = (record { service = o.service; instance = o.instance }, offer_made address o)
 
 abbrev pub want_made : WantValue → WantMade
 want_made w = record { major = w.major; ttl = w.ttl; groups = lists_of w.groups }
 
-abbrev pub want_entry : WantValue → InstanceId × WantMade
-want_entry w = (record { service = w.service; instance = w.instance }, want_made w)
+abbrev pub keyed_want : WantValue → InstanceId × WantMade
+keyed_want w = (record { service = w.service; instance = w.instance }, want_made w)
 
 abbrev pub offers_made : Ipv4Addr → List OfferValue → List (InstanceId × OfferMade)
-offers_made address os = with_entries instance_cmp [] (map (offer_entry address) os)
+offers_made address os = with_entries instance_cmp [] (map (keyed_offer address) os)
 
 abbrev pub wants_made : List WantValue → List (InstanceId × WantMade)
-wants_made ws = with_entries instance_cmp [] (map want_entry ws)
+wants_made ws = with_entries instance_cmp [] (map keyed_want ws)
 
 abbrev pub config_made : Common → NodeValue → ConfigMade
 config_made common n = record {

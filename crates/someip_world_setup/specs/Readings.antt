@@ -7,7 +7,7 @@ use Rattle.someip_world_setup.specs.declared.error.SetupError.{SetupError}
 use Rattle.someip_world_setup.specs.declared.error.SetupError.TheVariants.{NotToml, Missing, WrongKind, OutOfRange, UnknownKey, Clash, OutOfMemory}
 use Rattle.someip_world_setup.specs.Keys.{◌>>=◌}
 use Rattle.someip_world_setup.specs.KnownKeys.{has_unknown_key}
-use Rattle.someip_world_setup.specs.Says.{setup_of}
+use Rattle.someip_world_setup.specs.Says.{said_setup}
 use Rattle.someip_world_setup.specs.Values.{SetupValue, common_view}
 use Rattle.someip_world_setup.specs.Clashes.{has_clash}
 use Rattle.someip_world_setup.specs.GoodSetups.{Network}
@@ -22,11 +22,11 @@ abbrev pub without_clash : SetupValue → Option SetupValue
 without_clash v = if has_clash v then None else Some v
 
 abbrev pub sound_setup_of : Data → Option SetupValue
-sound_setup_of tree = if has_unknown_key tree then None else setup_of tree >>= without_clash
+sound_setup_of tree = if has_unknown_key tree then None else said_setup tree >>= without_clash
 
 -- the setup that a text says
-abbrev pub said_by : List ℕ → Option SetupValue
-said_by text = tree_of text >>= sound_setup_of
+abbrev pub setup_of_text : List ℕ → Option SetupValue
+setup_of_text text = tree_of text >>= sound_setup_of
 
 -- a network has the values that were read, and the nodes that are made of them
 abbrev pub HasValues : Network → SetupValue → Type 0
@@ -41,11 +41,11 @@ IsOwed said error = said ≡ None
 
 -- a tree has the fault that an error tells: a key is missing, or its value of another kind or outside its range, so that no values can be read; or it has an unknown key; or the values that are read clash
 abbrev pub HasFault : Data → SetupError → Type 0
-HasFault tree (Missing key) = setup_of tree ≡ None
-HasFault tree (WrongKind key) = setup_of tree ≡ None
-HasFault tree (OutOfRange key) = setup_of tree ≡ None
+HasFault tree (Missing key) = said_setup tree ≡ None
+HasFault tree (WrongKind key) = said_setup tree ≡ None
+HasFault tree (OutOfRange key) = said_setup tree ≡ None
 HasFault tree (UnknownKey key) = has_unknown_key tree ≡ true
-HasFault tree (Clash key) = IsSomeAnd (setup_of tree) (λ v. has_clash v ≡ true)
+HasFault tree (Clash key) = IsSomeAnd (said_setup tree) (λ v. has_clash v ≡ true)
 HasFault tree OutOfMemory = Unit {0}
 HasFault tree NotToml = ⊥
 

@@ -2,7 +2,7 @@
 use Rattle.std.specs.Prelude.{ℕ, ℤ, pos, ◌==◌, ◌||◌, nat_le, if◌then◌else◌, codes, List, length, Option, Some, None}
 use Rattle.toml.specs.Data.{Data}
 use Rattle.someip_world_setup.specs.Keys.{◌>>=◌, number_at, number_or, name_at, address_at}
-use Rattle.someip_world_setup.specs.Lists.{each, tables_at, tables_or_none, integers_at, integers_or_none, ids_of}
+use Rattle.someip_world_setup.specs.Lists.{found_at_each, tables_at, tables_or_none, integers_at, integers_or_none, ids_of}
 use Rattle.someip_world_setup.specs.Values.{ListedValue, OfferValue, WantValue, NodeValue, PhasesValue, CommonValue, SetupValue}
 
 -- an ID: of a service, of an instance or of an eventgroup
@@ -26,17 +26,17 @@ methods_at key d = integers_or_none key d >>= ids_of 0 0x7FFF
 abbrev pub some_ids : List ℕ → Option (List ℕ)
 some_ids ids = if length ids == 0 then None else Some ids
 
-abbrev pub eventgroups_of : Data → Option (List ℕ)
-eventgroups_of d = integers_at (codes "groups") d >>= ids_of 1 0xFFFE >>= some_ids
+abbrev pub groups_at : Data → Option (List ℕ)
+groups_at d = integers_at (codes "groups") d >>= ids_of 1 0xFFFE >>= some_ids
 
-abbrev pub event_of : Data → Option ListedValue
-event_of d =
+abbrev pub said_event : Data → Option ListedValue
+said_event d =
     number_at (codes "id") 0x8000 0xFFFE d >>= λ id.
-    eventgroups_of d >>= λ members.
+    groups_at d >>= λ members.
     Some (record { id = id; members = members })
 
-abbrev pub offer_of : Data → Option OfferValue
-offer_of d =
+abbrev pub said_offer : Data → Option OfferValue
+said_offer d =
     id_at (codes "service") d >>= λ service.
     id_at (codes "instance") d >>= λ instance.
     major_at d >>= λ major.
@@ -45,7 +45,7 @@ offer_of d =
     port_at (codes "port") d >>= λ port.
     methods_at (codes "methods") d >>= λ methods.
     methods_at (codes "oneways") d >>= λ oneways.
-    (tables_or_none (codes "events") d >>= each event_of) >>= λ events.
+    (tables_or_none (codes "events") d >>= found_at_each said_event) >>= λ events.
     number_or (codes "subscribers") (pos 16) 1 1024 d >>= λ subscribers.
     Some (record {
       service = service;
@@ -62,33 +62,33 @@ offer_of d =
 
 -- ---- wants
 
-abbrev pub group_of : Data → Option ListedValue
-group_of d =
+abbrev pub said_group : Data → Option ListedValue
+said_group d =
     id_at (codes "id") d >>= λ id.
     (integers_at (codes "events") d >>= ids_of 0x8000 0xFFFE) >>= λ members.
     Some (record { id = id; members = members })
 
-abbrev pub want_of : Data → Option WantValue
-want_of d =
+abbrev pub said_want : Data → Option WantValue
+said_want d =
     id_at (codes "service") d >>= λ service.
     id_at (codes "instance") d >>= λ instance.
     major_at d >>= λ major.
     ttl_at d >>= λ ttl.
-    (tables_or_none (codes "groups") d >>= each group_of) >>= λ groups.
+    (tables_or_none (codes "groups") d >>= found_at_each said_group) >>= λ groups.
     Some (record { service = service; instance = instance; major = major; ttl = ttl; groups = groups })
 
 -- ---- nodes
 
 -- a node, whose delay lies between two times
-abbrev pub node_of : ℕ → ℕ → Data → Option NodeValue
-node_of least most d =
+abbrev pub said_node : ℕ → ℕ → Data → Option NodeValue
+said_node least most d =
     name_at d >>= λ name.
     address_at (codes "address") d >>= λ address.
     number_at (codes "client_id") 0 0xFFFF d >>= λ client_id.
     port_at (codes "client_port") d >>= λ client_port.
     number_or (codes "delay") (pos least) least most d >>= λ delay.
-    (tables_or_none (codes "offer") d >>= each offer_of) >>= λ offers.
-    (tables_or_none (codes "want") d >>= each want_of) >>= λ wants.
+    (tables_or_none (codes "offer") d >>= found_at_each said_offer) >>= λ offers.
+    (tables_or_none (codes "want") d >>= found_at_each said_want) >>= λ wants.
     Some (record {
       name = name;
       address = address;
@@ -114,19 +114,19 @@ time_or key default = number_or key default 1 3600000
 abbrev pub count_or : List ℕ → ℤ → Data → Option ℕ
 count_or key default = number_or key default 1 1024
 
-abbrev pub phases_of : Data → Option PhasesValue
-phases_of d =
+abbrev pub said_phases : Data → Option PhasesValue
+said_phases d =
     number_or (codes "base") (pos 30) 1 60000 d >>= λ base.
     number_or (codes "repetitions") (pos 3) 0 16 d >>= λ repetitions.
     time_or (codes "cyclic") (pos 1000) d >>= λ cyclic.
     Some (record { base = base; repetitions = repetitions; cyclic = cyclic })
 
-abbrev pub common_of : Data → Option CommonValue
-common_of d =
+abbrev pub said_common : Data → Option CommonValue
+said_common d =
     address_at (codes "group") d >>= λ group.
     number_or (codes "initial_min") (pos 10) 0 60000 d >>= λ initial_min.
     number_or (codes "initial_max") (pos 100) initial_min 60000 d >>= λ initial_max.
-    phases_of d >>= λ phases.
+    said_phases d >>= λ phases.
     number_or (codes "message_limit") (pos 65536) 1400 1048576 d >>= λ message_limit.
     count_or (codes "slots") (pos 16) d >>= λ slots.
     count_or (codes "peers") (pos 64) d >>= λ peers.
@@ -146,9 +146,9 @@ common_of d =
 
 -- ---- the setup
 
-abbrev pub setup_of : Data → Option SetupValue
-setup_of d =
-    common_of d >>= λ common.
+abbrev pub said_setup : Data → Option SetupValue
+said_setup d =
+    said_common d >>= λ common.
     node_tables d >>= λ tables.
-    each (node_of common.initial_min common.initial_max) tables >>= λ nodes.
+    found_at_each (said_node common.initial_min common.initial_max) tables >>= λ nodes.
     Some (record { common = common; nodes = nodes })

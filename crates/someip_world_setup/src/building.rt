@@ -1,7 +1,7 @@
 //! From what a setup says to the configurations of its nodes.
 ghost use Rattle.std.specs.Prelude.{◌≡◌, map, IfOk};
 ghost use Rattle.someip_world_setup.specs.Values.{listed_view, offer_view, want_view, node_view};
-ghost use Rattle.someip_world_setup.specs.Made.{keys_of_set, seen, set_of, lists_of, offer_made, want_made, offers_made, wants_made, config_made, node_made, offered_view, wanted_view, config_view, made_view};
+ghost use Rattle.someip_world_setup.specs.Made.{keys_of_set, plain_entries, set_of, lists_of, offer_made, want_made, offers_made, wants_made, config_made, node_made, offered_view, wanted_view, config_view, made_view};
 
 use crate::parts::{Listed, NodeParts, OfferParts, WantParts};
 use crate::setup_node::SetupNode;
@@ -25,7 +25,7 @@ fn id_set(alloc: Global, ids: &[u16]) -> Result<BTreeSet<u16>, AllocError>
 
 /// IDs, each with the set of its others.
 fn id_map(alloc: Global, lists: &[Listed]) -> Result<BTreeMap<u16, BTreeSet<u16>>, AllocError>
-    ensures { IfOk result (λ m. seen keys_of_set m.entries ≡ lists_of (map listed_view lists.now)) }
+    ensures { IfOk result (λ m. plain_entries keys_of_set m.entries ≡ lists_of (map listed_view lists.now)) }
 {
     let mut map = BTreeMap::new(alloc);
     for list in lists {
@@ -68,7 +68,7 @@ fn offer_map(
     address: Ipv4Addr,
     offers: &[OfferParts],
 ) -> Result<BTreeMap<InstanceId, OfferedService>, AllocError>
-    ensures { IfOk result (λ m. seen offered_view m.entries ≡ offers_made address (map offer_view offers.now)) }
+    ensures { IfOk result (λ m. plain_entries offered_view m.entries ≡ offers_made address (map offer_view offers.now)) }
 {
     let mut map = BTreeMap::new(alloc);
     for offer in offers {
@@ -94,7 +94,7 @@ fn want_map(
     alloc: Global,
     wants: &[WantParts],
 ) -> Result<BTreeMap<InstanceId, WantedService>, AllocError>
-    ensures { IfOk result (λ m. seen wanted_view m.entries ≡ wants_made (map want_view wants.now)) }
+    ensures { IfOk result (λ m. plain_entries wanted_view m.entries ≡ wants_made (map want_view wants.now)) }
 {
     let mut map = BTreeMap::new(alloc);
     for want in wants {

@@ -2,8 +2,8 @@
 ghost use Rattle.std.specs.Prelude.{◌≡◌, true, pos, codes, IfOk};
 ghost use Rattle.someip_node_rules.specs.GoodConfigs.{is_within, is_good_common};
 ghost use Rattle.toml.specs.View.{view};
-ghost use Rattle.someip_world_setup.specs.Keys.{Gives, number_or};
-ghost use Rattle.someip_world_setup.specs.Says.{phases_of, common_of};
+ghost use Rattle.someip_world_setup.specs.Keys.{IsAsFound, number_or};
+ghost use Rattle.someip_world_setup.specs.Says.{said_phases, said_common};
 ghost use Rattle.someip_world_setup.specs.Values.{phases_view, common_view};
 
 use crate::addresses::address_at;
@@ -15,7 +15,7 @@ use toml::Value;
 
 /// The delays after the first one.
 fn phases(table: &Value) -> Result<Phases, SetupError>
-    ensures { Gives phases_view result (phases_of (view table.now)) }
+    ensures { IsAsFound phases_view result (said_phases (view table.now)) }
 {
     let base = word("base", integer_or(table, "base", 30)?, 1, 60000)?;
     let repetitions = byte("repetitions", integer_or(table, "repetitions", 3)?, 16)?;
@@ -30,7 +30,7 @@ fn phases(table: &Value) -> Result<Phases, SetupError>
 /// The greatest payload of a message.
 fn message_limit(table: &Value) -> Result<usize, SetupError>
     ensures good { IfOk result (λ n. is_within 1400 1048576 n ≡ true) }
-    ensures found { Gives (λ n. n) result (number_or (codes "message_limit") (pos 65536) 1400 1048576 (view table.now)) }
+    ensures found { IsAsFound (λ n. n) result (number_or (codes "message_limit") (pos 65536) 1400 1048576 (view table.now)) }
 {
     let key = "message_limit";
     Ok(word(key, integer_or(table, key, 65536)?, 1400, 1_048_576)? as usize)
@@ -38,7 +38,7 @@ fn message_limit(table: &Value) -> Result<usize, SetupError>
 
 /// What all nodes share.
 pub(crate) fn common(table: &Value) -> Result<Common, SetupError>
-    ensures found { Gives common_view result (common_of (view table.now)) }
+    ensures found { IsAsFound common_view result (said_common (view table.now)) }
     ensures good { IfOk result (λ c. is_good_common c ≡ true) }
 {
     let group = address_at(table, "group")?;

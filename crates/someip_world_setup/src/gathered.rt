@@ -2,7 +2,7 @@
 ghost use Rattle.std.specs.Prelude.{◌≡◌, ◌++◌, map, IfOk, OnOk};
 ghost use Rattle.std.specs.List.{flat_map};
 ghost use Rattle.someip_world_setup.specs.Values.{listed_view, offer_view, want_view, node_view};
-ghost use Rattle.someip_world_setup.specs.Clashes.{addresses_of, ports_of, offered_id, offered_by, wanted_by};
+ghost use Rattle.someip_world_setup.specs.Clashes.{taken_addresses, taken_ports, offered_id, offered_by, wanted_by};
 
 use crate::parts::{Listed, NodeParts, OfferParts};
 use sd_core::InstanceId;
@@ -18,7 +18,7 @@ pub(crate) fn addresses(
     group: Ipv4Addr,
     nodes: &[NodeParts],
 ) -> Result<Vec<Ipv4Addr>, AllocError>
-    ensures { IfOk result (λ v. v.items ≡ addresses_of group (map node_view nodes.now)) }
+    ensures { IfOk result (λ v. v.items ≡ taken_addresses group (map node_view nodes.now)) }
 {
     let mut addresses = Vec::new(alloc);
     addresses.push(group)?;
@@ -30,7 +30,7 @@ pub(crate) fn addresses(
 
 /// The port of Service Discovery, that of a node's client, and those of its offers.
 pub(crate) fn ports(alloc: Global, node: &NodeParts) -> Result<Vec<u16>, AllocError>
-    ensures { IfOk result (λ v. v.items ≡ ports_of (node_view node.now)) }
+    ensures { IfOk result (λ v. v.items ≡ taken_ports (node_view node.now)) }
 {
     let mut ports = Vec::new(alloc);
     ports.push(DISCOVERY_PORT)?;

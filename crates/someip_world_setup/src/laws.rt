@@ -5,10 +5,10 @@ ghost use Rattle.std.specs.List.{All};
 ghost use Rattle.toml.specs.Data.{Data};
 ghost use Rattle.someip_node_rules.specs.GoodConfigs.{is_good, is_good_delay};
 ghost use Rattle.someip_world_setup.specs.Clashes.{has_repeat, same_number, has_clash};
-ghost use Rattle.someip_world_setup.specs.Examples.{local_address, offer_with, offer_at, want_with, node_with, alone_with, offering, beside, also_offering, wanting, keyed, with_node, with_offer, with_want, with_event, with_group, group_address, text_with, two_nodes};
+ghost use Rattle.someip_world_setup.specs.Examples.{local_address, offer_with, offer_at, want_with, node_with, alone_with, offering, beside, also_offering, wanting, keyed, tree_with_node, tree_with_offer, tree_with_want, tree_with_event, tree_with_group, group_address, text_with, two_nodes};
 ghost use Rattle.someip_world_setup.specs.GoodSetups.{Network, IsGoodNetwork};
 ghost use Rattle.someip_world_setup.specs.KnownKeys.{has_unknown_key};
-ghost use Rattle.someip_world_setup.specs.Readings.{said_by};
+ghost use Rattle.someip_world_setup.specs.Readings.{setup_of_text};
 
 /// No node of a setup is refused when it is started: `someip_node::Node::start` refuses one exactly
 /// where its configuration is not good, or its delay is outside the range.
@@ -67,25 +67,25 @@ pub fn what_methods_clash()
 pub fn what_keys_are_known()
     ensures setup { (d : Data) → has_unknown_key (keyed (codes "group") d) ≡ false }
     ensures not_setup { (d : Data) → has_unknown_key (keyed (codes "port") d) ≡ true }
-    ensures node { (d : Data) → has_unknown_key (with_node (keyed (codes "name") d)) ≡ false }
-    ensures not_node { (d : Data) → has_unknown_key (with_node (keyed (codes "group") d)) ≡ true }
-    ensures offer { (d : Data) → has_unknown_key (with_offer (keyed (codes "minor") d)) ≡ false }
-    ensures not_offer { (d : Data) → has_unknown_key (with_offer (keyed (codes "groups") d)) ≡ true }
-    ensures want { (d : Data) → has_unknown_key (with_want (keyed (codes "major") d)) ≡ false }
-    ensures not_want { (d : Data) → has_unknown_key (with_want (keyed (codes "minor") d)) ≡ true }
-    ensures event { (d : Data) → has_unknown_key (with_event (keyed (codes "groups") d)) ≡ false }
-    ensures not_event { (d : Data) → has_unknown_key (with_event (keyed (codes "events") d)) ≡ true }
-    ensures group { (d : Data) → has_unknown_key (with_group (keyed (codes "events") d)) ≡ false }
-    ensures not_group { (d : Data) → has_unknown_key (with_group (keyed (codes "groups") d)) ≡ true }
+    ensures node { (d : Data) → has_unknown_key (tree_with_node (keyed (codes "name") d)) ≡ false }
+    ensures not_node { (d : Data) → has_unknown_key (tree_with_node (keyed (codes "group") d)) ≡ true }
+    ensures offer { (d : Data) → has_unknown_key (tree_with_offer (keyed (codes "minor") d)) ≡ false }
+    ensures not_offer { (d : Data) → has_unknown_key (tree_with_offer (keyed (codes "groups") d)) ≡ true }
+    ensures want { (d : Data) → has_unknown_key (tree_with_want (keyed (codes "major") d)) ≡ false }
+    ensures not_want { (d : Data) → has_unknown_key (tree_with_want (keyed (codes "minor") d)) ≡ true }
+    ensures event { (d : Data) → has_unknown_key (tree_with_event (keyed (codes "groups") d)) ≡ false }
+    ensures not_event { (d : Data) → has_unknown_key (tree_with_event (keyed (codes "events") d)) ≡ true }
+    ensures group { (d : Data) → has_unknown_key (tree_with_group (keyed (codes "events") d)) ≡ false }
+    ensures not_group { (d : Data) → has_unknown_key (tree_with_group (keyed (codes "groups") d)) ≡ true }
 {}
 
 /// A text says its values and the defaults, and nothing where a value is out of range, a key unknown or
 /// values clash.
 pub fn what_texts_say()
-    ensures values { said_by (text_with (codes "239.0.0.1") []) ≡ Some (alone_with group_address) }
-    ensures two { said_by two_nodes ≡ Some (wanting (want_with 1 ∷ [])) }
-    ensures range { said_by (text_with (codes "239.0.0.1") (codes "base=0" ++ 10 ∷ [])) ≡ None }
-    ensures key { said_by (text_with (codes "239.0.0.1") (codes "bass=1" ++ 10 ∷ [])) ≡ None }
-    ensures clash { said_by (text_with (codes "192.168.0.1") []) ≡ None }
-    ensures toml { said_by (codes "group=") ≡ None }
+    ensures values { setup_of_text (text_with (codes "239.0.0.1") []) ≡ Some (alone_with group_address) }
+    ensures two { setup_of_text two_nodes ≡ Some (wanting (want_with 1 ∷ [])) }
+    ensures range { setup_of_text (text_with (codes "239.0.0.1") (codes "base=0" ++ 10 ∷ [])) ≡ None }
+    ensures key { setup_of_text (text_with (codes "239.0.0.1") (codes "bass=1" ++ 10 ∷ [])) ≡ None }
+    ensures clash { setup_of_text (text_with (codes "192.168.0.1") []) ≡ None }
+    ensures toml { setup_of_text (codes "group=") ≡ None }
 {}

@@ -1,7 +1,7 @@
 //! Lists of IDs, of events and of eventgroups.
 ghost use Rattle.std.specs.Prelude.{map};
 ghost use Rattle.toml.specs.View.{view};
-ghost use Rattle.someip_world_setup.specs.Keys.{Gives};
+ghost use Rattle.someip_world_setup.specs.Keys.{IsAsFound};
 ghost use Rattle.someip_world_setup.specs.Lists.{id_of, ids_of};
 
 use crate::error::SetupError;
@@ -11,7 +11,7 @@ use toml::Value;
 
 /// The ID that an element of a list is.
 fn element(value: &Value, key: &'static str, low: u16, high: u16) -> Result<u16, SetupError>
-    ensures { Gives (λ n. n) result (id_of low high (view value.now)) }
+    ensures { IsAsFound (λ n. n) result (id_of low high (view value.now)) }
 {
     match value.as_integer() {
         Some(number) => short(key, number, low, high),
@@ -27,7 +27,7 @@ pub(crate) fn ids(
     low: u16,
     high: u16,
 ) -> Result<Vec<u16>, SetupError>
-    ensures { Gives (λ v. v.items) result (ids_of low high (map view list.now)) }
+    ensures { IsAsFound (λ v. v.items) result (ids_of low high (map view list.now)) }
 {
     let mut ids = Vec::new(alloc);
     for value in list {

@@ -2,7 +2,7 @@
 ghost use Rattle.std.specs.Prelude.{◌≡◌, string_bytes};
 ghost use Rattle.std.specs.List.{list_all};
 ghost use Rattle.toml.specs.View.{view};
-ghost use Rattle.someip_world_setup.specs.Keys.{Gives, is_name, is_name_byte, name_at};
+ghost use Rattle.someip_world_setup.specs.Keys.{IsAsFound, is_name, is_name_byte, name_at};
 
 use crate::error::SetupError;
 use std::alloc::Global;
@@ -25,7 +25,7 @@ fn is_name(text: &str) -> bool
 
 /// The name of a node's table.
 pub(crate) fn name_at(alloc: Global, table: &Value) -> Result<String, SetupError>
-    ensures { Gives string_bytes result (name_at (view table.now)) }
+    ensures { IsAsFound string_bytes result (name_at (view table.now)) }
 {
     let Some(value) = table.get("name") else {
         return Err(SetupError::Missing("name"));

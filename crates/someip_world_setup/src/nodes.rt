@@ -2,9 +2,9 @@
 ghost use Rattle.std.specs.Prelude.{◌≡◌, true, map, IfOk};
 ghost use Rattle.someip_node_rules.specs.GoodConfigs.{is_good_common};
 ghost use Rattle.toml.specs.View.{view};
-ghost use Rattle.someip_world_setup.specs.Keys.{Gives};
-ghost use Rattle.someip_world_setup.specs.Lists.{each};
-ghost use Rattle.someip_world_setup.specs.Says.{node_of, node_tables, setup_of};
+ghost use Rattle.someip_world_setup.specs.Keys.{IsAsFound};
+ghost use Rattle.someip_world_setup.specs.Lists.{found_at_each};
+ghost use Rattle.someip_world_setup.specs.Says.{said_node, node_tables, said_setup};
 ghost use Rattle.someip_world_setup.specs.Values.{node_view, parts_view};
 
 use crate::addresses::address_at;
@@ -21,7 +21,7 @@ use toml::Value;
 
 /// A node, whose delay lies between two times.
 fn node(alloc: Global, table: &Value, least: u32, most: u32) -> Result<NodeParts, SetupError>
-    ensures { Gives node_view result (node_of least most (view table.now)) }
+    ensures { IsAsFound node_view result (said_node least most (view table.now)) }
 {
     let name = name_at(alloc, table)?;
     let address = address_at(table, "address")?;
@@ -49,7 +49,7 @@ fn nodes(
     least: u32,
     most: u32,
 ) -> Result<Vec<NodeParts>, SetupError>
-    ensures { Gives (λ v. map node_view v.items) result (each (node_of least most) (map view tables.now)) }
+    ensures { IsAsFound (λ v. map node_view v.items) result (found_at_each (said_node least most) (map view tables.now)) }
 {
     let mut nodes = Vec::new(alloc);
     for table in tables {
@@ -60,7 +60,7 @@ fn nodes(
 
 /// The tables of the nodes, from 1 to 64.
 fn node_tables(tree: &Value) -> Result<&[Value], SetupError>
-    ensures { Gives (λ s. map view s.now) result (node_tables (view tree.now)) }
+    ensures { IsAsFound (λ s. map view s.now) result (node_tables (view tree.now)) }
 {
     let tables = tables_at(tree, "node")?;
     if tables.is_empty() || 64 < tables.len() {
@@ -71,7 +71,7 @@ fn node_tables(tree: &Value) -> Result<&[Value], SetupError>
 
 /// What a tree says.
 pub(crate) fn parts(alloc: Global, tree: &Value) -> Result<SetupParts, SetupError>
-    ensures said { Gives parts_view result (setup_of (view tree.now)) }
+    ensures said { IsAsFound parts_view result (said_setup (view tree.now)) }
     ensures good { IfOk result (λ p. is_good_common p.common ≡ true) }
 {
     let common = common(tree)?;

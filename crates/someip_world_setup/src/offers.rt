@@ -1,9 +1,9 @@
 //! The offers of a node.
 ghost use Rattle.std.specs.Prelude.{map};
 ghost use Rattle.toml.specs.View.{view};
-ghost use Rattle.someip_world_setup.specs.Keys.{Gives};
-ghost use Rattle.someip_world_setup.specs.Lists.{each};
-ghost use Rattle.someip_world_setup.specs.Says.{methods_at, eventgroups_of, event_of, offer_of};
+ghost use Rattle.someip_world_setup.specs.Keys.{IsAsFound};
+ghost use Rattle.someip_world_setup.specs.Lists.{found_at_each};
+ghost use Rattle.someip_world_setup.specs.Says.{methods_at, groups_at, said_event, said_offer};
 ghost use Rattle.someip_world_setup.specs.Values.{listed_view, offer_view};
 
 use crate::error::SetupError;
@@ -18,14 +18,14 @@ use toml::Value;
 
 /// The methods at a key, up to 7FFF.
 fn methods_at(alloc: Global, table: &Value, key: &'static str) -> Result<Vec<u16>, SetupError>
-    ensures { Gives (λ v. v.items) result (methods_at key.now (view table.now)) }
+    ensures { IsAsFound (λ v. v.items) result (methods_at key.now (view table.now)) }
 {
     ids(alloc, integers_or_none(table, key)?, key, 0, 0x7fff)
 }
 
 /// The eventgroups of an event, from 1 to FFFE, one at least.
 fn eventgroups(alloc: Global, table: &Value) -> Result<Vec<u16>, SetupError>
-    ensures { Gives (λ v. v.items) result (eventgroups_of (view table.now)) }
+    ensures { IsAsFound (λ v. v.items) result (groups_at (view table.now)) }
 {
     let groups = ids(alloc, integers_at(table, "groups")?, "groups", 1, 0xfffe)?;
     if groups.is_empty() {
@@ -36,7 +36,7 @@ fn eventgroups(alloc: Global, table: &Value) -> Result<Vec<u16>, SetupError>
 
 /// An event, from 8000 to FFFE, with its eventgroups.
 fn event(alloc: Global, table: &Value) -> Result<Listed, SetupError>
-    ensures { Gives listed_view result (event_of (view table.now)) }
+    ensures { IsAsFound listed_view result (said_event (view table.now)) }
 {
     let id = short("id", integer(table, "id")?, 0x8000, 0xfffe)?;
     let members = eventgroups(alloc, table)?;
@@ -45,7 +45,7 @@ fn event(alloc: Global, table: &Value) -> Result<Listed, SetupError>
 
 /// The events of an offer.
 fn events(alloc: Global, tables: &[Value]) -> Result<Vec<Listed>, SetupError>
-    ensures { Gives (λ v. map listed_view v.items) result (each event_of (map view tables.now)) }
+    ensures { IsAsFound (λ v. map listed_view v.items) result (found_at_each said_event (map view tables.now)) }
 {
     let mut events = Vec::new(alloc);
     for table in tables {
@@ -56,7 +56,7 @@ fn events(alloc: Global, tables: &[Value]) -> Result<Vec<Listed>, SetupError>
 
 /// An offer.
 fn offer(alloc: Global, table: &Value) -> Result<OfferParts, SetupError>
-    ensures { Gives offer_view result (offer_of (view table.now)) }
+    ensures { IsAsFound offer_view result (said_offer (view table.now)) }
 {
     let service = id_at(table, "service")?;
     let instance = id_at(table, "instance")?;
@@ -84,7 +84,7 @@ fn offer(alloc: Global, table: &Value) -> Result<OfferParts, SetupError>
 
 /// The offers of a node.
 pub(crate) fn offers(alloc: Global, tables: &[Value]) -> Result<Vec<OfferParts>, SetupError>
-    ensures { Gives (λ v. map offer_view v.items) result (each offer_of (map view tables.now)) }
+    ensures { IsAsFound (λ v. map offer_view v.items) result (found_at_each said_offer (map view tables.now)) }
 {
     let mut offers = Vec::new(alloc);
     for table in tables {

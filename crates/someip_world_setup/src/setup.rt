@@ -2,7 +2,7 @@
 ghost use Rattle.std.specs.Prelude.{◌≡◌, IfOk, IfErr, IsSomeAnd};
 ghost use Rattle.toml.specs.View.{view};
 ghost use Rattle.someip_world_setup.specs.GoodSetups.{IsGoodNetwork};
-ghost use Rattle.someip_world_setup.specs.Readings.{tree_of, sound_setup_of, said_by, HasValues, IsOwed, HasFault, TextHasFault};
+ghost use Rattle.someip_world_setup.specs.Readings.{tree_of, sound_setup_of, setup_of_text, HasValues, IsOwed, HasFault, TextHasFault};
 
 use crate::building::built_nodes;
 use crate::clashes::refuse_clashes;
@@ -53,9 +53,9 @@ impl Setup {
     pub fn read(alloc: Global, text: &str) -> Result<Setup, SetupError>
         // It is what the tree of the text says, with the defaults; each key is one of the format, and
         // no values clash.
-        ensures said { IfOk result (λ s. IsSomeAnd (said_by text.now) (HasValues s)) }
+        ensures said { IfOk result (λ s. IsSomeAnd (setup_of_text text.now) (HasValues s)) }
         // Whatever setup a text says is read, unless memory runs out.
-        ensures only { IfErr result (IsOwed (said_by text.now)) }
+        ensures only { IfErr result (IsOwed (setup_of_text text.now)) }
         // An error tells a fault that is there.
         ensures fault { IfErr result (TextHasFault (tree_of text.now)) }
     {

@@ -2,7 +2,7 @@
 ghost use Rattle.std.specs.Prelude.{◌≡◌, map, option_map};
 ghost use Rattle.std.specs.List.{list_all};
 ghost use Rattle.toml.specs.View.{view};
-ghost use Rattle.someip_world_setup.specs.Keys.{Gives};
+ghost use Rattle.someip_world_setup.specs.Keys.{IsAsFound};
 ghost use Rattle.someip_world_setup.specs.KnownKeys.{listed_at};
 ghost use Rattle.someip_world_setup.specs.Lists.{as_list, is_table, is_integer, tables_of, integers_of, tables_at, tables_or_none, integers_at, integers_or_none};
 
@@ -49,7 +49,7 @@ fn is_each_integer(list: &[Value]) -> bool
 
 /// The tables of a list.
 fn tables_of<'a>(value: &'a Value, key: &'static str) -> Result<&'a [Value], SetupError>
-    ensures { Gives (λ s. map view s.now) result (tables_of (view value.now)) }
+    ensures { IsAsFound (λ s. map view s.now) result (tables_of (view value.now)) }
 {
     let Some(list) = elements(value) else {
         return Err(SetupError::WrongKind(key));
@@ -63,7 +63,7 @@ fn tables_of<'a>(value: &'a Value, key: &'static str) -> Result<&'a [Value], Set
 
 /// The integers of a list, as values.
 fn integers_of<'a>(value: &'a Value, key: &'static str) -> Result<&'a [Value], SetupError>
-    ensures { Gives (λ s. map view s.now) result (integers_of (view value.now)) }
+    ensures { IsAsFound (λ s. map view s.now) result (integers_of (view value.now)) }
 {
     let Some(list) = elements(value) else {
         return Err(SetupError::WrongKind(key));
@@ -77,7 +77,7 @@ fn integers_of<'a>(value: &'a Value, key: &'static str) -> Result<&'a [Value], S
 
 /// The tables at a key that is needed.
 pub(crate) fn tables_at<'a>(table: &'a Value, key: &'static str) -> Result<&'a [Value], SetupError>
-    ensures { Gives (λ s. map view s.now) result (tables_at key.now (view table.now)) }
+    ensures { IsAsFound (λ s. map view s.now) result (tables_at key.now (view table.now)) }
 {
     match table.get(key) {
         Some(value) => tables_of(value, key),
@@ -90,7 +90,7 @@ pub(crate) fn tables_or_none<'a>(
     table: &'a Value,
     key: &'static str,
 ) -> Result<&'a [Value], SetupError>
-    ensures { Gives (λ s. map view s.now) result (tables_or_none key.now (view table.now)) }
+    ensures { IsAsFound (λ s. map view s.now) result (tables_or_none key.now (view table.now)) }
 {
     match table.get(key) {
         Some(value) => tables_of(value, key),
@@ -103,7 +103,7 @@ pub(crate) fn integers_at<'a>(
     table: &'a Value,
     key: &'static str,
 ) -> Result<&'a [Value], SetupError>
-    ensures { Gives (λ s. map view s.now) result (integers_at key.now (view table.now)) }
+    ensures { IsAsFound (λ s. map view s.now) result (integers_at key.now (view table.now)) }
 {
     match table.get(key) {
         Some(value) => integers_of(value, key),
@@ -116,7 +116,7 @@ pub(crate) fn integers_or_none<'a>(
     table: &'a Value,
     key: &'static str,
 ) -> Result<&'a [Value], SetupError>
-    ensures { Gives (λ s. map view s.now) result (integers_or_none key.now (view table.now)) }
+    ensures { IsAsFound (λ s. map view s.now) result (integers_or_none key.now (view table.now)) }
 {
     match table.get(key) {
         Some(value) => integers_of(value, key),

@@ -4,7 +4,7 @@ ghost use Rattle.std.specs.List.{list_any, find};
 ghost use Rattle.std.specs.Option.{is_some, option_map};
 ghost use Rattle.std.specs.BTreeMap.{keys};
 ghost use Rattle.toml.specs.View.{view};
-ghost use Rattle.someip_world_setup.specs.KnownKeys.{is_known, has_unknown, listed_at, listed_in, has_unknown_key};
+ghost use Rattle.someip_world_setup.specs.KnownKeys.{is_known_key, has_unknown, listed_at, listed_in, has_unknown_key};
 ghost use Rattle.someip_world_setup.specs.Readings.{RefusesKey};
 
 use crate::error::SetupError;
@@ -30,8 +30,8 @@ pub(crate) enum Place {
 }
 
 /// Whether a table at a place may have a key.
-fn is_known(place: Place, key: &str) -> bool
-    ensures { result ≡ is_known place key.now }
+fn is_known_key(place: Place, key: &str) -> bool
+    ensures { result ≡ is_known_key place key.now }
 {
     match place {
         Place::Setup => is_known_of_setup(key),
@@ -45,7 +45,7 @@ fn is_known(place: Place, key: &str) -> bool
 
 /// Whether the setup may have a key.
 fn is_known_of_setup(key: &str) -> bool
-    ensures { result ≡ is_known Place.Setup key.now }
+    ensures { result ≡ is_known_key Place.Setup key.now }
 {
     key == "group"
         || key == "initial_min"
@@ -63,7 +63,7 @@ fn is_known_of_setup(key: &str) -> bool
 
 /// Whether a node may have a key.
 fn is_known_of_node(key: &str) -> bool
-    ensures { result ≡ is_known Place.Node key.now }
+    ensures { result ≡ is_known_key Place.Node key.now }
 {
     key == "name"
         || key == "address"
@@ -76,7 +76,7 @@ fn is_known_of_node(key: &str) -> bool
 
 /// Whether an offer may have a key.
 fn is_known_of_offer(key: &str) -> bool
-    ensures { result ≡ is_known Place.Offer key.now }
+    ensures { result ≡ is_known_key Place.Offer key.now }
 {
     key == "service"
         || key == "instance"
@@ -92,7 +92,7 @@ fn is_known_of_offer(key: &str) -> bool
 
 /// Whether a want may have a key.
 fn is_known_of_want(key: &str) -> bool
-    ensures { result ≡ is_known Place.Want key.now }
+    ensures { result ≡ is_known_key Place.Want key.now }
 {
     key == "service" || key == "instance" || key == "major" || key == "ttl" || key == "groups"
 }
@@ -100,9 +100,11 @@ fn is_known_of_want(key: &str) -> bool
 /// The least of the keys that a place does not know.
 fn unknown_member(members: &Table, place: Place) -> Option<&String>
     ensures { option_map (λ key. key.now) result
-        ≡ find (λ key. not (is_known place (string_bytes key))) (keys members.now) }
+        ≡ find (λ key. not (is_known_key place (string_bytes key))) (keys members.now) }
 {
-    members.keys().find(|key| !is_known(place, key.as_str()))
+    members
+        .keys()
+        .find(|key| !is_known_key(place, key.as_str()))
 }
 
 /// The least key of a table that it may not have.

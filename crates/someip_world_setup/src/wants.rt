@@ -1,9 +1,9 @@
 //! The wants of a node.
 ghost use Rattle.std.specs.Prelude.{map};
 ghost use Rattle.toml.specs.View.{view};
-ghost use Rattle.someip_world_setup.specs.Keys.{Gives};
-ghost use Rattle.someip_world_setup.specs.Lists.{each};
-ghost use Rattle.someip_world_setup.specs.Says.{group_of, want_of};
+ghost use Rattle.someip_world_setup.specs.Keys.{IsAsFound};
+ghost use Rattle.someip_world_setup.specs.Lists.{found_at_each};
+ghost use Rattle.someip_world_setup.specs.Says.{said_group, said_want};
 ghost use Rattle.someip_world_setup.specs.Values.{listed_view, want_view};
 
 use crate::error::SetupError;
@@ -16,7 +16,7 @@ use toml::Value;
 
 /// An eventgroup, from 1 to FFFE, with its events, from 8000 to FFFE.
 fn group(alloc: Global, table: &Value) -> Result<Listed, SetupError>
-    ensures { Gives listed_view result (group_of (view table.now)) }
+    ensures { IsAsFound listed_view result (said_group (view table.now)) }
 {
     let id = id_at(table, "id")?;
     let members = ids(
@@ -31,7 +31,7 @@ fn group(alloc: Global, table: &Value) -> Result<Listed, SetupError>
 
 /// The eventgroups of a want.
 fn groups(alloc: Global, tables: &[Value]) -> Result<Vec<Listed>, SetupError>
-    ensures { Gives (λ v. map listed_view v.items) result (each group_of (map view tables.now)) }
+    ensures { IsAsFound (λ v. map listed_view v.items) result (found_at_each said_group (map view tables.now)) }
 {
     let mut groups = Vec::new(alloc);
     for table in tables {
@@ -42,7 +42,7 @@ fn groups(alloc: Global, tables: &[Value]) -> Result<Vec<Listed>, SetupError>
 
 /// A want.
 fn want(alloc: Global, table: &Value) -> Result<WantParts, SetupError>
-    ensures { Gives want_view result (want_of (view table.now)) }
+    ensures { IsAsFound want_view result (said_want (view table.now)) }
 {
     let service = id_at(table, "service")?;
     let instance = id_at(table, "instance")?;
@@ -60,7 +60,7 @@ fn want(alloc: Global, table: &Value) -> Result<WantParts, SetupError>
 
 /// The wants of a node.
 pub(crate) fn wants(alloc: Global, tables: &[Value]) -> Result<Vec<WantParts>, SetupError>
-    ensures { Gives (λ v. map want_view v.items) result (each want_of (map view tables.now)) }
+    ensures { IsAsFound (λ v. map want_view v.items) result (found_at_each said_want (map view tables.now)) }
 {
     let mut wants = Vec::new(alloc);
     for table in tables {

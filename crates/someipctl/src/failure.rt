@@ -4,35 +4,36 @@ ghost use Rattle.someipctl.specs.Failures.{status_of_failure, failure_of_show, f
 ghost use Rattle.someipctl.specs.Failures.{failure_of_run, failure_of_setup, failure_of_vectors};
 
 use someip_world::{SetupError, StepFault};
+use someipctl_commands::ReadFault;
 use someipctl_commands::payload::PayloadRefusal;
 use someipctl_commands::show::ShowError;
 use someipctl_commands::vectors::VectorsError;
-use someipctl_run::{RunFault, SetupFault};
+use someipctl_run::{RunFault, SetupFault, SetupRefusal};
 use thiserror::Error;
 
 /// Why the program did not do its work. Printed, it is the text for standard error.
 #[derive(Debug, Drop, Error)]
 pub enum Failure<'p> {
     /// The line of this number of a capture, counted from 1, is no hex.
-    #[error("line {0}: bad hex")]
+    #[error("{}", ShowError::BadHex(*.0))]
     BadHex(usize),
     /// The line of this number of a file of vectors, counted from 1, is bad.
-    #[error("line {0}: bad vector")]
+    #[error("{}", VectorsError::BadVector(*.0))]
     BadVector(usize),
     /// The line of this number of a schedule, counted from 1, spells no step.
-    #[error("line {0}: bad step")]
+    #[error("{}", RunFault::BadLine(*.0))]
     BadScheduleLine(usize),
     /// The text of a setup is none.
-    #[error("setup: {0}")]
+    #[error("{}", SetupRefusal(.0))]
     BadSetup(SetupError),
     /// The step of this index of a schedule, counted from 1, can't happen.
-    #[error("step {0}: {1}")]
+    #[error("{}", RunFault::BadStep(*.0, *.1))]
     BadStep(usize, StepFault),
     /// The text of a shape is none from this byte on.
-    #[error("bad shape at {0}")]
+    #[error("{}", PayloadRefusal::BadShape(*.0))]
     BadShape(usize),
     /// A payload is no hex.
-    #[error("bad hex")]
+    #[error("{}", PayloadRefusal::BadHex)]
     BadPayloadHex,
     /// The arguments are no call of the program.
     #[error("{0}")]
@@ -44,10 +45,10 @@ pub enum Failure<'p> {
     #[error("out of memory")]
     OutOfMemory,
     /// The file at this path could not be read.
-    #[error("cannot read {0}")]
+    #[error("{} {}", ReadFault::CannotRead, .0)]
     CannotRead(&'p str),
     /// Standard output could not be written.
-    #[error("cannot write")]
+    #[error("{}", someipctl_print::CannotWrite)]
     CannotWrite,
 }
 

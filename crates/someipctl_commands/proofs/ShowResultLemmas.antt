@@ -4,20 +4,20 @@ use Rattle.std.specs.Prelude.{IfSome}
 use Rattle.someipctl_commands.specs.declared.outcome.Outcome.{Outcome}
 use Rattle.someipctl_commands.specs.declared.show.ShowError.{ShowError}
 use Rattle.someipctl_commands.specs.declared.show.ShowError.TheVariants.{BadHex, CannotRead, CannotWrite, OutOfMemory}
-use Rattle.someipctl_commands.specs.Capture.{datagrams_of}
+use Rattle.someipctl_commands.specs.Capture.{captured_datagrams}
 use Rattle.someipctl_print.specs.Sending.{Stops}
 use Rattle.someipctl_commands.specs.ShownText.{shown_text}
-use Rattle.someipctl_commands.specs.ShowResult.{Says, WasLeft, Shows, ShowsBeginning, RefusesShow}
+use Rattle.someipctl_commands.specs.ShowResult.{SaysDatagrams, WasLeft, Shows, ShowsBeginning, RefusesShow}
 use Rattle.someipctl_commands.proofs.ShownTextLemmas.{bytes_of_each}
 
 map_some : (datagrams : List (Vec ℕ Global)) → map (λ (t : List ℕ). Some t) (bytes_of_each datagrams) ≡ map (λ d. Some d.items) datagrams
 map_some [] = refl
 map_some (d ∷ ds) = ap (λ t. Some d.items ∷ t) (map_some ds)
 
-pub says : (text : List ℕ) (datagrams : List (Vec ℕ Global)) → map (λ d. Some d.items) datagrams ≡ datagrams_of text → Says text (bytes_of_each datagrams)
+pub says : (text : List ℕ) (datagrams : List (Vec ℕ Global)) → map (λ d. Some d.items) datagrams ≡ captured_datagrams text → SaysDatagrams text (bytes_of_each datagrams)
 says text datagrams is = map_some datagrams ∙ is
 
-pub shows_beginning : (text : List ℕ) (datagrams : List (Vec ℕ Global)) (a b : Option (List ℕ)) → map (λ d. Some d.items) datagrams ≡ datagrams_of text
+pub shows_beginning : (text : List ℕ) (datagrams : List (Vec ℕ Global)) (a b : Option (List ℕ)) → map (λ d. Some d.items) datagrams ≡ captured_datagrams text
     → Stops a [] b (shown_text (bytes_of_each datagrams)) → ShowsBeginning (Some text) a b
 shows_beginning text datagrams a b is stops = record {
   capture = text;

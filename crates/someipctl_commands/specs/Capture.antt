@@ -42,8 +42,8 @@ abbrev pub is_bad : List ℕ → Bool
 is_bad line = is_read line && is_none (bytes_of line)
 
 -- what the lines say that are read, in order
-abbrev pub datagrams_of : List ℕ → List (Option (List ℕ))
-datagrams_of text = map bytes_of (filter is_read (lines_of text))
+abbrev pub captured_datagrams : List ℕ → List (Option (List ℕ))
+captured_datagrams text = map bytes_of (filter is_read (lines_of text))
 
 -- the number of the first bad line. Lines count from 1, skipped ones too
 abbrev pub first_bad : List ℕ → Option ℕ

@@ -4,8 +4,8 @@ use Rattle.someipctl_commands.specs.declared.outcome.Outcome.{Outcome}
 use Rattle.someipctl_commands.specs.declared.outcome.Outcome.TheVariants.{Done, FaultShown}
 
 -- the outcome where a fault was shown, or none
-abbrev pub outcome_of : Bool → Outcome
-outcome_of fault_shown = if fault_shown then FaultShown else Done
+abbrev pub fault_outcome : Bool → Outcome
+fault_outcome fault_shown = if fault_shown then FaultShown else Done
 
 -- the program's exit status
 abbrev pub status_of : Outcome → ℕ

@@ -44,12 +44,12 @@ abbrev pub IsFaultOf : Form → List ℕ → PayloadError → Type 0
 IsFaultOf shape bytes fault = (checked shape ≡ Err fault) ⊎ ((checked shape ≡ Ok tt) × FaultIn shape fault (whole bytes))
 
 -- a front of n bytes is read as the value, by a shape that is accepted
-abbrev pub IsFront : Form → List ℕ → Value → ℕ → Type 0
-IsFront shape bytes value n = (checked shape ≡ Ok tt) × (n ≤ length bytes) × Reads shape (data_of value) (take n bytes)
+abbrev pub ReadsFront : Form → List ℕ → Value → ℕ → Type 0
+ReadsFront shape bytes value n = (checked shape ≡ Ok tt) × (n ≤ length bytes) × Reads shape (data_of value) (take n bytes)
 
 -- what was found of the bytes by the shape and is printed: the value of a front of them, or their fault
 abbrev pub Told : Form → List ℕ → List ℕ → Outcome → Type 0
-Told shape bytes text Done = (value : Value) × (n : ℕ) × IsFront shape bytes value n × (text ≡ value_lines value n (length bytes))
+Told shape bytes text Done = (value : Value) × (n : ℕ) × ReadsFront shape bytes value n × (text ≡ value_lines value n (length bytes))
 Told shape bytes text FaultShown = (fault : PayloadError) × (fault ≢ faults.OutOfMemory) × IsFaultOf shape bytes fault × (text ≡ fault_text fault)
 
 -- what the two arguments say, and what is printed of it

@@ -8,12 +8,12 @@ use Rattle.someipctl_commands.specs.declared.input.ReadFault.{ReadFault}
 use Rattle.someipctl_commands.specs.declared.input.ReadFault.TheVariants as inputs
 use Rattle.someipctl_commands.specs.declared.show.ShowError.{ShowError}
 use Rattle.someipctl_commands.specs.declared.show.ShowError.TheVariants.{BadHex, CannotRead, CannotWrite, OutOfMemory}
-use Rattle.someipctl_commands.specs.Capture.{datagrams_of, first_bad}
+use Rattle.someipctl_commands.specs.Capture.{captured_datagrams, first_bad}
 use Rattle.someipctl_commands.specs.ShownText.{shown_text, shown_outcome}
 
 -- the capture says these datagrams, in order: none of its lines is bad
-abbrev pub Says : List ℕ → List (List ℕ) → Type 0
-Says capture datagrams = map (λ datagram. Some datagram) datagrams ≡ datagrams_of capture
+abbrev pub SaysDatagrams : List ℕ → List (List ℕ) → Type 0
+SaysDatagrams capture datagrams = map (λ datagram. Some datagram) datagrams ≡ captured_datagrams capture
 
 -- the capture is what the reader had left, where that is known
 abbrev pub WasLeft : Option (List ℕ) → List ℕ → Type 0
@@ -24,7 +24,7 @@ pub record Shows (input : Option (List ℕ)) (outcome : Outcome) (before after :
   pub capture : List ℕ
   pub left : WasLeft input capture
   pub datagrams : List (List ℕ)
-  pub says : Says capture datagrams
+  pub says : SaysDatagrams capture datagrams
   pub wrote : Appends before after (shown_text datagrams)
   pub tells : outcome ≡ shown_outcome datagrams
 
@@ -33,7 +33,7 @@ pub record ShowsBeginning (input before after : Option (List ℕ)) : Type 0 wher
   pub capture : List ℕ
   pub left : WasLeft input capture
   pub datagrams : List (List ℕ)
-  pub says : Says capture datagrams
+  pub says : SaysDatagrams capture datagrams
   pub sent : List ℕ
   pub unsent : List ℕ
   pub wrote : Appends before after sent

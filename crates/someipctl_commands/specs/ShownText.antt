@@ -3,7 +3,7 @@ use Rattle.std.specs.Prelude.{ℕ, ◌+◌, Bool, List, [], ◌∷◌, ◌++◌}
 use Rattle.std.specs.List.{list_any}
 use Rattle.someip_wire.specs.Reading.{items_of}
 use Rattle.someipctl_commands.specs.declared.outcome.Outcome.{Outcome}
-use Rattle.someipctl_commands.specs.Outcomes.{outcome_of}
+use Rattle.someipctl_commands.specs.Outcomes.{fault_outcome}
 use Rattle.someipctl_print.specs.Lines.{empty_line}
 use Rattle.someipctl_print.specs.Items.{lines_from, is_faulty}
 
@@ -27,4 +27,4 @@ has_fault datagram = list_any is_faulty (items_of datagram)
 
 -- the outcome of showing these datagrams: a fault was shown exactly where one of them has one
 abbrev pub shown_outcome : List (List ℕ) → Outcome
-shown_outcome datagrams = outcome_of (list_any has_fault datagrams)
+shown_outcome datagrams = fault_outcome (list_any has_fault datagrams)

@@ -10,7 +10,7 @@ use Rattle.someipctl_commands.specs.declared.vectors.VectorsError.{VectorsError}
 use Rattle.someipctl_commands.specs.declared.vectors.VectorsError.TheVariants.{BadVector, CannotRead, CannotWrite, OutOfMemory}
 use Rattle.someipctl_commands.specs.Capture.{lines_of}
 use Rattle.someipctl_print.specs.Lines.{joined}
-use Rattle.someipctl_commands.specs.Outcomes.{outcome_of}
+use Rattle.someipctl_commands.specs.Outcomes.{fault_outcome}
 use Rattle.someipctl_commands.specs.Payload.{Told}
 use Rattle.someipctl_commands.specs.ShownText.{datagram_text}
 use Rattle.someipctl_commands.specs.ShowResult.{WasLeft}
@@ -39,13 +39,13 @@ vectors_in (asks asked ∷ sayings) = record { asked = asked; expected = expecte
 
 -- the text is what is printed of what a vector asks for: of a datagram that of `show`, where it is the first one,
 -- and of a payload that of `payload`
-abbrev pub IsAnswer : Asked → List ℕ → Type 0
-IsAnswer (of_datagram bytes) text = text ≡ datagram_text 1 bytes
-IsAnswer (of_payload shape bytes) text = (outcome : Outcome) × Told shape bytes text outcome
+abbrev pub IsPrintedOf : Asked → List ℕ → Type 0
+IsPrintedOf (of_datagram bytes) text = text ≡ datagram_text 1 bytes
+IsPrintedOf (of_payload shape bytes) text = (outcome : Outcome) × Told shape bytes text outcome
 
 -- a vector passes exactly where that text is the one that it expects
 abbrev pub IsJudged : Vector → Bool → Type 0
-IsJudged vector passed = (text : List ℕ) × IsAnswer vector.asked text × (passed ≡ bytes_eq text vector.expected)
+IsJudged vector passed = (text : List ℕ) × IsPrintedOf vector.asked text × (passed ≡ bytes_eq text vector.expected)
 
 -- each vector passes, or not, as stands at its place
 abbrev pub AreJudged : List Vector → List Bool → Type 0
@@ -83,7 +83,7 @@ verdicts_text results = verdict_lines 1 results ++ summary_line results
 
 -- the outcome: whether a vector differs
 abbrev pub verdicts_outcome : List Bool → Outcome
-verdicts_outcome results = outcome_of (list_any not results)
+verdicts_outcome results = fault_outcome (list_any not results)
 
 -- ---- the command
 

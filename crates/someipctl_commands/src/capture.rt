@@ -13,7 +13,7 @@ ghost use Rattle.std.specs.Option.{option_map};
 ghost use Rattle.std.specs.Result.{result_ok};
 ghost use Rattle.hex.specs.Hex.{decode_of, encode_lower, IsBytes};
 ghost use Rattle.someipctl_commands.specs.declared.capture.CaptureError.TheVariants.{OutOfMemory};
-ghost use Rattle.someipctl_commands.specs.Capture.{bytes_of, datagrams_of, first_bad, RefusesCapture};
+ghost use Rattle.someipctl_commands.specs.Capture.{bytes_of, captured_datagrams, first_bad, RefusesCapture};
 ghost use Rattle.someipctl_commands.specs.Capture.{is_bad, is_skipped, without_blanks};
 
 use hex::FromHexError;
@@ -55,14 +55,14 @@ impl<T: Drop> From<AllocFailed<T>> for CaptureError {
 pub fn read_capture(alloc: Global, text: &[u8]) -> Result<Vec<Vec<u8>>, CaptureError>
     // The datagrams are what the lines say, in order, and no line is bad.
     ensures found { IfOk result (λ datagrams.
-        map (λ d. Some d.items) datagrams.items ≡ datagrams_of text.now) }
+        map (λ d. Some d.items) datagrams.items ≡ captured_datagrams text.now) }
     ensures only { OnOk result (first_bad text.now ≡ None) }
 
     // The error names the first bad line.
     ensures fault { IfErr result (RefusesCapture text.now) }
 
     // A text with no line to read needs no memory.
-    ensures idle { datagrams_of text.now ≡ [] → IsOk result }
+    ensures idle { captured_datagrams text.now ≡ [] → IsOk result }
 {
     let mut datagrams = Vec::new(alloc);
     let mut digits = Vec::new(alloc);

@@ -1,6 +1,6 @@
 //! How a command that did its work ended.
 ghost use Rattle.std.specs.Prelude.{◌≡◌};
-ghost use Rattle.someipctl_commands.specs.Outcomes.{outcome_of, status_of};
+ghost use Rattle.someipctl_commands.specs.Outcomes.{fault_outcome, status_of};
 
 /// How a command that did its work ended.
 #[derive(Clone, Copy, Debug, PartialEq, Eq)]
@@ -14,7 +14,7 @@ pub enum Outcome {
 impl Outcome {
     /// The outcome of a command that showed a fault, or a vector that differs, or showed none.
     pub fn of(fault_shown: bool) -> Outcome
-        ensures { result ≡ outcome_of fault_shown }
+        ensures { result ≡ fault_outcome fault_shown }
     {
         if fault_shown {
             Outcome::FaultShown

@@ -18,13 +18,13 @@ use thiserror::Error;
 #[derive(Clone, Copy, Debug, PartialEq, Eq, Error)]
 pub enum PayloadRefusal {
     /// The shape's text is none from this byte on. Nothing was written.
-    #[error("bad shape at {0}")]
+    #[error("{}", ShapeTextError::BadShape(*.0))]
     BadShape(usize),
     /// The payload is no hex. Nothing was written.
     #[error("bad hex")]
     BadHex,
     /// Writing failed, or took nothing. A beginning of the text was written.
-    #[error("cannot write")]
+    #[error("{}", someipctl_print::CannotWrite)]
     CannotWrite,
     /// Memory ran out. Nothing was written.
     #[error("out of memory")]

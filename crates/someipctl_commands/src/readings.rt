@@ -4,7 +4,7 @@ ghost use Rattle.std.specs.Option.{option_to_list};
 ghost use Rattle.someip_wire.specs.View.{view_item};
 ghost use Rattle.someip_wire.specs.Reading.{items_of};
 ghost use Rattle.sd_wire.specs.Program.{reading};
-ghost use Rattle.someipctl_print.specs.Discovery.{discovery_in, is_discovery, seen, view_reading};
+ghost use Rattle.someipctl_print.specs.Discovery.{discovery_in, is_discovery, view_found, view_reading};
 ghost use Rattle.someipctl_commands.specs.Readings.{BeginWith, readings_in, readings_of};
 
 use sd_wire::{SdError, SdRead, read_sd};
@@ -91,9 +91,9 @@ pub fn next_reading<'r>(
 ) -> Option<&'r Result<SdRead, SdError>>
     requires { BeginWith (map view_reading left.old.now)
         (option_to_list (discovery_in (view_item item.now))) }
-    ensures found { seen result ≡ discovery_in (view_item item.now) }
+    ensures found { view_found result ≡ discovery_in (view_item item.now) }
     ensures left { map view_reading left.old.now
-        ≡ option_to_list (seen result) ++ map view_reading left.new.now }
+        ≡ option_to_list (view_found result) ++ map view_reading left.new.now }
 {
     if holds_discovery(item) {
         left.split_off_first()

@@ -26,13 +26,13 @@ use thiserror::Error;
 #[derive(Clone, Copy, Debug, PartialEq, Eq, Error)]
 pub enum ShowError {
     /// The line of this number, counted from 1, is no hex. Nothing was written.
-    #[error("line {0}: bad hex")]
+    #[error("{}", CaptureError::BadHex(*.0))]
     BadHex(usize),
     /// The capture could not be read. Nothing was written.
-    #[error("cannot read")]
+    #[error("{}", ReadFault::CannotRead)]
     CannotRead,
     /// Writing failed, or took nothing. A beginning of the text was written.
-    #[error("cannot write")]
+    #[error("{}", someipctl_print::CannotWrite)]
     CannotWrite,
     /// Memory ran out. Nothing was written.
     #[error("out of memory")]

@@ -7,7 +7,6 @@ use crate::payload::{PayloadRefusal, payload};
 use crate::show::{ShowError, show};
 use crate::vectors::{VectorsError, vectors};
 use all::{ALL, COUNT};
-use discovery::discovery;
 use std::alloc::{AllocError, Global};
 use std::io;
 use std::io::{ErrorKind, Read, Write};
@@ -15,7 +14,6 @@ use std::test::Fail;
 use tables::{bad_vectors, captures, payloads, vector_files};
 
 mod all;
-mod discovery;
 mod tables;
 
 /// One request.
@@ -82,17 +80,6 @@ impl Write for SlowWriter {
 #[test]
 fn captures_are_shown(rt: HostRuntime) {
     for (capture, wanted, status) in captures() {
-        let mut reader = capture;
-        let mut out = Vec::new(rt.alloc());
-        let outcome = show(rt.alloc(), &mut reader, &mut out).map(|outcome| outcome.status());
-        assert_eq!(rt; outcome, Ok(status), "{capture:?}");
-        assert_eq!(rt; out.as_slice(), wanted.as_bytes(), "{capture:?}");
-    }
-}
-
-#[test]
-fn discovery_is_shown(rt: HostRuntime) {
-    for (capture, wanted, status) in discovery() {
         let mut reader = capture;
         let mut out = Vec::new(rt.alloc());
         let outcome = show(rt.alloc(), &mut reader, &mut out).map(|outcome| outcome.status());

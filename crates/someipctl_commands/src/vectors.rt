@@ -7,7 +7,7 @@ ghost use Rattle.someipctl_commands.specs.declared.vectors.VectorsError.TheVaria
 ghost use Rattle.someipctl_commands.specs.Capture.{lines_of};
 ghost use Rattle.someipctl_print.specs.Sending.{Sends, Stops};
 ghost use Rattle.someipctl_commands.specs.VectorLines.{AreSaid, asked_by, has_vector, said_by};
-ghost use Rattle.someipctl_commands.specs.Vectors.{AreJudged, IsAnswer, Judges, RefusesLines, RefusesVectors};
+ghost use Rattle.someipctl_commands.specs.Vectors.{AreJudged, IsPrintedOf, Judges, RefusesLines, RefusesVectors};
 ghost use Rattle.someipctl_commands.specs.Vectors.{count_passed, error_of_file, expected_text, summary_line};
 ghost use Rattle.someipctl_commands.specs.Vectors.{vectors_in, verdict_line, verdict_lines, verdicts_outcome};
 ghost use Rattle.someipctl_commands.specs.Vectors.{verdicts_text};
@@ -27,13 +27,13 @@ use thiserror::Error;
 pub enum VectorsError {
     /// The line of this number, counted from 1, is the first that is no line of a file of vectors.
     /// Nothing was written.
-    #[error("line {0}: bad vector")]
+    #[error("line {}: {}", .0, LineFault::Bad)]
     BadVector(usize),
     /// The file could not be read. Nothing was written.
-    #[error("cannot read")]
+    #[error("{}", ReadFault::CannotRead)]
     CannotRead,
     /// Writing failed, or took nothing. A beginning of the text was written.
-    #[error("cannot write")]
+    #[error("{}", someipctl_print::CannotWrite)]
     CannotWrite,
     /// Memory ran out. Nothing was written.
     #[error("out of memory")]
@@ -146,7 +146,7 @@ fn expected_by(alloc: Global, lines: &[VectorLine<'_>]) -> Result<Vec<u8>, Alloc
 
 /// The text that is printed of what a vector asks for.
 fn answer(alloc: Global, question: &Question) -> Result<Vec<u8>, AllocError>
-    ensures { IfOk result (λ text. IsAnswer (asked_by question.now) text.items) }
+    ensures { IfOk result (λ text. IsPrintedOf (asked_by question.now) text.items) }
 {
     match question {
         Question::Datagram(datagram) => text_of_datagram(alloc, datagram),

@@ -39,9 +39,9 @@ view_reading (Ok read) = Ok (view_sd read)
 view_reading (Err e) = Err e
 
 -- the same, where there is one
-abbrev pub seen : Option (Bor (Result SdRead SdError)) → Option (Result SdValue SdError)
-seen (Some found) = Some (view_reading found.now)
-seen None = None
+abbrev pub view_found : Option (Bor (Result SdRead SdError)) → Option (Result SdValue SdError)
+view_found (Some found) = Some (view_reading found.now)
+view_found None = None
 
 -- what an item holds for Service Discovery: what its payload is read as, where it is such a message
 abbrev pub discovery_in : Result MessageValue WireError → Option (Result SdValue SdError)

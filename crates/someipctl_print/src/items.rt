@@ -6,7 +6,7 @@ ghost use Rattle.someip_wire.specs.View.{view, view_item};
 ghost use Rattle.sd_wire.specs.Faults.{fault_place as sd_place};
 ghost use Rattle.someipctl_print.specs.Sending.{Sends, Stops};
 ghost use Rattle.someipctl_print.specs.Lines.{segment_lines, has_no_word};
-ghost use Rattle.someipctl_print.specs.Discovery.{seen, discovery_in, discovery_lines, has_sd_fault};
+ghost use Rattle.someipctl_print.specs.Discovery.{view_found, discovery_in, discovery_lines, has_sd_fault};
 ghost use Rattle.someipctl_print.specs.Items.{item_lines, item_len, is_faulty};
 
 use crate::discovery::put_reading;
@@ -30,7 +30,7 @@ pub fn put_item<W: Write>(
     item: &Result<Message<'_>, WireError>,
     found: Option<&Result<SdRead, SdError>>,
 ) -> Result<bool, CannotWrite>
-    requires found { seen found ≡ discovery_in (view_item item.now) }
+    requires found { view_found found ≡ discovery_in (view_item item.now) }
     requires room { place + item_len (view_item item.now) ≤ usize.MAX }
     ensures ok { OnOk result (Sends (W.contents writer.old) buffer.old
         (W.contents writer.new) buffer.new (item_lines k place (view_item item.now))) }
@@ -60,16 +60,16 @@ fn put_behind<W: Write>(
     message: &Message<'_>,
     found: Option<&Result<SdRead, SdError>>,
 ) -> Result<bool, CannotWrite>
-    requires { IfSome (seen found) (λ r. IfErr r (λ e. place + sd_place e ≤ usize.MAX)) }
+    requires { IfSome (view_found found) (λ r. IfErr r (λ e. place + sd_place e ≤ usize.MAX)) }
     ensures ok { OnOk result (Sends (W.contents writer.old) buffer.old
         (W.contents writer.new) buffer.new (segment_lines k place (view message.now)
-        ++ discovery_lines k place (seen found.entry))) }
+        ++ discovery_lines k place (view_found found.entry))) }
     ensures faulty { IfOk result (λ faulty. faulty
         ≡ ((has_tp_flag message.now.header.kind && has_no_word message.now.payload.now)
-        || has_sd_fault (seen found.entry))) }
+        || has_sd_fault (view_found found.entry))) }
     ensures err { OnErr result (Stops (W.contents writer.old) buffer.old
         (W.contents writer.new) (segment_lines k place (view message.now)
-        ++ discovery_lines k place (seen found.entry))) }
+        ++ discovery_lines k place (view_found found.entry))) }
 {
     let no_word = put_segment(buffer, writer, k, place, message)?;
     let faulty = put_discovery(buffer, writer, k, place, found)?;
@@ -83,12 +83,12 @@ fn put_discovery<W: Write>(
     place: usize,
     found: Option<&Result<SdRead, SdError>>,
 ) -> Result<bool, CannotWrite>
-    requires { IfSome (seen found) (λ r. IfErr r (λ e. place + sd_place e ≤ usize.MAX)) }
+    requires { IfSome (view_found found) (λ r. IfErr r (λ e. place + sd_place e ≤ usize.MAX)) }
     ensures ok { OnOk result (Sends (W.contents writer.old) buffer.old
-        (W.contents writer.new) buffer.new (discovery_lines k place (seen found.entry))) }
-    ensures faulty { IfOk result (λ faulty. faulty ≡ has_sd_fault (seen found.entry)) }
+        (W.contents writer.new) buffer.new (discovery_lines k place (view_found found.entry))) }
+    ensures faulty { IfOk result (λ faulty. faulty ≡ has_sd_fault (view_found found.entry)) }
     ensures err { OnErr result (Stops (W.contents writer.old) buffer.old
-        (W.contents writer.new) (discovery_lines k place (seen found.entry))) }
+        (W.contents writer.new) (discovery_lines k place (view_found found.entry))) }
 {
     match found {
         Some(reading) => put_reading(buffer, writer, k, place, reading),

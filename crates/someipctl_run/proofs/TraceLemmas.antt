@@ -5,13 +5,13 @@ use Rattle.std.proofs.lemmas.List.{at_drop_more}
 use Rattle.someip_world.specs.Datagrams.{datagram_in}
 use Rattle.someip_world.specs.declared.line.Line.{Line}
 use Rattle.someip_world_setup.specs.declared.setup_node.SetupNode.{SetupNode}
-use Rattle.someipctl_run.specs.Traces.{line_text, lines_from, number_after}
+use Rattle.someipctl_run.specs.Traces.{line_text, numbered_lines, number_after}
 
 -- what is left begins with the next line
 pub next_line : (nodes : List SetupNode) (number : ℕ) (lines : List Line) (i : ℕ) (line : Line) → i < length lines → line ≡ get_or lines i line
-    → lines_from nodes number (drop i lines) ≡ line_text nodes number line ++ lines_from nodes (number_after number line) (drop (i + 1) lines)
+    → numbered_lines nodes number (drop i lines) ≡ line_text nodes number line ++ numbered_lines nodes (number_after number line) (drop (i + 1) lines)
 next_line nodes number lines i line lt is =
-    at_drop_more (lines_from nodes number) lines i line lt ∙ ap (λ l. lines_from nodes number (l ∷ drop (i + 1) lines)) (sym is)
+    at_drop_more (numbered_lines nodes number) lines i line lt ∙ ap (λ l. numbered_lines nodes number (l ∷ drop (i + 1) lines)) (sym is)
 
 -- a line has one number more at most
 pub more_numbers : (number i : ℕ) (line : Line) → number ≤ i + 1 → number_after number line ≤ i + 1 + 1

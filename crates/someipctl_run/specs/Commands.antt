@@ -8,7 +8,7 @@ use Rattle.someip_world.specs.declared.line.Line.{Line}
 use Rattle.someip_world_schedule.specs.Schedule.{first_bad, steps_of}
 use Rattle.someip_world_schedule.specs.declared.step.Step.{Step}
 use Rattle.someip_world_setup.specs.GoodSetups.{Network}
-use Rattle.someip_world_setup.specs.Readings.{HasValues, TextHasFault, said_by, tree_of}
+use Rattle.someip_world_setup.specs.Readings.{HasValues, TextHasFault, setup_of_text, tree_of}
 use Rattle.someip_world_setup.specs.declared.error.SetupError.TheVariants.{NotToml}
 use Rattle.someip_world_setup.specs.declared.setup_node.SetupNode.{SetupNode}
 use Rattle.someipctl_commands.specs.ShowResult.{WasLeft}
@@ -26,7 +26,7 @@ OfInput input P = (text : List ℕ) × WasLeft input text × P text
 
 -- it is the setup that a text says
 abbrev pub IsSetupOf : List ℕ → Network → Type 0
-IsSetupOf text network = (is_utf8 text ≡ true) × IsSomeAnd (said_by text) (HasValues network)
+IsSetupOf text network = (is_utf8 text ≡ true) × IsSomeAnd (setup_of_text text) (HasValues network)
 
 -- a text is refused: it is no UTF-8 and so no TOML, or it has the fault that is told
 abbrev pub RefusesSetup : List ℕ → SetupFault → Type 0
@@ -46,17 +46,17 @@ RefusesInput input setups.OutOfMemory = Unit {0}
 -- ---- schedules
 
 -- a text spells these steps: none of its lines is bad
-abbrev pub Spells : List ℕ → List Step → Type 0
-Spells text steps = (map (λ s. Some s) steps ≡ steps_of text) × (first_bad text ≡ None)
+abbrev pub SpellsSteps : List ℕ → List Step → Type 0
+SpellsSteps text steps = (map (λ s. Some s) steps ≡ steps_of text) × (first_bad text ≡ None)
 
 -- these are the lines of the schedule's trace
 abbrev pub IsTraceOf : List SetupNode → List ℕ → List Line → Type 0
-IsTraceOf nodes text lines = (steps : List Step) × Spells text steps × ComesTo nodes steps (Ok lines)
+IsTraceOf nodes text lines = (steps : List Step) × SpellsSteps text steps × ComesTo nodes steps (Ok lines)
 
 -- a schedule has no trace: a line is bad, or a step can't happen
 abbrev pub RefusesTrace : List SetupNode → List ℕ → RunFault → Type 0
 RefusesTrace nodes text (BadLine line) = first_bad text ≡ Some line
-RefusesTrace nodes text (BadStep index fault) = (steps : List Step) × Spells text steps × ComesTo nodes steps (Err (runs.BadStep index fault))
+RefusesTrace nodes text (BadStep index fault) = (steps : List Step) × SpellsSteps text steps × ComesTo nodes steps (Err (runs.BadStep index fault))
 RefusesTrace nodes text OutOfMemory = Unit {0}
 RefusesTrace nodes text fault = ⊥
 

@@ -8,12 +8,12 @@ use Rattle.someipctl_print.specs.Lines.{joined}
 use Rattle.someipctl_run.specs.Outputs.{ended, told_words}
 
 -- the name of the node of a place
-abbrev pub name_at : List SetupNode → ℕ → List ℕ
-name_at nodes place = option_map_or (λ node. string_bytes node.name) (slice_get nodes place) []
+abbrev pub node_name : List SetupNode → ℕ → List ℕ
+node_name nodes place = option_map_or (λ node. string_bytes node.name) (slice_get nodes place) []
 
 -- the index of a line's step and the name of its node
 abbrev pub line_head : List SetupNode → Line → List ℕ
-line_head nodes line = joined (decimal line.step ∷ codes " " ∷ name_at nodes line.node ∷ codes " " ∷ [])
+line_head nodes line = joined (decimal line.step ∷ codes " " ∷ node_name nodes line.node ∷ codes " " ∷ [])
 
 -- a line, where the next datagram has a number
 abbrev pub line_text : List SetupNode → ℕ → Line → List ℕ
@@ -24,10 +24,10 @@ abbrev pub number_after : ℕ → Line → ℕ
 number_after number line = if is_some (datagram_in line) then number + 1 else number
 
 -- some lines: their datagrams are numbered in order
-abbrev pub lines_from : List SetupNode → ℕ → List Line → List ℕ
-lines_from nodes number [] = []
-lines_from nodes number (line ∷ lines) = line_text nodes number line ++ lines_from nodes (number_after number line) lines
+abbrev pub numbered_lines : List SetupNode → ℕ → List Line → List ℕ
+numbered_lines nodes number [] = []
+numbered_lines nodes number (line ∷ lines) = line_text nodes number line ++ numbered_lines nodes (number_after number line) lines
 
 -- a whole trace: datagrams count from 1
 abbrev pub trace_text : List SetupNode → List Line → List ℕ
-trace_text nodes lines = lines_from nodes 1 lines
+trace_text nodes lines = numbered_lines nodes 1 lines

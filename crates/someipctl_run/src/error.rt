@@ -8,14 +8,19 @@ use someipctl_commands::ReadFault;
 use std::alloc::AllocError;
 use thiserror::Error;
 
+/// Prints that a setup is refused, and why.
+#[derive(Clone, Copy, Debug, Error)]
+#[error("setup: {0}")]
+pub struct SetupRefusal<'e>(pub &'e SetupError);
+
 /// Why a setup was not read.
 #[derive(Debug, Drop, Error)]
 pub enum SetupFault {
     /// Its text is no setup.
-    #[error("setup: {0}")]
+    #[error("{}", SetupRefusal(.0))]
     Refused(SetupError),
     /// It could not be read.
-    #[error("cannot read")]
+    #[error("{}", ReadFault::CannotRead)]
     CannotRead,
     /// Memory ran out.
     #[error("out of memory")]
@@ -26,16 +31,16 @@ pub enum SetupFault {
 #[derive(Clone, Copy, Debug, PartialEq, Eq, Error)]
 pub enum RunFault {
     /// The line of this number, counted from 1, spells no step. Nothing was written.
-    #[error("line {0}: bad step")]
+    #[error("{}", ScheduleError::BadLine(*.0))]
     BadLine(usize),
     /// The step of this index, counted from 1, can't happen. Nothing was written.
-    #[error("step {0}: {1}")]
+    #[error("{}", RunError::BadStep(*.0, *.1))]
     BadStep(usize, StepFault),
     /// The schedule could not be read. Nothing was written.
-    #[error("cannot read")]
+    #[error("{}", ReadFault::CannotRead)]
     CannotRead,
     /// Writing failed, or took nothing. A beginning of the text was written.
-    #[error("cannot write")]
+    #[error("{}", someipctl_print::CannotWrite)]
     CannotWrite,
     /// Memory ran out. Nothing was written.
     #[error("out of memory")]

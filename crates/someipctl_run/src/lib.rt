@@ -12,7 +12,7 @@ mod outputs;
 mod running;
 mod setups;
 
-pub use error::{RunFault, SetupFault};
+pub use error::{RunFault, SetupFault, SetupRefusal};
 pub use running::run_schedule;
 pub use setups::read_setup;
 

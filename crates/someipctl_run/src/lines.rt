@@ -3,7 +3,7 @@ ghost use Rattle.std.specs.Prelude.{◌≡◌, ◌<◌, OnOk, OnErr, is_some};
 ghost use Rattle.someip_world.specs.Datagrams.{datagram_in};
 ghost use Rattle.someipctl_print.specs.Sending.{Sends, Stops};
 ghost use Rattle.someipctl_run.specs.Outputs.{ended, told_words};
-ghost use Rattle.someipctl_run.specs.Traces.{line_head, line_text, lines_from, name_at, number_after};
+ghost use Rattle.someipctl_run.specs.Traces.{line_head, line_text, numbered_lines, node_name, number_after};
 
 use crate::outputs::{put_named, put_output};
 use someip_node::Output;
@@ -19,9 +19,9 @@ pub(crate) fn put_lines<W: Write>(
     lines: &[Line],
 ) -> Result<(), CannotWrite>
     ensures ok { OnOk result (Sends (W.contents writer.old) buffer.old
-        (W.contents writer.new) buffer.new (lines_from nodes.now 1 lines.now)) }
+        (W.contents writer.new) buffer.new (numbered_lines nodes.now 1 lines.now)) }
     ensures err { OnErr result (Stops (W.contents writer.old) buffer.old
-        (W.contents writer.new) (lines_from nodes.now 1 lines.now)) }
+        (W.contents writer.new) (numbered_lines nodes.now 1 lines.now)) }
 {
     let mut number = 1;
     for line in lines {
@@ -85,15 +85,15 @@ fn put_line_head<W: Write>(
         &[
             Part::Number(line.step),
             Part::Text(" "),
-            Part::Text(name_at(nodes, line.node)),
+            Part::Text(node_name(nodes, line.node)),
             Part::Text(" "),
         ],
     )
 }
 
 /// The name of the node at a place.
-fn name_at(nodes: &[SetupNode], place: usize) -> &str
-    ensures { result.now ≡ name_at nodes.now place }
+fn node_name(nodes: &[SetupNode], place: usize) -> &str
+    ensures { result.now ≡ node_name nodes.now place }
 {
     match nodes.get(place) {
         Some(node) => node.name.as_str(),

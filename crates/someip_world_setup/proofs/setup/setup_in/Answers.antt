@@ -2,7 +2,7 @@ use Rattle.std.proofs.Common.{map}
 use Rattle.std.proofs.lemmas.Result.{err_from_is_err_and}
 use Rattle.toml.specs.View.{view}
 use Rattle.someip_world_setup.proofs.RangeLemmas.{SetupRange, setup_in}
-use Rattle.someip_world_setup.specs.Says.{setup_of}
+use Rattle.someip_world_setup.specs.Says.{said_setup}
 use Rattle.someip_world_setup.specs.Values.{node_view, parts_view}
 use Rattle.someip_world_setup.proofs.NetworkLemmas.{good_network, at_some}
 use Rattle.someip_world_setup.proofs.FaultLemmas.{parts_refuse, unknown_refuses, clash_refuses}
@@ -26,7 +26,7 @@ returns-in_err-parts-clause-fault c =
 pub invariant_of-result : goal.invariant_of-result
 invariant_of-result c =
     good_network c.in_ok-parts.parts.common (map node_view c.in_ok-parts.parts.nodes.items) c.in_ok-nodes.nodes.items
-    (at_some SetupRange (setup_of (view c.args.tree.now)) (parts_view c.in_ok-parts.parts) c.in_ok-parts.ensures.said (setup_in (view c.args.tree.now)))
+    (at_some SetupRange (said_setup (view c.args.tree.now)) (parts_view c.in_ok-parts.parts) c.in_ok-parts.ensures.said (setup_in (view c.args.tree.now)))
     c.in_ok-refuse_clashes.ensures
     c.in_ok-parts.ensures.good
     (rw c.deref.ensures.value at c.in_ok-nodes.ensures)

@@ -1,15 +1,15 @@
 use Rattle.std.proofs.Common.{◌≡◌, Ok, ◌∙◌, ap}
 use Rattle.std.proofs.lemmas.Result.{on_ok_weaker, on_err_weaker}
 use Rattle.someip_wire.specs.View.{view, view_item}
-use Rattle.someipctl_print.specs.Discovery.{seen, discovery_in}
+use Rattle.someipctl_print.specs.Discovery.{view_found, discovery_in}
 use Rattle.someipctl_print.proofs.SendingLemmas.{OnErr-any, Sends-trans, Stops-after, Stops-before}
 use Rattle.someipctl_print.proofs.RoomLemmas.{room_for}
 use Rattle.someipctl_print.proofs.items.put_item.Goals as goal
 
 pub put_behind-requires : goal.put_behind-requires
 put_behind-requires g c =
-    let same : seen c.args.found ≡ discovery_in (Ok (view c.in-Ok.message)) = c.requires.found ∙ ap (λ i. discovery_in (view_item i)) c.in-Ok.is in
-    room_for (view c.in-Ok.message) c.args.place _ (seen c.args.found) same (rw c.in-Ok.is at c.requires.room)
+    let same : view_found c.args.found ≡ discovery_in (Ok (view c.in-Ok.message)) = c.requires.found ∙ ap (λ i. discovery_in (view_item i)) c.in-Ok.is in
+    room_for (view c.in-Ok.message) c.args.place _ (view_found c.args.found) same (rw c.in-Ok.is at c.requires.room)
 
 pub returns-in_err-put_message-in-Ok-clause-err : goal.returns-in_err-put_message-in-Ok-clause-err
 returns-in_err-put_message-in-Ok-clause-err g c =
@@ -17,10 +17,10 @@ returns-in_err-put_message-in-Ok-clause-err g c =
 
 pub returns-in_ok-put_message-in-Ok-clause-ok : goal.returns-in_ok-put_message-in-Ok-clause-ok
 returns-in_ok-put_message-in-Ok-clause-ok g c =
-    let same : seen c.args.found ≡ discovery_in (Ok (view c.in-Ok.message)) = c.requires.found ∙ ap (λ i. discovery_in (view_item i)) c.in-Ok.is in
+    let same : view_found c.args.found ≡ discovery_in (Ok (view c.in-Ok.message)) = c.requires.found ∙ ap (λ i. discovery_in (view_item i)) c.in-Ok.is in
     rw c.in-Ok.is (on_ok_weaker c.put_behind.result (Sends-trans _ _ _ _ _ _ _ _ c.in_ok-put_message-in-Ok.ensures.ok) (rw same at c.put_behind.ensures.ok))
 
 pub returns-in_ok-put_message-in-Ok-clause-err : goal.returns-in_ok-put_message-in-Ok-clause-err
 returns-in_ok-put_message-in-Ok-clause-err g c =
-    let same : seen c.args.found ≡ discovery_in (Ok (view c.in-Ok.message)) = c.requires.found ∙ ap (λ i. discovery_in (view_item i)) c.in-Ok.is in
+    let same : view_found c.args.found ≡ discovery_in (Ok (view c.in-Ok.message)) = c.requires.found ∙ ap (λ i. discovery_in (view_item i)) c.in-Ok.is in
     rw c.in-Ok.is (on_err_weaker c.put_behind.result (Stops-after _ _ _ _ _ _ _ c.in_ok-put_message-in-Ok.ensures.ok) (rw same at c.put_behind.ensures.err))
