@@ -21,7 +21,7 @@ use Rattle.someip_world.specs.declared.error.RunError.TheVariants.{BadStep}
 use Rattle.someip_world.specs.declared.line.Line.{Line}
 use Rattle.someip_world.specs.declared.step_fault.StepFault.TheVariants.{NoSuchDatagram}
 use Rattle.someip_world.specs.Deeds.{Takes, deed_of}
-use Rattle.someip_world.specs.Runs.{World, happens, happens_to, lines_of, place_of, run_from, run_of, then_on, told_by, unless_bad, world_after, world_of}
+use Rattle.someip_world.specs.Runs.{World, happens, happens_to, told_lines, place_of, run_from, run_of, then_on, run_lines, unless_bad, world_after, world_of}
 use Rattle.someip_world.specs.WorkedTrace.{AreNamed, a, b, schedule, trace}
 
 -- a step that happens leads on to the next
@@ -46,7 +46,7 @@ module _ (first second : SetupNode) (own other : Config) (named : AreNamed first
   -- a step at the first node, and at the second
   at_first : (index : ℕ) (s : Step) (i : input.Input) (xs ys after : List Item) (lines : List Line) (outputs : List Output) → node_of s ≡ a
       → deed_of (having_met own xs) lines s ≡ Ok (Takes i) → LeadsTo (having_met own xs) i outputs after
-      → happens nodes index (world xs ys lines) s ≡ Ok (world after ys (lines ++ lines_of index 0 (Ok outputs)))
+      → happens nodes index (world xs ys lines) s ≡ Ok (world after ys (lines ++ told_lines index 0 (Ok outputs)))
   at_first index s i xs ys after lines outputs at does leads =
       ap (λ name. happens_to index (world xs ys lines) s (place_of nodes name)) at
       ∙ ap (happens_to index (world xs ys lines) s) first_place
@@ -55,7 +55,7 @@ module _ (first second : SetupNode) (own other : Config) (named : AreNamed first
 
   at_second : (index : ℕ) (s : Step) (i : input.Input) (xs ys after : List Item) (lines : List Line) (outputs : List Output) → node_of s ≡ b
       → deed_of (having_met other ys) lines s ≡ Ok (Takes i) → LeadsTo (having_met other ys) i outputs after
-      → happens nodes index (world xs ys lines) s ≡ Ok (world xs after (lines ++ lines_of index 1 (Ok outputs)))
+      → happens nodes index (world xs ys lines) s ≡ Ok (world xs after (lines ++ told_lines index 1 (Ok outputs)))
   at_second index s i xs ys after lines outputs at does leads =
       ap (λ name. happens_to index (world xs ys lines) s (place_of nodes name)) at
       ∙ ap (happens_to index (world xs ys lines) s) second_place
@@ -115,7 +115,7 @@ module _ (first second : SetupNode) (own other : Config) (named : AreNamed first
       ∙ goes_on nodes 11 (world published_items subscribed_items (take 12 trace)) (world published_items subscribed_items (take 13 trace)) (Deliver 6 b) (drop 11 schedule) step11
 
   pub trace_is : run_of nodes (own ∷ other ∷ []) schedule ≡ Ok trace
-  trace_is = ap told_by (from_start ∙ all_steps)
+  trace_is = ap run_lines (from_start ∙ all_steps)
 
   pub nothing_to_deliver : run_of nodes (own ∷ other ∷ []) (Deliver 1 b ∷ []) ≡ Err (BadStep 1 NoSuchDatagram)
-  nothing_to_deliver = ap (λ place. told_by (then_on 1 (happens_to 1 (world_of nodes (own ∷ other ∷ [])) (Deliver 1 b) place) (λ w. Ok w))) second_place
+  nothing_to_deliver = ap (λ place. run_lines (then_on 1 (happens_to 1 (world_of nodes (own ∷ other ∷ [])) (Deliver 1 b) place) (λ w. Ok w))) second_place
