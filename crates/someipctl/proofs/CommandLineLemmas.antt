@@ -16,7 +16,7 @@ use Rattle.clap.specs.declared.parser.matches.Found.{Found}
 use Rattle.clap.specs.declared.parser.matches.SubCommand.{SubCommand}
 use Rattle.clap.proofs.WalkLemmas.{first_value-rows}
 use Rattle.clap.proofs.OnLiterals.{clap_on_literals}
-use Rattle.someipctl.specs.CommandLine.{IsTaken, cli, is_flag, request_by, request_in, requested, show_of, show_request, payload_of, run_of, vectors_of}
+use Rattle.someipctl.specs.CommandLine.{IsTaken, cli, is_flag, asked_by_subcommand, asked_by_entered, requested, asked_by_show, show_request, asked_by_payload, asked_by_run, asked_by_vectors}
 use Rattle.someipctl.proofs.ClapWalkLemmas.{EntersNoHelp, enters_subcommand, has_value, is_wanted, wanted_value}
 
 pub cli_is_free : is_simple_and_free cli ≡ true
@@ -32,7 +32,7 @@ cli_is_simple = refl
 -- under a name that is not `help`, words without a fault ask the subcommand for something
 abbrev Asks : Shape → Type 0
 Asks s = (name : Text) → answers_to name (label_of s) ≡ true → bytes_eq name (codes "help") ≡ false
-    → (words : List Text) → level_fault s [] nothing_held words false [] ≡ [] → IsSome (request_in (Some (rows_at s words)))
+    → (words : List Text) → level_fault s [] nothing_held words false [] ≡ [] → IsSome (asked_by_entered (Some (rows_at s words)))
 
 abbrev EachAsks : List Shape → Type 0
 EachAsks [] = Unit {0}
@@ -41,7 +41,7 @@ EachAsks (s ∷ rest) = Asks s × EachAsks rest
 found_asks : (p : Text × List Text) → bytes_eq p.0 (codes "help") ≡ false → (subs : List Shape) → EachAsks subs
     → option_map_or (λ s. level_fault s [] nothing_held p.1 false []) (find (λ s. answers_to p.0 (label_of s)) subs) [] ≡ []
     → is_some (option_map (λ s. rows_at s p.1) (find (λ s. answers_to p.0 (label_of s)) subs)) ≡ true
-    → IsSome (request_in (option_map (λ s. rows_at s p.1) (find (λ s. answers_to p.0 (label_of s)) subs)))
+    → IsSome (asked_by_entered (option_map (λ s. rows_at s p.1) (find (λ s. answers_to p.0 (label_of s)) subs)))
 found_asks p named [] each none some = absurd (true≢false (sym some))
 found_asks p named (s ∷ rest) each none some = go (answers_to p.0 (label_of s)) refl none some (found_asks p named rest each.1)
   where
@@ -50,25 +50,25 @@ found_asks p named (s ∷ rest) each none some = go (answers_to p.0 (label_of s)
         → is_some (option_map (λ s. rows_at s p.1) (cond b (Some s) (find (λ s. answers_to p.0 (label_of s)) rest))) ≡ true
         → (option_map_or (λ s. level_fault s [] nothing_held p.1 false []) (find (λ s. answers_to p.0 (label_of s)) rest) [] ≡ []
         → is_some (option_map (λ s. rows_at s p.1) (find (λ s. answers_to p.0 (label_of s)) rest)) ≡ true
-        → IsSome (request_in (option_map (λ s. rows_at s p.1) (find (λ s. answers_to p.0 (label_of s)) rest))))
-        → IsSome (request_in (option_map (λ s. rows_at s p.1) (cond b (Some s) (find (λ s. answers_to p.0 (label_of s)) rest))))
+        → IsSome (asked_by_entered (option_map (λ s. rows_at s p.1) (find (λ s. answers_to p.0 (label_of s)) rest))))
+        → IsSome (asked_by_entered (option_map (λ s. rows_at s p.1) (cond b (Some s) (find (λ s. answers_to p.0 (label_of s)) rest))))
     go true is none some more = each.0 p.0 is named p.1 none
     go false is none some more = more none some
 
 stop_asks : (a : App) → EachAsks a.subs → (stop : Option (Text × List Text)) → EntersNoHelp stop → entered_fault a stop ≡ [] → is_some (entered a stop) ≡ true
-    → IsSome (request_in (entered a stop))
+    → IsSome (asked_by_entered (entered a stop))
 stop_asks a each None named none some = absurd (true≢false (sym some))
 stop_asks a each (Some p) named none some = found_asks p named a.subs each none some
 
 -- `show` asks for something where its argument has a value
-show_some : (capture : Option Text) → is_some capture ≡ true → IsSome (show_of capture)
+show_some : (capture : Option Text) → is_some capture ≡ true → IsSome (asked_by_show capture)
 show_some None some = absurd (true≢false (sym some))
 show_some (Some capture) some = refl
 
 show_asks : (s : Shape) → bytes_eq s.name (codes "show") ≡ true → list_all has_value s.rules ≡ true → is_wanted (codes "capture") s ≡ true → Asks s
 show_asks s is valued wanted name met named words none = rw is (show_some _ (wanted_value s (codes "capture") valued wanted words none))
 
-payload_some : (shape hex : Option Text) → is_some shape ≡ true → is_some hex ≡ true → IsSome (payload_of shape hex)
+payload_some : (shape hex : Option Text) → is_some shape ≡ true → is_some hex ≡ true → IsSome (asked_by_payload shape hex)
 payload_some None hex some more = absurd (true≢false (sym some))
 payload_some (Some shape) None some more = absurd (true≢false (sym more))
 payload_some (Some shape) (Some hex) some more = refl
@@ -78,7 +78,7 @@ payload_asks : (s : Shape) → bytes_eq s.name (codes "show") ≡ false → byte
 payload_asks s other is valued shape hex name met named words none =
     rw (other, is) (payload_some _ _ (wanted_value s (codes "shape") valued shape words none) (wanted_value s (codes "hex") valued hex words none))
 
-vectors_some : (file : Option Text) → is_some file ≡ true → IsSome (vectors_of file)
+vectors_some : (file : Option Text) → is_some file ≡ true → IsSome (asked_by_vectors file)
 vectors_some None some = absurd (true≢false (sym some))
 vectors_some (Some file) some = refl
 
@@ -86,7 +86,7 @@ vectors_asks : (s : Shape) → bytes_eq s.name (codes "show") ≡ false → byte
     → list_all has_value s.rules ≡ true → is_wanted (codes "file") s ≡ true → Asks s
 vectors_asks s other another is valued wanted name met named words none = rw (other, another, is) (vectors_some _ (wanted_value s (codes "file") valued wanted words none))
 
-run_some : (setup schedule : Option Text) → is_some setup ≡ true → is_some schedule ≡ true → IsSome (run_of setup schedule)
+run_some : (setup schedule : Option Text) → is_some setup ≡ true → is_some schedule ≡ true → IsSome (asked_by_run setup schedule)
 run_some None schedule some more = absurd (true≢false (sym some))
 run_some (Some setup) None some more = absurd (true≢false (sym more))
 run_some (Some setup) (Some schedule) some more = refl
@@ -100,7 +100,7 @@ run_asks s other another third is valued setup schedule name met named words non
 help_asks : (s : Shape) → label_of s ≡ (codes "help", []) → Asks s
 help_asks s is name met named words none = go (bytes_eq (codes "help") name) refl (subst (λ label. answers_to name label ≡ true) is met)
   where
-    go : (b : Bool) → bytes_eq (codes "help") name ≡ b → (b || false) ≡ true → IsSome (request_in (Some (rows_at s words)))
+    go : (b : Bool) → bytes_eq (codes "help") name ≡ b → (b || false) ≡ true → IsSome (asked_by_entered (Some (rows_at s words)))
     go true e t =
         let same : codes "help" ≡ name = (bytes_eq-Decides (codes "help") name).0 e in
         let bad : bytes_eq (codes "help") (codes "help") ≡ false = subst (λ n. bytes_eq n (codes "help") ≡ false) (sym same) named in
@@ -141,15 +141,15 @@ show_capture_requested program (x ∷ (y ∷ ys)) plain = simp plain
 
 -- what a parse that succeeds gives is what its words ask for, and they have no fault
 pub parsed_asks : (a : App) (words : List Text) (m : ArgMatches) → a ≡ cli → HasMatchesOf a words m → (is_simple_and_free a ≡ true → fault_of a words ≡ [])
-    → (request_in (subcommand_rows_of m) ≡ requested words) × IsTaken words
+    → (asked_by_entered (subcommand_rows_of m) ≡ requested words) × IsTaken words
 parsed_asks a words m is matches taken =
     let here : HasMatchesOf cli words m = subst (λ (a : App). HasMatchesOf a words m) is matches in
     let none : is_simple_and_free cli ≡ true → fault_of cli words ≡ [] = subst (λ (a : App). (is_simple_and_free a ≡ true → fault_of a words ≡ [])) is taken in
-    (ap request_in (here cli_is_simple).1, none cli_is_free)
+    (ap asked_by_entered (here cli_is_simple).1, none cli_is_free)
 
 -- so it gives something
 pub parsed_some : (a : App) (words : List Text) (m : ArgMatches) → a ≡ cli → HasMatchesOf a words m → (is_simple_and_free a ≡ true → fault_of a words ≡ [])
-    → (None ≡ request_in (subcommand_rows_of m)) → ⊥
+    → (None ≡ asked_by_entered (subcommand_rows_of m)) → ⊥
 parsed_some a words m is matches taken none =
     let parsed = parsed_asks a words m is matches taken in
     let some : is_some (requested words) ≡ true = taken_matches words parsed.1 in
@@ -171,26 +171,26 @@ entered_is m name rows e f = go (out-ArgMatches m).subcommand e f
 
 -- what `show` asks for is what its matches ask for
 pub show_in : (m : ArgMatches) (name : Text) (f : Found) → subcommand_rows_of m ≡ Some (name, rows_of f) → bytes_eq name (codes "show") ≡ true
-    → show_of (first_value f (codes "capture")) ≡ request_in (subcommand_rows_of m)
+    → asked_by_show (first_value f (codes "capture")) ≡ asked_by_entered (subcommand_rows_of m)
 show_in m name f is show =
-    let there : request_by name (rows_of f) ≡ show_of (first_of (codes "capture") (rows_of f)) = rw show refl in
-    ap show_of (first_value-rows f (codes "capture")) ∙ sym there ∙ sym (ap request_in is)
+    let there : asked_by_subcommand name (rows_of f) ≡ asked_by_show (first_of (codes "capture") (rows_of f)) = rw show refl in
+    ap asked_by_show (first_value-rows f (codes "capture")) ∙ sym there ∙ sym (ap asked_by_entered is)
 
 pub payload_in : (m : ArgMatches) (name : Text) (f : Found) → subcommand_rows_of m ≡ Some (name, rows_of f) → bytes_eq name (codes "show") ≡ false → bytes_eq name (codes "payload") ≡ true
-    → payload_of (first_value f (codes "shape")) (first_value f (codes "hex")) ≡ request_in (subcommand_rows_of m)
+    → asked_by_payload (first_value f (codes "shape")) (first_value f (codes "hex")) ≡ asked_by_entered (subcommand_rows_of m)
 payload_in m name f is other payload =
-    let there : request_by name (rows_of f) ≡ payload_of (first_of (codes "shape") (rows_of f)) (first_of (codes "hex") (rows_of f)) = rw (other, payload) refl in
-    ap₂ payload_of (first_value-rows f (codes "shape")) (first_value-rows f (codes "hex")) ∙ sym there ∙ sym (ap request_in is)
+    let there : asked_by_subcommand name (rows_of f) ≡ asked_by_payload (first_of (codes "shape") (rows_of f)) (first_of (codes "hex") (rows_of f)) = rw (other, payload) refl in
+    ap₂ asked_by_payload (first_value-rows f (codes "shape")) (first_value-rows f (codes "hex")) ∙ sym there ∙ sym (ap asked_by_entered is)
 
 pub vectors_in : (m : ArgMatches) (name : Text) (f : Found) → subcommand_rows_of m ≡ Some (name, rows_of f) → bytes_eq name (codes "show") ≡ false → bytes_eq name (codes "payload") ≡ false
-    → bytes_eq name (codes "vectors") ≡ true → vectors_of (first_value f (codes "file")) ≡ request_in (subcommand_rows_of m)
+    → bytes_eq name (codes "vectors") ≡ true → asked_by_vectors (first_value f (codes "file")) ≡ asked_by_entered (subcommand_rows_of m)
 vectors_in m name f is other another vectors =
-    let there : request_by name (rows_of f) ≡ vectors_of (first_of (codes "file") (rows_of f)) = rw (other, another, vectors) refl in
-    ap vectors_of (first_value-rows f (codes "file")) ∙ sym there ∙ sym (ap request_in is)
+    let there : asked_by_subcommand name (rows_of f) ≡ asked_by_vectors (first_of (codes "file") (rows_of f)) = rw (other, another, vectors) refl in
+    ap asked_by_vectors (first_value-rows f (codes "file")) ∙ sym there ∙ sym (ap asked_by_entered is)
 
 pub run_in : (m : ArgMatches) (name : Text) (f : Found) → subcommand_rows_of m ≡ Some (name, rows_of f) → bytes_eq name (codes "show") ≡ false → bytes_eq name (codes "payload") ≡ false
     → bytes_eq name (codes "vectors") ≡ false → bytes_eq name (codes "run") ≡ true
-    → run_of (first_value f (codes "setup")) (first_value f (codes "schedule")) ≡ request_in (subcommand_rows_of m)
+    → asked_by_run (first_value f (codes "setup")) (first_value f (codes "schedule")) ≡ asked_by_entered (subcommand_rows_of m)
 run_in m name f is other another third run =
-    let there : request_by name (rows_of f) ≡ run_of (first_of (codes "setup") (rows_of f)) (first_of (codes "schedule") (rows_of f)) = rw (other, another, third, run) refl in
-    ap₂ run_of (first_value-rows f (codes "setup")) (first_value-rows f (codes "schedule")) ∙ sym there ∙ sym (ap request_in is)
+    let there : asked_by_subcommand name (rows_of f) ≡ asked_by_run (first_of (codes "setup") (rows_of f)) (first_of (codes "schedule") (rows_of f)) = rw (other, another, third, run) refl in
+    ap₂ asked_by_run (first_value-rows f (codes "setup")) (first_value-rows f (codes "schedule")) ∙ sym there ∙ sym (ap asked_by_entered is)

@@ -4,10 +4,11 @@ ghost use Rattle.std.specs.Prelude.{false, map, option_map, ℕ};
 ghost use Rattle.clap.specs.Words.{app_of, first_value, found_of, shape_of, subcommand_rows_of};
 ghost use Rattle.clap.specs.declared.builder.Command.TheViews.{out-Command};
 ghost use Rattle.someipctl.specs.declared.command.LineError.TheVariants.{OutOfMemory};
-ghost use Rattle.someipctl.specs.CommandLine.{CallsForHelp, IsErrorOf, IsRefused, IsTaken, RefusesWords};
-ghost use Rattle.someipctl.specs.CommandLine.{cli, is_flag, line, request_in, request_of, requested};
-ghost use Rattle.someipctl.specs.CommandLine.{payload, payload_of, program, reading, run, run_of, show, show_of};
-ghost use Rattle.someipctl.specs.CommandLine.{vectors, vectors_of};
+ghost use Rattle.someipctl.specs.CommandLine.{CallsForHelp, HaveFault, IsLineErrorOf, IsTaken, RefusesWords};
+ghost use Rattle.someipctl.specs.CommandLine.{asked_by_command, asked_by_entered, asked_by_payload};
+ghost use Rattle.someipctl.specs.CommandLine.{asked_by_run, asked_by_show, asked_by_vectors, cli, is_flag};
+ghost use Rattle.someipctl.specs.CommandLine.{line, payload_usage, program, requested, run_usage, show_usage};
+ghost use Rattle.someipctl.specs.CommandLine.{vectors_usage, with_byte_commands};
 
 use clap::error::ErrorKind;
 use clap::{Arg, ArgMatches};
@@ -67,7 +68,7 @@ pub fn command_of<'w, S: AsStr>(alloc: Global, words: &'w [S]) -> Result<Command
     // Only words without a fault give a command, and it is the one that they match.
     ensures taken { OnOk result (IsTaken (map S.text words.entry.now)) }
     ensures matched { IfOk result (λ command.
-        requested (map S.text words.entry.now) ≡ Some (request_of command)) }
+        requested (map S.text words.entry.now) ≡ Some (asked_by_command command)) }
 
     // Help answers only a call for help, and usage only another fault.
     ensures refused { IfErr result (RefusesWords (map S.text words.entry.now)) }
@@ -84,7 +85,7 @@ pub fn command_of<'w, S: AsStr>(alloc: Global, words: &'w [S]) -> Result<Command
 
 /// What an error of the parse says of the words.
 fn line_error(alloc: Global, error: clap::Error) -> LineError
-    ensures { IsErrorOf error result }
+    ensures { IsLineErrorOf error result }
 {
     match error.kind() {
         ErrorKind::OutOfMemory => LineError::OutOfMemory,
@@ -181,7 +182,7 @@ fn definition<'d>(alloc: Global) -> Result<clap::Command<'d>, AllocError>
 
 /// The program with the commands that read bytes.
 fn reading_definition<'d>(alloc: Global) -> Result<clap::Command<'d>, AllocError>
-    ensures { IfOk result (λ command. app_of command ≡ reading) }
+    ensures { IfOk result (λ command. app_of command ≡ with_byte_commands) }
 {
     program_definition(alloc)?
         .subcommand(show_definition(alloc)?)?
@@ -201,7 +202,7 @@ fn program_definition<'d>(alloc: Global) -> Result<clap::Command<'d>, AllocError
 }
 
 fn show_definition<'d>(alloc: Global) -> Result<clap::Command<'d>, AllocError>
-    ensures shape { IfOk result (λ command. shape_of command ≡ show) }
+    ensures shape { IfOk result (λ command. shape_of command ≡ show_usage) }
     ensures local { IfOk result (λ command. (out-Command command).has_globals ≡ false) }
 {
     let capture = Arg::new(alloc, "capture")
@@ -216,7 +217,7 @@ fn show_definition<'d>(alloc: Global) -> Result<clap::Command<'d>, AllocError>
 
 /// The command that the matches say.
 fn matched<'w>(matches: &ArgMatches<'w>) -> Option<Command<'w>>
-    ensures { option_map request_of result ≡ request_in (subcommand_rows_of matches.now) }
+    ensures { option_map asked_by_command result ≡ asked_by_entered (subcommand_rows_of matches.now) }
 {
     let (name, rest) = matches.subcommand()?;
     match name {
@@ -229,15 +230,15 @@ fn matched<'w>(matches: &ArgMatches<'w>) -> Option<Command<'w>>
 }
 
 fn show_matched<'w>(matches: &ArgMatches<'w>) -> Option<Command<'w>>
-    ensures { option_map request_of result
-        ≡ show_of (first_value (found_of matches.now) (codes "capture")) }
+    ensures { option_map asked_by_command result
+        ≡ asked_by_show (first_value (found_of matches.now) (codes "capture")) }
 {
     let capture = matches.get_str("capture")?;
     Some(Command::Show { capture })
 }
 
 fn payload_definition<'d>(alloc: Global) -> Result<clap::Command<'d>, AllocError>
-    ensures shape { IfOk result (λ command. shape_of command ≡ payload) }
+    ensures shape { IfOk result (λ command. shape_of command ≡ payload_usage) }
     ensures local { IfOk result (λ command. (out-Command command).has_globals ≡ false) }
 {
     let shape = Arg::new(alloc, "shape").value_name("SHAPE").required(true);
@@ -250,8 +251,8 @@ fn payload_definition<'d>(alloc: Global) -> Result<clap::Command<'d>, AllocError
 }
 
 fn payload_matched<'w>(matches: &ArgMatches<'w>) -> Option<Command<'w>>
-    ensures { option_map request_of result
-        ≡ payload_of (first_value (found_of matches.now) (codes "shape"))
+    ensures { option_map asked_by_command result
+        ≡ asked_by_payload (first_value (found_of matches.now) (codes "shape"))
         (first_value (found_of matches.now) (codes "hex")) }
 {
     let shape = matches.get_str("shape")?;
@@ -260,7 +261,7 @@ fn payload_matched<'w>(matches: &ArgMatches<'w>) -> Option<Command<'w>>
 }
 
 fn vectors_definition<'d>(alloc: Global) -> Result<clap::Command<'d>, AllocError>
-    ensures shape { IfOk result (λ command. shape_of command ≡ vectors) }
+    ensures shape { IfOk result (λ command. shape_of command ≡ vectors_usage) }
     ensures local { IfOk result (λ command. (out-Command command).has_globals ≡ false) }
 {
     let file = Arg::new(alloc, "file")
@@ -274,15 +275,15 @@ fn vectors_definition<'d>(alloc: Global) -> Result<clap::Command<'d>, AllocError
 }
 
 fn vectors_matched<'w>(matches: &ArgMatches<'w>) -> Option<Command<'w>>
-    ensures { option_map request_of result
-        ≡ vectors_of (first_value (found_of matches.now) (codes "file")) }
+    ensures { option_map asked_by_command result
+        ≡ asked_by_vectors (first_value (found_of matches.now) (codes "file")) }
 {
     let file = matches.get_str("file")?;
     Some(Command::Vectors { file })
 }
 
 fn run_definition<'d>(alloc: Global) -> Result<clap::Command<'d>, AllocError>
-    ensures shape { IfOk result (λ command. shape_of command ≡ run) }
+    ensures shape { IfOk result (λ command. shape_of command ≡ run_usage) }
     ensures local { IfOk result (λ command. (out-Command command).has_globals ≡ false) }
 {
     let setup = Arg::new(alloc, "setup").value_name("SETUP").required(true);
@@ -297,8 +298,8 @@ fn run_definition<'d>(alloc: Global) -> Result<clap::Command<'d>, AllocError>
 }
 
 fn run_matched<'w>(matches: &ArgMatches<'w>) -> Option<Command<'w>>
-    ensures { option_map request_of result
-        ≡ run_of (first_value (found_of matches.now) (codes "setup"))
+    ensures { option_map asked_by_command result
+        ≡ asked_by_run (first_value (found_of matches.now) (codes "setup"))
         (first_value (found_of matches.now) (codes "schedule")) }
 {
     let setup = matches.get_str("setup")?;

@@ -1,7 +1,7 @@
 //! Laws of the definitions behind the contracts: what words ask for. Each is the contract of a
 //! function that does nothing.
 ghost use Rattle.std.specs.Prelude.{◌≡◌, ◌∷◌, [], codes, false, Some, IsSome, ℕ, List};
-ghost use Rattle.someipctl.specs.CommandLine.{CallsForHelp, IsRefused, IsTaken, is_flag, line};
+ghost use Rattle.someipctl.specs.CommandLine.{CallsForHelp, HaveFault, IsTaken, is_flag, line};
 ghost use Rattle.someipctl.specs.CommandLine.{requested, show_request, vectors_request};
 
 use clap::error::ErrorKind;
@@ -28,8 +28,8 @@ pub fn calls_by_example()
         ≡ Some (vectors_request (codes "x")) }
 
     // No command, or no capture.
-    ensures bare { IsRefused (line []) ErrorKind.MissingSubcommand }
-    ensures bare_show { IsRefused (line (codes "show" ∷ [])) ErrorKind.MissingRequiredArgument }
+    ensures bare { HaveFault (line []) ErrorKind.MissingSubcommand }
+    ensures bare_show { HaveFault (line (codes "show" ∷ [])) ErrorKind.MissingRequiredArgument }
 
     // Four ways to ask for help.
     ensures help_flag { CallsForHelp (line (codes "--help" ∷ [])) }
