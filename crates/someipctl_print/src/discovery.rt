@@ -3,6 +3,7 @@ ghost use Rattle.std.specs.Prelude.{◌≡◌, ◌≤◌, ◌+◌, OnOk, OnErr, 
 ghost use Rattle.std.specs.List.{flat_map};
 ghost use Rattle.sd_wire.specs.Values.{view_read, view_sd};
 ghost use Rattle.sd_wire.specs.Faults.{fault_place};
+ghost use Rattle.someipctl_print.specs.Parts.{part_text};
 ghost use Rattle.someipctl_print.specs.Sending.{Sends, Stops};
 ghost use Rattle.someipctl_print.specs.Discovery.{service_name, eventgroup_name, service_text, eventgroup_text};
 ghost use Rattle.someipctl_print.specs.Discovery.{head_text, entry_line, sd_line, message_lines};
@@ -57,36 +58,24 @@ fn put_message<W: Write>(
     ensures err { OnErr result (Stops (W.contents writer.old) buffer.old
         (W.contents writer.new) (message_lines k (view_sd read.now))) }
 {
-    put_sd(buffer, writer, k, read)?;
+    put_parts(buffer, writer, &sd_parts(k, read))?;
     put_entries(buffer, writer, k, &read.entries)
 }
 
-/// Prints the line of a Service Discovery message of the k-th datagram.
-fn put_sd<W: Write>(
-    buffer: &mut Buffer,
-    writer: &mut W,
-    k: usize,
-    read: &SdRead,
-) -> Result<(), CannotWrite>
-    ensures ok { OnOk result (Sends (W.contents writer.old) buffer.old
-        (W.contents writer.new) buffer.new (sd_line k (view_sd read.now))) }
-    ensures err { OnErr result (Stops (W.contents writer.old) buffer.old
-        (W.contents writer.new) (sd_line k (view_sd read.now))) }
+/// The line of a Service Discovery message of the k-th datagram.
+fn sd_parts(k: usize, read: &SdRead) -> [Part<'static>; 8]
+    ensures { flat_map part_text result ≡ sd_line k (view_sd read.now) }
 {
-    put_parts(
-        buffer,
-        writer,
-        &[
-            Part::Number(k),
-            Part::Text(" sd reboot "),
-            Part::Text(digit_of_flag(read.flags.reboot)),
-            Part::Text(" unicast "),
-            Part::Text(digit_of_flag(read.flags.unicast)),
-            Part::Text(" entries "),
-            Part::Number(read.entries.len()),
-            Part::Text("\n"),
-        ],
-    )
+    [
+        Part::Number(k),
+        Part::Text(" sd reboot "),
+        Part::Text(digit_of_flag(read.flags.reboot)),
+        Part::Text(" unicast "),
+        Part::Text(digit_of_flag(read.flags.unicast)),
+        Part::Text(" entries "),
+        Part::Number(read.entries.len()),
+        Part::Text("\n"),
+    ]
 }
 
 /// Prints the lines of entries of the k-th datagram.
@@ -143,75 +132,53 @@ fn put_head<W: Write>(
         (W.contents writer.new) (head_text k head.now)) }
 {
     match head {
-        EntryHead::Service(entry) => put_service(buffer, writer, k, entry),
-        EntryHead::Eventgroup(entry) => put_eventgroup(buffer, writer, k, entry),
+        EntryHead::Service(entry) => put_parts(buffer, writer, &service_parts(k, entry)),
+        EntryHead::Eventgroup(entry) => put_parts(buffer, writer, &eventgroup_parts(k, entry)),
     }
 }
 
-fn put_service<W: Write>(
-    buffer: &mut Buffer,
-    writer: &mut W,
-    k: usize,
-    entry: &ServiceEntry,
-) -> Result<(), CannotWrite>
-    ensures ok { OnOk result (Sends (W.contents writer.old) buffer.old
-        (W.contents writer.new) buffer.new (service_text k entry.now)) }
-    ensures err { OnErr result (Stops (W.contents writer.old) buffer.old
-        (W.contents writer.new) (service_text k entry.now)) }
+/// The line of a service entry up to its runs.
+fn service_parts(k: usize, entry: &ServiceEntry) -> [Part<'static>; 13]
+    ensures { flat_map part_text result ≡ service_text k entry.now }
 {
-    put_parts(
-        buffer,
-        writer,
-        &[
-            Part::Number(k),
-            Part::Text(" "),
-            Part::Text(name_of_service(entry)),
-            Part::Text(" "),
-            Part::Id(entry.service),
-            Part::Text("."),
-            Part::Id(entry.instance),
-            Part::Text(" major "),
-            Part::Byte(entry.major),
-            Part::Text(" ttl "),
-            Part::Number(ttl_of_service(entry)),
-            Part::Text(" minor "),
-            Part::Number(entry.minor as usize),
-        ],
-    )
+    [
+        Part::Number(k),
+        Part::Text(" "),
+        Part::Text(name_of_service(entry)),
+        Part::Text(" "),
+        Part::Id(entry.service),
+        Part::Text("."),
+        Part::Id(entry.instance),
+        Part::Text(" major "),
+        Part::Byte(entry.major),
+        Part::Text(" ttl "),
+        Part::Number(ttl_of_service(entry)),
+        Part::Text(" minor "),
+        Part::Number(entry.minor as usize),
+    ]
 }
 
-fn put_eventgroup<W: Write>(
-    buffer: &mut Buffer,
-    writer: &mut W,
-    k: usize,
-    entry: &EventgroupEntry,
-) -> Result<(), CannotWrite>
-    ensures ok { OnOk result (Sends (W.contents writer.old) buffer.old
-        (W.contents writer.new) buffer.new (eventgroup_text k entry.now)) }
-    ensures err { OnErr result (Stops (W.contents writer.old) buffer.old
-        (W.contents writer.new) (eventgroup_text k entry.now)) }
+/// The line of an eventgroup entry up to its runs.
+fn eventgroup_parts(k: usize, entry: &EventgroupEntry) -> [Part<'static>; 15]
+    ensures { flat_map part_text result ≡ eventgroup_text k entry.now }
 {
-    put_parts(
-        buffer,
-        writer,
-        &[
-            Part::Number(k),
-            Part::Text(" "),
-            Part::Text(name_of_eventgroup(entry)),
-            Part::Text(" "),
-            Part::Id(entry.service),
-            Part::Text("."),
-            Part::Id(entry.instance),
-            Part::Text(" major "),
-            Part::Byte(entry.major),
-            Part::Text(" ttl "),
-            Part::Number(ttl_of_eventgroup(entry)),
-            Part::Text(" counter "),
-            Part::Number(counter_of(entry)),
-            Part::Text(" group "),
-            Part::Id(entry.eventgroup),
-        ],
-    )
+    [
+        Part::Number(k),
+        Part::Text(" "),
+        Part::Text(name_of_eventgroup(entry)),
+        Part::Text(" "),
+        Part::Id(entry.service),
+        Part::Text("."),
+        Part::Id(entry.instance),
+        Part::Text(" major "),
+        Part::Byte(entry.major),
+        Part::Text(" ttl "),
+        Part::Number(ttl_of_eventgroup(entry)),
+        Part::Text(" counter "),
+        Part::Number(counter_of(entry)),
+        Part::Text(" group "),
+        Part::Id(entry.eventgroup),
+    ]
 }
 
 fn ttl_of_service(entry: &ServiceEntry) -> usize

@@ -1,5 +1,6 @@
 //! The lines of messages, segments and faults.
 ghost use Rattle.std.specs.Prelude.{◌≡◌, ◌&&◌, OnOk, OnErr, IfOk};
+ghost use Rattle.std.specs.List.{flat_map};
 ghost use Rattle.someip_wire.specs.Kinds.{has_tp_flag};
 ghost use Rattle.someip_wire.specs.View.{view};
 ghost use Rattle.someipctl_print.specs.Sending.{Sends, Stops};
@@ -24,45 +25,33 @@ pub fn put_empty<W: Write>(buffer: &mut Buffer, writer: &mut W, k: usize) -> Res
     put_parts(buffer, writer, &[Part::Number(k), Part::Text(" empty\n")])
 }
 
-/// Prints the line of a message of the k-th datagram.
-pub(crate) fn put_message<W: Write>(
-    buffer: &mut Buffer,
-    writer: &mut W,
-    k: usize,
-    message: &Message<'_>,
-) -> Result<(), CannotWrite>
-    ensures ok { OnOk result (Sends (W.contents writer.old) buffer.old
-        (W.contents writer.new) buffer.new (message_line k (view message.now))) }
-    ensures err { OnErr result (Stops (W.contents writer.old) buffer.old
-        (W.contents writer.new) (message_line k (view message.now))) }
+/// The line of a message of the k-th datagram.
+pub(crate) fn message_parts<'m>(k: usize, message: &Message<'m>) -> [Part<'m>; 20]
+    ensures { flat_map part_text result ≡ message_line k (view message.now) }
 {
     let header = message.header;
-    put_parts(
-        buffer,
-        writer,
-        &[
-            Part::Number(k),
-            Part::Text(" message "),
-            Part::Id(header.service),
-            Part::Text("."),
-            Part::Id(header.method),
-            Part::Text(" length "),
-            Part::Number(8 + message.payload.len()),
-            Part::Text(" client "),
-            Part::Id(header.client),
-            Part::Text(" session "),
-            Part::Id(header.session),
-            Part::Text(" interface "),
-            Part::Byte(header.interface),
-            Part::Text(" type "),
-            Part::Text(name_of_type(header.kind)),
-            Part::Text(" code "),
-            Part::Byte(header.code.0),
-            Part::Text(" payload "),
-            payload_part(message.payload),
-            Part::Text("\n"),
-        ],
-    )
+    [
+        Part::Number(k),
+        Part::Text(" message "),
+        Part::Id(header.service),
+        Part::Text("."),
+        Part::Id(header.method),
+        Part::Text(" length "),
+        Part::Number(8 + message.payload.len()),
+        Part::Text(" client "),
+        Part::Id(header.client),
+        Part::Text(" session "),
+        Part::Id(header.session),
+        Part::Text(" interface "),
+        Part::Byte(header.interface),
+        Part::Text(" type "),
+        Part::Text(name_of_type(header.kind)),
+        Part::Text(" code "),
+        Part::Byte(header.code.0),
+        Part::Text(" payload "),
+        payload_part(message.payload),
+        Part::Text("\n"),
+    ]
 }
 
 /// Prints what stands after the line of a message whose payload begins at a place of the k-th
@@ -134,7 +123,7 @@ pub(crate) fn put_fault<W: Write>(
 }
 
 /// The payload in hex, or `-` where it is empty.
-fn payload_part(payload: &[u8]) -> Part<'_>
+pub(crate) fn payload_part(payload: &[u8]) -> Part<'_>
     ensures { part_text result ≡ payload_text payload.now }
 {
     if payload.is_empty() {

@@ -118,95 +118,75 @@ fn put_option<W: Write>(
 {
     match option {
         SdOption::LoadBalancing { priority, weight } => {
-            put_load(buffer, writer, *priority, *weight)
+            put_parts(buffer, writer, &load_parts(*priority, *weight))
         }
-        SdOption::Endpoint4(endpoint) => put_ipv4(buffer, writer, "endpoint4 ", endpoint),
-        SdOption::Multicast4(endpoint) => put_ipv4(buffer, writer, "multicast4 ", endpoint),
-        SdOption::SdEndpoint4(endpoint) => put_ipv4(buffer, writer, "sdendpoint4 ", endpoint),
+        SdOption::Endpoint4(endpoint) => put_parts(
+            buffer,
+            writer,
+            &ipv4_parts("endpoint4 ", endpoint),
+        ),
+        SdOption::Multicast4(endpoint) => put_parts(
+            buffer,
+            writer,
+            &ipv4_parts("multicast4 ", endpoint),
+        ),
+        SdOption::SdEndpoint4(endpoint) => put_parts(
+            buffer,
+            writer,
+            &ipv4_parts("sdendpoint4 ", endpoint),
+        ),
         SdOption::Endpoint6(endpoint) => put_ipv6(buffer, writer, "endpoint6 ", endpoint),
         SdOption::Multicast6(endpoint) => put_ipv6(buffer, writer, "multicast6 ", endpoint),
         SdOption::SdEndpoint6(endpoint) => put_ipv6(buffer, writer, "sdendpoint6 ", endpoint),
-        SdOption::Raw(raw) => put_raw(buffer, writer, raw),
+        SdOption::Raw(raw) => put_parts(buffer, writer, &raw_parts(raw)),
     }
 }
 
-fn put_load<W: Write>(
-    buffer: &mut Buffer,
-    writer: &mut W,
-    priority: u16,
-    weight: u16,
-) -> Result<(), CannotWrite>
-    ensures ok { OnOk result (Sends (W.contents writer.old) buffer.old
-        (W.contents writer.new) buffer.new (load_text priority weight)) }
-    ensures err { OnErr result (Stops (W.contents writer.old) buffer.old
-        (W.contents writer.new) (load_text priority weight)) }
+/// A load balancing option.
+fn load_parts(priority: u16, weight: u16) -> [Part<'static>; 4]
+    ensures { flat_map part_text result ≡ load_text priority weight }
 {
-    put_parts(
-        buffer,
-        writer,
-        &[
-            Part::Text("load "),
-            Part::Number(priority as usize),
-            Part::Text(" "),
-            Part::Number(weight as usize),
-        ],
-    )
+    [
+        Part::Text("load "),
+        Part::Number(priority as usize),
+        Part::Text(" "),
+        Part::Number(weight as usize),
+    ]
 }
 
-fn put_raw<W: Write>(
-    buffer: &mut Buffer,
-    writer: &mut W,
-    raw: &RawOption,
-) -> Result<(), CannotWrite>
-    ensures ok { OnOk result (Sends (W.contents writer.old) buffer.old
-        (W.contents writer.new) buffer.new (raw_text raw.now.kind raw.now.bytes)) }
-    ensures err { OnErr result (Stops (W.contents writer.old) buffer.old
-        (W.contents writer.new) (raw_text raw.now.kind raw.now.bytes)) }
+/// An option that is kept as it was read.
+fn raw_parts(raw: &RawOption) -> [Part<'_>; 4]
+    ensures { flat_map part_text result ≡ raw_text raw.now.kind raw.now.bytes }
 {
-    put_parts(
-        buffer,
-        writer,
-        &[
-            Part::Text("unknown "),
-            Part::Byte(raw.kind()),
-            Part::Text(" "),
-            Part::Hex(raw.bytes()),
-        ],
-    )
+    [
+        Part::Text("unknown "),
+        Part::Byte(raw.kind()),
+        Part::Text(" "),
+        Part::Hex(raw.bytes()),
+    ]
 }
 
-fn put_ipv4<W: Write>(
-    buffer: &mut Buffer,
-    writer: &mut W,
-    name: &str,
-    endpoint: &Ipv4Endpoint,
-) -> Result<(), CannotWrite>
-    ensures ok { OnOk result (Sends (W.contents writer.old) buffer.old
-        (W.contents writer.new) buffer.new (name.now ++ ipv4_text endpoint.now)) }
-    ensures err { OnErr result (Stops (W.contents writer.old) buffer.old
-        (W.contents writer.new) (name.now ++ ipv4_text endpoint.now)) }
+/// A name, and an IPv4 endpoint with its protocol.
+fn ipv4_parts<'n>(name: &'n str, endpoint: &Ipv4Endpoint) -> [Part<'n>; 13]
+    ensures { flat_map part_text result ≡ name.now ++ ipv4_text endpoint.now }
 {
     let octets = endpoint.socket.ip().octets();
     let (protocol, number) = protocol_parts(endpoint.protocol);
-    put_parts(
-        buffer,
-        writer,
-        &[
-            Part::Text(name),
-            Part::Number(octets[0] as usize),
-            Part::Text("."),
-            Part::Number(octets[1] as usize),
-            Part::Text("."),
-            Part::Number(octets[2] as usize),
-            Part::Text("."),
-            Part::Number(octets[3] as usize),
-            Part::Text(":"),
-            Part::Number(endpoint.socket.port() as usize),
-            Part::Text(" "),
-            protocol,
-            number,
-        ],
-    )
+    [
+        Part::Text(name),
+        Part::Number(octets[0] as usize),
+        Part::Text("."),
+        Part::Number(octets[1] as usize),
+        Part::Text("."),
+        Part::Number(octets[2] as usize),
+        Part::Text("."),
+        Part::Number(octets[3] as usize),
+        Part::Text(":"),
+        Part::Number(endpoint.socket.port() as usize),
+        Part::Text(" "),
+        protocol,
+        number,
+    ]
 }
 
 fn put_ipv6<W: Write>(
@@ -220,36 +200,28 @@ fn put_ipv6<W: Write>(
     ensures err { OnErr result (Stops (W.contents writer.old) buffer.old
         (W.contents writer.new) (name.now ++ ipv6_text endpoint.now)) }
 {
-    put_text(buffer, writer, name)?;
     let octets = endpoint.address.octets();
-    put_ipv6_octets(buffer, writer, &octets, endpoint.port, endpoint.protocol)
-}
-
-fn put_ipv6_octets<W: Write>(
-    buffer: &mut Buffer,
-    writer: &mut W,
-    octets: &[u8],
-    port: u16,
-    protocol: Protocol,
-) -> Result<(), CannotWrite>
-    ensures ok { OnOk result (Sends (W.contents writer.old) buffer.old
-        (W.contents writer.new) buffer.new (ipv6_octets_text octets.now port protocol.0)) }
-    ensures err { OnErr result (Stops (W.contents writer.old) buffer.old
-        (W.contents writer.new) (ipv6_octets_text octets.now port protocol.0)) }
-{
-    let (protocol, number) = protocol_parts(protocol);
     put_parts(
         buffer,
         writer,
-        &[
-            Part::Hex(octets),
-            Part::Text(":"),
-            Part::Number(port as usize),
-            Part::Text(" "),
-            protocol,
-            number,
-        ],
+        &ipv6_parts(name, &octets, endpoint.port, endpoint.protocol),
     )
+}
+
+/// A name, and the octets and the port of an IPv6 endpoint with its protocol.
+fn ipv6_parts<'o>(name: &'o str, octets: &'o [u8], port: u16, protocol: Protocol) -> [Part<'o>; 7]
+    ensures { flat_map part_text result ≡ name.now ++ ipv6_octets_text octets.now port protocol.0 }
+{
+    let (protocol, number) = protocol_parts(protocol);
+    [
+        Part::Text(name),
+        Part::Hex(octets),
+        Part::Text(":"),
+        Part::Number(port as usize),
+        Part::Text(" "),
+        protocol,
+        number,
+    ]
 }
 
 fn put_text<W: Write>(buffer: &mut Buffer, writer: &mut W, text: &str) -> Result<(), CannotWrite>

@@ -5,7 +5,8 @@ use Rattle.someip_world.specs.Datagrams.{datagram_in}
 use Rattle.someip_world.specs.declared.line.Line.{Line}
 use Rattle.someip_world_setup.specs.declared.setup_node.SetupNode.{SetupNode}
 use Rattle.someipctl_print.specs.Lines.{joined}
-use Rattle.someipctl_run.specs.Outputs.{ended, told_words}
+use Rattle.someipctl_print.specs.Words.{ended}
+use Rattle.someipctl_run.specs.Outputs.{told_words}
 
 -- the name of the node of a place
 abbrev pub node_name : List SetupNode → ℕ → List ℕ
@@ -13,7 +14,7 @@ node_name nodes place = option_map_or (λ node. string_bytes node.name) (slice_g
 
 -- the index of a line's step and the name of its node
 abbrev pub line_head : List SetupNode → Line → List ℕ
-line_head nodes line = joined (decimal line.step ∷ codes " " ∷ node_name nodes line.node ∷ codes " " ∷ [])
+line_head nodes line = joined (decimal line.step ∷ codes " " ∷ node_name nodes line.node ∷ [])
 
 -- a line, where the next datagram has a number
 abbrev pub line_text : List SetupNode → ℕ → Line → List ℕ

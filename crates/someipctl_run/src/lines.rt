@@ -1,11 +1,12 @@
 //! The lines of a trace.
 ghost use Rattle.std.specs.Prelude.{◌≡◌, ◌<◌, OnOk, OnErr, is_some};
 ghost use Rattle.someip_world.specs.Datagrams.{datagram_in};
+ghost use Rattle.std.specs.List.{flat_map};
+ghost use Rattle.someipctl_print.specs.Parts.{part_text};
 ghost use Rattle.someipctl_print.specs.Sending.{Sends, Stops};
-ghost use Rattle.someipctl_run.specs.Outputs.{ended, told_words};
 ghost use Rattle.someipctl_run.specs.Traces.{line_head, line_text, numbered_lines, node_name, number_after};
 
-use crate::outputs::{put_named, put_output};
+use crate::outputs::put_told;
 use someip_node::Output;
 use someip_world::{Line, SetupNode, Told};
 use someipctl_print::{Buffer, CannotWrite, Part, put_parts};
@@ -63,32 +64,19 @@ fn put_line<W: Write>(
     ensures err { OnErr result (Stops (W.contents writer.old) buffer.old
         (W.contents writer.new) (line_text nodes.now number line.now)) }
 {
-    put_line_head(buffer, writer, nodes, line)?;
+    put_parts(buffer, writer, &head_parts(nodes, line))?;
     put_told(buffer, writer, number, &line.told)
 }
 
-/// Prints the index of a line's step and the name of its node.
-fn put_line_head<W: Write>(
-    buffer: &mut Buffer,
-    writer: &mut W,
-    nodes: &[SetupNode],
-    line: &Line,
-) -> Result<(), CannotWrite>
-    ensures ok { OnOk result (Sends (W.contents writer.old) buffer.old
-        (W.contents writer.new) buffer.new (line_head nodes.now line.now)) }
-    ensures err { OnErr result (Stops (W.contents writer.old) buffer.old
-        (W.contents writer.new) (line_head nodes.now line.now)) }
+/// The index of a line's step and the name of its node.
+fn head_parts<'n>(nodes: &'n [SetupNode], line: &Line) -> [Part<'n>; 3]
+    ensures { flat_map part_text result ≡ line_head nodes.now line.now }
 {
-    put_parts(
-        buffer,
-        writer,
-        &[
-            Part::Number(line.step),
-            Part::Text(" "),
-            Part::Text(node_name(nodes, line.node)),
-            Part::Text(" "),
-        ],
-    )
+    [
+        Part::Number(line.step),
+        Part::Text(" "),
+        Part::Text(node_name(nodes, line.node)),
+    ]
 }
 
 /// The name of the node at a place.
@@ -98,23 +86,5 @@ fn node_name(nodes: &[SetupNode], place: usize) -> &str
     match nodes.get(place) {
         Some(node) => node.name.as_str(),
         None => "",
-    }
-}
-
-/// Prints what a line tells, where the next datagram has a number.
-fn put_told<W: Write>(
-    buffer: &mut Buffer,
-    writer: &mut W,
-    number: usize,
-    told: &Told,
-) -> Result<(), CannotWrite>
-    ensures ok { OnOk result (Sends (W.contents writer.old) buffer.old
-        (W.contents writer.new) buffer.new (ended (told_words number told.now))) }
-    ensures err { OnErr result (Stops (W.contents writer.old) buffer.old
-        (W.contents writer.new) (ended (told_words number told.now))) }
-{
-    match told {
-        Told::Gave(output) => put_output(buffer, writer, number, output),
-        Told::Refused(refusal) => put_named(buffer, writer, "refused ", refusal.name()),
     }
 }

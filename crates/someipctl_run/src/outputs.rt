@@ -1,10 +1,9 @@
-//! The outputs of nodes, at the ends of lines.
-ghost use Rattle.std.specs.Prelude.{◌≡◌, ◌++◌, ◌∷◌, [], OnOk, OnErr};
+//! What the lines of a trace tell, word by word.
+ghost use Rattle.std.specs.Prelude.{◌≡◌, ◌∷◌, [], OnOk, OnErr, map};
 ghost use Rattle.someip_node_rules.specs.declared.output.Output.TheVariants as output;
-ghost use Rattle.someipctl_print.specs.Lines.{payload_text};
-ghost use Rattle.someipctl_print.specs.Parts.{part_text};
 ghost use Rattle.someipctl_print.specs.Sending.{Sends, Stops};
-ghost use Rattle.someipctl_run.specs.Outputs.{ended, output_words};
+ghost use Rattle.someipctl_print.specs.Words.{ended, word_text};
+ghost use Rattle.someipctl_run.specs.Outputs.{output_words, told_words};
 ghost use Rattle.someipctl_run.specs.Words.{token_text};
 
 use sd_core::{Cause, Eventgroup, InstanceId};
@@ -12,12 +11,31 @@ use sd_wire::SubscriptionCounter;
 use someip_node::Output;
 use someip_rpc::MessageId;
 use someip_wire::ReturnCode;
-use someipctl_print::{Buffer, CannotWrite, Part, put_parts};
+use someip_world::Told;
+use someipctl_print::{Buffer, CannotWrite, Word, put_end};
 use std::io::Write;
 use std::net::{Ipv4Addr, SocketAddrV4};
 
+/// Prints what a line tells, where the next datagram has a number.
+pub(crate) fn put_told<W: Write>(
+    buffer: &mut Buffer,
+    writer: &mut W,
+    number: usize,
+    told: &Told,
+) -> Result<(), CannotWrite>
+    ensures ok { OnOk result (Sends (W.contents writer.old) buffer.old
+        (W.contents writer.new) buffer.new (ended (told_words number told.now))) }
+    ensures err { OnErr result (Stops (W.contents writer.old) buffer.old
+        (W.contents writer.new) (ended (told_words number told.now))) }
+{
+    match told {
+        Told::Gave(output) => put_output(buffer, writer, number, output),
+        Told::Refused(refusal) => put_end(buffer, writer, &named("refused", refusal.name())),
+    }
+}
+
 /// Prints what an output tells; a datagram has a number.
-pub(crate) fn put_output<W: Write>(
+fn put_output<W: Write>(
     buffer: &mut Buffer,
     writer: &mut W,
     number: usize,
@@ -29,509 +47,238 @@ pub(crate) fn put_output<W: Write>(
         (W.contents writer.new) (ended (output_words number output.now))) }
 {
     match output {
-        Output::Sent { from, to, bytes } => {
-            put_sent(buffer, writer, number, *from, *to, bytes.as_slice())
-        }
-        Output::Called { message, session } => put_called(buffer, writer, *message, *session),
+        Output::Sent { from, to, bytes } => put_end(
+            buffer,
+            writer,
+            &sent(number, *from, *to, bytes.as_slice()),
+        ),
+        Output::Called { message, session } => put_end(buffer, writer, &called(*message, *session)),
         Output::Request {
             token,
             instance,
             method,
             payload,
-        } => put_request(
+        } => put_end(
             buffer,
             writer,
-            *token,
-            *instance,
-            *method,
-            payload.as_slice(),
+            &request(*token, *instance, *method, payload.as_slice()),
         ),
         Output::Answered {
             message,
             session,
             code,
             payload,
-        } => put_answered(
+        } => put_end(
             buffer,
             writer,
-            *message,
-            *session,
-            *code,
-            payload.as_slice(),
+            &answered(*message, *session, *code, payload.as_slice()),
         ),
-        Output::TimedOut { message, session } => put_timed_out(buffer, writer, *message, *session),
+        Output::TimedOut { message, session } => put_end(
+            buffer,
+            writer,
+            &timed_out(*message, *session),
+        ),
         Output::Event {
             instance,
             event,
             payload,
-        } => put_event(buffer, writer, *instance, *event, payload.as_slice()),
-        Output::Known { instance, endpoint } => put_known(buffer, writer, *instance, *endpoint),
-        Output::Gone { instance } => put_gone(buffer, writer, *instance),
+        } => put_end(
+            buffer,
+            writer,
+            &event_of(*instance, *event, payload.as_slice()),
+        ),
+        Output::Known { instance, endpoint } => put_end(
+            buffer,
+            writer,
+            &known(*instance, *endpoint),
+        ),
+        Output::Gone { instance } => put_end(buffer, writer, &gone(*instance)),
         Output::Subscribed {
             eventgroup,
             counter,
-        } => put_subscribed(buffer, writer, *eventgroup, *counter),
-        Output::Unsubscribed { eventgroup } => put_unsubscribed(buffer, writer, *eventgroup),
+        } => put_end(buffer, writer, &subscribed(*eventgroup, *counter)),
+        Output::Unsubscribed { eventgroup } => put_end(buffer, writer, &unsubscribed(*eventgroup)),
         Output::Accepted {
             eventgroup,
             endpoint,
             counter,
-        } => put_accepted(buffer, writer, *eventgroup, *endpoint, *counter),
-        Output::Nacked { eventgroup, cause } => put_nacked(buffer, writer, *eventgroup, *cause),
-        Output::Rebooted { peer } => put_rebooted(buffer, writer, *peer),
-        Output::Dropped { reason } => put_named(buffer, writer, "dropped ", reason.name()),
+        } => put_end(buffer, writer, &accepted(*eventgroup, *endpoint, *counter)),
+        Output::Nacked { eventgroup, cause } => put_end(
+            buffer,
+            writer,
+            &nacked(*eventgroup, *cause),
+        ),
+        Output::Rebooted { peer } => put_end(buffer, writer, &rebooted(*peer)),
+        Output::Dropped { reason } => put_end(buffer, writer, &named("dropped", reason.name())),
     }
 }
 
 /// A datagram with its number.
-fn put_sent<W: Write>(
-    buffer: &mut Buffer,
-    writer: &mut W,
-    number: usize,
-    from: SocketAddrV4,
-    to: SocketAddrV4,
-    bytes: &[u8],
-) -> Result<(), CannotWrite>
-    ensures ok { OnOk result (Sends (W.contents writer.old) buffer.old
-        (W.contents writer.new) buffer.new (ended (output_words number (output.Sent from to bytes.now)))) }
-    ensures err { OnErr result (Stops (W.contents writer.old) buffer.old
-        (W.contents writer.new) (ended (output_words number (output.Sent from to bytes.now)))) }
+fn sent(number: usize, from: SocketAddrV4, to: SocketAddrV4, bytes: &[u8]) -> [Word<'_>; 5]
+    ensures { map word_text result ≡ output_words number (output.Sent from to bytes.now) }
 {
-    let source = from.ip().octets();
-    let target = to.ip().octets();
-    put_parts(
-        buffer,
-        writer,
-        &[
-            Part::Text("sent "),
-            Part::Number(number),
-            Part::Text(" "),
-            Part::Number(source[0] as usize),
-            Part::Text("."),
-            Part::Number(source[1] as usize),
-            Part::Text("."),
-            Part::Number(source[2] as usize),
-            Part::Text("."),
-            Part::Number(source[3] as usize),
-            Part::Text(":"),
-            Part::Number(from.port() as usize),
-            Part::Text(" "),
-            Part::Number(target[0] as usize),
-            Part::Text("."),
-            Part::Number(target[1] as usize),
-            Part::Text("."),
-            Part::Number(target[2] as usize),
-            Part::Text("."),
-            Part::Number(target[3] as usize),
-            Part::Text(":"),
-            Part::Number(to.port() as usize),
-            Part::Text(" "),
-            payload_part(bytes),
-            Part::Text("\n"),
-        ],
-    )
+    [
+        Word::Text("sent"),
+        Word::Number(number),
+        Word::Endpoint(from),
+        Word::Endpoint(to),
+        Word::Bytes(bytes),
+    ]
 }
 
 /// An accepted call.
-fn put_called<W: Write>(
-    buffer: &mut Buffer,
-    writer: &mut W,
-    message: MessageId,
-    session: u16,
-) -> Result<(), CannotWrite>
-    ensures ok { OnOk result (Sends (W.contents writer.old) buffer.old
-        (W.contents writer.new) buffer.new (ended (output_words 0 (output.Called message session)))) }
-    ensures err { OnErr result (Stops (W.contents writer.old) buffer.old
-        (W.contents writer.new) (ended (output_words 0 (output.Called message session)))) }
+fn called(message: MessageId, session: u16) -> [Word<'static>; 3]
+    ensures { map word_text result ≡ output_words 0 (output.Called message session) }
 {
-    put_parts(
-        buffer,
-        writer,
-        &[
-            Part::Text("call "),
-            Part::Id(message.service),
-            Part::Text("."),
-            Part::Id(message.method),
-            Part::Text(" "),
-            Part::Id(session),
-            Part::Text("\n"),
-        ],
-    )
-}
-
-/// A call without an answer.
-fn put_timed_out<W: Write>(
-    buffer: &mut Buffer,
-    writer: &mut W,
-    message: MessageId,
-    session: u16,
-) -> Result<(), CannotWrite>
-    ensures ok { OnOk result (Sends (W.contents writer.old) buffer.old
-        (W.contents writer.new) buffer.new (ended (output_words 0 (output.TimedOut message session)))) }
-    ensures err { OnErr result (Stops (W.contents writer.old) buffer.old
-        (W.contents writer.new) (ended (output_words 0 (output.TimedOut message session)))) }
-{
-    put_parts(
-        buffer,
-        writer,
-        &[
-            Part::Text("timeout "),
-            Part::Id(message.service),
-            Part::Text("."),
-            Part::Id(message.method),
-            Part::Text(" "),
-            Part::Id(session),
-            Part::Text("\n"),
-        ],
-    )
+    [
+        Word::Text("call"),
+        Word::Ids(message.service, message.method),
+        Word::Id(session),
+    ]
 }
 
 /// A request.
-fn put_request<W: Write>(
-    buffer: &mut Buffer,
-    writer: &mut W,
-    token: Option<u64>,
-    instance: InstanceId,
-    method: u16,
-    payload: &[u8],
-) -> Result<(), CannotWrite>
-    ensures ok { OnOk result (Sends (W.contents writer.old) buffer.old
-        (W.contents writer.new) buffer.new (ended (output_words 0 (output.Request token instance method payload.now)))) }
-    ensures err { OnErr result (Stops (W.contents writer.old) buffer.old
-        (W.contents writer.new) (ended (output_words 0 (output.Request token instance method payload.now)))) }
+fn request(token: Option<u64>, instance: InstanceId, method: u16, payload: &[u8]) -> [Word<'_>; 5]
+    ensures { map word_text result ≡ output_words 0 (output.Request token instance method payload.now) }
 {
-    put_parts(
-        buffer,
-        writer,
-        &[
-            Part::Text("request "),
-            token_part(token),
-            Part::Text(" "),
-            Part::Id(instance.service),
-            Part::Text("."),
-            Part::Id(instance.instance),
-            Part::Text(" "),
-            Part::Id(method),
-            Part::Text(" "),
-            payload_part(payload),
-            Part::Text("\n"),
-        ],
-    )
+    [
+        Word::Text("request"),
+        token_word(token),
+        Word::Ids(instance.service, instance.instance),
+        Word::Id(method),
+        Word::Bytes(payload),
+    ]
 }
 
 /// An answer.
-fn put_answered<W: Write>(
-    buffer: &mut Buffer,
-    writer: &mut W,
-    message: MessageId,
-    session: u16,
-    code: ReturnCode,
-    payload: &[u8],
-) -> Result<(), CannotWrite>
-    ensures ok { OnOk result (Sends (W.contents writer.old) buffer.old
-        (W.contents writer.new) buffer.new (ended (output_words 0 (output.Answered message session code payload.now)))) }
-    ensures err { OnErr result (Stops (W.contents writer.old) buffer.old
-        (W.contents writer.new) (ended (output_words 0 (output.Answered message session code payload.now)))) }
+fn answered(message: MessageId, session: u16, code: ReturnCode, payload: &[u8]) -> [Word<'_>; 5]
+    ensures { map word_text result ≡ output_words 0 (output.Answered message session code payload.now) }
 {
-    put_parts(
-        buffer,
-        writer,
-        &[
-            Part::Text("answer "),
-            Part::Id(message.service),
-            Part::Text("."),
-            Part::Id(message.method),
-            Part::Text(" "),
-            Part::Id(session),
-            Part::Text(" "),
-            Part::Byte(code.0),
-            Part::Text(" "),
-            payload_part(payload),
-            Part::Text("\n"),
-        ],
-    )
+    [
+        Word::Text("answer"),
+        Word::Ids(message.service, message.method),
+        Word::Id(session),
+        Word::Byte(code.0),
+        Word::Bytes(payload),
+    ]
+}
+
+/// A call without an answer.
+fn timed_out(message: MessageId, session: u16) -> [Word<'static>; 3]
+    ensures { map word_text result ≡ output_words 0 (output.TimedOut message session) }
+{
+    [
+        Word::Text("timeout"),
+        Word::Ids(message.service, message.method),
+        Word::Id(session),
+    ]
 }
 
 /// An event.
-fn put_event<W: Write>(
-    buffer: &mut Buffer,
-    writer: &mut W,
-    instance: InstanceId,
-    event: u16,
-    payload: &[u8],
-) -> Result<(), CannotWrite>
-    ensures ok { OnOk result (Sends (W.contents writer.old) buffer.old
-        (W.contents writer.new) buffer.new (ended (output_words 0 (output.Event instance event payload.now)))) }
-    ensures err { OnErr result (Stops (W.contents writer.old) buffer.old
-        (W.contents writer.new) (ended (output_words 0 (output.Event instance event payload.now)))) }
+fn event_of(instance: InstanceId, id: u16, payload: &[u8]) -> [Word<'_>; 4]
+    ensures { map word_text result ≡ output_words 0 (output.Event instance id payload.now) }
 {
-    put_parts(
-        buffer,
-        writer,
-        &[
-            Part::Text("event "),
-            Part::Id(instance.service),
-            Part::Text("."),
-            Part::Id(instance.instance),
-            Part::Text(" "),
-            Part::Id(event),
-            Part::Text(" "),
-            payload_part(payload),
-            Part::Text("\n"),
-        ],
-    )
+    [
+        Word::Text("event"),
+        Word::Ids(instance.service, instance.instance),
+        Word::Id(id),
+        Word::Bytes(payload),
+    ]
 }
 
 /// A known offer.
-fn put_known<W: Write>(
-    buffer: &mut Buffer,
-    writer: &mut W,
-    instance: InstanceId,
-    endpoint: SocketAddrV4,
-) -> Result<(), CannotWrite>
-    ensures ok { OnOk result (Sends (W.contents writer.old) buffer.old
-        (W.contents writer.new) buffer.new (ended (output_words 0 (output.Known instance endpoint)))) }
-    ensures err { OnErr result (Stops (W.contents writer.old) buffer.old
-        (W.contents writer.new) (ended (output_words 0 (output.Known instance endpoint)))) }
+fn known(instance: InstanceId, endpoint: SocketAddrV4) -> [Word<'static>; 3]
+    ensures { map word_text result ≡ output_words 0 (output.Known instance endpoint) }
 {
-    let octets = endpoint.ip().octets();
-    put_parts(
-        buffer,
-        writer,
-        &[
-            Part::Text("known "),
-            Part::Id(instance.service),
-            Part::Text("."),
-            Part::Id(instance.instance),
-            Part::Text(" "),
-            Part::Number(octets[0] as usize),
-            Part::Text("."),
-            Part::Number(octets[1] as usize),
-            Part::Text("."),
-            Part::Number(octets[2] as usize),
-            Part::Text("."),
-            Part::Number(octets[3] as usize),
-            Part::Text(":"),
-            Part::Number(endpoint.port() as usize),
-            Part::Text("\n"),
-        ],
-    )
+    [
+        Word::Text("known"),
+        Word::Ids(instance.service, instance.instance),
+        Word::Endpoint(endpoint),
+    ]
 }
 
 /// The end of a known offer.
-fn put_gone<W: Write>(
-    buffer: &mut Buffer,
-    writer: &mut W,
-    instance: InstanceId,
-) -> Result<(), CannotWrite>
-    ensures ok { OnOk result (Sends (W.contents writer.old) buffer.old
-        (W.contents writer.new) buffer.new (ended (output_words 0 (output.Gone instance)))) }
-    ensures err { OnErr result (Stops (W.contents writer.old) buffer.old
-        (W.contents writer.new) (ended (output_words 0 (output.Gone instance)))) }
+fn gone(instance: InstanceId) -> [Word<'static>; 2]
+    ensures { map word_text result ≡ output_words 0 (output.Gone instance) }
 {
-    put_parts(
-        buffer,
-        writer,
-        &[
-            Part::Text("gone "),
-            Part::Id(instance.service),
-            Part::Text("."),
-            Part::Id(instance.instance),
-            Part::Text("\n"),
-        ],
-    )
+    [
+        Word::Text("gone"),
+        Word::Ids(instance.service, instance.instance),
+    ]
 }
 
 /// A subscription.
-fn put_subscribed<W: Write>(
-    buffer: &mut Buffer,
-    writer: &mut W,
-    group: Eventgroup,
-    counter: SubscriptionCounter,
-) -> Result<(), CannotWrite>
-    ensures ok { OnOk result (Sends (W.contents writer.old) buffer.old
-        (W.contents writer.new) buffer.new (ended (output_words 0 (output.Subscribed group counter)))) }
-    ensures err { OnErr result (Stops (W.contents writer.old) buffer.old
-        (W.contents writer.new) (ended (output_words 0 (output.Subscribed group counter)))) }
+fn subscribed(group: Eventgroup, counter: SubscriptionCounter) -> [Word<'static>; 4]
+    ensures { map word_text result ≡ output_words 0 (output.Subscribed group counter) }
 {
-    put_parts(
-        buffer,
-        writer,
-        &[
-            Part::Text("subscribed "),
-            Part::Id(group.instance.service),
-            Part::Text("."),
-            Part::Id(group.instance.instance),
-            Part::Text(" "),
-            Part::Id(group.id),
-            Part::Text(" "),
-            Part::Number(counter.number() as usize),
-            Part::Text("\n"),
-        ],
-    )
+    [
+        Word::Text("subscribed"),
+        Word::Ids(group.instance.service, group.instance.instance),
+        Word::Id(group.id),
+        Word::Number(counter.number() as usize),
+    ]
 }
 
 /// The end of a subscription.
-fn put_unsubscribed<W: Write>(
-    buffer: &mut Buffer,
-    writer: &mut W,
-    group: Eventgroup,
-) -> Result<(), CannotWrite>
-    ensures ok { OnOk result (Sends (W.contents writer.old) buffer.old
-        (W.contents writer.new) buffer.new (ended (output_words 0 (output.Unsubscribed group)))) }
-    ensures err { OnErr result (Stops (W.contents writer.old) buffer.old
-        (W.contents writer.new) (ended (output_words 0 (output.Unsubscribed group)))) }
+fn unsubscribed(group: Eventgroup) -> [Word<'static>; 3]
+    ensures { map word_text result ≡ output_words 0 (output.Unsubscribed group) }
 {
-    put_parts(
-        buffer,
-        writer,
-        &[
-            Part::Text("unsubscribed "),
-            Part::Id(group.instance.service),
-            Part::Text("."),
-            Part::Id(group.instance.instance),
-            Part::Text(" "),
-            Part::Id(group.id),
-            Part::Text("\n"),
-        ],
-    )
+    [
+        Word::Text("unsubscribed"),
+        Word::Ids(group.instance.service, group.instance.instance),
+        Word::Id(group.id),
+    ]
 }
 
 /// An accepted Subscribe.
-fn put_accepted<W: Write>(
-    buffer: &mut Buffer,
-    writer: &mut W,
+fn accepted(
     group: Eventgroup,
     endpoint: SocketAddrV4,
     counter: SubscriptionCounter,
-) -> Result<(), CannotWrite>
-    ensures ok { OnOk result (Sends (W.contents writer.old) buffer.old
-        (W.contents writer.new) buffer.new (ended (output_words 0 (output.Accepted group endpoint counter)))) }
-    ensures err { OnErr result (Stops (W.contents writer.old) buffer.old
-        (W.contents writer.new) (ended (output_words 0 (output.Accepted group endpoint counter)))) }
+) -> [Word<'static>; 5]
+    ensures { map word_text result ≡ output_words 0 (output.Accepted group endpoint counter) }
 {
-    let octets = endpoint.ip().octets();
-    put_parts(
-        buffer,
-        writer,
-        &[
-            Part::Text("accepted "),
-            Part::Id(group.instance.service),
-            Part::Text("."),
-            Part::Id(group.instance.instance),
-            Part::Text(" "),
-            Part::Id(group.id),
-            Part::Text(" "),
-            Part::Number(octets[0] as usize),
-            Part::Text("."),
-            Part::Number(octets[1] as usize),
-            Part::Text("."),
-            Part::Number(octets[2] as usize),
-            Part::Text("."),
-            Part::Number(octets[3] as usize),
-            Part::Text(":"),
-            Part::Number(endpoint.port() as usize),
-            Part::Text(" "),
-            Part::Number(counter.number() as usize),
-            Part::Text("\n"),
-        ],
-    )
+    [
+        Word::Text("accepted"),
+        Word::Ids(group.instance.service, group.instance.instance),
+        Word::Id(group.id),
+        Word::Endpoint(endpoint),
+        Word::Number(counter.number() as usize),
+    ]
 }
 
 /// A refused Subscribe.
-fn put_nacked<W: Write>(
-    buffer: &mut Buffer,
-    writer: &mut W,
-    group: Eventgroup,
-    cause: Cause,
-) -> Result<(), CannotWrite>
-    ensures ok { OnOk result (Sends (W.contents writer.old) buffer.old
-        (W.contents writer.new) buffer.new (ended (output_words 0 (output.Nacked group cause)))) }
-    ensures err { OnErr result (Stops (W.contents writer.old) buffer.old
-        (W.contents writer.new) (ended (output_words 0 (output.Nacked group cause)))) }
+fn nacked(group: Eventgroup, cause: Cause) -> [Word<'static>; 4]
+    ensures { map word_text result ≡ output_words 0 (output.Nacked group cause) }
 {
-    put_parts(
-        buffer,
-        writer,
-        &[
-            Part::Text("nacked "),
-            Part::Id(group.instance.service),
-            Part::Text("."),
-            Part::Id(group.instance.instance),
-            Part::Text(" "),
-            Part::Id(group.id),
-            Part::Text(" "),
-            Part::Text(cause.name()),
-            Part::Text("\n"),
-        ],
-    )
+    [
+        Word::Text("nacked"),
+        Word::Ids(group.instance.service, group.instance.instance),
+        Word::Id(group.id),
+        Word::Text(cause.name()),
+    ]
 }
 
 /// A peer that began again.
-fn put_rebooted<W: Write>(
-    buffer: &mut Buffer,
-    writer: &mut W,
-    peer: Ipv4Addr,
-) -> Result<(), CannotWrite>
-    ensures ok { OnOk result (Sends (W.contents writer.old) buffer.old
-        (W.contents writer.new) buffer.new (ended (output_words 0 (output.Rebooted peer)))) }
-    ensures err { OnErr result (Stops (W.contents writer.old) buffer.old
-        (W.contents writer.new) (ended (output_words 0 (output.Rebooted peer)))) }
+fn rebooted(peer: Ipv4Addr) -> [Word<'static>; 2]
+    ensures { map word_text result ≡ output_words 0 (output.Rebooted peer) }
 {
-    let octets = peer.octets();
-    put_parts(
-        buffer,
-        writer,
-        &[
-            Part::Text("reboot "),
-            Part::Number(octets[0] as usize),
-            Part::Text("."),
-            Part::Number(octets[1] as usize),
-            Part::Text("."),
-            Part::Number(octets[2] as usize),
-            Part::Text("."),
-            Part::Number(octets[3] as usize),
-            Part::Text("\n"),
-        ],
-    )
+    [Word::Text("reboot"), Word::Address(peer)]
 }
 
 /// A word, and a name.
-pub(crate) fn put_named<'t, W: Write>(
-    buffer: &mut Buffer,
-    writer: &mut W,
-    word: &'t str,
-    name: &'t str,
-) -> Result<(), CannotWrite>
-    ensures ok { OnOk result (Sends (W.contents writer.old) buffer.old
-        (W.contents writer.new) buffer.new (ended (word.now ∷ name.now ∷ []))) }
-    ensures err { OnErr result (Stops (W.contents writer.old) buffer.old
-        (W.contents writer.new) (ended (word.now ∷ name.now ∷ []))) }
+fn named<'t>(word: &'t str, name: &'t str) -> [Word<'t>; 2]
+    ensures { map word_text result ≡ word.now ∷ name.now ∷ [] }
 {
-    put_parts(
-        buffer,
-        writer,
-        &[Part::Text(word), Part::Text(name), Part::Text("\n")],
-    )
-}
-
-/// The payload in hex, or `-` where it is empty.
-fn payload_part(payload: &[u8]) -> Part<'_>
-    ensures { part_text result ≡ payload_text payload.now }
-{
-    if payload.is_empty() {
-        Part::Text("-")
-    } else {
-        Part::Hex(payload)
-    }
+    [Word::Text(word), Word::Text(name)]
 }
 
 /// The number of a token, or `-` for none.
-fn token_part(token: Option<u64>) -> Part<'static>
-    ensures { part_text result ≡ token_text token }
+fn token_word(token: Option<u64>) -> Word<'static>
+    ensures { word_text result ≡ token_text token }
 {
     match token {
-        Some(token) => Part::Number(token as usize),
-        None => Part::Text("-"),
+        Some(token) => Word::Number(token as usize),
+        None => Word::Text("-"),
     }
 }

@@ -2,11 +2,11 @@ use Rattle.std.proofs.lemmas.Result.{on_ok_weaker, on_err_weaker}
 use Rattle.someipctl_print.proofs.SendingLemmas.{OnErr-any, Sends-trans, Stops-after, Stops-before}
 use Rattle.someipctl_print.proofs.discovery.put_message.Goals as goal
 
-pub returns-in_err-put_sd-clause-err : goal.returns-in_err-put_sd-clause-err
-returns-in_err-put_sd-clause-err g c = OnErr-any c.from_residual.result (Stops-before _ _ _ _ _ c.in_err-put_sd.ensures.err)
+pub returns-in_err-put_parts-clause-err : goal.returns-in_err-put_parts-clause-err
+returns-in_err-put_parts-clause-err g c = OnErr-any c.from_residual.result (Stops-before _ _ _ _ _ (rw c.sd_parts.ensures at c.in_err-put_parts.ensures.err))
 
 pub returns-clause-ok : goal.returns-clause-ok
-returns-clause-ok g c = on_ok_weaker c.put_entries.result (Sends-trans _ _ _ _ _ _ _ _ c.in_ok-put_sd.ensures.ok) (rw c.deref.ensures.value at c.put_entries.ensures.ok)
+returns-clause-ok g c = on_ok_weaker c.put_entries.result (Sends-trans _ _ _ _ _ _ _ _ (rw c.sd_parts.ensures at c.in_ok-put_parts.ensures.ok)) (rw c.deref.ensures.value at c.put_entries.ensures.ok)
 
 pub returns-clause-err : goal.returns-clause-err
-returns-clause-err g c = on_err_weaker c.put_entries.result (Stops-after _ _ _ _ _ _ _ c.in_ok-put_sd.ensures.ok) (rw c.deref.ensures.value at c.put_entries.ensures.err)
+returns-clause-err g c = on_err_weaker c.put_entries.result (Stops-after _ _ _ _ _ _ _ (rw c.sd_parts.ensures at c.in_ok-put_parts.ensures.ok)) (rw c.deref.ensures.value at c.put_entries.ensures.err)
