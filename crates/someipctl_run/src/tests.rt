@@ -9,6 +9,7 @@ use stories::{STORIES, TWO};
 
 mod rows;
 mod stories;
+mod streams;
 
 /// The setup that a text says.
 fn setup_of(alloc: Global, text: &str) -> Result<Setup, Fail> {
