@@ -12,7 +12,7 @@ use Rattle.sd_wire.specs.declared.endpoint.Ipv6Endpoint.{Ipv6Endpoint}
 use Rattle.sd_wire.specs.declared.option.SdOption.{SdOption}
 use Rattle.sd_wire.specs.declared.option.SdOption.TheVariants.{LoadBalancing, Endpoint4, Multicast4, SdEndpoint4, Endpoint6, Multicast6, SdEndpoint6, Raw}
 use Rattle.sd_wire.specs.Fields.{flags_byte}
-use Rattle.sd_wire.specs.Values.{EntryValue, MessageValue}
+use Rattle.sd_wire.specs.Values.{EntryValue, SdMessageValue}
 use Rattle.sd_wire.specs.Spelling.{Runs, RunsFit, entry_bytes, sd_bytes}
 use Rattle.sd_wire.specs.Writing.{HoldsAt, IsLeast, IsNowhere, Stands, PlacesEntry, IsRefused, Packs, pool_bytes, WritesSd, TooMany}
 use Rattle.sd_wire.specs.Encoding.{option_numbers, same_option, index_of_run, place_at, place_for, runs_for, pool_after, runs_fit, all_runs_fit, entries_bytes, pool_after_all, message_bytes}
@@ -196,17 +196,17 @@ fit_packs pool (e ∷ entries) is =
 
 -- ---- the message
 
-abbrev bytes_of : MessageValue → List ℕ
+abbrev bytes_of : SdMessageValue → List ℕ
 bytes_of m = sd_bytes (flags_byte m.flags) 0 0 0 (entries_bytes [] m.entries) (pool_bytes (pool_after_all [] m.entries))
 
-pub written_bytes : (m : MessageValue) (text : List ℕ) → WritesSd m text → message_bytes m ≡ Some text
+pub written_bytes : (m : SdMessageValue) (text : List ℕ) → WritesSd m text → message_bytes m ≡ Some text
 unfolding message_bytes
 written_bytes m text w =
     let fit = packs_fit [] m.entries w.entries w.pool w.packs in
     let is : text ≡ bytes_of m = w.is ∙ ap (λ (t : List ℕ). sd_bytes (flags_byte m.flags) 0 0 0 t (pool_bytes w.pool)) fit.1 ∙ ap (λ (p : Pool). sd_bytes (flags_byte m.flags) 0 0 0 (entries_bytes [] m.entries) (pool_bytes p)) fit.2 in
     rw fit.0 (ap Some (sym is))
 
-pub refused_bytes : (m : MessageValue) (k : ℕ) → TooMany m.entries k → message_bytes m ≡ None
+pub refused_bytes : (m : SdMessageValue) (k : ℕ) → TooMany m.entries k → message_bytes m ≡ None
 unfolding message_bytes
 refused_bytes m k t = cases (all_runs_fit [] m.entries) refl
   where
@@ -217,7 +217,7 @@ refused_bytes m k t = cases (all_runs_fit [] m.entries) refl
         absurd (refused_not_packed [] t.front t.e t.back t.text (entries_bytes [] m.entries) t.pool (pool_after_all [] m.entries) t.packs t.refused
         (subst (λ (es : List EntryValue). Packs [] es (entries_bytes [] m.entries) (pool_after_all [] m.entries)) t.is packs))
 
-pub bytes_written : (m : MessageValue) (text : List ℕ) → message_bytes m ≡ Some text → length text < 2 ^ 32 → WritesSd m text
+pub bytes_written : (m : SdMessageValue) (text : List ℕ) → message_bytes m ≡ Some text → length text < 2 ^ 32 → WritesSd m text
 unfolding message_bytes
 bytes_written m text is few = cases (all_runs_fit [] m.entries) refl is
   where
@@ -261,7 +261,7 @@ first_misfit pool (e ∷ entries) is = cases (runs_fit (runs_for pool e)) refl (
           misfit = later.misfit;
         }
 
-pub bytes_refused : (m : MessageValue) → message_bytes m ≡ None → (k : ℕ) × TooMany m.entries k
+pub bytes_refused : (m : SdMessageValue) → message_bytes m ≡ None → (k : ℕ) × TooMany m.entries k
 unfolding message_bytes
 bytes_refused m is = cases (all_runs_fit [] m.entries) refl is
   where

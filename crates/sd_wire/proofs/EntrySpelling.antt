@@ -14,7 +14,7 @@ use Rattle.sd_wire.specs.Fields.{IsBytes, field16, field24, field32}
 use Rattle.sd_wire.specs.Spelling.{Runs, RunsFit, service_type, eventgroup_type, common_bytes, entry_bytes, ServiceFits, EventgroupFits, HeadFits}
 use Rattle.sd_wire.specs.Reading.{SpellsHead}
 use Rattle.sd_wire.specs.Faults.{is_entry_type}
-use Rattle.sd_wire.specs.Program.{runs_in, service_in, eventgroup_in, head_in}
+use Rattle.sd_wire.specs.Program.{runs_in, service_entry_in, eventgroup_entry_in, head_in}
 use Rattle.sd_wire.proofs.TestLemmas.{pick}
 use Rattle.sd_wire.proofs.FieldLemmas.{spells1, spells2, spells3, spells4, field16_fits, field24_fits, field32_fits, field24-spelled}
 
@@ -42,7 +42,7 @@ module _ (bytes : List ℕ) (fits : IsBytes bytes) (le : 16 ≤ length bytes) wh
       let index1 = spells1 bytes _ 1 (get_or bytes 1 0) (omega (arith, le)) refl index2 in
       spells1 bytes _ 0 kind (omega (arith, le)) is index1
 
-  is_service : (kind : ServiceKind) → service_type kind ≡ get_or bytes 0 0 → IsEntry bytes (runs_in bytes) (Service (service_in kind bytes))
+  is_service : (kind : ServiceKind) → service_type kind ≡ get_or bytes 0 0 → IsEntry bytes (runs_in bytes) (Service (service_entry_in kind bytes))
   is_service kind is = record {
     reserved = 0;
     is = common (service_type kind) _ is (spells4 bytes _ 12 (field32 bytes 12) fits (omega (arith, le)) refl refl);
@@ -56,7 +56,7 @@ module _ (bytes : List ℕ) (fits : IsBytes bytes) (le : 16 ≤ length bytes) wh
     reserved_fits = omega arith;
   }
 
-  is_eventgroup : (kind : EventgroupKind) → eventgroup_type kind ≡ get_or bytes 0 0 → IsEntry bytes (runs_in bytes) (Eventgroup (eventgroup_in kind bytes))
+  is_eventgroup : (kind : EventgroupKind) → eventgroup_type kind ≡ get_or bytes 0 0 → IsEntry bytes (runs_in bytes) (Eventgroup (eventgroup_entry_in kind bytes))
   is_eventgroup kind is =
       let f : ℕ = field16 bytes 12 in
       let whole : 16 * (f / 16) + f % 16 ≡ f = omega arith in
@@ -112,7 +112,7 @@ runs_read r fits = (omega (arith, fits.count1, fits.count2), omega (arith, fits.
 runs_same : (r : Runs) (count1 count2 : ℕ) → count1 ≡ r.count1 → count2 ≡ r.count2 → (let q : Runs = record { index1 = r.index1; index2 = r.index2; count1 = count1; count2 = count2 } in q ≡ r)
 runs_same r count1 count2 a b = λ i. record { index1 = r.index1; index2 = r.index2; count1 = a i; count2 = b i }
 
-service_read : (e : ServiceEntry) (kind : ServiceKind) (reserved : ℕ) (runs : Runs) (rest : List ℕ) → ServiceFits e → service_in kind (entry_bytes reserved runs (Service e) ++ rest) ≡ record e { kind = kind }
+service_read : (e : ServiceEntry) (kind : ServiceKind) (reserved : ℕ) (runs : Runs) (rest : List ℕ) → ServiceFits e → service_entry_in kind (entry_bytes reserved runs (Service e) ++ rest) ≡ record e { kind = kind }
 service_read e k reserved runs rest fits =
     rw (
       from_be_bytes-to_be_bytes_2 e.service fits.service,
@@ -122,7 +122,7 @@ service_read e k reserved runs rest fits =
     ) refl
 
 eventgroup_read : (e : EventgroupEntry) (kind : EventgroupKind) (reserved : ℕ) (runs : Runs) (rest : List ℕ) → EventgroupFits e → reserved < 2 ^ 12
-    → eventgroup_in kind (entry_bytes reserved runs (Eventgroup e) ++ rest) ≡ record e { kind = kind }
+    → eventgroup_entry_in kind (entry_bytes reserved runs (Eventgroup e) ++ rest) ≡ record e { kind = kind }
 eventgroup_read e k reserved runs rest fits reserved_fits =
     let counter : (16 * reserved + e.counter) % 16 ≡ e.counter = omega (arith, fits.counter) in
     rw (

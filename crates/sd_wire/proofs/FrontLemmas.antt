@@ -10,7 +10,7 @@ use Rattle.sd_wire.specs.Fields.{flags_byte}
 use Rattle.sd_wire.specs.Values.{EntryValue}
 use Rattle.sd_wire.specs.Spelling.{sd_bytes}
 use Rattle.sd_wire.specs.Writing.{pool_bytes, WritesSd}
-use Rattle.sd_wire.specs.Splitting.{message_of, FitsDatagram, IsLongestFront, AreFronts}
+use Rattle.sd_wire.specs.Splitting.{message_of_entries, FitsDatagram, IsLongestFront, AreFronts}
 use Rattle.sd_wire.specs.Encoding.{message_bytes}
 use Rattle.sd_wire.specs.Fronts.{is_short, fits_datagram, longest_front, lengths_of_fronts, front_lengths, fronts_of}
 use Rattle.sd_wire.proofs.EncodingLemmas.{written_bytes, bytes_written}
@@ -20,7 +20,7 @@ use Rattle.sd_wire.proofs.SplitLemmas.{sd_length, same_fronts}
 
 pub fits_test : (entries : List EntryValue) → FitsDatagram entries → fits_datagram entries ≡ true
 fits_test entries fits =
-    let bytes : message_bytes (message_of entries) ≡ Some fits.0 = written_bytes (message_of entries) fits.0 fits.1 in
+    let bytes : message_bytes (message_of_entries entries) ≡ Some fits.0 = written_bytes (message_of_entries entries) fits.0 fits.1 in
     let short : nat_le (length fits.0) 1400 ≡ true = is_short_text (length fits.0) fits.2 in
     rw bytes short
   where
@@ -28,16 +28,16 @@ fits_test entries fits =
     is_short_text n le = grind (arith, nat_tests)
 
 pub test_fits : (entries : List EntryValue) → fits_datagram entries ≡ true → FitsDatagram entries
-test_fits entries fits = cases (message_bytes (message_of entries)) refl fits
+test_fits entries fits = cases (message_bytes (message_of_entries entries)) refl fits
   where
     short_of : (n : ℕ) → nat_le n 1400 ≡ true → n ≤ 1400
     short_of n is = grind (arith, nat_tests)
 
-    cases : (o : Option (List ℕ)) → message_bytes (message_of entries) ≡ o → is_short o ≡ true → FitsDatagram entries
+    cases : (o : Option (List ℕ)) → message_bytes (message_of_entries entries) ≡ o → is_short o ≡ true → FitsDatagram entries
     cases None is short = absurd cc
     cases (Some text) is short =
         let few : length text ≤ 1400 = short_of (length text) short in
-        (text, bytes_written (message_of entries) text is (omega (arith, few)), few)
+        (text, bytes_written (message_of_entries entries) text is (omega (arith, few)), few)
 
 -- under any flags
 pub fits_with : (flags : SdFlags) (entries : List EntryValue) → FitsDatagram entries
@@ -47,7 +47,7 @@ fits_with flags entries fits =
     let text : List ℕ = sd_bytes (flags_byte flags) 0 0 0 w.entries (pool_bytes w.pool) in (
       text,
       record { entries = w.entries; pool = w.pool; packs = w.packs; is = refl; entries_fit = w.entries_fit; options_fit = w.options_fit },
-      omega (arith, ap length w.is, sd_length (flags_byte flags) w.entries (pool_bytes w.pool), sd_length (flags_byte (message_of entries).flags) w.entries (pool_bytes w.pool), fits.2),
+      omega (arith, ap length w.is, sd_length (flags_byte flags) w.entries (pool_bytes w.pool), sd_length (flags_byte (message_of_entries entries).flags) w.entries (pool_bytes w.pool), fits.2),
     )
 
 -- ---- the longest front

@@ -9,7 +9,7 @@ use Rattle.sd_wire.specs.declared.endpoint.Ipv4Endpoint.{Ipv4Endpoint}
 use Rattle.sd_wire.specs.declared.endpoint.Ipv6Endpoint.{Ipv6Endpoint}
 use Rattle.sd_wire.specs.declared.option.SdOption.{SdOption}
 use Rattle.sd_wire.specs.declared.option.SdOption.TheVariants.{LoadBalancing, Endpoint4, Multicast4, SdEndpoint4, Endpoint6, Multicast6, SdEndpoint6, Raw}
-use Rattle.sd_wire.specs.Raw.{is_known}
+use Rattle.sd_wire.specs.Raw.{has_layout}
 use Rattle.sd_wire.specs.Fields.{number16}
 use Rattle.sd_wire.specs.Spelling.{ipv4_bytes, ipv6_bytes, option_bytes, Ipv4Fits, Ipv6Fits, RawFits, OptionFits}
 use Rattle.sd_wire.specs.Reading.{SpellsOption}
@@ -87,10 +87,10 @@ ipv6_read : (kind r s : ℕ) (e : Ipv6Endpoint) (rest : List ℕ) → Ipv6Fits e
 ipv6_read kind r s e rest fits = ipv6_in-spelled kind r s e.address.segments e.port e.protocol.0 rest fits.address.0 fits.port
 
 -- a type without a layout
-unknown_type : (kind l : ℕ) (bytes : List ℕ) → is_known kind ≡ false → (has_len kind l ≡ true) × (option_by kind bytes ≡ Raw (record { kind = kind; bytes = slice_range bytes 3 (option_len bytes + 3) }))
+unknown_type : (kind l : ℕ) (bytes : List ℕ) → has_layout kind ≡ false → (has_len kind l ≡ true) × (option_by kind bytes ≡ Raw (record { kind = kind; bytes = slice_range bytes 3 (option_len bytes + 3) }))
 unknown_type kind l bytes unknown =
-    let no : (k : ℕ) → is_known k ≡ true → kind ≡ k → ⊥ = λ k known e. let bad = sym unknown ∙ ap is_known e ∙ known in cc in
-    let tests : (k : ℕ) → is_known k ≡ true → eqb kind k ≡ false = λ k known. ne_eqb kind k (no k known) in (
+    let no : (k : ℕ) → has_layout k ≡ true → kind ≡ k → ⊥ = λ k known e. let bad = sym unknown ∙ ap has_layout e ∙ known in cc in
+    let tests : (k : ℕ) → has_layout k ≡ true → eqb kind k ≡ false = λ k known. ne_eqb kind k (no k known) in (
       rw (tests 0x02 refl, tests 0x04 refl, tests 0x14 refl, tests 0x24 refl, tests 0x06 refl, tests 0x16 refl, tests 0x26 refl) refl,
       rw (tests 0x02 refl, tests 0x04 refl, tests 0x14 refl, tests 0x24 refl, tests 0x06 refl, tests 0x16 refl, tests 0x26 refl) refl,
     )

@@ -9,7 +9,7 @@ use Rattle.sd_wire.specs.declared.endpoint.Ipv4Endpoint.{Ipv4Endpoint}
 use Rattle.sd_wire.specs.declared.endpoint.Ipv6Endpoint.{Ipv6Endpoint}
 use Rattle.sd_wire.specs.declared.option.SdOption.{SdOption}
 use Rattle.sd_wire.specs.declared.option.SdOption.TheVariants.{LoadBalancing, Endpoint4, Multicast4, SdEndpoint4, Endpoint6, Multicast6, SdEndpoint6, Raw}
-use Rattle.sd_wire.specs.Raw.{is_known}
+use Rattle.sd_wire.specs.Raw.{has_layout}
 use Rattle.sd_wire.specs.Fields.{IsBytes, number16, field16}
 use Rattle.sd_wire.specs.Spelling.{ipv4_bytes, ipv6_bytes, option_bytes, Ipv4Fits, Ipv6Fits, OptionFits}
 use Rattle.sd_wire.specs.Layout.{option_len}
@@ -139,7 +139,7 @@ module _ (n : ℕ) (bytes : List ℕ) (fits : IsBytes bytes) (has : HasOption by
         fits = (field16_fits bytes 4 fits, field16_fits bytes 6 fits);
       }
 
-  front_raw : is_known (get_or bytes 2 0) ≡ false → IsFront n bytes (Raw (record { kind = get_or bytes 2 0; bytes = slice_range bytes 3 (option_len bytes + 3) }))
+  front_raw : has_layout (get_or bytes 2 0) ≡ false → IsFront n bytes (Raw (record { kind = get_or bytes 2 0; bytes = slice_range bytes 3 (option_len bytes + 3) }))
   front_raw unknown =
       let l = option_len bytes in
       let three : l + 3 - 3 ≡ l = omega arith in

@@ -10,7 +10,7 @@ use Rattle.sd_wire.specs.Fields.{number32, flags_byte}
 use Rattle.sd_wire.specs.Values.{EntryValue, view_entry}
 use Rattle.sd_wire.specs.Spelling.{option_bytes, Runs, entry_bytes, sd_bytes}
 use Rattle.sd_wire.specs.Writing.{PlacesEntry, IsRefused, Packs, pool_bytes}
-use Rattle.sd_wire.specs.Splitting.{message_of, FitsDatagram, IsLongestFront, AreFronts}
+use Rattle.sd_wire.specs.Splitting.{message_of_entries, FitsDatagram, IsLongestFront, AreFronts}
 use Rattle.sd_wire.proofs.PackLemmas.{packs-push, split_at, map_more, places-length}
 use Rattle.sd_wire.proofs.WriteLemmas.{same_entry, same_packs, refused_not_packed, packs-more}
 
@@ -40,7 +40,7 @@ sd_length f entries options =
 -- a message of packed entries fits
 pub packed_fits : (entries : List EntryValue) (text : List ℕ) (pool : Pool) → Packs [] entries text pool → 12 + length text + length (pool_bytes pool) ≤ 1400 → FitsDatagram entries
 packed_fits entries text pool packs le =
-    let m = message_of entries in
+    let m = message_of_entries entries in
     let whole : List ℕ = sd_bytes (flags_byte m.flags) 0 0 0 text (pool_bytes pool) in
     let len = sd_length (flags_byte m.flags) text (pool_bytes pool) in
     let short1 : length text < 2 ^ 32 = omega (arith, le) in
@@ -48,7 +48,7 @@ packed_fits entries text pool packs le =
     (whole, record { entries = text; pool = pool; packs = packs; is = refl; entries_fit = short1; options_fit = short2 }, omega (arith, len, le))
 
 fits_length : (entries : List EntryValue) (fits : FitsDatagram entries) → 12 + length fits.1.entries + length (pool_bytes fits.1.pool) ≤ 1400
-fits_length entries fits = let w = fits.1 in omega (arith, ap length w.is, sd_length (flags_byte (message_of entries).flags) w.entries (pool_bytes w.pool), fits.2)
+fits_length entries fits = let w = fits.1 in omega (arith, ap length w.is, sd_length (flags_byte (message_of_entries entries).flags) w.entries (pool_bytes w.pool), fits.2)
 
 -- the front of packed entries is packed
 packs-front : (pool : Pool) (front back : List EntryValue) (text : List ℕ) (after : Pool) → Packs pool (front ++ back) text after

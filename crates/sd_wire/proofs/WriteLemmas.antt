@@ -7,9 +7,9 @@ use Rattle.std.proofs.lemmas.List.{append-nil, length-append, length-take, lengt
 use Rattle.sd_wire.specs.declared.flags.SdFlags.{SdFlags}
 use Rattle.sd_wire.specs.declared.option.SdOption.{SdOption}
 use Rattle.sd_wire.specs.Fields.{flags_byte, flags_in}
-use Rattle.sd_wire.specs.Values.{EntryValue, good, MessageValue}
+use Rattle.sd_wire.specs.Values.{EntryValue, good, SdMessageValue}
 use Rattle.sd_wire.specs.Spelling.{option_bytes, OptionFits, Runs, entry_bytes, HeadFits}
-use Rattle.sd_wire.specs.Reading.{Spelled, SpellsOption, passes, has_bad_run, selected, SpellsEntry, Sd}
+use Rattle.sd_wire.specs.Reading.{Spelled, SpellsOption, passes_pool, has_bad_run, selected, SpellsEntry, Sd}
 use Rattle.sd_wire.specs.Writing.{HoldsAt, IsLeast, Stands, PlacesEntry, IsRefused, Packs, pool_bytes, EntryFits, WritesSd, TooMany, as_read}
 use Rattle.sd_wire.proofs.PackLemmas.{stands-more}
 
@@ -29,10 +29,10 @@ selected_held pool more run index holds le =
 
 -- a run does not pass the pool, and selects its options
 record IsSelected (pool run : Pool) (index count : ℕ) : Type 0 where
-  pub within : passes pool index count ≡ false
+  pub within : passes_pool pool index count ≡ false
   pub is : run ≡ selected pool index count
 
-stands_within : (pool run : Pool) (index : ℕ) → index + length run ≤ length pool → passes pool index (length run) ≡ false
+stands_within : (pool run : Pool) (index : ℕ) → index + length run ≤ length pool → passes_pool pool index (length run) ≡ false
 stands_within pool run index le =
     let b : nat_lt (length pool) (index + length run) ≡ false = le-ltb _ _ le in
     let P : Bool → Type 0 = λ t. (t && nat_lt (length pool) (index + length run)) ≡ false in
@@ -103,7 +103,7 @@ flags_written f =
     ]
 
 -- a text whose numbers fit holds the message
-pub written_holds : (m : MessageValue) (text : List ℕ) (w : WritesSd m text) → AllByRecursion (λ e. HeadFits e.head) m.entries → AllByRecursion OptionFits w.pool → Sd (as_read m) text
+pub written_holds : (m : SdMessageValue) (text : List ℕ) (w : WritesSd m text) → AllByRecursion (λ e. HeadFits e.head) m.entries → AllByRecursion OptionFits w.pool → Sd (as_read m) text
 written_holds m text w heads options = record {
   flags = flags_byte m.flags;
   reserved1 = 0;
@@ -194,12 +194,12 @@ refused_not_packed pool (x ∷ front) e back s t q after h refused packs =
     refused_not_packed packs.1 front e back h.2 packs.2 q after (subst (λ (p : Pool). Packs p front h.2 q) same.1 h.5) refused packs.5
 
 -- a message with a text has no entry that is refused
-pub written_not_refused : (m : MessageValue) (text : List ℕ) (k : ℕ) → WritesSd m text → TooMany m.entries k → ⊥
+pub written_not_refused : (m : SdMessageValue) (text : List ℕ) (k : ℕ) → WritesSd m text → TooMany m.entries k → ⊥
 written_not_refused m text k w t =
     refused_not_packed [] t.front t.e t.back t.text w.entries t.pool w.pool t.packs t.refused (subst (λ (es : List EntryValue). Packs [] es w.entries w.pool) t.is w.packs)
 
 -- a message has one text
-pub one_text : (m : MessageValue) (s t : List ℕ) → WritesSd m s → WritesSd m t → s ≡ t
+pub one_text : (m : SdMessageValue) (s t : List ℕ) → WritesSd m s → WritesSd m t → s ≡ t
 one_text m s t a b =
     let same = same_packs [] m.entries a.entries b.entries a.pool b.pool a.packs b.packs in
     a.is ∙ rw (same.0, same.1) (sym b.is)
@@ -261,5 +261,5 @@ heads-fit [] fits = tt
 heads-fit (e ∷ entries) fits = let one = fits.0 in (one.0, heads-fit entries fits.1)
 
 -- what is written is read
-pub written_is_read : (m : MessageValue) (text : List ℕ) → AllByRecursion EntryFits m.entries → WritesSd m text → Sd (as_read m) text
+pub written_is_read : (m : SdMessageValue) (text : List ℕ) → AllByRecursion EntryFits m.entries → WritesSd m text → Sd (as_read m) text
 written_is_read m text fits w = written_holds m text w (heads-fit m.entries fits) (pool-fits [] m.entries w.entries w.pool w.packs tt fits)

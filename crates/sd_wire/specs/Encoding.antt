@@ -10,7 +10,7 @@ use Rattle.sd_wire.specs.declared.endpoint.Ipv6Endpoint.{Ipv6Endpoint}
 use Rattle.sd_wire.specs.declared.option.SdOption.{SdOption}
 use Rattle.sd_wire.specs.declared.option.SdOption.TheVariants.{LoadBalancing, Endpoint4, Multicast4, SdEndpoint4, Endpoint6, Multicast6, SdEndpoint6, Raw}
 use Rattle.sd_wire.specs.Fields.{flags_byte}
-use Rattle.sd_wire.specs.Values.{EntryValue, MessageValue}
+use Rattle.sd_wire.specs.Values.{EntryValue, SdMessageValue}
 use Rattle.sd_wire.specs.Spelling.{Runs, entry_bytes, sd_bytes}
 use Rattle.sd_wire.specs.Writing.{pool_bytes}
 
@@ -84,7 +84,7 @@ pool_after_all pool [] = pool
 pool_after_all pool (e ∷ entries) = pool_after_all (pool_after pool e) entries
 
 -- the bytes of a message, or none where an entry is refused
-unfoldable pub message_bytes : MessageValue → Option (List ℕ)
+unfoldable pub message_bytes : SdMessageValue → Option (List ℕ)
 message_bytes m =
     if all_runs_fit [] m.entries
     then Some (sd_bytes (flags_byte m.flags) 0 0 0 (entries_bytes [] m.entries) (pool_bytes (pool_after_all [] m.entries)))

@@ -6,7 +6,7 @@ use Rattle.sd_wire.specs.Values.{EntryValue}
 use Rattle.sd_wire.specs.Endpoints.{options_of}
 use Rattle.sd_wire.specs.Spelling.{Ipv4Fits, Ipv6Fits}
 use Rattle.sd_wire.specs.Writing.{pool_bytes}
-use Rattle.sd_wire.specs.Splitting.{message_of}
+use Rattle.sd_wire.specs.Splitting.{message_of_entries}
 use Rattle.sd_wire.specs.Encoding.{message_bytes}
 
 abbrev pub is_short : Option (List ℕ) → Bool
@@ -15,7 +15,7 @@ is_short None = false
 
 -- a message with these entries can be written, and has at most 1400 bytes
 abbrev pub fits_datagram : List EntryValue → Bool
-fits_datagram entries = is_short (message_bytes (message_of entries))
+fits_datagram entries = is_short (message_bytes (message_of_entries entries))
 
 -- the length of the longest front of at most n entries that fits, or 1
 abbrev pub longest_front : ℕ → List EntryValue → ℕ

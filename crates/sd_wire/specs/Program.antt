@@ -37,8 +37,8 @@ runs_in bytes = record {
   count2 = slice_index bytes 3 % 16;
 }
 
-abbrev pub service_in : ServiceKind → List ℕ → ServiceEntry
-service_in kind bytes = record {
+abbrev pub service_entry_in : ServiceKind → List ℕ → ServiceEntry
+service_entry_in kind bytes = record {
   kind = kind;
   service = field16 bytes 4;
   instance = field16 bytes 6;
@@ -47,8 +47,8 @@ service_in kind bytes = record {
   minor = field32 bytes 12;
 }
 
-abbrev pub eventgroup_in : EventgroupKind → List ℕ → EventgroupEntry
-eventgroup_in kind bytes = record {
+abbrev pub eventgroup_entry_in : EventgroupKind → List ℕ → EventgroupEntry
+eventgroup_entry_in kind bytes = record {
   kind = kind;
   service = field16 bytes 4;
   instance = field16 bytes 6;
@@ -61,10 +61,10 @@ eventgroup_in kind bytes = record {
 -- the entry at the front, by its type
 abbrev pub head_in : List ℕ → EntryHead
 head_in bytes =
-    if slice_index bytes 0 == 0x00 then Service (service_in Find bytes)
-    else (if slice_index bytes 0 == 0x01 then Service (service_in Offer bytes)
-    else (if slice_index bytes 0 == 0x06 then Eventgroup (eventgroup_in Subscribe bytes)
-    else Eventgroup (eventgroup_in Ack bytes)))
+    if slice_index bytes 0 == 0x00 then Service (service_entry_in Find bytes)
+    else (if slice_index bytes 0 == 0x01 then Service (service_entry_in Offer bytes)
+    else (if slice_index bytes 0 == 0x06 then Eventgroup (eventgroup_entry_in Subscribe bytes)
+    else Eventgroup (eventgroup_entry_in Ack bytes)))
 
 abbrev pub entry_of : List SdOption → Runs → EntryHead → ReadValue
 entry_of pool runs head =

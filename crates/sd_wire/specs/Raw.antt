@@ -16,12 +16,12 @@ abbrev pub is_ipv6 : ℕ → Bool
 is_ipv6 kind = kind == 0x06 || kind == 0x16 || kind == 0x26
 
 -- the type is one of the seven that have a layout
-abbrev pub is_known : ℕ → Bool
-is_known kind = kind == 0x02 || is_ipv4 kind || is_ipv6 kind
+abbrev pub has_layout : ℕ → Bool
+has_layout kind = kind == 0x02 || is_ipv4 kind || is_ipv6 kind
 
 -- a type without a layout, and at least one byte, as many as the Length field can say
 pub record IsRaw (kind : ℕ) (bytes : List ℕ) : Type 0 where
-  pub unknown : is_known kind ≡ false
+  pub unknown : has_layout kind ≡ false
   pub some : 1 ≤ length bytes
   pub fits : length bytes < 2 ^ 16
 

@@ -27,11 +27,11 @@ pub record SpellsHead (head : EntryHead) (runs : Runs) (bytes : List ℕ) : Type
   pub reserved_fits : reserved < 2 ^ 12
 
 -- a nonempty run passes the pool
-abbrev pub passes : List SdOption → ℕ → ℕ → Bool
-passes pool index count = nat_lt 0 count && nat_lt (length pool) (index + count)
+abbrev pub passes_pool : List SdOption → ℕ → ℕ → Bool
+passes_pool pool index count = nat_lt 0 count && nat_lt (length pool) (index + count)
 
 abbrev pub has_bad_run : List SdOption → Runs → Bool
-has_bad_run pool runs = passes pool runs.index1 runs.count1 || passes pool runs.index2 runs.count2
+has_bad_run pool runs = passes_pool pool runs.index1 runs.count1 || passes_pool pool runs.index2 runs.count2
 
 -- so many options of the pool from an index on
 abbrev pub selected : List SdOption → ℕ → ℕ → List SdOption

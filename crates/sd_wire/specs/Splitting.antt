@@ -1,15 +1,15 @@
 -- How entries are split into messages of at most 1400 bytes (our own choice).
 use Rattle.std.specs.Prelude.{◌≡◌, ◌⊎◌, ℕ, ◌<◌, ◌≤◌, List, [], ◌∷◌, length, take, drop, false}
-use Rattle.sd_wire.specs.Values.{EntryValue, MessageValue}
+use Rattle.sd_wire.specs.Values.{EntryValue, SdMessageValue}
 use Rattle.sd_wire.specs.Writing.{WritesSd}
 
 -- the entries as a message; its flags do not change its length
-abbrev pub message_of : List EntryValue → MessageValue
-message_of entries = record { flags = record { reboot = false; unicast = false }; entries = entries }
+abbrev pub message_of_entries : List EntryValue → SdMessageValue
+message_of_entries entries = record { flags = record { reboot = false; unicast = false }; entries = entries }
 
 -- a message with these entries can be written, and has at most 1400 bytes
 abbrev pub FitsDatagram : List EntryValue → Type 0
-FitsDatagram entries = (text : List ℕ) × WritesSd (message_of entries) text × (length text ≤ 1400)
+FitsDatagram entries = (text : List ℕ) × WritesSd (message_of_entries entries) text × (length text ≤ 1400)
 
 -- the longest front that fits; where not even the first entry does, it is alone
 pub record IsLongestFront (entries : List EntryValue) (n : ℕ) : Type 0 where

@@ -26,7 +26,7 @@ pub record SdValue : Type 0 where
   pub entries : List ReadValue
 
 -- a message to write
-pub record MessageValue : Type 0 where
+pub record SdMessageValue : Type 0 where
   pub flags : SdFlags
   pub entries : List EntryValue
 
@@ -40,5 +40,5 @@ view_read (BadRun head) = bad_run head
 abbrev pub view_sd : SdRead → SdValue
 view_sd r = record { flags = r.flags; entries = map view_read r.entries.items }
 
-abbrev pub view_message : SdMessage → MessageValue
+abbrev pub view_message : SdMessage → SdMessageValue
 view_message m = record { flags = m.flags; entries = map view_entry m.entries.now }

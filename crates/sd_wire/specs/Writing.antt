@@ -5,7 +5,7 @@ use Rattle.sd_wire.specs.declared.error.SdError.{SdError}
 use Rattle.sd_wire.specs.declared.error.SdError.TheVariants as errors
 use Rattle.sd_wire.specs.declared.option.SdOption.{SdOption}
 use Rattle.sd_wire.specs.Fields.{flags_byte}
-use Rattle.sd_wire.specs.Values.{EntryValue, good, SdValue, MessageValue}
+use Rattle.sd_wire.specs.Values.{EntryValue, good, SdValue, SdMessageValue}
 use Rattle.sd_wire.specs.Spelling.{option_bytes, OptionFits, Runs, RunsFit, entry_bytes, HeadFits, sd_bytes}
 use Rattle.sd_wire.specs.Reading.{selected}
 
@@ -60,7 +60,7 @@ abbrev pub EntryFits : EntryValue → Type 0
 EntryFits e = HeadFits e.head × AllByRecursion OptionFits e.first × AllByRecursion OptionFits e.second
 
 -- the one text of a message: reserved bits are 0, and the pool begins empty
-pub record WritesSd (m : MessageValue) (text : List ℕ) : Type 0 where
+pub record WritesSd (m : SdMessageValue) (text : List ℕ) : Type 0 where
   pub entries : List ℕ
   pub pool : List SdOption
   pub packs : Packs [] m.entries entries pool
@@ -81,11 +81,11 @@ pub record TooMany (entries : List EntryValue) (number : ℕ) : Type 0 where
   pub refused : IsRefused pool e
 
 -- why a message is not written
-abbrev pub IsWriteError : MessageValue → SdError → Type 0
+abbrev pub IsWriteError : SdMessageValue → SdError → Type 0
 IsWriteError m errors.OutOfMemory = Unit {0}
 IsWriteError m (errors.TooManyOptions number) = TooMany m.entries number
 IsWriteError m e = ⊥
 
 -- a message as it is read again
-abbrev pub as_read : MessageValue → SdValue
+abbrev pub as_read : SdMessageValue → SdValue
 as_read m = record { flags = m.flags; entries = map good m.entries }

@@ -5,7 +5,7 @@ use Rattle.sd_wire.specs.declared.error.SdError.TheVariants as errors
 use Rattle.sd_wire.specs.declared.error.SdError.TheVariants.{TooManyOptions}
 use Rattle.sd_wire.specs.declared.option.SdOption.{SdOption}
 use Rattle.sd_wire.specs.declared.entry_writing.RunFields.{RunFields}
-use Rattle.sd_wire.specs.Values.{EntryValue, MessageValue}
+use Rattle.sd_wire.specs.Values.{EntryValue, SdMessageValue}
 use Rattle.sd_wire.specs.Spelling.{Runs}
 use Rattle.sd_wire.specs.Reading.{Sd}
 use Rattle.sd_wire.specs.Writing.{PlacesEntry, IsRefused, pool_bytes, TooMany, WritesSd, as_read}
@@ -27,7 +27,7 @@ IsPackError entries (errors.TooManyOptions number) = TooMany entries number
 IsPackError entries other = ⊥
 
 -- the one text of a message was added at the end, and it is read as the message
-abbrev pub Appends : List ℕ → List ℕ → MessageValue → Type 0
+abbrev pub Appends : List ℕ → List ℕ → SdMessageValue → Type 0
 Appends old new m = (text : List ℕ) × WritesSd m text × Sd (as_read m) text × (new ≡ old ++ text)
 
 -- the entry with this number is refused, unless memory ran out

@@ -3,9 +3,9 @@ ghost use Rattle.std.specs.Prelude.{◌≡◌, ◌≤◌, ◌+◌, ◌*◌, ◌/
 ghost use Rattle.sd_wire.specs.declared.error.SdError.{SdError};
 ghost use Rattle.sd_wire.specs.Values.{view_read};
 ghost use Rattle.sd_wire.specs.Steps.{IsReadingError};
-ghost use Rattle.sd_wire.specs.Reading.{passes, selected};
+ghost use Rattle.sd_wire.specs.Reading.{passes_pool, selected};
 ghost use Rattle.sd_wire.specs.Faults.{is_entry_type};
-ghost use Rattle.sd_wire.specs.Program.{type_fault, service_in, eventgroup_in, head_in, entry_in, entry_list};
+ghost use Rattle.sd_wire.specs.Program.{type_fault, service_entry_in, eventgroup_entry_in, head_in, entry_in, entry_list};
 
 use crate::entry::{
     Entry, EntryHead, EventgroupEntry, EventgroupKind, ServiceEntry, ServiceKind,
@@ -45,7 +45,7 @@ pub(crate) fn check_types(entries: &[u8]) -> Result<(), SdError>
 /// The service entry at the front.
 fn service(kind: ServiceKind, bytes: &[u8]) -> ServiceEntry
     requires { 16 ≤ length bytes.now }
-    ensures { result ≡ service_in kind bytes.now }
+    ensures { result ≡ service_entry_in kind bytes.now }
 {
     ServiceEntry {
         kind,
@@ -60,7 +60,7 @@ fn service(kind: ServiceKind, bytes: &[u8]) -> ServiceEntry
 /// The eventgroup entry at the front.
 fn eventgroup(kind: EventgroupKind, bytes: &[u8]) -> EventgroupEntry
     requires { 16 ≤ length bytes.now }
-    ensures { result ≡ eventgroup_in kind bytes.now }
+    ensures { result ≡ eventgroup_entry_in kind bytes.now }
 {
     EventgroupEntry {
         kind,
@@ -87,8 +87,8 @@ fn head(bytes: &[u8]) -> EntryHead
 }
 
 /// A nonempty run passes the pool.
-fn passes(pool: &[SdOption], index: u8, count: u8) -> bool
-    ensures { result ≡ passes pool.now index count }
+fn passes_pool(pool: &[SdOption], index: u8, count: u8) -> bool
+    ensures { result ≡ passes_pool pool.now index count }
 {
     count > 0 && usize::from(index) + usize::from(count) > pool.len()
 }
@@ -100,7 +100,7 @@ fn select(
     index: u8,
     count: u8,
 ) -> Result<Vec<SdOption>, AllocError>
-    requires { passes pool.now index count ≡ false }
+    requires { passes_pool pool.now index count ≡ false }
     ensures { IfOk result (λ run. run.items ≡ selected pool.now index count) }
 {
     let mut run = Vec::new(alloc);
@@ -118,7 +118,7 @@ fn entry(alloc: Global, pool: &[SdOption], bytes: &[u8]) -> Result<ReadEntry, Al
 {
     let head = head(bytes);
     let (count1, count2) = (bytes[3] / 16, bytes[3] % 16);
-    if passes(pool, bytes[1], count1) || passes(pool, bytes[2], count2) {
+    if passes_pool(pool, bytes[1], count1) || passes_pool(pool, bytes[2], count2) {
         return Ok(ReadEntry::BadRun(head));
     }
     let run1 = select(alloc, pool, bytes[1], count1)?;

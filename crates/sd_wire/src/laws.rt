@@ -6,7 +6,7 @@ ghost use Rattle.sd_wire.specs.declared.error.SdError.{SdError};
 ghost use Rattle.sd_wire.specs.declared.option.SdOption.{SdOption};
 ghost use Rattle.sd_wire.specs.declared.flags.SdFlags.{SdFlags};
 ghost use Rattle.sd_wire.specs.Fields.{IsBytes, flags_byte};
-ghost use Rattle.sd_wire.specs.Values.{EntryValue, SdValue, MessageValue};
+ghost use Rattle.sd_wire.specs.Values.{EntryValue, SdValue, SdMessageValue};
 ghost use Rattle.sd_wire.specs.Reading.{SpellsOption, Sd};
 ghost use Rattle.sd_wire.specs.Faults.{option_size, SdFault};
 ghost use Rattle.sd_wire.specs.Writing.{EntryFits, WritesSd, TooMany, as_read};
@@ -39,30 +39,30 @@ pub fn no_option_is_found_where_none_begins()
 
 /// A message has one text, or one entry that is refused first, and not both.
 pub fn a_message_has_one_text()
-    ensures one { (m : MessageValue) (text other : List ℕ) → WritesSd m text → WritesSd m other
+    ensures one { (m : SdMessageValue) (text other : List ℕ) → WritesSd m text → WritesSd m other
         → text ≡ other }
-    ensures not_both { (m : MessageValue) (text : List ℕ) (number : ℕ) → WritesSd m text
+    ensures not_both { (m : SdMessageValue) (text : List ℕ) (number : ℕ) → WritesSd m text
         → TooMany m.entries number → ⊥ }
-    ensures one_refused { (m : MessageValue) (number other : ℕ) → TooMany m.entries number
+    ensures one_refused { (m : SdMessageValue) (number other : ℕ) → TooMany m.entries number
         → TooMany m.entries other → number ≡ other }
 {}
 
 /// What is written is read: the text of a message holds it, entry by entry.
 pub fn what_is_written_is_read()
-    ensures { (m : MessageValue) (text : List ℕ) → AllByRecursion EntryFits m.entries
+    ensures { (m : SdMessageValue) (text : List ℕ) → AllByRecursion EntryFits m.entries
         → WritesSd m text → Sd (as_read m) text }
 {}
 
 /// A message has the bytes of the function `message_bytes` exactly where it has a text, and none
 /// exactly where an entry is refused.
 pub fn a_message_has_its_bytes()
-    ensures some { (m : MessageValue) (text : List ℕ) → WritesSd m text
+    ensures some { (m : SdMessageValue) (text : List ℕ) → WritesSd m text
         → message_bytes m ≡ Some text }
-    ensures text { (m : MessageValue) (text : List ℕ) → message_bytes m ≡ Some text
+    ensures text { (m : SdMessageValue) (text : List ℕ) → message_bytes m ≡ Some text
         → length text < 2 ^ 32 → WritesSd m text }
-    ensures none { (m : MessageValue) (number : ℕ) → TooMany m.entries number
+    ensures none { (m : SdMessageValue) (number : ℕ) → TooMany m.entries number
         → message_bytes m ≡ None }
-    ensures refused { (m : MessageValue) → message_bytes m ≡ None
+    ensures refused { (m : SdMessageValue) → message_bytes m ≡ None
         → (number : ℕ) × TooMany m.entries number }
 {}
 

@@ -1,6 +1,6 @@
 //! Options (SOME/IP Service Discovery, "Options Format").
 ghost use Rattle.std.specs.Prelude.{◌≡◌, Some, None};
-ghost use Rattle.sd_wire.specs.Raw.{RawValue, IsRaw, is_known};
+ghost use Rattle.sd_wire.specs.Raw.{RawValue, IsRaw, has_layout};
 
 use crate::endpoint::{Ipv4Endpoint, Ipv6Endpoint};
 use std::alloc::AllocError;
@@ -35,7 +35,7 @@ impl RawOption {
             → result ≡ Some record { kind = kind; bytes = bytes.value.items } }
         ensures none { (IsRaw kind bytes.value.items → ⊥) → result ≡ None }
     {
-        if is_known(kind) || bytes.is_empty() || bytes.len() > 0xffff {
+        if has_layout(kind) || bytes.is_empty() || bytes.len() > 0xffff {
             return None;
         }
         Some(RawOption { kind, bytes })
@@ -99,8 +99,8 @@ impl Clone for RawOption {
 }
 
 /// The type has a layout.
-fn is_known(kind: u8) -> bool
-    ensures { result ≡ is_known kind }
+fn has_layout(kind: u8) -> bool
+    ensures { result ≡ has_layout kind }
 {
     matches!(kind, 0x02 | 0x04 | 0x14 | 0x24 | 0x06 | 0x16 | 0x26)
 }

@@ -1,7 +1,7 @@
 //! Options from bytes.
 ghost use Rattle.std.specs.Prelude.{◌≡◌, ◌≤◌, ◌<◌, ◌+◌, ◌^◌, ◌==◌, true, false, length, slice_index, IfOk, IfErr, IfSome};
 ghost use Rattle.sd_wire.specs.declared.error.SdError.TheVariants.{OutOfMemory};
-ghost use Rattle.sd_wire.specs.Raw.{is_known};
+ghost use Rattle.sd_wire.specs.Raw.{has_layout};
 ghost use Rattle.sd_wire.specs.Steps.{Gives, IsReadingError};
 ghost use Rattle.sd_wire.specs.Faults.{has_len, option_size};
 ghost use Rattle.sd_wire.specs.Program.{HasOption, ipv4_in, ipv6_in, option_in, options_from};
@@ -79,7 +79,7 @@ fn ipv6(bytes: &[u8]) -> Ipv6Endpoint
 fn raw(alloc: Global, kind: u8, bytes: &[u8], size: usize) -> Result<SdOption, SdError>
     requires option { HasOption bytes.now size }
     requires kind { kind ≡ slice_index bytes.now 2 }
-    requires unknown { is_known kind ≡ false }
+    requires unknown { has_layout kind ≡ false }
     ensures value { IfOk result (λ option. option ≡ option_in bytes.now) }
     ensures errors { IfErr result (λ e. e ≡ OutOfMemory) }
 {

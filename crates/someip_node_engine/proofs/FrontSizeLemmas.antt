@@ -5,7 +5,7 @@ use Rattle.sd_wire.specs.declared.entry.Entry.{Entry}
 use Rattle.sd_wire.specs.declared.option.SdOption.{SdOption}
 use Rattle.sd_wire.specs.Fields.{flags_byte}
 use Rattle.sd_wire.specs.Spelling.{entry_bytes}
-use Rattle.sd_wire.specs.Splitting.{FitsDatagram, IsLongestFront, AreFronts, message_of}
+use Rattle.sd_wire.specs.Splitting.{FitsDatagram, IsLongestFront, AreFronts, message_of_entries}
 use Rattle.sd_wire.specs.Values.{EntryValue, view_entry}
 use Rattle.sd_wire.specs.Writing.{Packs, WritesSd, pool_bytes}
 use Rattle.sd_wire.proofs.SplitLemmas.{entry_length, sd_length}
@@ -20,8 +20,8 @@ packed_length pool (e ∷ entries) text after p =
 
 few : (entries : List EntryValue) → FitsDatagram entries → length entries ≤ 65535
 few entries fits =
-    let w : WritesSd (message_of entries) fits.0 = fits.1 in
-    omega (arith, fits.2, ap length w.is ∙ sd_length (flags_byte (message_of entries).flags) w.entries (pool_bytes w.pool), packed_length [] entries w.entries w.pool w.packs)
+    let w : WritesSd (message_of_entries entries) fits.0 = fits.1 in
+    omega (arith, fits.2, ap length w.is ∙ sd_length (flags_byte (message_of_entries entries).flags) w.entries (pool_bytes w.pool), packed_length [] entries w.entries w.pool w.packs)
 
 front_few : (entries : List EntryValue) (n : ℕ) → IsLongestFront entries n → n ≤ 65535
 front_few entries n front =

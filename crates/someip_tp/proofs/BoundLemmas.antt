@@ -13,7 +13,7 @@ use Rattle.someip_tp.specs.Parts.{Limits, Part, Parts, is_gone, parts_at}
 use Rattle.someip_tp.specs.declared.reassembly.Offered.{Offered}
 use Rattle.someip_tp.specs.declared.error.TpError.{TpError}
 use Rattle.someip_tp.specs.declared.error.TpError.TheVariants.{Unaligned, TooLong, Conflict, NoSlot, OutOfMemory}
-use Rattle.someip_tp.specs.Offers.{Offer as Segment, offer, offered_as, conflicts, is_unaligned, is_too_long, part_under, no_part, with_offer, parts_after, parts_less, message_at, kept as offer_kept}
+use Rattle.someip_tp.specs.Offers.{Offer as Segment, offer, part_or_whole, conflicts, is_unaligned, is_too_long, part_under, no_part, with_offer, parts_after, parts_less, message_at, kept as offer_kept}
 use Rattle.someip_tp.specs.Pieces.{byte_at}
 use Rattle.someip_tp.specs.Wholes.{IsWithin}
 use Rattle.someip_tp.specs.declared.calls.TpCall.{TpCall}
@@ -176,7 +176,7 @@ within_offered limits now o parts within short room =
         omega (arith, inside.0, lt, fits)
 
 kept_so : (limits : Limits) (now : ℕ) (o : Segment) (parts : Parts) (unaligned long full clash : Bool) → is_too_long limits.limit o ≡ long → (is_none (get parts o.key) && nat_le limits.slots (len parts)) ≡ full → IsWithin limits parts
-    → IsWithin limits (offer_kept (if unaligned then Err Unaligned else (if long then Err TooLong else (if full then Err NoSlot else (if clash then Err Conflict else Ok (offered_as (with_offer (part_under parts o.key) now o)))))) now o parts)
+    → IsWithin limits (offer_kept (if unaligned then Err Unaligned else (if long then Err TooLong else (if full then Err NoSlot else (if clash then Err Conflict else Ok (part_or_whole (with_offer (part_under parts o.key) now o)))))) now o parts)
 kept_so limits now o parts true long full clash is room within = within
 kept_so limits now o parts false true full clash is room within = within
 kept_so limits now o parts false false true clash is room within = within

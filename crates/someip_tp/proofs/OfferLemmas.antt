@@ -7,7 +7,7 @@ use Rattle.someip_tp.specs.declared.reassembly.Offered.TheVariants.{Part as InPa
 use Rattle.someip_tp.specs.declared.error.TpError.{TpError}
 use Rattle.someip_tp.specs.declared.error.TpError.TheVariants.{Unaligned, TooLong, Conflict, NoSlot, OutOfMemory, NoHeader}
 use Rattle.someip_tp.specs.Parts.{Limits, Part, Parts, parts_at}
-use Rattle.someip_tp.specs.Offers.{Offer, judgement, kept, parts_after, message_of, message_at, offered_as, with_offer, part_under, is_unaligned, is_too_long, conflicts}
+use Rattle.someip_tp.specs.Offers.{Offer, judgement, kept, parts_after, message_of, message_at, part_or_whole, with_offer, part_under, is_unaligned, is_too_long, conflicts}
 use Rattle.someip_tp.proofs.KeyOrder.{keys_total, test_from_same}
 
 -- what is true of the parts after the offer, and of those that are left at its moment, is true of what it leaves
@@ -32,12 +32,12 @@ there left o p = get-insert keys_total left o.key p o.key ∙ ap (λ t. cond t (
 -- the judgement, by its four tests
 abbrev pub judged_by : (unaligned long full clash : Bool) → ℕ → Offer → Parts → Result Offered TpError
 judged_by unaligned long full clash now o left =
-    if unaligned then Err Unaligned else (if long then Err TooLong else (if full then Err NoSlot else (if clash then Err Conflict else Ok (offered_as (with_offer (part_under left o.key) now o)))))
+    if unaligned then Err Unaligned else (if long then Err TooLong else (if full then Err NoSlot else (if clash then Err Conflict else Ok (part_or_whole (with_offer (part_under left o.key) now o)))))
 
 -- an accepted segment is in its part
 accepted_by : (unaligned long full clash : Bool) (now : ℕ) (o : Offer) (left : Parts) (offered : Offered) → judged_by unaligned long full clash now o left ≡ Ok offered
     → (option_and_then message_of (get (kept (judged_by unaligned long full clash now o left) now o left) o.key) ≡ message_of (with_offer (part_under left o.key) now o))
-    × (offered_as (with_offer (part_under left o.key) now o) ≡ offered)
+    × (part_or_whole (with_offer (part_under left o.key) now o) ≡ offered)
 accepted_by true long full clash now o left offered h = absurd cc
 accepted_by false true full clash now o left offered h = absurd cc
 accepted_by false false true clash now o left offered h = absurd cc
@@ -46,7 +46,7 @@ accepted_by false false false false now o left offered h = (ap (option_and_then 
 
 accepted : (limits : Limits) (now : ℕ) (o : Offer) (parts : Parts) (offered : Offered) → judgement limits now o parts ≡ Ok offered
     → (message_at (parts_after limits now o parts) o.key ≡ message_of (with_offer (part_under (parts_at limits now parts) o.key) now o))
-    × (offered_as (with_offer (part_under (parts_at limits now parts) o.key) now o) ≡ offered)
+    × (part_or_whole (with_offer (part_under (parts_at limits now parts) o.key) now o) ≡ offered)
 unfolding judgement parts_after message_at
 accepted limits now o parts offered h =
     let left = parts_at limits now parts in

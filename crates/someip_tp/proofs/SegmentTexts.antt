@@ -11,7 +11,7 @@ use Rattle.someip_wire.specs.Faults.{length_field}
 use Rattle.someip_wire.specs.declared.Header.{Header}
 use Rattle.someip_wire.specs.Spelling.{header_bytes, spelling}
 use Rattle.someip_tp.specs.declared.error.TpError.{TpError}
-use Rattle.someip_tp.specs.Words.{reads_segment, offset_of, more_of, word_in, segment_in, view_read}
+use Rattle.someip_tp.specs.Words.{reads_segment, offset_of, more_of, word_in, segment_in, view_read_segment}
 use Rattle.someip_tp.specs.Segments.{SegmentValue, word_of, segment_message}
 
 word_in-read : (payload slice : List ℕ) (word : ℕ) → word < 4294967296 → payload ≡ to_be_bytes w32 word ++ slice → word_in payload ≡ word
@@ -26,7 +26,7 @@ says payload slice word fits is =
     rw (le-ltb (length payload) 4 long, read, rest) refl
 
 -- what is read is what the payload says
-pub segment_in-read : (payload : List ℕ) (read : Result (ℕ × Bool × Bor (List ℕ)) TpError) → reads_segment payload read → view_read read ≡ segment_in payload
+pub segment_in-read : (payload : List ℕ) (read : Result (ℕ × Bool × Bor (List ℕ)) TpError) → reads_segment payload read → view_read_segment read ≡ segment_in payload
 segment_in-read payload (Err e) is = rw (lt-ltb (length payload) 4 is.0, is.1) refl
 segment_in-read payload (Ok r) read =
     let word : word_in payload ≡ read.0 = word_in-read payload r.2.now read.0 read.1 read.2 in

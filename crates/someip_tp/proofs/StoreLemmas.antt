@@ -14,9 +14,9 @@ use Rattle.someip_tp.specs.declared.reassembly.Offered.{Offered}
 use Rattle.someip_tp.specs.declared.error.TpError.{TpError}
 use Rattle.someip_tp.specs.declared.error.TpError.TheVariants.{Unaligned, TooLong, Conflict, NoSlot, OutOfMemory, NoHeader}
 use Rattle.std.specs.Result.{is_ok, OnErr}
-use Rattle.someip_tp.specs.Offers.{Offer, judged, judgement, kept, parts_after, judged_among, offered_as, part_under, no_part, conflicts, passes, total_of, with_offer, message_of, message_at, parts_less}
+use Rattle.someip_tp.specs.Offers.{Offer, judged, judgement, kept, parts_after, judged_among, part_or_whole, part_under, no_part, conflicts, passes, total_of, with_offer, message_of, message_at, parts_less}
 use Rattle.someip_tp.specs.Partials.{Entry}
-use Rattle.someip_tp.specs.Stores.{StandsAt, Acts, parts_in}
+use Rattle.someip_tp.specs.Stores.{StandsAt, Acts, parts_of_entries}
 use Rattle.someip_tp.proofs.Placed.{none_differs}
 use Rattle.someip_tp.proofs.PartialLemmas.{no_place_passes}
 use Rattle.someip_tp.proofs.KeyOrder.{keys_total, exact_keys, same_from_test, test_from_same}
@@ -57,13 +57,13 @@ stands key (e ∷ es) (suc i) d distinct lt is =
         cc
     cases false other none rest = rest
 
-pub part_there : (key : ReassemblyKey) (es : List Entry) (i : ℕ) (d : Entry) → are_distinct key_cmp es ≡ true → StandsAt key es (Some i) → get (parts_in es) key ≡ Some (get_or es i d).1
+pub part_there : (key : ReassemblyKey) (es : List Entry) (i : ℕ) (d : Entry) → are_distinct key_cmp es ≡ true → StandsAt key es (Some i) → get (parts_of_entries es) key ≡ Some (get_or es i d).1
 part_there key es i d distinct at = get-from_entries keys_total es key ∙ stands key es i d distinct at.0 (at.1 d)
 
-pub part_under_there : (key : ReassemblyKey) (es : List Entry) (i : ℕ) (d : Entry) → are_distinct key_cmp es ≡ true → StandsAt key es (Some i) → part_under (parts_in es) key ≡ (get_or es i d).1
+pub part_under_there : (key : ReassemblyKey) (es : List Entry) (i : ℕ) (d : Entry) → are_distinct key_cmp es ≡ true → StandsAt key es (Some i) → part_under (parts_of_entries es) key ≡ (get_or es i d).1
 part_under_there key es i d distinct at = ap (λ o. unwrap_or o no_part) (part_there key es i d distinct at)
 
-pub no_part_there : (key : ReassemblyKey) (es : List Entry) → StandsAt key es None → get (parts_in es) key ≡ None
+pub no_part_there : (key : ReassemblyKey) (es : List Entry) → StandsAt key es None → get (parts_of_entries es) key ≡ None
 no_part_there key es at = get-from_entries keys_total es key ∙ at
 
 -- ---- an entry is changed in its place
@@ -110,11 +110,11 @@ distinct-set key part (e ∷ es) (suc i) distinct lt at =
     cases false other none there = ap is_none none
 
 pub parts-set : (key : ReassemblyKey) (part : Part) (es : List Entry) (i : ℕ) → are_distinct key_cmp es ≡ true → i < length es → ((d : Entry) → (get_or es i d).0 ≡ key)
-    → parts_in (set es i (key, part)) ≡ insert (parts_in es) key part
+    → parts_of_entries (set es i (key, part)) ≡ insert (parts_of_entries es) key part
 parts-set key part es i distinct lt at =
     same_map keys_total exact_keys _ _ (λ q.
     get-from_entries keys_total (set es i (key, part)) q ∙ find-set key q part es i distinct lt at
-    ∙ sym (get-insert keys_total (parts_in es) key part q ∙ ap (cond (eq_by_cmp key_cmp q key) (Some part)) (get-from_entries keys_total es q)))
+    ∙ sym (get-insert keys_total (parts_of_entries es) key part q ∙ ap (cond (eq_by_cmp key_cmp q key) (Some part)) (get-from_entries keys_total es q)))
 
 -- ---- the entry that stands at i becomes another of its key
 
@@ -125,24 +125,24 @@ pub changed_distinct : (es : List Entry) (i : ℕ) (e n : Entry) → are_distinc
 changed_distinct es i e n distinct lt is same = distinct-set n.0 n.1 es i distinct lt (own_key es i e n lt is same)
 
 -- the entry at i is that of the key
-pub entry_under : (key : ReassemblyKey) (es : List Entry) (i : ℕ) (e : Entry) → are_distinct key_cmp es ≡ true → StandsAt key es (Some i) → e ≡ get_or es i e → part_under (parts_in es) key ≡ e.1
+pub entry_under : (key : ReassemblyKey) (es : List Entry) (i : ℕ) (e : Entry) → are_distinct key_cmp es ≡ true → StandsAt key es (Some i) → e ≡ get_or es i e → part_under (parts_of_entries es) key ≡ e.1
 entry_under key es i e distinct at is = part_under_there key es i e distinct at ∙ sym (ap (λ (x : Entry). x.1) is)
 
 pub changed_parts : (key : ReassemblyKey) (now : ℕ) (o : Offer) (es : List Entry) (i : ℕ) (e n : Entry) → are_distinct key_cmp es ≡ true → StandsAt key es (Some i) → e ≡ get_or es i e
-    → n ≡ (e.0, with_offer e.1 now o) → parts_in (set es i n) ≡ insert (parts_in es) key (with_offer (part_under (parts_in es) key) now o)
+    → n ≡ (e.0, with_offer e.1 now o) → parts_of_entries (set es i n) ≡ insert (parts_of_entries es) key (with_offer (part_under (parts_of_entries es) key) now o)
 changed_parts key now o es i e n distinct at is new =
     let same : n.0 ≡ e.0 = ap (λ (x : Entry). x.0) new in
     let own : key ≡ n.0 = same_from_test key (get_or es i e).0 (at.1 e) ∙ (sym (ap (λ (x : Entry). x.0) is) ∙ sym same) in
-    let part : with_offer (part_under (parts_in es) key) now o ≡ n.1 = ap (λ p. with_offer p now o) (entry_under key es i e distinct at is) ∙ sym (ap (λ (x : Entry). x.1) new) in
-    parts-set n.0 n.1 es i distinct at.0 (own_key es i e n at.0 is same) ∙ sym (λ j. insert (parts_in es) (own j) (part j))
+    let part : with_offer (part_under (parts_of_entries es) key) now o ≡ n.1 = ap (λ p. with_offer p now o) (entry_under key es i e distinct at is) ∙ sym (ap (λ (x : Entry). x.1) new) in
+    parts-set n.0 n.1 es i distinct at.0 (own_key es i e n at.0 is same) ∙ sym (λ j. insert (parts_of_entries es) (own j) (part j))
 
 -- ---- an entry of a new key
 
 pub pushed_distinct : (key : ReassemblyKey) (es : List Entry) (n : Entry) → are_distinct key_cmp es ≡ true → StandsAt key es None → n.0 ≡ key → are_distinct key_cmp (es ++ n ∷ []) ≡ true
 pushed_distinct key es n distinct none own = entries.distinct-push keys_total exact_keys n.0 n.1 es (ap (λ k. find key_cmp k es) own ∙ none) distinct
 
-pub pushed_parts : (key : ReassemblyKey) (part : Part) (es : List Entry) (n : Entry) → StandsAt key es None → n ≡ (key, part) → parts_in (es ++ n ∷ []) ≡ insert (parts_in es) key part
-pushed_parts key part es n none is = ap (λ (x : Entry). parts_in (es ++ x ∷ [])) is ∙ from_entries_push keys_total exact_keys es key part none
+pub pushed_parts : (key : ReassemblyKey) (part : Part) (es : List Entry) (n : Entry) → StandsAt key es None → n ≡ (key, part) → parts_of_entries (es ++ n ∷ []) ≡ insert (parts_of_entries es) key part
+pushed_parts key part es n none is = ap (λ (x : Entry). parts_of_entries (es ++ x ∷ [])) is ∙ from_entries_push keys_total exact_keys es key part none
 
 pub nothing_conflicts : (o : Offer) → conflicts no_part o ≡ false
 nothing_conflicts o =
@@ -166,17 +166,17 @@ nothing_conflicts o =
 pub removed_distinct : (key : ReassemblyKey) (es : List Entry) → are_distinct key_cmp es ≡ true → are_distinct key_cmp (filter (λ e. not (same_key key e.0)) es) ≡ true
 removed_distinct key es distinct = entries.distinct-filter keys_total exact_keys (λ e. not (same_key key e.0)) es distinct
 
-pub removed_parts : (key : ReassemblyKey) (es : List Entry) → are_distinct key_cmp es ≡ true → parts_in (filter (λ e. not (same_key key e.0)) es) ≡ remove (parts_in es) key
-removed_parts key es distinct = entries.from_entries-filter keys_total exact_keys (λ e. not (same_key key e.0)) es distinct ∙ entries.remove_retain keys_total exact_keys (parts_in es) key
+pub removed_parts : (key : ReassemblyKey) (es : List Entry) → are_distinct key_cmp es ≡ true → parts_of_entries (filter (λ e. not (same_key key e.0)) es) ≡ remove (parts_of_entries es) key
+removed_parts key es distinct = entries.from_entries-filter keys_total exact_keys (λ e. not (same_key key e.0)) es distinct ∙ entries.remove_retain keys_total exact_keys (parts_of_entries es) key
 
 pub left_distinct : (timeout now : ℕ) (es : List Entry) → are_distinct key_cmp es ≡ true → are_distinct key_cmp (filter (λ e. not (is_gone timeout now e.1)) es) ≡ true
 left_distinct timeout now es distinct = entries.distinct-filter keys_total exact_keys (λ e. not (is_gone timeout now e.1)) es distinct
 
-pub left_parts : (limits : Limits) (now : ℕ) (es : List Entry) → are_distinct key_cmp es ≡ true → parts_in (filter (λ e. not (is_gone limits.timeout now e.1)) es) ≡ parts_at limits now (parts_in es)
+pub left_parts : (limits : Limits) (now : ℕ) (es : List Entry) → are_distinct key_cmp es ≡ true → parts_of_entries (filter (λ e. not (is_gone limits.timeout now e.1)) es) ≡ parts_at limits now (parts_of_entries es)
 unfolding parts_at
 left_parts limits now es distinct = entries.from_entries-filter keys_total exact_keys (λ e. not (is_gone limits.timeout now e.1)) es distinct
 
-pub count_is : (es : List Entry) → are_distinct key_cmp es ≡ true → len (parts_in es) ≡ length es
+pub count_is : (es : List Entry) → are_distinct key_cmp es ≡ true → len (parts_of_entries es) ≡ length es
 count_is es distinct = entries.len-from_entries keys_total exact_keys es distinct
 
 -- ---- how a segment is judged
@@ -187,7 +187,7 @@ judged_conflict slots now o parts part there clash =
     rw (known, clash) refl
 
 pub judged_fit : (slots now : ℕ) (o : Offer) (parts : Parts) (part : Part) → get parts o.key ≡ Some part → conflicts (part_under parts o.key) o ≡ false
-    → Ok (offered_as (with_offer (part_under parts o.key) now o)) ≡ judged_among slots now o parts
+    → Ok (part_or_whole (with_offer (part_under parts o.key) now o)) ≡ judged_among slots now o parts
 judged_fit slots now o parts part there fits =
     let known : is_none (get parts o.key) ≡ false = ap is_none there in
     rw (known, fits) refl
@@ -197,7 +197,7 @@ judged_full slots now o parts none full =
     let new : is_none (get parts o.key) ≡ true = ap is_none none in
     rw (new, full) refl
 
-pub judged_new : (slots now : ℕ) (o : Offer) (parts : Parts) → get parts o.key ≡ None → nat_le slots (len parts) ≡ false → Ok (offered_as (with_offer no_part now o)) ≡ judged_among slots now o parts
+pub judged_new : (slots now : ℕ) (o : Offer) (parts : Parts) → get parts o.key ≡ None → nat_le slots (len parts) ≡ false → Ok (part_or_whole (with_offer no_part now o)) ≡ judged_among slots now o parts
 judged_new slots now o parts none room =
     let new : is_none (get parts o.key) ≡ true = ap is_none none in
     let empty_part : part_under parts o.key ≡ no_part = ap (λ p. unwrap_or p no_part) none in
@@ -219,12 +219,12 @@ pub none_whole : (key : ReassemblyKey) (parts : Parts) → get parts key ≡ Non
 unfolding message_at
 none_whole key parts none = ap (option_and_then message_of) none
 
-pub message_there : (key : ReassemblyKey) (es : List Entry) (i : ℕ) (e : Entry) → are_distinct key_cmp es ≡ true → StandsAt key es (Some i) → e ≡ get_or es i e → message_at (parts_in es) key ≡ message_of e.1
+pub message_there : (key : ReassemblyKey) (es : List Entry) (i : ℕ) (e : Entry) → are_distinct key_cmp es ≡ true → StandsAt key es (Some i) → e ≡ get_or es i e → message_at (parts_of_entries es) key ≡ message_of e.1
 unfolding message_at
 message_there key es i e distinct at is = ap (option_and_then message_of) (part_there key es i e distinct at ∙ ap Some (sym (ap (λ (x : Entry). x.1) is)))
 
-pub parts_less_whole : (key : ReassemblyKey) (es : List Entry) → are_distinct key_cmp es ≡ true → is_some (message_at (parts_in es) key) ≡ true
-    → parts_in (filter (λ e. not (same_key key e.0)) es) ≡ parts_less (parts_in es) key
+pub parts_less_whole : (key : ReassemblyKey) (es : List Entry) → are_distinct key_cmp es ≡ true → is_some (message_at (parts_of_entries es) key) ≡ true
+    → parts_of_entries (filter (λ e. not (same_key key e.0)) es) ≡ parts_less (parts_of_entries es) key
 unfolding parts_less
 parts_less_whole key es distinct whole = removed_parts key es distinct ∙ rw whole refl
 

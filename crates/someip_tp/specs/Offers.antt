@@ -85,8 +85,8 @@ message_of part =
     part.total
 
 -- what an accepted segment made of its message
-abbrev pub offered_as : Part → Offered
-offered_as part = if is_some (message_of part) then Whole else InPart
+abbrev pub part_or_whole : Part → Offered
+part_or_whole part = if is_some (message_of part) then Whole else InPart
 
 -- a slice that is not the last one has a length that is no multiple of 16
 abbrev pub is_unaligned : Offer → Bool
@@ -101,7 +101,7 @@ abbrev pub judged_among : ℕ → ℕ → Offer → Parts → Result Offered TpE
 judged_among slots now o parts =
     if is_none (get parts o.key) && nat_le slots (len parts) then Err NoSlot
     else (if conflicts (part_under parts o.key) o then Err Conflict
-    else Ok (offered_as (with_offer (part_under parts o.key) now o)))
+    else Ok (part_or_whole (with_offer (part_under parts o.key) now o)))
 
 -- what a segment is judged to be among the parts that are left
 abbrev pub judged : Limits → ℕ → Offer → Parts → Result Offered TpError

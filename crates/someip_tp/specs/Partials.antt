@@ -16,8 +16,8 @@ abbrev pub coded_entry : Coded Entry
 coded_entry = coded× coded_key coded_part
 
 -- what contracts see of a partial
-abbrev pub entry_of : Inside → Entry
-entry_of p = (p.key, record { bytes = bytes_in p.pieces.items; total = p.total; last = p.last })
+abbrev pub view_partial : Inside → Entry
+view_partial p = (p.key, record { bytes = bytes_in p.pieces.items; total = p.total; last = p.last })
 
 -- what is true of every partial: its slices have one byte at a place, stand in order, and lie below its total
 pub record IsSound (p : Inside) : Type 0 where

@@ -22,12 +22,12 @@ abbrev pub coded_store : Coded Store
 coded_store = code_by (Parts × Limits) (coded× coded_parts coded_limits) (λ s. (s.parts, s.limits)) (λ c. record { parts = c.0; limits = c.1 }) (λ _. refl)
 
 -- the segment that arrived
-abbrev pub offer_of : Arrived → Offer
-offer_of a = offer a.key a.offset a.more a.bytes.now
+abbrev pub segment_arrived : Arrived → Offer
+segment_arrived a = offer a.key a.offset a.more a.bytes.now
 
 -- the parts with these entries
-abbrev pub parts_in : List Entry → Parts
-parts_in entries = from_entries entries
+abbrev pub parts_of_entries : List Entry → Parts
+parts_of_entries entries = from_entries entries
 
 -- where an entry of the key stands, if there is one
 abbrev pub StandsAt : ReassemblyKey → List Entry → Option ℕ → Type 0

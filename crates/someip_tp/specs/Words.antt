@@ -25,9 +25,9 @@ segment_in payload =
     else Ok (offset_of (word_in payload), more_of (word_in payload), drop 4 payload)
 
 -- what was read of a payload, without where the slice lies in memory
-abbrev pub view_read : Result (ℕ × Bool × Bor (List ℕ)) TpError → Result (ℕ × Bool × List ℕ) TpError
-view_read (Ok r) = Ok (r.0, r.1, r.2.now)
-view_read (Err e) = Err e
+abbrev pub view_read_segment : Result (ℕ × Bool × Bor (List ℕ)) TpError → Result (ℕ × Bool × List ℕ) TpError
+view_read_segment (Ok r) = Ok (r.0, r.1, r.2.now)
+view_read_segment (Err e) = Err e
 
 -- a payload is a word and a slice, which are read so, or it has no room for a word
 abbrev pub reads_segment : List ℕ → Result (ℕ × Bool × Bor (List ℕ)) TpError → Type 0

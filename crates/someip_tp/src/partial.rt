@@ -22,13 +22,13 @@ pub(crate) struct Partial {
 }
 
 impl Model for Partial {
-    ghost use Rattle.someip_tp.specs.Partials.{Entry, coded_entry, entry_of, IsSound};
+    ghost use Rattle.someip_tp.specs.Partials.{Entry, coded_entry, view_partial, IsSound};
 
     ghost Value = { Entry };
 
     ghost coded = { coded_entry };
 
-    ghost view = { entry_of };
+    ghost view = { view_partial };
 
     ghost invariant = { IsSound };
 }

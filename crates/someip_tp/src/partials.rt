@@ -5,8 +5,8 @@ ghost use Rattle.std.specs.FinMap as map;
 ghost use Rattle.someip_tables.specs.Distinct.{are_distinct};
 ghost use Rattle.someip_tp.specs.Keys.{key_cmp, same_key};
 ghost use Rattle.someip_tp.specs.Parts.{is_gone};
-ghost use Rattle.someip_tp.specs.Offers.{no_part, part_under, conflicts, with_offer, offered_as, message_at, parts_less};
-ghost use Rattle.someip_tp.specs.Stores.{StandsAt, Offers, OffersAmong, offer_of, parts_in};
+ghost use Rattle.someip_tp.specs.Offers.{no_part, part_under, conflicts, with_offer, part_or_whole, message_at, parts_less};
+ghost use Rattle.someip_tp.specs.Stores.{StandsAt, Offers, OffersAmong, segment_arrived, parts_of_entries};
 
 use crate::error::TpError;
 use crate::key::ReassemblyKey;
@@ -63,8 +63,8 @@ pub(crate) fn offer_to(
     ensures distinct { IsTrue (are_distinct key_cmp partials.new.items) }
     ensures offers { (timeout : ℕ) → Offers
         (record { slots = slots; limit = limit; timeout = timeout }) arrived.entry.now
-        (offer_of arrived.entry) (parts_in partials.old.items) result
-        (parts_in partials.new.items) }
+        (segment_arrived arrived.entry) (parts_of_entries partials.old.items) result
+        (parts_of_entries partials.new.items) }
 {
     let len = arrived.bytes.len();
     if arrived.more && len % 16 != 0 {
@@ -86,8 +86,8 @@ fn offer_among(
     requires { IsTrue (are_distinct key_cmp partials.old.items) }
     ensures distinct { IsTrue (are_distinct key_cmp partials.new.items) }
     ensures offers { OffersAmong slots arrived.entry.now
-        (offer_of arrived.entry)
-        (parts_in partials.old.items) result (parts_in partials.new.items) }
+        (segment_arrived arrived.entry)
+        (parts_of_entries partials.old.items) result (parts_of_entries partials.new.items) }
 {
     match position(partials, &arrived.key) {
         Some(i) => offer_at(partials, alloc, i, arrived),
@@ -112,8 +112,8 @@ fn offer_at(
     requires there { StandsAt arrived.key partials.old.items (Some i) }
     ensures distinct { IsTrue (are_distinct key_cmp partials.new.items) }
     ensures offers { (slots : ℕ) → OffersAmong slots arrived.entry.now
-        (offer_of arrived.entry)
-        (parts_in partials.old.items) result (parts_in partials.new.items) }
+        (segment_arrived arrived.entry)
+        (parts_of_entries partials.old.items) result (parts_of_entries partials.new.items) }
 {
     if contradicts(partials, i, arrived) {
         drop_key(partials, &arrived.key);
@@ -127,8 +127,8 @@ fn offer_at(
 fn contradicts(partials: &[Partial], i: usize, arrived: Arrived<'_>) -> bool
     requires distinct { IsTrue (are_distinct key_cmp partials.now) }
     requires there { StandsAt arrived.key partials.now (Some i) }
-    ensures { result ≡ conflicts (part_under (parts_in partials.now) arrived.entry.key)
-        (offer_of arrived.entry) }
+    ensures { result ≡ conflicts (part_under (parts_of_entries partials.now) arrived.entry.key)
+        (segment_arrived arrived.entry) }
 {
     let partial = &partials[i];
     partial.contradicts(arrived.offset, arrived.more, arrived.bytes)
@@ -143,16 +143,16 @@ fn accept_at(
 ) -> Result<Offered, AllocError>
     requires distinct { IsTrue (are_distinct key_cmp partials.old.items) }
     requires there { StandsAt arrived.key partials.old.items (Some i) }
-    requires fits { conflicts (part_under (parts_in partials.old.items) arrived.key)
-        (offer_of arrived) ≡ false }
+    requires fits { conflicts (part_under (parts_of_entries partials.old.items) arrived.key)
+        (segment_arrived arrived) ≡ false }
     ensures distinct { IsTrue (are_distinct key_cmp partials.new.items) }
-    ensures ok { OnOk result (parts_in partials.new.items
-        ≡ map.insert (parts_in partials.old.items) arrived.entry.key
-        (with_offer (part_under (parts_in partials.old.items) arrived.entry.key) arrived.entry.now
-        (offer_of arrived.entry))) }
+    ensures ok { OnOk result (parts_of_entries partials.new.items
+        ≡ map.insert (parts_of_entries partials.old.items) arrived.entry.key
+        (with_offer (part_under (parts_of_entries partials.old.items) arrived.entry.key) arrived.entry.now
+        (segment_arrived arrived.entry))) }
     ensures offered { IfOk result (λ offered. offered
-        ≡ offered_as (with_offer (part_under (parts_in partials.old.items) arrived.entry.key)
-        arrived.entry.now (offer_of arrived.entry))) }
+        ≡ part_or_whole (with_offer (part_under (parts_of_entries partials.old.items) arrived.entry.key)
+        arrived.entry.now (segment_arrived arrived.entry))) }
     ensures err { OnErr result (partials.new.items ≡ partials.old.items) }
 {
     let partial = &mut partials[i];
@@ -168,12 +168,12 @@ fn offer_new(
     requires distinct { IsTrue (are_distinct key_cmp partials.old.items) }
     requires new { StandsAt arrived.key partials.old.items None }
     ensures distinct { IsTrue (are_distinct key_cmp partials.new.items) }
-    ensures ok { OnOk result (parts_in partials.new.items
-        ≡ map.insert (parts_in partials.old.items) arrived.entry.key
+    ensures ok { OnOk result (parts_of_entries partials.new.items
+        ≡ map.insert (parts_of_entries partials.old.items) arrived.entry.key
         (with_offer no_part arrived.entry.now
-        (offer_of arrived.entry))) }
-    ensures offered { IfOk result (λ offered. offered ≡ offered_as (with_offer no_part arrived.entry.now
-        (offer_of arrived.entry))) }
+        (segment_arrived arrived.entry))) }
+    ensures offered { IfOk result (λ offered. offered ≡ part_or_whole (with_offer no_part arrived.entry.now
+        (segment_arrived arrived.entry))) }
     ensures err { OnErr result (partials.new.items ≡ partials.old.items) }
 {
     let mut partial = Partial::new(alloc, arrived.key);
@@ -184,16 +184,16 @@ fn offer_new(
 
 /// Keeps a segment that contradicts nothing, and tells what it made of the message.
 fn accept(partial: &mut Partial, alloc: Global, arrived: Arrived<'_>) -> Result<Offered, AllocError>
-    requires { conflicts partial.old.1 (offer_of arrived) ≡ false }
+    requires { conflicts partial.old.1 (segment_arrived arrived) ≡ false }
     ensures key { partial.new.0 ≡ partial.old.0 }
     ensures ok { OnOk result (partial.new
         ≡ (
           partial.old.0,
           with_offer partial.old.1 arrived.entry.now
-              (offer_of arrived.entry),
+              (segment_arrived arrived.entry),
         )) }
-    ensures offered { IfOk result (λ offered. offered ≡ offered_as (with_offer partial.old.1
-        arrived.entry.now (offer_of arrived.entry))) }
+    ensures offered { IfOk result (λ offered. offered ≡ part_or_whole (with_offer partial.old.1
+        arrived.entry.now (segment_arrived arrived.entry))) }
     ensures err { OnErr result (partial.new ≡ partial.old) }
 {
     partial.accept(
@@ -219,13 +219,13 @@ pub(crate) fn take_from(
     requires { IsTrue (are_distinct key_cmp partials.old.items) }
     ensures distinct { IsTrue (are_distinct key_cmp partials.new.items) }
     ensures taken { IfOk result (λ taken.
-        taken ≡ is_some (message_at (parts_in partials.old.items) key.now)) }
+        taken ≡ is_some (message_at (parts_of_entries partials.old.items) key.now)) }
     ensures bytes { OnOk result (bytes.new.items ≡ bytes.old.items
-        ++ unwrap_or (message_at (parts_in partials.old.items) key.now) []) }
-    ensures parts { OnOk result (parts_in partials.new.items
-        ≡ parts_less (parts_in partials.old.items) key.now) }
+        ++ unwrap_or (message_at (parts_of_entries partials.old.items) key.now) []) }
+    ensures parts { OnOk result (parts_of_entries partials.new.items
+        ≡ parts_less (parts_of_entries partials.old.items) key.now) }
     ensures wanting { OnErr result
-        (is_some (message_at (parts_in partials.old.items) key.now) ≡ true) }
+        (is_some (message_at (parts_of_entries partials.old.items) key.now) ≡ true) }
     ensures err { OnErr result
         ((partials.new.items ≡ partials.old.items) × (bytes.new.items ≡ bytes.old.items)) }
 {
@@ -244,10 +244,10 @@ fn append_whole(
 ) -> Result<bool, AllocError>
     requires { IsTrue (are_distinct key_cmp partials.now) }
     ensures taken { IfOk result (λ taken.
-        taken ≡ is_some (message_at (parts_in partials.now) key.now)) }
+        taken ≡ is_some (message_at (parts_of_entries partials.now) key.now)) }
     ensures bytes { OnOk result (bytes.new.items ≡ bytes.old.items
-        ++ unwrap_or (message_at (parts_in partials.now) key.now) []) }
-    ensures wanting { OnErr result (is_some (message_at (parts_in partials.now) key.now) ≡ true) }
+        ++ unwrap_or (message_at (parts_of_entries partials.now) key.now) []) }
+    ensures wanting { OnErr result (is_some (message_at (parts_of_entries partials.now) key.now) ≡ true) }
     ensures err { OnErr result (bytes.new.items ≡ bytes.old.items) }
 {
     let Some(i) = position(partials, key) else {

@@ -1,6 +1,6 @@
 //! One segment (SOME/IP Protocol, "SOME/IP-TP header").
 ghost use Rattle.std.specs.Prelude.{◌≡◌, ◌<◌, ◌+◌, ◌%◌, ◌^◌, length, IfOk};
-ghost use Rattle.someip_tp.specs.Words.{reads_segment, segment_in, view_read};
+ghost use Rattle.someip_tp.specs.Words.{reads_segment, segment_in, view_read_segment};
 
 use crate::error::TpError;
 use someip_wire::Header;
@@ -66,7 +66,7 @@ impl Segment<'_> {
 pub fn read_segment(payload: &[u8]) -> Result<(u32, bool, &[u8]), TpError>
     ensures read { reads_segment payload.now result }
     // The same as a function of the payload.
-    ensures exact { view_read result ≡ segment_in payload.now }
+    ensures exact { view_read_segment result ≡ segment_in payload.now }
     // So it may be offered to a `Reassembly`.
     ensures aligned { IfOk result (λ (offset, more, slice). offset % 16 ≡ 0) }
 {

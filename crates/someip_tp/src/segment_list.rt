@@ -27,14 +27,14 @@ impl Model for SegmentList {
     ghost use Rattle.std.specs.Prelude.{IsTrue};
     ghost use Rattle.someip_tables.specs.Distinct.{are_distinct};
     ghost use Rattle.someip_tp.specs.Keys.{key_cmp};
-    ghost use Rattle.someip_tp.specs.Stores.{Store, coded_store, parts_in};
+    ghost use Rattle.someip_tp.specs.Stores.{Store, coded_store, parts_of_entries};
 
     ghost Value = { Store };
 
     ghost coded = { coded_store };
 
     ghost view = { λ s. record {
-      parts = parts_in s.partials.items;
+      parts = parts_of_entries s.partials.items;
       limits = record { slots = s.slots; limit = s.limit; timeout = s.timeout };
     } };
 

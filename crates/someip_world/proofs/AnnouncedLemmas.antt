@@ -13,7 +13,7 @@ use Rattle.sd_wire.specs.declared.entry.ServiceEntry.{ServiceEntry}
 use Rattle.sd_wire.specs.Endpoints.{first_udp_endpoint, options_of}
 use Rattle.sd_wire.specs.Program.{reading}
 use Rattle.sd_wire.specs.Splitting.{FitsDatagram}
-use Rattle.sd_wire.specs.Values.{EntryValue, MessageValue, ReadValue, SdValue, good}
+use Rattle.sd_wire.specs.Values.{EntryValue, SdMessageValue, ReadValue, SdValue, good}
 use Rattle.sd_wire.specs.Writing.{EntryFits, WritesSd, as_read}
 use Rattle.sd_wire.proofs.EncodingLemmas.{written_bytes}
 use Rattle.sd_wire.proofs.FrontLemmas.{fits_with}
@@ -55,7 +55,7 @@ no_discovery p m session v is fits ne has = undiscovered p m session v is fits (
 -- ---- the entries that were announced
 
 module _ (stamp : Stamp) (entries : List EntryValue) (numbered : stamp.session < 2 ^ 16) (all : AllByRecursion EntryFits entries) (front : FitsDatagram entries) where
-  abbrev m : MessageValue
+  abbrev m : SdMessageValue
   m = record { flags = record { reboot = stamp.reboot; unicast = true }; entries = entries }
 
   text : (t : List ℕ) × WritesSd m t × (length t ≤ 1400)

@@ -1,6 +1,6 @@
 use Rattle.std.proofs.Common.{◌≡◌, ℕ, List, rules}
 use Rattle.sd_wire.specs.Fields.{flags_byte}
-use Rattle.sd_wire.specs.Values.{MessageValue, view_message}
+use Rattle.sd_wire.specs.Values.{SdMessageValue, view_message}
 use Rattle.sd_wire.specs.Spelling.{sd_bytes}
 use Rattle.sd_wire.specs.Writing.{WritesSd, pool_bytes}
 use Rattle.sd_wire.proofs.WriteLemmas.{written_holds}
@@ -8,7 +8,7 @@ use Rattle.sd_wire.proofs.writing.text_of.Goals as goal
 
 pub returns-clause-holds : goal.returns-clause-holds
 returns-clause-holds c =
-    let m : MessageValue = view_message c.args.message.now in
+    let m : SdMessageValue = view_message c.args.message.now in
     let packed = c.in_ok-entries.ensures in
     let pooled = c.in_ok-options.ensures in
     let text : List ℕ = c.put_part-2.new.out.items in

@@ -3,7 +3,7 @@ use Rattle.std.proofs.lemmas.Result.{err_from_is_err_and}
 use Rattle.sd_wire.specs.declared.error.SdError.{SdError}
 use Rattle.sd_wire.specs.declared.error.SdError.TheVariants as errors
 use Rattle.sd_wire.specs.declared.error.SdError.TheVariants.{OutOfMemory, TooManyOptions}
-use Rattle.sd_wire.specs.Values.{MessageValue, view_message}
+use Rattle.sd_wire.specs.Values.{SdMessageValue, view_message}
 use Rattle.sd_wire.specs.Writing.{WritesSd, TooMany, IsWriteError}
 use Rattle.sd_wire.specs.Written.{Refuses, HasNoBytes}
 use Rattle.sd_wire.specs.Encoding.{message_bytes}
@@ -12,7 +12,7 @@ use Rattle.sd_wire.proofs.EncodingLemmas.{written_bytes, refused_bytes}
 use Rattle.sd_wire.proofs.FrontLemmas.{fits_with}
 use Rattle.sd_wire.proofs.writing.write_sd.Goals as goal
 
-only_memory : (m : MessageValue) (text : List ℕ) (e : SdError) → WritesSd m text → IsWriteError m e → e ≡ OutOfMemory
+only_memory : (m : SdMessageValue) (text : List ℕ) (e : SdError) → WritesSd m text → IsWriteError m e → e ≡ OutOfMemory
 only_memory m text errors.OutOfMemory w is = refl
 only_memory m text (errors.TooManyOptions k) w is = absurd (written_not_refused m text k w is)
 only_memory m text (errors.Truncated p) w is = absurd is
@@ -21,7 +21,7 @@ only_memory m text (errors.UnknownEntryType p) w is = absurd is
 only_memory m text (errors.OptionLength p) w is = absurd is
 only_memory m text (errors.TrailingBytes p) w is = absurd is
 
-named : (m : MessageValue) (k : ℕ) (e : SdError) → TooMany m.entries k → IsWriteError m e → Refuses k (Err e)
+named : (m : SdMessageValue) (k : ℕ) (e : SdError) → TooMany m.entries k → IsWriteError m e → Refuses k (Err e)
 named m k errors.OutOfMemory t is = tt
 named m k (errors.TooManyOptions n) t is = ap TooManyOptions (one_refused m.entries n k is t)
 named m k (errors.Truncated p) t is = absurd is
@@ -30,7 +30,7 @@ named m k (errors.UnknownEntryType p) t is = absurd is
 named m k (errors.OptionLength p) t is = absurd is
 named m k (errors.TrailingBytes p) t is = absurd is
 
-none : (m : MessageValue) (e : SdError) → IsWriteError m e → HasNoBytes e (message_bytes m)
+none : (m : SdMessageValue) (e : SdError) → IsWriteError m e → HasNoBytes e (message_bytes m)
 none m errors.OutOfMemory is = tt
 none m (errors.TooManyOptions k) is = refused_bytes m k is
 none m (errors.Truncated p) is = absurd is
@@ -46,7 +46,7 @@ returns-in_err-text-clause-none c =
 
 pub returns-in_err-text-clause-fits : goal.returns-in_err-text-clause-fits
 returns-in_err-text-clause-fits c = λ fits.
-    let m : MessageValue = view_message c.args.message.now in
+    let m : SdMessageValue = view_message c.args.message.now in
     let p = err_from_is_err_and c.from_residual.result c.from_residual.ensures.1 in
     let text = fits_with m.flags m.entries fits in
     rw (p.1, p.2) (only_memory m text.0 c.in_err-text.field-0.0 text.1 c.in_err-text.ensures.refused)

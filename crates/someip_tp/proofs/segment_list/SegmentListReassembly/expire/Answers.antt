@@ -1,6 +1,6 @@
 use Rattle.std.proofs.Common.{sym, ap, subst, ◌∙◌}
 use Rattle.someip_tp.specs.Parts.{Limits, NoneAfter, parts_at}
-use Rattle.someip_tp.specs.Stores.{parts_in}
+use Rattle.someip_tp.specs.Stores.{parts_of_entries}
 use Rattle.someip_tp.proofs.MomentLemmas.{none_after-parts_at}
 use Rattle.someip_tp.proofs.StoreLemmas.{left_distinct, left_parts}
 use Rattle.someip_tp.proofs.segment_list.SegmentListReassembly.expire.Goals as goal
@@ -11,7 +11,7 @@ invariant_of-self c = rw c.drop_gone.ensures (left_distinct c.self.inside.timeou
 pub returns-clause-parts : goal.returns-clause-parts
 returns-clause-parts c =
     let limits : Limits = record { slots = c.self.inside.slots; limit = c.self.inside.limit; timeout = c.self.inside.timeout } in
-    ap parts_in c.drop_gone.ensures ∙ (left_parts limits c.args.now c.self.inside.partials.items c.self.invariant ∙ ap (λ s. parts_at s.limits c.args.now s.parts) c.self.view_is)
+    ap parts_of_entries c.drop_gone.ensures ∙ (left_parts limits c.args.now c.self.inside.partials.items c.self.invariant ∙ ap (λ s. parts_at s.limits c.args.now s.parts) c.self.view_is)
 
 pub returns-clause-moments : goal.returns-clause-moments
 returns-clause-moments c = λ at none. subst (NoneAfter at) (sym (returns-clause-parts c)) (none_after-parts_at at c.args.self.now.limits c.args.now c.args.self.now.parts none)
