@@ -12,7 +12,7 @@ use Rattle.std.specs.FinMap.{FinMap, IsAntisymmetric, get, insert, entries, get-
 use Rattle.someip_tables.specs.Tables.{map_of}
 use Rattle.someip_tables.proofs.Entries.{same_by_test}
 use Rattle.someip_tables.proofs.Trees.{map_of-insert}
-use Rattle.sd_core.specs.Changed.{changed, changed_at}
+use Rattle.sd_core.specs.Changed.{each_changed, changed_at}
 use Rattle.sd_core.proofs.ShownLemmas.{get-mapped}
 
 -- a closure that always answers true and writes g of each key and value, and stays as it was
@@ -26,11 +26,11 @@ map_keyed_pairs T g f h (e ∷ es) kept r =
     r.6 ∙ ap (λ b. cond b ((e.0, r.1) ∷ r.3) r.3) a.0 ∙ (λ i. (e.0, a.1 i) ∷ rest i)
 
 module _ {K X : Type 0} {R : K → K → Ordering} (o : IsTotalOrder R) (exact : IsAntisymmetric R) where
-  pub get-changed : (g : K → X → X) (m : FinMap R X) (q : K) → get (changed g m) q ≡ option_map (g q) (get m q)
+  pub get-changed : (g : K → X → X) (m : FinMap R X) (q : K) → get (each_changed g m) q ≡ option_map (g q) (get m q)
   get-changed g m q = get-mapped o exact g (entries m) q ∙ ap (option_map (g q)) (get-from_entries o (entries m) q ∙ sym (get-entries m q))
 
   -- a list of entries is changed
-  pub changed-entries : (g : K → X → X) (old new : List (K × X)) → new ≡ map (λ e. (e.0, g e.0 e.1)) old → map_of R new ≡ changed g (map_of R old)
+  pub changed-entries : (g : K → X → X) (old new : List (K × X)) → new ≡ map (λ e. (e.0, g e.0 e.1)) old → map_of R new ≡ each_changed g (map_of R old)
   changed-entries g old new is =
       ap (map_of R) is
       ∙ same_map o exact _ _ (λ q. get-mapped o exact g old q ∙ sym (get-changed g (map_of R old) q))

@@ -18,7 +18,7 @@ use Rattle.sd_core.specs.declared.sending.Sending.{Sending}
 use Rattle.sd_core.specs.declared.offers.Place.{Place}
 use Rattle.sd_core.specs.Keys.{instance_cmp}
 use Rattle.sd_core.specs.KeyOrder.{instances_total, exact_instances}
-use Rattle.sd_core.specs.Shown.{shown, each}
+use Rattle.sd_core.specs.Shown.{shown, map_values}
 use Rattle.sd_core.specs.Sendings.{is_due, has_sent, sent_if_due, due_at}
 use Rattle.sd_core.specs.OfferTables.{offers_of, started_at, after_tick, without, answering, is_sought}
 use Rattle.sd_core.proofs.ShownLemmas.{get-shown, shown-mapped, shown-mapped_same, shown-insert, shown-insert_none, shown-empty, keys-shown, none-shown}
@@ -103,7 +103,7 @@ insert_same {X = X} m k x some = finite.same_map instances_total exact_instances
 pub absent_without : (held : BTreeMap InstanceId Place) (k : InstanceId) → tree.get instance_cmp held k ≡ None
     → offers_of (map_of instance_cmp held.entries) ≡ without k (offers_of (map_of instance_cmp held.entries))
 absent_without held k none = λ i. record {
-  versions = each (λ p. p.version) (map_of instance_cmp held.entries);
+  versions = map_values (λ p. p.version) (map_of instance_cmp held.entries);
   up = remove_absent (shown (λ p. p.sending) (map_of instance_cmp held.entries)) k (sending_is held k None (sym none)) i;
 }
 
@@ -113,7 +113,7 @@ pub taken_down : (old new : BTreeMap InstanceId Place) (k : InstanceId) (place :
 taken_down old new k place found is =
     put_down old.entries new.entries k place.version is
     ∙ (λ i. record {
-      versions = insert_same (each (λ p. p.version) (map_of instance_cmp old.entries)) k place.version (version_is old k (Some place) found) i;
+      versions = insert_same (map_values (λ p. p.version) (map_of instance_cmp old.entries)) k place.version (version_is old k (Some place) found) i;
       up = finite.remove (offers_of (map_of instance_cmp old.entries)).up k;
     })
 

@@ -12,7 +12,7 @@ use Rattle.sd_core.specs.declared.phases.Phases.{Phases}
 use Rattle.sd_core.specs.declared.sending.Sending.{Sending}
 use Rattle.sd_core.specs.declared.offers.Place.{Place}
 use Rattle.sd_core.specs.Keys.{instance_cmp, coded_instance}
-use Rattle.sd_core.specs.Shown.{shown, each}
+use Rattle.sd_core.specs.Shown.{shown, map_values}
 use Rattle.sd_core.specs.Sendings.{first_at, has_sent, sent_if_due, coded_sending}
 
 -- the versions of the instances that a node may offer, and when each that is up sends its next Offer
@@ -22,18 +22,18 @@ pub record OfferTable : Type 0 where
 
 -- what the places of the instances show
 abbrev pub offers_of : FinMap instance_cmp Place → OfferTable
-offers_of places = record { versions = each (λ p. p.version) places; up = shown (λ p. p.sending) places }
+offers_of places = record { versions = map_values (λ p. p.version) places; up = shown (λ p. p.sending) places }
 
 -- every instance is up, and sends its first Offer after a delay
 abbrev pub started_at : Sending → OfferTable → OfferTable
-started_at first offers = record { versions = offers.versions; up = each (λ _. first) offers.versions }
+started_at first offers = record { versions = offers.versions; up = map_values (λ _. first) offers.versions }
 
 abbrev pub started : ℕ → OfferTable → OfferTable
 started delay offers = started_at (first_at delay) offers
 
 -- the Offers that are due went out
 abbrev pub after_tick : Phases → ℕ → OfferTable → OfferTable
-after_tick phases now offers = record { versions = offers.versions; up = each (sent_if_due phases now) offers.up }
+after_tick phases now offers = record { versions = offers.versions; up = map_values (sent_if_due phases now) offers.up }
 
 -- an instance is down
 abbrev pub without : InstanceId → OfferTable → OfferTable

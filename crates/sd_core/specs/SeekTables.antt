@@ -23,7 +23,7 @@ use Rattle.sd_core.specs.declared.received.Uncounted.TheVariants.{Unwanted, NoEn
 use Rattle.sd_core.specs.declared.sending.Sending.{Sending}
 use Rattle.sd_core.specs.declared.want.Want.{Want}
 use Rattle.sd_core.specs.Keys.{instance_cmp, coded_instance}
-use Rattle.sd_core.specs.Shown.{shown, each}
+use Rattle.sd_core.specs.Shown.{shown, map_values}
 use Rattle.sd_core.specs.Sendings.{first_at, after_find, due_at, coded_sending}
 
 -- the major versions in which instances are wanted, the offers that are known of them and until when, and when each
@@ -36,14 +36,14 @@ pub record SeekTable : Type 0 where
 -- what the wants show
 abbrev pub seek_of : FinMap instance_cmp Want → SeekTable
 seek_of wants = record {
-  wanted = each (λ w. w.major) wants;
+  wanted = map_values (λ w. w.major) wants;
   known = shown (λ w. w.known) wants;
   finding = shown (λ w. w.finding) wants;
 }
 
 -- nothing is known, and every wanted instance is searched for and sends this as its first Find
 abbrev pub searching_from : Sending → SeekTable → SeekTable
-searching_from first table = record { wanted = table.wanted; known = finite.empty; finding = each (λ _. first) table.wanted }
+searching_from first table = record { wanted = table.wanted; known = finite.empty; finding = map_values (λ _. first) table.wanted }
 
 abbrev pub searching : ℕ → SeekTable → SeekTable
 searching delay table = searching_from (first_at delay) table

@@ -19,5 +19,5 @@ abbrev pub shown : {K X Y : Type 0} {R : K → K → Ordering} → (X → Option
 shown {R = R} f m = finite.from_entries {R = R} (shown_of f (finite.entries m))
 
 -- the map with f of each value
-abbrev pub each : {K X Y : Type 0} {R : K → K → Ordering} → (X → Y) → FinMap R X → FinMap R Y
-each f m = shown (λ x. Some (f x)) m
+abbrev pub map_values : {K X Y : Type 0} {R : K → K → Ordering} → (X → Y) → FinMap R X → FinMap R Y
+map_values f m = shown (λ x. Some (f x)) m

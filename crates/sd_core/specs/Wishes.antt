@@ -23,7 +23,7 @@ use Rattle.sd_core.specs.declared.wish.Acked.{Acked}
 use Rattle.sd_core.specs.declared.wish.Acked.TheVariants.{Subscribed, Renewed, NotPending}
 use Rattle.sd_core.specs.Keys.{instance_cmp}
 use Rattle.sd_core.specs.Eventgroups.{eventgroup_cmp, coded_eventgroup}
-use Rattle.sd_core.specs.Changed.{changed}
+use Rattle.sd_core.specs.Changed.{each_changed}
 
 -- the eventgroups that were wished, and how far each wish is
 abbrev pub Wishes : Type 0
@@ -103,9 +103,9 @@ counter_in Waiting = None
 counter_in (Begun beginning) = Some beginning.counter
 
 -- an eventgroup is wished, while an offer of a peer is known or while none is
-abbrev pub wanted : ℕ → Option Ipv4Addr → Wish → Wish
-wanted now None wish = wished wish
-wanted now (Some peer) wish = subscribing now peer wish
+abbrev pub wished_with : ℕ → Option Ipv4Addr → Wish → Wish
+wished_with now None wish = wished wish
+wished_with now (Some peer) wish = subscribing now peer wish
 
 -- the counter of the Subscribe that goes out at once, if an offer is known
 abbrev pub sent_at_once : ℕ → Option Ipv4Addr → Wish → Option ℕ
@@ -122,7 +122,7 @@ offered_wish now instance peer eventgroup wish = if is_renewed_by instance event
 
 -- each wished eventgroup of the instance sends a Subscribe to the peer
 abbrev pub offered : ℕ → InstanceId → Ipv4Addr → Wishes → Wishes
-offered now instance peer wishes = changed (offered_wish now instance peer) wishes
+offered now instance peer wishes = each_changed (offered_wish now instance peer) wishes
 
 -- the Subscribe of an eventgroup
 abbrev pub subscribe_of : ℕ → InstanceId → Ipv4Addr → Eventgroup → Wish → Option OutgoingSubscribe
@@ -174,7 +174,7 @@ abbrev pub ended_wish : (Beginning → Bool) → Wish → Wish
 ended_wish test wish = if has_begun test wish.stage then record wish { stage = Waiting } else wish
 
 abbrev pub ended_where : (Eventgroup → Beginning → Bool) → Wishes → Wishes
-ended_where test wishes = changed (λ eventgroup wish. ended_wish (test eventgroup) wish) wishes
+ended_where test wishes = each_changed (λ eventgroup wish. ended_wish (test eventgroup) wish) wishes
 
 -- ---- codes, by which a proof tells values apart
 

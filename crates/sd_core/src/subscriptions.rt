@@ -7,7 +7,7 @@ ghost use Rattle.someip_tables.specs.Tables.{map_of};
 ghost use Rattle.sd_core.specs.Keys.{instance_cmp};
 ghost use Rattle.sd_core.specs.Eventgroups.{eventgroup_cmp};
 ghost use Rattle.sd_core.specs.Changed.{changed_at};
-ghost use Rattle.sd_core.specs.Wishes.{wish_of, wanted, sent_at_once, standing, unwished};
+ghost use Rattle.sd_core.specs.Wishes.{wish_of, wished_with, sent_at_once, standing, unwished};
 ghost use Rattle.sd_core.specs.Wishes.{offered, subscribes, acked_wish, nacked_wish, told_by_ack};
 ghost use Rattle.sd_core.specs.Wishes.{is_answered, is_subscribed, begun_where, ended_where};
 ghost use Rattle.sd_core.specs.Endings.{ends_at};
@@ -85,7 +85,7 @@ impl Subscriptions {
         ensures sent { IfOk result (λ sent. sent
             ≡ sent_at_once now peer (wish_of (finite.get self.old eventgroup))) }
         ensures wished { OnOk result (self.new ≡ finite.insert self.old eventgroup
-            (wanted now peer (wish_of (finite.get self.old eventgroup)))) }
+            (wished_with now peer (wish_of (finite.get self.old eventgroup)))) }
         ensures err { OnErr result (self.new ≡ self.old) }
         ensures grows { OnErr result (finite.get self.old eventgroup ≡ None) }
     {

@@ -192,7 +192,7 @@ impl Wish {
     ghost use Rattle.std.specs.Prelude.{◌≡◌};
     ghost use Rattle.sd_core.specs.Wishes.{acked_wish, begun_at, first_wish, nacked_wish};
     ghost use Rattle.sd_core.specs.Wishes.{is_renewed_by, offered_wish, subscribe_of, subscribing};
-    ghost use Rattle.sd_core.specs.Wishes.{unwished, wanted, wished};
+    ghost use Rattle.sd_core.specs.Wishes.{unwished, wished_with, wished};
 
     /// The eventgroup was never wished.
     pub(crate) fn first() -> Wish
@@ -216,7 +216,7 @@ impl Wish {
 
     /// The wish stands from now on, while an offer of a peer is known or while none is.
     pub(crate) fn wanted(&self, now: Moment, peer: Option<Ipv4Addr>) -> Wish
-        ensures { result ≡ wanted now peer self.now }
+        ensures { result ≡ wished_with now peer self.now }
     {
         match peer {
             Some(peer) => self.subscribing(now, peer),

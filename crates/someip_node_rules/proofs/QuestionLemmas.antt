@@ -12,7 +12,7 @@ use Rattle.someip_tables.specs.Lastings.{unless_passed, unexpired}
 use Rattle.someip_tables.specs.Retained.{kept_if, retain}
 use Rattle.someip_tables.proofs.Entries.{same_by_test, get-retain}
 use Rattle.someip_tables.proofs.Expiry.{get-unexpired, passed_later}
-use Rattle.sd_core.specs.Changed.{changed}
+use Rattle.sd_core.specs.Changed.{each_changed}
 use Rattle.sd_core.specs.Shown.{shown}
 use Rattle.sd_core.proofs.ChangedLemmas.{get-changed}
 use Rattle.sd_core.proofs.ShownLemmas.{get-shown}
@@ -108,7 +108,7 @@ module _ {K V : Type 0} {R : K → K → Ordering} (o : IsTotalOrder R) (exact :
 
   -- that values change by their keys
   pub table-changed : (keys : List K) (old new : K → Option V) (g : K → V → V) → ((q : K) → new q ≡ option_map (g q) (old q))
-      → table_of {R = R} keys new ≡ changed g (table_of keys old)
+      → table_of {R = R} keys new ≡ each_changed g (table_of keys old)
   table-changed keys old new g is =
       same_map o exact _ _ (λ q.
       get-table_of keys new q ∙ ap (λ x. cond (list_any (eq_by_cmp R q) keys) x None) (is q) ∙ cases q (list_any (eq_by_cmp R q) keys)

@@ -10,7 +10,7 @@ use Rattle.sd_core.specs.declared.sending.Sending.{Sending}
 use Rattle.sd_core.specs.KeyOrder.{instances_total, exact_instances}
 use Rattle.sd_core.specs.Keys.{instance_cmp}
 use Rattle.sd_core.specs.Sendings.{first_at}
-use Rattle.sd_core.specs.Shown.{each}
+use Rattle.sd_core.specs.Shown.{map_values}
 use Rattle.sd_core.proofs.ShownLemmas.{get-shown}
 use Rattle.someip_tables.specs.Tables.{map_of}
 use Rattle.someip_node_rules.specs.declared.config.Config.{Config}
@@ -38,7 +38,7 @@ module _ {A B : Type 0} (f : A → B) (first : Sending) where
       cases false rest = rest
 
   table-first : (es : List (InstanceId × A))
-      → table_of {R = instance_cmp} (map (λ e. e.0) es) (λ _. Some first) ≡ each (λ _. first) (map_of instance_cmp (map (λ e. (e.0, f e.1)) es))
+      → table_of {R = instance_cmp} (map (λ e. e.0) es) (λ _. Some first) ≡ map_values (λ _. first) (map_of instance_cmp (map (λ e. (e.0, f e.1)) es))
   table-first es =
       same_map instances_total exact_instances _ _ (λ q.
       get-table_of instances_total exact_instances (map (λ e. e.0) es) (λ _. Some first) q ∙ sym (find-all q es)

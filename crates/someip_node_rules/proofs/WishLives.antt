@@ -23,13 +23,13 @@ use Rattle.sd_core.specs.declared.wish.Beginning.{Beginning}
 use Rattle.sd_core.specs.declared.wish.Stage.TheVariants.{Begun, Waiting}
 use Rattle.sd_core.specs.declared.wish.SubscribeAnswer.{SubscribeAnswer}
 use Rattle.sd_core.specs.declared.wish.Wish.{Wish}
-use Rattle.sd_core.specs.Changed.{changed, changed_at}
+use Rattle.sd_core.specs.Changed.{each_changed, changed_at}
 use Rattle.sd_core.specs.Endings.{ends_at}
 use Rattle.sd_core.specs.EventgroupOrder.{eventgroups_total, exact_eventgroups}
 use Rattle.sd_core.specs.KeyOrder.{instances_total, exact_instances}
 use Rattle.sd_core.specs.Keys.{instance_cmp}
 use Rattle.sd_core.specs.SeekTables.{known_at, stands_by}
-use Rattle.sd_core.specs.Wishes.{acked_wish, ended_where, ended_wish, is_over, is_with, is_wished, nacked_wish, offered, stands_with, subscribing, unwished, wanted, wish_of, wished}
+use Rattle.sd_core.specs.Wishes.{acked_wish, ended_where, ended_wish, is_over, is_with, is_wished, nacked_wish, offered, stands_with, subscribing, unwished, wished_with, wish_of, wished}
 use Rattle.someip_node_rules.specs.Items.{Item, AckCame, NackCame, OfferCounted, OfferWithdrawn, PeerRebooted, Ticked, Unwished, Wished}
 use Rattle.someip_node_rules.specs.Questions.{clock_at, table_of}
 use Rattle.someip_node_rules.specs.SeekQuestions.{instance_counted, known_in, known_offer_at}
@@ -117,7 +117,7 @@ subscribes_is now peer c = cases c.beginning
     cases (Some x) = at x (stands_with now peer (Begun x))
 
 wanted_is : (now : ℕ) (known : Option Ipv4Addr) (w : Bool) (c : Course) → (w ≡ false → c.beginning ≡ None)
-    → wish_from true (subscribes_if_known now known c) ≡ wanted now known (wish_from w c)
+    → wish_from true (subscribes_if_known now known c) ≡ wished_with now known (wish_from w c)
 wanted_is now None w c unwished = cases w c.beginning unwished
   where
     cases : (w : Bool) (b : Option Beginning) → (w ≡ false → b ≡ None)
@@ -283,7 +283,7 @@ get-wish items q =
 module _ (items : List Item) where
   -- an item changes each wish by its eventgroup
   wishes_changed : (item : Item) (g : Eventgroup → Wish → Wish) → ((q : Eventgroup) → wish_at (item ∷ items) q ≡ g q (wish_at items q))
-      → table_of (flat_map eventgroup_wished items) (λ q. Some (wish_at (item ∷ items) q)) ≡ changed g (wishes_in items)
+      → table_of (flat_map eventgroup_wished items) (λ q. Some (wish_at (item ∷ items) q)) ≡ each_changed g (wishes_in items)
   wishes_changed item g is =
       table-changed eventgroups_total exact_eventgroups (flat_map eventgroup_wished items) (λ q. Some (wish_at items q)) (λ q. Some (wish_at (item ∷ items) q)) g (λ q. ap Some (is q))
 
@@ -338,7 +338,7 @@ module _ (items : List Item) where
 
   pub wishes_wished : (eventgroup : Eventgroup) → wishes_in (Wished eventgroup ∷ items)
       ≡ insert (wishes_in items) eventgroup
-      (wanted (clock_at items) (option_map (λ known. known.peer) (known_at (clock_at items) (get (known_in items) eventgroup.instance))) (wish_of (get (wishes_in items) eventgroup)))
+      (wished_with (clock_at items) (option_map (λ known. known.peer) (known_at (clock_at items) (get (known_in items) eventgroup.instance))) (wish_of (get (wishes_in items) eventgroup)))
   wishes_wished eventgroup =
       table-insert eventgroups_total exact_eventgroups (flat_map eventgroup_wished items) (λ q. Some (wish_at items q)) (λ q. Some (wish_at (Wished eventgroup ∷ items) q))
       eventgroup _ (λ q. at q (same_eventgroup q eventgroup) refl)
@@ -352,14 +352,14 @@ module _ (items : List Item) where
       same_peer : known_peer_at items eventgroup.instance ≡ known
       same_peer = ap (λ v. option_map (λ k. k.peer) (known_at now v)) (sym (get-known items eventgroup.instance))
 
-      own : wish_from true (subscribes_if_known now (known_peer_at items eventgroup.instance) (course_at items eventgroup)) ≡ wanted now known (wish_of (get (wishes_in items) eventgroup))
+      own : wish_from true (subscribes_if_known now (known_peer_at items eventgroup.instance) (course_at items eventgroup)) ≡ wished_with now known (wish_of (get (wishes_in items) eventgroup))
       own =
           wanted_is now (known_peer_at items eventgroup.instance) (is_wished_at items eventgroup) (course_at items eventgroup) (unwished_ended items eventgroup)
-          ∙ ap (λ v. wanted now v (wish_at items eventgroup)) same_peer ∙ ap (wanted now known) (sym (get-wish items eventgroup))
+          ∙ ap (λ v. wished_with now v (wish_at items eventgroup)) same_peer ∙ ap (wished_with now known) (sym (get-wish items eventgroup))
 
       at : (q : Eventgroup) (t : Bool) → same_eventgroup q eventgroup ≡ t
           → Some (wish_from (cond t true (is_wished_at items q)) (cond t (subscribes_if_known now (known_peer_at items eventgroup.instance) (course_at items q)) (course_at items q)))
-          ≡ cond t (Some (wanted now known (wish_of (get (wishes_in items) eventgroup)))) (Some (wish_at items q))
+          ≡ cond t (Some (wished_with now known (wish_of (get (wishes_in items) eventgroup)))) (Some (wish_at items q))
       at q true is =
           ap (λ x. Some (wish_from true (subscribes_if_known now (known_peer_at items eventgroup.instance) (course_at items x)))) (same_by_test exact_eventgroups q eventgroup is)
           ∙ ap Some own

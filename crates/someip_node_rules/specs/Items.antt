@@ -24,7 +24,7 @@ use Rattle.sd_core.specs.Endings.{ends_at}
 use Rattle.sd_core.specs.OfferTables.{after_tick, without}
 use Rattle.sd_core.specs.SeekTables.{seek_after_tick, learned, forgetting}
 use Rattle.sd_core.specs.SubscriberTables.{is_of_instance, is_of_peer, subscribed_until}
-use Rattle.sd_core.specs.Wishes.{acked_wish, ended_where, is_with, nacked_wish, offered, unwished, wanted, wish_of}
+use Rattle.sd_core.specs.Wishes.{acked_wish, ended_where, is_with, nacked_wish, offered, unwished, wished_with, wish_of}
 use Rattle.someip_rpc.specs.declared.call.Call.{Call}
 use Rattle.someip_rpc.specs.declared.ids.CallKey.{CallKey}
 use Rattle.someip_rpc.specs.declared.ids.EventId.{EventId}
@@ -115,7 +115,7 @@ changed t (Published event) = record t {
   server = record t.server { sessions = finite.insert t.server.sessions event (next_of t.server.sessions event) };
 }
 changed t (Wished eventgroup) = record t {
-  wishes = finite.insert t.wishes eventgroup (wanted t.clock (known_peer t eventgroup.instance) (wish_of (finite.get t.wishes eventgroup)));
+  wishes = finite.insert t.wishes eventgroup (wished_with t.clock (known_peer t eventgroup.instance) (wish_of (finite.get t.wishes eventgroup)));
 }
 changed t (Unwished eventgroup) = record t { wishes = changed_at eventgroup unwished t.wishes }
 changed t (OfferStopped instance) = record t {

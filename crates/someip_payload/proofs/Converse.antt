@@ -12,7 +12,7 @@ use Rattle.someip_payload.specs.declared.shape_text.Word.TheVariants as word
 use Rattle.someip_payload.specs.declared.shape_text_error.ShapeTextError.{ShapeTextError}
 use Rattle.someip_payload.specs.declared.shape_text_error.ShapeTextError.TheVariants.{BadShape, OutOfMemory}
 use Rattle.someip_payload.specs.Data.{Form}
-use Rattle.someip_payload.specs.ShapeText.{IsTextOf, bool_text, u8_text, u16_text, u32_text, u64_text, i8_text, i16_text, i32_text, i64_text, utf8_text, utf16_text, array_text, fixed_text, struct_text, union_text, width_text, Stops, IsNoFront, IsReadAs, IsReadTo, IsRepeatedTo}
+use Rattle.someip_payload.specs.ShapeText.{IsTextOf, bool_text, u8_text, u16_text, u32_text, u64_text, i8_text, i16_text, i32_text, i64_text, utf8_text, utf16_text, array_text, fixed_text, struct_text, union_text, width_text, HasNoWidth, IsNoFront, IsReadAs, IsReadTo, IsRepeatedTo}
 use Rattle.someip_payload.specs.View.{form}
 use Rattle.someip_payload.specs.Words.{word_text, Behind}
 
@@ -158,17 +158,17 @@ same_width : (w v : Width) (r s : List ℕ) → width_text (Some w) ++ r ≡ wid
 same_width w v r s is = let both = sym (width_back w r) ∙ ap width_of_text is ∙ width_back v s in cc
 
 -- a width goes on
-goes_on : (v : Width) (others : List ℕ) → Stops (width_text (Some v) ++ others) → ⊥
+goes_on : (v : Width) (others : List ℕ) → HasNoWidth (width_text (Some v) ++ others) → ⊥
 goes_on W8 others stops = stops refl
 goes_on W16 others stops = stops refl
 goes_on W32 others stops = stops refl
 
 -- the width that was read is the one that stands there
-pub width_is : (text : List ℕ) (at end : ℕ) (v : Width) → at ≤ end → end ≤ length text → slice_range text at end ≡ width_text (Some v) → (w : Option Width) (rest : List ℕ) → drop at text ≡ width_text w ++ rest → Stops rest
+pub width_is : (text : List ℕ) (at end : ℕ) (v : Width) → at ≤ end → end ≤ length text → slice_range text at end ≡ width_text (Some v) → (w : Option Width) (rest : List ℕ) → drop at text ≡ width_text w ++ rest → HasNoWidth rest
     → (Some v ≡ w) × (end ≡ at + length (width_text w))
 width_is text at end v le within found None rest is stops =
     let bytes = pieces text (width_text (Some v)) at end le within found in
-    absurd (goes_on v (drop end text) (subst Stops (sym is ∙ bytes) stops))
+    absurd (goes_on v (drop end text) (subst HasNoWidth (sym is ∙ bytes) stops))
 width_is text at end v le within found (Some w) rest is stops =
     let same : v ≡ w = same_width v w (drop end text) rest (sym (pieces text (width_text (Some v)) at end le within found) ∙ is) in
     (ap Some same, piece_end text (width_text (Some v)) at end le within found ∙ ap (λ u. at + length (width_text (Some u))) same)

@@ -10,7 +10,7 @@ use Rattle.someip_payload.specs.declared.shape.Width.{Width}
 use Rattle.someip_payload.specs.declared.shape_text_error.ShapeTextError.{ShapeTextError}
 use Rattle.someip_payload.specs.Check.{depth, deepest, deepest_variant}
 use Rattle.someip_payload.specs.Data.{Form, bool, unsigned, signed, string, array, fixed, «struct», union, Forms, no_forms, form_then, Variants, no_variants, variant}
-use Rattle.someip_payload.specs.ShapeText.{IsTextOf, IsTextOfMembers, last_member, next_member, IsTextOfVariants, last_variant, next_variant, IsDigit, Stops, width_text, or_32, repeated_text}
+use Rattle.someip_payload.specs.ShapeText.{IsTextOf, IsTextOfMembers, last_member, next_member, IsTextOfVariants, last_variant, next_variant, IsDigit, HasNoWidth, width_text, or_32, repeated_text}
 use Rattle.someip_payload.specs.View.{form, forms, all_variants}
 use Rattle.someip_payload.proofs.Members.{before, before-more, before-none, before_variants, before_variants-more, before_variants-none}
 use Rattle.someip_payload.proofs.Converse.{behind_piece}
@@ -49,13 +49,13 @@ union_is ss f vs variants what = let own = form-Union ss in cc
 
 -- ---- what a part begins with
 
-pub stops_repeated : (n : ℕ) (element rest : List ℕ) → Stops (repeated_text n element ++ rest)
+pub stops_repeated : (n : ℕ) (element rest : List ℕ) → HasNoWidth (repeated_text n element ++ rest)
 stops_repeated n element rest = λ e. omega (arith, e)
 
-pub stops_bracket : (inside rest : List ℕ) → Stops ((codes "(" ++ inside) ++ rest)
+pub stops_bracket : (inside rest : List ℕ) → HasNoWidth ((codes "(" ++ inside) ++ rest)
 stops_bracket inside rest = λ e. omega (arith, e)
 
-pub stops_end : (rest : List ℕ) → Stops (codes ">" ++ rest)
+pub stops_end : (rest : List ℕ) → HasNoWidth (codes ">" ++ rest)
 stops_end rest = λ e. omega (arith, e)
 
 pub no_digit_comma : IsDigit 44 → ⊥
@@ -126,7 +126,7 @@ pub record NextMember (text : List ℕ) (at left : ℕ) (fs : Forms) (all rest :
   pub there : drop next text ≡ front ++ tail
   pub is_text : IsTextOf f front
   pub deep : depth f ≤ left
-  pub stops : Stops tail
+  pub stops : HasNoWidth tail
   pub follows : ((tail ≡ 41 ∷ rest) × (fs ≡ before ss (form_then f no_forms)) × (next + length front ≡ at + length all))
       ⊎ ((gs : Forms) × (others : List ℕ) × (tail ≡ 44 ∷ (others ++ (codes ")" ++ rest))) × (fs ≡ before ss (form_then f gs)) × IsTextOfMembers gs others × (deepest gs ≤ left)
       × ((next + length front + 1) + length others ≡ at + length all))
@@ -242,7 +242,7 @@ pub record NextVariant (text : List ℕ) (at left : ℕ) (vs : Variants) (all re
   pub small : number < 2 ^ 32
   pub is_text : IsTextOf f front
   pub deep : depth f ≤ left
-  pub stops : Stops tail
+  pub stops : HasNoWidth tail
   pub follows : ((tail ≡ 41 ∷ rest) × (vs ≡ before_variants ss (variant number f no_variants)) × (next + length (decimal number) + 1 + length front ≡ at + length all))
       ⊎ ((ws : Variants) × (others : List ℕ) × (tail ≡ 44 ∷ (others ++ (codes ")" ++ rest))) × (vs ≡ before_variants ss (variant number f ws)) × IsTextOfVariants ws others × (deepest_variant ws ≤ left)
       × ((next + length (decimal number) + 1 + length front + 1) + length others ≡ at + length all))

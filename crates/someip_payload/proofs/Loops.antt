@@ -7,7 +7,7 @@ use Rattle.someip_payload.specs.declared.error.PayloadError.TheVariants as error
 use Rattle.someip_payload.specs.declared.error.PayloadError.TheVariants.{TooMany, UnknownVariant}
 use Rattle.someip_payload.specs.declared.shape.Shape.{Shape}
 use Rattle.someip_payload.specs.Data.{Data, Items, no_items, item, View}
-use Rattle.someip_payload.specs.View.{form, forms, all_variants, items_of}
+use Rattle.someip_payload.specs.View.{form, forms, all_variants, as_items}
 use Rattle.someip_payload.specs.Steps.{◌>>=◌, Fails}
 use Rattle.someip_payload.specs.Reading.{data_at, items_at, fixed_at, members_at, chosen_at, variant_at}
 use Rattle.someip_payload.proofs.Shapes.{forms-drop, all_variants-drop}
@@ -34,7 +34,7 @@ abbrev pub before : List Data → Items → Items
 before [] others = others
 before (d ∷ ds) others = item d (before ds others)
 
-pub before-none : (ds : List Data) → before ds no_items ≡ items_of ds
+pub before-none : (ds : List Data) → before ds no_items ≡ as_items ds
 before-none [] = refl
 before-none (d ∷ ds) = ap (item d) (before-none ds)
 
@@ -80,13 +80,13 @@ items_too_many one front left w total some none so_far =
     sym so_far ∙ step
 
 pub items_done : (one : Reader) (front : List Data) (left : ℕ) (w : View) (total : Result Items PayloadError) → length w.bytes ≡ 0
-    → items_after front (items_at one left w) ≡ total → total ≡ Ok (items_of front)
+    → items_after front (items_at one left w) ≡ total → total ≡ Ok (as_items front)
 unfolding items_at
 items_done one front zero w total empty so_far =
-    let step : items_after front (items_at one zero w) ≡ Ok (items_of front) = rw (empty, before-none front) refl in
+    let step : items_after front (items_at one zero w) ≡ Ok (as_items front) = rw (empty, before-none front) refl in
     sym so_far ∙ step
 items_done one front (suc left) w total empty so_far =
-    let step : items_after front (items_at one (suc left) w) ≡ Ok (items_of front) = rw (empty, before-none front) refl in
+    let step : items_after front (items_at one (suc left) w) ≡ Ok (as_items front) = rw (empty, before-none front) refl in
     sym so_far ∙ step
 
 -- ---- a fixed number of elements, and members
@@ -112,10 +112,10 @@ fixed_fail e one front left w total h so_far =
     fails_too e (one w) total (λ bad. let step : members_after front (fixed_at one (suc left) w) ≡ Err e = rw bad refl in sym so_far ∙ step) h
 
 pub fixed_done : (one : Reader) (front : List Data) (w : View) (total : Result (Items × View) PayloadError)
-    → members_after front (fixed_at one 0 w) ≡ total → total ≡ Ok (items_of front, w)
+    → members_after front (fixed_at one 0 w) ≡ total → total ≡ Ok (as_items front, w)
 unfolding fixed_at
 fixed_done one front w total so_far =
-    let step : members_after front (fixed_at one 0 w) ≡ Ok (items_of front, w) = rw (before-none front) refl in
+    let step : members_after front (fixed_at one 0 w) ≡ Ok (as_items front, w) = rw (before-none front) refl in
     sym so_far ∙ step
 
 pub members_go_on : (front : List Data) (ss : List Shape) (i : ℕ) (s : Shape) (w : View) (d : Data) (after : View) (total : Result (Items × View) PayloadError) → i < length ss → s ≡ get_or ss i s → data_at (form s) w ≡ Ok (d, after)
@@ -133,10 +133,10 @@ members_fail e front ss i s w total lt at h so_far =
     (λ bad. let step : members_after front (members_at (forms (drop i ss)) w) ≡ Err e = rw (forms-drop ss i s lt, ← at, bad) refl in sym so_far ∙ step) h
 
 pub members_done : (front : List Data) (ss : List Shape) (i : ℕ) (w : View) (total : Result (Items × View) PayloadError) → length ss ≤ i
-    → members_after front (members_at (forms (drop i ss)) w) ≡ total → total ≡ Ok (items_of front, w)
+    → members_after front (members_at (forms (drop i ss)) w) ≡ total → total ≡ Ok (as_items front, w)
 unfolding members_at
 members_done front ss i w total le so_far =
-    let step : members_after front (members_at (forms (drop i ss)) w) ≡ Ok (items_of front, w) = rw (drop_all i ss le, before-none front) refl in
+    let step : members_after front (members_at (forms (drop i ss)) w) ≡ Ok (as_items front, w) = rw (drop_all i ss le, before-none front) refl in
     sym so_far ∙ step
 
 pub fixed_more : (one : Reader) (front : List Data) (count k : ℕ) (w : View) (d : Data) (after : View) (total : Result (Items × View) PayloadError) → k < count → one w ≡ Ok (d, after)
@@ -152,7 +152,7 @@ fixed_bad e one front count k w total lt h so_far =
     fixed_fail e one front (count - (k + 1)) w total h (rw step at so_far)
 
 pub fixed_end : (one : Reader) (front : List Data) (count k : ℕ) (w : View) (total : Result (Items × View) PayloadError) → count ≤ k
-    → members_after front (fixed_at one (count - k) w) ≡ total → total ≡ Ok (items_of front, w)
+    → members_after front (fixed_at one (count - k) w) ≡ total → total ≡ Ok (as_items front, w)
 fixed_end one front count k w total le so_far =
     let step : count - k ≡ 0 = omega arith in
     fixed_done one front w total (rw step at so_far)

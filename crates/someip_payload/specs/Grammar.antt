@@ -32,12 +32,12 @@ size_of W32 = S32
 abbrev pub number : Size → ℕ → List ℕ
 number size n = to_be_bytes (width_of size) n
 
-abbrev pub length_field : Width → ℕ → List ℕ
-length_field width n = number (size_of width) n
+abbrev pub length_bytes : Width → ℕ → List ℕ
+length_bytes width n = number (size_of width) n
 
 -- a body after its length
 abbrev pub framed : Width → List ℕ → List ℕ
-framed width body = length_field width (length body) ++ body
+framed width body = length_bytes width (length body) ++ body
 
 -- a body after its length and a type number
 abbrev pub tagged : ℕ → List ℕ → List ℕ

@@ -68,9 +68,9 @@ abbrev pub IsDigit : ℕ → Type 0
 IsDigit b = (48 ≤ b) × (b < 58)
 
 -- no width goes on here: the text does not begin with a slash
-abbrev pub Stops : List ℕ → Type 0
-Stops [] = ⊤
-Stops (b ∷ rest) = b ≡ 47 → ⊥
+abbrev pub HasNoWidth : List ℕ → Type 0
+HasNoWidth [] = ⊤
+HasNoWidth (b ∷ rest) = b ≡ 47 → ⊥
 
 -- this was read, up to that place; memory may run out
 abbrev pub IsReadTo : {X Y : Type 0} → (X → Y) → Y → ℕ → Result (X × ℕ) ShapeTextError → Type 0

@@ -17,9 +17,9 @@ abbrev pub variants_of : List (ℕ × Form) → Variants
 variants_of [] = no_variants
 variants_of (v ∷ vs) = variant v.0 v.1 (variants_of vs)
 
-abbrev pub items_of : List Data → Items
-items_of [] = no_items
-items_of (d ∷ ds) = item d (items_of ds)
+abbrev pub as_items : List Data → Items
+as_items [] = no_items
+as_items (d ∷ ds) = item d (as_items ds)
 
 -- one level, with each shape inside already seen
 abbrev pub form_step : Shape-F Form → Form
@@ -53,8 +53,8 @@ data_step (Value-F.Bool b) = truth b
 data_step (Value-F.Uint n) = uint n
 data_step (Value-F.Int z) = int z
 data_step (Value-F.Text s) = phrase (string_bytes s)
-data_step (Value-F.List ds) = list (items_of ds.items)
-data_step (Value-F.Struct ds) = tuple (items_of ds.items)
+data_step (Value-F.List ds) = list (as_items ds.items)
+data_step (Value-F.Struct ds) = tuple (as_items ds.items)
 data_step (Value-F.Union None) = nothing
 data_step (Value-F.Union (Some v)) = chosen v.0 v.1.value
 
@@ -67,7 +67,7 @@ data_of_choice None = nothing
 data_of_choice (Some v) = chosen v.0 (data_of v.1.value)
 
 abbrev pub data_of_all : List Value → Items
-data_of_all vs = items_of (map data_of vs)
+data_of_all vs = as_items (map data_of vs)
 
 -- what a window stands for
 abbrev pub seen : Window → View

@@ -7,7 +7,7 @@ ghost use Rattle.someip_payload.specs.declared.shape.Width.{Width};
 ghost use Rattle.someip_payload.specs.declared.shape_text.Word.{Word};
 ghost use Rattle.someip_payload.specs.Data.{Form, Forms, Variants};
 ghost use Rattle.someip_payload.specs.Check.{depth, deepest, deepest_variant};
-ghost use Rattle.someip_payload.specs.ShapeText.{IsTextOf, IsTextOfMembers, IsTextOfVariants, IsFaultWithin, IsDigit, Stops, IsReadAs, IsReadTo, IsRepeatedTo, IsNoFront, width_text, or_32, repeated_text};
+ghost use Rattle.someip_payload.specs.ShapeText.{IsTextOf, IsTextOfMembers, IsTextOfVariants, IsFaultWithin, IsDigit, HasNoWidth, IsReadAs, IsReadTo, IsRepeatedTo, IsNoFront, width_text, or_32, repeated_text};
 ghost use Rattle.someip_payload.specs.View.{form, forms, all_variants};
 ghost use Rattle.someip_payload.specs.Words.{word_text, Behind};
 
@@ -89,7 +89,7 @@ fn shape_at(
     requires { at ≤ length text.now }
     ensures found { IfOk result (λ x. IsTextOf (form x.0) (slice_range text.now at x.1)) }
     ensures only { (f : Form) (front rest : List ℕ) → drop at text.now ≡ front ++ rest
-        → IsTextOf f front → depth f ≤ left → Stops rest
+        → IsTextOf f front → depth f ≤ left → HasNoWidth rest
         → IsReadTo form f (at + length front) result }
     ensures within { IfOk result (λ x. depth (form x.0) ≤ left) }
     ensures end { IfOk result (λ x. (at < x.1) × (x.1 ≤ length text.now)) }
@@ -123,7 +123,7 @@ fn utf8_at(text: &[u8], at: usize) -> Result<(Shape, usize), ShapeTextError>
     requires { at ≤ length text.now }
     ensures found { IfOk result (λ x. IsTextOf (form x.0) (codes "utf8" ++ slice_range text.now at x.1)) }
     ensures only { (f : Form) (back rest : List ℕ) → drop at text.now ≡ back ++ rest
-        → Behind Word.Utf8 f back → Stops rest → IsReadTo form f (at + length back) result }
+        → Behind Word.Utf8 f back → HasNoWidth rest → IsReadTo form f (at + length back) result }
     ensures within { IfOk result (λ x. depth (form x.0) ≤ 1) }
     ensures end { IfOk result (λ x. (at ≤ x.1) × (x.1 ≤ length text.now)) }
     ensures fault { IfErr result (IsFaultWithin at (length text.now)) }
@@ -137,7 +137,7 @@ fn utf16_at(text: &[u8], at: usize) -> Result<(Shape, usize), ShapeTextError>
     requires { at ≤ length text.now }
     ensures found { IfOk result (λ x. IsTextOf (form x.0) (codes "utf16" ++ slice_range text.now at x.1)) }
     ensures only { (f : Form) (back rest : List ℕ) → drop at text.now ≡ back ++ rest
-        → Behind Word.Utf16 f back → Stops rest → IsReadTo form f (at + length back) result }
+        → Behind Word.Utf16 f back → HasNoWidth rest → IsReadTo form f (at + length back) result }
     ensures within { IfOk result (λ x. depth (form x.0) ≤ 1) }
     ensures end { IfOk result (λ x. (at ≤ x.1) × (x.1 ≤ length text.now)) }
     ensures fault { IfErr result (IsFaultWithin at (length text.now)) }
@@ -333,7 +333,7 @@ fn width_at(text: &[u8], at: usize) -> Result<(Option<Width>, usize), ShapeTextE
     requires { at ≤ length text.now }
     ensures found { IfOk result (λ x. slice_range text.now at x.1 ≡ width_text x.0) }
     ensures only { (w : Option Width) (rest : List ℕ) → drop at text.now ≡ width_text w ++ rest
-        → Stops rest → result ≡ Ok (w, at + length (width_text w)) }
+        → HasNoWidth rest → result ≡ Ok (w, at + length (width_text w)) }
     ensures end { IfOk result (λ x. (at ≤ x.1) × (x.1 ≤ length text.now)) }
     ensures fault { IfErr result (IsFaultWithin at (length text.now)) }
 {

@@ -6,7 +6,7 @@ use Rattle.someip_wire.specs.declared.error.WireError.{WireError}
 use Rattle.someip_wire.specs.Spelling.{MessageValue, Fits, IsBytes, spelling}
 use Rattle.someip_wire.specs.Faults.{length_field, fault_at}
 use Rattle.someip_wire.specs.Datagram.{EndsAt, AreMessages, Datagram, items}
-use Rattle.someip_wire.specs.Reading.{message_in, reading, or_fault, items_after, items_within, items_from}
+use Rattle.someip_wire.specs.Reading.{message_in, item_at, or_fault, items_after, items_within, items_from}
 use Rattle.someip_wire.proofs.MessageLemmas.{IsBytes-drop, none_is_whole, message_spells, message_fits, fault_at_spelled, message_in_spelled, length_field_spelled, length_spelled}
 
 abbrev Items : Type 0
@@ -24,7 +24,7 @@ items_within-enough (suc k) zero p (b ∷ bytes) le le' = absurd (omega (arith, 
 items_within-enough (suc k) (suc n) p (b ∷ bytes) le le' =
     let size = length_field (b ∷ bytes) + 8 in
     let shorter = length-drop size (b ∷ bytes) in
-    elim (reading p (b ∷ bytes)) as (λ r. items_after (items_within k) p (b ∷ bytes) r ≡ items_after (items_within n) p (b ∷ bytes) r) [
+    elim (item_at p (b ∷ bytes)) as (λ r. items_after (items_within k) p (b ∷ bytes) r ≡ items_after (items_within n) p (b ∷ bytes) r) [
       | Err e ↦ refl
       | Ok m ↦ ap (λ (others : Items). Ok m ∷ others) (items_within-enough k n (p + size) (drop size (b ∷ bytes)) (omega (arith, shorter)) (omega (arith, shorter)))
     ]
@@ -34,12 +34,12 @@ unfolding items_within
 items_from-nil p = refl
 
 -- the items of bytes that are left are the first and the others
-items_from-cons : (p b : ℕ) (bytes : List ℕ) → items_from p (b ∷ bytes) ≡ items_after items_from p (b ∷ bytes) (reading p (b ∷ bytes))
+items_from-cons : (p b : ℕ) (bytes : List ℕ) → items_from p (b ∷ bytes) ≡ items_after items_from p (b ∷ bytes) (item_at p (b ∷ bytes))
 unfolding items_within
 items_from-cons p b bytes =
     let size = length_field (b ∷ bytes) + 8 in
     let shorter = length-drop size (b ∷ bytes) in
-    elim (reading p (b ∷ bytes)) as (λ r. items_after (items_within (length bytes)) p (b ∷ bytes) r ≡ items_after items_from p (b ∷ bytes) r) [
+    elim (item_at p (b ∷ bytes)) as (λ r. items_after (items_within (length bytes)) p (b ∷ bytes) r ≡ items_after items_from p (b ∷ bytes) r) [
       | Err e ↦ refl
       | Ok m ↦ ap (λ (others : Items). Ok m ∷ others) (items_within-enough (length bytes) _ (p + size) (drop size (b ∷ bytes)) (omega (arith, shorter)) (omega arith))
     ]

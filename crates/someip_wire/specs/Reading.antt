@@ -39,8 +39,8 @@ or_fault None m = Ok m
 or_fault (Some fault) m = Err fault
 
 -- what is read of bytes from place p of a datagram on: a message, or the first fault
-abbrev pub reading : ℕ → List ℕ → Result MessageValue WireError
-reading p bytes = or_fault (fault_at p bytes) (message_in bytes)
+abbrev pub item_at : ℕ → List ℕ → Result MessageValue WireError
+item_at p bytes = or_fault (fault_at p bytes) (message_in bytes)
 
 -- a fault alone, or a message and the others after it
 abbrev pub items_after : (ℕ → List ℕ → List (Result MessageValue WireError)) → ℕ → List ℕ → Result MessageValue WireError → List (Result MessageValue WireError)
@@ -52,7 +52,7 @@ items_after others p bytes (Ok m) = Ok m ∷ others (p + (length_field bytes + 8
 unfoldable pub items_within : ℕ → ℕ → List ℕ → List (Result MessageValue WireError)
 items_within zero p bytes = []
 items_within (suc n) p [] = []
-items_within (suc n) p (b ∷ bytes) = items_after (items_within n) p (b ∷ bytes) (reading p (b ∷ bytes))
+items_within (suc n) p (b ∷ bytes) = items_after (items_within n) p (b ∷ bytes) (item_at p (b ∷ bytes))
 
 -- the messages and the fault, if there is one, of the bytes from place p of a datagram on
 abbrev pub items_from : ℕ → List ℕ → List (Result MessageValue WireError)

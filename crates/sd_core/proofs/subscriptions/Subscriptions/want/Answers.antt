@@ -5,7 +5,7 @@ use Rattle.someip_tables.specs.Tables.{map_of}
 use Rattle.someip_tables.proofs.Trees.{get-map_of, map_of-insert}
 use Rattle.sd_core.specs.Eventgroups.{eventgroup_cmp}
 use Rattle.sd_core.specs.EventgroupOrder.{eventgroups_total, exact_eventgroups}
-use Rattle.sd_core.specs.Wishes.{wanted}
+use Rattle.sd_core.specs.Wishes.{wished_with}
 use Rattle.sd_core.proofs.Memory.{on_err}
 use Rattle.sd_core.proofs.subscriptions.Subscriptions.want.Goals as goal
 
@@ -18,4 +18,4 @@ pub returns-clause-wished : goal.returns-clause-wished
 returns-clause-wished c =
     rw (← c.self.view_is)
     (map_of-insert eventgroups_total exact_eventgroups c.self.inside.places.entries c.insert.new.self.entries c.args.eventgroup c.wanted-wish.result c.in_ok-insert.ensures.updates.0
-    ∙ ap (finite.insert (map_of eventgroup_cmp c.self.inside.places.entries) c.args.eventgroup) (c.wanted-wish.ensures ∙ ap (wanted c.args.now c.args.peer) c.wish_in.ensures))
+    ∙ ap (finite.insert (map_of eventgroup_cmp c.self.inside.places.entries) c.args.eventgroup) (c.wanted-wish.ensures ∙ ap (wished_with c.args.now c.args.peer) c.wish_in.ensures))
