@@ -57,7 +57,7 @@ use Rattle.someip_node_rules.specs.Plans.{rule, TakesAnswer, TakesSubscribe}
 use Rattle.someip_node_rules.specs.Setups.{has_eventgroup}
 use Rattle.someip_node_rules.specs.Subscribing.{nacked_for, rules_by, subscribe_by, subscribe_in}
 use Rattle.someip_node_rules.specs.Tables.{live_subscribers, waiting_calls}
-use Rattle.someip_node_rules.specs.WorkedExamples.{bad_subscribe, nack, nack_payload, subscribe_head, subscribe_payload}
+use Rattle.someip_node_rules.specs.WorkedExamples.{bad_subscribe, nack_answer, nack_payload, subscribe_head, subscribe_payload}
 
 module _ (config : Config) (is : IsServer config) where
   -- the tables of the node at its start
@@ -124,7 +124,7 @@ pub bad_read : reading subscribe_payload ≡ Ok bad_subscribe
 unfolding options_within
 bad_read = refl
 
-pub nack_written : discovery_payload true (nack ∷ []) ≡ nack_payload
+pub nack_written : discovery_payload true (nack_answer ∷ []) ≡ nack_payload
 unfolding message_bytes
 nack_written = refl
 
