@@ -13,11 +13,11 @@ use Rattle.someip_node_rules.specs.declared.output.Output.{Output}
 use Rattle.someip_node_rules.specs.Calls.{as_node_error}
 use Rattle.someip_node.specs.Finishings.{given_or_error, is_fatal}
 use Rattle.someip_node_engine.specs.Handled.{Handled, or_no_memory}
-use Rattle.someip_node_rules.specs.History.{History, answers_of, historic, shown}
+use Rattle.someip_node_rules.specs.History.{History, answers_of, historic, shown_work}
 use Rattle.someip_node_rules.specs.Inputs.{Input, Answer, Call, Datagram, Publish, PublishTo, StopOffer, Subscribe, Tick, Unsubscribe, plan_of, refusal_of}
 use Rattle.someip_node_rules.specs.Plans.{Work, plain, run, work}
 use Rattle.someip_node_rules.specs.Setups.{is_wanted_eventgroup, offered_as}
-use Rattle.someip_node_rules.specs.Steps.{Gives, StandsFor, step, unless_refused, work_on}
+use Rattle.someip_node_rules.specs.Steps.{GivesStep, StandsFor, step, unless_refused, work_on}
 use Rattle.someip_node_rules.specs.Tables.{Tables, is_up}
 use Rattle.someip_node_engine.specs.Working.{working}
 use Rattle.someip_node_rules.proofs.Shown.{run_shown}
@@ -66,7 +66,7 @@ refusal_is_no_end (StopOffer instance) t refusal is = refused_if (is_up t instan
 -- ---- a call of a node
 
 -- what was done with the tables is what is done by the history
-given : (w : Work History) (t : Tables) (giving : Giving) → working t giving ≡ shown w → (giving.outputs.items ≡ w.outputs) × StandsFor (seen false t) w.state
+given : (w : Work History) (t : Tables) (giving : Giving) → working t giving ≡ shown_work w → (giving.outputs.items ≡ w.outputs) × StandsFor (seen false t) w.state
 given w t giving is = (ap (λ v. v.outputs) is, stands false t w.state refl (ap (λ v. v.state) is))
 
 -- nothing is given at first
@@ -76,7 +76,7 @@ working_none t giving no_outputs no_replies = rw (no_outputs, no_replies) refl
 module _ (h : History) (input : Input) (old : Tables) (is : old ≡ answers_of h) where
   -- an input that is not refused is done
   done_given : (new : Tables) (before after : Giving) → refusal_of input old ≡ None → before.outputs.items ≡ [] → before.replies.items ≡ []
-      → working new after ≡ run plain (plan_of input) (working old before) → Gives h (step h input) (Ok after.outputs) (seen false new)
+      → working new after ≡ run plain (plan_of input) (working old before) → GivesStep h (step h input) (Ok after.outputs) (seen false new)
   done_given new before after fine no_outputs no_replies done =
       rw (ap (refusal_of input) (sym is) ∙ fine)
       (given (run historic (plan_of input) (work_on h)) new after
@@ -85,14 +85,14 @@ module _ (h : History) (input : Input) (old : Tables) (is : old ≡ answers_of h
 module _ (h : History) (input : Input) (old : Tables) (is : old ≡ answers_of h) where
   -- it was refused, or memory ran out
   error_given : (refusal : Option NodeError) (error : NodeError) (new : Tables) → refusal_of input old ≡ refusal → error ≡ or_no_memory refusal
-      → (IsSome refusal → new ≡ old) → Gives h (unless_refused refusal (plan_of input) h) (Err error) (seen (is_fatal (Err error)) new)
+      → (IsSome refusal → new ≡ old) → GivesStep h (unless_refused refusal (plan_of input) h) (Err error) (seen (is_fatal (Err error)) new)
   error_given None error new why told same = rw told (refl, refl)
   error_given (Some refusal) error new why told same =
       rw (told, refusal_is_no_end input old refusal why) (refl, stands false new h refl (same refl ∙ is))
 
   pub handled_given : (done : Result (Unit {0}) NodeError) (before after : Giving) (new : Tables) (result : Result (Vec Output) NodeError) (failed : Bool)
       → before.outputs.items ≡ [] → before.replies.items ≡ [] → Handled input old before done new after → failed ≡ is_fatal done
-      → result ≡ given_or_error done after → Gives h (step h input) result (seen failed new)
+      → result ≡ given_or_error done after → GivesStep h (step h input) result (seen failed new)
   handled_given (Ok _) before after new result failed no_outputs no_replies handled fails gives =
       rw (gives, fails) (done_given h input old is new before after handled.0 no_outputs no_replies handled.1)
   handled_given (Err error) before after new result failed no_outputs no_replies handled fails gives =

@@ -4,7 +4,7 @@ ghost use Rattle.std.specs.Option.{option_map_or};
 ghost use Rattle.std.specs.Ordering.{eq_by_cmp};
 ghost use Rattle.someip_tables.specs.Endpoints.{endpoint_cmp};
 ghost use Rattle.someip_node_engine.specs.Arrivals.{payload_bytes, given_of_answer, given_of_event};
-ghost use Rattle.someip_node_rules.specs.Messages.{is_subscribed_by, publisher, publishes, takes_event};
+ghost use Rattle.someip_node_rules.specs.Messages.{is_subscribed_by, publisher, is_event_of, takes_event};
 ghost use Rattle.someip_node_rules.specs.Plans.{act, plain, run, TakesAnswer, TakesEvent};
 ghost use Rattle.someip_node_rules.specs.Tables.{known_endpoint};
 ghost use Rattle.someip_node_engine.specs.Working.{working};
@@ -62,7 +62,7 @@ impl<R: Reassembly> Engine<R> {
         ensures { result ≡ publisher self.now from header.now }
     {
         for (instance, want) in &self.config.wants {
-            if self.publishes(from, header, instance, want) {
+            if self.is_event_of(from, header, instance, want) {
                 return Some(*instance);
             }
         }
@@ -70,14 +70,14 @@ impl<R: Reassembly> Engine<R> {
     }
 
     /// Whether an event is one of a wanted instance.
-    fn publishes(
+    fn is_event_of(
         &self,
         from: SocketAddrV4,
         header: &Header,
         instance: &InstanceId,
         want: &WantedService,
     ) -> bool
-        ensures { result ≡ publishes self.now from header.now (instance.now, want.now) }
+        ensures { result ≡ is_event_of self.now from header.now (instance.now, want.now) }
     {
         instance.service == header.service
             && want.major == header.interface

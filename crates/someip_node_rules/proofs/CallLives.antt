@@ -19,7 +19,7 @@ use Rattle.someip_rpc.specs.IdOrder.{calls_total, exact_calls, events_total, exa
 use Rattle.someip_rpc.specs.Sessions.{next_of, session_after, session_after_last}
 use Rattle.someip_node_rules.specs.declared.config.Config.{Config}
 use Rattle.someip_node_rules.specs.Items.{Item, AnswerTaken, Answered, Called, Published, Requested, Ticked}
-use Rattle.someip_node_rules.specs.CallQuestions.{awaited_at, awaited_from, call_made, call_sessions_in, called_by, client_in, event_published, event_sessions_in, key_of, message_called, next_token, pending_in, requests_in, server_in, tokens_in}
+use Rattle.someip_node_rules.specs.CallQuestions.{awaited_at, awaited_from, call_made, call_sessions_in, called_by, client_in, event_published, event_sessions_in, call_key, message_called, next_token, pending_in, requests_in, server_in, tokens_in}
 use Rattle.someip_node_rules.specs.Questions.{clock_at, table_of}
 use Rattle.someip_node_rules.specs.Setups.{client_rules}
 use Rattle.someip_node_rules.proofs.CountLemmas.{table-counted}
@@ -40,7 +40,7 @@ module _ (config : Config) (items : List Item) where
   client_called call peer session = λ i. record { pending = pending call.kind i; sessions = sessions i }
     where
       key : CallKey
-      key = key_of call session
+      key = call_key call session
 
       awaited : Lasting Awaited
       awaited = awaited_from config call peer (clock_at items)

@@ -36,7 +36,7 @@ use Rattle.someip_node_rules.specs.History.{History, answers_of, historic}
 use Rattle.someip_node_rules.specs.Inputs.{Input, Call, Datagram, Subscribe, peer_plan, subscribe_plan}
 use Rattle.someip_node_rules.specs.Items.{Item, AckCame, PeerHeard}
 use Rattle.someip_node_rules.specs.Learning.{ack_by, ack_told, answer_in}
-use Rattle.someip_node_rules.specs.Messages.{event_by, is_subscribed_by, publishes, takes_event}
+use Rattle.someip_node_rules.specs.Messages.{event_by, is_event_of, is_subscribed_by, takes_event}
 use Rattle.someip_node_rules.specs.Outcomes.{Outcome, meets}
 use Rattle.someip_node_rules.specs.Plans.{act, both, rest, rule, run, TakesAck, TakesEvent, Wishes}
 use Rattle.someip_node_rules.specs.Setups.{discovery_endpoint, is_wanted_eventgroup}
@@ -173,7 +173,7 @@ module _ (config : Config) (is : WantsEvent config) where
     at = answers_of (having_met config items)
 
     publishes_if : known_endpoint at instance ≡ Some server → get at.wishes eventgroup ≡ Some wish
-        → publishes at server event_header (instance, is.client.want) ≡ (is_subscribed at.clock wish.stage || false)
+        → is_event_of at server event_header (instance, is.client.want) ≡ (is_subscribed at.clock wish.stage || false)
     publishes_if known stands =
         ap (λ major. (major == 1) && option_map_or (λ endpoint. eq_by_cmp endpoint_cmp endpoint server) (known_endpoint at instance) false && takes_event at instance is.client.want 0x8001) is.client.major
         ∙ ap (λ v. option_map_or (λ endpoint. eq_by_cmp endpoint_cmp endpoint server) v false && takes_event at instance is.client.want 0x8001) known

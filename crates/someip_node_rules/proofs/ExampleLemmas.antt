@@ -57,7 +57,7 @@ use Rattle.someip_node_rules.specs.Plans.{rule, TakesAnswer, TakesSubscribe}
 use Rattle.someip_node_rules.specs.Setups.{has_eventgroup}
 use Rattle.someip_node_rules.specs.Subscribing.{nacked_for, rules_by, subscribe_by, subscribe_in}
 use Rattle.someip_node_rules.specs.Tables.{live_subscribers, waiting_calls}
-use Rattle.someip_node_rules.specs.WorkedExamples.{bad_subscribe, nack, nack_payload, subscribe_head, subscribe_payload}
+use Rattle.someip_node_rules.specs.WorkedExamples.{bad_subscribe, nack_answer, nack_payload, subscribe_head, subscribe_payload}
 use Rattle.someip_wire.specs.Spelling.{spelling}
 use Rattle.sd_wire.specs.Values.{bad_run}
 use Rattle.sd_wire.specs.declared.entry.EntryHead.TheVariants.{Eventgroup}
@@ -139,7 +139,7 @@ pub bad_read : reading subscribe_payload ≡ Ok bad_subscribe
 unfolding options_within
 bad_read = refl
 
-pub nack_written : discovery_payload true (nack ∷ []) ≡ nack_payload
+pub nack_written : discovery_payload true (nack_answer ∷ []) ≡ nack_payload
 unfolding message_bytes
 nack_written = refl
 
@@ -196,7 +196,7 @@ module _ (config : Config) (is : IsServer config) (holds : 0 < config.common.pee
       (ap (λ (es : List (InstanceId × OfferedService)). lookup (is_at (instance_cmp instance)) es) is.offers)
       ∙ ap (λ up. refused_by up (has_eventgroup (service is.events) 1)) still_up ∙ ap (refused_by true) has
 
-  nack_bytes : spelling (discovery_message (after_uses 0) (nack ∷ [])) ≡ discovery_head 0x24 ++ nack_payload
+  nack_bytes : spelling (discovery_message (after_uses 0) (nack_answer ∷ [])) ≡ discovery_head 0x24 ++ nack_payload
   unfolding message_bytes
   nack_bytes = refl
 
@@ -205,7 +205,7 @@ module _ (config : Config) (is : IsServer config) (holds : 0 < config.common.pee
   nack_goes cause said =
       ap given_in (one_entry h (discovery_at client.ip) (discovery_at server_address) (discovery_head 0x30 ++ subscribe_payload) (target.Discovery Unicast) (rw is.address refl) (rw is.address refl)
       Unicast 1 (record { reboot = true; unicast = true }) (bad_run (Eventgroup head)) (TakesSubscribe client.ip head None) (nacked_for head cause) read_bad (has_room config.common.peers client.ip holds) (is_new Unicast stamp client.ip) refl said)
-      ∙ ap (λ w. Ok w.outputs) (reply_goes (record (work_after once_heard (nacked_for head cause)) { replies = [] }) client.ip nack (discovery_head 0x24 ++ nack_payload) nack_bytes)
+      ∙ ap (λ w. Ok w.outputs) (reply_goes (record (work_after once_heard (nacked_for head cause)) { replies = [] }) client.ip nack_answer (discovery_head 0x24 ++ nack_payload) nack_bytes)
       ∙ rw is.address refl
 
   pub nack_answers : has_eventgroup (service is.events) 1 ≡ true → bad_subscribed config ≡ nack_given NoEndpoint

@@ -50,12 +50,12 @@ use Rattle.someip_node_rules.specs.declared.config.WantedService.{WantedService}
 use Rattle.someip_node_rules.specs.declared.error.NodeError.{NodeError}
 use Rattle.someip_node_rules.specs.declared.output.Output.{Output}
 use Rattle.someip_node_rules.specs.declared.output.Output.TheVariants as output
-use Rattle.someip_node_rules.specs.Calls.{answers_to, call_of, event_message, eventgroups_of, calls_at, lapsed, timed_out, publishes_by, publishes_to_by}
+use Rattle.someip_node_rules.specs.Calls.{answers_request, call_of, event_message, eventgroups_of, calls_at, lapsed, timed_out, publishes_by, publishes_to_by}
 use Rattle.someip_node_rules.specs.History.{History, answers_of, historic}
 use Rattle.someip_node_rules.specs.Inputs.{Input, plan_of, refusal_of}
 use Rattle.someip_node_rules.specs.Learning.{ack_told, answer_in, eventgroup_in, hearing_by, known_told, nack_told, offer_by, offer_counts}
 use Rattle.someip_node_rules.specs.Meanings.{GivenBy, IsTold, Means}
-use Rattle.someip_node_rules.specs.Messages.{answer_by, by_type, event_by, oneway_by, publisher, publishes, request_by, request_to, segment_by}
+use Rattle.someip_node_rules.specs.Messages.{answer_by, by_type, event_by, oneway_by, publisher, is_event_of, request_by, request_to, segment_by}
 use Rattle.someip_node_rules.specs.Outcomes.{Outcome, endings, endings_of, has_instance, nothing, those_of, unsubscribed}
 use Rattle.someip_node_rules.specs.Outputs.{Given, Sends, Announces as Announced, Tells, datagram_of, written}
 use Rattle.someip_node_rules.specs.Plans.{Rule, Drops, TakesSegment, TakesRequest, TakesAnswer, TakesEvent, Hears, TakesFind, TakesOffer, TakesStopOffer, TakesSubscribe, TakesStopSubscribe, TakesAck, TakesNack, Announces, RepliesTo, Ticks, Calls, Answers, Publishes, PublishesTo, Wishes, TakesBack, Stops, Work, rule, run}
@@ -133,8 +133,8 @@ module _ (t : Tables) where
 
   -- the want of the instance that published an event
   want_found : (from : SocketAddrV4) (header : Header) (instance : InstanceId) (first : Option (InstanceId × WantedService))
-      → find (publishes t from header) t.config.wants.entries ≡ first → option_map (λ want. want.0) first ≡ Some instance
-      → (want : WantedService) × (find (publishes t from header) t.config.wants.entries ≡ Some (instance, want))
+      → find (is_event_of t from header) t.config.wants.entries ≡ first → option_map (λ want. want.0) first ≡ Some instance
+      → (want : WantedService) × (find (is_event_of t from header) t.config.wants.entries ≡ Some (instance, want))
   want_found from header instance None is named = absurd (cc)
   want_found from header instance (Some want) is named =
       let same : want.0 ≡ instance = cc in (want.1, is ∙ ap (λ (i : InstanceId). Some (i, want.1)) same)
@@ -143,8 +143,8 @@ module _ (t : Tables) where
       → Meant (TakesEvent from header payload) (event_by header payload instance)
   event_meant from header payload None first = (tt, tt)
   event_meant from header payload (Some instance) first =
-      let want = want_found from header instance (find (publishes t from header) t.config.wants.entries) refl first in
-      let parts = found (publishes t from header) t.config.wants.entries (instance, want.0) want.1 in
+      let want = want_found from header instance (find (is_event_of t from header) t.config.wants.entries) refl first in
+      let parts = found (is_event_of t from header) t.config.wants.entries (instance, want.0) want.1 in
       ((from, header, refl, record { want = want.0; wanted = parts.0; published = parts.1; first = first; named = refl }), tt)
 
   told_meant : (r : Rule) (outputs : List Output) → AllByRecursion (λ o. IsTold o r t) outputs → AllByRecursion (λ given. Means given r t) (map Tells outputs)
@@ -207,7 +207,7 @@ module _ (t : Tables) where
       ((kind, instance, method, payload, refl, refl, refl), (record { known = is; from_client = refl; is = refl }, tt))
 
   answers_meant : (token : ℕ) (reply : Reply) (payload : List ℕ) (request : Option Asked) → finite.get t.server.requests token ≡ request
-      → Meant (Answers token reply payload) (option_map_or (answers_to token reply payload) request nothing)
+      → Meant (Answers token reply payload) (option_map_or (answers_request token reply payload) request nothing)
   answers_meant token reply payload None is = tt
   answers_meant token reply payload (Some request) is =
       (record { request = request; waits = is; from_instance = refl; back = refl; is = refl }, tt)

@@ -34,7 +34,7 @@ use Rattle.someip_rpc.specs.declared.request.RequestFault.{RequestFault}
 use Rattle.someip_rpc.specs.Answers.{answer_drop}
 use Rattle.someip_rpc.specs.Requests.{request_fault}
 use Rattle.someip_node_rules.specs.declared.config.OfferedService.{OfferedService}
-use Rattle.someip_node_rules.specs.Calls.{answers_to, call_of, calls_at, publishes_by, publishes_to_by}
+use Rattle.someip_node_rules.specs.Calls.{answers_request, call_of, calls_at, publishes_by, publishes_to_by}
 use Rattle.someip_node_rules.specs.History.{History, answers_of}
 use Rattle.someip_node_rules.specs.Inputs.{Input, plan_of, refusal_of}
 use Rattle.someip_node_rules.specs.Learning.{hearing_by, offer_by, offer_counts}
@@ -141,7 +141,7 @@ module _ (t : Tables) where
       (record { kind = kind; instance = instance; method = method; payload = payload; made = refl; known = is; is = refl; numbered = refl }, tt)
 
   answers_noted : (token : ℕ) (reply : Reply) (payload : List ℕ) (request : Option Asked) → finite.get t.server.requests token ≡ request
-      → Noted (Answers token reply payload) (option_map_or (answers_to token reply payload) request nothing)
+      → Noted (Answers token reply payload) (option_map_or (answers_request token reply payload) request nothing)
   answers_noted token reply payload None is = tt
   answers_noted token reply payload (Some request) is = ((reply, payload, request, refl, is), tt)
 

@@ -25,7 +25,7 @@ use Rattle.sd_session.specs.Sessions.{after_uses}
 use Rattle.someip_tables.specs.EndpointOrder.{addresses_total, exact_addresses}
 use Rattle.std.specs.declared.net.ipv4_addr.Ipv4Addr.{Ipv4Addr}
 use Rattle.someip_node_rules.specs.declared.config.Config.{Config}
-use Rattle.someip_node_rules.specs.CallQuestions.{awaited_at, awaited_from, call_made, call_sessions_in, event_published, event_sessions_in, last_session_at, message_called, times_published, called_by, key_of, next_token, pending_in, open_request_at, requests_in, tokens_in, waiting_call}
+use Rattle.someip_node_rules.specs.CallQuestions.{awaited_at, awaited_from, call_made, call_sessions_in, event_published, event_sessions_in, last_session_at, message_called, times_published, called_by, call_key, next_token, pending_in, open_request_at, requests_in, tokens_in, waiting_call}
 use Rattle.someip_node_rules.specs.DiscoveryQuestions.{messages_to, peer_addressed, unicast_in}
 use Rattle.someip_node_rules.specs.Items.{Item, AnswerTaken, Answered, Called, OfferStopped, PeerRebooted, Requested, SubscriptionAccepted, SubscriptionStopped}
 use Rattle.someip_node_rules.specs.Questions.{clock_at}
@@ -76,7 +76,7 @@ module _ (config : Config) where
       called RequestNoReturn own awaited absent rest = rest absent
 
       cases : (item : Item) → is_made (item ∷ before) key ≡ false → (is_made before key ≡ false → awaited_at config before key ≡ None) → awaited_at config (item ∷ before) key ≡ None
-      cases (Called call peer session) absent rest = called call.kind (key_of call session) (awaited_from config call peer (clock_at before)) absent rest
+      cases (Called call peer session) absent rest = called call.kind (call_key call session) (awaited_from config call peer (clock_at before)) absent rest
       cases (AnswerTaken own) absent rest = still_none (eq_by_cmp call_cmp key own) (awaited_at config before key) (rest absent)
       cases item absent rest = rest absent
 

@@ -50,7 +50,7 @@ use Rattle.someip_node_rules.specs.Setups.{has_eventgroup}
 use Rattle.someip_node_rules.specs.SubscriberQuestions.{stands_until}
 use Rattle.someip_node_rules.specs.Subscribing.{accepted_at, nacked_for, rules_by, subscribe_by, subscribe_in}
 use Rattle.someip_node_rules.specs.Tables.{Tables, is_up, live_subscribers}
-use Rattle.someip_node_rules.specs.WorkedExamples.{client, discovery_at, discovery_head, instance, nack, nack_payload, server, server_address, service, subscribe_head}
+use Rattle.someip_node_rules.specs.WorkedExamples.{client, discovery_at, discovery_head, instance, nack_answer, nack_payload, server, server_address, service, subscribe_head}
 use Rattle.someip_node_rules.specs.WorkedRun.{LeadsTo, OffersEvent, accepted_items, ack_bytes, having_met, answered_items, call_packet, comes, event_bytes, eventgroup, offered_items, published_items, requested_items, server_inputs, subscribe_bytes, subscribe_packet, subscription}
 use Rattle.someip_node_rules.specs.declared.config.Config.{Config}
 use Rattle.someip_node_rules.specs.declared.error.NodeError.TheVariants.{Rpc}
@@ -80,7 +80,7 @@ ack_written : spelling (discovery_message (after_uses 0) (ack ∷ [])) ≡ ack_b
 unfolding message_bytes
 ack_written = refl
 
-nack_written : spelling (discovery_message (after_uses 0) (nack ∷ [])) ≡ discovery_head 0x24 ++ nack_payload
+nack_written : spelling (discovery_message (after_uses 0) (nack_answer ∷ [])) ≡ discovery_head 0x24 ++ nack_payload
 unfolding message_bytes
 nack_written = refl
 
@@ -152,7 +152,7 @@ module _ (config : Config) (is : OffersEvent config) where
       one_entry (having_met config stopped_items) (discovery_at client.ip) (discovery_at server_address) subscribe_bytes (target.Discovery Unicast)
       (rw is.server.address refl) (rw is.server.address refl) Unicast 1 both_flags subscribe_read (TakesSubscribe client.ip subscribe_head (Some client)) (nacked_for subscribe_head NotOffered)
       reads_subscribe (rw is.peers (has_room 64 client.ip (omega arith))) (is_new Unicast first client.ip) refl (takes_subscribe stopped_heard_items false is_down)
-      ∙ ap Ok (reply_goes (record (work_after (having_met config stopped_heard_items) (nacked_for subscribe_head NotOffered)) { replies = [] }) client.ip nack (discovery_head 0x24 ++ nack_payload) nack_written)
+      ∙ ap Ok (reply_goes (record (work_after (having_met config stopped_heard_items) (nacked_for subscribe_head NotOffered)) { replies = [] }) client.ip nack_answer (discovery_head 0x24 ++ nack_payload) nack_written)
       ∙ rw is.server.address refl
 
   -- ---- the event is published

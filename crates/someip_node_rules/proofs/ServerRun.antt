@@ -40,7 +40,7 @@ use Rattle.someip_node_rules.specs.declared.error.NodeError.TheVariants.{Rpc}
 use Rattle.someip_node_rules.specs.declared.target.Target.TheVariants as target
 use Rattle.someip_node_rules.proofs.NamedLemmas.{get-request}
 use Rattle.someip_node_rules.proofs.UpLemmas.{up_is}
-use Rattle.someip_node_rules.specs.Calls.{answers_to, as_node_error, due_entries, find_of}
+use Rattle.someip_node_rules.specs.Calls.{answers_request, as_node_error, due_entries, find_of}
 use Rattle.someip_node_rules.specs.Entries.{fronts, offer_entry}
 use Rattle.someip_node_rules.specs.History.{History, answers_of, historic, met}
 use Rattle.someip_node_rules.specs.Inputs.{Answer, Datagram, Tick}
@@ -177,9 +177,9 @@ module _ (config : Config) (is : OffersEvent config) where
 
   pub answer_goes : LeadsTo (having_met config requested_items) (Answer 1 reply (3 ∷ [])) (Sent server client answer_bytes ∷ []) answered_items
   answer_goes =
-      one_rule (having_met config requested_items) (Answer 1 reply (3 ∷ [])) (Answers 1 reply (3 ∷ [])) (answers_to 1 reply (3 ∷ []) request)
+      one_rule (having_met config requested_items) (Answer 1 reply (3 ∷ [])) (Answers 1 reply (3 ∷ [])) (answers_request 1 reply (3 ∷ []) request)
       (ap (λ v. as_node_error (answer_refusal config.common.message_limit reply 1 v)) waiting ∙ rw is.message_limit refl) refl
-      (ap (λ v. option_map_or (answers_to 1 reply (3 ∷ [])) v nothing) waiting)
+      (ap (λ v. option_map_or (answers_request 1 reply (3 ∷ [])) v nothing) waiting)
 
   pub other_token_refused : gives (having_met config requested_items) (Answer 2 reply (3 ∷ [])) ≡ Err (Rpc UnknownToken)
   other_token_refused =

@@ -1,7 +1,7 @@
 -- What a node does with its tables is what it does by its history.
 use Rattle.std.proofs.Common.{◌≡◌, List, [], ◌∷◌, ◌++◌, refl, ap, ◌∙◌}
 use Rattle.std.specs.List.{flat_map, fold}
-use Rattle.someip_node_rules.specs.History.{History, answers_of, historic, met, shown}
+use Rattle.someip_node_rules.specs.History.{History, answers_of, historic, met, shown_work}
 use Rattle.someip_node_rules.specs.Items.{Item, AckCame, AnswerTaken, Answered, Called, GroupAddressed, MessageTaken, NackCame, OfferCounted, OfferStopped, OfferWithdrawn, PeerAddressed, PeerHeard, PeerRebooted, Published, Requested, SegmentOffered, SubscriptionAccepted, SubscriptionStopped, Ticked, Unwished, Wished, changed}
 use Rattle.someip_node_rules.specs.Outcomes.{Outcome}
 use Rattle.someip_node_rules.specs.Outputs.{written}
@@ -63,12 +63,12 @@ answers_met_all h (item ∷ items) = answers_met_all (met h item) items ∙ ap (
 
 -- ---- plans
 
-pub does_shown : (outcome : Tables → Outcome) (w : Work History) → shown (does historic outcome w) ≡ does plain outcome (shown w)
+pub does_shown : (outcome : Tables → Outcome) (w : Work History) → shown_work (does historic outcome w) ≡ does plain outcome (shown_work w)
 does_shown outcome w =
     ap (λ t. work t (w.outputs ++ flat_map written (outcome (answers_of w.state)).given) (w.replies ++ (outcome (answers_of w.state)).replies))
     (answers_met_all w.state (outcome (answers_of w.state)).items)
 
-pub run_shown : (p : Plan) (w : Work History) → shown (run historic p w) ≡ run plain p (shown w)
+pub run_shown : (p : Plan) (w : Work History) → shown_work (run historic p w) ≡ run plain p (shown_work w)
 run_shown rest w = refl
 run_shown (act r) w = does_shown (rule r) w
 run_shown (both p q) w = run_shown q (run historic p w) ∙ ap (run plain q) (run_shown p w)

@@ -30,7 +30,7 @@ use Rattle.someip_node_rules.specs.declared.config.Config.{Config}
 use Rattle.someip_node_rules.specs.declared.config.OfferedService.{OfferedService}
 use Rattle.someip_node_rules.specs.declared.error.NodeError.{NodeError}
 use Rattle.someip_node_rules.specs.Advances.{after_inputs, stepped}
-use Rattle.someip_node_rules.specs.History.{History, answers_of, shown, start_of}
+use Rattle.someip_node_rules.specs.History.{History, answers_of, shown_work, start_of}
 use Rattle.someip_node_rules.specs.Inputs.{Input, plan_of, refusal_of}
 use Rattle.someip_node_rules.specs.Items.{Item, PeerRebooted, OfferStopped, SubscriptionAccepted, SubscriptionStopped, Ticked, changed}
 use Rattle.someip_node_rules.specs.Learning.{eventgroup_in}
@@ -236,7 +236,7 @@ module _ (config : Config) where
 
   step_fits : (h : History) (plan : Plan) (refusal : Option NodeError) → Fits config (answers_of h) → Fits config (answers_of (stepped h (unless_refused refusal plan h)))
   step_fits h plan (Some refusal) fits = fits
-  step_fits h plan None fits = subst (λ (w : Work Tables). Fits config w.state) (sym (run_shown plan (work_on h))) (run_fits plan (shown (work_on h)) fits)
+  step_fits h plan None fits = subst (λ (w : Work Tables). Fits config w.state) (sym (run_shown plan (work_on h))) (run_fits plan (shown_work (work_on h)) fits)
 
   inputs_fit : (delay : ℕ) (inputs : List Input) → Fits config (answers_of (after_inputs (start_of config delay) inputs))
   inputs_fit delay [] = started_fits delay

@@ -18,9 +18,9 @@ use Rattle.someip_rpc.specs.declared.call.Awaited.{Awaited}
 use Rattle.someip_rpc.specs.declared.ids.CallKey.{CallKey}
 use Rattle.someip_rpc.specs.IdOrder.{calls_total}
 use Rattle.someip_node_rules.specs.declared.config.Config.{Config}
-use Rattle.someip_node_rules.specs.CallQuestions.{awaited_at, awaited_from, called_by, key_of}
+use Rattle.someip_node_rules.specs.CallQuestions.{awaited_at, awaited_from, called_by, call_key}
 use Rattle.someip_node_rules.specs.Items.{Item, AnswerTaken, Called, OfferCounted, OfferWithdrawn, Ticked}
-use Rattle.someip_node_rules.specs.Lives.{is_known, is_waiting}
+use Rattle.someip_node_rules.specs.Lives.{is_offer_known, is_waiting}
 use Rattle.someip_node_rules.specs.Questions.{clock_at}
 use Rattle.someip_node_rules.specs.SeekQuestions.{known_offer_at, offer_from}
 use Rattle.someip_node_rules.proofs.NamedLemmas.{get-pending}
@@ -31,7 +31,7 @@ use Rattle.someip_node_rules.proofs.WishLives.{get-known}
 
 module _ (config : Config) (items : List Item) where
   waits_until : (call : Call) (peer : SocketAddrV4) (session ms : ℕ) → call.kind ≡ Request
-      → is_waiting config (Ticked ms ∷ Called call peer session ∷ items) (key_of call session)
+      → is_waiting config (Ticked ms ∷ Called call peer session ∷ items) (call_key call session)
       ≡ not (has_passed (clock_at items + ms) (At (clock_at items + config.common.call_timeout_ms)))
   waits_until call peer session ms is =
       ap is_some (get-pending config (Ticked ms ∷ Called call peer session ∷ items) key)
@@ -40,7 +40,7 @@ module _ (config : Config) (items : List Item) where
       ∙ cases (has_passed later awaited.until)
     where
       key : CallKey
-      key = key_of call session
+      key = call_key call session
 
       later : ℕ
       later = clock_at items + ms
@@ -53,7 +53,7 @@ module _ (config : Config) (items : List Item) where
       cases false = refl
 
   pub waits_its_time : (call : Call) (peer : SocketAddrV4) (session ms : ℕ) → call.kind ≡ Request
-      → (is_waiting config (Ticked ms ∷ Called call peer session ∷ items) (key_of call session) ≡ true) ↔ (ms < config.common.call_timeout_ms)
+      → (is_waiting config (Ticked ms ∷ Called call peer session ∷ items) (call_key call session) ≡ true) ↔ (ms < config.common.call_timeout_ms)
   waits_its_time call peer session ms is =
       let until = waits_until call peer session ms is in
       let in_time = within (clock_at items) config.common.call_timeout_ms ms in
@@ -67,11 +67,11 @@ module _ (config : Config) (items : List Item) where
 -- ---- offers
 
 module _ (items : List Item) where
-  known_is : (instance : InstanceId) → is_known items instance ≡ is_some (known_at (clock_at items) (known_offer_at items instance))
+  known_is : (instance : InstanceId) → is_offer_known items instance ≡ is_some (known_at (clock_at items) (known_offer_at items instance))
   known_is instance = ap (λ v. is_some (known_at (clock_at items) v)) (get-known items instance)
 
 module _ (items : List Item) (offer : ReceivedOffer) (endpoint : SocketAddrV4) where
-  known_until : (ms : ℕ) → is_known (Ticked ms ∷ OfferCounted offer endpoint ∷ items) offer.instance
+  known_until : (ms : ℕ) → is_offer_known (Ticked ms ∷ OfferCounted offer endpoint ∷ items) offer.instance
       ≡ not (has_passed (clock_at items + ms) (deadline_after (clock_at items) offer.ttl))
   known_until ms =
       known_is (Ticked ms ∷ OfferCounted offer endpoint ∷ items) offer.instance
@@ -89,12 +89,12 @@ module _ (items : List Item) (offer : ReceivedOffer) (endpoint : SocketAddrV4) w
       cases false is = ap (λ b. is_some (option_map (λ l. l.value) (cond (not b) (Some lasting) None))) is
 
   pub known_its_ttl : (ms : ℕ) → offer.ttl ≢ 0xFFFFFF
-      → (is_known (Ticked ms ∷ OfferCounted offer endpoint ∷ items) offer.instance ≡ true) ↔ (ms < 1000 * offer.ttl)
+      → (is_offer_known (Ticked ms ∷ OfferCounted offer endpoint ∷ items) offer.instance ≡ true) ↔ (ms < 1000 * offer.ttl)
   known_its_ttl ms timed =
       let in_time = within_ttl (clock_at items) offer.ttl ms timed in
       ((λ t. in_time.0 (sym (known_until ms) ∙ t)), (λ lt. known_until ms ∙ in_time.1 lt))
 
-pub known_no_more : (items : List Item) (instance : InstanceId) → is_known (OfferWithdrawn instance ∷ items) instance ≡ false
+pub known_no_more : (items : List Item) (instance : InstanceId) → is_offer_known (OfferWithdrawn instance ∷ items) instance ≡ false
 known_no_more items instance =
     known_is (OfferWithdrawn instance ∷ items) instance
     ∙ ap (λ t. is_some (known_at (clock_at items) (cond t None (known_offer_at items instance)))) (own_test instances_total instance)

@@ -26,8 +26,8 @@ use Rattle.someip_node_rules.specs.Questions.{clock_at, latest, table_of}
 -- ---- calls
 
 -- a call with its session
-abbrev pub key_of : Call → ℕ → CallKey
-key_of call session = record { message = call.message; session = session }
+abbrev pub call_key : Call → ℕ → CallKey
+call_key call session = record { message = call.message; session = session }
 
 -- what a call waits for, from a moment on: the answer of its peer in its major version, as long as a call may wait
 abbrev pub awaited_from : Config → Call → SocketAddrV4 → ℕ → Lasting Awaited
@@ -42,7 +42,7 @@ waiting_call Request key = key ∷ []
 waiting_call RequestNoReturn key = []
 
 abbrev pub call_made : Item → List CallKey
-call_made (Called call peer session) = waiting_call call.kind (key_of call session)
+call_made (Called call peer session) = waiting_call call.kind (call_key call session)
 call_made item = []
 
 -- one with a return decides its key
@@ -53,7 +53,7 @@ called_by RequestNoReturn key awaited q stood = stood
 -- What a call waits for, and until when: it was made, and its answer was not taken since. The time may have passed
 abbrev pub awaited_by : Config → Item → List Item → CallKey → Option (Lasting Awaited) → Option (Lasting Awaited)
 awaited_by config (Called call peer session) before q stood =
-    called_by call.kind (key_of call session) (awaited_from config call peer (clock_at before)) q stood
+    called_by call.kind (call_key call session) (awaited_from config call peer (clock_at before)) q stood
 awaited_by config (AnswerTaken key) before q stood = if eq_by_cmp call_cmp q key then None else stood
 awaited_by config item before q stood = stood
 

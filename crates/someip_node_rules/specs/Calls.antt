@@ -155,8 +155,8 @@ abbrev pub answering_refusal : ℕ → Reply → List ℕ → Tables → Option 
 answering_refusal token reply payload t =
     as_node_error (answer_refusal t.config.common.message_limit reply (length payload) (finite.get t.server.requests token))
 
-abbrev pub answers_to : ℕ → Reply → List ℕ → Asked → Outcome
-answers_to token reply payload request = record {
+abbrev pub answers_request : ℕ → Reply → List ℕ → Asked → Outcome
+answers_request token reply payload request = record {
   items = Answered token ∷ [];
   given =
       Sends request.endpoint request.peer (record { header = answer_header request (kind_of_reply reply) (code_of_reply reply); payload = payload }) ∷ [];
@@ -165,7 +165,7 @@ answers_to token reply payload request = record {
 
 -- a request is answered
 abbrev pub answers : ℕ → Reply → List ℕ → Tables → Outcome
-answers token reply payload t = option_map_or (answers_to token reply payload) (finite.get t.server.requests token) nothing
+answers token reply payload t = option_map_or (answers_request token reply payload) (finite.get t.server.requests token) nothing
 
 -- ---- events
 

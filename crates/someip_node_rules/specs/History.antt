@@ -50,5 +50,5 @@ abbrev pub historic : Kept History
 historic = record { ask = answers_of; meet = met }
 
 -- work by a history, as its tables show it
-abbrev pub shown : Work History → Work Tables
-shown w = work (answers_of w.state) w.outputs w.replies
+abbrev pub shown_work : Work History → Work Tables
+shown_work w = work (answers_of w.state) w.outputs w.replies

@@ -28,8 +28,8 @@ abbrev pub is_waiting : Config → List Item → CallKey → Bool
 is_waiting config items key = is_some (finite.get (pending_in config (clock_at items) items) key)
 
 -- the offer of an instance is known
-abbrev pub is_known : List Item → InstanceId → Bool
-is_known items instance = is_some (known_at (clock_at items) (finite.get (known_in items) instance))
+abbrev pub is_offer_known : List Item → InstanceId → Bool
+is_offer_known items instance = is_some (known_at (clock_at items) (finite.get (known_in items) instance))
 
 -- the offer of an instance was stopped
 abbrev pub offer_stopped : Item → List InstanceId

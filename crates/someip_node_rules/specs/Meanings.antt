@@ -34,7 +34,7 @@ use Rattle.someip_node_rules.specs.Calls.{call_of, session_of}
 use Rattle.someip_node_rules.specs.History.{History}
 use Rattle.someip_node_rules.specs.Inputs.{Input}
 use Rattle.someip_node_rules.specs.Learning.{answer_in, eventgroup_in}
-use Rattle.someip_node_rules.specs.Messages.{publisher, publishes}
+use Rattle.someip_node_rules.specs.Messages.{publisher, is_event_of}
 use Rattle.someip_node_rules.specs.Outputs.{Given, Announces, Sends, Tells}
 use Rattle.someip_node_rules.specs.Plans.{Rule, Calls, Hears, TakesAck, TakesAnswer, TakesBack, TakesEvent, TakesNack, TakesOffer, TakesRequest, TakesStopOffer, TakesSubscribe, Ticks}
 use Rattle.someip_node_rules.specs.Sending.{IsAnnounced, IsSent}
@@ -69,7 +69,7 @@ pub record IsAnswer (from : SocketAddrV4) (header : Header) (t : Tables) (messag
 pub record IsEvent (from : SocketAddrV4) (header : Header) (t : Tables) (instance : InstanceId) (event : ℕ) : Type 0 where
   pub want : WantedService
   pub wanted : Contains t.config.wants.entries (instance, want)
-  pub published : IsTrue (publishes t from header (instance, want))
+  pub published : IsTrue (is_event_of t from header (instance, want))
   pub first : publisher t from header ≡ Some instance
   pub named : event ≡ header.method
 

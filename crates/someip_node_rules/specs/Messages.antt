@@ -118,15 +118,15 @@ takes_event t instance want event = list_any (is_subscribed_by t instance event)
 
 -- an event is one of an instance: it comes from the endpoint of the known offer, with the wanted major version, and
 -- belongs to an eventgroup that the client is subscribed to
-abbrev pub publishes : Tables → SocketAddrV4 → Header → InstanceId × WantedService → Bool
-publishes t from header want =
+abbrev pub is_event_of : Tables → SocketAddrV4 → Header → InstanceId × WantedService → Bool
+is_event_of t from header want =
     (want.0.service == header.service) && (want.1.major == header.interface)
     && option_map_or (λ endpoint. eq_by_cmp endpoint_cmp endpoint from) (known_endpoint t want.0) false
     && takes_event t want.0 want.1 header.method
 
 -- the instance that an event is of: the first one, by rising instance
 abbrev pub publisher : Tables → SocketAddrV4 → Header → Option InstanceId
-publisher t from header = option_map (λ want. want.0) (find (publishes t from header) t.config.wants.entries)
+publisher t from header = option_map (λ want. want.0) (find (is_event_of t from header) t.config.wants.entries)
 
 abbrev pub event_by : Header → List ℕ → Option InstanceId → Outcome
 event_by header payload None = dropped NotSubscribed

@@ -33,15 +33,15 @@ step h input = unless_refused (refusal_of input (answers_of h)) (plan_of input) 
 
 -- What a call gives, and what the node then stands for. An input that is refused is answered by its refusal, and the node
 -- is as it was. Any other is done, or memory ran out, and the node has failed
-abbrev pub Gives : History → Result (Work History) NodeError → Result (Vec Output) NodeError → NodeView → Type 0
-Gives h (Ok done) (Ok outputs) new = (outputs.items ≡ done.outputs) × StandsFor new done.state
-Gives h (Ok done) (Err error) new = (error ≡ OutOfMemory) × (new.tables ≡ None)
-Gives h (Err refusal) (Ok outputs) new = ⊥
-Gives h (Err refusal) (Err error) new = (error ≡ refusal) × StandsFor new h
+abbrev pub GivesStep : History → Result (Work History) NodeError → Result (Vec Output) NodeError → NodeView → Type 0
+GivesStep h (Ok done) (Ok outputs) new = (outputs.items ≡ done.outputs) × StandsFor new done.state
+GivesStep h (Ok done) (Err error) new = (error ≡ OutOfMemory) × (new.tables ≡ None)
+GivesStep h (Err refusal) (Ok outputs) new = ⊥
+GivesStep h (Err refusal) (Err error) new = (error ≡ refusal) × StandsFor new h
 
 -- a node takes an input
 abbrev pub Reacts : NodeView → Input → Result (Vec Output) NodeError → NodeView → Type 0
-Reacts old input result new = (h : History) → StandsFor old h → Gives h (step h input) result new
+Reacts old input result new = (h : History) → StandsFor old h → GivesStep h (step h input) result new
 
 -- a node that failed answers that, and stays so
 abbrev pub StaysFailed : NodeView → Result (Vec Output) NodeError → NodeView → Type 0

@@ -95,8 +95,8 @@ abbrev pub subscribe_head : EventgroupEntry
 subscribe_head = record { kind = Subscribe; service = 0x1111; instance = 1; major = 1; ttl = 3; counter = 0; eventgroup = 1 }
 
 -- the entry of its Nack
-abbrev pub nack : EntryValue
-nack = ack_entry subscribe_head 0
+abbrev pub nack_answer : EntryValue
+nack_answer = ack_entry subscribe_head 0
 
 -- the payload of a message of Service Discovery with one entry, and the option 192.168.0.2:40001 after it
 abbrev pub subscribe_payload : List ℕ

@@ -25,7 +25,7 @@ ghost use Rattle.someip_node_rules.specs.declared.drops.DropReason.TheVariants.{
 ghost use Rattle.someip_node_rules.specs.declared.config.Config.{Config};
 ghost use Rattle.someip_node_rules.specs.declared.drops.DropReason.TheVariants as drop_reason;
 ghost use Rattle.someip_node_rules.specs.declared.output.Output.TheVariants.{Dropped, Request, Sent};
-ghost use Rattle.someip_node_rules.specs.WorkedExamples.{IsServer, bad_subscribe, client, instance, nack, nack_payload, nack_given, refusing, served, server, service, subscribe_head, subscribe_payload, bad_subscribed};
+ghost use Rattle.someip_node_rules.specs.WorkedExamples.{IsServer, bad_subscribe, client, instance, nack_answer, nack_payload, nack_given, refusing, served, server, service, subscribe_head, subscribe_payload, bad_subscribed};
 
 /// A REQUEST for a method that the instance does not have is answered by an ERROR with the code 03, and
 /// a REQUEST_NO_RETURN is dropped. A REQUEST for its method 0421 is handed up with the first token, and a
@@ -61,7 +61,7 @@ pub fn bad_runs_by_example()
         → has_eventgroup (service is.events) 1 ≡ false
         → rule (TakesSubscribe peer subscribe_head None) (answers_of (start_of config 10))
         ≡ nacked_for subscribe_head UnknownEventgroup }
-    ensures written { discovery_payload true (nack ∷ []) ≡ nack_payload }
+    ensures written { discovery_payload true (nack_answer ∷ []) ≡ nack_payload }
     ensures answered { (config : Config) (is : IsServer config)
         → has_eventgroup (service is.events) 1 ≡ true → 0 < config.common.peers
         → bad_subscribed config ≡ nack_given NoEndpoint }

@@ -19,12 +19,12 @@ ghost use Rattle.someip_rpc.specs.Sessions.{next_of, session_after};
 ghost use Rattle.someip_tables.specs.declared.deadline.Deadline.TheVariants.{At};
 ghost use Rattle.someip_tables.specs.Lastings.{unless_passed};
 ghost use Rattle.someip_node_rules.specs.declared.config.Config.{Config};
-ghost use Rattle.someip_node_rules.specs.CallQuestions.{awaited_at, key_of, last_session_at, open_request_at, times_published};
+ghost use Rattle.someip_node_rules.specs.CallQuestions.{awaited_at, call_key, last_session_at, open_request_at, times_published};
 ghost use Rattle.someip_node_rules.specs.DiscoveryQuestions.{messages_to, stamps_at};
-ghost use Rattle.someip_node_rules.specs.History.{History, answers_of, historic, met, shown, start_of};
+ghost use Rattle.someip_node_rules.specs.History.{History, answers_of, historic, met, shown_work, start_of};
 ghost use Rattle.someip_node_rules.specs.HistoryExamples.{ack_of, acked_after, begun_with, endpoint, eventgroup, offer_for, other_server, server, subscribing_with, waiting_with};
 ghost use Rattle.someip_node_rules.specs.Items.{Item, AckCame, AnswerTaken, Called, NackCame, OfferCounted, OfferStopped, OfferWithdrawn, PeerRebooted, SubscriptionAccepted, SubscriptionStopped, Ticked, changed};
-ghost use Rattle.someip_node_rules.specs.Lives.{has_its_offer, is_known, is_live, is_waiting, was_stopped};
+ghost use Rattle.someip_node_rules.specs.Lives.{has_its_offer, is_offer_known, is_live, is_waiting, was_stopped};
 ghost use Rattle.someip_node_rules.specs.Plans.{Plan, Work, plain, run};
 ghost use Rattle.someip_node_rules.specs.Questions.{clock_at};
 ghost use Rattle.someip_node_rules.specs.SeekQuestions.{known_offer_at};
@@ -46,7 +46,7 @@ pub fn tables_are_answers()
 /// What a plan does with the tables of a history is what it does with the history.
 pub fn plans_ask_the_history()
     ensures { (plan : Plan) (w : Work History)
-        → run plain plan (shown w) ≡ shown (run historic plan w) }
+        → run plain plan (shown_work w) ≡ shown_work (run historic plan w) }
 {}
 
 /// What a table has of a key is what the history answers of that key alone.
@@ -115,7 +115,7 @@ pub fn subscriptions_end_early()
 pub fn calls_wait_for_their_time()
     ensures timed { (config : Config) (items : List Item) (call : Call) (peer : SocketAddrV4)
         (session ms : ℕ) → call.kind ≡ Request
-        → IsTrue (is_waiting config (Ticked ms ∷ Called call peer session ∷ items) (key_of call session))
+        → IsTrue (is_waiting config (Ticked ms ∷ Called call peer session ∷ items) (call_key call session))
         ↔ (ms < config.common.call_timeout_ms) }
     ensures answered { (config : Config) (items : List Item) (key : CallKey)
         → IsFalse (is_waiting config (AnswerTaken key ∷ items) key) }
@@ -126,10 +126,10 @@ pub fn calls_wait_for_their_time()
 pub fn offers_are_known_for_their_ttl()
     ensures timed { (items : List Item) (offer : ReceivedOffer) (endpoint : SocketAddrV4) (ms : ℕ)
         → offer.ttl ≢ 0xFFFFFF
-        → IsTrue (is_known (Ticked ms ∷ OfferCounted offer endpoint ∷ items) offer.instance)
+        → IsTrue (is_offer_known (Ticked ms ∷ OfferCounted offer endpoint ∷ items) offer.instance)
         ↔ (ms < 1000 * offer.ttl) }
     ensures withdrawn { (items : List Item) (instance : InstanceId)
-        → IsFalse (is_known (OfferWithdrawn instance ∷ items) instance) }
+        → IsFalse (is_offer_known (OfferWithdrawn instance ∷ items) instance) }
 {}
 
 /// Examples: a client wishes an eventgroup, and its instance is offered; the Subscribe has the counter

@@ -55,8 +55,8 @@ is_declared rules kinds.RequestNoReturn method = contains nat_cmp rules.oneways 
 is_declared rules _ method = false
 
 -- a method is declared for REQUEST or for REQUEST_NO_RETURN
-abbrev pub is_known : ServiceRules → ℕ → Bool
-is_known rules method = is_declared rules kinds.Request method || is_declared rules kinds.RequestNoReturn method
+abbrev pub is_known_method : ServiceRules → ℕ → Bool
+is_known_method rules method = is_declared rules kinds.Request method || is_declared rules kinds.RequestNoReturn method
 
 -- no further request can wait: 1024 do so already, or all tokens were given, the last of which is two below 2 to the 64th
 abbrev pub has_no_place : OpenRequests → ℕ → Bool
@@ -72,7 +72,7 @@ abbrev pub request_fault : ServiceRules → Bool → Header → OpenRequests →
 request_fault rules up header requests next =
     if not (up && (header.service == rules.service)) then Some UnknownService
     else if not (header.interface == rules.major) then Some WrongInterface
-    else if not (is_known rules header.method) then Some UnknownMethod
+    else if not (is_known_method rules header.method) then Some UnknownMethod
     else if not (is_declared rules header.kind header.method) then Some WrongType
     else if lacks_place header.kind requests next then Some NotReady
     else None

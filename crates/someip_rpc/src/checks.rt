@@ -1,6 +1,6 @@
 //! The checks of an instance on what comes to it.
 ghost use Rattle.std.specs.Prelude.{◌≡◌, Some, None};
-ghost use Rattle.someip_rpc.specs.Requests.{is_declared, is_known, has_no_place, lacks_place};
+ghost use Rattle.someip_rpc.specs.Requests.{is_declared, is_known_method, has_no_place, lacks_place};
 ghost use Rattle.someip_rpc.specs.Requests.{request_fault};
 
 use crate::open::OpenRequests;
@@ -25,7 +25,7 @@ pub(crate) fn request_fault(
         Some(RequestFault::UnknownService)
     } else if header.interface != rules.major {
         Some(RequestFault::WrongInterface)
-    } else if !is_known(rules, header.method) {
+    } else if !is_known_method(rules, header.method) {
         Some(RequestFault::UnknownMethod)
     } else if !is_declared(rules, header.kind, header.method) {
         Some(RequestFault::WrongType)
@@ -48,8 +48,8 @@ fn is_declared(rules: &ServiceRules, kind: MessageType, method: u16) -> bool
 }
 
 /// Whether a method is declared for REQUEST or for REQUEST_NO_RETURN.
-fn is_known(rules: &ServiceRules, method: u16) -> bool
-    ensures { result ≡ is_known rules.now method }
+fn is_known_method(rules: &ServiceRules, method: u16) -> bool
+    ensures { result ≡ is_known_method rules.now method }
 {
     is_declared(rules, MessageType::Request, method)
         || is_declared(rules, MessageType::RequestNoReturn, method)
