@@ -161,7 +161,8 @@ fn traces_that_cannot_be_written_leave_a_beginning(rt: HostRuntime) -> Result<()
         for calls in [0, 1, 60, TRACE.len() - 1] {
             let (result, taken) = written(rt.alloc(), &setup, 1, calls, takes_nothing);
             assert_eq!(rt; result, Err(RunFault::CannotWrite), "{calls}");
-            assert_eq!(rt; taken.as_slice(), &TRACE.as_bytes()[..calls], "{calls}");
+            assert_eq!(rt; taken.len(), calls, "{calls}");
+            assert!(rt; TRACE.as_bytes().starts_with(&taken), "{calls}");
         }
     }
     for most in [1, 7, 1000] {
