@@ -6,7 +6,7 @@ use Rattle.std.specs.Net.Addr.{octets_of}
 use Rattle.sd_wire.specs.declared.endpoint.Ipv4Endpoint.{Ipv4Endpoint}
 use Rattle.sd_wire.specs.declared.endpoint.Ipv6Endpoint.{Ipv6Endpoint}
 use Rattle.sd_wire.specs.declared.option.SdOption.{SdOption}
-use Rattle.sd_wire.specs.declared.option.SdOption.TheVariants.{LoadBalancing, Endpoint4, Multicast4, SdEndpoint4, Endpoint6, Multicast6, SdEndpoint6, Raw}
+use Rattle.sd_wire.specs.declared.option.SdOption.TheVariants.{Endpoint4, Endpoint6}
 use Rattle.sd_wire.specs.Fields.{number16}
 use Rattle.sd_wire.specs.Values.{EntryValue}
 use Rattle.sd_wire.specs.Spelling.{ipv4_bytes, ipv6_bytes, option_bytes, entry_bytes, Ipv4Fits, Ipv6Fits, RunsFit}
@@ -82,12 +82,7 @@ ipv6_length kind e fits =
 endpoint_length : (o : SdOption) → IsEndpoint o → length (option_bytes 0 0 o) ≤ 24
 endpoint_length (Endpoint4 e) fits = ipv4_length 0x04 e fits
 endpoint_length (Endpoint6 e) fits = ipv6_length 0x06 e fits
-endpoint_length (LoadBalancing priority weight) fits = absurd fits
-endpoint_length (Multicast4 e) fits = absurd fits
-endpoint_length (SdEndpoint4 e) fits = absurd fits
-endpoint_length (Multicast6 e) fits = absurd fits
-endpoint_length (SdEndpoint6 e) fits = absurd fits
-endpoint_length (Raw o) fits = absurd fits
+endpoint_length _ fits = absurd fits
 
 is_short : (e : EntryValue) → HasOneEndpointAtMost e → IsShortEntry e
 is_short e (inl none) = record {

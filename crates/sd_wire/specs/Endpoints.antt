@@ -3,7 +3,7 @@ use Rattle.std.specs.Prelude.{◌==◌, if◌then◌else◌, List, [], ◌∷◌
 use Rattle.std.specs.Option.{option_or}
 use Rattle.std.specs.declared.net.socket_addr.SocketAddrV4.{SocketAddrV4}
 use Rattle.sd_wire.specs.declared.option.SdOption.{SdOption}
-use Rattle.sd_wire.specs.declared.option.SdOption.TheVariants.{LoadBalancing, Endpoint4, Multicast4, SdEndpoint4, Endpoint6, Multicast6, SdEndpoint6, Raw}
+use Rattle.sd_wire.specs.declared.option.SdOption.TheVariants.{Endpoint4}
 use Rattle.sd_wire.specs.Values.{EntryValue}
 
 -- the options of an entry in order: those of the first run, and then those of the second
@@ -13,13 +13,7 @@ options_of e = e.first ++ e.second
 -- address and port of an IPv4 endpoint option (type 04) over UDP (protocol 11)
 abbrev pub udp_endpoint : SdOption → Option SocketAddrV4
 udp_endpoint (Endpoint4 e) = if e.protocol.0 == 0x11 then Some e.socket else None
-udp_endpoint (LoadBalancing priority weight) = None
-udp_endpoint (Multicast4 e) = None
-udp_endpoint (SdEndpoint4 e) = None
-udp_endpoint (Endpoint6 e) = None
-udp_endpoint (Multicast6 e) = None
-udp_endpoint (SdEndpoint6 e) = None
-udp_endpoint (Raw o) = None
+udp_endpoint _ = None
 
 -- the first of them among options
 abbrev pub first_udp_endpoint : List SdOption → Option SocketAddrV4

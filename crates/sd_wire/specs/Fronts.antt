@@ -1,7 +1,7 @@
 -- The longest fronts of entries as a function of them, beside the relation `AreFronts` (our own choice).
 use Rattle.std.specs.Prelude.{◌≡◌, ◌⊎◌, ℕ, zero, suc, ◌≤◌, Bool, false, nat_le, if◌then◌else◌, List, [], ◌∷◌, length, take, drop, Option, Some, None}
 use Rattle.sd_wire.specs.declared.option.SdOption.{SdOption}
-use Rattle.sd_wire.specs.declared.option.SdOption.TheVariants.{LoadBalancing, Endpoint4, Multicast4, SdEndpoint4, Endpoint6, Multicast6, SdEndpoint6, Raw}
+use Rattle.sd_wire.specs.declared.option.SdOption.TheVariants.{Endpoint4, Endpoint6}
 use Rattle.sd_wire.specs.Values.{EntryValue}
 use Rattle.sd_wire.specs.Endpoints.{options_of}
 use Rattle.sd_wire.specs.Spelling.{Ipv4Fits, Ipv6Fits}
@@ -43,12 +43,7 @@ fronts_of (n ∷ lengths) entries = take n entries ∷ fronts_of lengths (drop n
 abbrev pub IsEndpoint : SdOption → Type 0
 IsEndpoint (Endpoint4 e) = Ipv4Fits e
 IsEndpoint (Endpoint6 e) = Ipv6Fits e
-IsEndpoint (LoadBalancing priority weight) = ⊥
-IsEndpoint (Multicast4 e) = ⊥
-IsEndpoint (SdEndpoint4 e) = ⊥
-IsEndpoint (Multicast6 e) = ⊥
-IsEndpoint (SdEndpoint6 e) = ⊥
-IsEndpoint (Raw o) = ⊥
+IsEndpoint _ = ⊥
 
 -- an entry with no option, or with one, an endpoint
 abbrev pub HasOneEndpointAtMost : EntryValue → Type 0
