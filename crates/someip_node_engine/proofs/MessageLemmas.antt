@@ -48,14 +48,7 @@ kind_met t outputs replies instance service from header payload kinds.Request No
 kind_met t outputs replies instance service from header payload kinds.Request (Some fault) becomes e = refused_met t outputs replies instance service from header payload fault becomes e
 kind_met t outputs replies instance service from header payload kinds.RequestNoReturn None becomes e = rw (e, append-nil replies) refl
 kind_met t outputs replies instance service from header payload kinds.RequestNoReturn (Some fault) becomes e = rw (e, append-nil replies) refl
-kind_met t outputs replies instance service from header payload kinds.Notification fault becomes e = rw (e, append-nil replies) refl
-kind_met t outputs replies instance service from header payload kinds.Response fault becomes e = rw (e, append-nil replies) refl
-kind_met t outputs replies instance service from header payload kinds.Error fault becomes e = rw (e, append-nil replies) refl
-kind_met t outputs replies instance service from header payload kinds.TpRequest fault becomes e = rw (e, append-nil replies) refl
-kind_met t outputs replies instance service from header payload kinds.TpRequestNoReturn fault becomes e = rw (e, append-nil replies) refl
-kind_met t outputs replies instance service from header payload kinds.TpNotification fault becomes e = rw (e, append-nil replies) refl
-kind_met t outputs replies instance service from header payload kinds.TpResponse fault becomes e = rw (e, append-nil replies) refl
-kind_met t outputs replies instance service from header payload kinds.TpError fault becomes e = rw (e, append-nil replies) refl
+kind_met t outputs replies instance service from header payload _ fault becomes e = rw (e, append-nil replies) refl
 
 -- an instance takes a message as its rule says
 pub request_met : (t : Tables) (server : Server) (outputs given : List Output) (replies : List EntryValue) (instance : InstanceId)

@@ -1,5 +1,5 @@
 -- The order of reassembly keys.
-use Rattle.std.specs.Prelude.{◌≡◌, ℕ, Bool, List, [], ◌∷◌, refl, slice_index, unwrap_or}
+use Rattle.std.specs.Prelude.{◌≡◌, ℕ, Bool, List, [], ◌∷◌, slice_index, unwrap_or}
 use Rattle.std.proofs.Common.{ap}
 use Rattle.std.specs.declared.cmp.Ordering.{Ordering}
 use Rattle.std.specs.Ordering.{nat_cmp, ordering_then, eq_by_cmp}
@@ -9,8 +9,9 @@ use Rattle.std.specs.declared.net.socket_addr.SocketAddrV4.{SocketAddrV4}
 use Rattle.someip_tables.specs.Endpoints.{endpoint_cmp, coded_endpoint}
 use Rattle.someip_wire.specs.declared.Header.{Header}
 use Rattle.someip_wire.specs.declared.header.MessageType.{MessageType}
-use Rattle.someip_wire.specs.declared.header.MessageType.TheVariants.{Request, RequestNoReturn, Notification, Response, Error, TpRequest, TpRequestNoReturn, TpNotification, TpResponse, TpError}
+use Rattle.someip_wire.specs.declared.header.MessageType.TheVariants.{Request}
 use Rattle.someip_wire.specs.Kinds.{kind_byte, kind_of}
+use Rattle.someip_wire.proofs.MessageLemmas.{kind_of-kind_byte}
 use Rattle.someip_tp.specs.declared.key.ReassemblyKey.{ReassemblyKey}
 
 -- the key of the segments with this header that are sent from one endpoint to another: all of the header, which has
@@ -57,16 +58,7 @@ key_of p =
     }
 
 pub kind_back : (kind : MessageType) → unwrap_or (kind_of (kind_byte kind)) Request ≡ kind
-kind_back Request = refl
-kind_back RequestNoReturn = refl
-kind_back Notification = refl
-kind_back Response = refl
-kind_back Error = refl
-kind_back TpRequest = refl
-kind_back TpRequestNoReturn = refl
-kind_back TpNotification = refl
-kind_back TpResponse = refl
-kind_back TpError = refl
+kind_back kind = ap (λ found. unwrap_or found Request) (kind_of-kind_byte kind)
 
 pub key_back : (k : ReassemblyKey) → key_of (k.source, (k.destination, key_numbers k)) ≡ k
 key_back k = ap (λ kind. record k { kind = kind }) (kind_back k.kind)

@@ -48,7 +48,7 @@ kind_byte-kind_in bytes some =
       | Some k ↦ λ e h. kind_byte-kind_of (get_or bytes 14 0) k e
     ]) refl some
 
-kind_of-kind_byte : (k : MessageType) → kind_of (kind_byte k) ≡ Some k
+pub kind_of-kind_byte : (k : MessageType) → kind_of (kind_byte k) ≡ Some k
 kind_of-kind_byte Request = refl
 kind_of-kind_byte RequestNoReturn = refl
 kind_of-kind_byte Notification = refl
