@@ -3,7 +3,7 @@ ghost use Rattle.std.specs.Prelude.{◌≡◌, ◌++◌, ◌%◌, IfOk, OnOk};
 ghost use Rattle.someip_tp.specs.Keys.{segment_key};
 ghost use Rattle.someip_tp.specs.Offers.{judgement, message_at, parts_after, parts_less};
 ghost use Rattle.someip_tp.specs.Parts.{NoneAfter};
-ghost use Rattle.someip_tp.specs.Words.{segment_in};
+ghost use Rattle.someip_tp.specs.TpHeader.{segment_in};
 ghost use Rattle.someip_node_engine.specs.Arrivals.{segment_offer, refused_as, parts_once_taken};
 ghost use Rattle.someip_node_rules.specs.Handling.{completed_plan, segment_plan};
 ghost use Rattle.someip_node_rules.specs.Messages.{completed, completed_by};

@@ -16,7 +16,7 @@ use Rattle.someip_wire.specs.Spelling.{Fits, MessageValue}
 use Rattle.someip_tp.specs.declared.error.TpError.{TpError}
 use Rattle.someip_tp.specs.Keys.{segment_key}
 use Rattle.someip_tp.specs.Offers.{Offer, offer}
-use Rattle.someip_tp.specs.Words.{segment_in}
+use Rattle.someip_tp.specs.TpHeader.{segment_in}
 use Rattle.sd_wire.specs.declared.entry.EntryHead.{EntryHead}
 use Rattle.sd_wire.specs.declared.entry.EntryHead.TheVariants.{Service, Eventgroup}
 use Rattle.sd_wire.specs.declared.entry.EventgroupEntry.{EventgroupEntry}

@@ -15,7 +15,7 @@ use Rattle.someip_tp.specs.declared.calls.TpCall.{TpCall}
 use Rattle.someip_tp.specs.declared.calls.TpCall.TheVariants as call
 use Rattle.someip_tp.specs.Keys.{key_cmp, same_key}
 use Rattle.someip_tp.specs.Segments.{SegmentValue, segment_at, segment_header, segment_message}
-use Rattle.someip_tp.specs.Words.{segment_in}
+use Rattle.someip_tp.specs.TpHeader.{segment_in}
 use Rattle.someip_tp.specs.Sent.{segments_of}
 use Rattle.someip_tp.specs.Parts.{Limits, Part, Parts, parts_at}
 use Rattle.someip_tp.specs.Offers.{Offer, offer, judgement, kept, parts_after, part_under, no_part, with_offer, is_unaligned, is_too_long, conflicts, message_of, message_at, parts_less}

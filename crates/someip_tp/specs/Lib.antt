@@ -1,5 +1,5 @@
 pub mod Names
-pub mod Words
+pub mod TpHeader
 pub mod Segments
 pub mod Sent
 pub mod Keys

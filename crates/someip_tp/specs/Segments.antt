@@ -17,14 +17,14 @@ pub record SegmentValue : Type 0 where
 abbrev pub view_segment : Segment → SegmentValue
 view_segment s = record { header = s.header; offset = s.offset; more = s.more; slice = s.slice.now }
 
--- the word of a segment: its offset in bytes, a multiple of 16, and More Segments in the lowest bit
-abbrev pub word_of : SegmentValue → ℕ
-word_of s = s.offset + (if s.more then 1 else 0)
+-- the TP header of a segment: its offset in bytes, a multiple of 16, and More Segments in the lowest bit
+abbrev pub tp_header_of : SegmentValue → ℕ
+tp_header_of s = s.offset + (if s.more then 1 else 0)
 
--- the message that a segment is sent as: under its header, its word and then its slice. So its Length is 12 and
+-- the message that a segment is sent as: under its header, its TP header and then its slice. So its Length is 12 and
 -- the bytes of its slice.
 abbrev pub segment_message : SegmentValue → MessageValue
-segment_message s = record { header = s.header; payload = to_be_bytes w32 (word_of s) ++ s.slice }
+segment_message s = record { header = s.header; payload = to_be_bytes w32 (tp_header_of s) ++ s.slice }
 
 -- the header of each segment: the message's own, with the TP flag set
 abbrev pub segment_header : Header → Header

@@ -26,7 +26,7 @@ pub fn append_message(message: &Message<'_>, out: &mut Vec<u8>) -> Result<(), Al
     append_parts(&message.header, &[], message.payload, out)
 }
 
-/// Appends the bytes of a segment: its header with its Length, its word, and its slice.
+/// Appends the bytes of a segment: its header with its Length, its TP header, and its slice.
 ///
 /// The only error is that memory ran out where the vector had to grow, which leaves it as it was.
 pub fn append_segment(segment: &Segment<'_>, out: &mut Vec<u8>) -> Result<(), AllocError>
@@ -38,7 +38,7 @@ pub fn append_segment(segment: &Segment<'_>, out: &mut Vec<u8>) -> Result<(), Al
 {
     append_parts(
         &segment.header,
-        &segment.word().to_be_bytes(),
+        &segment.tp_header().to_be_bytes(),
         segment.slice,
         out,
     )
@@ -63,22 +63,22 @@ pub fn append_piece(piece: &SentPiece<'_>, out: &mut Vec<u8>) -> Result<(), Allo
 /// Appends a header and a payload of two parts. All memory is taken first.
 fn append_parts(
     header: &Header,
-    word: &[u8],
+    tp_header: &[u8],
     slice: &[u8],
     out: &mut Vec<u8>,
 ) -> Result<(), AllocError>
-    requires { 8 + (length word.now + length slice.now) < 2 ^ 32 }
+    requires { 8 + (length tp_header.now + length slice.now) < 2 ^ 32 }
     ensures ok { OnOk result (out.new.items ≡ out.old.items
-        ++ spelling (record { header = header.now; payload = word.now ++ slice.now })) }
+        ++ spelling (record { header = header.now; payload = tp_header.now ++ slice.now })) }
     ensures err { OnErr result (out.new.items ≡ out.old.items) }
     ensures full { OnErr result (vec_capacity out.old < vec_len out.old
-        + length (spelling (record { header = header.now; payload = word.now ++ slice.now }))) }
+        + length (spelling (record { header = header.now; payload = tp_header.now ++ slice.now }))) }
 {
-    let payload_len = word.len() + slice.len();
+    let payload_len = tp_header.len() + slice.len();
     out.reserve(HEADER_LEN + payload_len)?;
     out.extend_from_slice(&header_bytes(header, payload_len as u32))
         .unwrap();
-    out.extend_from_slice(word).unwrap();
+    out.extend_from_slice(tp_header).unwrap();
     out.extend_from_slice(slice).unwrap();
     Ok(())
 }

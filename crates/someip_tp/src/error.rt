@@ -25,7 +25,7 @@ pub enum TpError {
     /// Memory ran out.
     #[error("out of memory")]
     OutOfMemory,
-    /// The payload has no room for the word of a segment.
+    /// The payload has no room for the TP header of a segment.
     #[error("NoHeader")]
     NoHeader,
 }

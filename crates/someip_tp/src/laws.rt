@@ -13,7 +13,7 @@ ghost use Rattle.someip_tp.specs.declared.key.ReassemblyKey.{ReassemblyKey};
 ghost use Rattle.someip_tp.specs.declared.reassembly.Offered.{Offered};
 ghost use Rattle.someip_tp.specs.declared.reassembly.Offered.TheVariants.{Part as InPart};
 ghost use Rattle.someip_tp.specs.declared.reassembly.Offered.TheVariants.{Whole};
-ghost use Rattle.someip_tp.specs.Words.{segment_in};
+ghost use Rattle.someip_tp.specs.TpHeader.{segment_in};
 ghost use Rattle.someip_tp.specs.Segments.{SegmentValue, segment_message};
 ghost use Rattle.someip_tp.specs.Sent.{piece_message, segments_of, sent};
 ghost use Rattle.someip_tp.specs.Parts.{Limits, Part, Parts, parts_at};

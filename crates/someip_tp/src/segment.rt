@@ -1,6 +1,6 @@
 //! One segment (SOME/IP Protocol, "SOME/IP-TP header").
 ghost use Rattle.std.specs.Prelude.{◌≡◌, ◌<◌, ◌+◌, ◌%◌, ◌^◌, length, IfOk};
-ghost use Rattle.someip_tp.specs.Words.{reads_segment, segment_in, view_read_segment};
+ghost use Rattle.someip_tp.specs.TpHeader.{reads_segment, segment_in, view_read_segment};
 
 use crate::error::TpError;
 use someip_wire::Header;
@@ -8,8 +8,8 @@ use someip_wire::Header;
 /// A segment of a message: the message's header with the TP flag, the offset, More Segments, and a
 /// slice of the message's payload.
 ///
-/// On the wire it is a message: its payload is the word of the offset and More Segments, big-endian,
-/// and then the slice. So the offset is a multiple of 16, and the slice leaves room for 12 bytes in
+/// On the wire it is a message: its payload is the TP header, big-endian, which holds the offset and
+/// More Segments, and then the slice. So the offset is a multiple of 16, and the slice leaves room for 12 bytes in
 /// the Length field.
 ///
 /// ```text
@@ -38,12 +38,12 @@ pub struct Segment<'a> {
 }
 
 impl Segment<'_> {
-    ghost use Rattle.someip_tp.specs.Segments.{view_segment, word_of};
+    ghost use Rattle.someip_tp.specs.Segments.{view_segment, tp_header_of};
 
-    /// The word in front of the slice: the offset in its upper 28 bits, in units of 16 bytes, three
-    /// reserved bits of 0, and More Segments in the lowest bit.
-    pub fn word(&self) -> u32
-        ensures { result ≡ word_of (view_segment self.now) }
+    /// The TP header in front of the slice: the offset in its upper 28 bits, in units of 16 bytes,
+    /// three reserved bits of 0, and More Segments in the lowest bit.
+    pub fn tp_header(&self) -> u32
+        ensures { result ≡ tp_header_of (view_segment self.now) }
     {
         if self.more {
             self.offset + 1
@@ -53,8 +53,8 @@ impl Segment<'_> {
     }
 }
 
-/// The word and the slice in the payload of a segment: the offset in bytes, More Segments, and the
-/// slice. The three reserved bits of the word are ignored.
+/// The TP header and the slice in the payload of a segment: the offset in bytes, More Segments, and
+/// the slice. The three reserved bits of the TP header are ignored.
 ///
 /// A payload of fewer than four bytes is `NoHeader`, and nothing else is an error.
 ///
@@ -73,6 +73,6 @@ pub fn read_segment(payload: &[u8]) -> Result<(u32, bool, &[u8]), TpError>
     let [a, b, c, d, slice @ ..] = payload else {
         return Err(TpError::NoHeader);
     };
-    let word = u32::from_be_bytes([*a, *b, *c, *d]);
-    Ok((word - word % 16, word % 2 == 1, slice))
+    let tp_header = u32::from_be_bytes([*a, *b, *c, *d]);
+    Ok((tp_header - tp_header % 16, tp_header % 2 == 1, slice))
 }

@@ -30,8 +30,8 @@ fn payload_of(alloc: Global, len: u32) -> Result<Vec<u8>, AllocError> {
     Ok(bytes)
 }
 
-/// The words and the lengths of the slices of a message with this payload.
-fn words_and_lengths(alloc: Global, payload: &[u8]) -> Result<Vec<(u32, usize)>, AllocError> {
+/// The TP headers and the lengths of the slices of a message with this payload.
+fn tp_headers_and_lengths(alloc: Global, payload: &[u8]) -> Result<Vec<(u32, usize)>, AllocError> {
     let message = Message {
         header: HEADER,
         payload,
@@ -39,7 +39,7 @@ fn words_and_lengths(alloc: Global, payload: &[u8]) -> Result<Vec<(u32, usize)>,
     let mut found = Vec::new(alloc);
     if payload.len() < 100_000 {
         for segment in Segments::new(&message) {
-            found.push((segment.word(), segment.slice.len()))?;
+            found.push((segment.tp_header(), segment.slice.len()))?;
         }
     }
     Ok(found)
@@ -65,7 +65,7 @@ fn messages_in_segments(rt: HostRuntime) -> Result<(), Fail> {
     ];
     for (len, wanted) in rows {
         let payload = payload_of(rt.alloc(), len)?;
-        let found = words_and_lengths(rt.alloc(), &payload)?;
+        let found = tp_headers_and_lengths(rt.alloc(), &payload)?;
         assert!(rt; found.as_slice() == wanted);
     }
     Ok(())
@@ -153,7 +153,7 @@ fn messages_as_they_are_sent(rt: HostRuntime) -> Result<(), Fail> {
 }
 
 #[test]
-fn words_are_read(rt: HostRuntime) {
+fn tp_headers_are_read(rt: HostRuntime) {
     let none: &[u8] = &[];
     assert!(rt; read_segment(&[0, 0, 5, 0x7e]) == Ok((1392, false, none)));
     assert!(rt; read_segment(&[0, 0, 5, 0x7f]) == Ok((1392, true, none)));

@@ -4,7 +4,7 @@ use Rattle.someip_wire.specs.declared.WireError.{WireError}
 use Rattle.someip_wire.specs.Kinds.{has_tp_flag}
 use Rattle.someip_wire.specs.Spelling.{MessageValue, spelling}
 use Rattle.someip_wire.specs.Faults.{fault_name, fault_place}
-use Rattle.someipctl_print.specs.Lines.{message_line, segment_lines, has_no_word, fault_line}
+use Rattle.someipctl_print.specs.Lines.{message_line, segment_lines, has_no_tp_header, fault_line}
 use Rattle.someipctl_print.specs.Discovery.{discovery_in, discovery_lines, has_sd_fault}
 
 -- the lines of an item that begins at this place of the k-th datagram
@@ -25,5 +25,5 @@ lines_from k place (item ∷ items) = item_lines k place item ++ lines_from k (p
 -- a fault is shown of an item: the item is one, or it is a segment whose payload has no room for the word, or a
 -- message of Service Discovery whose payload has a fault
 abbrev pub is_faulty : Result MessageValue WireError → Bool
-is_faulty (Ok message) = (has_tp_flag message.header.kind && has_no_word message.payload) || has_sd_fault (discovery_in (Ok message))
+is_faulty (Ok message) = (has_tp_flag message.header.kind && has_no_tp_header message.payload) || has_sd_fault (discovery_in (Ok message))
 is_faulty (Err fault) = true

@@ -6,7 +6,7 @@ use Rattle.someip_wire.specs.declared.MessageType.{MessageType}
 use Rattle.someip_wire.specs.declared.MessageType.TheVariants.{Request, RequestNoReturn, Notification, Response, Error, TpRequest, TpRequestNoReturn, TpNotification, TpResponse, TpError}
 use Rattle.someip_wire.specs.Kinds.{has_tp_flag}
 use Rattle.someip_wire.specs.Spelling.{MessageValue}
-use Rattle.someip_tp.specs.Words.{offset_of, more_of, word_in}
+use Rattle.someip_tp.specs.TpHeader.{offset_of, more_of, tp_header_in}
 use Rattle.someipctl_print.specs.Parts.{hex4, hex2}
 
 -- the texts one after the other
@@ -53,21 +53,21 @@ abbrev pub flag_text : Bool → List ℕ
 flag_text true = codes "1"
 flag_text false = codes "0"
 
--- the line of a segment with this payload: the offset in bytes and More Segments, which its word says, and the
--- bytes of the slice after the word
+-- the line of a segment with this payload: the offset in bytes and More Segments, which its TP header says, and the
+-- bytes of the slice after it
 abbrev pub segment_line : ℕ → List ℕ → List ℕ
 segment_line k payload = joined (
-    decimal k ∷ codes " segment offset " ∷ decimal (offset_of (word_in payload))
-    ∷ codes " more " ∷ flag_text (more_of (word_in payload))
+    decimal k ∷ codes " segment offset " ∷ decimal (offset_of (tp_header_in payload))
+    ∷ codes " more " ∷ flag_text (more_of (tp_header_in payload))
     ∷ codes " bytes " ∷ decimal (length (drop 4 payload)) ∷ codes "\n" ∷ [])
 
--- a payload has no room for the word of a segment
-abbrev pub has_no_word : List ℕ → Bool
-has_no_word payload = nat_lt (length payload) 4
+-- a payload has no room for the TP header of a segment
+abbrev pub has_no_tp_header : List ℕ → Bool
+has_no_tp_header payload = nat_lt (length payload) 4
 
 -- what stands after the line of a message whose payload begins at this place: nothing, or where the message is
--- a segment its line, or the fault that its payload has no room for the word
+-- a segment its line, or the fault that its payload has no room for the TP header
 abbrev pub segment_lines : ℕ → ℕ → MessageValue → List ℕ
 segment_lines k place m =
-    if has_tp_flag m.header.kind then (if has_no_word m.payload then fault_line k (codes "NoHeader") place else segment_line k m.payload)
+    if has_tp_flag m.header.kind then (if has_no_tp_header m.payload then fault_line k (codes "NoHeader") place else segment_line k m.payload)
     else []

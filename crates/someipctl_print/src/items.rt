@@ -5,7 +5,7 @@ ghost use Rattle.someip_wire.specs.Kinds.{has_tp_flag};
 ghost use Rattle.someip_wire.specs.View.{view, view_item};
 ghost use Rattle.sd_wire.specs.Faults.{fault_place as sd_place};
 ghost use Rattle.someipctl_print.specs.Sending.{Sends, Stops};
-ghost use Rattle.someipctl_print.specs.Lines.{segment_lines, has_no_word};
+ghost use Rattle.someipctl_print.specs.Lines.{segment_lines, has_no_tp_header};
 ghost use Rattle.someipctl_print.specs.Discovery.{view_found, discovery_in, discovery_lines, has_sd_fault};
 ghost use Rattle.someipctl_print.specs.Items.{item_lines, item_len, is_faulty};
 
@@ -66,7 +66,7 @@ fn put_behind<W: Write>(
         (W.contents writer.new) buffer.new (segment_lines k place (view message.now)
         ++ discovery_lines k place (view_found found.entry))) }
     ensures faulty { IfOk result (λ faulty. faulty
-        ≡ ((has_tp_flag message.now.header.kind && has_no_word message.now.payload.now)
+        ≡ ((has_tp_flag message.now.header.kind && has_no_tp_header message.now.payload.now)
         || has_sd_fault (view_found found.entry))) }
     ensures err { OnErr result (Stops (W.contents writer.old) buffer.old
         (W.contents writer.new) (segment_lines k place (view message.now)

@@ -7,7 +7,7 @@ ghost use Rattle.someipctl_print.specs.Sending.{Sends, Stops};
 ghost use Rattle.someipctl_print.specs.Parts.{part_text};
 ghost use Rattle.someipctl_print.specs.Lines.{type_name, payload_text};
 ghost use Rattle.someipctl_print.specs.Lines.{message_line, fault_line, empty_line, flag_text};
-ghost use Rattle.someipctl_print.specs.Lines.{segment_lines, has_no_word};
+ghost use Rattle.someipctl_print.specs.Lines.{segment_lines, has_no_tp_header};
 
 use crate::output::{Buffer, CannotWrite};
 use crate::parts::{Part, put_parts};
@@ -55,8 +55,8 @@ pub(crate) fn message_parts<'m>(k: usize, message: &Message<'m>) -> [Part<'m>; 2
 }
 
 /// Prints what stands after the line of a message whose payload begins at a place of the k-th
-/// datagram: what the word of a segment says, or the fault that there is no room for it, or nothing
-/// where the message is no segment. Says whether it was the fault.
+/// datagram: what the TP header of a segment says, or the fault that there is no room for it, or
+/// nothing where the message is no segment. Says whether it was the fault.
 pub(crate) fn put_segment<W: Write>(
     buffer: &mut Buffer,
     writer: &mut W,
@@ -67,7 +67,7 @@ pub(crate) fn put_segment<W: Write>(
     ensures ok { OnOk result (Sends (W.contents writer.old) buffer.old
         (W.contents writer.new) buffer.new (segment_lines k place (view message.now))) }
     ensures faulty { IfOk result (λ faulty. faulty
-        ≡ (has_tp_flag message.now.header.kind && has_no_word message.now.payload.now)) }
+        ≡ (has_tp_flag message.now.header.kind && has_no_tp_header message.now.payload.now)) }
     ensures err { OnErr result (Stops (W.contents writer.old) buffer.old
         (W.contents writer.new) (segment_lines k place (view message.now))) }
 {

@@ -246,7 +246,7 @@ pub static OVERLAPS: [Row; 6] = [
 /// Which refusal comes first, and what it leaves.
 pub static REFUSALS: [Row; 10] = [
     Row {
-        about: "the word fffffff1 leaves the other parts",
+        about: "the TP header fffffff1 leaves the other parts",
         slots: 2,
         limit: 1400,
         steps: &[

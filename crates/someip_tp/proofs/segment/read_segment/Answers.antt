@@ -4,4 +4,4 @@ use Rattle.someip_tp.proofs.SegmentTexts.{says}
 use Rattle.someip_tp.proofs.segment.read_segment.Goals as goal
 
 pub returns-clause-exact : goal.returns-clause-exact
-returns-clause-exact c = says c.args.payload.now _ c.from_be_bytes-word.result (omega arith) (grind (arith, common_steps))
+returns-clause-exact c = says c.args.payload.now _ c.from_be_bytes-tp_header.result (omega arith) (grind (arith, common_steps))
