@@ -46,7 +46,7 @@ use Rattle.someip_node_rules.specs.Receivers.{messages_plan_to}
 use Rattle.someip_node_rules.specs.Setups.{wanted_instances}
 use Rattle.someip_node_rules.specs.Subscribing.{offer_of}
 use Rattle.someip_node_rules.specs.Tables.{Tables, known_endpoint, passed_instances, waiting_calls}
-use Rattle.someip_node_rules.specs.WorkedExamples.{asking, client, given_in, gives, instance, refusing, server}
+use Rattle.someip_node_rules.specs.WorkedExamples.{asking, client, gives, instance, refusing, server}
 use Rattle.std.specs.Option.{option_map}
 use Rattle.std.specs.FinMap.{empty, get-empty, get-from_entries}
 use Rattle.std.proofs.lemmas.Bool.{le-ltb}
@@ -57,7 +57,7 @@ use Rattle.someip_rpc.specs.Ids.{message_cmp}
 use Rattle.someip_node_rules.specs.declared.error.NodeError.TheVariants.{Rpc}
 use Rattle.someip_node_rules.specs.Advances.{stepped}
 use Rattle.someip_node_rules.specs.SeekQuestions.{offer_from}
-use Rattle.someip_node_rules.specs.Steps.{step}
+use Rattle.someip_node_rules.specs.Steps.{step, given_in}
 use Rattle.someip_node_rules.proofs.StepLemmas.{call_refused, first_call}
 use Rattle.someip_node_rules.proofs.NamedLemmas.{get-pending}
 use Rattle.someip_node_rules.proofs.OneEntryLemmas.{key_dropped, key_kept}

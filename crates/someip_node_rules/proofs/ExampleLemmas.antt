@@ -71,7 +71,8 @@ use Rattle.someip_node_rules.specs.Handling.{heard_plan, target_plan}
 use Rattle.someip_node_rules.specs.Items.{PeerHeard}
 use Rattle.someip_node_rules.specs.Plans.{both, rest}
 use Rattle.someip_node_rules.specs.declared.target.Target.TheVariants as target
-use Rattle.someip_node_rules.specs.WorkedExamples.{discovery_at, discovery_head, given_in, nack_given, server_address, bad_subscribed}
+use Rattle.someip_node_rules.specs.WorkedExamples.{discovery_at, discovery_head, nack_given, server_address, bad_subscribed}
+use Rattle.someip_node_rules.specs.Steps.{given_in}
 use Rattle.someip_node_rules.proofs.StepLemmas.{has_room, is_new, one_entry, reply_goes, work_after}
 
 module _ (config : Config) (is : IsServer config) where

@@ -35,7 +35,7 @@ use Rattle.someip_rpc.specs.Servers.{answer_refusal}
 use Rattle.someip_node_rules.specs.Handling.{target_of, target_plan}
 use Rattle.someip_node_rules.specs.Lives.{was_stopped}
 use Rattle.someip_node_rules.specs.Messages.{request_by, request_to}
-use Rattle.someip_node_rules.specs.Steps.{unless_refused}
+use Rattle.someip_node_rules.specs.Steps.{unless_refused, given_in}
 use Rattle.someip_node_rules.specs.declared.error.NodeError.TheVariants.{Rpc}
 use Rattle.someip_node_rules.specs.declared.target.Target.TheVariants as target
 use Rattle.someip_node_rules.proofs.NamedLemmas.{get-request}
@@ -52,7 +52,7 @@ use Rattle.someip_node_rules.specs.Receivers.{message_plan_to}
 use Rattle.someip_node_rules.specs.Setups.{offered_as, wanted_instances}
 use Rattle.someip_node_rules.specs.Subscribing.{offer_of}
 use Rattle.someip_node_rules.specs.Tables.{Tables, is_up, passed_instances}
-use Rattle.someip_node_rules.specs.WorkedExamples.{client, discovery_at, given_in, gives, instance, server, server_address, service}
+use Rattle.someip_node_rules.specs.WorkedExamples.{client, discovery_at, gives, instance, server, server_address, service}
 use Rattle.someip_node_rules.specs.WorkedRun.{LeadsTo, OffersEvent, having_met, answer_bytes, answered_items, call_bytes, group_address, offer_bytes, offered_items, request, requested_items}
 use Rattle.someip_node_rules.specs.declared.config.Config.{Config}
 use Rattle.std.specs.BTreeMap.{is_at}

@@ -1,5 +1,5 @@
 -- What a node gives for an input, by its history.
-use Rattle.std.specs.Prelude.{◌≡◌, ◌≢◌, [], Option, None, Some, Result, Ok, Err}
+use Rattle.std.specs.Prelude.{◌≡◌, ◌≢◌, List, [], Option, None, Some, Result, Ok, Err}
 use Rattle.std.specs.Global.{Vec}
 use Rattle.someip_node_rules.specs.declared.config.Config.{Config}
 use Rattle.someip_node_rules.specs.declared.error.NodeError.{NodeError}
@@ -30,6 +30,11 @@ unless_refused None plan h = Ok (run historic plan (work_on h))
 
 abbrev pub step : History → Input → Result (Work History) NodeError
 step h input = unless_refused (refusal_of input (answers_of h)) (plan_of input) h
+
+-- what was given, without what was met
+abbrev pub given_in : Result (Work History) NodeError → Result (List Output) NodeError
+given_in (Ok done) = Ok done.outputs
+given_in (Err refusal) = Err refusal
 
 -- What a call gives, and what the node then stands for. An input that is refused is answered by its refusal, and the node
 -- is as it was. Any other is done, or memory ran out, and the node has failed

@@ -1,5 +1,5 @@
 -- A node that offers an instance, and messages that come to it, as examples.
-use Rattle.std.specs.Prelude.{◌≡◌, ◌++◌, ℕ, true, List, [], ◌∷◌, Result, Ok, Err}
+use Rattle.std.specs.Prelude.{◌≡◌, ◌++◌, ℕ, true, List, [], ◌∷◌, Result, Ok}
 use Rattle.std.specs.BTreeMap.{BTreeMap}
 use Rattle.std.specs.BTreeSet.{BTreeSet}
 use Rattle.std.specs.declared.net.ipv4_addr.Ipv4Addr.{Ipv4Addr}
@@ -18,15 +18,9 @@ use Rattle.someip_node_rules.specs.declared.output.Output.{Output}
 use Rattle.someip_node_rules.specs.declared.output.Output.TheVariants.{Nacked, Sent}
 use Rattle.someip_node_rules.specs.History.{History, start_of}
 use Rattle.someip_node_rules.specs.Inputs.{Input, Datagram}
-use Rattle.someip_node_rules.specs.Plans.{Work}
-use Rattle.someip_node_rules.specs.Steps.{step}
+use Rattle.someip_node_rules.specs.Steps.{step, given_in}
 
 -- ---- what a step gives
-
--- what was given, without what was met
-abbrev pub given_in : Result (Work History) NodeError → Result (List Output) NodeError
-given_in (Ok done) = Ok done.outputs
-given_in (Err refusal) = Err refusal
 
 abbrev pub gives : History → Input → Result (List Output) NodeError
 gives h input = given_in (step h input)

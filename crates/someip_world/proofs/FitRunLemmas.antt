@@ -36,7 +36,7 @@ use Rattle.someip_node_rules.specs.Meanings.{GivenBy, IsTold}
 use Rattle.someip_node_rules.specs.Outputs.{Given, Announces, Sends, Tells, datagram_of, written}
 use Rattle.someip_node_rules.specs.Packets.{Packet}
 use Rattle.someip_node_rules.specs.Plans.{Work}
-use Rattle.someip_node_rules.specs.Steps.{step}
+use Rattle.someip_node_rules.specs.Steps.{step, given_in}
 use Rattle.someip_node_rules.specs.Trails.{given_by, trail_of}
 use Rattle.someip_node_rules.proofs.FitPlans.{done_fits, given_fits}
 use Rattle.someip_node_rules.proofs.FitRules.{no_notification}
@@ -51,7 +51,7 @@ use Rattle.someip_world.specs.declared.step_fault.StepFault.{StepFault}
 use Rattle.someip_world.specs.declared.step_fault.StepFault.TheVariants.{BadDelay, ClockPast, NotAddressed, PayloadTooLong}
 use Rattle.someip_world.specs.Datagrams.{SentDatagram, datagram_at, datagram_in, datagrams_in, sent_with}
 use Rattle.someip_world.specs.Deeds.{Deed, Takes, Restarts, deed_of, delivery, done_with, is_addressed}
-use Rattle.someip_world.specs.Runs.{AreCopies, World, given_in, history_after, told_lines, started_nodes, world_after}
+use Rattle.someip_world.specs.Runs.{AreCopies, World, history_after, told_lines, started_nodes, world_after}
 use Rattle.someip_world.specs.Turns.{LeadTo, Turn}
 use Rattle.someip_world.proofs.AnnouncedLemmas.{announced_fits, only_message, undiscovered, value_read}
 use Rattle.someip_world.proofs.KnownOfferLemmas.{all_got, numbered}

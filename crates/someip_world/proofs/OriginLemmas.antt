@@ -11,7 +11,7 @@ use Rattle.someip_node_rules.specs.Meanings.{GivenBy}
 use Rattle.someip_node_rules.specs.Meetings.{MetBy}
 use Rattle.someip_node_rules.specs.Outputs.{written}
 use Rattle.someip_node_rules.specs.Plans.{Work}
-use Rattle.someip_node_rules.specs.Steps.{step}
+use Rattle.someip_node_rules.specs.Steps.{step, given_in}
 use Rattle.someip_node_rules.specs.Trails.{after, given_by, met_by, trail_of}
 use Rattle.someip_node_rules.specs.declared.config.Config.{Config}
 use Rattle.someip_node_rules.specs.declared.error.NodeError.{NodeError}
@@ -25,7 +25,7 @@ use Rattle.someip_world_setup.specs.declared.setup_node.SetupNode.{SetupNode}
 use Rattle.someip_world.specs.Datagrams.{SentDatagram, datagram_in, datagrams_in, sent_with}
 use Rattle.someip_world.specs.Deeds.{Deed, Takes, Restarts, done_with}
 use Rattle.someip_world.specs.Origins.{HasOrigins, WasMet, WasSent}
-use Rattle.someip_world.specs.Runs.{World, given_in, history_after, told_lines, started_nodes, world_after, world_of}
+use Rattle.someip_world.specs.Runs.{World, history_after, told_lines, started_nodes, world_after, world_of}
 use Rattle.someip_world.specs.Turns.{LeadTo, Turn}
 use Rattle.someip_world.proofs.TurnLemmas.{turn_in}
 

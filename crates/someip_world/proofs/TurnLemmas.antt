@@ -14,7 +14,7 @@ use Rattle.someip_node_rules.specs.Inputs as inputs
 use Rattle.someip_node_rules.specs.Published.{IsPublished, IsPublishedTo}
 use Rattle.someip_node_rules.proofs.PublishedLemmas.{is_published, is_published_to}
 use Rattle.someip_node_rules.specs.Plans.{Work}
-use Rattle.someip_node_rules.specs.Steps.{step}
+use Rattle.someip_node_rules.specs.Steps.{step, given_in}
 use Rattle.someip_node_rules.specs.declared.config.Config.{Config}
 use Rattle.someip_node_rules.specs.declared.error.NodeError.{NodeError}
 use Rattle.someip_node_rules.specs.declared.output.Output.{Output}
@@ -28,7 +28,7 @@ use Rattle.someip_world.specs.declared.step_fault.StepFault.{StepFault}
 use Rattle.someip_world.specs.declared.step_fault.StepFault.TheVariants.{PayloadTooLong}
 use Rattle.someip_world.specs.Deeds.{Deed, Takes, deed_of, done_with, unless_long}
 use Rattle.someip_world.specs.Turns.{IsOfRun, LeadTo, TakesIt, ToldTurn, Turn, lines_at}
-use Rattle.someip_world.specs.Runs.{ComesTo, World, given_in, happens, happens_at, happens_to, told_lines, place_of, run_from, run_of, then_on, run_lines, unless_bad, world_after, world_of}
+use Rattle.someip_world.specs.Runs.{ComesTo, World, happens, happens_at, happens_to, told_lines, place_of, run_from, run_of, then_on, run_lines, unless_bad, world_after, world_of}
 
 -- ---- a step that happened
 

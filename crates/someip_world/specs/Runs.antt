@@ -4,6 +4,7 @@ use Rattle.std.specs.List.{AllZip, position_from}
 use Rattle.someip_node_rules.specs.Copies.{IsCopy}
 use Rattle.someip_node_rules.specs.History.{History, start_of}
 use Rattle.someip_node_rules.specs.Plans.{Work}
+use Rattle.someip_node_rules.specs.Steps.{given_in}
 use Rattle.someip_node_rules.specs.declared.config.Config.{Config}
 use Rattle.someip_node_rules.specs.declared.error.NodeError.{NodeError}
 use Rattle.someip_node_rules.specs.declared.output.Output.{Output}
@@ -42,11 +43,6 @@ place_of nodes name = position_from (λ n. bytes_eq (string_bytes n.name) name) 
 abbrev pub told_lines : ℕ → ℕ → Result (List Output) NodeError → List Line
 told_lines index place (Ok outputs) = map (λ output. record { step = index; node = place; told = Gave output }) outputs
 told_lines index place (Err refusal) = record { step = index; node = place; told = Refused refusal } ∷ []
-
--- what a node gives
-abbrev pub given_in : Result (Work History) NodeError → Result (List Output) NodeError
-given_in (Ok done) = Ok done.outputs
-given_in (Err refusal) = Err refusal
 
 -- its history then: a refused input changes nothing
 abbrev pub history_after : History → Result (Work History) NodeError → History

@@ -4,7 +4,7 @@ use Rattle.std.specs.List.{filter}
 use Rattle.someip_node_rules.specs.History.{History}
 use Rattle.someip_node_rules.specs.Inputs.{Input}
 use Rattle.someip_node_rules.specs.Plans.{Work}
-use Rattle.someip_node_rules.specs.Steps.{step}
+use Rattle.someip_node_rules.specs.Steps.{step, given_in}
 use Rattle.someip_node_rules.specs.declared.config.Config.{Config}
 use Rattle.someip_node_rules.specs.declared.error.NodeError.{NodeError}
 use Rattle.someip_world_schedule.specs.declared.step.Step.{Step}
@@ -12,7 +12,7 @@ use Rattle.someip_world_schedule.specs.StepNodes.{node_of}
 use Rattle.someip_world_setup.specs.declared.setup_node.SetupNode.{SetupNode}
 use Rattle.someip_world.specs.declared.line.Line.{Line}
 use Rattle.someip_world.specs.Deeds.{Deed, Takes, deed_of, done_with}
-use Rattle.someip_world.specs.Runs.{AreCopies, World, given_in, told_lines, place_of, run_from, run_of, world_after, world_of}
+use Rattle.someip_world.specs.Runs.{AreCopies, World, told_lines, place_of, run_from, run_of, world_after, world_of}
 
 -- some steps, from the start of all nodes on, lead to this world
 abbrev pub LeadTo : List SetupNode → List Config → List Step → World → Type 0

@@ -22,8 +22,8 @@ abbrev pub lines_from : ℕ → ℕ → List (Result MessageValue WireError) →
 lines_from k place [] = []
 lines_from k place (item ∷ items) = item_lines k place item ++ lines_from k (place + item_len item) items
 
--- a fault is shown of an item: the item is one, or it is a segment whose payload has no room for the word, or a
--- message of Service Discovery whose payload has a fault
+-- a fault is shown of an item: the item is one, or it is a segment whose payload has no room for the TP
+-- header, or a message of Service Discovery whose payload has a fault
 abbrev pub is_faulty : Result MessageValue WireError → Bool
 is_faulty (Ok message) = (has_tp_flag message.header.kind && has_no_tp_header message.payload) || has_sd_fault (discovery_in (Ok message))
 is_faulty (Err fault) = true

@@ -63,7 +63,7 @@ datagram 123404210000000d000100010101a10100001051ff
 > 1 message 1234.0421 length 13 client 0001 session 0001 interface 01 type TP_ERROR code 01 payload 00001051ff
 > 1 segment offset 4176 more 1 bytes 1
 
-# The three reserved bits of the word are ignored.
+# The three reserved bits of the TP header are ignored.
 datagram 123404210000000c00010001010120000000057e
 > 1 message 1234.0421 length 12 client 0001 session 0001 interface 01 type TP_REQUEST code 00 payload 0000057e
 > 1 segment offset 1392 more 0 bytes 0
@@ -76,7 +76,7 @@ datagram 123404210000000d0001000101012200fffffff02a
 > 1 message 1234.0421 length 13 client 0001 session 0001 interface 01 type TP_NOTIFICATION code 00 payload fffffff02a
 > 1 segment offset 4294967280 more 0 bytes 1
 
-# A payload below four bytes has no word: the fault is at its first byte, also where there is none.
+# A payload below four bytes has no TP header: the fault is at its first byte, also where there is none.
 datagram 12340421000000080001000101012000
 > 1 message 1234.0421 length 8 client 0001 session 0001 interface 01 type TP_REQUEST code 00 payload -
 > 1 fault NoHeader at 16

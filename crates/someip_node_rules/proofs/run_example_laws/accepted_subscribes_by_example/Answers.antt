@@ -1,5 +1,5 @@
 use Rattle.std.proofs.Common.{ap}
-use Rattle.someip_node_rules.specs.WorkedExamples.{given_in}
+use Rattle.someip_node_rules.specs.Steps.{given_in}
 use Rattle.someip_node_rules.proofs.ServerEvents.{subscribe_accepted, subscribe_nacked}
 use Rattle.someip_node_rules.proofs.run_example_laws.accepted_subscribes_by_example.Goals as goal
 

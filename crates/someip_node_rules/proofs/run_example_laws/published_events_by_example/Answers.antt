@@ -1,5 +1,5 @@
 use Rattle.std.proofs.Common.{ap}
-use Rattle.someip_node_rules.specs.WorkedExamples.{given_in}
+use Rattle.someip_node_rules.specs.Steps.{given_in}
 use Rattle.someip_node_rules.proofs.ServerEvents.{event_goes, event_goes_nowhere}
 use Rattle.someip_node_rules.proofs.run_example_laws.published_events_by_example.Goals as goal
 

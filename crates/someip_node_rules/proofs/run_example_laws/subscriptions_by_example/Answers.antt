@@ -1,5 +1,5 @@
 use Rattle.std.proofs.Common.{ap}
-use Rattle.someip_node_rules.specs.WorkedExamples.{given_in}
+use Rattle.someip_node_rules.specs.Steps.{given_in}
 use Rattle.someip_node_rules.proofs.ClientEvents.{ack_taken, other_ack_dropped, other_not_wanted, subscribe_goes}
 use Rattle.someip_node_rules.proofs.run_example_laws.subscriptions_by_example.Goals as goal
 
