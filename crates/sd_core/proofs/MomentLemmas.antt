@@ -6,7 +6,7 @@ use Rattle.std.proofs.lemmas.Bool.{lt-ltb, le-ltb, ltb-true, ltb-false, le-leb, 
 use Rattle.std.specs.Option.{option_and_then, option_map_or}
 use Rattle.sd_core.specs.declared.phases.Phases.{Phases}
 use Rattle.sd_core.specs.declared.sending.Sending.{Sending}
-use Rattle.sd_core.specs.Sendings.{wait, first_at, is_due, after_sending, sent_if_due, after_find}
+use Rattle.sd_core.specs.Sendings.{wait, first_at, goes_out, after_sending, sent_if_due, after_find}
 use Rattle.sd_core.specs.OfferMoments.{offer_moment}
 
 -- ---- the moments
@@ -177,19 +177,19 @@ stands phases d from (suc n) le =
 
 -- one goes out exactly at the moments
 pub offers_sent : (phases : Phases) (d from n : ℕ) → from ≤ d
-    → (is_due (from + n) (ticked_from phases from n (first_at d)) ≡ true) ↔ ((k : ℕ) × (from + n ≡ offer_moment phases d k))
+    → (goes_out (from + n) (ticked_from phases from n (first_at d)) ≡ true) ↔ ((k : ℕ) × (from + n ≡ offer_moment phases d k))
 offers_sent phases d from n le = (goes, is_sent)
   where
     s : Stands phases d (from + n) (ticked_from phases from n (first_at d))
     s = stands phases d from n le
 
-    due_is : is_due (from + n) (ticked_from phases from n (first_at d)) ≡ nat_le (offer_moment phases d s.k) (from + n)
-    due_is = ap (is_due (from + n)) s.is
+    due_is : goes_out (from + n) (ticked_from phases from n (first_at d)) ≡ nat_le (offer_moment phases d s.k) (from + n)
+    due_is = ap (goes_out (from + n)) s.is
 
-    goes : is_due (from + n) (ticked_from phases from n (first_at d)) ≡ true → (k : ℕ) × (from + n ≡ offer_moment phases d k)
+    goes : goes_out (from + n) (ticked_from phases from n (first_at d)) ≡ true → (k : ℕ) × (from + n ≡ offer_moment phases d k)
     goes due = (s.k, omega (arith, leb-true (offer_moment phases d s.k) (from + n) (sym due_is ∙ due), s.next))
 
-    is_sent : ((k : ℕ) × (from + n ≡ offer_moment phases d k)) → is_due (from + n) (ticked_from phases from n (first_at d)) ≡ true
+    is_sent : ((k : ℕ) × (from + n ≡ offer_moment phases d k)) → goes_out (from + n) (ticked_from phases from n (first_at d)) ≡ true
     is_sent at = due_is ∙ cases (nat_lt at.0 s.k) refl
       where
         cases : (b : Bool) → nat_lt at.0 s.k ≡ b → nat_le (offer_moment phases d s.k) (from + n) ≡ true
@@ -214,17 +214,17 @@ finding_late : (phases : Phases) (d k : ℕ) → phases.repetitions < k → find
 finding_late phases d k lt = ap (λ (b : Bool). if b then Some (sending_at phases d k) else None) (lt-leb k phases.repetitions lt)
 
 -- a tick before its moment, at it, and at that of the last
-find_kept : (phases : Phases) (now : ℕ) (sending : Sending) → is_due now sending ≡ false → after_find phases now sending ≡ Some sending
+find_kept : (phases : Phases) (now : ℕ) (sending : Sending) → goes_out now sending ≡ false → after_find phases now sending ≡ Some sending
 find_kept phases now sending due =
     ap (λ (b : Bool). if b then (if nat_lt sending.sent phases.repetitions then Some (after_sending phases now sending) else None) else Some sending) due
 
-find_sent : (phases : Phases) (now : ℕ) (sending : Sending) → is_due now sending ≡ true → nat_lt sending.sent phases.repetitions ≡ true
+find_sent : (phases : Phases) (now : ℕ) (sending : Sending) → goes_out now sending ≡ true → nat_lt sending.sent phases.repetitions ≡ true
     → after_find phases now sending ≡ Some (after_sending phases now sending)
 find_sent phases now sending due more =
     ap (λ (b : Bool). if b then (if nat_lt sending.sent phases.repetitions then Some (after_sending phases now sending) else None) else Some sending) due
     ∙ ap (λ (b : Bool). if b then Some (after_sending phases now sending) else None) more
 
-find_last : (phases : Phases) (now : ℕ) (sending : Sending) → is_due now sending ≡ true → nat_lt sending.sent phases.repetitions ≡ false → after_find phases now sending ≡ None
+find_last : (phases : Phases) (now : ℕ) (sending : Sending) → goes_out now sending ≡ true → nat_lt sending.sent phases.repetitions ≡ false → after_find phases now sending ≡ None
 find_last phases now sending due more =
     ap (λ (b : Bool). if b then (if nat_lt sending.sent phases.repetitions then Some (after_sending phases now sending) else None) else Some sending) due
     ∙ ap (λ (b : Bool). if b then Some (after_sending phases now sending) else None) more
@@ -233,7 +233,7 @@ find_at : (phases : Phases) (d k now : ℕ) → k ≤ phases.repetitions → now
     → after_find phases now (sending_at phases d k) ≡ finding_at phases d (suc k)
 find_at phases d k now le at = cases (nat_lt k phases.repetitions) refl
   where
-    due : is_due now (sending_at phases d k) ≡ true
+    due : goes_out now (sending_at phases d k) ≡ true
     due = le-leb (offer_moment phases d k) now (omega (arith, at))
 
     more : nat_lt (counted_sent phases k) phases.repetitions ≡ nat_lt k phases.repetitions
@@ -300,16 +300,16 @@ searches phases d from (suc n) le =
 
 -- one goes out exactly at the moments up to the last repetition
 pub finds_sent : (phases : Phases) (d from n : ℕ) → from ≤ d
-    → (option_map_or (is_due (from + n)) (found_from phases from n (Some (first_at d))) false ≡ true) ↔ ((k : ℕ) × (k ≤ phases.repetitions) × (from + n ≡ offer_moment phases d k))
+    → (option_map_or (goes_out (from + n)) (found_from phases from n (Some (first_at d))) false ≡ true) ↔ ((k : ℕ) × (k ≤ phases.repetitions) × (from + n ≡ offer_moment phases d k))
 finds_sent phases d from n le = (goes, is_sent)
   where
     s : Searches phases d (from + n) (found_from phases from n (Some (first_at d)))
     s = searches phases d from n le
 
-    tested : {v : Option Sending} → finding_at phases d s.k ≡ v → option_map_or (is_due (from + n)) (found_from phases from n (Some (first_at d))) false ≡ option_map_or (is_due (from + n)) v false
-    tested is = ap (λ v. option_map_or (is_due (from + n)) v false) (s.is ∙ is)
+    tested : {v : Option Sending} → finding_at phases d s.k ≡ v → option_map_or (goes_out (from + n)) (found_from phases from n (Some (first_at d))) false ≡ option_map_or (goes_out (from + n)) v false
+    tested is = ap (λ v. option_map_or (goes_out (from + n)) v false) (s.is ∙ is)
 
-    goes : option_map_or (is_due (from + n)) (found_from phases from n (Some (first_at d))) false ≡ true → (k : ℕ) × (k ≤ phases.repetitions) × (from + n ≡ offer_moment phases d k)
+    goes : option_map_or (goes_out (from + n)) (found_from phases from n (Some (first_at d))) false ≡ true → (k : ℕ) × (k ≤ phases.repetitions) × (from + n ≡ offer_moment phases d k)
     goes due = cases (nat_le s.k phases.repetitions) refl
       where
         cases : (b : Bool) → nat_le s.k phases.repetitions ≡ b → (k : ℕ) × (k ≤ phases.repetitions) × (from + n ≡ offer_moment phases d k)
@@ -319,10 +319,10 @@ finds_sent phases d from n le = (goes, is_sent)
             (s.k, le, omega (arith, leb-true (offer_moment phases d s.k) (from + n) now, s.next le))
         cases false left = let never : false ≡ true = sym (tested (finding_late phases d s.k (leb-false s.k phases.repetitions left))) ∙ due in absurd (cc)
 
-    is_sent : ((k : ℕ) × (k ≤ phases.repetitions) × (from + n ≡ offer_moment phases d k)) → option_map_or (is_due (from + n)) (found_from phases from n (Some (first_at d))) false ≡ true
+    is_sent : ((k : ℕ) × (k ≤ phases.repetitions) × (from + n ≡ offer_moment phases d k)) → option_map_or (goes_out (from + n)) (found_from phases from n (Some (first_at d))) false ≡ true
     is_sent at = cases (nat_lt at.0 s.k) refl
       where
-        cases : (b : Bool) → nat_lt at.0 s.k ≡ b → option_map_or (is_due (from + n)) (found_from phases from n (Some (first_at d))) false ≡ true
+        cases : (b : Bool) → nat_lt at.0 s.k ≡ b → option_map_or (goes_out (from + n)) (found_from phases from n (Some (first_at d))) false ≡ true
         cases true is = absurd (omega (arith, s.past at.0 (ltb-true at.0 s.k is), at.2))
         cases false is =
             let left : s.k ≤ phases.repetitions = omega (arith, ltb-false at.0 s.k is, at.1) in
@@ -335,23 +335,23 @@ none_found phases from (suc n) = ap (option_and_then (after_find phases (from + 
 
 -- ---- one tick, however late
 
-pub not_due_again : (phases : Phases) (now : ℕ) (sending : Sending) → is_due now (sent_if_due phases now sending) ≡ false
+pub not_due_again : (phases : Phases) (now : ℕ) (sending : Sending) → goes_out now (sent_if_due phases now sending) ≡ false
 not_due_again phases now sending = cases (nat_le sending.due now) refl
   where
-    cases : (b : Bool) → nat_le sending.due now ≡ b → is_due now (sent_if_due phases now sending) ≡ false
+    cases : (b : Bool) → nat_le sending.due now ≡ b → goes_out now (sent_if_due phases now sending) ≡ false
     cases true due = rw due (lt-leb (now + wait phases sending.sent) now (omega (arith, wait_is_long phases sending.sent)))
     cases false due = rw due due
 
-pub no_find_again : (phases : Phases) (now : ℕ) (sending : Sending) → option_map_or (is_due now) (after_find phases now sending) false ≡ false
+pub no_find_again : (phases : Phases) (now : ℕ) (sending : Sending) → option_map_or (goes_out now) (after_find phases now sending) false ≡ false
 no_find_again phases now sending = cases (nat_le sending.due now) (nat_lt sending.sent phases.repetitions) refl refl
   where
-    tested : {v : Option Sending} → after_find phases now sending ≡ v → option_map_or (is_due now) (after_find phases now sending) false ≡ option_map_or (is_due now) v false
-    tested is = ap (λ v. option_map_or (is_due now) v false) is
+    tested : {v : Option Sending} → after_find phases now sending ≡ v → option_map_or (goes_out now) (after_find phases now sending) false ≡ option_map_or (goes_out now) v false
+    tested is = ap (λ v. option_map_or (goes_out now) v false) is
 
-    cases : (b e : Bool) → nat_le sending.due now ≡ b → nat_lt sending.sent phases.repetitions ≡ e → option_map_or (is_due now) (after_find phases now sending) false ≡ false
+    cases : (b e : Bool) → nat_le sending.due now ≡ b → nat_lt sending.sent phases.repetitions ≡ e → option_map_or (goes_out now) (after_find phases now sending) false ≡ false
     cases true true due more = tested (find_sent phases now sending due more) ∙ lt-leb (now + wait phases sending.sent) now (omega (arith, wait_is_long phases sending.sent))
     cases true false due more = tested (find_last phases now sending due more)
     cases false e due more = tested (find_kept phases now sending due) ∙ due
 
-pub next_due : (phases : Phases) (now : ℕ) (sending : Sending) → is_due now sending ≡ true → (sent_if_due phases now sending).due ≡ now + wait phases sending.sent
+pub next_due : (phases : Phases) (now : ℕ) (sending : Sending) → goes_out now sending ≡ true → (sent_if_due phases now sending).due ≡ now + wait phases sending.sent
 next_due phases now sending due = rw due refl

@@ -19,7 +19,7 @@ use Rattle.sd_core.specs.declared.offers.Place.{Place}
 use Rattle.sd_core.specs.Keys.{instance_cmp}
 use Rattle.sd_core.specs.KeyOrder.{instances_total, exact_instances}
 use Rattle.sd_core.specs.Shown.{shown, map_values}
-use Rattle.sd_core.specs.Sendings.{is_due, has_sent, sent_if_due, due_at}
+use Rattle.sd_core.specs.Sendings.{goes_out, has_sent, sent_if_due, due_at}
 use Rattle.sd_core.specs.OfferTables.{offers_of, started_at, after_tick, without, answering, is_sought}
 use Rattle.sd_core.proofs.ShownLemmas.{get-shown, shown-mapped, shown-mapped_same, shown-insert, shown-insert_none, shown-empty, keys-shown, none-shown}
 
@@ -119,13 +119,13 @@ taken_down old new k place found is =
 
 -- the instances that are due
 abbrev pub place_is_due : ℕ → InstanceId → Place → Bool
-place_is_due now _ p = option_map_or (is_due now) p.sending false
+place_is_due now _ p = option_map_or (goes_out now) p.sending false
 
 pub due_keys : (now : ℕ) (places : finite.FinMap instance_cmp Place) → finite.keys (retain places (place_is_due now)) ≡ finite.keys (due_at now (offers_of places).up)
-due_keys now places = keys-shown instances_total exact_instances (λ (p : Place). p.sending) places (place_is_due now) (λ _ s. is_due now s) (λ q p is. refl)
+due_keys now places = keys-shown instances_total exact_instances (λ (p : Place). p.sending) places (place_is_due now) (λ _ s. goes_out now s) (λ q p is. refl)
 
 pub none_due : (now : ℕ) (places : finite.FinMap instance_cmp Place) → due_at now (offers_of places).up ≡ finite.empty → retain places (place_is_due now) ≡ finite.empty
-none_due now places = none-shown instances_total exact_instances (λ (p : Place). p.sending) places (place_is_due now) (λ _ s. is_due now s) (λ q p is. refl)
+none_due now places = none-shown instances_total exact_instances (λ (p : Place). p.sending) places (place_is_due now) (λ _ s. goes_out now s) (λ q p is. refl)
 
 -- the instances that answer a Find
 abbrev pub place_answers : Sought → InstanceId → Place → Bool

@@ -22,7 +22,7 @@ use Rattle.sd_core.specs.declared.want.Want.{Want}
 use Rattle.sd_core.specs.Keys.{instance_cmp}
 use Rattle.sd_core.specs.KeyOrder.{instances_total, exact_instances}
 use Rattle.sd_core.specs.Shown.{shown}
-use Rattle.sd_core.specs.Sendings.{is_due, after_find, due_at}
+use Rattle.sd_core.specs.Sendings.{goes_out, after_find, due_at}
 use Rattle.sd_core.specs.SeekTables.{KnowsWanted, seek_of, searching_from, seek_after_tick, known_at, offer_refusal, uncounted, stands_by, known_of, forgetting, is_wanted, is_stopped}
 use Rattle.sd_core.proofs.ShownLemmas.{get-shown, shown-mapped, shown-mapped_same, shown-mapped_none, shown-kept, shown-insert, shown-insert_none, shown-insert_same, shown-empty, keys-shown, none-shown}
 
@@ -118,13 +118,13 @@ pub none_ended : (now : ℕ) (wants : WantMap) → expired now (seek_of wants).k
 none_ended now wants = none-shown instances_total exact_instances known_in wants (has_ended now) (λ _ l. has_passed now l.until) (λ q w is. refl)
 
 abbrev pub find_is_due : ℕ → InstanceId → Want → Bool
-find_is_due now _ w = option_map_or (is_due now) w.finding false
+find_is_due now _ w = option_map_or (goes_out now) w.finding false
 
 pub find_keys : (now : ℕ) (wants : WantMap) → finite.keys (retain wants (find_is_due now)) ≡ finite.keys (due_at now (seek_of wants).finding)
-find_keys now wants = keys-shown instances_total exact_instances finding_in wants (find_is_due now) (λ _ s. is_due now s) (λ q w is. refl)
+find_keys now wants = keys-shown instances_total exact_instances finding_in wants (find_is_due now) (λ _ s. goes_out now s) (λ q w is. refl)
 
 pub no_find : (now : ℕ) (wants : WantMap) → due_at now (seek_of wants).finding ≡ finite.empty → retain wants (find_is_due now) ≡ finite.empty
-no_find now wants = none-shown instances_total exact_instances finding_in wants (find_is_due now) (λ _ s. is_due now s) (λ q w is. refl)
+no_find now wants = none-shown instances_total exact_instances finding_in wants (find_is_due now) (λ _ s. goes_out now s) (λ q w is. refl)
 
 abbrev pub is_of : Ipv4Addr → ℕ → InstanceId → Want → Bool
 is_of peer now _ w = option_map_or (stands_by peer now) w.known false

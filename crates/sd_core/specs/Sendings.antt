@@ -17,8 +17,8 @@ abbrev pub first_at : ℕ → Sending
 first_at delay = record { due = delay; sent = 0 }
 
 -- the next goes out at this moment, or was to go out before
-abbrev pub is_due : ℕ → Sending → Bool
-is_due now sending = nat_le sending.due now
+abbrev pub goes_out : ℕ → Sending → Bool
+goes_out now sending = nat_le sending.due now
 
 -- one went out
 abbrev pub has_sent : Sending → Bool
@@ -31,18 +31,18 @@ after_sending phases now sending =
 
 -- one goes out at this moment, if it is due: one, however late
 abbrev pub sent_if_due : Phases → ℕ → Sending → Sending
-sent_if_due phases now sending = if is_due now sending then after_sending phases now sending else sending
+sent_if_due phases now sending = if goes_out now sending then after_sending phases now sending else sending
 
 -- a Find goes out at this moment, if it is due: it is the last where as many went out before it as the repetition phase
 -- has delays
 abbrev pub after_find : Phases → ℕ → Sending → Option Sending
 after_find phases now sending =
-    if is_due now sending then (if nat_lt sending.sent phases.repetitions then Some (after_sending phases now sending) else None)
+    if goes_out now sending then (if nat_lt sending.sent phases.repetitions then Some (after_sending phases now sending) else None)
     else Some sending
 
 -- those that are due
 abbrev pub due_at : {K : Type 0} {R : K → K → Ordering} → ℕ → FinMap R Sending → FinMap R Sending
-due_at now m = retain m (λ _ sending. is_due now sending)
+due_at now m = retain m (λ _ sending. goes_out now sending)
 
 abbrev pub coded_sending : Coded Sending
 coded_sending = code_by (ℕ × ℕ) (coded× coded_ℕ coded_ℕ) (λ s. (s.due, s.sent)) (λ c. record { due = c.0; sent = c.1 }) (λ _. refl)

@@ -12,7 +12,7 @@ ghost use Rattle.sd_core.specs.OfferExamples.{three_repetitions, no_repetitions}
 ghost use Rattle.sd_core.specs.OfferMoments.{offer_moment, sends_offer, sends_find};
 ghost use Rattle.sd_core.specs.OfferTables.{OfferTable, started, after_tick};
 ghost use Rattle.sd_core.specs.SeekTables.{SeekTable, searching, seek_after_tick, learned};
-ghost use Rattle.sd_core.specs.Sendings.{wait, first_at, is_due, due_at, sent_if_due};
+ghost use Rattle.sd_core.specs.Sendings.{wait, first_at, goes_out, due_at, sent_if_due};
 
 /// An instance that was started sends its Offers at exactly these moments, ticked at each millisecond
 /// from the delay on, or from a moment before it: at the delay and base * (2^k - 1) after it for k from
@@ -48,7 +48,7 @@ pub fn finds_go_out_at_their_moments()
 /// A tick sends one Offer, or Find, of an instance, however late it is, and the next is due a delay
 /// after that tick.
 pub fn a_late_tick_sends_one()
-    ensures next { (phases : Phases) (now : ℕ) (sending : Sending) → IsTrue (is_due now sending)
+    ensures next { (phases : Phases) (now : ℕ) (sending : Sending) → IsTrue (goes_out now sending)
         → (sent_if_due phases now sending).due ≡ now + wait phases sending.sent }
     ensures offers { (phases : Phases) (now : ℕ) (offers : OfferTable)
         → due_at now (after_tick phases now offers).up ≡ finite.empty }

@@ -4,7 +4,7 @@ ghost use Rattle.std.specs.FinMap as finite;
 ghost use Rattle.someip_tables.specs.Tables.{map_of};
 ghost use Rattle.sd_core.specs.Keys.{instance_cmp};
 ghost use Rattle.std.specs.Option.{option_map, option_map_or};
-ghost use Rattle.sd_core.specs.Sendings.{is_due, has_sent, due_at, sent_if_due};
+ghost use Rattle.sd_core.specs.Sendings.{goes_out, has_sent, due_at, sent_if_due};
 ghost use Rattle.sd_core.specs.OfferTables.{offers_of, started, started_at, after_tick};
 ghost use Rattle.sd_core.specs.OfferTables.{answering, without};
 
@@ -183,7 +183,7 @@ fn next(sending: Option<Sending>, phases: Phases, now: Moment) -> Option<Sending
 }
 
 fn is_due(sending: &Option<Sending>, now: Moment) -> bool
-    ensures { result ≡ option_map_or (is_due now) sending.now false }
+    ensures { result ≡ option_map_or (goes_out now) sending.now false }
 {
     match sending {
         Some(sending) => sending.is_due(now),

@@ -13,7 +13,7 @@ pub(crate) struct Sending {
 
 impl Sending {
     ghost use Rattle.std.specs.Prelude.{◌≡◌};
-    ghost use Rattle.sd_core.specs.Sendings.{first_at, is_due, after_sending, after_find};
+    ghost use Rattle.sd_core.specs.Sendings.{first_at, goes_out, after_sending, after_find};
 
     /// Nothing went out, and the first does after a delay from the start, in milliseconds.
     pub(crate) fn first_at(delay: u32) -> Sending
@@ -27,7 +27,7 @@ impl Sending {
 
     /// Whether one goes out now.
     pub(crate) fn is_due(&self, now: Moment) -> bool
-        ensures { result ≡ is_due now self.now }
+        ensures { result ≡ goes_out now self.now }
     {
         self.due <= now.as_millis()
     }

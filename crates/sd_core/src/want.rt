@@ -4,7 +4,7 @@ ghost use Rattle.std.specs.Option.{option_and_then, option_map_or};
 ghost use Rattle.someip_tables.specs.Deadlines.{has_passed};
 ghost use Rattle.someip_tables.specs.Lastings.{unless_passed};
 ghost use Rattle.someip_tables.specs.Retained.{kept_if};
-ghost use Rattle.sd_core.specs.Sendings.{is_due, after_find};
+ghost use Rattle.sd_core.specs.Sendings.{goes_out, after_find};
 ghost use Rattle.sd_core.specs.SeekTables.{known_at, is_wanted, stands_by};
 ghost use Rattle.sd_core.specs.SeekTables.{offer_refusal, counted_as};
 
@@ -48,7 +48,7 @@ impl Want {
 
     /// Whether a Find of it goes out now.
     pub(crate) fn is_due(&self, now: Moment) -> bool
-        ensures { result ≡ option_map_or (is_due now) self.now.finding false }
+        ensures { result ≡ option_map_or (goes_out now) self.now.finding false }
     {
         match self.finding {
             Some(finding) => finding.is_due(now),

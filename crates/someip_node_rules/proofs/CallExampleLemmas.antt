@@ -20,7 +20,7 @@ use Rattle.sd_core.specs.EventgroupOrder.{eventgroups_total, exact_eventgroups}
 use Rattle.sd_core.specs.Eventgroups.{eventgroup_cmp}
 use Rattle.sd_core.specs.KeyOrder.{instances_total, exact_instances}
 use Rattle.sd_core.specs.Keys.{instance_cmp}
-use Rattle.sd_core.specs.Sendings.{due_at, is_due}
+use Rattle.sd_core.specs.Sendings.{due_at, goes_out}
 use Rattle.sd_core.specs.Wishes.{begun_where}
 use Rattle.sd_core.proofs.SortedEntries.{keys-empty}
 use Rattle.someip_rpc.specs.declared.call.Awaited.{Awaited}
@@ -34,7 +34,7 @@ use Rattle.someip_node_rules.specs.declared.output.Output.{Output}
 use Rattle.someip_node_rules.specs.declared.output.Output.TheVariants.{Answered, Called, Sent, TimedOut}
 use Rattle.someip_node_rules.specs.declared.receiver.Receiver.TheVariants.{Group}
 use Rattle.someip_node_rules.specs.Calls.{due_entries, find_of}
-use Rattle.someip_node_rules.specs.CallExamples.{IsClient, calling, knowing, message, offer}
+use Rattle.someip_node_rules.specs.CallExamples.{IsClient, calling, knowing, message, instance_offer}
 use Rattle.someip_node_rules.specs.History.{answers_of, historic, met, start_of}
 use Rattle.someip_node_rules.specs.Inputs.{Call, Datagram, Tick}
 use Rattle.someip_node_rules.specs.Items.{Ticked}
@@ -73,7 +73,7 @@ module _ (config : Config) (is : IsClient config) where
 
   known : known_endpoint (answers_of (knowing config)) instance ≡ Some server
   known =
-      ap (λ k. option_map (λ k. k.endpoint) (known_at 0 k)) (get-from_entries instances_total ((instance, offer_from offer server 0) ∷ []) instance)
+      ap (λ k. option_map (λ k. k.endpoint) (known_at 0 k)) (get-from_entries instances_total ((instance, offer_from instance_offer server 0) ∷ []) instance)
 
   none_waits : waiting_calls (answers_of (knowing config)) ≡ empty
   none_waits = retain-empty calls_total exact_calls (λ _ lasting. not (has_passed 0 lasting.until))
@@ -136,10 +136,10 @@ module _ (config : Config) (is : IsClient config) where
 
   module _ (ms : ℕ) where
     offers_none : keys (due_at ms t.offers.up) ≡ []
-    offers_none = rw is.offers (ap (λ m. keys m) (retain-empty instances_total exact_instances (λ _ sending. is_due ms sending)) ∙ keys-empty Sending instance_cmp)
+    offers_none = rw is.offers (ap (λ m. keys m) (retain-empty instances_total exact_instances (λ _ sending. goes_out ms sending)) ∙ keys-empty Sending instance_cmp)
 
     finds_none : keys (due_at ms t.seek.finding) ≡ []
-    finds_none = rw is.wants (ap (λ m. keys m) (retain-empty instances_total exact_instances (λ _ sending. is_due ms sending)) ∙ keys-empty Sending instance_cmp)
+    finds_none = rw is.wants (ap (λ m. keys m) (retain-empty instances_total exact_instances (λ _ sending. goes_out ms sending)) ∙ keys-empty Sending instance_cmp)
 
     due_none : due_entries ms t ≡ []
     due_none = ap (λ xs. flat_map (offer_of t) xs ++ flat_map (find_of t) (keys (due_at ms t.seek.finding))) offers_none ∙ ap (flat_map (find_of t)) finds_none

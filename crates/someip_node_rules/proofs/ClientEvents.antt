@@ -88,8 +88,8 @@ module _ (config : Config) (is : WantsEvent config) where
   known : known_peer t instance ≡ Some server_address
   known = ap (λ v. option_map (λ k. k.peer) (known_at 0 v)) (get-from_entries instances_total (known_as config is) instance)
 
-  goes_out : wish_entries eventgroup t ≡ subscribe_out ∷ []
-  goes_out =
+  subscribe_goes_out : wish_entries eventgroup t ≡ subscribe_out ∷ []
+  subscribe_goes_out =
       ap (λ p. wish_entries_by t eventgroup (sent_at_once 0 p (wish_of (get t.wishes eventgroup)))) known
       ∙ ap (λ v. wish_entries_by t eventgroup (sent_at_once 0 (Some server_address) (wish_of v))) (get-empty eventgroup_cmp eventgroup)
       ∙ rw (is.client.wants, is.client.major, is.ttl, is.client.address, is.client.client_port) refl
@@ -101,7 +101,7 @@ module _ (config : Config) (is : WantsEvent config) where
   subscribe_goes =
       ap (λ b. unless_refused (if b then None else Some NotWanted) (subscribe_plan eventgroup) (having_met config replied_items)) allowed
       ∙ ap (λ p. Ok (run historic (both (act (Wishes eventgroup)) (peer_plan p (wish_entries eventgroup t))) (work_on (having_met config replied_items)))) known
-      ∙ ap (λ es. Ok (run historic (both (act (Wishes eventgroup)) (peer_plan (Some server_address) es)) (work_on (having_met config replied_items)))) goes_out
+      ∙ ap (λ es. Ok (run historic (both (act (Wishes eventgroup)) (peer_plan (Some server_address) es)) (work_on (having_met config replied_items)))) subscribe_goes_out
       ∙ ap Ok (sent_to_peer (work_after (having_met config replied_items) (wishes eventgroup t)) server_address (subscribe_out ∷ []))
       ∙ ap (λ bytes. Ok (record {
         state = having_met config wished_items;

@@ -43,7 +43,7 @@ use Rattle.someip_node_rules.specs.Questions.{clock_at}
 use Rattle.someip_node_rules.specs.SeekQuestions.{offer_from}
 use Rattle.someip_node_rules.specs.declared.drops.DropReason.TheVariants.{Answer as AnswerDrop}
 use Rattle.someip_node_rules.proofs.NamedLemmas.{get-pending}
-use Rattle.someip_node_rules.specs.CallExamples.{offer}
+use Rattle.someip_node_rules.specs.CallExamples.{instance_offer}
 use Rattle.someip_node_rules.specs.Entries.{discovery_message, subscribe_entry, udp_option}
 use Rattle.someip_node_rules.specs.Handling.{heard_plan, target_of, target_plan}
 use Rattle.someip_node_rules.specs.History.{answers_of}
@@ -96,14 +96,14 @@ subscribe_written = refl
 
 -- an Offer counts where none is known, and brings about these replies
 abbrev learned : List EntryValue → Outcome
-learned replies = record { items = OfferCounted offer server ∷ []; given = Tells (Known instance server) ∷ []; replies = replies }
+learned replies = record { items = OfferCounted instance_offer server ∷ []; given = Tells (Known instance server) ∷ []; replies = replies }
 
 takes_offer : (t : Tables) (replies : List EntryValue) → get t.seek.wanted instance ≡ Some 1 → get t.seek.known instance ≡ None
-    → flat_map (subscribe_to t) (subscribes t.clock instance server_address t.wishes) ≡ replies → rule (TakesOffer offer) t ≡ learned replies
+    → flat_map (subscribe_to t) (subscribes t.clock instance server_address t.wishes) ≡ replies → rule (TakesOffer instance_offer) t ≡ learned replies
 takes_offer t replies wants unknown said =
-    ap (λ v. offer_by offer (offer_refusal v (known_at t.clock (get t.seek.known instance)) offer) t) wants
-    ∙ ap (λ v. offer_by offer (offer_refusal (Some 1) (known_at t.clock v) offer) t) unknown
-    ∙ ap (λ v. record (offer_counts offer server t) { given = map Tells (known_told instance server (counted_as server (known_at t.clock v))) }) unknown
+    ap (λ v. offer_by instance_offer (offer_refusal v (known_at t.clock (get t.seek.known instance)) instance_offer) t) wants
+    ∙ ap (λ v. offer_by instance_offer (offer_refusal (Some 1) (known_at t.clock v) instance_offer) t) unknown
+    ∙ ap (λ v. record (offer_counts instance_offer server t) { given = map Tells (known_told instance server (counted_as server (known_at t.clock v))) }) unknown
     ∙ ap learned said
 
 -- a StopOffer does nothing there
@@ -129,7 +129,7 @@ module _ (config : Config) (is : WantsEvent config) where
   pub offer_learned : LeadsTo (having_met config []) (Datagram (discovery_at server_address) (discovery_at group_address) (offer_bytes 3)) (Known instance server ∷ []) known_items
   offer_learned =
       one_entry (having_met config []) (discovery_at server_address) (discovery_at group_address) (offer_bytes 3) (target.Discovery Multicast)
-      (rw is.client.address refl) (rw (is.client.address, is.group) refl) Multicast 1 both_flags (offer_read 3) (TakesOffer offer) (learned [])
+      (rw is.client.address refl) (rw (is.client.address, is.group) refl) Multicast 1 both_flags (offer_read 3) (TakesOffer instance_offer) (learned [])
       reads_offer room (is_new Multicast first server_address) refl
       (takes_offer (answers_of (having_met config heard_items)) [] (wanted heard_items) (get-empty instance_cmp instance)
       (ap (λ es. flat_map (subscribe_to (answers_of (having_met config heard_items))) (filter_map (λ e. subscribe_of 0 instance server_address e.0 e.1) es)) (entries_of_none eventgroups_total exact_eventgroups)))
@@ -156,10 +156,10 @@ module _ (config : Config) (is : WantsEvent config) where
       ∙ rw (is.client.wants, is.client.major, is.ttl, is.client.address, is.client.client_port) refl
 
   pub offer_subscribed : LeadsTo (having_met config (Wished eventgroup ∷ [])) (Datagram (discovery_at server_address) (discovery_at group_address) (offer_bytes 3))
-      (Known instance server ∷ Sent (discovery_at client.ip) (discovery_at server_address) subscribe_bytes ∷ []) (PeerAddressed server_address ∷ OfferCounted offer server ∷ wishing_items)
+      (Known instance server ∷ Sent (discovery_at client.ip) (discovery_at server_address) subscribe_bytes ∷ []) (PeerAddressed server_address ∷ OfferCounted instance_offer server ∷ wishing_items)
   offer_subscribed =
       one_entry (having_met config (Wished eventgroup ∷ [])) (discovery_at server_address) (discovery_at group_address) (offer_bytes 3) (target.Discovery Multicast)
-      (rw is.client.address refl) (rw (is.client.address, is.group) refl) Multicast 1 both_flags (offer_read 3) (TakesOffer offer) (learned (subscribe_out ∷ []))
+      (rw is.client.address refl) (rw (is.client.address, is.group) refl) Multicast 1 both_flags (offer_read 3) (TakesOffer instance_offer) (learned (subscribe_out ∷ []))
       reads_offer room (is_new Multicast first server_address) refl
       (takes_offer (answers_of (having_met config wishing_items)) (subscribe_out ∷ []) (wanted wishing_items) (get-empty instance_cmp instance) subscribes_then)
       ∙ ap Ok (reply_goes (record (work_after (having_met config wishing_items) (learned (subscribe_out ∷ []))) { replies = [] }) server_address subscribe_out subscribe_bytes subscribe_written)
@@ -169,7 +169,7 @@ module _ (config : Config) (is : WantsEvent config) where
 
   -- the offer is known
   abbrev pub known_as : List (InstanceId × Lasting KnownOffer)
-  known_as = (instance, offer_from offer server 0) ∷ []
+  known_as = (instance, offer_from instance_offer server 0) ∷ []
 
   reached : known_endpoint (answers_of (having_met config known_items)) instance ≡ Some server
   reached = ap (λ v. option_map (λ k. k.endpoint) (known_at 0 v)) (get-from_entries instances_total known_as instance)

@@ -9,7 +9,7 @@ use Rattle.sd_core.specs.declared.sending.Sending.{Sending}
 use Rattle.sd_core.specs.Endings.{ends_at}
 use Rattle.sd_core.specs.KeyOrder.{instances_total, exact_instances}
 use Rattle.sd_core.specs.Keys.{instance_cmp}
-use Rattle.sd_core.specs.Sendings.{due_at, first_at, is_due}
+use Rattle.sd_core.specs.Sendings.{due_at, first_at, goes_out}
 use Rattle.sd_core.specs.Wishes.{begun_where}
 use Rattle.sd_core.proofs.SortedEntries.{keys-empty}
 use Rattle.someip_tables.proofs.MapLaws.{retain-empty}
@@ -53,7 +53,7 @@ use Rattle.someip_node_rules.specs.Setups.{offered_as, wanted_instances}
 use Rattle.someip_node_rules.specs.Subscribing.{offer_of}
 use Rattle.someip_node_rules.specs.Tables.{Tables, is_up, passed_instances}
 use Rattle.someip_node_rules.specs.WorkedExamples.{client, discovery_at, gives, instance, server, server_address, service}
-use Rattle.someip_node_rules.specs.WorkedRun.{LeadsTo, OffersEvent, having_met, answer_bytes, answered_items, call_bytes, group_address, offer_bytes, offered_items, request, requested_items}
+use Rattle.someip_node_rules.specs.WorkedRun.{LeadsTo, OffersEvent, having_met, answer_bytes, answered_items, call_bytes, group_address, offer_bytes, offered_items, asked_call, requested_items}
 use Rattle.someip_node_rules.specs.declared.config.Config.{Config}
 use Rattle.std.specs.BTreeMap.{is_at}
 use Rattle.std.specs.Map.{lookup}
@@ -89,7 +89,7 @@ module _ (config : Config) (is : OffersEvent config) where
   no_calls ms = ap (λ m. keys m) (retain-empty calls_total exact_calls _) ∙ keys-empty (Lasting Awaited) call_cmp
 
   no_finds : (ms : ℕ) → keys (due_at ms t.seek.finding) ≡ []
-  no_finds ms = rw is.wants (ap (λ m. keys m) (retain-empty instances_total exact_instances (λ _ sending. is_due ms sending)) ∙ keys-empty Sending instance_cmp)
+  no_finds ms = rw is.wants (ap (λ m. keys m) (retain-empty instances_total exact_instances (λ _ sending. goes_out ms sending)) ∙ keys-empty Sending instance_cmp)
 
   brought : (ms : ℕ) (messages : List (List EntryValue)) → fronts (due_entries ms t) ≡ messages
       → brings ms (keys (expired ms t.client.pending)) (wanted_instances config) (fronts (due_entries ms t)) ≡ brings ms [] [] messages
@@ -104,10 +104,10 @@ module _ (config : Config) (is : OffersEvent config) where
       ∙ ap (λ xs. flat_map (offer_of t) instances ++ flat_map (find_of t) xs) (no_finds ms)
 
   none_due : keys (due_at 9 t.offers.up) ≡ []
-  none_due = rw is.server.offers (key_dropped instances_total exact_instances (λ _ sending. is_due 9 sending) instance (first_at 10) refl)
+  none_due = rw is.server.offers (key_dropped instances_total exact_instances (λ _ sending. goes_out 9 sending) instance (first_at 10) refl)
 
   one_due : keys (due_at 10 t.offers.up) ≡ instance ∷ []
-  one_due = rw is.server.offers (key_kept instances_total exact_instances (λ _ sending. is_due 10 sending) instance (first_at 10) refl)
+  one_due = rw is.server.offers (key_kept instances_total exact_instances (λ _ sending. goes_out 10 sending) instance (first_at 10) refl)
 
   pub silent_before : LeadsTo (having_met config []) (Tick 9) [] (Ticked 9 ∷ [])
   silent_before = brought 9 [] (ap fronts (entries_due 9 [] none_due) ∙ no_front)
@@ -166,7 +166,7 @@ module _ (config : Config) (is : OffersEvent config) where
       one_message (having_met config offered_items) client server call_bytes (target.Instance instance) (rw is.server.address refl) to_instance
       (TakesRequest instance client call_header (1 ∷ 2 ∷ [])) (requested_by true false) reads_call handed_up
 
-  waiting : get (answers_of (having_met config requested_items)).server.requests 1 ≡ Some request
+  waiting : get (answers_of (having_met config requested_items)).server.requests 1 ≡ Some asked_call
   waiting = get-request requested_items 1
 
   unknown : get (answers_of (having_met config requested_items)).server.requests 2 ≡ None
@@ -177,7 +177,7 @@ module _ (config : Config) (is : OffersEvent config) where
 
   pub answer_goes : LeadsTo (having_met config requested_items) (Answer 1 reply (3 ∷ [])) (Sent server client answer_bytes ∷ []) answered_items
   answer_goes =
-      one_rule (having_met config requested_items) (Answer 1 reply (3 ∷ [])) (Answers 1 reply (3 ∷ [])) (answers_request 1 reply (3 ∷ []) request)
+      one_rule (having_met config requested_items) (Answer 1 reply (3 ∷ [])) (Answers 1 reply (3 ∷ [])) (answers_request 1 reply (3 ∷ []) asked_call)
       (ap (λ v. as_node_error (answer_refusal config.common.message_limit reply 1 v)) waiting ∙ rw is.message_limit refl) refl
       (ap (λ v. option_map_or (answers_request 1 reply (3 ∷ [])) v nothing) waiting)
 

@@ -22,8 +22,8 @@ pub record IsClient (config : Config) : Type 0 where
   pub timeout : config.common.call_timeout_ms ≡ 2000
 
 -- the Offer of the instance, for 3 seconds
-abbrev pub offer : ReceivedOffer
-offer = record { instance = instance; major = 1; ttl = 3; endpoint = Some server; peer = server_address }
+abbrev pub instance_offer : ReceivedOffer
+instance_offer = record { instance = instance; major = 1; ttl = 3; endpoint = Some server; peer = server_address }
 
 -- a call of the method 0423
 abbrev pub message : MessageId
@@ -34,7 +34,7 @@ call = record { kind = Request; message = message; interface = 1 }
 
 -- the instance was offered to the node after its start, and then the method was called with the first session
 abbrev pub knowing : Config → History
-knowing config = met (start_of config 10) (OfferCounted offer server)
+knowing config = met (start_of config 10) (OfferCounted instance_offer server)
 
 abbrev pub calling : Config → History
 calling config = met (knowing config) (Called call server 1)

@@ -13,7 +13,7 @@ use Rattle.someip_rpc.specs.declared.request.Reply.TheVariants.{Response}
 use Rattle.someip_node_rules.specs.declared.config.Config.{Config}
 use Rattle.someip_node_rules.specs.declared.output.Output.{Output}
 use Rattle.someip_node_rules.specs.declared.output.Output.TheVariants.{Sent}
-use Rattle.someip_node_rules.specs.CallExamples.{IsClient, offer}
+use Rattle.someip_node_rules.specs.CallExamples.{IsClient, instance_offer}
 use Rattle.someip_node_rules.specs.History.{History}
 use Rattle.someip_node_rules.specs.Inputs.{Input, Answer, Call as CallInput, Datagram, Publish, Subscribe, Tick}
 use Rattle.someip_node_rules.specs.Items.{Item, AckCame, AnswerTaken, Answered, Called, GroupAddressed, OfferCounted, PeerAddressed, PeerHeard, Published, Requested, SubscriptionAccepted, Ticked, Wished}
@@ -129,11 +129,11 @@ abbrev pub offered_items : List Item
 offered_items = GroupAddressed ∷ Ticked 10 ∷ []
 
 -- the call was handed up
-abbrev pub request : Asked
-request = record { peer = client; endpoint = server; message = method; client = 0x0102; session = 1; interface = 1 }
+abbrev pub asked_call : Asked
+asked_call = record { peer = client; endpoint = server; message = method; client = 0x0102; session = 1; interface = 1 }
 
 abbrev pub requested_items : List Item
-requested_items = Requested request ∷ offered_items
+requested_items = Requested asked_call ∷ offered_items
 
 -- it was answered
 abbrev pub answered_items : List Item
@@ -154,7 +154,7 @@ published_items = Published (record { service = 0x1111; instance = 1; event = 0x
 
 -- the Offer came
 abbrev pub known_items : List Item
-known_items = OfferCounted offer server ∷ PeerHeard server_address Multicast first ∷ []
+known_items = OfferCounted instance_offer server ∷ PeerHeard server_address Multicast first ∷ []
 
 -- the method was called
 abbrev pub called_items : List Item

@@ -22,7 +22,7 @@ ghost use Rattle.someip_node_rules.specs.declared.config.Config.{Config};
 ghost use Rattle.someip_node_rules.specs.CallQuestions.{awaited_at, call_key, last_session_at, open_request_at, times_published};
 ghost use Rattle.someip_node_rules.specs.DiscoveryQuestions.{messages_to, stamps_at};
 ghost use Rattle.someip_node_rules.specs.History.{History, answers_of, historic, met, shown_work, start_of};
-ghost use Rattle.someip_node_rules.specs.HistoryExamples.{ack_of, acked_after, begun_with, endpoint, eventgroup, offer_for, other_server, server, subscribing_with, waiting_with};
+ghost use Rattle.someip_node_rules.specs.HistoryExamples.{ack_of, acked_after, begun_with, offering_endpoint, wished_eventgroup, offer_for, other_peer, offering_peer, subscribing_with, waiting_with};
 ghost use Rattle.someip_node_rules.specs.Items.{Item, AckCame, AnswerTaken, Called, NackCame, OfferCounted, OfferStopped, OfferWithdrawn, PeerRebooted, SubscriptionAccepted, SubscriptionStopped, Ticked, changed};
 ghost use Rattle.someip_node_rules.specs.Lives.{has_its_offer, is_offer_known, is_live, is_waiting, was_stopped};
 ghost use Rattle.someip_node_rules.specs.Plans.{Plan, Work, plain, run};
@@ -136,21 +136,21 @@ pub fn offers_are_known_for_their_ttl()
 /// 0, and is acknowledged for 3 seconds. The subscription ends with these, or with an offer of 2 seconds,
 /// or as the server begins again. The next one has the counter 1.
 pub fn wishes_by_example()
-    ensures begins { wish_at (subscribing_with 10) eventgroup ≡ begun_with 0 None }
-    ensures before_the_end { wish_at (acked_after 10 2999) eventgroup ≡ begun_with 0 (Some (At 3000)) }
-    ensures at_the_end { wish_at (acked_after 10 3000) eventgroup ≡ waiting_with 1 }
-    ensures with_the_offer { wish_at (acked_after 2 2000) eventgroup ≡ waiting_with 1 }
-    ensures renewed { wish_at (OfferCounted (offer_for 10) endpoint ∷ acked_after 10 2999) eventgroup
-        ≡ begun_with 0 (Some (At 3000)) }
-    ensures begins_again { wish_at (OfferCounted (offer_for 10) endpoint ∷ acked_after 10 3000) eventgroup
-        ≡ begun_with 1 None }
-    ensures other_counter { wish_at (AckCame (ack_of 1) 3 ∷ subscribing_with 10) eventgroup
+    ensures begins { wish_at (subscribing_with 10) wished_eventgroup ≡ begun_with 0 None }
+    ensures before_the_end { wish_at (acked_after 10 2999) wished_eventgroup ≡ begun_with 0 (Some (At 3000)) }
+    ensures at_the_end { wish_at (acked_after 10 3000) wished_eventgroup ≡ waiting_with 1 }
+    ensures with_the_offer { wish_at (acked_after 2 2000) wished_eventgroup ≡ waiting_with 1 }
+    ensures renewed { wish_at (OfferCounted (offer_for 10) offering_endpoint ∷ acked_after 10 2999)
+        wished_eventgroup ≡ begun_with 0 (Some (At 3000)) }
+    ensures begins_again { wish_at (OfferCounted (offer_for 10) offering_endpoint ∷ acked_after 10 3000)
+        wished_eventgroup ≡ begun_with 1 None }
+    ensures other_counter { wish_at (AckCame (ack_of 1) 3 ∷ subscribing_with 10) wished_eventgroup
         ≡ begun_with 0 None }
-    ensures server_rebooted { wish_at (PeerRebooted server ∷ acked_after 10 2999) eventgroup
+    ensures server_rebooted { wish_at (PeerRebooted offering_peer ∷ acked_after 10 2999) wished_eventgroup
         ≡ waiting_with 1 }
-    ensures other_rebooted { wish_at (PeerRebooted other_server ∷ acked_after 10 2999) eventgroup
+    ensures other_rebooted { wish_at (PeerRebooted other_peer ∷ acked_after 10 2999) wished_eventgroup
         ≡ begun_with 0 (Some (At 3000)) }
-    ensures refused { wish_at (NackCame (ack_of 0) ∷ subscribing_with 10) eventgroup ≡ waiting_with 1 }
+    ensures refused { wish_at (NackCame (ack_of 0) ∷ subscribing_with 10) wished_eventgroup ≡ waiting_with 1 }
 {}
 
 /// An instance is up if the node is set up to offer it and its offer was not stopped.

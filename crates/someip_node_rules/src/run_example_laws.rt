@@ -10,7 +10,7 @@ ghost use Rattle.someip_rpc.specs.declared.error.DropCause.TheVariants.{NotPendi
 ghost use Rattle.someip_rpc.specs.declared.error.RpcError.TheVariants.{UnknownToken};
 ghost use Rattle.someip_rpc.specs.declared.request.Reply.TheVariants.{Response};
 ghost use Rattle.someip_node_rules.specs.Advances.{after_inputs};
-ghost use Rattle.someip_node_rules.specs.CallExamples.{offer};
+ghost use Rattle.someip_node_rules.specs.CallExamples.{instance_offer};
 ghost use Rattle.someip_node_rules.specs.History.{start_of};
 ghost use Rattle.someip_node_rules.specs.Inputs.{Answer, Call, Publish, Subscribe, Tick};
 ghost use Rattle.someip_node_rules.specs.Items.{OfferCounted, OfferStopped, PeerAddressed, PeerHeard, Ticked, Wished};
@@ -44,7 +44,7 @@ pub fn offers_are_learned_by_example()
         → LeadsTo (having_met config (Wished eventgroup ∷ []))
         (comes (offer_packet 3))
         (Known instance server ∷ goes subscribe_packet ∷ [])
-        (PeerAddressed server_address ∷ OfferCounted offer server
+        (PeerAddressed server_address ∷ OfferCounted instance_offer server
         ∷ PeerHeard server_address Multicast first ∷ Wished eventgroup ∷ []) }
     ensures stopped { (config : Config) → WantsEvent config
         → LeadsTo (having_met config [])

@@ -208,7 +208,7 @@ fn repeated_at(
     ensures fault { IfErr result (IsFaultWithin at (length text.now)) }
 {
     let from = byte_at(b'<', text, at)?;
-    let (number, comma) = number_at(text, from)?;
+    let (number, comma) = decimal_at(text, from)?;
     let first = byte_at(b',', text, comma)?;
     let (element, last) = shape_at(alloc, text, first, left)?;
     let end = byte_at(b'>', text, last)?;
@@ -315,7 +315,7 @@ fn variants_at(
     let mut variants = Vec::new(alloc);
     let mut next = at;
     loop {
-        let (number, colon) = number_at(text, next)?;
+        let (number, colon) = decimal_at(text, next)?;
         let first = byte_at(b':', text, colon)?;
         let (shape, end) = shape_at(alloc, text, first, left)?;
         variants.push((number, shape))?;
@@ -433,7 +433,7 @@ fn byte_at(byte: u8, text: &[u8], at: usize) -> Result<usize, ShapeTextError>
 }
 
 /// A decimal number without leading zeros. The fault is at the first digit that is one too many.
-fn number_at(text: &[u8], at: usize) -> Result<(u32, usize), ShapeTextError>
+fn decimal_at(text: &[u8], at: usize) -> Result<(u32, usize), ShapeTextError>
     requires { at ≤ length text.now }
     ensures found { IfOk result (λ x. slice_range text.now at x.1 ≡ decimal x.0) }
     ensures fits { IfOk result (λ x. x.0 < 2 ^ 32) }

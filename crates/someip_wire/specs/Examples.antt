@@ -4,8 +4,8 @@ use Rattle.someip_wire.specs.declared.header.MessageType.TheVariants.{Request}
 use Rattle.someip_wire.specs.Spelling.{MessageValue}
 
 -- a call of method 0421 at service 1234, by client 0001 in session 0001, without a payload
-abbrev pub request : MessageValue
-request = record {
+abbrev pub request_message : MessageValue
+request_message = record {
   header = record { service = 0x1234; method = 0x0421; client = 1; session = 1; interface = 1; kind = Request; code = record { 0 = 0 } };
   payload = [];
 }

@@ -12,7 +12,7 @@ ghost use Rattle.someip_wire.specs.Spelling.{spelling};
 ghost use Rattle.someip_wire.specs.Faults.{fault_at};
 ghost use Rattle.someip_wire.specs.Datagram.{Datagram, items};
 ghost use Rattle.someip_wire.specs.Reading.{items_of};
-ghost use Rattle.someip_wire.specs.Examples.{request, request_bytes, length_seven_bytes, cut_bytes};
+ghost use Rattle.someip_wire.specs.Examples.{request_message, request_bytes, length_seven_bytes, cut_bytes};
 
 use crate::header::ReturnCode;
 
@@ -83,12 +83,12 @@ pub fn return_codes_have_their_numbers()
 /// Examples: a request of 16 bytes, the same with a Length of 7, and the request twice with 15 bytes
 /// of a third one after them.
 pub fn worked_datagrams()
-    ensures request { Spells request request_bytes }
-    ensures no_other { (size : ℕ) → BeginsWith request size request_bytes → size ≡ 16 }
+    ensures request { Spells request_message request_bytes }
+    ensures no_other { (size : ℕ) → BeginsWith request_message size request_bytes → size ≡ 16 }
     ensures length_seven { fault_at 0 length_seven_bytes ≡ Some (LengthTooSmall 4) }
     ensures length_seven_is_none { (message : MessageValue) (size : ℕ)
         → BeginsWith message size length_seven_bytes → ⊥ }
-    ensures cut { Datagram (request ∷ request ∷ []) (Some (Truncated 47)) cut_bytes }
-    ensures cut_has_a_fault { Datagram (request ∷ request ∷ []) None cut_bytes → ⊥ }
+    ensures cut { Datagram (request_message ∷ request_message ∷ []) (Some (Truncated 47)) cut_bytes }
+    ensures cut_has_a_fault { Datagram (request_message ∷ request_message ∷ []) None cut_bytes → ⊥ }
     ensures empty { Datagram [] None [] }
 {}

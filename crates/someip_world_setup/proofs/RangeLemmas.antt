@@ -5,7 +5,7 @@ use Rattle.std.specs.Option.{IfSome, option_and_then}
 use Rattle.std.proofs.lemmas.Bool.{and_parts, and_from, leb-true, le-leb, leb-false, ne_eqb, or_parts, eqb-false}
 use Rattle.toml.specs.Data.{Data, as_integer, as_str, get}
 use Rattle.someip_node_rules.specs.GoodConfigs.{is_within, is_good_id, is_good_event, is_good_instance}
-use Rattle.someip_world_setup.specs.Keys.{◌>>=◌, within, integer_at, integer_or, number_at, number_or, is_name, name_at, address_at}
+use Rattle.someip_world_setup.specs.Keys.{◌>>=◌, within, integer_at, integer_or, number_within, number_or, is_name, name_at, address_at}
 use Rattle.someip_world_setup.specs.Lists.{found_at_each, id_of, ids_of, tables_at, tables_or_none, integers_or_none, integers_at}
 use Rattle.someip_world_setup.specs.Values.{ListedValue, OfferValue, WantValue, NodeValue, PhasesValue, SetupValue}
 use Rattle.someip_world_setup.specs.Clashes.{offered_id, wanted_id}
@@ -44,7 +44,7 @@ within_in : (low high : ℕ) (z : ℤ) → IfSome (within low high z) (IsWithin 
 within_in low high (pos n) = tested (nat_le low n && nat_le n high) n (is_within low high) refl
 within_in low high (negsuc n) = tt
 
-number_in : (key : List ℕ) (low high : ℕ) (d : Data) → IfSome (number_at key low high d) (IsWithin low high)
+number_in : (key : List ℕ) (low high : ℕ) (d : Data) → IfSome (number_within key low high d) (IsWithin low high)
 number_in key low high d = then_some (λ _. Unit {0}) (IsWithin low high) (integer_at key d) (within low high) (anything (integer_at key d)) (λ z _. within_in low high z)
 
 default_in : (key : List ℕ) (default : ℤ) (low high : ℕ) (d : Data) → IfSome (number_or key default low high d) (IsWithin low high)

@@ -43,8 +43,8 @@ abbrev pub integer_or : List ℕ → ℤ → Data → Option ℤ
 integer_or key default d = integer_of default (get key d)
 
 -- the number at a key in a range, and the same with a default
-abbrev pub number_at : List ℕ → ℕ → ℕ → Data → Option ℕ
-number_at key low high d = integer_at key d >>= within low high
+abbrev pub number_within : List ℕ → ℕ → ℕ → Data → Option ℕ
+number_within key low high d = integer_at key d >>= within low high
 
 abbrev pub number_or : List ℕ → ℤ → ℕ → ℕ → Data → Option ℕ
 number_or key default low high d = integer_or key default d >>= within low high

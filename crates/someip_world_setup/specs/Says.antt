@@ -1,22 +1,22 @@
 -- The setup that a tree of TOML says, key by key, before clashes are judged.
 use Rattle.std.specs.Prelude.{ℕ, ℤ, pos, ◌==◌, ◌||◌, nat_le, if◌then◌else◌, codes, List, length, Option, Some, None}
 use Rattle.toml.specs.Data.{Data}
-use Rattle.someip_world_setup.specs.Keys.{◌>>=◌, number_at, number_or, name_at, address_at}
+use Rattle.someip_world_setup.specs.Keys.{◌>>=◌, number_within, number_or, name_at, address_at}
 use Rattle.someip_world_setup.specs.Lists.{found_at_each, tables_at, tables_or_none, integers_at, integers_or_none, ids_of}
 use Rattle.someip_world_setup.specs.Values.{ListedValue, OfferValue, WantValue, NodeValue, PhasesValue, CommonValue, SetupValue}
 
 -- an ID: of a service, of an instance or of an eventgroup
 abbrev pub id_at : List ℕ → Data → Option ℕ
-id_at key = number_at key 1 0xFFFE
+id_at key = number_within key 1 0xFFFE
 
 abbrev pub port_at : List ℕ → Data → Option ℕ
-port_at key = number_at key 1 0xFFFF
+port_at key = number_within key 1 0xFFFF
 
 abbrev pub major_at : Data → Option ℕ
-major_at = number_at (codes "major") 0 0xFE
+major_at = number_within (codes "major") 0 0xFE
 
 abbrev pub ttl_at : Data → Option ℕ
-ttl_at = number_at (codes "ttl") 1 0xFFFFFF
+ttl_at = number_within (codes "ttl") 1 0xFFFFFF
 
 -- ---- offers
 
@@ -31,7 +31,7 @@ groups_at d = integers_at (codes "groups") d >>= ids_of 1 0xFFFE >>= some_ids
 
 abbrev pub said_event : Data → Option ListedValue
 said_event d =
-    number_at (codes "id") 0x8000 0xFFFE d >>= λ id.
+    number_within (codes "id") 0x8000 0xFFFE d >>= λ id.
     groups_at d >>= λ members.
     Some (record { id = id; members = members })
 
@@ -84,7 +84,7 @@ abbrev pub said_node : ℕ → ℕ → Data → Option NodeValue
 said_node least most d =
     name_at d >>= λ name.
     address_at (codes "address") d >>= λ address.
-    number_at (codes "client_id") 0 0xFFFF d >>= λ client_id.
+    number_within (codes "client_id") 0 0xFFFF d >>= λ client_id.
     port_at (codes "client_port") d >>= λ client_port.
     number_or (codes "delay") (pos least) least most d >>= λ delay.
     (tables_or_none (codes "offer") d >>= found_at_each said_offer) >>= λ offers.

@@ -5,7 +5,7 @@ use Rattle.sd_wire.specs.declared.option.SdOption.{SdOption}
 use Rattle.sd_wire.specs.Spelling.{Runs}
 use Rattle.sd_wire.specs.Writing.{IsNowhere, PlacesEntry, WritesSd}
 use Rattle.sd_wire.specs.Program.{options_within, reading}
-use Rattle.sd_wire.specs.Examples.{bytes_from, read_offer, read_bad, two_offers, shared_text, anew_text, offer, endpoint, entry_from}
+use Rattle.sd_wire.specs.Examples.{bytes_from, read_offer, read_bad, two_offers, shared_text, anew_text, offer_entry, endpoint_option, entry_from}
 use Rattle.sd_wire.proofs.FieldLemmas.{IsBytes-literal}
 use Rattle.sd_wire.proofs.SdLemmas.{reading_holds, holds_read}
 use Rattle.sd_wire.proofs.WriteLemmas.{one_text}
@@ -26,13 +26,13 @@ returns-clause-not_fewer c = λ v holds. let read : reading (bytes_from 1) ≡ O
 runs : Runs
 runs = record { index1 = 0; index2 = 0; count1 = 1; count2 = 0 }
 
-nowhere : IsNowhere [] (endpoint ∷ [])
+nowhere : IsNowhere [] (endpoint_option ∷ [])
 nowhere i holds = let none : List SdOption = [] in omega (arith, ap length holds, length-take 1 (drop i none), length-drop i none)
 
-first : PlacesEntry [] offer runs (endpoint ∷ [])
+first : PlacesEntry [] offer_entry runs (endpoint_option ∷ [])
 unfolding runs
 first = record {
-  middle = endpoint ∷ [];
+  middle = endpoint_option ∷ [];
   first = inr (inr (omega arith, nowhere, refl, refl));
   second = inl (refl, refl, refl);
   count1 = refl;
@@ -40,10 +40,10 @@ first = record {
   fits = record { index1 = omega arith; index2 = omega arith; count1 = omega arith; count2 = omega arith };
 }
 
-second : PlacesEntry (endpoint ∷ []) offer runs (endpoint ∷ [])
+second : PlacesEntry (endpoint_option ∷ []) offer_entry runs (endpoint_option ∷ [])
 unfolding runs
 second = record {
-  middle = endpoint ∷ [];
+  middle = endpoint_option ∷ [];
   first = inr (inl (omega arith, (refl, λ i lt. absurd (omega (arith, lt))), refl));
   second = inl (refl, refl, refl);
   count1 = refl;
@@ -55,8 +55,8 @@ shared : WritesSd two_offers shared_text
 unfolding runs
 shared = record {
   entries = drop 8 (take 40 shared_text);
-  pool = endpoint ∷ [];
-  packs = (runs, endpoint ∷ [], entry_from 0, first, refl, (runs, endpoint ∷ [], [], second, refl, (refl, refl)));
+  pool = endpoint_option ∷ [];
+  packs = (runs, endpoint_option ∷ [], entry_from 0, first, refl, (runs, endpoint_option ∷ [], [], second, refl, (refl, refl)));
   is = refl;
   entries_fit = omega arith;
   options_fit = omega arith;

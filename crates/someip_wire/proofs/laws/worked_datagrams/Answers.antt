@@ -1,12 +1,12 @@
 use Rattle.std.proofs.Common.{◌≡◌, take, None, refl, sym, arith}
 use Rattle.someip_wire.specs.Spelling.{Fits}
 use Rattle.someip_wire.specs.Faults.{fault_at}
-use Rattle.someip_wire.specs.Examples.{request, request_bytes, length_seven_bytes}
+use Rattle.someip_wire.specs.Examples.{request_message, request_bytes, length_seven_bytes}
 use Rattle.someip_wire.proofs.MessageLemmas.{begins_with, begins_none}
 use Rattle.someip_wire.proofs.laws.worked_datagrams.Goals as goal
 
 pub returns-clause-no_other : goal.returns-clause-no_other
-returns-clause-no_other c = λ size begins. sym (begins_with request size request_bytes begins).1
+returns-clause-no_other c = λ size begins. sym (begins_with request_message size request_bytes begins).1
 
 pub returns-clause-length_seven_is_none : goal.returns-clause-length_seven_is_none
 returns-clause-length_seven_is_none c = λ message size begins.
@@ -14,7 +14,7 @@ returns-clause-length_seven_is_none c = λ message size begins.
 
 pub returns-clause-cut : goal.returns-clause-cut
 returns-clause-cut c =
-    let fits : Fits request = record {
+    let fits : Fits request_message = record {
       service = omega arith;
       method = omega arith;
       length = omega arith;

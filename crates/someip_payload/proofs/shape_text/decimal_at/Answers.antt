@@ -2,8 +2,8 @@ use Rattle.std.proofs.Common.{rules, ◌≡◌, ◌+◌, ◌*◌, ◌<◌, ◌^�
 use Rattle.someip_payload.proofs.Numbers.{first_digit, next_digit, digits_before}
 use Rattle.someip_payload.specs.ShapeText.{IsDigit}
 use Rattle.someip_payload.proofs.Decimals.{leading_zero_at, too_large_at, no_number_at, number_is}
-use Rattle.someip_payload.proofs.shape_text.number_at.Goals as goal
-use Rattle.someip_payload.proofs.shape_text.number_at.Goals.{else-number-eq0-via-then-number-eq0+else-at-end, else-number-eq0-via-else-number-eq0}
+use Rattle.someip_payload.proofs.shape_text.decimal_at.Goals as goal
+use Rattle.someip_payload.proofs.shape_text.decimal_at.Goals.{else-number-eq0-via-then-number-eq0+else-at-end, else-number-eq0-via-else-number-eq0}
 
 pub loop-digit-preserved : goal.loop-digit-preserved
 loop-digit-preserved c =
