@@ -1,10 +1,11 @@
 -- The first fault of bytes that hold no message: the six cases in the order in which they are judged.
 use Rattle.std.specs.Prelude.{◌≡◌, ◌⊎◌, ℕ, ◌+◌, ◌*◌, ◌/◌, ◌%◌, ◌<◌, Bool, true, false, nat_lt, ◌==◌, ◌||◌, not, if◌then◌else◌, List, ◌++◌, length, slice_index, Option, Some, None, codes}
+use Rattle.std.specs.Option.{option_map_or}
 use Rattle.sd_wire.specs.declared.error.SdError.{SdError}
 use Rattle.sd_wire.specs.declared.error.SdError.TheVariants as errors
 use Rattle.sd_wire.specs.declared.error.SdError.TheVariants.{Truncated, EntriesLength, UnknownEntryType, OptionLength, TrailingBytes}
 use Rattle.sd_wire.specs.declared.option.SdOption.{SdOption}
-use Rattle.sd_wire.specs.Raw.{is_ipv4, is_ipv6}
+use Rattle.sd_wire.specs.Raw.{layout_len}
 use Rattle.sd_wire.specs.Layout.{entries_len, options_place, options_end, entries_in, options_in, option_len}
 use Rattle.sd_wire.specs.Reading.{Spelled, SpellsOption}
 
@@ -24,11 +25,7 @@ is_entry_type kind = kind == 0x00 || kind == 0x01 || kind == 0x06 || kind == 0x0
 
 -- options of the type may have this length
 abbrev pub has_len : ℕ → ℕ → Bool
-has_len kind len =
-    if kind == 0x02 then len == 5
-    else (if is_ipv4 kind then len == 9
-    else (if is_ipv6 kind then len == 21
-    else true))
+has_len kind len = option_map_or (λ n. len == n) (layout_len kind) true
 
 -- how many bytes the option at the front has, if there is one
 abbrev pub option_size : List ℕ → Option ℕ

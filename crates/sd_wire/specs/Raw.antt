@@ -1,5 +1,5 @@
 -- Options that are kept as they were read (SOME/IP Service Discovery, "Options Format").
-use Rattle.std.specs.Prelude.{ℕ, ◌<◌, ◌≤◌, ◌≡◌, ◌^◌, Bool, false, List, length, ◌||◌, ◌&&◌, ◌==◌, nat_eq}
+use Rattle.std.specs.Prelude.{ℕ, ◌<◌, ◌≤◌, ◌≡◌, ◌^◌, Bool, false, if◌then◌else◌, List, length, Option, Some, None, is_some, ◌||◌, ◌&&◌, ◌==◌, nat_eq}
 use Rattle.std.specs.Cmp.Lexicographic.{pointwise}
 
 -- a type and the bytes that the length counts
@@ -15,9 +15,17 @@ is_ipv4 kind = kind == 0x04 || kind == 0x14 || kind == 0x24
 abbrev pub is_ipv6 : ℕ → Bool
 is_ipv6 kind = kind == 0x06 || kind == 0x16 || kind == 0x26
 
--- the type is one of the seven that have a layout
+-- what the Length field of an option of the type holds, where the type has a layout
+abbrev pub layout_len : ℕ → Option ℕ
+layout_len kind =
+    if kind == 0x02 then Some 5
+    else (if is_ipv4 kind then Some 9
+    else (if is_ipv6 kind then Some 21
+    else None))
+
+-- the type has a layout
 abbrev pub has_layout : ℕ → Bool
-has_layout kind = kind == 0x02 || is_ipv4 kind || is_ipv6 kind
+has_layout kind = is_some (layout_len kind)
 
 -- a type without a layout, and at least one byte, as many as the Length field can say
 pub record IsRaw (kind : ℕ) (bytes : List ℕ) : Type 0 where

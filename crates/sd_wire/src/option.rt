@@ -1,6 +1,6 @@
 //! Options (SOME/IP Service Discovery, "Options Format").
 ghost use Rattle.std.specs.Prelude.{◌≡◌, Some, None};
-ghost use Rattle.sd_wire.specs.Raw.{RawValue, IsRaw, has_layout};
+ghost use Rattle.sd_wire.specs.Raw.{RawValue, IsRaw, layout_len};
 
 use crate::endpoint::{Ipv4Endpoint, Ipv6Endpoint};
 use std::alloc::AllocError;
@@ -28,14 +28,14 @@ impl Model for RawOption {
 }
 
 impl RawOption {
-    /// An option of this type with these bytes. None where the type is one of the seven that have a
-    /// layout, or where there are no bytes or more than 65535.
+    /// An option of this type with these bytes. None where the type has a layout, or where there
+    /// are no bytes or more than 65535.
     pub fn new(kind: u8, bytes: Rc<Vec<u8>>) -> Option<RawOption>
         ensures some { IsRaw kind bytes.value.items
             → result ≡ Some record { kind = kind; bytes = bytes.value.items } }
         ensures none { (IsRaw kind bytes.value.items → ⊥) → result ≡ None }
     {
-        if has_layout(kind) || bytes.is_empty() || bytes.len() > 0xffff {
+        if layout_len(kind).is_some() || bytes.is_empty() || bytes.len() > 0xffff {
             return None;
         }
         Some(RawOption { kind, bytes })
@@ -98,11 +98,16 @@ impl Clone for RawOption {
     }
 }
 
-/// The type has a layout.
-fn has_layout(kind: u8) -> bool
-    ensures { result ≡ has_layout kind }
+/// What the Length field of an option of the type holds, where the type has a layout.
+pub(crate) fn layout_len(kind: u8) -> Option<usize>
+    ensures { result ≡ layout_len kind }
 {
-    matches!(kind, 0x02 | 0x04 | 0x14 | 0x24 | 0x06 | 0x16 | 0x26)
+    match kind {
+        0x02 => Some(5),
+        0x04 | 0x14 | 0x24 => Some(9),
+        0x06 | 0x16 | 0x26 => Some(21),
+        _ => None,
+    }
 }
 
 /// An option. The byte after the type is reserved, and so is the one after an address: both are

@@ -9,7 +9,7 @@ ghost use Rattle.sd_wire.specs.Program.{HasOption, ipv4_in, ipv6_in, option_in, 
 use crate::endpoint::{Ipv4Endpoint, Ipv6Endpoint, Protocol};
 use crate::error::SdError;
 use crate::fields::u16_at;
-use crate::option::{RawOption, SdOption};
+use crate::option::{RawOption, SdOption, layout_len};
 use std::alloc::Global;
 use std::net::{Ipv4Addr, Ipv6Addr, SocketAddrV4};
 use std::rc::Rc;
@@ -18,11 +18,9 @@ use std::rc::Rc;
 fn has_len(kind: u8, len: usize) -> bool
     ensures { result ≡ has_len kind len }
 {
-    match kind {
-        0x02 => len == 5,
-        0x04 | 0x14 | 0x24 => len == 9,
-        0x06 | 0x16 | 0x26 => len == 21,
-        _ => true,
+    match layout_len(kind) {
+        Some(n) => len == n,
+        None => true,
     }
 }
 
