@@ -1,4 +1,4 @@
--- The ten message types and their numbers (SOME/IP Protocol, "Message Type").
+-- The message types and their numbers (SOME/IP Protocol, "Message Type").
 use Rattle.std.specs.Prelude.{ℕ, Bool, true, false, List, [], ◌∷◌, Option, ◌==◌, find}
 use Rattle.someip_wire.specs.declared.header.MessageType.{MessageType}
 use Rattle.someip_wire.specs.declared.header.MessageType.TheVariants.{Request, RequestNoReturn, Notification, Response, Error, TpRequest, TpRequestNoReturn, TpNotification, TpResponse, TpError}
@@ -16,11 +16,11 @@ kind_byte TpNotification = 0x22
 kind_byte TpResponse = 0xa0
 kind_byte TpError = 0xa1
 
--- the ten types
+-- all types
 abbrev pub all_kinds : List MessageType
 all_kinds = Request ∷ RequestNoReturn ∷ Notification ∷ Response ∷ Error ∷ TpRequest ∷ TpRequestNoReturn ∷ TpNotification ∷ TpResponse ∷ TpError ∷ []
 
--- the type with a number, if it is one of the ten
+-- the type with a number, if there is one
 abbrev pub kind_of : ℕ → Option MessageType
 kind_of b = find (λ kind. kind_byte kind == b) all_kinds
 

@@ -142,7 +142,7 @@ pub struct Header {
     pub code: ReturnCode,
 }
 
-/// The type with this number, if it is one of the ten.
+/// The type with this number, if there is one.
 pub(crate) fn kind_of_byte(byte: u8) -> Option<MessageType>
     ensures { result ≡ kind_of byte }
 {

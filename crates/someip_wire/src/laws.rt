@@ -48,7 +48,7 @@ pub fn a_spelling_is_what_bytes_begin_with()
         → BeginsWith message (length (spelling message)) (spelling message ++ rest) }
 {}
 
-/// Each of the ten types has a number of its own.
+/// Each message type has a number of its own.
 pub fn each_type_has_its_own_number()
     ensures { (kind : MessageType) → kind_of (kind_byte kind) ≡ Some kind }
 {}
