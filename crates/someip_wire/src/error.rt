@@ -20,7 +20,7 @@ pub enum WireError {
     /// The Protocol Version is not 01. That byte's place.
     #[error("WrongProtocolVersion at {0}")]
     WrongProtocolVersion(usize),
-    /// The Message Type has no name. That byte's place.
+    /// No Message Type has this number. That byte's place.
     #[error("UnknownMessageType at {0}")]
     UnknownMessageType(usize),
 }
