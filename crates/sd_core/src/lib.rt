@@ -13,8 +13,8 @@
 //!   apart, [`Subscribe`] what a client asks for, [`SubscribeRules`] what the server knows of that,
 //!   and [`SubscribeError`] with its [`Cause`] why it is not accepted;
 //! - [`Subscriptions`]: the eventgroups that a client wished, and how far each [`Wish`] is;
-//! - [`laws`]: what the definitions behind the contracts promise.
-//! - [`laws`]: at which moments Offers and Finds go out.
+//! - [`laws`]: what the definitions behind the contracts promise, and at which moments Offers and
+//!   Finds go out.
 #![tactic(auto)]
 
 mod chosen;

@@ -18,7 +18,8 @@ use Rattle.someip_tp.specs.Offers.{Offer}
 use Rattle.someip_tp.specs.Sent.{PieceValue, sent}
 use Rattle.sd_wire.specs.declared.entry.EventgroupEntry.{EventgroupEntry}
 use Rattle.sd_session.specs.declared.peers.Seen.{Seen}
-use Rattle.sd_session.specs.declared.peers.Seen.TheVariants.{Same, Rebooted as Restarted}
+use Rattle.sd_session.specs.declared.peers.Seen.TheVariants.{Same}
+use Rattle.sd_session.specs.declared.peers.Seen.TheVariants as seen_as
 use Rattle.sd_session.specs.declared.stamp.Channel.{Channel}
 use Rattle.sd_session.specs.declared.stamp.Stamp.{Stamp}
 use Rattle.sd_session.specs.Peers.{stamps_of, told_by}
@@ -26,12 +27,15 @@ use Rattle.sd_core.specs.declared.error.Cause.{Cause}
 use Rattle.sd_core.specs.declared.eventgroup.Eventgroup.{Eventgroup}
 use Rattle.sd_core.specs.declared.keys.InstanceId.{InstanceId}
 use Rattle.sd_core.specs.declared.received.Counted.{Counted}
-use Rattle.sd_core.specs.declared.received.Counted.TheVariants.{New, Moved, Renewed as KnownBefore}
+use Rattle.sd_core.specs.declared.received.Counted.TheVariants.{New, Moved}
+use Rattle.sd_core.specs.declared.received.Counted.TheVariants as known_as
 use Rattle.sd_core.specs.declared.received.ReceivedOffer.{ReceivedOffer}
 use Rattle.sd_core.specs.declared.received.Uncounted.{Uncounted}
-use Rattle.sd_core.specs.declared.received.Uncounted.TheVariants.{Unwanted, NoEndpoint as WithoutEndpoint, OtherPeer as OfOtherPeer}
+use Rattle.sd_core.specs.declared.received.Uncounted.TheVariants.{Unwanted}
+use Rattle.sd_core.specs.declared.received.Uncounted.TheVariants as left_out
 use Rattle.sd_core.specs.declared.wish.Acked.{Acked}
-use Rattle.sd_core.specs.declared.wish.Acked.TheVariants.{Subscribed as Begun, Renewed, NotPending as Unasked}
+use Rattle.sd_core.specs.declared.wish.Acked.TheVariants.{Renewed}
+use Rattle.sd_core.specs.declared.wish.Acked.TheVariants as acked_as
 use Rattle.sd_core.specs.Endings.{ends_at}
 use Rattle.sd_core.specs.Keys.{instance_cmp}
 use Rattle.sd_core.specs.SeekTables.{is_stopped, known_of, uncounted}
@@ -154,7 +158,7 @@ module _ (t : Tables) where
   hearing_meant : (peer : Ipv4Addr) (channel : Channel) (stamp : Stamp) (seen : Seen) → told_by channel stamp (stamps_of t.peers peer) ≡ seen
       → Meant (Hears peer channel stamp) (hearing_by peer channel stamp seen t)
   hearing_meant peer channel stamp Same is = tt
-  hearing_meant peer channel stamp Restarted is = (
+  hearing_meant peer channel stamp seen_as.Rebooted is = (
     (channel, stamp, refl, is),
     told_meant (Hears peer channel stamp) _ (all_endings (λ o. IsTold o (Hears peer channel stamp) t) (λ _. tt) (λ _. tt) (wanted_instances t.config)
         (finite.keys (known_of peer t.clock t.seek)) (finite.keys (begun_where (λ eventgroup beginning. is_with peer beginning) t.wishes))),
@@ -164,7 +168,7 @@ module _ (t : Tables) where
       → AllByRecursion (λ given. Means given (TakesOffer o) t) (map Tells (known_told o.instance endpoint counted))
   known_meant o counts endpoint is New = ((o, refl, counts, refl, is), tt)
   known_meant o counts endpoint is Moved = ((o, refl, counts, refl, is), tt)
-  known_meant o counts endpoint is KnownBefore = tt
+  known_meant o counts endpoint is known_as.Renewed = tt
 
   endpoint_meant : (o : ReceivedOffer) → uncounted o t.clock t.seek ≡ None → (endpoint : Option SocketAddrV4) → o.endpoint ≡ endpoint
       → Meant (TakesOffer o) (option_map_or (λ endpoint. offer_counts o endpoint t) endpoint nothing)
@@ -174,8 +178,8 @@ module _ (t : Tables) where
   offer_meant : (o : ReceivedOffer) (cause : Option Uncounted) → uncounted o t.clock t.seek ≡ cause → Meant (TakesOffer o) (offer_by o cause t)
   offer_meant o None counts = endpoint_meant o counts o.endpoint refl
   offer_meant o (Some Unwanted) counts = tt
-  offer_meant o (Some WithoutEndpoint) counts = (tt, tt)
-  offer_meant o (Some OfOtherPeer) counts = (tt, tt)
+  offer_meant o (Some left_out.NoEndpoint) counts = (tt, tt)
+  offer_meant o (Some left_out.OtherPeer) counts = (tt, tt)
 
   subscribe_meant : (peer : Ipv4Addr) (head : EventgroupEntry) (endpoint : Option SocketAddrV4) (cause : Option Cause)
       → nack_cause (rules_for head t) (subscribe_in peer head endpoint) (live_subscribers t) ≡ cause
@@ -187,9 +191,9 @@ module _ (t : Tables) where
   ack_meant : (peer : Ipv4Addr) (head : EventgroupEntry) (acked : Acked)
       → told_by_ack t.clock (answer_in peer head t) (wish_of (finite.get t.wishes (eventgroup_in head))).stage ≡ acked
       → AllByRecursion (λ given. Means given (TakesAck peer head) t) (map Tells (ack_told (eventgroup_in head) head.counter acked))
-  ack_meant peer head Begun is = ((peer, head, refl, refl, refl, is), tt)
+  ack_meant peer head acked_as.Subscribed is = ((peer, head, refl, refl, refl, is), tt)
   ack_meant peer head Renewed is = tt
-  ack_meant peer head Unasked is = (tt, tt)
+  ack_meant peer head acked_as.NotPending is = (tt, tt)
 
   nack_meant : (peer : Ipv4Addr) (head : EventgroupEntry) (ended : Bool) → AllByRecursion (λ given. Means given (TakesNack peer head) t) (map Tells (nack_told (eventgroup_in head) ended))
   nack_meant peer head true = (tt, tt)

@@ -15,7 +15,8 @@ use Rattle.someip_tp.specs.declared.reassembly.Offered.TheVariants.{Part, Whole}
 use Rattle.someip_tp.specs.Offers.{Offer, judgement}
 use Rattle.sd_wire.specs.declared.entry.EventgroupEntry.{EventgroupEntry}
 use Rattle.sd_session.specs.declared.peers.Seen.{Seen}
-use Rattle.sd_session.specs.declared.peers.Seen.TheVariants.{Same, Rebooted as Restarted}
+use Rattle.sd_session.specs.declared.peers.Seen.TheVariants.{Same}
+use Rattle.sd_session.specs.declared.peers.Seen.TheVariants as seen_as
 use Rattle.sd_session.specs.declared.stamp.Channel.{Channel}
 use Rattle.sd_session.specs.declared.stamp.Stamp.{Stamp}
 use Rattle.sd_session.specs.Peers.{stamps_of, told_by}
@@ -23,7 +24,8 @@ use Rattle.sd_core.specs.declared.error.Cause.{Cause}
 use Rattle.sd_core.specs.declared.keys.InstanceId.{InstanceId}
 use Rattle.sd_core.specs.declared.received.ReceivedOffer.{ReceivedOffer}
 use Rattle.sd_core.specs.declared.received.Uncounted.{Uncounted}
-use Rattle.sd_core.specs.declared.received.Uncounted.TheVariants.{Unwanted, NoEndpoint as WithoutEndpoint, OtherPeer as OfOtherPeer}
+use Rattle.sd_core.specs.declared.received.Uncounted.TheVariants.{Unwanted}
+use Rattle.sd_core.specs.declared.received.Uncounted.TheVariants as left_out
 use Rattle.sd_core.specs.SeekTables.{is_stopped, uncounted}
 use Rattle.sd_core.specs.SubscriberTables.{nack_cause}
 use Rattle.someip_rpc.specs.declared.call.CallKind.{CallKind}
@@ -113,7 +115,7 @@ module _ (t : Tables) where
   hearing_noted : (peer : Ipv4Addr) (channel : Channel) (stamp : Stamp) (seen : Seen) → told_by channel stamp (stamps_of t.peers peer) ≡ seen
       → Noted (Hears peer channel stamp) (hearing_by peer channel stamp seen t)
   hearing_noted peer channel stamp Same is = (refl, tt)
-  hearing_noted peer channel stamp Restarted is = ((channel, stamp, refl, is), (refl, tt))
+  hearing_noted peer channel stamp seen_as.Rebooted is = ((channel, stamp, refl, is), (refl, tt))
 
   endpoint_noted : (o : ReceivedOffer) → uncounted o t.clock t.seek ≡ None → (endpoint : Option SocketAddrV4) → o.endpoint ≡ endpoint
       → Noted (TakesOffer o) (option_map_or (λ endpoint. offer_counts o endpoint t) endpoint nothing)
@@ -123,8 +125,8 @@ module _ (t : Tables) where
   offer_noted : (o : ReceivedOffer) (cause : Option Uncounted) → uncounted o t.clock t.seek ≡ cause → Noted (TakesOffer o) (offer_by o cause t)
   offer_noted o None counts = endpoint_noted o counts o.endpoint refl
   offer_noted o (Some Unwanted) counts = tt
-  offer_noted o (Some WithoutEndpoint) counts = tt
-  offer_noted o (Some OfOtherPeer) counts = tt
+  offer_noted o (Some left_out.NoEndpoint) counts = tt
+  offer_noted o (Some left_out.OtherPeer) counts = tt
 
   subscribe_noted : (peer : Ipv4Addr) (head : EventgroupEntry) (endpoint : Option SocketAddrV4) (cause : Option Cause)
       → nack_cause (rules_for head t) (subscribe_in peer head endpoint) (live_subscribers t) ≡ cause

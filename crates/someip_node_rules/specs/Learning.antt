@@ -11,19 +11,23 @@ use Rattle.sd_wire.specs.declared.entry.EventgroupEntry.{EventgroupEntry}
 use Rattle.sd_wire.specs.declared.entry.ServiceEntry.{ServiceEntry}
 use Rattle.sd_wire.specs.Values.{EntryValue}
 use Rattle.sd_session.specs.declared.peers.Seen.{Seen}
-use Rattle.sd_session.specs.declared.peers.Seen.TheVariants.{Same, Rebooted as Restarted}
+use Rattle.sd_session.specs.declared.peers.Seen.TheVariants.{Same}
+use Rattle.sd_session.specs.declared.peers.Seen.TheVariants as seen_as
 use Rattle.sd_session.specs.declared.stamp.Channel.{Channel}
 use Rattle.sd_session.specs.declared.stamp.Stamp.{Stamp}
 use Rattle.sd_session.specs.Peers.{stamps_of, told_by}
 use Rattle.sd_core.specs.declared.eventgroup.Eventgroup.{Eventgroup}
 use Rattle.sd_core.specs.declared.keys.InstanceId.{InstanceId}
 use Rattle.sd_core.specs.declared.received.Counted.{Counted}
-use Rattle.sd_core.specs.declared.received.Counted.TheVariants.{New, Moved, Renewed as KnownBefore}
+use Rattle.sd_core.specs.declared.received.Counted.TheVariants.{New, Moved}
+use Rattle.sd_core.specs.declared.received.Counted.TheVariants as known_as
 use Rattle.sd_core.specs.declared.received.ReceivedOffer.{ReceivedOffer}
 use Rattle.sd_core.specs.declared.received.Uncounted.{Uncounted}
-use Rattle.sd_core.specs.declared.received.Uncounted.TheVariants.{Unwanted, NoEndpoint as WithoutEndpoint, OtherPeer as OfOtherPeer}
+use Rattle.sd_core.specs.declared.received.Uncounted.TheVariants.{Unwanted}
+use Rattle.sd_core.specs.declared.received.Uncounted.TheVariants as left_out
 use Rattle.sd_core.specs.declared.wish.Acked.{Acked}
-use Rattle.sd_core.specs.declared.wish.Acked.TheVariants.{Subscribed as Begun, Renewed, NotPending as Unasked}
+use Rattle.sd_core.specs.declared.wish.Acked.TheVariants.{Renewed}
+use Rattle.sd_core.specs.declared.wish.Acked.TheVariants as acked_as
 use Rattle.sd_core.specs.declared.wish.OutgoingSubscribe.{OutgoingSubscribe}
 use Rattle.sd_core.specs.declared.wish.SubscribeAnswer.{SubscribeAnswer}
 use Rattle.sd_core.specs.Keys.{instance_cmp}
@@ -50,7 +54,7 @@ reboot_endings peer t =
 -- a message of a peer came
 abbrev pub hearing_by : Ipv4Addr → Channel → Stamp → Seen → Tables → Outcome
 hearing_by peer channel stamp Same t = meets (PeerHeard peer channel stamp ∷ []) []
-hearing_by peer channel stamp Restarted t = meets (PeerRebooted peer ∷ PeerHeard peer channel stamp ∷ []) (Rebooted peer ∷ reboot_endings peer t)
+hearing_by peer channel stamp seen_as.Rebooted t = meets (PeerRebooted peer ∷ PeerHeard peer channel stamp ∷ []) (Rebooted peer ∷ reboot_endings peer t)
 
 abbrev pub hearing : Ipv4Addr → Channel → Stamp → Tables → Outcome
 hearing peer channel stamp t = hearing_by peer channel stamp (told_by channel stamp (stamps_of t.peers peer)) t
@@ -77,7 +81,7 @@ subscribe_to t subscribe =
 abbrev pub known_told : InstanceId → SocketAddrV4 → Counted → List Output
 known_told instance endpoint New = Known instance endpoint ∷ []
 known_told instance endpoint Moved = Known instance endpoint ∷ []
-known_told instance endpoint KnownBefore = []
+known_told instance endpoint known_as.Renewed = []
 
 -- an Offer with this endpoint counts: each wished eventgroup of its instance sends a Subscribe
 abbrev pub offer_counts : ReceivedOffer → SocketAddrV4 → Tables → Outcome
@@ -90,8 +94,8 @@ offer_counts offer endpoint t = record {
 -- an Offer does not count: one of an instance that is not wanted is passed over, and any other is dropped
 abbrev pub uncounted_by : Uncounted → Outcome
 uncounted_by Unwanted = nothing
-uncounted_by WithoutEndpoint = dropped NoEndpoint
-uncounted_by OfOtherPeer = dropped OtherPeer
+uncounted_by left_out.NoEndpoint = dropped NoEndpoint
+uncounted_by left_out.OtherPeer = dropped OtherPeer
 
 abbrev pub offer_by : ReceivedOffer → Option Uncounted → Tables → Outcome
 offer_by offer None t = option_map_or (λ endpoint. offer_counts offer endpoint t) offer.endpoint nothing
@@ -129,9 +133,9 @@ answer_in peer head t = record {
 
 -- what is told of an Ack
 abbrev pub ack_told : Eventgroup → ℕ → Acked → List Output
-ack_told eventgroup counter Begun = Subscribed eventgroup counter ∷ []
+ack_told eventgroup counter acked_as.Subscribed = Subscribed eventgroup counter ∷ []
 ack_told eventgroup counter Renewed = []
-ack_told eventgroup counter Unasked = Dropped NotPending ∷ []
+ack_told eventgroup counter acked_as.NotPending = Dropped NotPending ∷ []
 
 -- an Ack comes
 abbrev pub ack_by : SubscribeAnswer → ℕ → Tables → Outcome

@@ -9,7 +9,7 @@ use Rattle.someip_wire.specs.declared.header.MessageType.TheVariants as kinds
 use Rattle.someip_wire.specs.declared.header.ReturnCode.{ReturnCode}
 use Rattle.someip_tables.specs.Lastings.{expired}
 use Rattle.sd_wire.specs.declared.entry.EventgroupEntry.{EventgroupEntry}
-use Rattle.sd_session.specs.declared.peers.Seen.TheVariants.{Rebooted as Restarted}
+use Rattle.sd_session.specs.declared.peers.Seen.TheVariants as seen_as
 use Rattle.sd_session.specs.declared.stamp.Channel.{Channel}
 use Rattle.sd_session.specs.declared.stamp.Stamp.{Stamp}
 use Rattle.sd_session.specs.Peers.{stamps_of, told_by}
@@ -17,7 +17,7 @@ use Rattle.sd_core.specs.declared.error.Cause.{Cause}
 use Rattle.sd_core.specs.declared.eventgroup.Eventgroup.{Eventgroup}
 use Rattle.sd_core.specs.declared.keys.InstanceId.{InstanceId}
 use Rattle.sd_core.specs.declared.received.ReceivedOffer.{ReceivedOffer}
-use Rattle.sd_core.specs.declared.wish.Acked.TheVariants.{Subscribed as Begun}
+use Rattle.sd_core.specs.declared.wish.Acked.TheVariants as acked_as
 use Rattle.sd_core.specs.SeekTables.{uncounted}
 use Rattle.sd_core.specs.SubscriberTables.{nack_cause}
 use Rattle.sd_core.specs.Wishes.{told_by_ack, wish_of}
@@ -91,7 +91,7 @@ IsKnownBy r t instance endpoint =
 abbrev pub IsAckedBy : Rule → Tables → Eventgroup → ℕ → Type 0
 IsAckedBy r t eventgroup counter =
     (peer : Ipv4Addr) × (head : EventgroupEntry) × (r ≡ TakesAck peer head) × (eventgroup ≡ eventgroup_in head) × (counter ≡ head.counter)
-    × (told_by_ack t.clock (answer_in peer head t) (wish_of (finite.get t.wishes eventgroup)).stage ≡ Begun)
+    × (told_by_ack t.clock (answer_in peer head t) (wish_of (finite.get t.wishes eventgroup)).stage ≡ acked_as.Subscribed)
 
 -- a Subscribe is accepted that nothing speaks against
 abbrev pub IsAcceptedBy : Rule → Tables → Eventgroup → SocketAddrV4 → ℕ → Type 0
@@ -108,7 +108,7 @@ IsNackedBy r t eventgroup cause =
 -- a peer began again by the stamp of a message of it
 abbrev pub IsRebootBy : Rule → Tables → Ipv4Addr → Type 0
 IsRebootBy r t peer =
-    (channel : Channel) × (stamp : Stamp) × (r ≡ Hears peer channel stamp) × (told_by channel stamp (stamps_of t.peers peer) ≡ Restarted)
+    (channel : Channel) × (stamp : Stamp) × (r ≡ Hears peer channel stamp) × (told_by channel stamp (stamps_of t.peers peer) ≡ seen_as.Rebooted)
 
 -- ---- ends
 

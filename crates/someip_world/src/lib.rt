@@ -5,6 +5,7 @@
 //! - [`read_schedule`]: the steps of a schedule;
 //! - [`run`]: the trace of a schedule over the nodes of a setup, as [`Line`]s;
 //! - [`run_laws`]: what holds of every run, whatever its setup and schedule;
+//! - [`numbers`]: that the numbers of setups and steps fit their fields;
 //! - [`example_laws`]: a worked run.
 #![tactic(auto)]
 

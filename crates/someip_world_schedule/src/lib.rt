@@ -1,4 +1,4 @@
-//! A world of SOME/IP nodes: how it is set up, and what is done in it step by step.
+//! What is done in a world of SOME/IP nodes, step by step, as the lines of a schedule say it.
 //!
 //! - [`read_schedule`]: the steps of a schedule; [`Step`] is one of them, of the node of a
 //!   [`NodeName`];
