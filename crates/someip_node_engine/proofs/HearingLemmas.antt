@@ -4,7 +4,8 @@ use Rattle.std.proofs.lemmas.List.{append-nil}
 use Rattle.std.specs.FinMap as finite
 use Rattle.std.specs.declared.net.ipv4_addr.Ipv4Addr.{Ipv4Addr}
 use Rattle.sd_wire.specs.Values.{EntryValue}
-use Rattle.sd_session.specs.declared.peers.Seen.TheVariants.{Same, Rebooted as Restarted}
+use Rattle.sd_session.specs.declared.peers.Seen.TheVariants.{Same}
+use Rattle.sd_session.specs.declared.peers.Seen.TheVariants as seen_as
 use Rattle.sd_session.specs.declared.stamp.Channel.{Channel}
 use Rattle.sd_session.specs.declared.stamp.Stamp.{Stamp}
 use Rattle.sd_session.specs.Peers.{Held, stamps_after, stamps_of, told_by}
@@ -29,7 +30,7 @@ peer_heard peer channel stamp t held outputs replies same keeps =
 
 -- a message of a peer came that began again
 pub peer_rebooted : (peer : Ipv4Addr) (channel : Channel) (stamp : Stamp) (t after : Tables) (held : Held) (outputs told : List Output) (replies : List EntryValue)
-    → Restarted ≡ told_by channel stamp (stamps_of t.peers peer)
+    → seen_as.Rebooted ≡ told_by channel stamp (stamps_of t.peers peer)
     → held ≡ finite.insert t.peers peer (stamps_after channel stamp (stamps_of t.peers peer))
     → told ≡ outputs ++ Rebooted peer ∷ reboot_endings peer t
     → after ≡ changed (record t { peers = held }) (PeerRebooted peer)
