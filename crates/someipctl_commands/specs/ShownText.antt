@@ -21,7 +21,8 @@ text_from k (datagram ∷ others) = datagram_text k datagram ++ text_from (k + 1
 abbrev pub shown_text : List (List ℕ) → List ℕ
 shown_text datagrams = text_from 1 datagrams
 
--- a fault is shown of a datagram: one ends it, or a segment in it has no room for the TP header
+-- a fault is shown of a datagram: one ends it, a segment in it has no room for the TP header, or a payload of Service
+-- Discovery in it has one
 abbrev pub has_fault : List ℕ → Bool
 has_fault datagram = list_any is_faulty (items_of datagram)
 

@@ -21,8 +21,8 @@ use std::io::Write;
 const HEADER_LEN: usize = 16;
 
 /// Prints the lines of an item that begins at a place of the k-th datagram: a message, and after it
-/// what its TP header says where it is a segment; or the fault that ends the datagram. Says whether a
-/// fault is among them.
+/// what its TP header says where it is a segment, or what its payload says where it is one of Service
+/// Discovery; or the fault that ends the datagram. Says whether a fault is among them.
 pub fn put_item<W: Write>(
     buffer: &mut Buffer,
     writer: &mut W,
