@@ -85,16 +85,16 @@ module _ (h : History) (input : Input) (old : Tables) (is : old ≡ answers_of h
 module _ (h : History) (input : Input) (old : Tables) (is : old ≡ answers_of h) where
   -- it was refused, or memory ran out
   error_given : (refusal : Option NodeError) (error : NodeError) (new : Tables) → refusal_of input old ≡ refusal → error ≡ or_no_memory refusal
-      → (IsSome refusal → new ≡ old) → GivesStep h (unless_refused refusal (plan_of input) h) (Err error) (seen (is_fatal (Err error)) new)
-  error_given None error new why told same = rw told (refl, refl)
-  error_given (Some refusal) error new why told same =
+      → (IsSome refusal → new ≡ old) → new.config ≡ old.config → GivesStep h (unless_refused refusal (plan_of input) h) (Err error) (seen (is_fatal (Err error)) new)
+  error_given None error new why told same config = rw told (refl, ap (λ c. record { config = c; tables = None }) (config ∙ ap (λ t. t.config) is))
+  error_given (Some refusal) error new why told same config =
       rw (told, refusal_is_no_end input old refusal why) (refl, stands false new h refl (same refl ∙ is))
 
   pub handled_given : (done : Result (Unit {0}) NodeError) (before after : Giving) (new : Tables) (result : Result (Vec Output) NodeError) (failed : Bool)
-      → before.outputs.items ≡ [] → before.replies.items ≡ [] → Handled input old before done new after → failed ≡ is_fatal done
+      → before.outputs.items ≡ [] → before.replies.items ≡ [] → Handled input old before done new after → new.config ≡ old.config → failed ≡ is_fatal done
       → result ≡ given_or_error done after → GivesStep h (step h input) result (seen failed new)
-  handled_given (Ok _) before after new result failed no_outputs no_replies handled fails gives =
+  handled_given (Ok _) before after new result failed no_outputs no_replies handled config fails gives =
       rw (gives, fails) (done_given h input old is new before after handled.0 no_outputs no_replies handled.1)
-  handled_given (Err error) before after new result failed no_outputs no_replies handled fails gives =
+  handled_given (Err error) before after new result failed no_outputs no_replies handled config fails gives =
       rw (gives, fails, ap (refusal_of input) (sym is))
-      (error_given (refusal_of input old) error new refl handled.0 handled.1)
+      (error_given (refusal_of input old) error new refl handled.0 handled.1 config)

@@ -36,9 +36,10 @@ impl<R: Reassembly> Engine<R> {
         entries: &[Entry],
         giving: &mut Giving,
     ) -> Result<(), AllocError>
-        ensures { OnOk result (working self.new giving.new
+        ensures work { OnOk result (working self.new giving.new
             ≡ run plain (messages_plan_to receiver (map view_entry entries.now))
             (working self.old giving.old)) }
+        ensures config { self.new.config ≡ self.old.config }
     {
         let lengths = lengths_of_fronts(self.alloc, entries)?;
         self.send_fronts(receiver, &lengths, entries, giving)
@@ -53,9 +54,10 @@ impl<R: Reassembly> Engine<R> {
         giving: &mut Giving,
     ) -> Result<(), AllocError>
         requires { AreWithin lengths.now (length entries.now) }
-        ensures { OnOk result (working self.new giving.new ≡ run plain
+        ensures work { OnOk result (working self.new giving.new ≡ run plain
             (each (message_plan_to receiver) (fronts_of lengths.now (map view_entry entries.now)))
             (working self.old giving.old)) }
+        ensures config { self.new.config ≡ self.old.config }
     {
         let mut rest = entries;
         for length in lengths {
@@ -74,9 +76,10 @@ impl<R: Reassembly> Engine<R> {
         giving: &mut Giving,
     ) -> Result<(), AllocError>
         requires { length entries.now ≤ 65535 }
-        ensures { OnOk result (working self.new giving.new
+        ensures work { OnOk result (working self.new giving.new
             ≡ run plain (message_plan_to receiver (map view_entry entries.now))
             (working self.old giving.old)) }
+        ensures config { self.new.config ≡ self.old.config }
     {
         match receiver {
             Receiver::Group => self.announce(entries, giving),
@@ -87,9 +90,10 @@ impl<R: Reassembly> Engine<R> {
     /// Sends one message with entries to the group.
     fn announce(&mut self, entries: &[Entry], giving: &mut Giving) -> Result<(), AllocError>
         requires { length entries.now ≤ 65535 }
-        ensures { OnOk result (working self.new giving.new
+        ensures work { OnOk result (working self.new giving.new
             ≡ run plain (act (Announces (map view_entry entries.now)))
             (working self.old giving.old)) }
+        ensures config { self.new.config ≡ self.old.config }
     {
         let to = SocketAddrV4::new(self.config.common.group, DISCOVERY_PORT);
         let (session, reboot) = self.multicast.next();
@@ -108,9 +112,10 @@ impl<R: Reassembly> Engine<R> {
         giving: &mut Giving,
     ) -> Result<(), AllocError>
         requires { length entries.now ≤ 65535 }
-        ensures { OnOk result (working self.new giving.new
+        ensures work { OnOk result (working self.new giving.new
             ≡ run plain (act (RepliesTo peer (map view_entry entries.now)))
             (working self.old giving.old)) }
+        ensures config { self.new.config ≡ self.old.config }
     {
         let to = SocketAddrV4::new(peer, DISCOVERY_PORT);
         let stamp = self.next_stamp(peer)?;
@@ -124,6 +129,7 @@ impl<R: Reassembly> Engine<R> {
     fn next_stamp(&mut self, peer: Ipv4Addr) -> Result<Stamp, AllocError>
         ensures stamp { IfOk result (λ stamp. stamp ≡ stamp_for self.old.unicast peer) }
         ensures counts { OnOk result (self.new ≡ changed self.old (PeerAddressed peer)) }
+        ensures config { self.new.config ≡ self.old.config }
     {
         next_stamp(&mut self.unicast, peer)
     }

@@ -24,8 +24,9 @@ impl<R: Reassembly> Engine<R> {
         payload: &[u8],
         giving: &mut Giving,
     ) -> Result<(), NodeError>
-        ensures { Handled (input.Answer token reply payload.now)
+        ensures handled { Handled (input.Answer token reply payload.now)
             self.old giving.old result self.new giving.new }
+        ensures config { self.new.config ≡ self.old.config }
     {
         let sent = self.close(token, reply, payload)?;
         send(
@@ -56,6 +57,7 @@ impl<R: Reassembly> Engine<R> {
         ensures refused { IfErr result (λ error. error
             ≡ or_no_memory (answering_refusal token reply payload.now self.old)) }
         ensures unchanged { OnErr result (self.new ≡ self.old) }
+        ensures config { self.new.config ≡ self.old.config }
     {
         let limit = self.config.common.message_limit;
         let sent = self.server.answer(token, reply, payload, limit)?;

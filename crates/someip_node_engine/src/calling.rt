@@ -32,8 +32,9 @@ impl<R: Reassembly> Engine<R> {
         payload: &[u8],
         giving: &mut Giving,
     ) -> Result<(), NodeError>
-        ensures { Handled (input.Call kind instance method payload.now)
+        ensures handled { Handled (input.Call kind instance method payload.now)
             self.old giving.old result self.new giving.new }
+        ensures config { self.new.config ≡ self.old.config }
     {
         let call = self.call_of(kind, instance, method);
         let sent = self.begin_call(call, instance, payload)?;
@@ -97,6 +98,7 @@ impl<R: Reassembly> Engine<R> {
         ensures refused { IfErr result (λ error. error
             ≡ or_no_memory (call_refusal_of call.kind instance (length payload.now) self.old)) }
         ensures unchanged { OnErr result (self.new ≡ self.old) }
+        ensures config { self.new.config ≡ self.old.config }
     {
         let rules = client_rules(&self.config);
         let offer = self.known_endpoint(instance);

@@ -32,9 +32,10 @@ impl<R: Reassembly> Engine<R> {
         payload: ReceivedPayload<'_>,
         giving: &mut Giving,
     ) -> Result<(), AllocError>
-        ensures { OnOk result (working self.new giving.new
+        ensures work { OnOk result (working self.new giving.new
             ≡ run plain (act (TakesAnswer from header.now (payload_bytes payload.entry)))
             (working self.old giving.old)) }
+        ensures config { self.new.config ≡ self.old.config }
     {
         let rules = client_rules(&self.config);
         let answered = self.client.on_answer(&rules, from, header, self.clock);
@@ -49,9 +50,10 @@ impl<R: Reassembly> Engine<R> {
         payload: ReceivedPayload<'_>,
         giving: &mut Giving,
     ) -> Result<(), AllocError>
-        ensures { OnOk result (working self.new giving.new
+        ensures work { OnOk result (working self.new giving.new
             ≡ run plain (act (TakesEvent from header.now (payload_bytes payload.entry)))
             (working self.old giving.old)) }
+        ensures config { self.new.config ≡ self.old.config }
     {
         let publisher = self.publisher(from, header);
         give_event(self.alloc, publisher, header, payload, &mut giving.outputs)

@@ -34,8 +34,9 @@ impl<R: Reassembly> Engine<R> {
         bytes: &[u8],
         giving: &mut Giving,
     ) -> Result<(), NodeError>
-        ensures { Handled (input.Datagram from to bytes.now)
+        ensures handled { Handled (input.Datagram from to bytes.now)
             self.old giving.old result self.new giving.new }
+        ensures config { self.new.config ≡ self.old.config }
     {
         self.datagram(from, to, bytes, giving)?;
         Ok(())
@@ -49,8 +50,9 @@ impl<R: Reassembly> Engine<R> {
         bytes: &[u8],
         giving: &mut Giving,
     ) -> Result<(), AllocError>
-        ensures { OnOk result (working self.new giving.new
+        ensures work { OnOk result (working self.new giving.new
             ≡ run plain (datagram_plan from to bytes.now) (working self.old giving.old)) }
+        ensures config { self.new.config ≡ self.old.config }
     {
         if is_same_key(from.ip(), &self.config.address) {
             giving.outputs.push(Output::Dropped {
@@ -104,8 +106,9 @@ impl<R: Reassembly> Engine<R> {
         bytes: &[u8],
         giving: &mut Giving,
     ) -> Result<(), AllocError>
-        ensures { OnOk result (working self.new giving.new
+        ensures work { OnOk result (working self.new giving.new
             ≡ run plain (target_plan target from to bytes.now) (working self.old giving.old)) }
+        ensures config { self.new.config ≡ self.old.config }
     {
         match target {
             Target::Nowhere => {
@@ -129,9 +132,10 @@ impl<R: Reassembly> Engine<R> {
         bytes: &[u8],
         giving: &mut Giving,
     ) -> Result<(), AllocError>
-        ensures { OnOk result (working self.new giving.new
+        ensures work { OnOk result (working self.new giving.new
             ≡ run plain (items_plan target from to (items_of bytes.now))
             (working self.old giving.old)) }
+        ensures config { self.new.config ≡ self.old.config }
     {
         for item in Messages::new(bytes) {
             self.item(target, from, to, &item, giving)?;
@@ -148,9 +152,10 @@ impl<R: Reassembly> Engine<R> {
         item: &Result<Message<'_>, WireError>,
         giving: &mut Giving,
     ) -> Result<(), AllocError>
-        ensures { OnOk result (working self.new giving.new
+        ensures work { OnOk result (working self.new giving.new
             ≡ run plain (item_plan target from to (view_item item.now))
             (working self.old giving.old)) }
+        ensures config { self.new.config ≡ self.old.config }
     {
         match item {
             Ok(message) => self.message_at(target, from, to, message, giving),
@@ -172,9 +177,10 @@ impl<R: Reassembly> Engine<R> {
         message: &Message<'_>,
         giving: &mut Giving,
     ) -> Result<(), AllocError>
-        ensures { OnOk result (working self.new giving.new
+        ensures work { OnOk result (working self.new giving.new
             ≡ run plain (message_at_plan target from to (view message.now))
             (working self.old giving.old)) }
+        ensures config { self.new.config ≡ self.old.config }
     {
         match target {
             Target::Discovery(channel) => self.discovery(*from.ip(), channel, message, giving),
@@ -191,9 +197,10 @@ impl<R: Reassembly> Engine<R> {
         message: &Message<'_>,
         giving: &mut Giving,
     ) -> Result<(), AllocError>
-        ensures { OnOk result (working self.new giving.new
+        ensures work { OnOk result (working self.new giving.new
             ≡ run plain (message_plan target from to (view message.now))
             (working self.old giving.old)) }
+        ensures config { self.new.config ≡ self.old.config }
     {
         if message.header.kind.has_tp_flag() {
             self.segment(target, from, to, &message.header, message.payload, giving)
@@ -212,9 +219,10 @@ impl<R: Reassembly> Engine<R> {
         payload: ReceivedPayload<'_>,
         giving: &mut Giving,
     ) -> Result<(), AllocError>
-        ensures { OnOk result (working self.new giving.new
+        ensures work { OnOk result (working self.new giving.new
             ≡ run plain (whole_plan target from header.now (payload_bytes payload.entry))
             (working self.old giving.old)) }
+        ensures config { self.new.config ≡ self.old.config }
     {
         match target {
             Target::Instance(instance) => self.request(instance, from, header, payload, giving),
@@ -231,9 +239,10 @@ impl<R: Reassembly> Engine<R> {
         payload: ReceivedPayload<'_>,
         giving: &mut Giving,
     ) -> Result<(), AllocError>
-        ensures { OnOk result (working self.new giving.new
+        ensures work { OnOk result (working self.new giving.new
             ≡ run plain (client_plan from header.now (payload_bytes payload.entry) header.now.kind)
             (working self.old giving.old)) }
+        ensures config { self.new.config ≡ self.old.config }
     {
         match header.kind {
             MessageType::Notification => self.event_came(from, header, payload, giving),

@@ -31,9 +31,10 @@ impl<R: Reassembly> Engine<R> {
         message: &Message<'_>,
         giving: &mut Giving,
     ) -> Result<(), AllocError>
-        ensures { OnOk result (working self.new giving.new
+        ensures work { OnOk result (working self.new giving.new
             ≡ run plain (discovery_plan peer channel (view message.now))
             (working self.old giving.old)) }
+        ensures config { self.new.config ≡ self.old.config }
     {
         if !is_discovery(&message.header) {
             giving.outputs.push(Output::Dropped {
@@ -54,9 +55,10 @@ impl<R: Reassembly> Engine<R> {
         found: Result<SdRead, SdError>,
         giving: &mut Giving,
     ) -> Result<(), AllocError>
-        ensures { OnOk result (working self.new giving.new
+        ensures work { OnOk result (working self.new giving.new
             ≡ run plain (reading_plan peer channel session (result_map_both view_sd (λ e. e) found))
             (working self.old giving.old)) }
+        ensures config { self.new.config ≡ self.old.config }
     {
         match found {
             Ok(read) => self.heard(peer, channel, session, &read, giving),
@@ -78,9 +80,10 @@ impl<R: Reassembly> Engine<R> {
         read: &SdRead,
         giving: &mut Giving,
     ) -> Result<(), AllocError>
-        ensures { OnOk result (working self.new giving.new
+        ensures work { OnOk result (working self.new giving.new
             ≡ run plain (heard_plan peer channel session (view_sd read.now))
             (working self.old giving.old)) }
+        ensures config { self.new.config ≡ self.old.config }
     {
         let stamp = Stamp {
             session,
@@ -99,9 +102,10 @@ impl<R: Reassembly> Engine<R> {
         entries: &[ReadEntry],
         giving: &mut Giving,
     ) -> Result<(), AllocError>
-        ensures { OnOk result (working self.new giving.new
+        ensures work { OnOk result (working self.new giving.new
             ≡ run plain (entries_plan peer (map view_read entries.now))
             (working self.old giving.old)) }
+        ensures config { self.new.config ≡ self.old.config }
     {
         self.entries(peer, entries, giving)?;
         self.reply(peer, giving)
@@ -109,8 +113,9 @@ impl<R: Reassembly> Engine<R> {
 
     /// The replies so far go out.
     fn reply(&mut self, peer: Ipv4Addr, giving: &mut Giving) -> Result<(), AllocError>
-        ensures { OnOk result (working self.new giving.new
+        ensures work { OnOk result (working self.new giving.new
             ≡ run plain (replying (messages_plan_to (Peer peer))) (working self.old giving.old)) }
+        ensures config { self.new.config ≡ self.old.config }
     {
         let replies = mem::replace(&mut giving.replies, Vec::new(self.alloc));
         self.send_entries(Receiver::Peer(peer), &replies, giving)

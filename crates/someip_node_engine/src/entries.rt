@@ -23,9 +23,10 @@ impl<R: Reassembly> Engine<R> {
         entries: &[ReadEntry],
         giving: &mut Giving,
     ) -> Result<(), AllocError>
-        ensures { OnOk result (working self.new giving.new
+        ensures work { OnOk result (working self.new giving.new
             ≡ run plain (each (entry_plan peer) (map view_read entries.now))
             (working self.old giving.old)) }
+        ensures config { self.new.config ≡ self.old.config }
     {
         for entry in entries {
             self.entry(peer, entry, giving)?;
@@ -40,8 +41,9 @@ impl<R: Reassembly> Engine<R> {
         entry: &ReadEntry,
         giving: &mut Giving,
     ) -> Result<(), AllocError>
-        ensures { OnOk result (working self.new giving.new
+        ensures work { OnOk result (working self.new giving.new
             ≡ run plain (entry_plan peer (view_read entry.now)) (working self.old giving.old)) }
+        ensures config { self.new.config ≡ self.old.config }
     {
         match entry {
             ReadEntry::Good(entry) => match &entry.head {
@@ -64,8 +66,9 @@ impl<R: Reassembly> Engine<R> {
         endpoint: Option<SocketAddrV4>,
         giving: &mut Giving,
     ) -> Result<(), AllocError>
-        ensures { OnOk result (working self.new giving.new
+        ensures work { OnOk result (working self.new giving.new
             ≡ run plain (service_plan peer head.now endpoint) (working self.old giving.old)) }
+        ensures config { self.new.config ≡ self.old.config }
     {
         if head.is_find() {
             return self.find_service(head, giving);
@@ -88,8 +91,9 @@ impl<R: Reassembly> Engine<R> {
         endpoint: Option<SocketAddrV4>,
         giving: &mut Giving,
     ) -> Result<(), AllocError>
-        ensures { OnOk result (working self.new giving.new
+        ensures work { OnOk result (working self.new giving.new
             ≡ run plain (eventgroup_plan peer head.now endpoint) (working self.old giving.old)) }
+        ensures config { self.new.config ≡ self.old.config }
     {
         if head.is_subscribe() {
             self.subscribe(peer, head, endpoint, giving)
@@ -110,8 +114,9 @@ impl<R: Reassembly> Engine<R> {
         head: &EntryHead,
         giving: &mut Giving,
     ) -> Result<(), AllocError>
-        ensures { OnOk result (working self.new giving.new
+        ensures work { OnOk result (working self.new giving.new
             ≡ run plain (bad_plan peer head.now) (working self.old giving.old)) }
+        ensures config { self.new.config ≡ self.old.config }
     {
         match head {
             EntryHead::Eventgroup(head) if head.is_subscribe() => {

@@ -33,6 +33,7 @@ impl<R: Reassembly> Engine<R> {
         ensures heard { IfOk result (λ has_room. working self.new giving.new
             ≡ run plain (if has_room then act (Hears peer channel stamp) else act (Drops PeersFull))
             (working self.old giving.old)) }
+        ensures config { self.new.config ≡ self.old.config }
     {
         match self.peers.saw(peer, channel, stamp.session, stamp.reboot) {
             Ok(Seen::Same) => Ok(true),
@@ -55,6 +56,7 @@ impl<R: Reassembly> Engine<R> {
         ensures tables { OnOk result (self.new ≡ changed self.old (PeerRebooted peer)) }
         ensures outputs { OnOk result (outputs.new.items
             ≡ outputs.old.items ++ Rebooted peer ∷ reboot_endings peer self.old) }
+        ensures config { self.new.config ≡ self.old.config }
     {
         outputs.push(Output::Rebooted { peer })?;
         let gone = self.seeker.peer_reboot(peer, self.clock)?;

@@ -38,8 +38,9 @@ impl<R: Reassembly> Engine<R> {
         offer: &ReceivedOffer,
         giving: &mut Giving,
     ) -> Result<(), AllocError>
-        ensures { OnOk result (working self.new giving.new
+        ensures work { OnOk result (working self.new giving.new
             ≡ run plain (act (TakesOffer offer.now)) (working self.old giving.old)) }
+        ensures config { self.new.config ≡ self.old.config }
     {
         match learn(&mut self.seeker, offer, self.clock) {
             Ok((endpoint, counted)) => {
@@ -65,6 +66,7 @@ impl<R: Reassembly> Engine<R> {
             ≡ map view_entry entries.old.items
             ++ flat_map (subscribe_to self.old)
             (subscribes self.old.clock instance peer self.old.wishes)) }
+        ensures config { self.new.config ≡ self.old.config }
     {
         let subscribes = self.subscriptions.offer(instance, peer, self.clock)?;
         self.push_subscribes(&subscribes, entries)
@@ -118,8 +120,9 @@ impl<R: Reassembly> Engine<R> {
         peer: Ipv4Addr,
         giving: &mut Giving,
     ) -> Result<(), AllocError>
-        ensures { OnOk result (working self.new giving.new
+        ensures work { OnOk result (working self.new giving.new
             ≡ run plain (act (TakesStopOffer instance major peer)) (working self.old giving.old)) }
+        ensures config { self.new.config ≡ self.old.config }
     {
         if self.seeker.stop(instance, major, peer, self.clock) {
             self.end_offer(instance, &mut giving.outputs)?;
@@ -139,6 +142,7 @@ impl<R: Reassembly> Engine<R> {
         }) }
         ensures outputs { OnOk result (outputs.new.items
             ≡ outputs.old.items ++ offer_endings instance self.old) }
+        ensures config { self.new.config ≡ self.old.config }
     {
         let ended = self.subscriptions.stop(instance)?;
         outputs.push(Output::Gone { instance })?;
@@ -153,8 +157,9 @@ impl<R: Reassembly> Engine<R> {
         head: &EventgroupEntry,
         giving: &mut Giving,
     ) -> Result<(), AllocError>
-        ensures { OnOk result (working self.new giving.new
+        ensures work { OnOk result (working self.new giving.new
             ≡ run plain (act (TakesAck peer head.now)) (working self.old giving.old)) }
+        ensures config { self.new.config ≡ self.old.config }
     {
         let answer = self.answer_in(peer, head);
         let told = self.subscriptions.ack(answer, head.ttl, self.clock);
@@ -169,8 +174,9 @@ impl<R: Reassembly> Engine<R> {
         head: &EventgroupEntry,
         giving: &mut Giving,
     ) -> Result<(), AllocError>
-        ensures { OnOk result (working self.new giving.new
+        ensures work { OnOk result (working self.new giving.new
             ≡ run plain (act (TakesNack peer head.now)) (working self.old giving.old)) }
+        ensures config { self.new.config ≡ self.old.config }
     {
         let answer = self.answer_in(peer, head);
         let ended = self.subscriptions.nack(answer, self.clock);

@@ -44,8 +44,9 @@ impl<R: Reassembly> Engine<R> {
         payload: &[u8],
         giving: &mut Giving,
     ) -> Result<(), NodeError>
-        ensures { Handled (input.Publish instance event payload.now)
+        ensures handled { Handled (input.Publish instance event payload.now)
             self.old giving.old result self.new giving.new }
+        ensures config { self.new.config ≡ self.old.config }
     {
         let settings = self.settings(instance);
         let Some(service) = self.config.offers.get(&instance) else {
@@ -73,8 +74,9 @@ impl<R: Reassembly> Engine<R> {
         payload: &[u8],
         giving: &mut Giving,
     ) -> Result<(), NodeError>
-        ensures { Handled (input.PublishTo instance eventgroup endpoint event payload.now)
+        ensures handled { Handled (input.PublishTo instance eventgroup endpoint event payload.now)
             self.old giving.old result self.new giving.new }
+        ensures config { self.new.config ≡ self.old.config }
     {
         let settings = self.settings(instance);
         let subscriber = self.subscriber_at(instance, eventgroup, endpoint);

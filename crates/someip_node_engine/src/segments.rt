@@ -44,9 +44,10 @@ impl<R: Reassembly> Engine<R> {
         payload: &[u8],
         giving: &mut Giving,
     ) -> Result<(), AllocError>
-        ensures { OnOk result (working self.new giving.new
+        ensures work { OnOk result (working self.new giving.new
             ≡ run plain (segment_plan target from to header.now (segment_in payload.now))
             (working self.old giving.old)) }
+        ensures config { self.new.config ≡ self.old.config }
     {
         match read_segment(payload) {
             Ok((offset, more, bytes)) => {
@@ -79,6 +80,7 @@ impl<R: Reassembly> Engine<R> {
         ensures work { OnOk result (working self.new giving.new
             ≡ run plain (act (TakesSegment (segment_offer segment.entry)))
             (working self.old giving.old)) }
+        ensures config { self.new.config ≡ self.old.config }
     {
         offer_to(
             &mut self.store,
@@ -98,9 +100,10 @@ impl<R: Reassembly> Engine<R> {
         whole: Option<Payload>,
         giving: &mut Giving,
     ) -> Result<(), AllocError>
-        ensures { OnOk result (working self.new giving.new
+        ensures work { OnOk result (working self.new giving.new
             ≡ run plain (completed_plan target from header.now whole)
             (working self.old giving.old)) }
+        ensures config { self.new.config ≡ self.old.config }
     {
         match whole {
             Some(payload) => {

@@ -31,9 +31,10 @@ impl<R: Reassembly> Engine<R> {
         payload: ReceivedPayload<'_>,
         giving: &mut Giving,
     ) -> Result<(), AllocError>
-        ensures { OnOk result (working self.new giving.new
+        ensures work { OnOk result (working self.new giving.new
             ≡ run plain (act (TakesRequest instance from header.now (payload_bytes payload.entry)))
             (working self.old giving.old)) }
+        ensures config { self.new.config ≡ self.old.config }
     {
         let is_up = self.offers.is_up(instance);
         match self.config.offers.get(&instance) {

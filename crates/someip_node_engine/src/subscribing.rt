@@ -77,9 +77,10 @@ impl<R: Reassembly> Engine<R> {
         endpoint: Option<SocketAddrV4>,
         giving: &mut Giving,
     ) -> Result<(), AllocError>
-        ensures { OnOk result (working self.new giving.new
+        ensures work { OnOk result (working self.new giving.new
             ≡ run plain (act (TakesSubscribe peer head.now endpoint))
             (working self.old giving.old)) }
+        ensures config { self.new.config ≡ self.old.config }
     {
         let refusal = self.admit(peer, head, endpoint)?;
         tell_answer(self.alloc, peer, head, endpoint, refusal, giving)
@@ -96,6 +97,7 @@ impl<R: Reassembly> Engine<R> {
             (subscribe_in peer head.now endpoint) (live_subscribers self.old)) }
         ensures accepted { IfOk result (λ refusal. self.new ≡ fold changed self.old
             (subscribe_by head.now (subscribe_in peer head.now endpoint) refusal).items) }
+        ensures config { self.new.config ≡ self.old.config }
     {
         let rules = self.rules_for(head);
         let request = subscribe_in(peer, head, endpoint);
@@ -122,9 +124,10 @@ impl<R: Reassembly> Engine<R> {
         endpoint: Option<SocketAddrV4>,
         giving: &mut Giving,
     ) -> Result<(), AllocError>
-        ensures { OnOk result (working self.new giving.new
+        ensures work { OnOk result (working self.new giving.new
             ≡ run plain (act (TakesStopSubscribe peer head.now endpoint))
             (working self.old giving.old)) }
+        ensures config { self.new.config ≡ self.old.config }
     {
         let Some(endpoint) = endpoint else {
             giving.outputs.push(Output::Dropped {

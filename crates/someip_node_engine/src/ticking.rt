@@ -38,6 +38,7 @@ impl<R: Reassembly> Engine<R> {
         ensures handled { Handled (input.Tick ms) self.old giving.old result self.new giving.new }
         ensures grows { IfErr result (λ error. error ≡ fault.OutOfMemory
             → KnowsWanted self.old.seek × ¬ (BringsNothing (self.old.clock + ms) self.old)) }
+        ensures config { self.new.config ≡ self.old.config }
     {
         let Some(now) = self.clock.after(ms) else {
             return Err(NodeError::ClockPast);
@@ -59,6 +60,7 @@ impl<R: Reassembly> Engine<R> {
             ≡ run plain (tick_plan ms) (working self.old giving.old)) }
         ensures wanted { KnowsWanted self.old.seek }
         ensures grows { OnErr result (¬ (BringsNothing now self.old)) }
+        ensures config { self.new.config ≡ self.old.config }
     {
         let passed = self.pass(ms, now)?;
         if passed.is_nothing() {
@@ -69,9 +71,10 @@ impl<R: Reassembly> Engine<R> {
 
     /// Tells what ended, and sends the Offers and Finds that are due.
     fn give_passed(&mut self, passed: &Passed, giving: &mut Giving) -> Result<(), AllocError>
-        ensures { OnOk result (working self.new giving.new
+        ensures work { OnOk result (working self.new giving.new
             ≡ run plain (messages_plan_to Group (entries_of self.old passed.now))
             (told_all (told_of self.old.config passed.now) (working self.old giving.old))) }
+        ensures config { self.new.config ≡ self.old.config }
     {
         self.tell_passed(passed, &mut giving.outputs)?;
         let entries = self.due_entries(passed)?;
@@ -85,6 +88,7 @@ impl<R: Reassembly> Engine<R> {
         ensures ticked { OnOk result (self.new ≡ changed self.old (Ticked ms)) }
         ensures wanted { KnowsWanted self.old.seek }
         ensures grows { OnErr result (¬ (BringsNothing now self.old)) }
+        ensures config { self.new.config ≡ self.old.config }
     {
         let phases = self.config.common.phases;
         let wanted = self.seeker.tick(now, phases)?;

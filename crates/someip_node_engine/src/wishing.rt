@@ -34,8 +34,9 @@ impl<R: Reassembly> Engine<R> {
         eventgroup: Eventgroup,
         giving: &mut Giving,
     ) -> Result<(), NodeError>
-        ensures { Handled (input.Subscribe eventgroup)
+        ensures handled { Handled (input.Subscribe eventgroup)
             self.old giving.old result self.new giving.new }
+        ensures config { self.new.config ≡ self.old.config }
     {
         if !self.is_wanted_eventgroup(&eventgroup) {
             return Err(NodeError::NotWanted);
@@ -50,8 +51,9 @@ impl<R: Reassembly> Engine<R> {
         eventgroup: Eventgroup,
         giving: &mut Giving,
     ) -> Result<(), NodeError>
-        ensures { Handled (input.Unsubscribe eventgroup)
+        ensures handled { Handled (input.Unsubscribe eventgroup)
             self.old giving.old result self.new giving.new }
+        ensures config { self.new.config ≡ self.old.config }
     {
         if !self.is_wanted_eventgroup(&eventgroup) {
             return Err(NodeError::NotWanted);
@@ -66,8 +68,9 @@ impl<R: Reassembly> Engine<R> {
         instance: InstanceId,
         giving: &mut Giving,
     ) -> Result<(), NodeError>
-        ensures { Handled (input.StopOffer instance)
+        ensures handled { Handled (input.StopOffer instance)
             self.old giving.old result self.new giving.new }
+        ensures config { self.new.config ≡ self.old.config }
     {
         if !self.offers.is_up(instance) {
             return Err(NodeError::Rpc(RpcError::NotOffered));
@@ -88,8 +91,9 @@ impl<R: Reassembly> Engine<R> {
 
     /// Lets a wish stand, and sends a Subscribe at once where an offer of the instance is known.
     fn wish(&mut self, eventgroup: Eventgroup, giving: &mut Giving) -> Result<(), AllocError>
-        ensures { OnOk result (working self.new giving.new
+        ensures work { OnOk result (working self.new giving.new
             ≡ run plain (input.subscribe_plan eventgroup) (working self.old giving.old)) }
+        ensures config { self.new.config ≡ self.old.config }
     {
         let peer = self.known_peer(eventgroup.instance);
         let counter = self.let_wish(eventgroup, peer)?;
@@ -118,6 +122,7 @@ impl<R: Reassembly> Engine<R> {
             (known_peer self.old eventgroup.instance)
             (wish_of (finite.get self.old.wishes eventgroup))) }
         ensures wished { OnOk result (self.new ≡ changed self.old (Wished eventgroup)) }
+        ensures config { self.new.config ≡ self.old.config }
     {
         self.subscriptions.want(eventgroup, peer, self.clock)
     }
@@ -151,9 +156,10 @@ impl<R: Reassembly> Engine<R> {
         giving: &mut Giving,
     ) -> Result<(), AllocError>
         requires { length entries.now ≤ 65535 }
-        ensures { OnOk result (working self.new giving.new
+        ensures work { OnOk result (working self.new giving.new
             ≡ run plain (input.peer_plan peer (map view_entry entries.now))
             (working self.old giving.old)) }
+        ensures config { self.new.config ≡ self.old.config }
     {
         match peer {
             Some(peer) => self.send_message(Receiver::Peer(peer), entries, giving),
@@ -163,8 +169,9 @@ impl<R: Reassembly> Engine<R> {
 
     /// Takes a wish back: the server of the subscription that stands is told before.
     fn take_back(&mut self, eventgroup: Eventgroup, giving: &mut Giving) -> Result<(), AllocError>
-        ensures { OnOk result (working self.new giving.new
+        ensures work { OnOk result (working self.new giving.new
             ≡ run plain (input.unsubscribe_plan eventgroup) (working self.old giving.old)) }
+        ensures config { self.new.config ≡ self.old.config }
     {
         match self.unwish(eventgroup) {
             Some(standing) => self.end_subscription(eventgroup, standing, giving),
@@ -187,10 +194,11 @@ impl<R: Reassembly> Engine<R> {
         standing: Beginning,
         giving: &mut Giving,
     ) -> Result<(), AllocError>
-        ensures { OnOk result (working self.new giving.new
+        ensures work { OnOk result (working self.new giving.new
             ≡ told_after (Unsubscribed eventgroup) (run plain (message_plan_to (Peer standing.peer)
             (stop_subscribe_of self.old eventgroup standing.counter))
             (working self.old giving.old))) }
+        ensures config { self.new.config ≡ self.old.config }
     {
         let entries = self.stop_subscribe_entries(eventgroup, standing.counter)?;
         self.send_message(Receiver::Peer(standing.peer), &entries, giving)?;
@@ -226,8 +234,9 @@ impl<R: Reassembly> Engine<R> {
 
     /// Stops the offer of an instance: the group is told before.
     fn withdraw(&mut self, instance: InstanceId, giving: &mut Giving) -> Result<(), AllocError>
-        ensures { OnOk result (working self.new giving.new
+        ensures work { OnOk result (working self.new giving.new
             ≡ run plain (input.stop_offer_plan instance) (working self.old giving.old)) }
+        ensures config { self.new.config ≡ self.old.config }
     {
         let entries = self.stop_offer_entries(instance)?;
         self.send_message(Receiver::Group, &entries, giving)?;

@@ -19,6 +19,10 @@ pub record NodeView : Type 0 where
 abbrev pub StandsFor : NodeView → History → Type 0
 StandsFor node h = node ≡ record { config = h.config; tables = Some (answers_of h) }
 
+-- it has failed, and has its configuration still
+abbrev pub HasFailed : NodeView → History → Type 0
+HasFailed node h = node ≡ record { config = h.config; tables = None }
+
 -- nothing was given yet
 abbrev pub work_on : History → Work History
 work_on h = record { state = h; outputs = []; replies = [] }
@@ -40,7 +44,7 @@ given_in (Err refusal) = Err refusal
 -- is as it was. Any other is done, or memory ran out, and the node has failed
 abbrev pub GivesStep : History → Result (Work History) NodeError → Result (Vec Output) NodeError → NodeView → Type 0
 GivesStep h (Ok done) (Ok outputs) new = (outputs.items ≡ done.outputs) × StandsFor new done.state
-GivesStep h (Ok done) (Err error) new = (error ≡ OutOfMemory) × (new.tables ≡ None)
+GivesStep h (Ok done) (Err error) new = (error ≡ OutOfMemory) × HasFailed new h
 GivesStep h (Err refusal) (Ok outputs) new = ⊥
 GivesStep h (Err refusal) (Err error) new = (error ≡ refusal) × StandsFor new h
 

@@ -10,9 +10,9 @@ returns-clause-reacts g c = λ h is.
     handled_given h (Datagram c.args.from c.args.to c.args.bytes.now) c.self.inside.engine
     (answers c.self.inside.failed c.self.inside.engine h c.if-self.false (c.self.view_is ∙ is))
     c.take_datagram-done.result c.new-giving.result c.take_datagram-done.new.giving c.take_datagram-done.new.self _ _
-    c.new-giving.ensures.outputs c.new-giving.ensures.replies c.take_datagram-done.ensures c.finish.ensures.failed c.finish.ensures.given
+    c.new-giving.ensures.outputs c.new-giving.ensures.replies c.take_datagram-done.ensures.handled c.take_datagram-done.ensures.config c.finish.ensures.failed c.finish.ensures.given
 
 pub invariant_of-self : goal.invariant_of-self
 invariant_of-self g c = λ fine.
     handled_fits (Datagram c.args.from c.args.to c.args.bytes.now) c.self.inside.engine c.new-giving.result c.take_datagram-done.new.self c.take_datagram-done.new.giving
-    (c.self.invariant c.if-self.false) c.take_datagram-done.result c.take_datagram-done.ensures (sym c.finish.ensures.failed ∙ fine)
+    (c.self.invariant c.if-self.false) c.take_datagram-done.result c.take_datagram-done.ensures.handled (sym c.finish.ensures.failed ∙ fine)

@@ -13,7 +13,7 @@ returns-clause-reacts g c = λ h is.
     handled_given h (Tick c.args.ms) c.self.inside.engine
     (answers c.self.inside.failed c.self.inside.engine h c.if-self.false (c.self.view_is ∙ is))
     c.take_tick-done.result c.new-giving.result c.take_tick-done.new.giving c.take_tick-done.new.self _ _
-    c.new-giving.ensures.outputs c.new-giving.ensures.replies c.take_tick-done.ensures.handled c.finish.ensures.failed c.finish.ensures.given
+    c.new-giving.ensures.outputs c.new-giving.ensures.replies c.take_tick-done.ensures.handled c.take_tick-done.ensures.config c.finish.ensures.failed c.finish.ensures.given
 
 pub returns-clause-quiet : goal.returns-clause-quiet
 returns-clause-quiet g c = λ h done stands is none out.

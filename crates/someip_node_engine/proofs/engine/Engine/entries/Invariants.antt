@@ -8,5 +8,9 @@ use Rattle.someip_node_engine.proofs.engine.Engine.entries.Given as goal
 -- what the entries that are left bring about now is what all bring about
 abbrev pub invariant-loop-entry : goal.invariant-loop-entry
 invariant-loop-entry g l =
-    run plain (each (entry_plan l.peer) (map view_read (drop l.entry-index l.entries))) (working l.self l.giving)
-    ≡ run plain (each (entry_plan l.peer) (map view_read l.entries)) (working l.fn.self l.fn.giving)
+    record {
+      same :
+          run plain (each (entry_plan l.peer) (map view_read (drop l.entry-index l.entries))) (working l.self l.giving)
+          ≡ run plain (each (entry_plan l.peer) (map view_read l.entries)) (working l.fn.self l.fn.giving);
+      config : l.self.config ≡ l.fn.self.config;
+    }

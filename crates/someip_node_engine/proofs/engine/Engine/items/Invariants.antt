@@ -7,5 +7,9 @@ use Rattle.someip_node_engine.proofs.engine.Engine.items.Given as goal
 -- what the items that are left bring about now is what all bring about
 abbrev pub invariant-loop-item : goal.invariant-loop-item
 invariant-loop-item g l =
-    run plain (items_plan l.target l.from l.to l.item-iterator) (working l.self l.giving)
-    ≡ run plain (items_plan l.target l.from l.to l.initial.item-iterator) (working l.fn.self l.fn.giving)
+    record {
+      same :
+          run plain (items_plan l.target l.from l.to l.item-iterator) (working l.self l.giving)
+          ≡ run plain (items_plan l.target l.from l.to l.initial.item-iterator) (working l.fn.self l.fn.giving);
+      config : l.self.config ≡ l.fn.self.config;
+    }

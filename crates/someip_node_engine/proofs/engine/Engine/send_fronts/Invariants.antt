@@ -15,4 +15,5 @@ invariant-loop-length g l =
           run plain (each (message_plan_to l.receiver) (fronts_of (drop l.length-index l.lengths) (map view_entry l.rest))) (working l.self l.giving)
           ≡ run plain (each (message_plan_to l.receiver) (fronts_of l.lengths (map view_entry l.entries))) (working l.fn.self l.fn.giving);
       within : AreWithin (drop l.length-index l.lengths) (length l.rest);
+      config : l.self.config ≡ l.fn.self.config;
     }

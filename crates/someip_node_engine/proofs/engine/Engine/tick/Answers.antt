@@ -9,7 +9,7 @@ returns-then-is_nothing-clause-work g c =
 pub returns-clause-work : goal.returns-clause-work
 returns-clause-work g c =
     passed_told_ok c.args.self.now c.pass.new.self c.give_passed.new.self c.args.giving.now c.give_passed.new.giving c.args.ms c.args.now _ c.give_passed.result c.requires c.in_ok-passed.ensures.passed
-    c.in_ok-passed.ensures.ticked c.give_passed.ensures
+    c.in_ok-passed.ensures.ticked c.give_passed.ensures.work
 
 pub returns-clause-grows : goal.returns-clause-grows
 returns-clause-grows g c =
