@@ -9,7 +9,8 @@ use someip_wire::WireError;
 use thiserror::Error;
 
 /// Why a datagram, a message, a segment or an entry that came is dropped. Nothing is changed by it, but
-/// that a segment that contradicts its message ends that message.
+/// that a segment that contradicts its message ends that message, and that with any segment the messages
+/// in part end whose time is over.
 #[derive(Clone, Copy, Debug, PartialEq, Eq, Error)]
 pub enum DropReason {
     /// The datagram has the node's own address as its source.
@@ -36,7 +37,8 @@ pub enum DropReason {
     /// The Ack or Nack answers no subscription that stands.
     #[error("NotPending")]
     NotPending,
-    /// The event belongs to no eventgroup that the client is subscribed to.
+    /// The event belongs to no eventgroup that the client is subscribed to, comes from another endpoint
+    /// than that of the known offer, or has another Interface Version than the wanted major version.
     #[error("NotSubscribed")]
     NotSubscribed,
     /// The message that came to the client answers no call, or is none that a client takes.

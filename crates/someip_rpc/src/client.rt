@@ -26,7 +26,7 @@ use std::net::SocketAddrV4;
 /// taken or its time has passed, and at most 1024 wait at once.
 ///
 /// Whoever moves the clock calls [`ClientCore::tick`] with it, which tells the calls whose time has
-/// passed: a later call drops them without telling.
+/// passed: a later REQUEST drops them without telling.
 #[derive(Drop)]
 pub struct ClientCore {
     alloc: Global,

@@ -27,7 +27,7 @@ pub enum RpcError {
     /// An ERROR cannot have the code E_OK.
     #[error("BadErrorCode")]
     BadErrorCode,
-    /// The event is not one of the instance.
+    /// The event is not one of the instance, or none of the named eventgroup.
     #[error("UnknownEvent")]
     UnknownEvent,
     /// The endpoint has no subscription.
