@@ -19,7 +19,8 @@ use std::alloc::Global;
 use std::marker::Model;
 use std::net::SocketAddrV4;
 
-/// A node. It stands for the history of what it met.
+/// A node. It stands for the history of what it met since its start, unless memory ran out: then it
+/// has failed, keeps its configuration alone, and stands for no history until it is restarted.
 #[derive(Drop)]
 pub struct Node<R: Reassembly> {
     alloc: Global,
