@@ -24,6 +24,10 @@ const EMPTY_LEN: usize = 12;
 /// The lengths of the longest fronts of the entries, one after the other, that can each be written
 /// as a message of at most 1400 bytes. An entry that cannot be so written by itself stands alone.
 ///
+/// ```text
+/// 100 Finds    86 and 14: 12 bytes, and 16 for each Find
+/// ```
+///
 /// The work grows with the number of entries: each is placed in a pool once or twice.
 pub fn split_entries(alloc: Global, entries: &[Entry]) -> Result<Vec<usize>, SdError>
     ensures fronts { IfOk result (λ lengths. AreFronts (map view_entry entries.now) lengths.items) }

@@ -7,8 +7,9 @@ ghost use Rattle.someip_payload.specs.declared.error.PayloadError.TheVariants.{O
 use std::alloc::{AllocError, AllocFailed};
 use thiserror::Error;
 
-/// Why a payload could not be read or written. The place is the index of a byte of the input, and
-/// 0 where a value or a shape is at fault.
+/// Why a payload could not be read or written. The place counts the bytes of the input in front of
+/// the fault, all of them where the input ends too early, and is 0 where a value or a shape is at
+/// fault.
 #[derive(Clone, Copy, Debug, Error, PartialEq, Eq)]
 pub enum PayloadError {
     /// A value passes the end of the input.

@@ -22,7 +22,13 @@ use std::alloc::Global;
 /// The value at the front of the bytes, and how many bytes it takes. What comes after it is not
 /// looked at. Refuses what `check_shape` refuses, and then at the first fault from left to right:
 /// `Truncated`, `LengthMismatch`, `TooMany`, `UnknownVariant`, `NoTerminator` or `BadText`, each
-/// with the index of a byte.
+/// with its place, in bytes from the first one.
+///
+/// ```text
+/// array<2,u16>    00000004 0001 0002         [1,2], 8 bytes
+/// array<2,u16>    00000003 0001 00           LengthMismatch(6)
+/// array<2,u16>    00000006 0001 0002 0003    TooMany(8)
+/// ```
 pub fn decode(alloc: Global, shape: &Shape, bytes: &[u8]) -> Result<(Value, usize), PayloadError>
     // What is read is spelled so.
     ensures found { IfOk result (λ x. (checked (form shape.now) ≡ Ok tt) × (x.1 ≤ length bytes.now)

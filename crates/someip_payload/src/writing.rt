@@ -20,6 +20,11 @@ use std::alloc::{AllocError, Global};
 /// what `check_shape` refuses, and then at the first fault from left to right, with place 0:
 /// `NotOfShape`, `UnknownVariant`, `TooMany` or `TooLong`. An `Err` leaves `out` as it was, so the
 /// bytes are made first, in memory of its allocator.
+///
+/// ```text
+/// struct/16(u8,utf16), (7,"A")    000b 07 00000006 feff 0041 0000
+/// array<2,u16>, [1,2,3]           TooMany(0)
+/// ```
 pub fn encode(shape: &Shape, value: &Value, out: &mut Vec<u8>) -> Result<(), PayloadError>
     // The text of the value is added, or there is none for this reason, and nothing is added.
     ensures exact { Appends out.old.items out.new.items result (encoded (form shape.now) (data_of value.now)) }

@@ -38,6 +38,10 @@ impl<'a> Segments<'a> {
     ghost use Rattle.someip_tp.specs.Segments.{SegmentValue, AreSegments};
 
     /// The segments of this message. A message without a payload has none.
+    ///
+    /// ```text
+    /// 5880 bytes    1392 from 0, from 1392, from 2784 and from 4176, and 312 from 5568
+    /// ```
     pub fn new(message: &Message<'a>) -> Segments<'a>
         requires { 8 + length message.now.payload.now < 2 ^ 32 }
         ensures segments { AreSegments (view message.now) result }

@@ -55,6 +55,11 @@ impl<'a> Sent<'a> {
     ghost use Rattle.someip_tp.specs.Sent.{Alone, InSegment, slice_of, sent};
 
     /// The pieces of this message.
+    ///
+    /// ```text
+    /// 1400 bytes    the message alone
+    /// 1401 bytes    segments of 1392 and 9 bytes
+    /// ```
     pub fn new(message: &Message<'a>) -> Sent<'a>
         requires { 8 + length message.now.payload.now < 2 ^ 32 }
         ensures alone { length message.now.payload.now ≤ 1400

@@ -38,6 +38,11 @@ impl<'a> Messages<'a> {
     ghost use Rattle.someip_wire.specs.Reading.{items_of};
 
     /// The messages of this datagram, and its end.
+    ///
+    /// ```text
+    /// 12340421 00000008 00010001 01010000    a message, and the end without a fault
+    /// the same and 12340421 00               a message, and then Truncated(21)
+    /// ```
     pub fn new(datagram: &'a [u8]) -> Messages<'a>
         // The datagram is some messages and an end, and these are given.
         ensures found { (messages : List MessageValue) × (end : Option WireError)

@@ -20,6 +20,11 @@ pub fn written_len(message: &Message<'_>) -> usize
 
 /// Writes the message to the front of the bytes, and says how many bytes it has. The bytes after
 /// it stay as they are.
+///
+/// ```text
+/// 1234.0421, client 1, session 1, interface 1, REQUEST, E_OK, payload 2a
+/// 12340421 00000009 00010001 01010000 2a    17 bytes
+/// ```
 pub fn write_message(message: &Message<'_>, out: &mut [u8]) -> usize
     requires fits { 8 + length message.now.payload.now < 2 ^ 32 }
     requires room { length (spelling (view message.now)) ≤ length out.old }
@@ -33,6 +38,11 @@ pub fn write_message(message: &Message<'_>, out: &mut [u8]) -> usize
 }
 
 /// The 16 bytes that stand in front of a payload of so many bytes, which may be kept in pieces.
+///
+/// ```text
+/// 1234.0421, client 1, session 1, interface 1, REQUEST, E_OK, 1 byte of payload
+/// 12340421 00000009 00010001 01010000
+/// ```
 pub fn header_bytes(header: &Header, payload_len: u32) -> [u8; 16]
     requires { 8 + payload_len < 2 ^ 32 }
     ensures { result ≡ header_bytes header.now payload_len }
