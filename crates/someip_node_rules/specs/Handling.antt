@@ -96,7 +96,8 @@ abbrev pub good_plan : Ipv4Addr → EntryHead → Option SocketAddrV4 → Plan
 good_plan peer (Service head) endpoint = service_plan peer head endpoint
 good_plan peer (Eventgroup head) endpoint = eventgroup_plan peer head endpoint
 
--- an entry with a bad run: a Subscribe is taken as one without options, and any other is dropped
+-- an entry with a bad run: a Subscribe is taken as one without options, so its Nack is NoEndpoint unless an earlier cause
+-- holds; any other is dropped
 abbrev pub bad_plan : Ipv4Addr → EntryHead → Plan
 bad_plan peer (Service head) = act (Drops BadRun)
 bad_plan peer (Eventgroup head) = if is_subscribe head then act (TakesSubscribe peer head None) else act (Drops BadRun)
