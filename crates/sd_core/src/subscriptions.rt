@@ -28,7 +28,7 @@ use std::net::Ipv4Addr;
 /// Protocol, "Publish/Subscribe"). A contract sees the map from eventgroups to wishes.
 ///
 /// A subscription is begun by the first Subscribe after a wish or after its last end, and stands
-/// until it is told as ended: by [`Subscriptions::stop`] however the known offer ended, by
+/// until it is told as ended: by [`Subscriptions::stop`] where a StopOffer ended the known offer, by
 /// [`Subscriptions::peer_reboot`], [`Subscriptions::tick`], [`Subscriptions::nack`] or
 /// [`Subscriptions::unwant`]. Whoever moves the clock calls `tick` with it: what has passed and was not
 /// yet told is no subscription to an Ack, a Nack or an Offer.
@@ -151,8 +151,8 @@ impl Subscriptions {
         take_nack(&mut self.places, &answer, now)
     }
 
-    /// The known offer of an instance ended, since its time passed or by a StopOffer: the subscriptions
-    /// that were begun there end, and are told by rising Eventgroup ID. The wishes stand.
+    /// The known offer of an instance ended by a StopOffer: the subscriptions that were begun there end,
+    /// and are told by rising Eventgroup ID. The wishes stand.
     ///
     /// What is refused because memory ran out leaves all as it was; memory is taken only where one ends.
     pub fn stop(&mut self, instance: InstanceId) -> Result<Vec<Eventgroup>, AllocError>

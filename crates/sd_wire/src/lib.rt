@@ -4,7 +4,8 @@
 //! - [`SdMessage`], [`Entry`], [`SdOption`] and their parts: what a message says. They hold only
 //!   numbers that fit their fields, and each value on the wire has one value here;
 //! - [`read_sd`]: bytes are read as a message, or refused at their first fault;
-//! - [`write_sd`]: the one text of a message, with each run of options written once;
+//! - [`write_sd`]: the one text of a message, in which a run of options that is there already is not
+//!   written again;
 //! - [`split_entries`]: entries are split into messages that fit a datagram;
 //! - [`laws`]: what the definitions behind the contracts promise, whatever code reads and writes.
 #![tactic(auto)]

@@ -17,9 +17,9 @@ use std::alloc::{AllocError, Global};
 
 /// Adds the bytes of the message at the end of `out`: the payload after the header of SOME/IP.
 ///
-/// Options that several runs name are written once. Entry by entry, the first run before the
-/// second, a run stands at the least index at which the options so far hold it in one piece; if they
-/// hold it nowhere, it is added whole at their end. A run of more than 15 options or one at an index
+/// A run that the options so far hold in one piece is not written again. Entry by entry, the first
+/// run before the second, a run stands at the least index at which they hold it so; if they hold it
+/// nowhere, it is added whole at their end. A run of more than 15 options or one at an index
 /// above 255 is `TooManyOptions`, with the number of its entry from 0. An `Err` leaves `out` as it
 /// was.
 ///

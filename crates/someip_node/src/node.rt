@@ -169,8 +169,8 @@ impl<R: Reassembly> Node<R> {
     }
 
     /// Calls a method of an instance that the node wants, at the endpoint of the offer that it knows.
-    /// A call that waits for its answer waits as long as the configuration says. A payload that does not
-    /// fit into one datagram goes out in segments (SOME/IP Protocol, "Request/Response communication",
+    /// A call that waits for its answer waits as long as the configuration says. A payload of more
+    /// than 1400 bytes goes out in segments (SOME/IP Protocol, "Request/Response communication",
     /// "SOME/IP-TP").
     ///
     /// It is refused, by the first that holds, as `NotOffered` where no offer of the instance is known,

@@ -35,7 +35,7 @@ is_good_id = is_within 1 0xFFFE
 abbrev pub is_good_instance : InstanceId → Bool
 is_good_instance instance = is_good_id instance.service && is_good_id instance.instance
 
--- an event has the top bit set
+-- an Event ID is from 8000 to FFFE
 abbrev pub is_good_event : ℕ → Bool
 is_good_event = is_within 0x8000 0xFFFE
 
@@ -43,7 +43,7 @@ is_good_event = is_within 0x8000 0xFFFE
 abbrev pub has_good_eventgroups : ℕ × BTreeSet ℕ → Bool
 has_good_eventgroups event = is_good_event event.0 && not (length event.1.keys == 0) && list_all is_good_id event.1.keys
 
--- a method does not have the top bit set
+-- Method IDs are up to 7FFF
 abbrev pub are_good_methods : BTreeSet ℕ → Bool
 are_good_methods methods = list_all (λ m. nat_le m 0x7FFF) methods.keys
 

@@ -73,7 +73,7 @@ abbrev mutual
   are_variants no_variants = true
   are_variants (variant n f vs) = is_form f && are_variants vs
 
--- at most 16 forms lie inside each other, and each is one that values can have
+-- at most 16 forms lie inside each other, and each is one that a form may have
 unfoldable pub checked : Form → Result (Unit {0}) PayloadError
 checked f = if nat_lt 16 (depth f) then Err (TooDeep 0) else if is_form f then Ok tt else Err (BadShape 0)
 

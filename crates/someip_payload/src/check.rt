@@ -70,7 +70,7 @@ fn are_variants_within(variants: &[(u32, Shape)], limit: u32) -> bool
     true
 }
 
-/// Whether no part of the shape is one that no value can have.
+/// Whether no part of the shape is one that no shape may have.
 #[cycle(sound)]
 fn is_sound(alloc: Global, shape: &Shape) -> Result<bool, AllocError>
     ensures { IfOk result (λ b. b ≡ is_form (form shape.now)) }

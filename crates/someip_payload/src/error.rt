@@ -7,9 +7,9 @@ ghost use Rattle.someip_payload.specs.declared.error.PayloadError.TheVariants.{O
 use std::alloc::{AllocError, AllocFailed};
 use thiserror::Error;
 
-/// Why a payload could not be read or written. The place counts the bytes of the input in front of
-/// the fault, all of them where the input ends too early, and is 0 where a value or a shape is at
-/// fault.
+/// Why a payload could not be read or written. The place is that of the first byte of what is at
+/// fault, and of its length field where that is a body or a text, also where the input ends within
+/// it. It is 0 where a value or a shape is at fault.
 #[derive(Clone, Copy, Debug, Error, PartialEq, Eq)]
 pub enum PayloadError {
     /// A value passes the end of the input.
@@ -42,7 +42,8 @@ pub enum PayloadError {
     /// Memory ran out.
     #[error("out of memory")]
     OutOfMemory,
-    /// The shape has a part that no value can have, or that says a thing twice.
+    /// The shape has a part that no shape may have: a Fixed of no elements or of Fixed elements, a
+    /// Struct or a Union without parts, or a variant number that is 0 or stands twice.
     #[error("BadShape at {0}")]
     BadShape(usize),
 }

@@ -16,7 +16,8 @@ pub enum TpError {
     /// The slice goes past the message limit.
     #[error("TooLong")]
     TooLong,
-    /// The slice contradicts what is held: another byte at a place, or another total.
+    /// The slice contradicts what is held: another byte at a place, a byte at or past the total,
+    /// another total, or one at or below a held place.
     #[error("Conflict")]
     Conflict,
     /// The segment begins a new message, and all slots are taken.

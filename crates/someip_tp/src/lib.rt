@@ -1,4 +1,4 @@
-//! SOME/IP-TP: messages that are longer than a datagram are sent in segments (SOME/IP Protocol,
+//! SOME/IP-TP: messages with more than 1400 bytes of payload are sent in segments (SOME/IP Protocol,
 //! "Transporting large SOME/IP messages by UDP"), and put together again by their receiver.
 //!
 //! - [`Segments`]: the segments of a message;

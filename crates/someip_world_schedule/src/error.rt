@@ -1,4 +1,4 @@
-//! Why what a world is made of is refused.
+//! Why a schedule is refused.
 ghost use Rattle.std.specs.Prelude.{◌≡◌};
 ghost use Rattle.someip_world_schedule.specs.declared.error.ScheduleError.TheVariants.{OutOfMemory};
 

@@ -14,7 +14,7 @@ const REPEATED_LIMIT: u64 = 1_048_576;
 /// The payload of a step. Contracts see its bytes.
 ///
 /// `HH*N` is kept as the byte and the number N, so that a schedule takes no more memory than its
-/// text does, however large the payloads are that it spells.
+/// text does, but for a constant factor, however large the payloads are that it spells.
 #[derive(Drop)]
 pub struct StepPayload {
     /// The bytes that the line spells one by one.

@@ -1,7 +1,7 @@
 //! `someipctl`: SOME/IP messages on the command line.
 //!
-//! What a command reads, does and prints stands in `someipctl_commands`; here are the command line,
-//! the files, and how the program ends.
+//! What a command reads, does and prints stands in `someipctl_commands` and, of `run`, in
+//! `someipctl_run`; here are the command line, the files, and how the program ends.
 //!
 //! - `command`, `help`: what the arguments ask for, and the answer to others;
 //! - `failure`: why the program failed, with its exit status and its text;
