@@ -133,7 +133,7 @@ fn is_discovery(header: &Header) -> bool
         && header.session != 0
 }
 
-/// Reads a message, and keeps want of memory apart.
+/// Reads a message, and keeps out of memory apart.
 fn read_payload(alloc: Global, payload: &[u8]) -> Result<Result<SdRead, SdError>, AllocError>
     ensures { IfOk result (λ found. result_map_both view_sd (λ e. e) found ≡ reading payload.now) }
 {

@@ -157,7 +157,7 @@ fn offer_to<R: Reassembly>(
     }
 }
 
-/// Offers a segment, and keeps want of memory apart.
+/// Offers a segment, and keeps out of memory apart.
 fn offered<R: Reassembly>(
     store: &mut R,
     now: u64,

@@ -18,7 +18,7 @@ use Rattle.someip_world.specs.declared.step_fault.StepFault.TheVariants.{Payload
 use Rattle.someip_world.specs.Deeds.{Deed, done_with}
 use Rattle.someip_world.specs.Runs.{told_lines}
 
--- a node's refusal, and its want of memory
+-- a node's refusal, and out of memory
 abbrev pub as_step_error : NodeError → StepError
 as_step_error refusals.OutOfMemory = OutOfMemory
 as_step_error refusal = Refused refusal

@@ -56,7 +56,7 @@ unparted_step : (b : ℕ) (line : List ℕ) (blank : Bool) → is_blank b ≡ bl
 unparted_step b line true is h = rw is (refl, h)
 unparted_step b line false is h = rw is (unparted_onto b (words_in line) is h)
 
--- which have no blanks
+-- which have no spaces
 pub words_unparted : (line : List ℕ) → AllByRecursion IsUnparted (words_in line)
 words_unparted [] = (refl, tt)
 words_unparted (b ∷ line) = unparted_step b line (is_blank b) refl (words_unparted line)
@@ -77,7 +77,7 @@ first_word (b ∷ word) rest h =
     let p = parts b word (is_blank b) refl h in
     rw p.0 (ap (onto_first b) (first_word word rest p.1))
 
--- and no other words without blanks are joined to it
+-- and no other words without spaces are joined to it
 pub only_words : (word : List ℕ) (others : List (List ℕ)) → AllByRecursion IsUnparted (word ∷ others)
     → words_in (joined_by_blanks (word ∷ others)) ≡ word ∷ others
 only_words word [] h = last_word word h.0

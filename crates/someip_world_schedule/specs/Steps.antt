@@ -13,15 +13,15 @@ use Rattle.someip_world_schedule.specs.declared.step_command.Command.{Command}
 use Rattle.someip_world_schedule.specs.declared.step_command.Command.TheVariants as commands
 use Rattle.someip_world_schedule.specs.StepWords.{◌>>=◌, number_in, id_in, method_in, code_in, name_in, instance_in, group_in, endpoint_in, payload_in}
 
--- the words of a line: what stands between single blanks
+-- the words of a line: what stands between single spaces
 abbrev pub words_in : List ℕ → List (List ℕ)
 words_in line = slice_split (λ b. b == 0x20) line
 
--- a text has no blank in it
+-- a text has no space in it
 abbrev pub IsUnparted : List ℕ → Type 0
 IsUnparted word = list_any (λ b. b == 0x20) word ≡ false
 
--- words with single blanks between them
+-- words with single spaces between them
 abbrev pub joined_by_blanks : List (List ℕ) → List ℕ
 joined_by_blanks [] = []
 joined_by_blanks (word ∷ []) = word

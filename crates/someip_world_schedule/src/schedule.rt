@@ -8,7 +8,7 @@
 //! answer server 1 00 aa*4
 //! ```
 //!
-//! A line ends at byte 0a or at the text's end, and its words are parted by one blank (byte 20). Empty
+//! A line ends at byte 0a or at the text's end, and its words are parted by one space (byte 20). Empty
 //! lines, and lines of UTF-8 that begin with `#`, are skipped. [`Step`] tells the forms of the others.
 //! In these
 //!

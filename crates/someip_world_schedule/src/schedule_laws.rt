@@ -15,7 +15,7 @@ pub fn what_numbers_say()
         → (word ≡ decimal n) × (n < limit) }
 {}
 
-/// The words of a line are those that single blanks join to it, and no others.
+/// The words of a line are those that single spaces join to it, and no others.
 pub fn what_words_are()
     ensures spelled { (line : List ℕ) → joined_by_blanks (words_in line) ≡ line }
     ensures unparted { (line : List ℕ) → AllByRecursion IsUnparted (words_in line) }

@@ -1,4 +1,4 @@
--- The text of a shape has no blank, so a line `payload SHAPE HEX` is parted at its first one after the word.
+-- The text of a shape has no space, so a line `payload SHAPE HEX` is parted at its first one after the word.
 use Rattle.std.proofs.Common.{◌≡◌, ◌==◌, ◌||◌, ◌<◌, ◌≤◌, ◌^◌, ℕ, suc, ◌+◌, Bool, true, false, List, [], ◌∷◌, ◌++◌, length, take, drop, codes, Option, None, Some, Err, refl, sym, ap, subst, ◌∙◌, arith, length-append}
 use Rattle.std.specs.List.{list_any, position_or_len, before_first, after_first}
 use Rattle.std.specs.Fmt.{decimal}
@@ -23,7 +23,7 @@ use Rattle.someip_payload.specs.ShapeText.{IsReadAs, width_text, repeated_text, 
 abbrev pub is_blank : ℕ → Bool
 is_blank b = b == 32
 
--- a text without a blank
+-- a text without a space
 abbrev pub IsUnparted : List ℕ → Type 0
 IsUnparted text = list_any is_blank text ≡ false
 
@@ -50,7 +50,7 @@ width_unparted (Some W8) = refl
 width_unparted (Some W16) = refl
 width_unparted (Some W32) = refl
 
--- a text between two others without a blank
+-- a text between two others without a space
 between : (front text rest : List ℕ) → IsUnparted front → IsUnparted text → IsUnparted rest → IsUnparted (front ++ (text ++ rest))
 between front text rest first middle last = both front (text ++ rest) first (both text rest middle last)
 
@@ -105,7 +105,7 @@ first_step b text rest false is h first =
     let more : 1 + length text ≡ suc (length text) = omega arith in
     rw is (ap (λ n. 1 + n) (first (rw is at none)) ∙ more)
 
--- the first blank stands after a text without one
+-- the first space stands after a text without one
 pub first_blank : (text rest : List ℕ) → IsUnparted text → position_or_len is_blank (text ++ (codes " " ++ rest)) ≡ length text
 first_blank [] rest h = refl
 first_blank (b ∷ text) rest h = first_step b text rest (is_blank b) refl h (first_blank text rest)
@@ -113,13 +113,13 @@ first_blank (b ∷ text) rest h = first_step b text rest (is_blank b) refl h (fi
 long_enough : (text s h : List ℕ) → text ≡ s ++ (codes " " ++ h) → length s < length text
 long_enough text s h is = rw is (omega (arith, length-append s (codes " " ++ h)))
 
--- a text without a blank is no two parts
+-- a text without a space is no two parts
 pub unparted_text : (text s h : List ℕ) → position_or_len is_blank text ≡ length text → text ≡ s ++ (codes " " ++ h) → IsUnparted s → ⊥
 unparted_text text s h all is h2 =
     let first : position_or_len is_blank text ≡ length s = ap (position_or_len is_blank) is ∙ first_blank s h h2 in
     absurd (omega (arith, all, first, long_enough text s h is))
 
--- the parts of a text are those around its first blank
+-- the parts of a text are those around its first space
 pub parts_are : (text s h p q : List ℕ) → p ≡ before_first is_blank text → q ≡ after_first is_blank text → text ≡ s ++ (codes " " ++ h) → IsUnparted s
     → (p ≡ s) × (q ≡ h)
 parts_are text s h p q before after is unparted =
@@ -138,7 +138,7 @@ parts_are text s h p q before after is unparted =
 
 -- ---- the arguments of a line `payload SHAPE HEX`
 
--- a text without a blank says no arguments
+-- a text without a space says no arguments
 pub unparted_says_none : (text : List ℕ) (shape : Form) (bytes : List ℕ) → position_or_len is_blank text ≡ length text → AreArguments text shape bytes → ⊥
 unparted_says_none text shape bytes all says = unparted_text text says.0 says.1 all says.2 (shape_unparted shape says.0 says.3)
 

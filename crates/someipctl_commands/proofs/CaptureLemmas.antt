@@ -19,7 +19,7 @@ use Rattle.someipctl_commands.specs.Capture.{bytes_of, is_skipped, is_read, is_b
 
 -- ---- one line
 
--- a line is blank if nothing is left of it
+-- a line has nothing but spaces if nothing is left of it
 pub list_all-blank : (line : List ℕ) → list_all (λ b. b == 0x20) line ≡ (length (without_blanks line) == 0)
 list_all-blank [] = refl
 list_all-blank (b ∷ line) =
@@ -29,7 +29,7 @@ list_all-blank (b ∷ line) =
       | inr other ↦ rw (ne_eqb b 0x20 other) (sym (ne_eqb (length (b ∷ without_blanks line)) 0 (λ e. cc e)))
     ]
 
--- digits have no blank among them
+-- digits have no space among them
 pub without_blanks-digits : (line : List ℕ) → AllPass is_hex_digit line → without_blanks line ≡ line
 without_blanks-digits [] h = refl
 without_blanks-digits (b ∷ line) h =

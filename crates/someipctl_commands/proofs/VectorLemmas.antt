@@ -71,7 +71,7 @@ no_hex sayings hex none =
         let bad : None ≡ Some bytes = sym none ∙ some in absurd (cc bad)
     asks_nothing (of_payload shape bytes) shallow says = absurd (d_is_no_p (ap first_byte says.1))
 
--- so are `>` alone, and a blank
+-- so are `>` alone, and a space
 pub bare_text : (sayings : List Said) → IsBadBehind sayings (codes ">")
 bare_text sayings =
     λ utf8. (refl, asks_of_none (codes ">") 62 (λ e. cc e) (λ e. cc e) refl, λ text says. (let short : 1 ≡ suc (suc (length text)) = ap length says.0 in absurd (omega (arith, short))))

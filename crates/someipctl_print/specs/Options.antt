@@ -47,7 +47,7 @@ option_text (Multicast6 e) = codes "multicast6 " ++ ipv6_text e
 option_text (SdEndpoint6 e) = codes "sdendpoint6 " ++ ipv6_text e
 option_text (Raw o) = raw_text o.kind o.bytes
 
--- a run's options, parted by a comma and a blank
+-- a run's options, parted by a comma and a space
 abbrev pub run_text : List SdOption → List ℕ
 run_text [] = []
 run_text (o ∷ os) = option_text o ++ flat_map (λ other. codes ", " ++ option_text other) os

@@ -1,4 +1,4 @@
-//! The words of a line, with a blank before each.
+//! The words of a line, with a space before each.
 ghost use Rattle.std.specs.Prelude.{◌≡◌, ◌++◌, OnOk, OnErr, codes, map};
 ghost use Rattle.std.specs.List.{flat_map};
 ghost use Rattle.std.specs.Net.Addr.{ipv4_octets};
@@ -49,7 +49,7 @@ pub fn put_end<W: Write>(
     put_parts(buffer, writer, &[Part::Text("\n")])
 }
 
-/// Prints words, each behind a blank.
+/// Prints words, each behind a space.
 fn put_words<W: Write>(
     buffer: &mut Buffer,
     writer: &mut W,
@@ -66,7 +66,7 @@ fn put_words<W: Write>(
     Ok(())
 }
 
-/// Prints a word behind a blank.
+/// Prints a word behind a space.
 fn put_word<W: Write>(
     buffer: &mut Buffer,
     writer: &mut W,
@@ -89,14 +89,14 @@ fn put_word<W: Write>(
     }
 }
 
-/// A blank and a part.
+/// A space and a part.
 fn one_part(part: Part<'_>) -> [Part<'_>; 2]
     ensures { flat_map part_text result ≡ codes " " ++ part_text part.entry }
 {
     [Part::Text(" "), part]
 }
 
-/// A blank and two IDs.
+/// A space and two IDs.
 fn ids_parts(first: u16, second: u16) -> [Part<'static>; 4]
     ensures { flat_map part_text result ≡ codes " " ++ ids_text first second }
 {
@@ -108,7 +108,7 @@ fn ids_parts(first: u16, second: u16) -> [Part<'static>; 4]
     ]
 }
 
-/// A blank and an address.
+/// A space and an address.
 fn address_parts(address: Ipv4Addr) -> [Part<'static>; 8]
     ensures { flat_map part_text result ≡ codes " " ++ ipv4_text (ipv4_octets address) }
 {
@@ -125,7 +125,7 @@ fn address_parts(address: Ipv4Addr) -> [Part<'static>; 8]
     ]
 }
 
-/// A blank and an endpoint.
+/// A space and an endpoint.
 fn endpoint_parts(endpoint: SocketAddrV4) -> [Part<'static>; 10]
     ensures { flat_map part_text result ≡ codes " " ++ socket_v4_text endpoint }
 {
