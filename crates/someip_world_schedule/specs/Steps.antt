@@ -13,7 +13,8 @@ use Rattle.someip_world_schedule.specs.declared.step_command.Command.{Command}
 use Rattle.someip_world_schedule.specs.declared.step_command.Command.TheVariants as commands
 use Rattle.someip_world_schedule.specs.StepWords.{◌>>=◌, number_in, id_in, method_in, code_in, name_in, instance_in, group_in, endpoint_in, payload_in}
 
--- the words of a line: what stands between single spaces
+-- the words of a line: what stands between spaces. Between two spaces, and at an end with a space, stands an empty word,
+-- which no step takes
 abbrev pub words_in : List ℕ → List (List ℕ)
 words_in line = slice_split (λ b. b == 0x20) line
 
