@@ -339,7 +339,7 @@ fn limits_and_timeouts(rt: HostRuntime) -> Result<(), Fail> {
 }
 
 /// Rows of unknown keys.
-const UNKNOWN: [Row; 13] = [
+const UNKNOWN: [Row; 14] = [
     (
         "group = \"239.0.0.1\"\n",
         "group = \"239.0.0.1\"\nzz = 1\n",
@@ -392,6 +392,11 @@ const UNKNOWN: [Row; 13] = [
         "UnknownKey zz",
     ),
     ("client_id = 0x0101\n", "zz = 1\n", "Missing client_id"),
+    (
+        "client_id = 0x0101\n",
+        "client_id = 65536\nzz = 1\n",
+        "OutOfRange client_id",
+    ),
     ("name = \"a\"\n", "name = \"b\"\nzz = 1\n", "UnknownKey zz"),
 ];
 

@@ -45,7 +45,7 @@ datagram ffff8100000000080000000101020200
 datagram ffff8100000000080000000101010000
 > 1 message ffff.8100 length 8 client 0000 session 0001 interface 01 type REQUEST code 00 payload -
 
-# ---- segments, one of each type: the words of a message of 5880 bytes, with shorter slices
+# ---- segments, one of each type: the TP headers of a message of 5880 bytes, with shorter slices
 
 datagram 123404210000000d0001000101012000000005712a
 > 1 message 1234.0421 length 13 client 0001 session 0001 interface 01 type TP_REQUEST code 00 payload 000005712a
