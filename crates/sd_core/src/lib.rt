@@ -51,5 +51,3 @@ pub use subscriptions::Subscriptions;
 pub use version::{Sought, Version};
 pub use wish::{Acked, Beginning, OutgoingSubscribe, Stage, SubscribeAnswer, Wish};
 
-#[cfg(test)]
-mod tests;

@@ -17,5 +17,3 @@ pub use error::SessionError;
 pub use peers::{PeerTable, Seen};
 pub use stamp::{Channel, Stamp};
 
-#[cfg(test)]
-mod tests;

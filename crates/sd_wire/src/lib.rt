@@ -44,5 +44,3 @@ pub use splitting::split_entries;
 pub use ttl::Ttl;
 pub use writing::write_sd;
 
-#[cfg(test)]
-mod tests;

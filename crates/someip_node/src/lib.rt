@@ -17,5 +17,3 @@ pub use someip_node_rules::{
     subscriber_laws,
 };
 
-#[cfg(test)]
-mod tests;

@@ -32,7 +32,3 @@ pub use shape_text_error::ShapeTextError;
 pub use value::Value;
 pub use writing::encode;
 
-#[cfg(test)]
-mod tests;
-#[cfg(test)]
-mod text_tests;

@@ -39,5 +39,3 @@ pub use request::{Arrived, Asked, Reply, RequestFault};
 pub use server::ServerCore;
 pub use service::ServiceRules;
 
-#[cfg(test)]
-mod tests;

@@ -22,5 +22,3 @@ pub use key::{Key, is_same_key};
 pub use lasting::Lasting;
 pub use moment::Moment;
 
-#[cfg(test)]
-mod tests;

@@ -39,5 +39,3 @@ pub use segment_list::SegmentList;
 pub use segments::Segments;
 pub use sent::{Sent, SentPiece, ShortMessage};
 
-#[cfg(test)]
-mod tests;

@@ -23,5 +23,3 @@ pub use header::{Header, MessageType, ReturnCode};
 pub use message::{Message, read_message};
 pub use writing::{header_bytes, write_message, written_len};
 
-#[cfg(test)]
-mod tests;

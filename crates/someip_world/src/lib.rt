@@ -31,5 +31,3 @@ pub use someip_world_setup::{Setup, SetupError, SetupNode};
 pub use step_fault::StepFault;
 pub use trace::Trace;
 
-#[cfg(test)]
-mod tests;

@@ -23,5 +23,3 @@ pub use step_method::MethodId;
 pub use step_name::NodeName;
 pub use step_payload::StepPayload;
 
-#[cfg(test)]
-mod tests;

@@ -30,5 +30,3 @@ pub use error::SetupError;
 pub use setup::Setup;
 pub use setup_node::SetupNode;
 
-#[cfg(test)]
-mod tests;

@@ -22,5 +22,3 @@ pub use capture::{CaptureError, read_capture};
 pub use input::{ReadFault, read_all};
 pub use outcome::Outcome;
 
-#[cfg(test)]
-mod tests;

@@ -16,5 +16,3 @@ pub use error::{RunFault, SetupFault, SetupRefusal};
 pub use running::run_schedule;
 pub use setups::read_setup;
 
-#[cfg(test)]
-mod tests;

@@ -1,0 +1,221 @@
+//! Configurations, delays and moments that a node takes, and those that it refuses.
+use super::acts::Act::{Restart, Tick};
+use super::acts::Row;
+use super::{client, first_wrong_of_server, offered, server_at};
+use someip_node::{Common, Config, Node, NodeError};
+use sd_core::InstanceId;
+use someip_tp::SegmentList;
+use std::alloc::Global;
+use std::test::Fail;
+
+/// What is other than usual in a start of a node.
+#[derive(Clone, Copy)]
+enum Start {
+    /// The delay; the configuration's are from 10 to 100.
+    Delay(u32),
+    /// The port of the instance, of a node whose client has 40000.
+    Port(u16),
+    /// The port of a second instance, beside one with 30509.
+    SecondPort(u16),
+    /// The port of the client.
+    ClientPort(u16),
+    /// The address, which is the multicast group's.
+    AddressOfGroup,
+    /// The greatest delay; the least is 10.
+    InitialMax(u32),
+    MessageLimit(usize),
+    Slots(usize),
+    Peers(usize),
+    ReassemblyTimeout(u32),
+    CallTimeout(u32),
+}
+
+/// Why a start is refused, if it is.
+type Refusal = Option<NodeError>;
+
+/// A configuration is refused.
+const BAD: Refusal = Some(NodeError::BadConfig);
+
+/// Delays.
+const DELAYS: &[(Start, Refusal)] = &[
+    (Start::Delay(9), Some(NodeError::BadDelay)),
+    (Start::Delay(10), None),
+    (Start::Delay(100), None),
+    (Start::Delay(101), Some(NodeError::BadDelay)),
+];
+
+/// Ports, none of which is 0, that of Service Discovery, or another's of the node.
+const PORTS: &[(Start, Refusal)] = &[
+    (Start::Port(0), BAD),
+    (Start::Port(1), None),
+    (Start::Port(30490), BAD),
+    (Start::Port(40000), BAD),
+    (Start::Port(65535), None),
+    (Start::SecondPort(30509), BAD),
+    (Start::SecondPort(30510), None),
+    (Start::ClientPort(0), BAD),
+    (Start::ClientPort(1), None),
+    (Start::ClientPort(30490), BAD),
+    (Start::ClientPort(65535), None),
+];
+
+/// Values at both ends of their ranges, and past them.
+const VALUES: &[(Start, Refusal)] = &[
+    (Start::AddressOfGroup, BAD),
+    (Start::InitialMax(9), BAD),
+    (Start::InitialMax(10), None),
+    (Start::InitialMax(60000), None),
+    (Start::InitialMax(60001), BAD),
+    (Start::MessageLimit(1399), BAD),
+    (Start::MessageLimit(1400), None),
+    (Start::MessageLimit(1_048_576), None),
+    (Start::MessageLimit(1_048_577), BAD),
+    (Start::Slots(0), BAD),
+    (Start::Slots(1), None),
+    (Start::Slots(1024), None),
+    (Start::Slots(1025), BAD),
+    (Start::Peers(0), BAD),
+    (Start::Peers(1), None),
+    (Start::Peers(1024), None),
+    (Start::Peers(1025), BAD),
+    (Start::ReassemblyTimeout(0), BAD),
+    (Start::ReassemblyTimeout(1), None),
+    (Start::ReassemblyTimeout(3_600_000), None),
+    (Start::ReassemblyTimeout(3_600_001), BAD),
+    (Start::CallTimeout(0), BAD),
+    (Start::CallTimeout(1), None),
+    (Start::CallTimeout(3_600_000), None),
+    (Start::CallTimeout(3_600_001), BAD),
+];
+
+/// Delays of a restart, and the first Offer after it.
+const RESTARTS: &[Row] = &[
+    (Restart(9), "refused BadDelay\n"),
+    (Restart(100), ""),
+    (Tick(99), ""),
+    (
+        Tick(1),
+        "sent 192.168.0.1:30490 239.0.0.1:30490 ffff8100000000300000000101010200c000000000000010010000101111000101000003000000000000000c00090400c0a800010011772d\n",
+    ),
+];
+
+/// The last moment of the clock, and no later one.
+const CLOCK: &[Row] = &[
+    (
+        Tick(9_223_372_036_854_775_807),
+        "sent 192.168.0.1:30490 239.0.0.1:30490 ffff8100000000300000000101010200c000000000000010010000101111000101000003000000000000000c00090400c0a800010011772d\n",
+    ),
+    (Tick(0), ""),
+    (Tick(1), "refused ClockPast\n"),
+    (Tick(18_446_744_073_709_551_615), "refused ClockPast\n"),
+];
+
+/// The number of the first of these starts that ends otherwise.
+fn first_wrong_start(alloc: Global, rows: &[(Start, Refusal)]) -> Result<Option<usize>, Fail> {
+    for (index, (start, expected)) in rows.iter().enumerate() {
+        let refused = refusal(alloc, config_of(alloc, *start)?, delay_of(*start));
+        if refused != *expected {
+            return Ok(Some(index));
+        }
+    }
+    Ok(None)
+}
+
+/// Why a node is not started.
+fn refusal(alloc: Global, config: Config, delay: u32) -> Refusal {
+    match Node::<SegmentList>::start(alloc, config, delay) {
+        Ok(_) => None,
+        Err(refusal) => Some(refusal),
+    }
+}
+
+fn delay_of(start: Start) -> u32 {
+    match start {
+        Start::Delay(delay) => delay,
+        _ => 10,
+    }
+}
+
+fn config_of(alloc: Global, start: Start) -> Result<Config, Fail> {
+    match start {
+        Start::Delay(_) => server_at(alloc, 30509),
+        Start::Port(port) => server_at(alloc, port),
+        Start::SecondPort(port) => two_instances(alloc, port),
+        Start::ClientPort(port) => client_at(alloc, port),
+        Start::AddressOfGroup => client_on_group(alloc),
+        value => client_with(alloc, value),
+    }
+}
+
+/// The node that offers, with a second instance.
+fn two_instances(alloc: Global, port: u16) -> Result<Config, Fail> {
+    let second = InstanceId {
+        service: 0x1111,
+        instance: 2,
+    };
+    let mut service = offered(alloc, port)?;
+    service.rules.instance = 2;
+    let mut config = server_at(alloc, 30509)?;
+    config.offers.insert(second, service)?;
+    Ok(config)
+}
+
+/// The node that wants, with another port of its client.
+fn client_at(alloc: Global, port: u16) -> Result<Config, Fail> {
+    let mut config = client(alloc)?;
+    config.client_port = port;
+    Ok(config)
+}
+
+/// The node that wants, at the address of the multicast group.
+fn client_on_group(alloc: Global) -> Result<Config, Fail> {
+    let mut config = client(alloc)?;
+    config.address = config.common.group;
+    Ok(config)
+}
+
+/// The node that wants, with another value of those that all nodes share.
+fn client_with(alloc: Global, value: Start) -> Result<Config, Fail> {
+    let mut config = client(alloc)?;
+    config.common = changed(config.common, value);
+    Ok(config)
+}
+
+fn changed(common: Common, value: Start) -> Common {
+    let mut changed = common;
+    match value {
+        Start::InitialMax(ms) => changed.initial_max_ms = ms,
+        Start::MessageLimit(limit) => changed.message_limit = limit,
+        Start::Slots(slots) => changed.slots = slots,
+        Start::Peers(peers) => changed.peers = peers,
+        Start::ReassemblyTimeout(ms) => changed.reassembly_timeout_ms = ms,
+        Start::CallTimeout(ms) => changed.call_timeout_ms = ms,
+        _ => (),
+    }
+    changed
+}
+
+#[test]
+fn delays_are_judged(rt: HostRuntime) -> Result<(), Fail> {
+    assert_eq!(rt; first_wrong_start(rt.alloc(), DELAYS)?, None);
+    assert_eq!(rt; first_wrong_of_server(rt.alloc(), RESTARTS)?, None);
+    Ok(())
+}
+
+#[test]
+fn the_clock_has_a_bound(rt: HostRuntime) -> Result<(), Fail> {
+    assert_eq!(rt; first_wrong_of_server(rt.alloc(), CLOCK)?, None);
+    Ok(())
+}
+
+#[test]
+fn ports_are_judged(rt: HostRuntime) -> Result<(), Fail> {
+    assert_eq!(rt; first_wrong_start(rt.alloc(), PORTS)?, None);
+    Ok(())
+}
+
+#[test]
+fn values_outside_their_range_are_refused(rt: HostRuntime) -> Result<(), Fail> {
+    assert_eq!(rt; first_wrong_start(rt.alloc(), VALUES)?, None);
+    Ok(())
+}

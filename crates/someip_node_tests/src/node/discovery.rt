@@ -1,0 +1,282 @@
+//! Messages of Service Discovery: bad runs, Finds, reboots, and many replies.
+use super::acts::Act::{Datagram, Publish, PublishTo, Subscribe, Tick};
+use super::acts::{Port, Row};
+use super::{
+    CLIENT, EVENTGROUP, INSTANCE, SD_OF_ALL, SD_OF_CLIENT, SD_OF_SERVER, first_wrong_of_client,
+    first_wrong_of_server, server_node,
+};
+use someip_node::{Node, Output};
+use someip_tp::SegmentList;
+use std::alloc::Global;
+use std::test::Fail;
+
+/// A Subscribe with a bad run.
+const BAD_RUN: &[Row] = &[(
+    Datagram(
+        SD_OF_CLIENT,
+        SD_OF_SERVER,
+        "ffff8100000000300000000101010200c000000000000010060100101111000101000003000000010000000c00090400c0a8000200119c41",
+    ),
+    "nacked 1111.0001 0001 NoEndpoint\nsent 192.168.0.1:30490 192.168.0.2:30490 ffff8100000000240000000101010200c0000000000000100700000011110001010000000000000100000000\n",
+)];
+
+/// A Find before the first Offer, and the next one after it.
+const FINDS: &[Row] = &[
+    (
+        Datagram(
+            SD_OF_CLIENT,
+            SD_OF_ALL,
+            "ffff8100000000240000000101010200c0000000000000100000000011110001ff000003ffffffff00000000",
+        ),
+        "",
+    ),
+    (
+        Tick(10),
+        "sent 192.168.0.1:30490 239.0.0.1:30490 ffff8100000000300000000101010200c000000000000010010000101111000101000003000000000000000c00090400c0a800010011772d\n",
+    ),
+    (
+        Datagram(
+            SD_OF_CLIENT,
+            SD_OF_ALL,
+            "ffff8100000000240000000201010200c0000000000000100000000011110001ff000003ffffffff00000000",
+        ),
+        "sent 192.168.0.1:30490 192.168.0.2:30490 ffff8100000000300000000101010200c000000000000010010000101111000101000003000000000000000c00090400c0a800010011772d\n",
+    ),
+];
+
+/// A Subscribe in session 5.
+const FIRST: &str =
+    "ffff8100000000300000000501010200c000000000000010060000101111000101000003000000010000000c00090400c0a8000200119c41";
+
+/// A Subscribe with another counter and port, in session 1.
+const ANEW: &str =
+    "ffff8100000000300000000101010200c000000000000010060000101111000101000003000100010000000c00090400c0a8000200119c40";
+
+/// The port that it names.
+const OTHER_CLIENT: Port = Port(2, 40000);
+
+/// A client that began again and subscribes anew: its events go until its Subscribe's TTL has passed.
+const BEGAN_AGAIN: &[Row] = &[
+    (
+        Datagram(SD_OF_CLIENT, SD_OF_SERVER, FIRST),
+        "accepted 1111.0001 0001 192.168.0.2:40001 0\nsent 192.168.0.1:30490 192.168.0.2:30490 ffff8100000000240000000101010200c0000000000000100700000011110001010000030000000100000000\n",
+    ),
+    (
+        Datagram(SD_OF_CLIENT, SD_OF_SERVER, ANEW),
+        "reboot 192.168.0.2\naccepted 1111.0001 0001 192.168.0.2:40000 1\nsent 192.168.0.1:30490 192.168.0.2:30490 ffff8100000000240000000201010200c0000000000000100700000011110001010000030001000100000000\n",
+    ),
+    (
+        Publish(INSTANCE, 0x8001, "01"),
+        "sent 192.168.0.1:30509 192.168.0.2:40000 1111800100000009000000010101020001\n",
+    ),
+    (
+        Tick(2999),
+        "sent 192.168.0.1:30490 239.0.0.1:30490 ffff8100000000300000000101010200c000000000000010010000101111000101000003000000000000000c00090400c0a800010011772d\n",
+    ),
+    (
+        PublishTo(EVENTGROUP, OTHER_CLIENT, 0x8001, "02"),
+        "sent 192.168.0.1:30509 192.168.0.2:40000 1111800100000009000000020101020002\n",
+    ),
+    (Tick(1), ""),
+    (
+        PublishTo(EVENTGROUP, OTHER_CLIENT, 0x8001, ""),
+        "refused NotSubscribed\n",
+    ),
+];
+
+/// Subscribes of two endpoints, the greater one first.
+const TWO: &str =
+    "ffff81000000004c0000000501010200c00000000000002006000010111100010100000300000001060100101111000101000003000000010000001800090400c0a8000200119c4100090400c0a8000200119c3f";
+
+/// An event goes to both, by rising endpoint.
+const RISING: &[Row] = &[
+    (
+        Datagram(SD_OF_CLIENT, SD_OF_SERVER, TWO),
+        "accepted 1111.0001 0001 192.168.0.2:40001 0\naccepted 1111.0001 0001 192.168.0.2:39999 0\nsent 192.168.0.1:30490 192.168.0.2:30490 ffff8100000000340000000101010200c000000000000020070000001111000101000003000000010700000011110001010000030000000100000000\n",
+    ),
+    (
+        Publish(INSTANCE, 0x8001, ""),
+        "sent 192.168.0.1:30509 192.168.0.2:39999 11118001000000080000000101010200\nsent 192.168.0.1:30509 192.168.0.2:40001 11118001000000080000000101010200\n",
+    ),
+];
+
+/// Events go before a Subscribe's TTL has passed and not then, with FFFFFF at any moment, and to an
+/// endpoint once, though it subscribed with two counters.
+const LASTING: &[Row] = &[
+    (
+        Datagram(
+            SD_OF_CLIENT,
+            SD_OF_SERVER,
+            "ffff8100000000300000000101010200c000000000000010060000101111000101000003000000010000000c00090400c0a8000200119c41",
+        ),
+        "accepted 1111.0001 0001 192.168.0.2:40001 0\nsent 192.168.0.1:30490 192.168.0.2:30490 ffff8100000000240000000101010200c0000000000000100700000011110001010000030000000100000000\n",
+    ),
+    (
+        Tick(2999),
+        "sent 192.168.0.1:30490 239.0.0.1:30490 ffff8100000000300000000101010200c000000000000010010000101111000101000003000000000000000c00090400c0a800010011772d\n",
+    ),
+    (
+        Publish(INSTANCE, 0x8001, ""),
+        "sent 192.168.0.1:30509 192.168.0.2:40001 11118001000000080000000101010200\n",
+    ),
+    (Tick(1), ""),
+    (Publish(INSTANCE, 0x8001, ""), ""),
+    (
+        Datagram(
+            SD_OF_CLIENT,
+            SD_OF_SERVER,
+            "ffff8100000000300000000201010200c000000000000010060000101111000101ffffff000000010000000c00090400c0a8000200119c41",
+        ),
+        "accepted 1111.0001 0001 192.168.0.2:40001 0\nsent 192.168.0.1:30490 192.168.0.2:30490 ffff8100000000240000000201010200c000000000000010070000001111000101ffffff0000000100000000\n",
+    ),
+    (
+        Datagram(
+            SD_OF_CLIENT,
+            SD_OF_SERVER,
+            "ffff8100000000300000000301010200c000000000000010060000101111000101ffffff000100010000000c00090400c0a8000200119c41",
+        ),
+        "accepted 1111.0001 0001 192.168.0.2:40001 1\nsent 192.168.0.1:30490 192.168.0.2:30490 ffff8100000000240000000301010200c000000000000010070000001111000101ffffff0001000100000000\n",
+    ),
+    (
+        Publish(INSTANCE, 0x8001, ""),
+        "sent 192.168.0.1:30509 192.168.0.2:40001 11118001000000080000000301010200\n",
+    ),
+    (
+        Tick(9_000_000_000_000_000_000),
+        "sent 192.168.0.1:30490 239.0.0.1:30490 ffff8100000000300000000201010200c000000000000010010000101111000101000003000000000000000c00090400c0a800010011772d\n",
+    ),
+    (
+        Publish(INSTANCE, 0x8001, ""),
+        "sent 192.168.0.1:30509 192.168.0.2:40001 11118001000000080000000401010200\n",
+    ),
+];
+
+/// Subscribes to an instance that is not offered, with another major version, to an unknown eventgroup,
+/// and without an endpoint.
+const REFUSED: &[Row] = &[(
+    Datagram(
+        SD_OF_CLIENT,
+        SD_OF_SERVER,
+        "ffff8100000000600000000101010200c000000000000040060000101111000201000003000000010600001011110001020000030000000106000010111100010100000300000002060000001111000101000003000000010000000c00090400c0a8000200119c41",
+    ),
+    "nacked 1111.0002 0001 NotOffered\nnacked 1111.0001 0001 WrongMajor\nnacked 1111.0001 0002 UnknownEventgroup\nnacked 1111.0001 0001 NoEndpoint\nsent 192.168.0.1:30490 192.168.0.2:30490 ffff8100000000540000000101010200c0000000000000400700000011110002010000000000000107000000111100010200000000000001070000001111000101000000000000020700000011110001010000000000000100000000\n",
+)];
+
+/// An Offer in session 5.
+const OFFER: &str =
+    "ffff8100000000300000000501010200c000000000000010010000101111000101000003000000000000000c00090400c0a800010011772d";
+
+/// The same in session 1.
+const OFFER_ANEW: &str =
+    "ffff8100000000300000000101010200c000000000000010010000101111000101000003000000000000000c00090400c0a800010011772d";
+
+/// The Ack of a Subscribe.
+const ACK: &str =
+    "ffff8100000000240000000501010200c0000000000000100700000011110001010000030000000100000000";
+
+/// A server that began again: what was known of it ends, and its Offer counts anew.
+const SERVER_BEGAN_AGAIN: &[Row] = &[
+    (
+        Datagram(SD_OF_SERVER, SD_OF_ALL, OFFER),
+        "known 1111.0001 192.168.0.1:30509\n",
+    ),
+    (
+        Subscribe(EVENTGROUP),
+        "sent 192.168.0.2:30490 192.168.0.1:30490 ffff8100000000300000000101010200c000000000000010060000101111000101000003000000010000000c00090400c0a8000200119c41\n",
+    ),
+    (
+        Datagram(SD_OF_SERVER, SD_OF_CLIENT, ACK),
+        "subscribed 1111.0001 0001 0\n",
+    ),
+    (
+        Datagram(SD_OF_SERVER, SD_OF_ALL, OFFER_ANEW),
+        "reboot 192.168.0.1\ngone 1111.0001\nunsubscribed 1111.0001 0001\nknown 1111.0001 192.168.0.1:30509\nsent 192.168.0.2:30490 192.168.0.1:30490 ffff8100000000300000000201010200c000000000000010060000101111000101000003000100010000000c00090400c0a8000200119c41\n",
+    ),
+];
+
+#[test]
+fn a_subscribe_with_a_bad_run_gets_a_nack(rt: HostRuntime) -> Result<(), Fail> {
+    assert_eq!(rt; first_wrong_of_server(rt.alloc(), BAD_RUN)?, None);
+    Ok(())
+}
+
+#[test]
+fn a_find_is_answered_after_the_first_offer(rt: HostRuntime) -> Result<(), Fail> {
+    assert_eq!(rt; first_wrong_of_server(rt.alloc(), FINDS)?, None);
+    Ok(())
+}
+
+#[test]
+fn a_peer_that_began_again_subscribes_anew(rt: HostRuntime) -> Result<(), Fail> {
+    assert_eq!(rt; first_wrong_of_server(rt.alloc(), BEGAN_AGAIN)?, None);
+    Ok(())
+}
+
+#[test]
+fn events_go_by_rising_endpoint(rt: HostRuntime) -> Result<(), Fail> {
+    assert_eq!(rt; first_wrong_of_server(rt.alloc(), RISING)?, None);
+    Ok(())
+}
+
+#[test]
+fn a_subscription_lasts_until_its_ttl_has_passed(rt: HostRuntime) -> Result<(), Fail> {
+    assert_eq!(rt; first_wrong_of_server(rt.alloc(), LASTING)?, None);
+    Ok(())
+}
+
+#[test]
+fn a_subscribe_is_refused_for_a_reason(rt: HostRuntime) -> Result<(), Fail> {
+    assert_eq!(rt; first_wrong_of_server(rt.alloc(), REFUSED)?, None);
+    Ok(())
+}
+
+#[test]
+fn a_server_that_began_again_is_subscribed_to_anew(rt: HostRuntime) -> Result<(), Fail> {
+    assert_eq!(rt;
+        first_wrong_of_client(rt.alloc(), SERVER_BEGAN_AGAIN)?,
+        None
+    );
+    Ok(())
+}
+
+/// A message with 87 Subscribes of one endpoint.
+fn many_subscribes(alloc: Global) -> Result<Vec<u8>, Fail> {
+    let head = "ffff8100000005900000000101010200c000000000000570";
+    let mut bytes = hex::decode(alloc, head)?;
+    let entry = hex::decode(alloc, "06000010111100010100000300000001")?;
+    for _ in 0..87 {
+        bytes.extend_from_slice(&entry)?;
+    }
+    let option = hex::decode(alloc, "0000000c00090400c0a8000200119c41")?;
+    bytes.extend_from_slice(&option)?;
+    Ok(bytes)
+}
+
+/// How many datagrams are among some outputs.
+fn count_sent(outputs: &[Output]) -> usize {
+    outputs
+        .iter()
+        .filter(|output| matches!(output, Output::Sent { .. }))
+        .count()
+}
+
+/// How many outputs a node gives for it, and how many of them are datagrams.
+fn many_replies(alloc: Global, node: &mut Node<SegmentList>) -> Result<(usize, usize), Fail> {
+    let bytes = many_subscribes(alloc)?;
+    let outputs = node.on_datagram(SD_OF_CLIENT.endpoint(), SD_OF_SERVER.endpoint(), &bytes)?;
+    Ok((outputs.len(), count_sent(&outputs)))
+}
+
+/// The same of the node that offers.
+fn many_replies_of_server(alloc: Global) -> Result<(usize, usize), Fail> {
+    let mut node = server_node(alloc)?;
+    many_replies(alloc, &mut node)
+}
+
+#[test]
+fn many_replies_go_in_two_messages(rt: HostRuntime) -> Result<(), Fail> {
+    let (outputs, sent) = many_replies_of_server(rt.alloc())?;
+    assert_eq!(rt; outputs, 89);
+    assert_eq!(rt; sent, 2);
+    Ok(())
+}

@@ -1,0 +1,67 @@
+//! Two nodes in one process, whose datagrams are carried by hand. docs/EMBEDDING.md shows this text.
+use super::acts::lines_of;
+use super::{INSTANCE, client_node, server_node};
+use someip_node::{Node, NodeError, Output};
+use someip_rpc::{CallKind, Reply};
+use someip_tp::SegmentList;
+use someip_wire::ReturnCode;
+use std::alloc::Global;
+use std::test::Fail;
+
+/// Carries the datagrams among some outputs to a node, and answers what that gives.
+fn carry(
+    alloc: Global,
+    outputs: &[Output],
+    node: &mut Node<SegmentList>,
+) -> Result<Vec<Output>, NodeError> {
+    let mut given = Vec::new(alloc);
+    for output in outputs {
+        if let Output::Sent { from, to, bytes } = output {
+            let mut next = node.on_datagram(*from, *to, bytes.as_slice())?;
+            given.append(&mut next)?;
+        }
+    }
+    Ok(given)
+}
+
+/// The token of the first request among some outputs.
+fn first_token(outputs: &[Output]) -> Option<u64> {
+    outputs.iter().find_map(|output| match output {
+        Output::Request { token, .. } => *token,
+        _ => None,
+    })
+}
+
+/// What is told last: the server offers, the client calls a method, and it is answered.
+fn run(
+    alloc: Global,
+    server: &mut Node<SegmentList>,
+    client: &mut Node<SegmentList>,
+) -> Result<Vec<Output>, NodeError> {
+    // The clock of the server goes on, and its Offer goes to the client.
+    let offer = server.tick(10)?;
+    carry(alloc, &offer, client)?;
+    // The client calls a method, and the request goes to the server.
+    let call = client.call(CallKind::Request, INSTANCE, 0x0421, &[1, 2])?;
+    let requests = carry(alloc, &call, server)?;
+    let Some(token) = first_token(&requests) else {
+        return Ok(requests);
+    };
+    // The application answers it, and the answer goes to the client.
+    let answer = server.answer(token, Reply::Response(ReturnCode::E_OK), &[3])?;
+    carry(alloc, &answer, client)
+}
+
+/// The lines of that.
+fn last_lines(alloc: Global) -> Result<String, Fail> {
+    let mut server = server_node(alloc)?;
+    let mut client = client_node(alloc)?;
+    lines_of(alloc, run(alloc, &mut server, &mut client))
+}
+
+#[test]
+fn two_nodes_in_one_process(rt: HostRuntime) -> Result<(), Fail> {
+    let lines = last_lines(rt.alloc())?;
+    assert_eq!(rt; lines.as_str(), "answer 1111.0421 0001 00 03\n");
+    Ok(())
+}

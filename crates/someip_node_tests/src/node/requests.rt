@@ -1,0 +1,146 @@
+//! Requests and their answers.
+use super::acts::Act::{Answer, Call, Datagram, Publish, PublishTo, StopOffer};
+use super::acts::{Row, first_wrong, given};
+use super::{CLIENT, EVENTGROUP, INSTANCE, SERVER, first_wrong_of_server, server_node};
+use someip_node::Node;
+use someip_rpc::{CallKind, Reply};
+use someip_tp::SegmentList;
+use someip_wire::ReturnCode;
+use std::alloc::Global;
+use std::test::Fail;
+
+/// A request of the method 0421.
+const REQUEST: &str = "11110421000000080102000101010000";
+
+/// An ERROR before what is dropped behind it in the datagram, a oneway that is dropped, one that is
+/// handed up, and a request that comes twice.
+const ASKED: &[Row] = &[
+    (
+        Datagram(
+            CLIENT,
+            SERVER,
+            "11110423000000080102000101010000000000000000000000000000000000",
+        ),
+        "sent 192.168.0.1:30509 192.168.0.2:40001 11110423000000080102000101018103\ndropped Truncated\n",
+    ),
+    (
+        Datagram(CLIENT, SERVER, "11110423000000080102000101010100"),
+        "dropped UnknownMethod\n",
+    ),
+    (
+        Datagram(CLIENT, SERVER, "1111042200000009010200010101010007"),
+        "request - 1111.0001 0422 07\n",
+    ),
+    (
+        Datagram(
+            CLIENT,
+            SERVER,
+            "1111042100000008010200010101000011110421000000080102000101010000",
+        ),
+        "request 1 1111.0001 0421 -\nrequest 2 1111.0001 0421 -\n",
+    ),
+];
+
+/// What is answered once, what is refused, and what a node that offers alone refuses.
+const ANSWERED: &[Row] = &[
+    (
+        Datagram(CLIENT, SERVER, REQUEST),
+        "request 1 1111.0001 0421 -\n",
+    ),
+    (
+        Datagram(CLIENT, SERVER, REQUEST),
+        "request 2 1111.0001 0421 -\n",
+    ),
+    (
+        Answer(3, Reply::Response(ReturnCode(0)), ""),
+        "refused UnknownToken\n",
+    ),
+    (
+        Answer(2, Reply::Error(ReturnCode(0)), ""),
+        "refused BadErrorCode\n",
+    ),
+    (
+        Answer(2, Reply::Error(ReturnCode(1)), ""),
+        "sent 192.168.0.1:30509 192.168.0.2:40001 11110421000000080102000101018101\n",
+    ),
+    (
+        Answer(2, Reply::Response(ReturnCode(0)), ""),
+        "refused UnknownToken\n",
+    ),
+    (
+        Call(CallKind::Request, INSTANCE, 0x0421, ""),
+        "refused NotOffered\n",
+    ),
+    (Publish(INSTANCE, 0x8002, ""), "refused UnknownEvent\n"),
+    (
+        PublishTo(EVENTGROUP, CLIENT, 0x8001, ""),
+        "refused NotSubscribed\n",
+    ),
+];
+
+/// An instance that is down keeps its port, and its open requests.
+const DOWN: &[Row] = &[
+    (
+        Datagram(CLIENT, SERVER, REQUEST),
+        "request 1 1111.0001 0421 -\n",
+    ),
+    (
+        StopOffer(INSTANCE),
+        "sent 192.168.0.1:30490 239.0.0.1:30490 ffff8100000000300000000101010200c000000000000010010000101111000101000000000000000000000c00090400c0a800010011772d\n",
+    ),
+    (StopOffer(INSTANCE), "refused NotOffered\n"),
+    (Publish(INSTANCE, 0x8001, ""), "refused NotOffered\n"),
+    (
+        Datagram(CLIENT, SERVER, REQUEST),
+        "sent 192.168.0.1:30509 192.168.0.2:40001 11110421000000080102000101018102\n",
+    ),
+    (
+        Answer(1, Reply::Response(ReturnCode(0)), ""),
+        "sent 192.168.0.1:30509 192.168.0.2:40001 11110421000000080102000101018000\n",
+    ),
+];
+
+/// A request while 1024 are open.
+const ONE_MORE: &[Row] = &[(
+    Datagram(CLIENT, SERVER, REQUEST),
+    "sent 192.168.0.1:30509 192.168.0.2:40001 11110421000000080102000101018104\n",
+)];
+
+/// Lets so many requests come.
+fn ask(alloc: Global, node: &mut Node<SegmentList>, times: usize) -> Result<(), Fail> {
+    for _ in 0..times {
+        given(alloc, node, Datagram(CLIENT, SERVER, REQUEST))?;
+    }
+    Ok(())
+}
+
+#[test]
+fn requests_are_taken(rt: HostRuntime) -> Result<(), Fail> {
+    assert_eq!(rt; first_wrong_of_server(rt.alloc(), ASKED)?, None);
+    Ok(())
+}
+
+#[test]
+fn requests_are_answered(rt: HostRuntime) -> Result<(), Fail> {
+    assert_eq!(rt; first_wrong_of_server(rt.alloc(), ANSWERED)?, None);
+    Ok(())
+}
+
+#[test]
+fn an_instance_that_is_down_keeps_its_port(rt: HostRuntime) -> Result<(), Fail> {
+    assert_eq!(rt; first_wrong_of_server(rt.alloc(), DOWN)?, None);
+    Ok(())
+}
+
+/// Asks once more while 1024 requests are open.
+fn first_wrong_of_full(alloc: Global) -> Result<Option<usize>, Fail> {
+    let mut node = server_node(alloc)?;
+    ask(alloc, &mut node, 1024)?;
+    first_wrong(alloc, &mut node, ONE_MORE)
+}
+
+#[test]
+fn the_1025th_open_request_is_not_ready(rt: HostRuntime) -> Result<(), Fail> {
+    assert_eq!(rt; first_wrong_of_full(rt.alloc())?, None);
+    Ok(())
+}

@@ -1,0 +1,196 @@
+-- What clap's matches say of the command line.
+use Rattle.std.proofs.Common.{◌≡◌, ◌∙◌, ◌||◌, ◌==◌, Bool, cond, true, false, true≢false, refl, sym, ap, ap₂, subst, List, [], ◌∷◌, Option, Some, None, IsSome, is_some, codes, find, option_map, drop, Box}
+use Rattle.std.specs.List.{list_all}
+use Rattle.std.specs.Option.{option_map_or}
+use Rattle.std.specs.Str.{bytes_eq}
+use Rattle.std.proofs.lemmas.Slice.Eq.{bytes_eq-Decides}
+use Rattle.std.specs.Box.{box_value}
+use Rattle.std.specs.declared.alloc.Global.{Global}
+use Rattle.clap.specs.Words.{App, HasMatchesOf, Row, Shape, Text, built, fault_of, first_of, first_value, found_of, is_simple, is_simple_and_free, rows_of, subcommand_name_of, subcommand_rows, subcommand_rows_of}
+use Rattle.clap.specs.Walk.{answers_to, nothing_held}
+use Rattle.clap.specs.Simple.{entered, label_of, rows_at}
+use Rattle.clap.specs.Faults.{entered_fault, level_fault}
+use Rattle.clap.specs.declared.ArgMatches.{ArgMatches}
+use Rattle.clap.specs.declared.parser.matches.ArgMatches.TheViews.{out-ArgMatches, out-SubCommand}
+use Rattle.clap.specs.declared.parser.matches.Found.{Found}
+use Rattle.clap.specs.declared.parser.matches.SubCommand.{SubCommand}
+use Rattle.clap.proofs.WalkLemmas.{first_value-rows}
+use Rattle.clap.proofs.OnLiterals.{clap_on_literals}
+use Rattle.someipctl_cli.specs.CommandLine.{IsTaken, cli, is_flag, asked_by_subcommand, asked_by_entered, requested, asked_by_show, show_request, asked_by_payload, asked_by_run, asked_by_vectors}
+use Rattle.someipctl_cli.proofs.ClapWalkLemmas.{EntersNoHelp, enters_subcommand, has_value, is_wanted, wanted_value}
+
+pub cli_is_free : is_simple_and_free cli ≡ true
+unfolding clap_on_literals
+cli_is_free = refl
+
+pub cli_is_simple : is_simple cli ≡ true
+unfolding clap_on_literals
+cli_is_simple = refl
+
+-- ---- words without a fault ask for a command
+
+-- under a name that is not `help`, words without a fault ask the subcommand for something
+abbrev Asks : Shape → Type 0
+Asks s = (name : Text) → answers_to name (label_of s) ≡ true → bytes_eq name (codes "help") ≡ false
+    → (words : List Text) → level_fault s [] nothing_held words false [] ≡ [] → IsSome (asked_by_entered (Some (rows_at s words)))
+
+abbrev EachAsks : List Shape → Type 0
+EachAsks [] = Unit {0}
+EachAsks (s ∷ rest) = Asks s × EachAsks rest
+
+found_asks : (p : Text × List Text) → bytes_eq p.0 (codes "help") ≡ false → (subs : List Shape) → EachAsks subs
+    → option_map_or (λ s. level_fault s [] nothing_held p.1 false []) (find (λ s. answers_to p.0 (label_of s)) subs) [] ≡ []
+    → is_some (option_map (λ s. rows_at s p.1) (find (λ s. answers_to p.0 (label_of s)) subs)) ≡ true
+    → IsSome (asked_by_entered (option_map (λ s. rows_at s p.1) (find (λ s. answers_to p.0 (label_of s)) subs)))
+found_asks p named [] each none some = absurd (true≢false (sym some))
+found_asks p named (s ∷ rest) each none some = go (answers_to p.0 (label_of s)) refl none some (found_asks p named rest each.1)
+  where
+    go : (b : Bool) → answers_to p.0 (label_of s) ≡ b
+        → option_map_or (λ s. level_fault s [] nothing_held p.1 false []) (cond b (Some s) (find (λ s. answers_to p.0 (label_of s)) rest)) [] ≡ []
+        → is_some (option_map (λ s. rows_at s p.1) (cond b (Some s) (find (λ s. answers_to p.0 (label_of s)) rest))) ≡ true
+        → (option_map_or (λ s. level_fault s [] nothing_held p.1 false []) (find (λ s. answers_to p.0 (label_of s)) rest) [] ≡ []
+        → is_some (option_map (λ s. rows_at s p.1) (find (λ s. answers_to p.0 (label_of s)) rest)) ≡ true
+        → IsSome (asked_by_entered (option_map (λ s. rows_at s p.1) (find (λ s. answers_to p.0 (label_of s)) rest))))
+        → IsSome (asked_by_entered (option_map (λ s. rows_at s p.1) (cond b (Some s) (find (λ s. answers_to p.0 (label_of s)) rest))))
+    go true is none some more = each.0 p.0 is named p.1 none
+    go false is none some more = more none some
+
+stop_asks : (a : App) → EachAsks a.subs → (stop : Option (Text × List Text)) → EntersNoHelp stop → entered_fault a stop ≡ [] → is_some (entered a stop) ≡ true
+    → IsSome (asked_by_entered (entered a stop))
+stop_asks a each None named none some = absurd (true≢false (sym some))
+stop_asks a each (Some p) named none some = found_asks p named a.subs each none some
+
+-- `show` asks for something where its argument has a value
+show_some : (capture : Option Text) → is_some capture ≡ true → IsSome (asked_by_show capture)
+show_some None some = absurd (true≢false (sym some))
+show_some (Some capture) some = refl
+
+show_asks : (s : Shape) → bytes_eq s.name (codes "show") ≡ true → list_all has_value s.rules ≡ true → is_wanted (codes "capture") s ≡ true → Asks s
+show_asks s is valued wanted name met named words none = rw is (show_some _ (wanted_value s (codes "capture") valued wanted words none))
+
+payload_some : (shape hex : Option Text) → is_some shape ≡ true → is_some hex ≡ true → IsSome (asked_by_payload shape hex)
+payload_some None hex some more = absurd (true≢false (sym some))
+payload_some (Some shape) None some more = absurd (true≢false (sym more))
+payload_some (Some shape) (Some hex) some more = refl
+
+payload_asks : (s : Shape) → bytes_eq s.name (codes "show") ≡ false → bytes_eq s.name (codes "payload") ≡ true → list_all has_value s.rules ≡ true
+    → is_wanted (codes "shape") s ≡ true → is_wanted (codes "hex") s ≡ true → Asks s
+payload_asks s other is valued shape hex name met named words none =
+    rw (other, is) (payload_some _ _ (wanted_value s (codes "shape") valued shape words none) (wanted_value s (codes "hex") valued hex words none))
+
+vectors_some : (file : Option Text) → is_some file ≡ true → IsSome (asked_by_vectors file)
+vectors_some None some = absurd (true≢false (sym some))
+vectors_some (Some file) some = refl
+
+vectors_asks : (s : Shape) → bytes_eq s.name (codes "show") ≡ false → bytes_eq s.name (codes "payload") ≡ false → bytes_eq s.name (codes "vectors") ≡ true
+    → list_all has_value s.rules ≡ true → is_wanted (codes "file") s ≡ true → Asks s
+vectors_asks s other another is valued wanted name met named words none = rw (other, another, is) (vectors_some _ (wanted_value s (codes "file") valued wanted words none))
+
+run_some : (setup schedule : Option Text) → is_some setup ≡ true → is_some schedule ≡ true → IsSome (asked_by_run setup schedule)
+run_some None schedule some more = absurd (true≢false (sym some))
+run_some (Some setup) None some more = absurd (true≢false (sym more))
+run_some (Some setup) (Some schedule) some more = refl
+
+run_asks : (s : Shape) → bytes_eq s.name (codes "show") ≡ false → bytes_eq s.name (codes "payload") ≡ false → bytes_eq s.name (codes "vectors") ≡ false
+    → bytes_eq s.name (codes "run") ≡ true → list_all has_value s.rules ≡ true → is_wanted (codes "setup") s ≡ true → is_wanted (codes "schedule") s ≡ true → Asks s
+run_asks s other another third is valued setup schedule name met named words none =
+    rw (other, another, third, is) (run_some _ _ (wanted_value s (codes "setup") valued setup words none) (wanted_value s (codes "schedule") valued schedule words none))
+
+-- no other name is that of `help`
+help_asks : (s : Shape) → label_of s ≡ (codes "help", []) → Asks s
+help_asks s is name met named words none = go (bytes_eq (codes "help") name) refl (subst (λ label. answers_to name label ≡ true) is met)
+  where
+    go : (b : Bool) → bytes_eq (codes "help") name ≡ b → (b || false) ≡ true → IsSome (asked_by_entered (Some (rows_at s words)))
+    go true e t =
+        let same : codes "help" ≡ name = (bytes_eq-Decides (codes "help") name).0 e in
+        let bad : bytes_eq (codes "help") (codes "help") ≡ false = subst (λ n. bytes_eq n (codes "help") ≡ false) (sym same) named in
+        absurd (true≢false bad)
+    go false e t = absurd (true≢false (sym t))
+
+cli_asks : EachAsks (built cli).subs
+cli_asks = (show_asks _ refl refl refl, (payload_asks _ refl refl refl refl refl, (vectors_asks _ refl refl refl refl refl, (run_asks _ refl refl refl refl refl refl refl, (help_asks _ refl, tt)))))
+
+pub taken_matches : (words : List Text) → IsTaken words → IsSome (requested words)
+taken_matches words none =
+    let entry = enters_subcommand (built cli) (drop 1 words) refl refl none in
+    stop_asks (built cli) cli_asks _ entry.0 entry.1 entry.2
+
+-- ---- any word that is no flag can be shown
+
+pub show_capture_taken : (program capture : Text) → is_flag capture ≡ false → IsTaken (program ∷ codes "show" ∷ capture ∷ [])
+unfolding clap_on_literals
+show_capture_taken program [] plain = refl
+show_capture_taken program (x ∷ []) plain = go (x == 45) refl
+  where
+    go : (b : Bool) → (x == 45) ≡ b → IsTaken (program ∷ codes "show" ∷ (x ∷ []) ∷ [])
+    go true e = simp e
+    go false e = simp e
+show_capture_taken program (x ∷ (y ∷ ys)) plain = simp plain
+
+pub show_capture_requested : (program capture : Text) → is_flag capture ≡ false → requested (program ∷ codes "show" ∷ capture ∷ []) ≡ Some (show_request capture)
+unfolding clap_on_literals
+show_capture_requested program [] plain = refl
+show_capture_requested program (x ∷ []) plain = go (x == 45) refl
+  where
+    go : (b : Bool) → (x == 45) ≡ b → requested (program ∷ codes "show" ∷ (x ∷ []) ∷ []) ≡ Some (show_request (x ∷ []))
+    go true e = simp e
+    go false e = simp e
+show_capture_requested program (x ∷ (y ∷ ys)) plain = simp plain
+
+-- ---- what a parse of the command line says
+
+-- what a parse that succeeds gives is what its words ask for, and they have no fault
+pub parsed_asks : (a : App) (words : List Text) (m : ArgMatches) → a ≡ cli → HasMatchesOf a words m → (is_simple_and_free a ≡ true → fault_of a words ≡ [])
+    → (asked_by_entered (subcommand_rows_of m) ≡ requested words) × IsTaken words
+parsed_asks a words m is matches taken =
+    let here : HasMatchesOf cli words m = subst (λ (a : App). HasMatchesOf a words m) is matches in
+    let none : is_simple_and_free cli ≡ true → fault_of cli words ≡ [] = subst (λ (a : App). (is_simple_and_free a ≡ true → fault_of a words ≡ [])) is taken in
+    (ap asked_by_entered (here cli_is_simple).1, none cli_is_free)
+
+-- so it gives something
+pub parsed_some : (a : App) (words : List Text) (m : ArgMatches) → a ≡ cli → HasMatchesOf a words m → (is_simple_and_free a ≡ true → fault_of a words ≡ [])
+    → (None ≡ asked_by_entered (subcommand_rows_of m)) → ⊥
+parsed_some a words m is matches taken none =
+    let parsed = parsed_asks a words m is matches taken in
+    let some : is_some (requested words) ≡ true = taken_matches words parsed.1 in
+    absurd (true≢false (sym some ∙ sym (ap is_some (none ∙ parsed.0))))
+
+-- a name and rows that a look gave are those of the subcommand
+pub entered_is : (m : ArgMatches) (name : Text) (rows : List Row) → Some name ≡ subcommand_name_of m → Some rows ≡ option_map (λ p. p.1) (subcommand_rows_of m)
+    → subcommand_rows_of m ≡ Some (name, rows)
+entered_is m name rows e f = go (out-ArgMatches m).subcommand e f
+  where
+    go : (o : Option (Box SubCommand Global)) → Some name ≡ option_map (λ b. (out-SubCommand (box_value b)).name.now) o → Some rows ≡ option_map (λ p. p.1) (subcommand_rows o)
+        → subcommand_rows o ≡ Some (name, rows)
+    go None e f = absurd cc
+    go (Some b) e f =
+        let s = out-SubCommand (box_value b) in
+        let a : name ≡ s.name.now = cc in
+        let r : rows ≡ rows_of (found_of s.matches) = cc in
+        ap (λ (x : Text). Some (x, rows_of (found_of s.matches))) (sym a) ∙ ap (λ (y : List Row). Some (name, y)) (sym r)
+
+-- what `show` asks for is what its matches ask for
+pub show_in : (m : ArgMatches) (name : Text) (f : Found) → subcommand_rows_of m ≡ Some (name, rows_of f) → bytes_eq name (codes "show") ≡ true
+    → asked_by_show (first_value f (codes "capture")) ≡ asked_by_entered (subcommand_rows_of m)
+show_in m name f is show =
+    let there : asked_by_subcommand name (rows_of f) ≡ asked_by_show (first_of (codes "capture") (rows_of f)) = rw show refl in
+    ap asked_by_show (first_value-rows f (codes "capture")) ∙ sym there ∙ sym (ap asked_by_entered is)
+
+pub payload_in : (m : ArgMatches) (name : Text) (f : Found) → subcommand_rows_of m ≡ Some (name, rows_of f) → bytes_eq name (codes "show") ≡ false → bytes_eq name (codes "payload") ≡ true
+    → asked_by_payload (first_value f (codes "shape")) (first_value f (codes "hex")) ≡ asked_by_entered (subcommand_rows_of m)
+payload_in m name f is other payload =
+    let there : asked_by_subcommand name (rows_of f) ≡ asked_by_payload (first_of (codes "shape") (rows_of f)) (first_of (codes "hex") (rows_of f)) = rw (other, payload) refl in
+    ap₂ asked_by_payload (first_value-rows f (codes "shape")) (first_value-rows f (codes "hex")) ∙ sym there ∙ sym (ap asked_by_entered is)
+
+pub vectors_in : (m : ArgMatches) (name : Text) (f : Found) → subcommand_rows_of m ≡ Some (name, rows_of f) → bytes_eq name (codes "show") ≡ false → bytes_eq name (codes "payload") ≡ false
+    → bytes_eq name (codes "vectors") ≡ true → asked_by_vectors (first_value f (codes "file")) ≡ asked_by_entered (subcommand_rows_of m)
+vectors_in m name f is other another vectors =
+    let there : asked_by_subcommand name (rows_of f) ≡ asked_by_vectors (first_of (codes "file") (rows_of f)) = rw (other, another, vectors) refl in
+    ap asked_by_vectors (first_value-rows f (codes "file")) ∙ sym there ∙ sym (ap asked_by_entered is)
+
+pub run_in : (m : ArgMatches) (name : Text) (f : Found) → subcommand_rows_of m ≡ Some (name, rows_of f) → bytes_eq name (codes "show") ≡ false → bytes_eq name (codes "payload") ≡ false
+    → bytes_eq name (codes "vectors") ≡ false → bytes_eq name (codes "run") ≡ true
+    → asked_by_run (first_value f (codes "setup")) (first_value f (codes "schedule")) ≡ asked_by_entered (subcommand_rows_of m)
+run_in m name f is other another third run =
+    let there : asked_by_subcommand name (rows_of f) ≡ asked_by_run (first_of (codes "setup") (rows_of f)) (first_of (codes "schedule") (rows_of f)) = rw (other, another, third, run) refl in
+    ap₂ asked_by_run (first_value-rows f (codes "setup")) (first_value-rows f (codes "schedule")) ∙ sym there ∙ sym (ap asked_by_entered is)

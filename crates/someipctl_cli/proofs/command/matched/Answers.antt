@@ -1,0 +1,24 @@
+use Rattle.std.proofs.Common.{◌∙◌, rules}
+use Rattle.clap.specs.Words.{found_of}
+use Rattle.someipctl_cli.proofs.CommandLineLemmas.{entered_is, payload_in, run_in, show_in, vectors_in}
+use Rattle.someipctl_cli.proofs.command.matched.Goals as goal
+
+pub returns-in-show : goal.returns-in-show
+returns-in-show c =
+    let entered = entered_is c.args.matches.now c.in_ok-name.name.now _ c.in_ok-name.ensures.name c.in_ok-name.ensures.rows in
+    c.show_matched.ensures ∙ show_in c.args.matches.now c.in_ok-name.name.now (found_of c.in_ok-name.rest.now) entered (search rules)
+
+pub returns-in-payload : goal.returns-in-payload
+returns-in-payload c =
+    let entered = entered_is c.args.matches.now c.in_ok-name.name.now _ c.in_ok-name.ensures.name c.in_ok-name.ensures.rows in
+    c.payload_matched.ensures ∙ payload_in c.args.matches.now c.in_ok-name.name.now (found_of c.in_ok-name.rest.now) entered (search rules) (search rules)
+
+pub returns-in-vectors : goal.returns-in-vectors
+returns-in-vectors c =
+    let entered = entered_is c.args.matches.now c.in_ok-name.name.now _ c.in_ok-name.ensures.name c.in_ok-name.ensures.rows in
+    c.vectors_matched.ensures ∙ vectors_in c.args.matches.now c.in_ok-name.name.now (found_of c.in_ok-name.rest.now) entered (search rules) (search rules) (search rules)
+
+pub returns-in-run : goal.returns-in-run
+returns-in-run c =
+    let entered = entered_is c.args.matches.now c.in_ok-name.name.now _ c.in_ok-name.ensures.name c.in_ok-name.ensures.rows in
+    c.run_matched.ensures ∙ run_in c.args.matches.now c.in_ok-name.name.now (found_of c.in_ok-name.rest.now) entered (search rules) (search rules) (search rules) (search rules)

@@ -1,0 +1,16 @@
+use Rattle.std.proofs.Common.{inl, refl}
+use Rattle.clap.proofs.OnLiterals.{clap_on_literals}
+use Rattle.someipctl_cli.proofs.laws.calls_by_example.Goals as goal
+
+pub returns : goal.returns
+unfolding clap_on_literals
+returns c = record {
+  show = refl;
+  vectors = refl;
+  bare = ((λ e. cc), inl refl);
+  bare_show = ((λ e. cc), inl refl);
+  help_flag = inl refl;
+  help = inl refl;
+  show_help_flag = inl refl;
+  help_show = inl refl;
+}

@@ -1,0 +1,143 @@
+-- The command line, and what its words ask for.
+use Rattle.std.specs.Prelude.{◌==◌, ◌≡◌, ◌≢◌, ◌⊎◌, Bool, true, false, List, [], ◌∷◌, codes, Option, Some, None, if◌then◌else◌}
+use Rattle.std.specs.Str.{bytes_eq}
+use Rattle.clap.specs.Words.{App, IsAmong, Row, Rule, Shape, Text, fault_of, first_of, kind_of}
+use Rattle.clap.specs.Words.{new_app, new_rule, subcommand_of, with_rule, with_subcommand}
+use Rattle.clap.specs.Simple.{on_top}
+use Rattle.clap.specs.declared.Error.{Error}
+use Rattle.clap.specs.declared.error.ErrorKind.{ErrorKind}
+use Rattle.clap.specs.declared.error.ErrorKind.TheVariants as kind
+use Rattle.someipctl_cli.specs.declared.command.Command.{Command}
+use Rattle.someipctl_cli.specs.declared.command.Command.TheVariants.{Show, Payload, Vectors, Run}
+use Rattle.someipctl_cli.specs.declared.command.LineError.{LineError}
+use Rattle.someipctl_cli.specs.declared.command.LineError.TheVariants.{Usage, Help, OutOfMemory}
+
+-- ---- what the program takes
+
+-- a required positional argument
+abbrev pub required : Text → Rule
+required id = record (new_rule id) { value_names = 1; required = true }
+
+-- `show CAPTURE`
+abbrev pub show_usage : Shape
+show_usage = (with_rule (new_app (codes "show")) (required (codes "capture"))).top
+
+-- `payload SHAPE HEX`
+abbrev pub payload_usage : Shape
+payload_usage = (with_rule (with_rule (new_app (codes "payload")) (required (codes "shape"))) (required (codes "hex"))).top
+
+-- `vectors FILE`
+abbrev pub vectors_usage : Shape
+vectors_usage = (with_rule (new_app (codes "vectors")) (required (codes "file"))).top
+
+-- `run SETUP SCHEDULE`
+abbrev pub run_usage : Shape
+run_usage = (with_rule (with_rule (new_app (codes "run")) (required (codes "setup"))) (required (codes "schedule"))).top
+
+-- the program alone, which asks for a subcommand
+abbrev pub program : App
+program = on_top (λ top. record top { subcommand_required = true }) (new_app (codes "someipctl"))
+
+-- the program with the commands that read bytes
+abbrev pub with_byte_commands : App
+with_byte_commands = with_subcommand (with_subcommand program show_usage) payload_usage
+
+-- the command line
+abbrev pub cli : App
+cli = with_subcommand (with_subcommand with_byte_commands vectors_usage) run_usage
+
+-- ---- what words ask for
+
+-- a command, without where its words lie in memory
+pub data Request : Type 0 where
+  show_request : Text → Request
+  payload_request : Text → Text → Request
+  vectors_request : Text → Request
+  run_request : Text → Text → Request
+
+-- what a command asks for
+abbrev pub asked_by_command : Command → Request
+asked_by_command (Show capture) = show_request capture.now
+asked_by_command (Payload shape hex) = payload_request shape.now hex.now
+asked_by_command (Vectors file) = vectors_request file.now
+asked_by_command (Run setup schedule) = run_request setup.now schedule.now
+
+-- what `show` asks for, by its argument
+abbrev pub asked_by_show : Option Text → Option Request
+asked_by_show None = None
+asked_by_show (Some capture) = Some (show_request capture)
+
+-- what `payload` asks for, by its arguments
+abbrev pub asked_by_payload : Option Text → Option Text → Option Request
+asked_by_payload None hex = None
+asked_by_payload (Some shape) None = None
+asked_by_payload (Some shape) (Some hex) = Some (payload_request shape hex)
+
+-- what `vectors` asks for, by its argument
+abbrev pub asked_by_vectors : Option Text → Option Request
+asked_by_vectors None = None
+asked_by_vectors (Some file) = Some (vectors_request file)
+
+-- what `run` asks for, by its arguments
+abbrev pub asked_by_run : Option Text → Option Text → Option Request
+asked_by_run None schedule = None
+asked_by_run (Some setup) None = None
+asked_by_run (Some setup) (Some schedule) = Some (run_request setup schedule)
+
+-- what a subcommand asks for, by its name and what its arguments matched
+abbrev pub asked_by_subcommand : Text → List Row → Option Request
+asked_by_subcommand name rows =
+    if bytes_eq name (codes "show") then asked_by_show (first_of (codes "capture") rows)
+    else (if bytes_eq name (codes "payload")
+    then asked_by_payload (first_of (codes "shape") rows) (first_of (codes "hex") rows)
+    else (if bytes_eq name (codes "vectors") then asked_by_vectors (first_of (codes "file") rows)
+    else (if bytes_eq name (codes "run") then asked_by_run (first_of (codes "setup") rows) (first_of (codes "schedule") rows) else None)))
+
+-- what the subcommand that was entered asks for, where one was
+abbrev pub asked_by_entered : Option (Text × List Row) → Option Request
+asked_by_entered None = None
+asked_by_entered (Some p) = asked_by_subcommand p.0 p.1
+
+-- what the words ask for, by what `clap` matches from them
+abbrev pub requested : List Text → Option Request
+requested words = asked_by_entered (subcommand_of cli words)
+
+-- ---- what is wrong with words
+
+-- the words have no fault
+abbrev pub IsTaken : List Text → Type 0
+IsTaken words = fault_of cli words ≡ []
+
+-- a call for help is among the faults of the words: after `help`, so is a command that there is not
+abbrev pub CallsForHelp : List Text → Type 0
+CallsForHelp words = IsAmong kind.DisplayHelp (fault_of cli words)
+
+-- the words have a fault of this kind, and it is no call for help
+abbrev pub HaveFault : List Text → ErrorKind → Type 0
+HaveFault words k = (k ≢ kind.DisplayHelp) × IsAmong k (fault_of cli words)
+
+-- help comes for a call for help, and usage for another fault
+abbrev pub RefusesWords : List Text → LineError → Type 0
+RefusesWords words (Help text) = CallsForHelp words
+RefusesWords words (Usage e) = HaveFault words (kind_of e)
+RefusesWords words OutOfMemory = Unit {0}
+
+-- what becomes of an error of the parse: help, out of memory (also where there is none for the text of help), or
+-- else usage
+abbrev pub IsLineErrorOf : Error → LineError → Type 0
+IsLineErrorOf from (Help text) = kind_of from ≡ kind.DisplayHelp
+IsLineErrorOf from (Usage e) = (e ≡ from) × (kind_of from ≢ kind.DisplayHelp)
+    × (kind_of from ≢ kind.OutOfMemory)
+IsLineErrorOf from OutOfMemory = (kind_of from ≡ kind.OutOfMemory) ⊎ (kind_of from ≡ kind.DisplayHelp)
+
+-- ---- words
+
+-- the words of a call: the program's name, and what follows it
+abbrev pub line : List Text → List Text
+line words = codes "someipctl" ∷ words
+
+-- the word begins with a hyphen (45), and is not that alone
+abbrev pub is_flag : Text → Bool
+is_flag [] = false
+is_flag (x ∷ []) = false
+is_flag (x ∷ (y ∷ ys)) = x == 45

@@ -1,0 +1,134 @@
+//! Why the program did not do its work.
+ghost use Rattle.std.specs.Prelude.{◌≡◌};
+ghost use Rattle.someipctl_cli.specs.Failures.{status_of_failure, failure_of_show, failure_of_payload};
+ghost use Rattle.someipctl_cli.specs.Failures.{failure_of_run, failure_of_setup, failure_of_vectors};
+
+use someip_world::{SetupError, StepFault};
+use someipctl_commands::ReadFault;
+use someipctl_commands::payload::PayloadRefusal;
+use someipctl_commands::show::ShowError;
+use someipctl_commands::vectors::VectorsError;
+use someipctl_run::{RunFault, SetupFault, SetupRefusal};
+use thiserror::Error;
+
+/// Why the program did not do its work. Printed, it is the text for standard error.
+#[derive(Debug, Drop, Error)]
+pub enum Failure<'p> {
+    /// The line of this number of a capture, counted from 1, is no hex.
+    #[error("{}", ShowError::BadHex(*.0))]
+    BadHex(usize),
+    /// The line of this number of a file of vectors, counted from 1, is bad.
+    #[error("{}", VectorsError::BadVector(*.0))]
+    BadVector(usize),
+    /// The line of this number of a schedule, counted from 1, spells no step.
+    #[error("{}", RunFault::BadLine(*.0))]
+    BadScheduleLine(usize),
+    /// The text of a setup is none.
+    #[error("{}", SetupRefusal(.0))]
+    BadSetup(SetupError),
+    /// The step of this index of a schedule, counted from 1, can't happen.
+    #[error("{}", RunFault::BadStep(*.0, *.1))]
+    BadStep(usize, StepFault),
+    /// The text of a shape is none from this byte on.
+    #[error("{}", PayloadRefusal::BadShape(*.0))]
+    BadShape(usize),
+    /// A payload is no hex.
+    #[error("{}", PayloadRefusal::BadHex)]
+    BadPayloadHex,
+    /// The arguments are no call of the program.
+    #[error("{0}")]
+    Usage(clap::Error),
+    /// A word of the command line is no UTF-8.
+    #[error("error: a word is no UTF-8\n\nUsage: someipctl <COMMAND>")]
+    NotText,
+    /// Memory ran out.
+    #[error("out of memory")]
+    OutOfMemory,
+    /// The file at this path could not be read.
+    #[error("{} {}", ReadFault::CannotRead, .0)]
+    CannotRead(&'p str),
+    /// Standard output could not be written.
+    #[error("{}", someipctl_print::CannotWrite)]
+    CannotWrite,
+}
+
+impl<'p> Failure<'p> {
+    /// The program's exit status: 1 where an input is refused, 2 for usage, 3 where memory ran out,
+    /// 4 where reading or writing failed.
+    pub fn status(&self) -> u8
+        ensures { result ≡ status_of_failure self.now }
+    {
+        match self {
+            Failure::BadHex(_)
+            | Failure::BadVector(_)
+            | Failure::BadScheduleLine(_)
+            | Failure::BadSetup(_)
+            | Failure::BadStep(_, _)
+            | Failure::BadShape(_)
+            | Failure::BadPayloadHex => 1,
+            Failure::Usage(_) | Failure::NotText => 2,
+            Failure::OutOfMemory => 3,
+            Failure::CannotRead(_) | Failure::CannotWrite => 4,
+        }
+    }
+
+    /// Why the capture at a path was not shown.
+    pub fn of_show(error: ShowError, path: &'p str) -> Failure<'p>
+        ensures { result ≡ failure_of_show error path.entry }
+    {
+        match error {
+            ShowError::BadHex(line) => Failure::BadHex(line),
+            ShowError::CannotRead => Failure::CannotRead(path),
+            ShowError::CannotWrite => Failure::CannotWrite,
+            ShowError::OutOfMemory => Failure::OutOfMemory,
+        }
+    }
+
+    /// Why the vectors of the file at a path were not judged.
+    pub fn of_vectors(error: VectorsError, path: &'p str) -> Failure<'p>
+        ensures { result ≡ failure_of_vectors error path.entry }
+    {
+        match error {
+            VectorsError::BadVector(line) => Failure::BadVector(line),
+            VectorsError::CannotRead => Failure::CannotRead(path),
+            VectorsError::CannotWrite => Failure::CannotWrite,
+            VectorsError::OutOfMemory => Failure::OutOfMemory,
+        }
+    }
+
+    /// Why the setup at a path was not read.
+    pub fn of_setup(fault: SetupFault, path: &'p str) -> Failure<'p>
+        ensures { result ≡ failure_of_setup fault path.entry }
+    {
+        match fault {
+            SetupFault::Refused(error) => Failure::BadSetup(error),
+            SetupFault::CannotRead => Failure::CannotRead(path),
+            SetupFault::OutOfMemory => Failure::OutOfMemory,
+        }
+    }
+
+    /// Why the schedule at a path was not run.
+    pub fn of_run(fault: RunFault, path: &'p str) -> Failure<'p>
+        ensures { result ≡ failure_of_run fault path.entry }
+    {
+        match fault {
+            RunFault::BadLine(line) => Failure::BadScheduleLine(line),
+            RunFault::BadStep(index, fault) => Failure::BadStep(index, fault),
+            RunFault::CannotRead => Failure::CannotRead(path),
+            RunFault::CannotWrite => Failure::CannotWrite,
+            RunFault::OutOfMemory => Failure::OutOfMemory,
+        }
+    }
+
+    /// Why a payload was not read.
+    pub fn of_payload(refusal: PayloadRefusal) -> Failure<'static>
+        ensures { result ≡ failure_of_payload refusal }
+    {
+        match refusal {
+            PayloadRefusal::BadShape(place) => Failure::BadShape(place),
+            PayloadRefusal::BadHex => Failure::BadPayloadHex,
+            PayloadRefusal::CannotWrite => Failure::CannotWrite,
+            PayloadRefusal::OutOfMemory => Failure::OutOfMemory,
+        }
+    }
+}

@@ -1,0 +1,39 @@
+//! Laws of the definitions behind the contracts: what words ask for. Each is the contract of a
+//! function that does nothing.
+ghost use Rattle.std.specs.Prelude.{◌≡◌, ◌∷◌, [], codes, false, Some, IsSome, ℕ, List};
+ghost use Rattle.someipctl_cli.specs.CommandLine.{CallsForHelp, HaveFault, IsTaken, is_flag, line};
+ghost use Rattle.someipctl_cli.specs.CommandLine.{requested, show_request, vectors_request};
+
+use clap::error::ErrorKind;
+
+/// Words that have no fault match a command, so a parse that succeeds leaves nothing to refuse.
+pub fn words_without_fault_match()
+    ensures { (words : List (List ℕ)) → IsTaken words → IsSome (requested words) }
+{}
+
+/// After `show`, any one word that is no flag is a capture, and the words have no fault.
+pub fn words_show_any_capture()
+    ensures taken { (program capture : List ℕ) → is_flag capture ≡ false
+        → IsTaken (program ∷ codes "show" ∷ capture ∷ []) }
+    ensures matched { (program capture : List ℕ) → is_flag capture ≡ false
+        → requested (program ∷ codes "show" ∷ capture ∷ []) ≡ Some (show_request capture) }
+{}
+
+/// What some calls of the program come to.
+pub fn calls_by_example()
+    ensures show { requested (line (codes "show" ∷ codes "x" ∷ []))
+        ≡ Some (show_request (codes "x")) }
+
+    ensures vectors { requested (line (codes "vectors" ∷ codes "x" ∷ []))
+        ≡ Some (vectors_request (codes "x")) }
+
+    // No command, or no capture.
+    ensures bare { HaveFault (line []) ErrorKind.MissingSubcommand }
+    ensures bare_show { HaveFault (line (codes "show" ∷ [])) ErrorKind.MissingRequiredArgument }
+
+    // Four ways to ask for help.
+    ensures help_flag { CallsForHelp (line (codes "--help" ∷ [])) }
+    ensures help { CallsForHelp (line (codes "help" ∷ [])) }
+    ensures show_help_flag { CallsForHelp (line (codes "show" ∷ codes "--help" ∷ [])) }
+    ensures help_show { CallsForHelp (line (codes "help" ∷ codes "show" ∷ [])) }
+{}

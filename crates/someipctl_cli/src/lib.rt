@@ -1,0 +1,21 @@
+//! The command line of `someipctl`: what its words ask for, and how the program ends.
+//!
+//! What a command reads, does and prints stands in `someipctl_commands` and, of `run`, in
+//! `someipctl_run`.
+//!
+//! - `command`, `help`: what the words ask for, and the answer to others;
+//! - `program`: the words, the files that they name, and the exit status;
+//! - `failure`: why the program failed, with its exit status and its text;
+//! - `laws`: what the definitions behind the contracts promise.
+#![tactic(auto)]
+
+mod command;
+mod failure;
+mod help;
+pub mod laws;
+mod program;
+
+pub use command::{Command, LineError, command_of};
+pub use failure::Failure;
+pub use help::answer_error;
+pub use program::{report, run, words_of};
