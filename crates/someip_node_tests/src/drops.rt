@@ -1,12 +1,7 @@
 //! Each name of a drop.
-use super::acts::Act::{Datagram, Tick};
-use super::acts::{Port, Row, first_wrong};
-use super::{
-    CLIENT, SD_OF_ALL, SD_OF_CLIENT, SD_OF_SERVER, SERVER, first_wrong_of_client, server_at,
-};
-use someip_node::Node;
-use someip_tp::SegmentList;
-use std::alloc::Global;
+use crate::acts::Act::{Datagram, Tick};
+use crate::acts::{Port, Row};
+use crate::nodes::{CLIENT, NARROW, SD_OF_ALL, SD_OF_CLIENT, SD_OF_SERVER, SERVER, WANTS, gives};
 use std::test::Fail;
 
 /// Datagrams to the instance.
@@ -252,46 +247,32 @@ const OFFERS: &[Row] = &[
     ),
 ];
 
-/// The node that offers, with one slot for messages in part and one peer.
-fn narrow_node(alloc: Global) -> Result<Node<SegmentList>, Fail> {
-    let mut config = server_at(alloc, 30509)?;
-    config.common.slots = 1;
-    config.common.peers = 1;
-    Ok(Node::start(alloc, config, 10)?)
-}
-
-/// The number of the first of these rows for which that node gives other lines.
-fn first_wrong_of_narrow(alloc: Global, rows: &[Row]) -> Result<Option<usize>, Fail> {
-    let mut node = narrow_node(alloc)?;
-    first_wrong(alloc, &mut node, rows)
-}
-
 #[test]
 fn messages_to_an_instance_that_are_dropped(rt: HostRuntime) -> Result<(), Fail> {
-    assert_eq!(rt; first_wrong_of_narrow(rt.alloc(), TO_INSTANCE)?, None);
+    assert!(rt; gives(rt.alloc(), NARROW, TO_INSTANCE)?);
     Ok(())
 }
 
 #[test]
 fn messages_to_a_client_that_are_dropped(rt: HostRuntime) -> Result<(), Fail> {
-    assert_eq!(rt; first_wrong_of_narrow(rt.alloc(), TO_CLIENT)?, None);
+    assert!(rt; gives(rt.alloc(), NARROW, TO_CLIENT)?);
     Ok(())
 }
 
 #[test]
 fn messages_of_discovery_that_are_dropped(rt: HostRuntime) -> Result<(), Fail> {
-    assert_eq!(rt; first_wrong_of_narrow(rt.alloc(), TO_DISCOVERY)?, None);
+    assert!(rt; gives(rt.alloc(), NARROW, TO_DISCOVERY)?);
     Ok(())
 }
 
 #[test]
 fn datagrams_that_are_dropped(rt: HostRuntime) -> Result<(), Fail> {
-    assert_eq!(rt; first_wrong_of_narrow(rt.alloc(), ASTRAY)?, None);
+    assert!(rt; gives(rt.alloc(), NARROW, ASTRAY)?);
     Ok(())
 }
 
 #[test]
 fn an_offer_of_another_peer_is_dropped(rt: HostRuntime) -> Result<(), Fail> {
-    assert_eq!(rt; first_wrong_of_client(rt.alloc(), OFFERS)?, None);
+    assert!(rt; gives(rt.alloc(), WANTS, OFFERS)?);
     Ok(())
 }

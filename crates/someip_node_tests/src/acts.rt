@@ -1,6 +1,6 @@
 //! What is done with a node, as plain data, so that a table can hold it beside the lines that come.
-use someip_node::{Node, NodeError, Output};
 use sd_core::{Eventgroup, InstanceId};
+use someip_node::{Node, NodeError, Output};
 use someip_rpc::{CallKind, Reply};
 use someip_tp::SegmentList;
 use std::alloc::Global;
@@ -10,11 +10,11 @@ use std::test::Fail;
 
 /// A host, where 0 is the multicast group and n the address 192.168.0.n, and a port.
 #[derive(Clone, Copy)]
-pub(super) struct Port(pub(super) u8, pub(super) u16);
+pub(crate) struct Port(pub(crate) u8, pub(crate) u16);
 
 impl Port {
     /// Its endpoint.
-    pub(super) fn endpoint(self) -> SocketAddrV4 {
+    pub(crate) fn endpoint(self) -> SocketAddrV4 {
         let address = if self.0 == 0 {
             Ipv4Addr::new(239, 0, 0, 1)
         } else {
@@ -26,7 +26,7 @@ impl Port {
 
 /// What is done with a node: a call of it. Datagrams and payloads are in hex.
 #[derive(Clone, Copy)]
-pub(super) enum Act {
+pub(crate) enum Act {
     /// A datagram comes from a port to a port.
     Datagram(Port, Port, &'static str),
     /// So many milliseconds pass.
@@ -50,10 +50,10 @@ pub(super) enum Act {
 }
 
 /// What is done, and the lines that the node gives for it.
-pub(super) type Row = (Act, &'static str);
+pub(crate) type Row = (Act, &'static str);
 
 /// The number of the first of these rows for which a node does not give the lines beside it.
-pub(super) fn first_wrong(
+pub(crate) fn first_wrong(
     alloc: Global,
     node: &mut Node<SegmentList>,
     rows: &[Row],
@@ -68,7 +68,7 @@ pub(super) fn first_wrong(
 
 /// The lines that a node gives for what is done to it. Each call of a node has a function of its own below:
 /// so the prover meets one call at a time.
-pub(super) fn given(alloc: Global, node: &mut Node<SegmentList>, act: Act) -> Result<String, Fail> {
+pub(crate) fn given(alloc: Global, node: &mut Node<SegmentList>, act: Act) -> Result<String, Fail> {
     match act {
         Act::Datagram(from, to, bytes) => on_datagram(alloc, node, from, to, bytes),
         Act::Tick(ms) => tick(alloc, node, ms),
@@ -181,7 +181,7 @@ fn restart(alloc: Global, node: &mut Node<SegmentList>, delay: u32) -> Result<St
 }
 
 /// The lines of what a node gives, or the name of its refusal.
-pub(super) fn lines_of(
+pub(crate) fn lines_of(
     alloc: Global,
     outputs: Result<Vec<Output>, NodeError>,
 ) -> Result<String, Fail> {

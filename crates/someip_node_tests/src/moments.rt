@@ -1,18 +1,11 @@
 //! What a moment brings, in order.
-use super::acts::Act::{Call, Datagram, Subscribe, Tick};
-use super::acts::{Port, Row, first_wrong};
-use super::{
-    CLIENT, INSTANCE, SD_OF_ALL, SD_OF_SERVER, SERVER, common, first_wrong_of_client,
-    first_wrong_of_server, offered,
+use crate::acts::Act::{Call, Datagram, Subscribe, Tick};
+use crate::acts::{Port, Row};
+use crate::nodes::{
+    CLIENT, INSTANCE, OFFERS, OFFERS_AND_WANTS, SD_OF_ALL, SD_OF_SERVER, SERVER, WANTS, gives,
 };
-use someip_node::{Config, Node, WantedService};
 use sd_core::{Eventgroup, InstanceId};
-use sd_wire::Ttl;
 use someip_rpc::CallKind;
-use someip_tp::SegmentList;
-use std::alloc::Global;
-use std::collections::{BTreeMap, BTreeSet};
-use std::net::Ipv4Addr;
 use std::test::Fail;
 
 /// Another instance, which is wanted.
@@ -137,60 +130,26 @@ const WAITING: &[Row] = &[
     ),
 ];
 
-/// A want of one eventgroup, without events.
-fn want(alloc: Global) -> Result<WantedService, Fail> {
-    let mut groups = BTreeMap::new(alloc);
-    groups.insert(1, BTreeSet::new(alloc))?;
-    Ok(WantedService {
-        major: 1,
-        ttl: Ttl::new(3).ok_or("ttl")?,
-        groups,
-    })
-}
-
-/// The node that offers the instance, and wants the two others.
-fn busy(alloc: Global) -> Result<Config, Fail> {
-    let mut offers = BTreeMap::new(alloc);
-    offers.insert(INSTANCE, offered(alloc, 30509)?)?;
-    let mut wants = BTreeMap::new(alloc);
-    wants.insert(OTHER, want(alloc)?)?;
-    wants.insert(THIRD, want(alloc)?)?;
-    Ok(Config {
-        common: common(),
-        address: Ipv4Addr::new(192, 168, 0, 1),
-        client_id: 0x0101,
-        client_port: 40000,
-        offers,
-        wants,
-    })
-}
-
-/// The number of the first of these rows for which that node gives other lines.
-fn first_wrong_of_busy(alloc: Global, rows: &[Row]) -> Result<Option<usize>, Fail> {
-    let mut node: Node<SegmentList> = Node::start(alloc, busy(alloc)?, 10)?;
-    first_wrong(alloc, &mut node, rows)
-}
-
 #[test]
 fn calls_end_before_offers_and_subscriptions(rt: HostRuntime) -> Result<(), Fail> {
-    assert_eq!(rt; first_wrong_of_busy(rt.alloc(), AT_ONCE)?, None);
+    assert!(rt; gives(rt.alloc(), OFFERS_AND_WANTS, AT_ONCE)?);
     Ok(())
 }
 
 #[test]
 fn offers_go_out_in_phases(rt: HostRuntime) -> Result<(), Fail> {
-    assert_eq!(rt; first_wrong_of_server(rt.alloc(), PHASES)?, None);
+    assert!(rt; gives(rt.alloc(), OFFERS, PHASES)?);
     Ok(())
 }
 
 #[test]
 fn a_late_tick_sends_one_offer(rt: HostRuntime) -> Result<(), Fail> {
-    assert_eq!(rt; first_wrong_of_server(rt.alloc(), LATE)?, None);
+    assert!(rt; gives(rt.alloc(), OFFERS, LATE)?);
     Ok(())
 }
 
 #[test]
 fn a_call_times_out_at_its_deadline(rt: HostRuntime) -> Result<(), Fail> {
-    assert_eq!(rt; first_wrong_of_client(rt.alloc(), WAITING)?, None);
+    assert!(rt; gives(rt.alloc(), WANTS, WAITING)?);
     Ok(())
 }

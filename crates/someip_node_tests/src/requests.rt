@@ -1,7 +1,7 @@
 //! Requests and their answers.
-use super::acts::Act::{Answer, Call, Datagram, Publish, PublishTo, StopOffer};
-use super::acts::{Row, first_wrong, given};
-use super::{CLIENT, EVENTGROUP, INSTANCE, SERVER, first_wrong_of_server, server_node};
+use crate::acts::Act::{Answer, Call, Datagram, Publish, PublishTo, StopOffer};
+use crate::acts::{Row, first_wrong, given};
+use crate::nodes::{CLIENT, EVENTGROUP, INSTANCE, OFFERS, SERVER, gives, started};
 use someip_node::Node;
 use someip_rpc::{CallKind, Reply};
 use someip_tp::SegmentList;
@@ -116,31 +116,32 @@ fn ask(alloc: Global, node: &mut Node<SegmentList>, times: usize) -> Result<(), 
 
 #[test]
 fn requests_are_taken(rt: HostRuntime) -> Result<(), Fail> {
-    assert_eq!(rt; first_wrong_of_server(rt.alloc(), ASKED)?, None);
+    assert!(rt; gives(rt.alloc(), OFFERS, ASKED)?);
     Ok(())
 }
 
 #[test]
 fn requests_are_answered(rt: HostRuntime) -> Result<(), Fail> {
-    assert_eq!(rt; first_wrong_of_server(rt.alloc(), ANSWERED)?, None);
+    assert!(rt; gives(rt.alloc(), OFFERS, ANSWERED)?);
     Ok(())
 }
 
 #[test]
 fn an_instance_that_is_down_keeps_its_port(rt: HostRuntime) -> Result<(), Fail> {
-    assert_eq!(rt; first_wrong_of_server(rt.alloc(), DOWN)?, None);
+    assert!(rt; gives(rt.alloc(), OFFERS, DOWN)?);
     Ok(())
 }
 
-/// Asks once more while 1024 requests are open.
-fn first_wrong_of_full(alloc: Global) -> Result<Option<usize>, Fail> {
-    let mut node = server_node(alloc)?;
+/// The number of the first of these rows for which the node that offers gives other lines, while 1024
+/// requests are open.
+fn first_wrong_of_full(alloc: Global, rows: &[Row]) -> Result<Option<usize>, Fail> {
+    let mut node = started(alloc, OFFERS)?;
     ask(alloc, &mut node, 1024)?;
-    first_wrong(alloc, &mut node, ONE_MORE)
+    first_wrong(alloc, &mut node, rows)
 }
 
 #[test]
 fn the_1025th_open_request_is_not_ready(rt: HostRuntime) -> Result<(), Fail> {
-    assert_eq!(rt; first_wrong_of_full(rt.alloc())?, None);
+    assert!(rt; first_wrong_of_full(rt.alloc(), ONE_MORE)?.is_none());
     Ok(())
 }

@@ -1,9 +1,9 @@
 //! The worked run: two nodes, a call, a subscription and an event.
-use super::acts::Act::{Answer, Call, Datagram, Publish, Subscribe, Tick, Unsubscribe};
-use super::acts::Row;
-use super::{
-    CLIENT, EVENTGROUP, INSTANCE, SD_OF_ALL, SD_OF_CLIENT, SD_OF_SERVER, SERVER,
-    first_wrong_of_client, first_wrong_of_server,
+use crate::acts::Act::{Answer, Call, Datagram, Publish, Subscribe, Tick, Unsubscribe};
+use crate::acts::Row;
+use crate::nodes::{
+    CLIENT, EVENTGROUP, INSTANCE, OFFERS, SD_OF_ALL, SD_OF_CLIENT, SD_OF_SERVER, SERVER, WANTS,
+    gives,
 };
 use sd_core::Eventgroup;
 use someip_rpc::{CallKind, Reply};
@@ -93,12 +93,12 @@ const AT_CLIENT: &[Row] = &[
 
 #[test]
 fn the_server_of_the_worked_run(rt: HostRuntime) -> Result<(), Fail> {
-    assert_eq!(rt; first_wrong_of_server(rt.alloc(), AT_SERVER)?, None);
+    assert!(rt; gives(rt.alloc(), OFFERS, AT_SERVER)?);
     Ok(())
 }
 
 #[test]
 fn the_client_of_the_worked_run(rt: HostRuntime) -> Result<(), Fail> {
-    assert_eq!(rt; first_wrong_of_client(rt.alloc(), AT_CLIENT)?, None);
+    assert!(rt; gives(rt.alloc(), WANTS, AT_CLIENT)?);
     Ok(())
 }

@@ -1,11 +1,12 @@
 //! Configurations, delays and moments that a node takes, and those that it refuses.
-use super::acts::Act::{Restart, Tick};
-use super::acts::Row;
-use super::{client, first_wrong_of_server, offered, server_at};
-use someip_node::{Common, Config, Node, NodeError};
+use crate::acts::Act::{Restart, Tick};
+use crate::acts::Row;
+use crate::nodes::{OFFERS, OFFERS_TWO, WANTS, config_of, gives};
 use sd_core::InstanceId;
+use someip_node::{Common, Config, Node, NodeError};
 use someip_tp::SegmentList;
 use std::alloc::Global;
+use std::net::SocketAddrV4;
 use std::test::Fail;
 
 /// What is other than usual in a start of a node.
@@ -113,7 +114,7 @@ const CLOCK: &[Row] = &[
 /// The number of the first of these starts that ends otherwise.
 fn first_wrong_start(alloc: Global, rows: &[(Start, Refusal)]) -> Result<Option<usize>, Fail> {
     for (index, (start, expected)) in rows.iter().enumerate() {
-        let refused = refusal(alloc, config_of(alloc, *start)?, delay_of(*start));
+        let refused = refusal(alloc, changed_config(alloc, *start)?, delay_of(*start));
         if refused != *expected {
             return Ok(Some(index));
         }
@@ -136,52 +137,42 @@ fn delay_of(start: Start) -> u32 {
     }
 }
 
-fn config_of(alloc: Global, start: Start) -> Result<Config, Fail> {
+/// The configuration of a start.
+fn changed_config(alloc: Global, start: Start) -> Result<Config, Fail> {
     match start {
-        Start::Delay(_) => server_at(alloc, 30509),
-        Start::Port(port) => server_at(alloc, port),
-        Start::SecondPort(port) => two_instances(alloc, port),
-        Start::ClientPort(port) => client_at(alloc, port),
-        Start::AddressOfGroup => client_on_group(alloc),
-        value => client_with(alloc, value),
+        Start::Delay(_) => config_of(alloc, OFFERS),
+        Start::Port(port) => Ok(with_port(config_of(alloc, OFFERS)?, 1, port)),
+        Start::SecondPort(port) => Ok(with_port(config_of(alloc, OFFERS_TWO)?, 2, port)),
+        other => Ok(client_with(config_of(alloc, WANTS)?, other)),
     }
 }
 
-/// The node that offers, with a second instance.
-fn two_instances(alloc: Global, port: u16) -> Result<Config, Fail> {
-    let second = InstanceId {
+/// The configuration with another port of this instance.
+fn with_port(config: Config, instance: u16, port: u16) -> Config {
+    let mut changed = config;
+    let place = InstanceId {
         service: 0x1111,
-        instance: 2,
+        instance,
     };
-    let mut service = offered(alloc, port)?;
-    service.rules.instance = 2;
-    let mut config = server_at(alloc, 30509)?;
-    config.offers.insert(second, service)?;
-    Ok(config)
+    if let Some(offer) = changed.offers.get_mut(&place) {
+        offer.rules.endpoint = SocketAddrV4::new(*offer.rules.endpoint.ip(), port);
+    }
+    changed
 }
 
-/// The node that wants, with another port of its client.
-fn client_at(alloc: Global, port: u16) -> Result<Config, Fail> {
-    let mut config = client(alloc)?;
-    config.client_port = port;
-    Ok(config)
+/// The configuration with another value.
+fn client_with(config: Config, value: Start) -> Config {
+    let mut changed = config;
+    match value {
+        Start::ClientPort(port) => changed.client_port = port,
+        Start::AddressOfGroup => changed.address = changed.common.group,
+        shared => changed.common = changed_common(changed.common, shared),
+    }
+    changed
 }
 
-/// The node that wants, at the address of the multicast group.
-fn client_on_group(alloc: Global) -> Result<Config, Fail> {
-    let mut config = client(alloc)?;
-    config.address = config.common.group;
-    Ok(config)
-}
-
-/// The node that wants, with another value of those that all nodes share.
-fn client_with(alloc: Global, value: Start) -> Result<Config, Fail> {
-    let mut config = client(alloc)?;
-    config.common = changed(config.common, value);
-    Ok(config)
-}
-
-fn changed(common: Common, value: Start) -> Common {
+/// The values that all nodes share, with another one.
+fn changed_common(common: Common, value: Start) -> Common {
     let mut changed = common;
     match value {
         Start::InitialMax(ms) => changed.initial_max_ms = ms,
@@ -195,27 +186,32 @@ fn changed(common: Common, value: Start) -> Common {
     changed
 }
 
+/// Whether all these starts end as they say.
+fn starts_end(alloc: Global, rows: &[(Start, Refusal)]) -> Result<bool, Fail> {
+    Ok(first_wrong_start(alloc, rows)?.is_none())
+}
+
 #[test]
 fn delays_are_judged(rt: HostRuntime) -> Result<(), Fail> {
-    assert_eq!(rt; first_wrong_start(rt.alloc(), DELAYS)?, None);
-    assert_eq!(rt; first_wrong_of_server(rt.alloc(), RESTARTS)?, None);
+    assert!(rt; starts_end(rt.alloc(), DELAYS)?);
+    assert!(rt; gives(rt.alloc(), OFFERS, RESTARTS)?);
     Ok(())
 }
 
 #[test]
 fn the_clock_has_a_bound(rt: HostRuntime) -> Result<(), Fail> {
-    assert_eq!(rt; first_wrong_of_server(rt.alloc(), CLOCK)?, None);
+    assert!(rt; gives(rt.alloc(), OFFERS, CLOCK)?);
     Ok(())
 }
 
 #[test]
 fn ports_are_judged(rt: HostRuntime) -> Result<(), Fail> {
-    assert_eq!(rt; first_wrong_start(rt.alloc(), PORTS)?, None);
+    assert!(rt; starts_end(rt.alloc(), PORTS)?);
     Ok(())
 }
 
 #[test]
 fn values_outside_their_range_are_refused(rt: HostRuntime) -> Result<(), Fail> {
-    assert_eq!(rt; first_wrong_start(rt.alloc(), VALUES)?, None);
+    assert!(rt; starts_end(rt.alloc(), VALUES)?);
     Ok(())
 }

@@ -1,9 +1,9 @@
 //! Messages of Service Discovery: bad runs, Finds, reboots, and many replies.
-use super::acts::Act::{Datagram, Publish, PublishTo, Subscribe, Tick};
-use super::acts::{Port, Row};
-use super::{
-    CLIENT, EVENTGROUP, INSTANCE, SD_OF_ALL, SD_OF_CLIENT, SD_OF_SERVER, first_wrong_of_client,
-    first_wrong_of_server, server_node,
+use crate::acts::Act::{Datagram, Publish, PublishTo, Subscribe, Tick};
+use crate::acts::{Port, Row};
+use crate::nodes::{
+    CLIENT, EVENTGROUP, INSTANCE, OFFERS, SD_OF_ALL, SD_OF_CLIENT, SD_OF_SERVER, WANTS, gives,
+    started,
 };
 use someip_node::{Node, Output};
 use someip_tp::SegmentList;
@@ -196,46 +196,43 @@ const SERVER_BEGAN_AGAIN: &[Row] = &[
 
 #[test]
 fn a_subscribe_with_a_bad_run_gets_a_nack(rt: HostRuntime) -> Result<(), Fail> {
-    assert_eq!(rt; first_wrong_of_server(rt.alloc(), BAD_RUN)?, None);
+    assert!(rt; gives(rt.alloc(), OFFERS, BAD_RUN)?);
     Ok(())
 }
 
 #[test]
 fn a_find_is_answered_after_the_first_offer(rt: HostRuntime) -> Result<(), Fail> {
-    assert_eq!(rt; first_wrong_of_server(rt.alloc(), FINDS)?, None);
+    assert!(rt; gives(rt.alloc(), OFFERS, FINDS)?);
     Ok(())
 }
 
 #[test]
 fn a_peer_that_began_again_subscribes_anew(rt: HostRuntime) -> Result<(), Fail> {
-    assert_eq!(rt; first_wrong_of_server(rt.alloc(), BEGAN_AGAIN)?, None);
+    assert!(rt; gives(rt.alloc(), OFFERS, BEGAN_AGAIN)?);
     Ok(())
 }
 
 #[test]
 fn events_go_by_rising_endpoint(rt: HostRuntime) -> Result<(), Fail> {
-    assert_eq!(rt; first_wrong_of_server(rt.alloc(), RISING)?, None);
+    assert!(rt; gives(rt.alloc(), OFFERS, RISING)?);
     Ok(())
 }
 
 #[test]
 fn a_subscription_lasts_until_its_ttl_has_passed(rt: HostRuntime) -> Result<(), Fail> {
-    assert_eq!(rt; first_wrong_of_server(rt.alloc(), LASTING)?, None);
+    assert!(rt; gives(rt.alloc(), OFFERS, LASTING)?);
     Ok(())
 }
 
 #[test]
 fn a_subscribe_is_refused_for_a_reason(rt: HostRuntime) -> Result<(), Fail> {
-    assert_eq!(rt; first_wrong_of_server(rt.alloc(), REFUSED)?, None);
+    assert!(rt; gives(rt.alloc(), OFFERS, REFUSED)?);
     Ok(())
 }
 
 #[test]
 fn a_server_that_began_again_is_subscribed_to_anew(rt: HostRuntime) -> Result<(), Fail> {
-    assert_eq!(rt;
-        first_wrong_of_client(rt.alloc(), SERVER_BEGAN_AGAIN)?,
-        None
-    );
+    assert!(rt; gives(rt.alloc(), WANTS, SERVER_BEGAN_AGAIN)?);
     Ok(())
 }
 
@@ -260,23 +257,20 @@ fn count_sent(outputs: &[Output]) -> usize {
         .count()
 }
 
-/// How many outputs a node gives for it, and how many of them are datagrams.
-fn many_replies(alloc: Global, node: &mut Node<SegmentList>) -> Result<(usize, usize), Fail> {
+/// How many outputs the node that offers gives for it, and how many of them are datagrams.
+fn many_replies(alloc: Global) -> Result<(usize, usize), Fail> {
+    let mut node = started(alloc, OFFERS)?;
+    replies_of(alloc, &mut node)
+}
+
+fn replies_of(alloc: Global, node: &mut Node<SegmentList>) -> Result<(usize, usize), Fail> {
     let bytes = many_subscribes(alloc)?;
     let outputs = node.on_datagram(SD_OF_CLIENT.endpoint(), SD_OF_SERVER.endpoint(), &bytes)?;
     Ok((outputs.len(), count_sent(&outputs)))
 }
 
-/// The same of the node that offers.
-fn many_replies_of_server(alloc: Global) -> Result<(usize, usize), Fail> {
-    let mut node = server_node(alloc)?;
-    many_replies(alloc, &mut node)
-}
-
 #[test]
 fn many_replies_go_in_two_messages(rt: HostRuntime) -> Result<(), Fail> {
-    let (outputs, sent) = many_replies_of_server(rt.alloc())?;
-    assert_eq!(rt; outputs, 89);
-    assert_eq!(rt; sent, 2);
+    assert!(rt; many_replies(rt.alloc())? == (89, 2));
     Ok(())
 }
