@@ -146,51 +146,53 @@ fn counted(alloc: Global, text: &[u8]) -> Result<usize, ScheduleError> {
     Ok(steps.len())
 }
 
+/// Whether this line of a text is its first bad one.
+fn is_bad_at(alloc: Global, text: &[u8], line: usize) -> bool {
+    counted(alloc, text) == Err(ScheduleError::BadLine(line))
+}
+
 #[test]
 fn good_lines_spell_one_step_each(rt: HostRuntime) {
     for text in GOOD {
-        assert_eq!(rt; counted(rt.alloc(), text), Ok(1), "{text:?}");
+        assert!(rt; counted(rt.alloc(), text) == Ok(1), "{text:?}");
     }
 }
 
 #[test]
 fn lines_that_are_skipped_spell_none(rt: HostRuntime) {
     for text in EMPTY {
-        assert_eq!(rt; counted(rt.alloc(), text), Ok(0), "{text:?}");
+        assert!(rt; counted(rt.alloc(), text) == Ok(0), "{text:?}");
     }
 }
 
 #[test]
 fn almost_right_lines_are_bad(rt: HostRuntime) {
     for text in BAD {
-        assert_eq!(rt;
-            counted(rt.alloc(), text),
-            Err(ScheduleError::BadLine(1)),
-            "{text:?}"
-        );
+        assert!(rt; is_bad_at(rt.alloc(), text, 1), "{text:?}");
     }
+}
+
+/// Texts, and the number of the first bad line of each.
+const FIRST_BAD: [(&[u8], usize); 5] = [
+    (b"tick a 5\n\n# x\ntick a 05\ntick a", 4),
+    (b"\n\ntick a", 3),
+    (b"tick a 5\n#\xff\n", 2),
+    (b"tick a 5\r\n", 1),
+    (b"tick a 5\ntick a 6\n \n", 3),
+];
+
+/// Whether an error is printed so.
+fn is_printed(alloc: Global, error: ScheduleError, text: &str) -> Result<bool, AllocError> {
+    Ok(format!(in alloc; "{error}")?.as_str() == text)
 }
 
 #[test]
 fn an_error_names_the_first_bad_line(rt: HostRuntime) -> Result<(), Fail> {
-    let rows: [(&[u8], usize); 5] = [
-        (b"tick a 5\n\n# x\ntick a 05\ntick a", 4),
-        (b"\n\ntick a", 3),
-        (b"tick a 5\n#\xff\n", 2),
-        (b"tick a 5\r\n", 1),
-        (b"tick a 5\ntick a 6\n \n", 3),
-    ];
-    for (text, line) in rows {
-        let read = counted(rt.alloc(), text);
-        assert_eq!(rt; read, Err(ScheduleError::BadLine(line)), "{text:?}");
+    for (text, line) in FIRST_BAD {
+        assert!(rt; is_bad_at(rt.alloc(), text, line), "{text:?}");
     }
-    let bad = ScheduleError::BadLine(7);
-    assert_eq!(rt;
-        format!(in rt.alloc(); "{bad}")?.as_str(),
-        "line 7: bad step"
-    );
-    let out = ScheduleError::OutOfMemory;
-    assert_eq!(rt; format!(in rt.alloc(); "{out}")?.as_str(), "out of memory");
+    assert!(rt; is_printed(rt.alloc(), ScheduleError::BadLine(7), "line 7: bad step")?);
+    assert!(rt; is_printed(rt.alloc(), ScheduleError::OutOfMemory, "out of memory")?);
     Ok(())
 }
 
@@ -300,26 +302,40 @@ fn as_published(alloc: Global, step: &Step) -> Result<String, AllocError> {
     }
 }
 
+/// What they say.
+const WRITTEN: [&str; 12] = [
+    "a tick 5",
+    "b1 deliver 7",
+    "a Request InstanceId { service: 4660, instance: 255 } 32766 [1, 255]",
+    "a RequestNoReturn InstanceId { service: 4660, instance: 255 } 1 [171, 171, 171]",
+    "a 9 Response(ReturnCode(128)) []",
+    "a 10 Error(ReturnCode(1)) [0]",
+    "a publish InstanceId { service: 4660, instance: 1 } 32769 []",
+    "a publish Eventgroup { instance: InstanceId { service: 4660, instance: 1 }, id: 2 } 10.0.0.200:30490 32771 [10]",
+    "a subscribe Eventgroup { instance: InstanceId { service: 4660, instance: 1 }, id: 65534 }",
+    "a unsubscribe Eventgroup { instance: InstanceId { service: 4660, instance: 1 }, id: 3 }",
+    "a stop InstanceId { service: 4660, instance: 1 }",
+    "a restart 100",
+];
+
+/// The number of the first step that says something else.
+fn first_other(alloc: Global, steps: &[Step]) -> Result<Option<usize>, AllocError> {
+    for (index, (step, text)) in steps.iter().zip(WRITTEN).enumerate() {
+        if as_written(alloc, step)?.as_str() != text {
+            return Ok(Some(index));
+        }
+    }
+    Ok(None)
+}
+
+/// Whether the lines are read as these steps.
+fn are_read(alloc: Global) -> Result<bool, Fail> {
+    let steps = read_schedule(alloc, EACH)?;
+    Ok(steps.len() == WRITTEN.len() && first_other(alloc, &steps)?.is_none())
+}
+
 #[test]
 fn each_step_has_the_fields_of_its_line(rt: HostRuntime) -> Result<(), Fail> {
-    let wanted = [
-        "a tick 5",
-        "b1 deliver 7",
-        "a Request InstanceId { service: 4660, instance: 255 } 32766 [1, 255]",
-        "a RequestNoReturn InstanceId { service: 4660, instance: 255 } 1 [171, 171, 171]",
-        "a 9 Response(ReturnCode(128)) []",
-        "a 10 Error(ReturnCode(1)) [0]",
-        "a publish InstanceId { service: 4660, instance: 1 } 32769 []",
-        "a publish Eventgroup { instance: InstanceId { service: 4660, instance: 1 }, id: 2 } 10.0.0.200:30490 32771 [10]",
-        "a subscribe Eventgroup { instance: InstanceId { service: 4660, instance: 1 }, id: 65534 }",
-        "a unsubscribe Eventgroup { instance: InstanceId { service: 4660, instance: 1 }, id: 3 }",
-        "a stop InstanceId { service: 4660, instance: 1 }",
-        "a restart 100",
-    ];
-    let steps = read_schedule(rt.alloc(), EACH)?;
-    assert_eq!(rt; steps.len(), wanted.len());
-    for (step, text) in steps.iter().zip(wanted) {
-        assert_eq!(rt; as_written(rt.alloc(), step)?.as_str(), text);
-    }
+    assert!(rt; are_read(rt.alloc())?);
     Ok(())
 }

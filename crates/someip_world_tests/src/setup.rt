@@ -1,5 +1,7 @@
 //! Rows of setups.
-use someip_world_setup::Setup;
+use sd_core::{InstanceId, Phases};
+use someip_node::{Common, OfferedService, WantedService};
+use someip_world_setup::{Setup, SetupNode};
 use std::alloc::{AllocError, Global};
 use std::net::Ipv4Addr;
 use std::test::Fail;
@@ -36,48 +38,78 @@ fn outcome(alloc: Global, text: &str) -> Result<String, AllocError> {
     }
 }
 
+/// What all nodes of the worked setup share: the defaults.
+fn shared() -> Common {
+    Common {
+        group: Ipv4Addr::new(239, 0, 0, 1),
+        initial_min_ms: 10,
+        initial_max_ms: 100,
+        phases: Phases {
+            base: 30,
+            repetitions: 3,
+            cyclic: 1000,
+        },
+        message_limit: 65536,
+        slots: 16,
+        peers: 64,
+        reassembly_timeout_ms: 1000,
+        call_timeout_ms: 2000,
+    }
+}
+
+/// The instance that it offers and wants.
+const INSTANCE: InstanceId = InstanceId {
+    service: 0x1111,
+    instance: 1,
+};
+
+/// Whether this is the offer of its first node.
+fn is_offer(offer: &OfferedService) -> bool {
+    offer.minor == 0
+        && offer.ttl.seconds() == 3
+        && offer.subscribers == 16
+        && offer.rules.endpoint.port() == 30509
+        && offer.rules.methods.contains(&0x0421)
+        && offer.rules.oneways.contains(&0x0422)
+        && offer.rules.events.len() == 1
+}
+
+/// Whether this is its first node.
+fn is_server(node: &SetupNode) -> bool {
+    node.name.as_str() == "a"
+        && node.delay == 10
+        && node.config.address == Ipv4Addr::new(192, 168, 0, 1)
+        && node.config.client_id == 0x0101
+        && node.config.client_port == 40000
+        && node.config.offers.len() == 1
+        && node.config.wants.is_empty()
+        && node.config.offers.get(&INSTANCE).is_some_and(is_offer)
+}
+
+/// Whether this is what its second node wants.
+fn is_want(want: &WantedService) -> bool {
+    want.major == 1 && want.groups.len() == 1
+}
+
+/// Whether this is its second node.
+fn is_client(node: &SetupNode) -> bool {
+    node.name.as_str() == "b"
+        && node.config.wants.len() == 1
+        && node.config.wants.get(&INSTANCE).is_some_and(is_want)
+}
+
+/// Whether a text says the worked setup.
+fn is_worked(alloc: Global, text: &str) -> Result<bool, Fail> {
+    let setup = Setup::read(alloc, text)?;
+    let [server, client] = setup.nodes() else {
+        return Ok(false);
+    };
+    Ok(*setup.common() == shared() && is_server(server) && is_client(client))
+}
+
 #[test]
 fn the_worked_setup(rt: HostRuntime) -> Result<(), Fail> {
     let text = format!(in rt.alloc(); "{COMMON}{SERVER}{CLIENT}")?;
-    let setup = Setup::read(rt.alloc(), text.as_str())?;
-    assert_eq!(rt; setup.common().group, Ipv4Addr::new(239, 0, 0, 1));
-    assert_eq!(rt; setup.common().initial_min_ms, 10);
-    assert_eq!(rt; setup.common().initial_max_ms, 100);
-    assert_eq!(rt; setup.common().phases.base, 30);
-    assert_eq!(rt; setup.common().phases.repetitions, 3);
-    assert_eq!(rt; setup.common().phases.cyclic, 1000);
-    assert_eq!(rt; setup.common().message_limit, 65536);
-    assert_eq!(rt; setup.common().slots, 16);
-    assert_eq!(rt; setup.common().peers, 64);
-    assert_eq!(rt; setup.common().reassembly_timeout_ms, 1000);
-    assert_eq!(rt; setup.common().call_timeout_ms, 2000);
-    assert_eq!(rt; setup.nodes().len(), 2);
-    let a = &setup.nodes()[0];
-    assert_eq!(rt; a.name.as_str(), "a");
-    assert_eq!(rt; a.delay, 10);
-    assert_eq!(rt; a.config.address, Ipv4Addr::new(192, 168, 0, 1));
-    assert_eq!(rt; a.config.client_id, 0x0101);
-    assert_eq!(rt; a.config.client_port, 40000);
-    assert_eq!(rt; a.config.offers.len(), 1);
-    assert_eq!(rt; a.config.wants.len(), 0);
-    for (id, offer) in &a.config.offers {
-        assert_eq!(rt; id.service, 0x1111);
-        assert_eq!(rt; id.instance, 1);
-        assert_eq!(rt; offer.minor, 0);
-        assert_eq!(rt; offer.ttl.seconds(), 3);
-        assert_eq!(rt; offer.subscribers, 16);
-        assert_eq!(rt; offer.rules.endpoint.port(), 30509);
-        assert!(rt; offer.rules.methods.contains(&0x0421));
-        assert!(rt; offer.rules.oneways.contains(&0x0422));
-        assert_eq!(rt; offer.rules.events.len(), 1);
-    }
-    let b = &setup.nodes()[1];
-    assert_eq!(rt; b.name.as_str(), "b");
-    assert_eq!(rt; b.config.wants.len(), 1);
-    for (id, want) in &b.config.wants {
-        assert_eq!(rt; id.service, 0x1111);
-        assert_eq!(rt; want.major, 1);
-        assert_eq!(rt; want.groups.len(), 1);
-    }
+    assert!(rt; is_worked(rt.alloc(), text.as_str())?);
     Ok(())
 }

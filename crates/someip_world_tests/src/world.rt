@@ -1,7 +1,7 @@
 //! Short runs over two nodes. Traces as they are printed are tested with the command `run`.
-use someip_world::{Line, RunError, Setup, StepFault, Told, Trace, read_schedule, run};
 use someip_node::Output;
 use someip_tp::SegmentList;
+use someip_world::{Line, RunError, Setup, StepFault, Told, Trace, read_schedule, run};
 use std::alloc::Global;
 use std::test::Fail;
 
@@ -42,18 +42,24 @@ fn is_known(line: &Line, step: usize, node: usize) -> bool {
     line.step == step && line.node == node && matches!(&line.told, Told::Gave(Output::Known { .. }))
 }
 
+/// Whether a run has two lines, of which the second tells that the offer is known.
+fn finds_the_offer(run: &Result<Trace, RunError>) -> bool {
+    match run {
+        Ok(trace) => trace.lines.len() == 2 && is_known(&trace.lines[1], 2, 1),
+        Err(_) => false,
+    }
+}
+
 #[test]
 fn an_offer_is_known_where_it_is_delivered(rt: HostRuntime) -> Result<(), Fail> {
-    let ran = ran(rt.alloc(), "tick a 10\ndeliver 1 b\n")?;
-    assert!(rt;
-        matches!(&ran, Ok(trace) if trace.lines.len() == 2 && is_known(&trace.lines[1], 2, 1))
-    );
+    let run = ran(rt.alloc(), "tick a 10\ndeliver 1 b\n")?;
+    assert!(rt; finds_the_offer(&run));
     Ok(())
 }
 
 #[test]
 fn the_first_bad_step_is_named(rt: HostRuntime) -> Result<(), Fail> {
-    let ran = ran(rt.alloc(), "tick a 10\ndeliver 2 b\n")?;
-    assert!(rt; matches!(ran, Err(RunError::BadStep(2, StepFault::NoSuchDatagram))));
+    let run = ran(rt.alloc(), "tick a 10\ndeliver 2 b\n")?;
+    assert!(rt; matches!(run, Err(RunError::BadStep(2, StepFault::NoSuchDatagram))));
     Ok(())
 }

@@ -468,38 +468,60 @@ fn clashes_in_their_order(rt: HostRuntime) -> Result<(), Fail> {
     Ok(())
 }
 
+/// Whether reading a text comes to this.
+fn comes_to(alloc: Global, text: &str, want: &str) -> Result<bool, AllocError> {
+    Ok(outcome(alloc, text)?.as_str() == want)
+}
+
+/// Rows of the list of nodes, behind what nodes share.
+const LISTS: [(&str, &str); 7] = [
+    ("", "Missing node"),
+    ("node = []\n", "OutOfRange node"),
+    ("node = 1\n", "WrongKind node"),
+    ("[node]\n", "WrongKind node"),
+    ("node = [{}, 1]\n", "WrongKind node"),
+    ("node = [{}]\n", "Missing name"),
+    ("[[node]]\n[[node]]\nname = \"A\"\n", "Missing name"),
+];
+
+/// Whether reading what nodes share and then this text comes to this.
+fn list_comes_to(alloc: Global, nodes: &str, want: &str) -> Result<bool, AllocError> {
+    let text = format!(in alloc; "{COMMON}{nodes}")?;
+    comes_to(alloc, text.as_str(), want)
+}
+
 #[test]
 fn lists_of_nodes(rt: HostRuntime) -> Result<(), Fail> {
-    let rows = [
-        ("", "Missing node"),
-        ("node = []\n", "OutOfRange node"),
-        ("node = 1\n", "WrongKind node"),
-        ("[node]\n", "WrongKind node"),
-        ("node = [{}, 1]\n", "WrongKind node"),
-        ("node = [{}]\n", "Missing name"),
-        ("[[node]]\n[[node]]\nname = \"A\"\n", "Missing name"),
-    ];
-    for (nodes, want) in rows {
-        let text = format!(in rt.alloc(); "{COMMON}{nodes}")?;
-        let found = outcome(rt.alloc(), text.as_str())?;
-        assert_eq!(rt; found.as_str(), want, "{nodes:?}");
+    for (nodes, want) in LISTS {
+        assert!(rt; list_comes_to(rt.alloc(), nodes, want)?, "{nodes:?}");
     }
     Ok(())
 }
 
-#[test]
-fn many_nodes(rt: HostRuntime) -> Result<(), Fail> {
-    let mut text = format!(in rt.alloc(); "{COMMON}")?;
-    for i in 0..65 {
-        let want = if i == 0 { "Missing node" } else { "ok" };
-        let found = outcome(rt.alloc(), text.as_str())?;
-        assert_eq!(rt; found.as_str(), want);
-        let node = format!(in rt.alloc();
+/// Writes so many nodes behind a text.
+fn push_nodes(alloc: Global, text: &mut String, count: usize) -> Result<(), AllocError> {
+    for i in 0..count {
+        let node = format!(in alloc;
             "[[node]]\nname = \"n{i}\"\naddress = \"10.0.0.{i}\"\nclient_id = 1\nclient_port = 1\n"
         )?;
         text.push_str(node.as_str())?;
     }
-    let found = outcome(rt.alloc(), text.as_str())?;
-    assert_eq!(rt; found.as_str(), "OutOfRange node");
+    Ok(())
+}
+
+/// Whether reading so many nodes comes to this.
+fn count_comes_to(alloc: Global, count: usize, want: &str) -> Result<bool, AllocError> {
+    let mut text = String::from_str(alloc, COMMON)?;
+    push_nodes(alloc, &mut text, count)?;
+    comes_to(alloc, text.as_str(), want)
+}
+
+#[test]
+fn many_nodes(rt: HostRuntime) -> Result<(), Fail> {
+    assert!(rt; count_comes_to(rt.alloc(), 0, "Missing node")?);
+    for count in 1..65 {
+        assert!(rt; count_comes_to(rt.alloc(), count, "ok")?, "{count}");
+    }
+    assert!(rt; count_comes_to(rt.alloc(), 65, "OutOfRange node")?);
     Ok(())
 }
