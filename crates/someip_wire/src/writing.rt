@@ -1,5 +1,6 @@
 //! The bytes of a message (SOME/IP Protocol, "Header" and "Payload").
 ghost use Rattle.std.specs.Prelude.{◌≡◌, ◌≤◌, ◌<◌, ◌+◌, ◌^◌, ◌++◌, [], ◌∷◌, length, drop};
+ghost use Rattle.std.specs.Int.{w16, to_be_bytes};
 ghost use Rattle.someip_wire.specs.Kinds.{kind_byte};
 ghost use Rattle.someip_wire.specs.Spelling.{spelling, header_bytes};
 ghost use Rattle.someip_wire.specs.View.{view};
@@ -58,15 +59,31 @@ fn write_header(header: &Header, payload_len: u32, out: &mut [u8])
     requires room { 16 ≤ length out.old }
     ensures { out.new ≡ header_bytes header.now payload_len ++ drop 16 out.old }
 {
-    BigEndian::write_u16(out, header.service);
-    BigEndian::write_u16(&mut out[2..], header.method);
+    write_ids(header.service, header.method, out);
     BigEndian::write_u32(&mut out[4..], 8 + payload_len);
-    BigEndian::write_u16(&mut out[8..], header.client);
-    BigEndian::write_u16(&mut out[10..], header.session);
-    out[12] = 1;
-    out[13] = header.interface;
-    out[14] = byte_of_kind(header.kind);
-    out[15] = header.code.0;
+    write_ids(header.client, header.session, &mut out[8..]);
+    write_kind(header, &mut out[12..]);
+}
+
+/// Writes two IDs, as a Message ID or a Request ID has them.
+fn write_ids(first: u16, second: u16, out: &mut [u8])
+    requires room { 4 ≤ length out.old }
+    ensures { out.new ≡ to_be_bytes w16 first ++ to_be_bytes w16 second ++ drop 4 out.old }
+{
+    BigEndian::write_u16(out, first);
+    BigEndian::write_u16(&mut out[2..], second);
+}
+
+/// Writes the four bytes behind the Request ID.
+fn write_kind(header: &Header, out: &mut [u8])
+    requires room { 4 ≤ length out.old }
+    ensures { out.new
+        ≡ 1 ∷ header.now.interface ∷ kind_byte header.now.kind ∷ header.now.code.0 ∷ drop 4 out.old }
+{
+    out[0] = 1;
+    out[1] = header.interface;
+    out[2] = byte_of_kind(header.kind);
+    out[3] = header.code.0;
 }
 
 /// The number of a type.
