@@ -35,6 +35,9 @@ said_event d =
     groups_at d >>= λ members.
     Some (record { id = id; members = members })
 
+abbrev pub events_at : Data → Option (List ListedValue)
+events_at d = tables_or_none (codes "events") d >>= found_at_each said_event
+
 abbrev pub said_offer : Data → Option OfferValue
 said_offer d =
     id_at (codes "service") d >>= λ service.
@@ -45,7 +48,7 @@ said_offer d =
     port_at (codes "port") d >>= λ port.
     methods_at (codes "methods") d >>= λ methods.
     methods_at (codes "oneways") d >>= λ oneways.
-    (tables_or_none (codes "events") d >>= found_at_each said_event) >>= λ events.
+    events_at d >>= λ events.
     number_or (codes "subscribers") (pos 16) 1 1024 d >>= λ subscribers.
     Some (record {
       service = service;
@@ -59,6 +62,9 @@ said_offer d =
       events = events;
       subscribers = subscribers;
     })
+
+abbrev pub offers_at : Data → Option (List OfferValue)
+offers_at d = tables_or_none (codes "offer") d >>= found_at_each said_offer
 
 -- ---- wants
 
@@ -77,6 +83,9 @@ said_want d =
     (tables_or_none (codes "groups") d >>= found_at_each said_group) >>= λ groups.
     Some (record { service = service; instance = instance; major = major; ttl = ttl; groups = groups })
 
+abbrev pub wants_at : Data → Option (List WantValue)
+wants_at d = tables_or_none (codes "want") d >>= found_at_each said_want
+
 -- ---- nodes
 
 -- a node, whose delay lies between two times
@@ -87,8 +96,8 @@ said_node least most d =
     number_within (codes "client_id") 0 0xFFFF d >>= λ client_id.
     port_at (codes "client_port") d >>= λ client_port.
     number_or (codes "delay") (pos least) least most d >>= λ delay.
-    (tables_or_none (codes "offer") d >>= found_at_each said_offer) >>= λ offers.
-    (tables_or_none (codes "want") d >>= found_at_each said_want) >>= λ wants.
+    offers_at d >>= λ offers.
+    wants_at d >>= λ wants.
     Some (record {
       name = name;
       address = address;

@@ -8,7 +8,7 @@ ghost use Rattle.someip_world_setup.specs.Values.{phases_view, common_view};
 
 use crate::addresses::address_at;
 use crate::error::SetupError;
-use crate::numbers::{byte, count_or, integer_or, time_or, word};
+use crate::numbers::{byte, count_or, integer_or, time_or, word_or};
 use sd_core::Phases;
 use someip_node_rules::Common;
 use toml::Value;
@@ -17,7 +17,7 @@ use toml::Value;
 fn phases(table: &Value) -> Result<Phases, SetupError>
     ensures { IsAsFound phases_view result (said_phases (view table.now)) }
 {
-    let base = word("base", integer_or(table, "base", 30)?, 1, 60000)?;
+    let base = word_or(table, "base", 30, 1, 60000)?;
     let repetitions = byte("repetitions", integer_or(table, "repetitions", 3)?, 16)?;
     let cyclic = time_or(table, "cyclic", 1000)?;
     Ok(Phases {
@@ -32,8 +32,7 @@ fn message_limit(table: &Value) -> Result<usize, SetupError>
     ensures good { IfOk result (λ n. is_within 1400 1048576 n ≡ true) }
     ensures found { IsAsFound (λ n. n) result (number_or (codes "message_limit") (pos 65536) 1400 1048576 (view table.now)) }
 {
-    let key = "message_limit";
-    Ok(word(key, integer_or(table, key, 65536)?, 1400, 1_048_576)? as usize)
+    Ok(word_or(table, "message_limit", 65536, 1400, 1_048_576)? as usize)
 }
 
 /// What all nodes share.
@@ -42,10 +41,8 @@ pub(crate) fn common(table: &Value) -> Result<Common, SetupError>
     ensures good { IfOk result (λ c. is_good_common c ≡ true) }
 {
     let group = address_at(table, "group")?;
-    let least = integer_or(table, "initial_min", 10)?;
-    let initial_min_ms = word("initial_min", least, 0, 60000)?;
-    let greatest = integer_or(table, "initial_max", 100)?;
-    let initial_max_ms = word("initial_max", greatest, initial_min_ms, 60000)?;
+    let initial_min_ms = word_or(table, "initial_min", 10, 0, 60000)?;
+    let initial_max_ms = word_or(table, "initial_max", 100, initial_min_ms, 60000)?;
     let phases = phases(table)?;
     let message_limit = message_limit(table)?;
     let slots = count_or(table, "slots", 16)?;

@@ -29,4 +29,3 @@ mod wants;
 pub use error::SetupError;
 pub use setup::Setup;
 pub use setup_node::SetupNode;
-

@@ -1,8 +1,8 @@
 //! The nodes.
-ghost use Rattle.std.specs.Prelude.{◌≡◌, true, map, IfOk};
+ghost use Rattle.std.specs.Prelude.{◌≡◌, true, codes, map, IfOk};
 ghost use Rattle.someip_node_rules.specs.GoodConfigs.{is_good_common};
 ghost use Rattle.toml.specs.View.{view};
-ghost use Rattle.someip_world_setup.specs.Keys.{IsAsFound};
+ghost use Rattle.someip_world_setup.specs.Keys.{IsAsFound, number_within};
 ghost use Rattle.someip_world_setup.specs.Lists.{found_at_each};
 ghost use Rattle.someip_world_setup.specs.Says.{said_node, node_tables, said_setup};
 ghost use Rattle.someip_world_setup.specs.Values.{node_view, parts_view};
@@ -11,13 +11,20 @@ use crate::addresses::address_at;
 use crate::commons::common;
 use crate::error::SetupError;
 use crate::names::name_at;
-use crate::numbers::{integer, integer_or, port_at, short, word};
-use crate::offers::offers;
+use crate::numbers::{integer, port_at, short, word_or};
+use crate::offers::offers_at;
 use crate::parts::{NodeParts, SetupParts};
-use crate::tables::{tables_at, tables_or_none};
-use crate::wants::wants;
+use crate::tables::tables_at;
+use crate::wants::wants_at;
 use std::alloc::Global;
 use toml::Value;
+
+/// The Client ID of a node.
+fn client_id_at(table: &Value) -> Result<u16, SetupError>
+    ensures { IsAsFound (λ n. n) result (number_within (codes "client_id") 0 0xFFFF (view table.now)) }
+{
+    short("client_id", integer(table, "client_id")?, 0, 0xffff)
+}
 
 /// A node, whose delay lies between two times.
 fn node(alloc: Global, table: &Value, least: u32, most: u32) -> Result<NodeParts, SetupError>
@@ -25,12 +32,11 @@ fn node(alloc: Global, table: &Value, least: u32, most: u32) -> Result<NodeParts
 {
     let name = name_at(alloc, table)?;
     let address = address_at(table, "address")?;
-    let client_id = short("client_id", integer(table, "client_id")?, 0, 0xffff)?;
+    let client_id = client_id_at(table)?;
     let client_port = port_at(table, "client_port")?;
-    let delay = integer_or(table, "delay", i64::from(least))?;
-    let delay = word("delay", delay, least, most)?;
-    let offers = offers(alloc, tables_or_none(table, "offer")?)?;
-    let wants = wants(alloc, tables_or_none(table, "want")?)?;
+    let delay = word_or(table, "delay", i64::from(least), least, most)?;
+    let offers = offers_at(alloc, table)?;
+    let wants = wants_at(alloc, table)?;
     Ok(NodeParts {
         name,
         address,

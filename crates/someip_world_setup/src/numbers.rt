@@ -2,7 +2,7 @@
 ghost use Rattle.std.specs.Prelude.{◌≡◌, ◌≤◌, true, IfOk};
 ghost use Rattle.someip_node_rules.specs.GoodConfigs.{is_within};
 ghost use Rattle.toml.specs.View.{view};
-ghost use Rattle.someip_world_setup.specs.Keys.{IsAsFound, integer_at, integer_or, within};
+ghost use Rattle.someip_world_setup.specs.Keys.{IsAsFound, integer_at, integer_or, number_or, within};
 ghost use Rattle.someip_world_setup.specs.Says.{id_at, port_at, major_at, ttl_at, count_or, time_or};
 
 use crate::error::SetupError;
@@ -39,6 +39,21 @@ pub(crate) fn word(key: &'static str, number: i64, low: u32, high: u32) -> Resul
         Ok(number) if low <= number && number <= high => Ok(number),
         _ => Err(SetupError::OutOfRange(key)),
     }
+}
+
+/// The number at a key, from `low` to `high`, or its default.
+pub(crate) fn word_or(
+    table: &Value,
+    key: &'static str,
+    default: i64,
+    low: u32,
+    high: u32,
+) -> Result<u32, SetupError>
+    ensures found { IsAsFound (λ n. n) result (number_or key.now default low high (view table.now)) }
+    ensures range { IfOk result (λ n. (low ≤ n) × (n ≤ high)) }
+    ensures good { IfOk result (λ n. is_within low high n ≡ true) }
+{
+    word(key, integer_or(table, key, default)?, low, high)
 }
 
 /// A number of 16 bits, from `low` to `high`.
@@ -99,7 +114,7 @@ pub(crate) fn count_or(table: &Value, key: &'static str, default: i64) -> Result
     ensures range { IfOk result (λ n. (1 ≤ n) × (n ≤ 1024)) }
     ensures good { IfOk result (λ n. is_within 1 1024 n ≡ true) }
 {
-    Ok(word(key, integer_or(table, key, default)?, 1, 1024)? as usize)
+    Ok(word_or(table, key, default, 1, 1024)? as usize)
 }
 
 /// The time at a key in milliseconds, from 1 to an hour, or its default.
@@ -108,5 +123,5 @@ pub(crate) fn time_or(table: &Value, key: &'static str, default: i64) -> Result<
     ensures range { IfOk result (λ n. (1 ≤ n) × (n ≤ 3600000)) }
     ensures good { IfOk result (λ n. is_within 1 3600000 n ≡ true) }
 {
-    word(key, integer_or(table, key, default)?, 1, 3_600_000)
+    word_or(table, key, default, 1, 3_600_000)
 }

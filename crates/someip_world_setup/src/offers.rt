@@ -3,14 +3,12 @@ ghost use Rattle.std.specs.Prelude.{map};
 ghost use Rattle.toml.specs.View.{view};
 ghost use Rattle.someip_world_setup.specs.Keys.{IsAsFound};
 ghost use Rattle.someip_world_setup.specs.Lists.{found_at_each};
-ghost use Rattle.someip_world_setup.specs.Says.{methods_at, groups_at, said_event, said_offer};
+ghost use Rattle.someip_world_setup.specs.Says.{methods_at, groups_at, events_at, offers_at, said_event, said_offer};
 ghost use Rattle.someip_world_setup.specs.Values.{listed_view, offer_view};
 
 use crate::error::SetupError;
 use crate::lists::ids;
-use crate::numbers::{
-    count_or, id_at, integer, integer_or, major_at, port_at, short, ttl_at, word,
-};
+use crate::numbers::{count_or, id_at, integer, major_at, port_at, short, ttl_at, word_or};
 use crate::parts::{Listed, OfferParts};
 use crate::tables::{integers_at, integers_or_none, tables_or_none};
 use std::alloc::Global;
@@ -54,6 +52,13 @@ fn events(alloc: Global, tables: &[Value]) -> Result<Vec<Listed>, SetupError>
     Ok(events)
 }
 
+/// The events of the table of an offer.
+fn events_at(alloc: Global, table: &Value) -> Result<Vec<Listed>, SetupError>
+    ensures { IsAsFound (λ v. map listed_view v.items) result (events_at (view table.now)) }
+{
+    events(alloc, tables_or_none(table, "events")?)
+}
+
 /// An offer.
 fn offer(alloc: Global, table: &Value) -> Result<OfferParts, SetupError>
     ensures { IsAsFound offer_view result (said_offer (view table.now)) }
@@ -61,12 +66,12 @@ fn offer(alloc: Global, table: &Value) -> Result<OfferParts, SetupError>
     let service = id_at(table, "service")?;
     let instance = id_at(table, "instance")?;
     let major = major_at(table)?;
-    let minor = word("minor", integer_or(table, "minor", 0)?, 0, 0xffff_fffe)?;
+    let minor = word_or(table, "minor", 0, 0, 0xffff_fffe)?;
     let ttl = ttl_at(table)?;
     let port = port_at(table, "port")?;
     let methods = methods_at(alloc, table, "methods")?;
     let oneways = methods_at(alloc, table, "oneways")?;
-    let events = events(alloc, tables_or_none(table, "events")?)?;
+    let events = events_at(alloc, table)?;
     let subscribers = count_or(table, "subscribers", 16)?;
     Ok(OfferParts {
         service,
@@ -82,8 +87,8 @@ fn offer(alloc: Global, table: &Value) -> Result<OfferParts, SetupError>
     })
 }
 
-/// The offers of a node.
-pub(crate) fn offers(alloc: Global, tables: &[Value]) -> Result<Vec<OfferParts>, SetupError>
+/// The offers of a list.
+fn offers(alloc: Global, tables: &[Value]) -> Result<Vec<OfferParts>, SetupError>
     ensures { IsAsFound (λ v. map offer_view v.items) result (found_at_each said_offer (map view tables.now)) }
 {
     let mut offers = Vec::new(alloc);
@@ -91,4 +96,11 @@ pub(crate) fn offers(alloc: Global, tables: &[Value]) -> Result<Vec<OfferParts>,
         offers.push(offer(alloc, table)?)?;
     }
     Ok(offers)
+}
+
+/// The offers of a node.
+pub(crate) fn offers_at(alloc: Global, table: &Value) -> Result<Vec<OfferParts>, SetupError>
+    ensures { IsAsFound (λ v. map offer_view v.items) result (offers_at (view table.now)) }
+{
+    offers(alloc, tables_or_none(table, "offer")?)
 }

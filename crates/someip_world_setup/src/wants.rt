@@ -3,7 +3,7 @@ ghost use Rattle.std.specs.Prelude.{map};
 ghost use Rattle.toml.specs.View.{view};
 ghost use Rattle.someip_world_setup.specs.Keys.{IsAsFound};
 ghost use Rattle.someip_world_setup.specs.Lists.{found_at_each};
-ghost use Rattle.someip_world_setup.specs.Says.{said_group, said_want};
+ghost use Rattle.someip_world_setup.specs.Says.{said_group, said_want, wants_at};
 ghost use Rattle.someip_world_setup.specs.Values.{listed_view, want_view};
 
 use crate::error::SetupError;
@@ -58,8 +58,8 @@ fn want(alloc: Global, table: &Value) -> Result<WantParts, SetupError>
     })
 }
 
-/// The wants of a node.
-pub(crate) fn wants(alloc: Global, tables: &[Value]) -> Result<Vec<WantParts>, SetupError>
+/// The wants of a list.
+fn wants(alloc: Global, tables: &[Value]) -> Result<Vec<WantParts>, SetupError>
     ensures { IsAsFound (λ v. map want_view v.items) result (found_at_each said_want (map view tables.now)) }
 {
     let mut wants = Vec::new(alloc);
@@ -67,4 +67,11 @@ pub(crate) fn wants(alloc: Global, tables: &[Value]) -> Result<Vec<WantParts>, S
         wants.push(want(alloc, table)?)?;
     }
     Ok(wants)
+}
+
+/// The wants of a node.
+pub(crate) fn wants_at(alloc: Global, table: &Value) -> Result<Vec<WantParts>, SetupError>
+    ensures { IsAsFound (λ v. map want_view v.items) result (wants_at (view table.now)) }
+{
+    wants(alloc, tables_or_none(table, "want")?)
 }
