@@ -50,4 +50,3 @@ pub use subscription::Subscription;
 pub use subscriptions::Subscriptions;
 pub use version::{Sought, Version};
 pub use wish::{Acked, Beginning, OutgoingSubscribe, Stage, SubscribeAnswer, Wish};
-

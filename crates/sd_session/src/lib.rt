@@ -16,4 +16,3 @@ pub use counter::Counter;
 pub use error::SessionError;
 pub use peers::{PeerTable, Seen};
 pub use stamp::{Channel, Stamp};
-

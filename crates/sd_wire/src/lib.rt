@@ -43,4 +43,3 @@ pub use reading::read_sd;
 pub use splitting::split_entries;
 pub use ttl::Ttl;
 pub use writing::write_sd;
-

@@ -1,12 +1,12 @@
 //! The worked rows of discovery messages.
 ghost use Rattle.std.specs.Prelude.{◌+◌, ◌<◌, ◌^◌};
 
+use bitflags::Flags;
 use sd_wire::{
     Entry, EntryHead, EventgroupEntry, EventgroupKind, Ipv4Endpoint, Ipv6Endpoint, Protocol,
     RawOption, ReadEntry, SdError, SdFlags, SdMessage, SdOption, SdRead, ServiceEntry, ServiceKind,
     SubscriptionCounter, Ttl, laws, read_sd, split_entries, write_sd,
 };
-use bitflags::Flags;
 use std::alloc::{AllocError, Global};
 use std::net::{Ipv4Addr, Ipv6Addr, SocketAddrV4};
 use std::process::Abort;

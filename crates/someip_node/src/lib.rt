@@ -16,4 +16,3 @@ pub use someip_node_rules::{
     call_example_laws, example_laws, fit_laws, given_laws, laws, limit_laws, run_example_laws,
     subscriber_laws,
 };
-

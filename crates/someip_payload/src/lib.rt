@@ -31,4 +31,3 @@ pub use shape_text::read_shape;
 pub use shape_text_error::ShapeTextError;
 pub use value::Value;
 pub use writing::encode;
-

@@ -38,4 +38,3 @@ pub use publication::{Publication, Subscriber};
 pub use request::{Arrived, Asked, Reply, RequestFault};
 pub use server::ServerCore;
 pub use service::ServiceRules;
-

@@ -21,4 +21,3 @@ pub use deadline_map::DeadlineMap;
 pub use key::{Key, is_same_key};
 pub use lasting::Lasting;
 pub use moment::Moment;
-

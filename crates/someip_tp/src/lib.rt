@@ -38,4 +38,3 @@ pub use segment::{Segment, read_segment};
 pub use segment_list::SegmentList;
 pub use segments::Segments;
 pub use sent::{Sent, SentPiece, ShortMessage};
-

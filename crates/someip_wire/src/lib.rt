@@ -22,4 +22,3 @@ pub use error::WireError;
 pub use header::{Header, MessageType, ReturnCode};
 pub use message::{Message, read_message};
 pub use writing::{header_bytes, write_message, written_len};
-

@@ -30,4 +30,3 @@ pub use someip_world_schedule::{
 pub use someip_world_setup::{Setup, SetupError, SetupNode};
 pub use step_fault::StepFault;
 pub use trace::Trace;
-

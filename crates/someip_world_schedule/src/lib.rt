@@ -22,4 +22,3 @@ pub use step::Step;
 pub use step_method::MethodId;
 pub use step_name::NodeName;
 pub use step_payload::StepPayload;
-

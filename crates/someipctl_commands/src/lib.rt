@@ -21,4 +21,3 @@ pub mod vectors;
 pub use capture::{CaptureError, read_capture};
 pub use input::{ReadFault, read_all};
 pub use outcome::Outcome;
-

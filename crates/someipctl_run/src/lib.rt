@@ -15,4 +15,3 @@ mod setups;
 pub use error::{RunFault, SetupFault, SetupRefusal};
 pub use running::run_schedule;
 pub use setups::read_setup;
-

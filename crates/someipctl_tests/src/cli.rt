@@ -1,7 +1,7 @@
 //! What arguments come to, how the program ends, and the texts for standard error.
-use someipctl_cli::{Command, Failure, LineError, answer_error, command_of, laws, run};
 use rows::rows;
 use someip_world::{SetupError, StepFault};
+use someipctl_cli::{Command, Failure, LineError, answer_error, command_of, laws, run};
 use someipctl_commands::payload::PayloadRefusal;
 use someipctl_commands::show::ShowError;
 use someipctl_commands::vectors::VectorsError;

@@ -1,12 +1,10 @@
 //! Captures, payloads and vectors, and what is printed of them, each as a table; and readers and
 //! writers that fail.
-use someipctl_commands::{CaptureError, read_capture};
-use someipctl_commands::laws;
-use someipctl_commands::Outcome;
+use all::{ALL, COUNT};
 use someipctl_commands::payload::{PayloadRefusal, payload};
 use someipctl_commands::show::{ShowError, show};
 use someipctl_commands::vectors::{VectorsError, vectors};
-use all::{ALL, COUNT};
+use someipctl_commands::{CaptureError, Outcome, laws, read_capture};
 use std::alloc::{AllocError, Global};
 use std::io;
 use std::io::{ErrorKind, Read, Write};

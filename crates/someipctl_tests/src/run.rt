@@ -1,7 +1,7 @@
 //! Schedules and what is printed of them, as tables.
-use someipctl_run::{RunFault, read_setup, run_schedule};
 use rows::{FAULTS, SETUP_FAULTS, TRACES};
 use someip_world::Setup;
+use someipctl_run::{RunFault, read_setup, run_schedule};
 use std::alloc::Global;
 use std::fmt::Write;
 use std::test::Fail;

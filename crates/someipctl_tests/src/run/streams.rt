@@ -2,8 +2,8 @@
 //! and what becomes of each call of them that fails.
 use crate::run::setup_of;
 use crate::run::stories::TWO;
-use someipctl_run::{RunFault, SetupFault, read_setup, run_schedule};
 use someip_world::Setup;
+use someipctl_run::{RunFault, SetupFault, read_setup, run_schedule};
 use std::alloc::Global;
 use std::io;
 use std::io::{ErrorKind, Read, Write};
