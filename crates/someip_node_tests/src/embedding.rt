@@ -52,11 +52,17 @@ fn run(
     carry(alloc, &answer, client)
 }
 
-/// The lines of that.
+/// The lines of that. Each node has a function that owns it, since a function that has to drop two takes
+/// the prover far longer.
 fn last_lines(alloc: Global) -> Result<String, Fail> {
     let mut server = started(alloc, OFFERS)?;
+    last_lines_with(alloc, &mut server)
+}
+
+/// The same with this server.
+fn last_lines_with(alloc: Global, server: &mut Node<SegmentList>) -> Result<String, Fail> {
     let mut client = started(alloc, WANTS)?;
-    lines_of(alloc, run(alloc, &mut server, &mut client))
+    lines_of(alloc, run(alloc, server, &mut client))
 }
 
 /// Whether these are those lines.
