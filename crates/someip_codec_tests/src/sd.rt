@@ -1,12 +1,12 @@
 //! The worked rows of discovery messages.
 ghost use Rattle.std.specs.Prelude.{◌+◌, ◌<◌, ◌^◌};
 
+use bitflags::Flags;
 use sd_wire::{
     Entry, EntryHead, EventgroupEntry, EventgroupKind, Ipv4Endpoint, Ipv6Endpoint, Protocol,
     RawOption, ReadEntry, SdError, SdFlags, SdMessage, SdOption, SdRead, ServiceEntry, ServiceKind,
     SubscriptionCounter, Ttl, laws, read_sd, split_entries, write_sd,
 };
-use bitflags::Flags;
 use std::alloc::{AllocError, Global};
 use std::net::{Ipv4Addr, Ipv6Addr, SocketAddrV4};
 use std::process::Abort;
@@ -45,8 +45,10 @@ fn ttl(seconds: u32) -> Ttl {
     Ttl::new(seconds).unwrap_or(Ttl::ZERO)
 }
 
-fn counter(number: u16) -> SubscriptionCounter {
-    SubscriptionCounter::from_field(number)
+fn counter(number: u8) -> SubscriptionCounter
+    requires { number < 16 }
+{
+    SubscriptionCounter::new(number).unwrap()
 }
 
 fn service(kind: ServiceKind, seconds: u32, minor: u32) -> EntryHead {
@@ -64,7 +66,9 @@ fn offer() -> EntryHead {
     service(ServiceKind::Offer, 3, 0)
 }
 
-fn eventgroup(kind: EventgroupKind, seconds: u32, number: u16) -> EntryHead {
+fn eventgroup(kind: EventgroupKind, seconds: u32, number: u8) -> EntryHead
+    requires { number < 16 }
+{
     EntryHead::Eventgroup(EventgroupEntry {
         kind,
         service: 0x1111,
