@@ -268,26 +268,6 @@ fn runs_of_one_entry_are_shared(rt: HostRuntime) {
     check(&rt, rt.alloc(), SHARED_BY_ONE);
 }
 
-/// A run of 15 options.
-const LONGEST_RUN: &[Written] = &[Written {
-    flags: FLAGS,
-    items: &[Item(OFFERED, Run::Numbered(0, 15), NONE)],
-    len: 8 + 16 + 4 + 15 * 5,
-    parts: &[],
-}];
-
-/// And one of 16.
-const LONGER_RUN: &[Refused] = &[Refused(
-    Items::These(&[Item(OFFERED, Run::Numbered(0, 16), NONE)]),
-    0,
-)];
-
-#[test]
-fn limits_of_runs(rt: HostRuntime) {
-    check(&rt, rt.alloc(), LONGEST_RUN);
-    check(&rt, rt.alloc(), LONGER_RUN);
-}
-
 /// Entries that are refused for too many options, and the number of the first that has them.
 struct Refused(Items, usize);
 
@@ -307,6 +287,26 @@ impl Refused {
         let fault = Err(SdError::TooManyOptions(self.1));
         Some(answer == fault && out.as_slice() == [0xee].as_slice())
     }
+}
+
+/// A run of 15 options.
+const LONGEST_RUN: &[Written] = &[Written {
+    flags: FLAGS,
+    items: &[Item(OFFERED, Run::Numbered(0, 15), NONE)],
+    len: 8 + 16 + 4 + 15 * 5,
+    parts: &[],
+}];
+
+/// And one of 16.
+const LONGER_RUN: &[Refused] = &[Refused(
+    Items::These(&[Item(OFFERED, Run::Numbered(0, 16), NONE)]),
+    0,
+)];
+
+#[test]
+fn limits_of_runs(rt: HostRuntime) {
+    check(&rt, rt.alloc(), LONGEST_RUN);
+    check(&rt, rt.alloc(), LONGER_RUN);
 }
 
 /// Entries, and the index of the first run of the last one.
