@@ -268,9 +268,34 @@ struct Datagram(
 
 impl Row for Datagram {
     fn is_right(&self, alloc: Global) -> Option<bool> {
-        let Datagram(bytes, items) = self;
-        let found = all_items(alloc, bytes).ok()?;
-        Some(found.as_slice() == *items)
+        let found = all_items(alloc, self.0).ok()?;
+        Some(are_items(&found, self.1))
+    }
+}
+
+/// The items are these, one by one.
+fn are_items(
+    found: &[Result<Message<'_>, WireError>],
+    wanted: &[Result<Message<'static>, WireError>],
+) -> bool {
+    for (found, wanted) in found.iter().zip(wanted.iter()) {
+        if !is_item(found, wanted) {
+            return false;
+        }
+    }
+    found.len() == wanted.len()
+}
+
+fn is_item(
+    found: &Result<Message<'_>, WireError>,
+    wanted: &Result<Message<'static>, WireError>,
+) -> bool {
+    match (found, wanted) {
+        (Ok(found), Ok(wanted)) => {
+            found.header == wanted.header && found.payload == wanted.payload
+        }
+        (Err(found), Err(wanted)) => found == wanted,
+        _ => false,
     }
 }
 

@@ -226,10 +226,8 @@ impl Items {
     /// The entries; none where memory is wanting, or one cannot be made.
     pub fn made(self, alloc: Global) -> Option<Vec<Entry>> {
         let mut entries = Vec::new(alloc);
-        match self.add(alloc, &mut entries) {
-            Some(()) => Some(entries),
-            None => None,
-        }
+        self.add(alloc, &mut entries)?;
+        Some(entries)
     }
 
     fn add(self, alloc: Global, entries: &mut Vec<Entry>) -> Option<()> {
