@@ -1,12 +1,14 @@
 //! The worked rows of segments; those of reassembly stand in a file of their own.
+use crate::rows::{Row, check};
 use someip_tp::{
     Segment, Segments, Sent, TpError, append_message, append_piece, append_segment, read_segment,
 };
 use someip_wire::{Header, Message, MessageType, ReturnCode};
 use std::alloc::{AllocError, Global};
-use std::test::Fail;
 
 mod call;
+mod keys;
+mod long;
 mod reassembly;
 mod rows;
 mod texts;
@@ -45,30 +47,38 @@ fn tp_headers_and_lengths(alloc: Global, payload: &[u8]) -> Result<Vec<(u32, usi
     Ok(found)
 }
 
-#[test]
-fn messages_in_segments(rt: HostRuntime) -> Result<(), Fail> {
-    let rows: [(u32, &[(u32, usize)]); 5] = [
-        (
-            5880,
-            &[
-                (0x0000_0001, 1392),
-                (0x0000_0571, 1392),
-                (0x0000_0ae1, 1392),
-                (0x0000_1051, 1392),
-                (0x0000_15c0, 312),
-            ],
-        ),
-        (1401, &[(1, 1392), (87 * 16, 9)]),
-        (2784, &[(1, 1392), (0x0000_0570, 1392)]),
-        (1, &[(0, 1)]),
-        (0, &[]),
-    ];
-    for (len, wanted) in rows {
-        let payload = payload_of(rt.alloc(), len)?;
-        let found = tp_headers_and_lengths(rt.alloc(), &payload)?;
-        assert!(rt; found.as_slice() == wanted);
+/// A payload of so many bytes, and the TP header and the length of the slice of each segment.
+struct InSegments(u32, &'static [(u32, usize)]);
+
+impl Row for InSegments {
+    fn is_right(&self, alloc: Global) -> Option<bool> {
+        let InSegments(len, wanted) = self;
+        let payload = payload_of(alloc, *len).ok()?;
+        let found = tp_headers_and_lengths(alloc, &payload).ok()?;
+        Some(found.as_slice() == *wanted)
     }
-    Ok(())
+}
+
+const IN_SEGMENTS: &[InSegments] = &[
+    InSegments(
+        5880,
+        &[
+            (0x0000_0001, 1392),
+            (0x0000_0571, 1392),
+            (0x0000_0ae1, 1392),
+            (0x0000_1051, 1392),
+            (0x0000_15c0, 312),
+        ],
+    ),
+    InSegments(1401, &[(1, 1392), (87 * 16, 9)]),
+    InSegments(2784, &[(1, 1392), (0x0000_0570, 1392)]),
+    InSegments(1, &[(0, 1)]),
+    InSegments(0, &[]),
+];
+
+#[test]
+fn messages_in_segments(rt: HostRuntime) {
+    check(&rt, rt.alloc(), IN_SEGMENTS);
 }
 
 /// The Length fields of the segments of a message with this payload, one after the other as they are
@@ -89,39 +99,64 @@ fn length_fields(alloc: Global, payload: &[u8]) -> Result<Vec<u8>, AllocError> {
     Ok(found)
 }
 
+/// A payload of so many bytes, and the Length fields of its segments, one after the other.
+struct LengthFields(u32, &'static [u8]);
+
+impl Row for LengthFields {
+    fn is_right(&self, alloc: Global) -> Option<bool> {
+        let LengthFields(len, wanted) = self;
+        let payload = payload_of(alloc, *len).ok()?;
+        let found = length_fields(alloc, &payload).ok()?;
+        Some(found.as_slice() == *wanted)
+    }
+}
+
+const LENGTH_FIELDS: &[LengthFields] = &[
+    LengthFields(
+        5880,
+        &[
+            0, 0, 0x05, 0x7c, 0, 0, 0x05, 0x7c, 0, 0, 0x05, 0x7c, 0, 0, 0x05, 0x7c, 0, 0, 0x01,
+            0x44,
+        ],
+    ),
+    LengthFields(1401, &[0, 0, 0x05, 0x7c, 0, 0, 0, 21]),
+];
+
 #[test]
-fn lengths_of_segments(rt: HostRuntime) -> Result<(), Fail> {
-    let five = length_fields(rt.alloc(), &payload_of(rt.alloc(), 5880)?)?;
-    let wanted = [
-        0, 0, 0x05, 0x7c, 0, 0, 0x05, 0x7c, 0, 0, 0x05, 0x7c, 0, 0, 0x05, 0x7c, 0, 0, 0x01, 0x44,
-    ];
-    assert!(rt; five.as_slice() == wanted.as_slice());
-    let two = length_fields(rt.alloc(), &payload_of(rt.alloc(), 1401)?)?;
-    assert!(rt; two.as_slice() == [0, 0, 0x05, 0x7c, 0, 0, 0, 21].as_slice());
-    Ok(())
+fn lengths_of_segments(rt: HostRuntime) {
+    check(&rt, rt.alloc(), LENGTH_FIELDS);
+}
+
+/// A segment and a message.
+const SEGMENT: Segment<'static> = Segment {
+    header: HEADER,
+    offset: 1392,
+    more: true,
+    slice: &[0x2a],
+};
+
+const MESSAGE: Message<'static> = Message {
+    header: HEADER,
+    payload: &[0x2b, 0x2c],
+};
+
+/// Their bytes, one after the other.
+const APPENDED: [u8; 39] = [
+    0x12, 0x34, 0x04, 0x21, 0, 0, 0, 13, 0, 1, 0, 1, 1, 1, 0x80, 0, 0, 0, 0x05, 0x71, 0x2a, 0x12,
+    0x34, 0x04, 0x21, 0, 0, 0, 10, 0, 1, 0, 1, 1, 1, 0x80, 0, 0x2b, 0x2c,
+];
+
+/// Appends both.
+fn append_both(out: &mut Vec<u8>) -> Result<(), AllocError> {
+    append_segment(&SEGMENT, out)?;
+    append_message(&MESSAGE, out)
 }
 
 #[test]
-fn bytes_are_appended(rt: HostRuntime) -> Result<(), Fail> {
+fn bytes_are_appended(rt: HostRuntime) {
     let mut out = Vec::new(rt.alloc());
-    let segment = Segment {
-        header: HEADER,
-        offset: 1392,
-        more: true,
-        slice: &[0x2a],
-    };
-    append_segment(&segment, &mut out)?;
-    let message = Message {
-        header: HEADER,
-        payload: &[0x2b, 0x2c],
-    };
-    append_message(&message, &mut out)?;
-    let wanted = [
-        0x12, 0x34, 0x04, 0x21, 0, 0, 0, 13, 0, 1, 0, 1, 1, 1, 0x80, 0, 0, 0, 0x05, 0x71, 0x2a,
-        0x12, 0x34, 0x04, 0x21, 0, 0, 0, 10, 0, 1, 0, 1, 1, 1, 0x80, 0, 0x2b, 0x2c,
-    ];
-    assert!(rt; out.as_slice() == wanted.as_slice());
-    Ok(())
+    let is_done = append_both(&mut out).is_ok();
+    assert!(rt; is_done && out.as_slice() == APPENDED.as_slice());
 }
 
 /// How many bytes each piece of a message with this payload has as it is sent.
@@ -141,24 +176,51 @@ fn sent_lengths(alloc: Global, payload: &[u8]) -> Result<Vec<usize>, AllocError>
     Ok(found)
 }
 
-#[test]
-fn messages_as_they_are_sent(rt: HostRuntime) -> Result<(), Fail> {
-    let rows: [(u32, &[usize]); 3] = [(0, &[16]), (1400, &[1416]), (1401, &[1412, 29])];
-    for (len, wanted) in rows {
-        let payload = payload_of(rt.alloc(), len)?;
-        let found = sent_lengths(rt.alloc(), &payload)?;
-        assert!(rt; found.as_slice() == wanted);
+/// A payload of so many bytes, and how many bytes each piece has that is sent.
+struct SentIn(u32, &'static [usize]);
+
+impl Row for SentIn {
+    fn is_right(&self, alloc: Global) -> Option<bool> {
+        let SentIn(len, wanted) = self;
+        let payload = payload_of(alloc, *len).ok()?;
+        let found = sent_lengths(alloc, &payload).ok()?;
+        Some(found.as_slice() == *wanted)
     }
-    Ok(())
 }
+
+const SENT: &[SentIn] = &[
+    SentIn(0, &[16]),
+    SentIn(1400, &[1416]),
+    SentIn(1401, &[1412, 29]),
+];
+
+#[test]
+fn messages_as_they_are_sent(rt: HostRuntime) {
+    check(&rt, rt.alloc(), SENT);
+}
+
+/// The payload of a segment, and its offset, More Segments and its slice, or the fault.
+struct Read(&'static [u8], Result<(u32, bool, &'static [u8]), TpError>);
+
+impl Row for Read {
+    fn is_right(&self, _alloc: Global) -> Option<bool> {
+        let Read(payload, wanted) = self;
+        Some(read_segment(payload) == *wanted)
+    }
+}
+
+const READ: &[Read] = &[
+    Read(&[0, 0, 5, 0x7e], Ok((1392, false, &[]))),
+    Read(&[0, 0, 5, 0x7f], Ok((1392, true, &[]))),
+    Read(&[0, 0, 5], Err(TpError::NoHeader)),
+    Read(&[], Err(TpError::NoHeader)),
+    Read(
+        &[0xff, 0xff, 0xff, 0xf1, 0x2a],
+        Ok((0xffff_fff0, true, &[0x2a])),
+    ),
+];
 
 #[test]
 fn tp_headers_are_read(rt: HostRuntime) {
-    let none: &[u8] = &[];
-    assert!(rt; read_segment(&[0, 0, 5, 0x7e]) == Ok((1392, false, none)));
-    assert!(rt; read_segment(&[0, 0, 5, 0x7f]) == Ok((1392, true, none)));
-    assert!(rt; read_segment(&[0, 0, 5]) == Err(TpError::NoHeader));
-    assert!(rt; read_segment(&[]) == Err(TpError::NoHeader));
-    let slice: &[u8] = &[0x2a];
-    assert!(rt; read_segment(&[0xff, 0xff, 0xff, 0xf1, 0x2a]) == Ok((0xffff_fff0, true, slice)));
+    check(&rt, rt.alloc(), READ);
 }

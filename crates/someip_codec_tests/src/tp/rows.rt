@@ -1,7 +1,7 @@
 //! The tables of reassembly.
 use super::call::Call::{Clear, Expire, Last, More, Take};
 use super::call::{
-    CONFLICT, DROPPED, NO_SLOT, NONE_TAKEN, PART, Row, TAKEN, TOO_LONG, UNALIGNED, WHOLE,
+    CONFLICT, DROPPED, NO_SLOT, NONE_TAKEN, PART, Run, TAKEN, TOO_LONG, UNALIGNED, WHOLE,
 };
 
 /// No bytes, and three times sixteen: the first, the second and the third of a message.
@@ -33,9 +33,9 @@ const OTHER: &[u8] = b"\x11\x11\x11\x11\x11\x11\x11\x11\x11\x11\x11\x11\x11\x11\
                        \x33\x33\x33\x33\x33\x33\x33\x33\x33\x33\x33\x33\x33\x33\x33\x33";
 
 /// Totals and empty slices.
-pub static TOTALS: [Row; 11] = [
-    Row {
-        about: "a total at a held place",
+pub static TOTALS: [Run; 11] = [
+    // A total at a held place.
+    Run {
         slots: 1,
         limit: 1392,
         steps: &[
@@ -46,8 +46,8 @@ pub static TOTALS: [Row; 11] = [
         ],
         bytes: NO,
     },
-    Row {
-        about: "a total below a held place",
+    // A total below a held place.
+    Run {
         slots: 1,
         limit: 1392,
         steps: &[
@@ -58,8 +58,8 @@ pub static TOTALS: [Row; 11] = [
         ],
         bytes: ONE,
     },
-    Row {
-        about: "a total behind the last held place",
+    // A total behind the last held place.
+    Run {
         slots: 1,
         limit: 1392,
         steps: &[
@@ -69,8 +69,8 @@ pub static TOTALS: [Row; 11] = [
         ],
         bytes: ONE,
     },
-    Row {
-        about: "a lower second total",
+    // A lower second total.
+    Run {
         slots: 1,
         limit: 1392,
         steps: &[
@@ -82,8 +82,8 @@ pub static TOTALS: [Row; 11] = [
         ],
         bytes: ONE_TWO,
     },
-    Row {
-        about: "a higher second total",
+    // A higher second total.
+    Run {
         slots: 1,
         limit: 1392,
         steps: &[
@@ -94,8 +94,8 @@ pub static TOTALS: [Row; 11] = [
         ],
         bytes: NO,
     },
-    Row {
-        about: "the same total twice",
+    // The same total twice.
+    Run {
         slots: 1,
         limit: 1392,
         steps: &[
@@ -106,8 +106,8 @@ pub static TOTALS: [Row; 11] = [
         ],
         bytes: ONE,
     },
-    Row {
-        about: "a byte at the total",
+    // A byte at the total.
+    Run {
         slots: 1,
         limit: 1392,
         steps: &[
@@ -117,8 +117,8 @@ pub static TOTALS: [Row; 11] = [
         ],
         bytes: NO,
     },
-    Row {
-        about: "a byte past the total",
+    // A byte past the total.
+    Run {
         slots: 1,
         limit: 1392,
         steps: &[
@@ -128,8 +128,8 @@ pub static TOTALS: [Row; 11] = [
         ],
         bytes: NO,
     },
-    Row {
-        about: "an empty slice has no byte past the total",
+    // An empty slice has no byte past the total.
+    Run {
         slots: 1,
         limit: 1392,
         steps: &[
@@ -139,8 +139,8 @@ pub static TOTALS: [Row; 11] = [
         ],
         bytes: ONE,
     },
-    Row {
-        about: "an empty slice takes a slot",
+    // An empty slice takes a slot.
+    Run {
         slots: 1,
         limit: 1392,
         steps: &[
@@ -151,8 +151,8 @@ pub static TOTALS: [Row; 11] = [
         ],
         bytes: NO,
     },
-    Row {
-        about: "a message without bytes",
+    // A message without bytes.
+    Run {
         slots: 1,
         limit: 1392,
         steps: &[
@@ -165,9 +165,9 @@ pub static TOTALS: [Row; 11] = [
 ];
 
 /// Slices that lie over one another.
-pub static OVERLAPS: [Row; 6] = [
-    Row {
-        about: "repeats fill no gap",
+pub static OVERLAPS: [Run; 6] = [
+    // Repeats fill no gap.
+    Run {
         slots: 1,
         limit: 48,
         steps: &[
@@ -180,8 +180,8 @@ pub static OVERLAPS: [Row; 6] = [
         ],
         bytes: ALL,
     },
-    Row {
-        about: "a longer slice over a shorter one",
+    // A longer slice over a shorter one.
+    Run {
         slots: 1,
         limit: 48,
         steps: &[
@@ -192,8 +192,8 @@ pub static OVERLAPS: [Row; 6] = [
         ],
         bytes: ALL,
     },
-    Row {
-        about: "a slice within another",
+    // A slice within another.
+    Run {
         slots: 1,
         limit: 48,
         steps: &[
@@ -204,8 +204,8 @@ pub static OVERLAPS: [Row; 6] = [
         ],
         bytes: ALL,
     },
-    Row {
-        about: "another byte at the end of a held slice",
+    // Another byte at the end of a held slice.
+    Run {
         slots: 1,
         limit: 48,
         steps: &[
@@ -217,8 +217,8 @@ pub static OVERLAPS: [Row; 6] = [
         ],
         bytes: ALL,
     },
-    Row {
-        about: "another byte where a longer slice lies over a held one",
+    // Another byte where a longer slice lies over a held one.
+    Run {
         slots: 1,
         limit: 48,
         steps: &[
@@ -229,8 +229,8 @@ pub static OVERLAPS: [Row; 6] = [
         ],
         bytes: OTHER,
     },
-    Row {
-        about: "a message that waits to be taken is a part like others",
+    // A message that waits to be taken is a part like others.
+    Run {
         slots: 1,
         limit: 48,
         steps: &[
@@ -244,9 +244,9 @@ pub static OVERLAPS: [Row; 6] = [
 ];
 
 /// Which refusal comes first, and what it leaves.
-pub static REFUSALS: [Row; 10] = [
-    Row {
-        about: "the TP header fffffff1 leaves the other parts",
+pub static REFUSALS: [Run; 10] = [
+    // The TP header fffffff1 leaves the other parts.
+    Run {
         slots: 2,
         limit: 1400,
         steps: &[
@@ -257,8 +257,8 @@ pub static REFUSALS: [Row; 10] = [
         ],
         bytes: ONE,
     },
-    Row {
-        about: "refusals leave the part of their key",
+    // Refusals leave the part of their key.
+    Run {
         slots: 1,
         limit: 32,
         steps: &[
@@ -270,22 +270,22 @@ pub static REFUSALS: [Row; 10] = [
         ],
         bytes: ONE,
     },
-    Row {
-        about: "the last slice has any length",
+    // The last slice has any length.
+    Run {
         slots: 1,
         limit: 32,
         steps: &[(Last(1, 0, FIFTEEN, 0), WHOLE), (Take(1), TAKEN)],
         bytes: FIFTEEN,
     },
-    Row {
-        about: "unaligned before too long",
+    // Unaligned before too long.
+    Run {
         slots: 1,
         limit: 16,
         steps: &[(More(1, 16, FIFTEEN, 0), UNALIGNED)],
         bytes: NO,
     },
-    Row {
-        about: "unaligned before no slot",
+    // Unaligned before no slot.
+    Run {
         slots: 1,
         limit: 16,
         steps: &[
@@ -294,8 +294,8 @@ pub static REFUSALS: [Row; 10] = [
         ],
         bytes: NO,
     },
-    Row {
-        about: "unaligned before a conflict",
+    // Unaligned before a conflict.
+    Run {
         slots: 1,
         limit: 16,
         steps: &[
@@ -305,8 +305,8 @@ pub static REFUSALS: [Row; 10] = [
         ],
         bytes: TWO,
     },
-    Row {
-        about: "too long before no slot",
+    // Too long before no slot.
+    Run {
         slots: 1,
         limit: 16,
         steps: &[
@@ -319,8 +319,8 @@ pub static REFUSALS: [Row; 10] = [
         ],
         bytes: ONE,
     },
-    Row {
-        about: "too long before a conflict",
+    // Too long before a conflict.
+    Run {
         slots: 1,
         limit: 16,
         steps: &[
@@ -330,8 +330,8 @@ pub static REFUSALS: [Row; 10] = [
         ],
         bytes: ONE,
     },
-    Row {
-        about: "the limit is a place too far",
+    // The limit is a place too far.
+    Run {
         slots: 2,
         limit: 1407,
         steps: &[
@@ -341,8 +341,8 @@ pub static REFUSALS: [Row; 10] = [
         ],
         bytes: NO,
     },
-    Row {
-        about: "an empty slice may stand at the limit",
+    // An empty slice may stand at the limit.
+    Run {
         slots: 1,
         limit: 16,
         steps: &[
@@ -355,9 +355,9 @@ pub static REFUSALS: [Row; 10] = [
 ];
 
 /// How long parts stand: less than 1000 milliseconds.
-pub static TIMES: [Row; 10] = [
-    Row {
-        about: "one before the timeout it stands",
+pub static TIMES: [Run; 10] = [
+    // One before the timeout it stands.
+    Run {
         slots: 1,
         limit: 48,
         steps: &[
@@ -367,8 +367,8 @@ pub static TIMES: [Row; 10] = [
         ],
         bytes: ONE_TWO,
     },
-    Row {
-        about: "at the timeout it is gone",
+    // At the timeout it is gone.
+    Run {
         slots: 1,
         limit: 48,
         steps: &[
@@ -379,8 +379,8 @@ pub static TIMES: [Row; 10] = [
         ],
         bytes: ONE_TWO,
     },
-    Row {
-        about: "the slot is taken until the timeout",
+    // The slot is taken until the timeout.
+    Run {
         slots: 1,
         limit: 48,
         steps: &[
@@ -392,8 +392,8 @@ pub static TIMES: [Row; 10] = [
         ],
         bytes: TWO,
     },
-    Row {
-        about: "the time counts from the last segment",
+    // The time counts from the last segment.
+    Run {
         slots: 1,
         limit: 48,
         steps: &[
@@ -404,8 +404,8 @@ pub static TIMES: [Row; 10] = [
         ],
         bytes: ALL,
     },
-    Row {
-        about: "and no further",
+    // And no further.
+    Run {
         slots: 1,
         limit: 48,
         steps: &[
@@ -415,8 +415,8 @@ pub static TIMES: [Row; 10] = [
         ],
         bytes: NO,
     },
-    Row {
-        about: "a repeat is a last segment",
+    // A repeat is a last segment.
+    Run {
         slots: 1,
         limit: 48,
         steps: &[
@@ -427,8 +427,8 @@ pub static TIMES: [Row; 10] = [
         ],
         bytes: ONE,
     },
-    Row {
-        about: "a refused segment is not",
+    // A refused segment is not.
+    Run {
         slots: 1,
         limit: 48,
         steps: &[
@@ -438,8 +438,8 @@ pub static TIMES: [Row; 10] = [
         ],
         bytes: NO,
     },
-    Row {
-        about: "a refused segment tells the time to the other parts",
+    // A refused segment tells the time to the other parts.
+    Run {
         slots: 1,
         limit: 48,
         steps: &[
@@ -449,8 +449,8 @@ pub static TIMES: [Row; 10] = [
         ],
         bytes: NO,
     },
-    Row {
-        about: "what is whole stands until the store is told the time",
+    // What is whole stands until the store is told the time.
+    Run {
         slots: 1,
         limit: 48,
         steps: &[
@@ -465,8 +465,8 @@ pub static TIMES: [Row; 10] = [
         ],
         bytes: ONE,
     },
-    Row {
-        about: "all parts are dropped at once",
+    // All parts are dropped at once.
+    Run {
         slots: 2,
         limit: 48,
         steps: &[

@@ -1,19 +1,29 @@
 //! The texts of errors.
+use crate::rows::{Row, check};
 use someip_tp::TpError;
-use std::test::Fail;
+use std::alloc::Global;
+
+/// An error and its text.
+struct Printed(TpError, &'static str);
+
+impl Row for Printed {
+    fn is_right(&self, alloc: Global) -> Option<bool> {
+        let Printed(error, text) = self;
+        let printed = error.to_string(alloc).ok()?;
+        Some(printed.as_str() == *text)
+    }
+}
+
+const PRINTED: &[Printed] = &[
+    Printed(TpError::Unaligned, "Unaligned"),
+    Printed(TpError::TooLong, "TooLong"),
+    Printed(TpError::Conflict, "Conflict"),
+    Printed(TpError::NoSlot, "NoSlot"),
+    Printed(TpError::OutOfMemory, "out of memory"),
+    Printed(TpError::NoHeader, "NoHeader"),
+];
 
 #[test]
-fn errors_are_printed(rt: HostRuntime) -> Result<(), Fail> {
-    let rows = [
-        (TpError::Unaligned, "Unaligned"),
-        (TpError::TooLong, "TooLong"),
-        (TpError::Conflict, "Conflict"),
-        (TpError::NoSlot, "NoSlot"),
-        (TpError::OutOfMemory, "out of memory"),
-        (TpError::NoHeader, "NoHeader"),
-    ];
-    for (error, text) in rows {
-        assert!(rt; error.to_string(rt.alloc())?.as_str() == text);
-    }
-    Ok(())
+fn errors_are_printed(rt: HostRuntime) {
+    check(&rt, rt.alloc(), PRINTED);
 }
