@@ -1,5 +1,7 @@
 //! Rows of calls and answers.
-use someip_rpc::{Call, CallKey, CallKind, ClientCore, ClientRules, DropCause, MessageId, RpcError};
+use someip_rpc::{
+    Call, CallKey, CallKind, ClientCore, ClientRules, DropCause, MessageId, RpcError,
+};
 use someip_tables::Moment;
 use someip_wire::{Header, MessageType, ReturnCode};
 use std::net::{Ipv4Addr, SocketAddrV4};
