@@ -52,7 +52,7 @@ pub(super) const REQUEST: Header = Header {
     ..ANSWER
 };
 
-/// The numbers alone.
+/// A set of this number alone.
 fn one(alloc: Global, number: u16) -> Result<BTreeSet<u16>, AllocError> {
     let mut numbers = BTreeSet::new(alloc);
     numbers.insert(number)?;
