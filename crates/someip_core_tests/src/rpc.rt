@@ -1,15 +1,41 @@
 //! Rows of calls and answers.
+//!
+//! A row is a moment, in milliseconds, and an act: a call of the client, and what has to come of it. Each
+//! call has a function of its own, so that the prover meets one call at a time.
+use Act::{Answered, Call, CallMany, Clear, Pending, Tick};
 use someip_rpc::{
-    Call, CallKey, CallKind, ClientCore, ClientRules, DropCause, MessageId, RpcError,
+    Call as Called, CallKey, CallKind, ClientCore, ClientRules, DropCause, MessageId, Outgoing,
+    RpcError,
 };
 use someip_tables::Moment;
-use someip_wire::{Header, MessageType, ReturnCode};
+use someip_wire::{Header, Message, MessageType, ReturnCode};
+use std::alloc::Global;
+use std::collections::BTreeSet;
 use std::net::{Ipv4Addr, SocketAddrV4};
-use std::test::Fail;
 
+mod acts;
 mod events;
 mod long;
 mod requests;
+
+/// A call of the client, and what has to come of it.
+#[derive(Clone, Copy)]
+enum Act {
+    /// The method is called with this payload, while it is offered or not: the session of what is sent.
+    Call(CallKind, &'static [u8], bool, Result<u16, RpcError>),
+    /// The method is called so often, and the last call has this session.
+    CallMany(CallKind, u32, u16),
+    /// A message comes from this port of host 1: the call that it answers.
+    Answered(u16, Header, Result<CallKey, DropCause>),
+    /// The clock ticks, and the time of these calls has passed.
+    Tick(&'static [CallKey]),
+    /// How many calls wait.
+    Pending(usize),
+    /// The client is started again.
+    Clear,
+}
+
+type Row = (u64, Act);
 
 /// The method 0423 of the service 1111.
 const METHOD: MessageId = MessageId {
@@ -17,198 +43,316 @@ const METHOD: MessageId = MessageId {
     method: 0x0423,
 };
 
+/// The first call of it.
+const KEY: CallKey = CallKey {
+    message: METHOD,
+    session: 1,
+};
+
+/// The answer to it.
+const ANSWER: Header = Header {
+    service: 0x1111,
+    method: 0x0423,
+    client: 0x0102,
+    session: 1,
+    interface: 1,
+    kind: MessageType::Response,
+    code: ReturnCode::E_OK,
+};
+
+/// The ERROR that answers it.
+const REFUSED: Header = Header {
+    kind: MessageType::Error,
+    code: ReturnCode::E_UNKNOWN_METHOD,
+    ..ANSWER
+};
+
+/// A payload of one byte more than the message limit.
+const LONG: &[u8] = &[0; 1401];
+
+/// A call that is answered, and the same answer again.
+const ONE_CALL: &[Row] = &[
+    (0, Call(CallKind::Request, &[7], true, Ok(1))),
+    (0, Answered(30509, REFUSED, Ok(KEY))),
+    (0, Answered(30509, REFUSED, Err(DropCause::NotPending))),
+];
+
+/// Messages that are the answer but for one part, and then the answer.
+const DROPPED: &[Row] = &[
+    (0, Call(CallKind::Request, &[], true, Ok(1))),
+    (0, Answered(30510, ANSWER, Err(DropCause::NotPending))),
+    (
+        0,
+        Answered(
+            30509,
+            Header {
+                interface: 2,
+                ..ANSWER
+            },
+            Err(DropCause::NotPending),
+        ),
+    ),
+    (
+        0,
+        Answered(
+            30509,
+            Header {
+                session: 2,
+                ..ANSWER
+            },
+            Err(DropCause::NotPending),
+        ),
+    ),
+    (
+        0,
+        Answered(
+            30509,
+            Header {
+                client: 0x0103,
+                ..ANSWER
+            },
+            Err(DropCause::NotPending),
+        ),
+    ),
+    (
+        0,
+        Answered(
+            30509,
+            Header {
+                method: 0x0421,
+                ..ANSWER
+            },
+            Err(DropCause::NotPending),
+        ),
+    ),
+    (
+        0,
+        Answered(
+            30509,
+            Header {
+                kind: MessageType::Error,
+                ..ANSWER
+            },
+            Err(DropCause::NotPending),
+        ),
+    ),
+    (
+        0,
+        Answered(
+            30509,
+            Header {
+                kind: MessageType::Request,
+                ..ANSWER
+            },
+            Err(DropCause::WrongType),
+        ),
+    ),
+    (0, Answered(30509, ANSWER, Ok(KEY))),
+];
+
+/// A call that waits for 2000 milliseconds, and its answer then.
+const WAITING: &[Row] = &[
+    (0, Call(CallKind::Request, &[], true, Ok(1))),
+    (1999, Tick(&[])),
+    (2000, Tick(&[KEY])),
+    (2000, Answered(30509, ANSWER, Err(DropCause::NotPending))),
+];
+
+/// Calls until the sessions come round to one that waits, and a new start.
+const ROUND: &[Row] = &[
+    (0, Call(CallKind::Request, &[], true, Ok(1))),
+    (0, CallMany(CallKind::RequestNoReturn, 65534, 0xffff)),
+    (0, Call(CallKind::Request, &[], true, Ok(2))),
+    (0, Clear),
+    (0, Call(CallKind::Request, &[], true, Ok(1))),
+];
+
+/// Calls while 1024 wait, the worst first.
+const CROWDED: &[Row] = &[
+    (0, CallMany(CallKind::Request, 1024, 1024)),
+    (
+        0,
+        Call(CallKind::Request, LONG, false, Err(RpcError::NotOffered)),
+    ),
+    (
+        0,
+        Call(CallKind::Request, LONG, true, Err(RpcError::TooLong)),
+    ),
+    (0, Pending(1024)),
+    (0, Call(CallKind::Request, &[], true, Err(RpcError::Busy))),
+    (0, Call(CallKind::RequestNoReturn, &[], true, Ok(1025))),
+    (2000, Call(CallKind::Request, &[], true, Ok(1026))),
+];
+
 fn endpoint(host: u8, port: u16) -> SocketAddrV4 {
     SocketAddrV4::new(Ipv4Addr::new(192, 168, 0, host), port)
 }
 
+/// The endpoint of the server.
 fn server() -> SocketAddrV4 {
     endpoint(1, 30509)
+}
+
+/// The endpoint of the client.
+fn client() -> SocketAddrV4 {
+    endpoint(2, 40001)
 }
 
 fn rules() -> ClientRules {
     ClientRules {
         client: 0x0102,
-        endpoint: endpoint(2, 40001),
+        endpoint: client(),
         message_limit: 1400,
         call_timeout_ms: 2000,
     }
 }
 
-fn call(kind: CallKind) -> Call {
-    Call {
+/// The number of the first of these rows that comes out otherwise.
+fn first_wrong(alloc: Global, rows: &[Row]) -> Option<usize> {
+    let mut core = ClientCore::new(alloc);
+    first_wrong_of(&mut core, rows)
+}
+
+fn first_wrong_of(core: &mut ClientCore, rows: &[Row]) -> Option<usize> {
+    for (index, (millis, act)) in rows.iter().enumerate() {
+        if comes_out(core, *millis, *act) != Some(true) {
+            return Some(index);
+        }
+    }
+    None
+}
+
+/// Whether an act comes out as it says, if there is such a moment.
+fn comes_out(core: &mut ClientCore, millis: u64, act: Act) -> Option<bool> {
+    let now = Moment::new(millis)?;
+    match act {
+        Call(kind, payload, offered, given) => {
+            Some(calls(core, now, kind, payload, offered, given))
+        }
+        CallMany(kind, times, last) => Some(calls_many(core, kind, times, last)),
+        Answered(port, header, told) => Some(
+            core.on_answer(&rules(), endpoint(1, port), &header, now) == told,
+        ),
+        Tick(ended) => Some(are_calls(core.tick(now), ended)),
+        Pending(count) => Some(core.pending_calls() == count),
+        Clear => Some(clears(core)),
+    }
+}
+
+/// Whether a call of the method is sent with this session, or refused so.
+fn calls(
+    core: &mut ClientCore,
+    now: Moment,
+    kind: CallKind,
+    payload: &[u8],
+    offered: bool,
+    given: Result<u16, RpcError>,
+) -> bool {
+    let offer = if offered { Some(server()) } else { None };
+    let sent = core.call(&rules(), call(kind), payload, offer, now);
+    is_sent(sent, kind, payload, given)
+}
+
+fn call(kind: CallKind) -> Called {
+    Called {
         kind,
         message: METHOD,
         interface: 1,
     }
 }
 
-/// The answer to the call of METHOD with this session.
-fn answer(session: u16, kind: MessageType, code: ReturnCode) -> Header {
-    Header {
-        service: 0x1111,
-        method: 0x0423,
-        client: 0x0102,
-        session,
-        interface: 1,
-        kind,
-        code,
+fn is_sent(
+    sent: Result<Outgoing<'_>, RpcError>,
+    kind: CallKind,
+    payload: &[u8],
+    given: Result<u16, RpcError>,
+) -> bool {
+    match given {
+        Ok(session) => sent == Ok(outgoing(kind, payload, session)),
+        Err(refusal) => sent == Err(refusal),
     }
 }
 
-#[test]
-fn a_call_and_its_answer(rt: HostRuntime) -> Result<(), Fail> {
-    let now = Moment::start();
-    let mut client = ClientCore::new(rt.alloc());
-    let sent = client.call(&rules(), call(CallKind::Request), &[7], Some(server()), now)?;
-    assert_eq!(rt; sent.from, endpoint(2, 40001));
-    assert_eq!(rt; sent.to, server());
-    assert!(rt; sent.message.payload == [7].as_slice());
-    assert_eq!(rt;
-        sent.message.header,
-        answer(1, MessageType::Request, ReturnCode::E_OK)
-    );
-    let refused = answer(1, MessageType::Error, ReturnCode::E_UNKNOWN_METHOD);
-    let key = CallKey {
-        message: METHOD,
-        session: 1,
-    };
-    assert!(rt; client.on_answer(&rules(), server(), &refused, now) == Ok(key));
-    assert!(rt; client.on_answer(&rules(), server(), &refused, now) == Err(DropCause::NotPending));
-    Ok(())
-}
-
-#[test]
-fn answers_that_are_dropped(rt: HostRuntime) -> Result<(), Fail> {
-    let now = Moment::start();
-    let mut client = ClientCore::new(rt.alloc());
-    client.call(&rules(), call(CallKind::Request), &[], Some(server()), now)?;
-    let good = answer(1, MessageType::Response, ReturnCode::E_OK);
-    let rows = [
-        (endpoint(1, 30510), good, DropCause::NotPending),
-        (
-            server(),
-            Header {
-                interface: 2,
-                ..good
+/// What is sent for a call of the method.
+fn outgoing(kind: CallKind, payload: &[u8], session: u16) -> Outgoing<'_> {
+    Outgoing {
+        from: client(),
+        to: server(),
+        message: Message {
+            header: Header {
+                session,
+                kind: match kind {
+                    CallKind::Request => MessageType::Request,
+                    CallKind::RequestNoReturn => MessageType::RequestNoReturn,
+                },
+                ..ANSWER
             },
-            DropCause::NotPending,
-        ),
-        (
-            server(),
-            Header { session: 2, ..good },
-            DropCause::NotPending,
-        ),
-        (
-            server(),
-            Header {
-                client: 0x0103,
-                ..good
-            },
-            DropCause::NotPending,
-        ),
-        (
-            server(),
-            Header {
-                method: 0x0421,
-                ..good
-            },
-            DropCause::NotPending,
-        ),
-        (
-            server(),
-            Header {
-                kind: MessageType::Error,
-                ..good
-            },
-            DropCause::NotPending,
-        ),
-        (
-            server(),
-            Header {
-                kind: MessageType::Request,
-                ..good
-            },
-            DropCause::WrongType,
-        ),
-    ];
-    for (from, header, cause) in rows {
-        assert!(rt; client.on_answer(&rules(), from, &header, now) == Err(cause));
+            payload,
+        },
     }
-    assert!(rt; client.on_answer(&rules(), server(), &good, now).is_ok());
-    Ok(())
 }
 
-#[test]
-fn a_call_times_out(rt: HostRuntime) -> Result<(), Fail> {
-    let early = Moment::new(1999).ok_or("a moment")?;
-    let late = Moment::new(2000).ok_or("a moment")?;
-    let mut client = ClientCore::new(rt.alloc());
-    client.call(
-        &rules(),
-        call(CallKind::Request),
-        &[],
-        Some(server()),
-        Moment::start(),
-    )?;
-    assert!(rt; client.tick(early)?.is_empty());
-    let mut calls = client.tick(late)?;
-    let key = CallKey {
-        message: METHOD,
-        session: 1,
-    };
-    assert!(rt; calls.pop_first() == Some(key));
-    assert!(rt; calls.is_empty());
-    let header = answer(1, MessageType::Response, ReturnCode::E_OK);
-    assert!(rt; client.on_answer(&rules(), server(), &header, late) == Err(DropCause::NotPending));
-    Ok(())
-}
-
-#[test]
-fn sessions_go_round_what_waits(rt: HostRuntime) -> Result<(), Fail> {
-    let now = Moment::start();
-    let mut client = ClientCore::new(rt.alloc());
-    client.call(&rules(), call(CallKind::Request), &[], Some(server()), now)?;
-    let mut last = 1;
-    for _ in 0..65534 {
-        let oneway = call(CallKind::RequestNoReturn);
-        let sent = client.call(&rules(), oneway, &[], Some(server()), now)?;
-        last = sent.message.header.session;
+fn calls_many(core: &mut ClientCore, kind: CallKind, times: u32, last: u16) -> bool {
+    let mut session = None;
+    for _ in 0..times {
+        session = session_of_call(core, kind);
+        if session.is_none() {
+            return false;
+        }
     }
-    assert_eq!(rt; last, 0xffff);
-    let sent = client.call(&rules(), call(CallKind::Request), &[], Some(server()), now)?;
-    assert_eq!(rt; sent.message.header.session, 2);
-    client.clear();
-    let sent = client.call(&rules(), call(CallKind::Request), &[], Some(server()), now)?;
-    assert_eq!(rt; sent.message.header.session, 1);
-    Ok(())
+    session == Some(last)
+}
+
+fn session_of_call(core: &mut ClientCore, kind: CallKind) -> Option<u16> {
+    match core.call(&rules(), call(kind), &[], Some(server()), Moment::start()) {
+        Ok(sent) => Some(sent.message.header.session),
+        Err(_) => None,
+    }
+}
+
+/// Whether these calls are told, in this order.
+fn are_calls(ended: Result<BTreeSet<CallKey>, RpcError>, wanted: &[CallKey]) -> bool {
+    match ended {
+        Ok(mut calls) => takes_all(&mut calls, wanted),
+        Err(_) => false,
+    }
+}
+
+fn takes_all(calls: &mut BTreeSet<CallKey>, wanted: &[CallKey]) -> bool {
+    for call in wanted {
+        if calls.pop_first() != Some(*call) {
+            return false;
+        }
+    }
+    calls.is_empty()
+}
+
+fn clears(core: &mut ClientCore) -> bool {
+    core.clear();
+    true
 }
 
 #[test]
-fn calls_that_are_refused(rt: HostRuntime) -> Result<(), Fail> {
-    let now = Moment::start();
-    let long = [0; 1401];
-    let mut client = ClientCore::new(rt.alloc());
-    for _ in 0..1024 {
-        client.call(&rules(), call(CallKind::Request), &[], Some(server()), now)?;
-    }
-    let request = call(CallKind::Request);
-    let none = client.call(&rules(), request, &long, None, now);
-    assert!(rt; none == Err(RpcError::NotOffered));
-    let long = client.call(&rules(), request, &long, Some(server()), now);
-    assert!(rt; long == Err(RpcError::TooLong));
-    assert_eq!(rt; client.pending_calls(), 1024);
-    let full = client.call(&rules(), request, &[], Some(server()), now);
-    assert!(rt; full == Err(RpcError::Busy));
-    let oneway = client.call(
-        &rules(),
-        call(CallKind::RequestNoReturn),
-        &[],
-        Some(server()),
-        now,
-    )?;
-    assert_eq!(rt; oneway.message.header.session, 1025);
-    let free = Moment::new(2000).ok_or("a moment")?;
-    let sent = client.call(&rules(), request, &[], Some(server()), free)?;
-    assert_eq!(rt; sent.message.header.session, 1026);
-    Ok(())
+fn a_call_and_its_answer(rt: HostRuntime) {
+    assert!(rt; first_wrong(rt.alloc(), ONE_CALL).is_none());
+}
+
+#[test]
+fn answers_that_are_dropped(rt: HostRuntime) {
+    assert!(rt; first_wrong(rt.alloc(), DROPPED).is_none());
+}
+
+#[test]
+fn a_call_times_out(rt: HostRuntime) {
+    assert!(rt; first_wrong(rt.alloc(), WAITING).is_none());
+}
+
+#[test]
+fn sessions_go_round_what_waits(rt: HostRuntime) {
+    assert!(rt; first_wrong(rt.alloc(), ROUND).is_none());
+}
+
+#[test]
+fn calls_that_are_refused(rt: HostRuntime) {
+    assert!(rt; first_wrong(rt.alloc(), CROWDED).is_none());
 }

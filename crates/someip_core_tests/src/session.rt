@@ -1,7 +1,61 @@
 //! Rows of sessions and of peers.
 use sd_session::{Channel, Counter, PeerTable, Seen, SessionError, laws};
+use std::alloc::Global;
 use std::net::Ipv4Addr;
 use std::test::Fail;
+
+/// A message of host 192.168.0.n: the channel, the session, the Reboot flag, and what it shows.
+type Row = (u8, Channel, u16, bool, Result<Seen, SessionError>);
+
+/// Both channels of one host, in turn.
+const CHANNELS: &[Row] = &[
+    (1, Channel::Multicast, 5, true, Ok(Seen::Same)),
+    (1, Channel::Unicast, 3, true, Ok(Seen::Same)),
+    (1, Channel::Unicast, 3, true, Ok(Seen::Rebooted)),
+    (1, Channel::Multicast, 2, true, Ok(Seen::Same)),
+];
+
+/// Two hosts, and a table for one.
+const CROWDED: &[Row] = &[
+    (1, Channel::Multicast, 5, true, Ok(Seen::Same)),
+    (2, Channel::Multicast, 1, true, Err(SessionError::PeersFull)),
+    (1, Channel::Unicast, 1, true, Ok(Seen::Same)),
+];
+
+/// The session and the Reboot flag of a message, those of the next one, and what that shows.
+const PAIRS: &[(u16, bool, u16, bool, Seen)] = &[
+    (5, true, 5, true, Seen::Rebooted),
+    (0xffff, true, 1, false, Seen::Same),
+    (9, false, 1, true, Seen::Rebooted),
+    (9, false, 3, false, Seen::Same),
+    (5, true, 6, true, Seen::Same),
+];
+
+/// The number of the first message that shows something else.
+fn first_wrong(peers: &mut PeerTable, rows: &[Row]) -> Option<usize> {
+    for (index, (host, channel, session, reboot, seen)) in rows.iter().enumerate() {
+        let peer = Ipv4Addr::new(192, 168, 0, *host);
+        if peers.saw(peer, *channel, *session, *reboot) != *seen {
+            return Some(index);
+        }
+    }
+    None
+}
+
+/// What the second of two messages of a host shows, if the first showed nothing.
+fn seen_after(alloc: Global, first: (u16, bool), second: (u16, bool)) -> Option<Seen> {
+    let mut peers = PeerTable::new(alloc, 1);
+    if saw(&mut peers, first) == Some(Seen::Same) {
+        saw(&mut peers, second)
+    } else {
+        None
+    }
+}
+
+fn saw(peers: &mut PeerTable, (session, reboot): (u16, bool)) -> Option<Seen> {
+    let peer = Ipv4Addr::new(10, 0, 0, 7);
+    peers.saw(peer, Channel::Unicast, session, reboot).ok()
+}
 
 #[test]
 fn sessions_wrap(rt: HostRuntime) {
@@ -23,17 +77,8 @@ fn sessions_wrap(rt: HostRuntime) {
 
 #[test]
 fn channels_are_told_apart(rt: HostRuntime) {
-    let peer = Ipv4Addr::new(192, 168, 0, 1);
-    let rows = [
-        (Channel::Multicast, 5, Seen::Same),
-        (Channel::Unicast, 3, Seen::Same),
-        (Channel::Unicast, 3, Seen::Rebooted),
-        (Channel::Multicast, 2, Seen::Same),
-    ];
     let mut peers = PeerTable::new(rt.alloc(), 64);
-    for (channel, session, wanted) in rows {
-        assert!(rt; peers.saw(peer, channel, session, true) == Ok(wanted));
-    }
+    assert!(rt; first_wrong(&mut peers, CHANNELS).is_none());
     assert!(rt; peers.len() == 1);
     peers.clear();
     assert!(rt; peers.len() == 0);
@@ -41,32 +86,32 @@ fn channels_are_told_apart(rt: HostRuntime) {
 
 #[test]
 fn pairs_that_are_a_reboot(rt: HostRuntime) {
-    let rows = [
-        ((5, true), (5, true), Seen::Rebooted),
-        ((0xffff, true), (1, false), Seen::Same),
-        ((9, false), (1, true), Seen::Rebooted),
-        ((9, false), (3, false), Seen::Same),
-        ((5, true), (6, true), Seen::Same),
-    ];
-    let peer = Ipv4Addr::new(10, 0, 0, 7);
-    for ((session, reboot), (next, flag), wanted) in rows {
-        let mut peers = PeerTable::new(rt.alloc(), 1);
-        assert!(rt; peers.saw(peer, Channel::Unicast, session, reboot) == Ok(Seen::Same));
-        assert!(rt; peers.saw(peer, Channel::Unicast, next, flag) == Ok(wanted));
+    for (session, reboot, next, flag, seen) in PAIRS {
+        let told = seen_after(rt.alloc(), (*session, *reboot), (*next, *flag));
+        assert!(rt; told == Some(*seen));
     }
 }
 
 #[test]
-fn a_full_table_refuses_new_peers(rt: HostRuntime) -> Result<(), Fail> {
-    let known = Ipv4Addr::new(192, 168, 0, 1);
-    let other = Ipv4Addr::new(192, 168, 0, 2);
+fn a_full_table_refuses_new_peers(rt: HostRuntime) {
     let mut peers = PeerTable::new(rt.alloc(), 1);
-    assert!(rt; peers.saw(known, Channel::Multicast, 5, true) == Ok(Seen::Same));
-    assert!(rt; peers.saw(other, Channel::Multicast, 1, true) == Err(SessionError::PeersFull));
-    assert!(rt; peers.saw(known, Channel::Unicast, 1, true) == Ok(Seen::Same));
-    let text = SessionError::PeersFull.to_string(rt.alloc())?;
-    assert!(rt; text.as_str() == "PeersFull");
-    let text = SessionError::OutOfMemory.to_string(rt.alloc())?;
-    assert!(rt; text.as_str() == "out of memory");
+    assert!(rt; first_wrong(&mut peers, CROWDED).is_none());
+}
+
+const NAMES: &[(SessionError, &str)] = &[
+    (SessionError::PeersFull, "PeersFull"),
+    (SessionError::OutOfMemory, "out of memory"),
+];
+
+fn is_named(alloc: Global, error: SessionError, name: &str) -> Result<bool, Fail> {
+    let text = error.to_string(alloc)?;
+    Ok(text.as_str() == name)
+}
+
+#[test]
+fn session_errors_have_names(rt: HostRuntime) -> Result<(), Fail> {
+    for (error, name) in NAMES {
+        assert!(rt; is_named(rt.alloc(), *error, name)?);
+    }
     Ok(())
 }

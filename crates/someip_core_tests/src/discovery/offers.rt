@@ -1,122 +1,193 @@
 //! Rows of offers, and of answers to finds.
-use super::{THREE, instance};
-use sd_core::{Offers, Phases, Sought, Version};
+use super::{FIRST, NO_REPETITIONS, SECOND, THREE, are_instances};
+use Act::{Add, Find, IsUp, QuietUntil, Start, Stop, Tick};
+use sd_core::{InstanceId, Offers, Phases, Sought, Version};
 use someip_tables::Moment;
-use std::test::Fail;
+use std::alloc::Global;
 
-#[test]
-fn offers_go_out_in_phases(rt: HostRuntime) -> Result<(), Fail> {
-    let mut offers = Offers::new(rt.alloc());
-    let version = Version { major: 1, minor: 0 };
-    offers.add(instance(1), version)?;
-    offers.start(10);
-    let mut at = 0;
-    let moments = [10, 40, 100, 220, 1220];
-    for millis in 0..1500 {
-        let now = Moment::new(millis).ok_or("late")?;
-        let due = offers.tick(now, THREE)?;
-        if at < 5 && millis == moments[at] {
-            assert!(rt; due.as_slice() == [instance(1)].as_slice());
-            at += 1;
-        } else {
-            assert!(rt; due.is_empty());
+/// A call of the offers, and what has to come of it.
+#[derive(Clone, Copy)]
+enum Act {
+    /// An instance is added.
+    Add(InstanceId, Version),
+    /// Every instance is started with this delay.
+    Start(u32),
+    /// The clock ticks, and these instances send an Offer.
+    Tick(&'static [InstanceId]),
+    /// The clock ticks at each moment from here to before this one, and no instance sends an Offer.
+    QuietUntil(u64),
+    /// These instances answer a Find.
+    Find(Sought, &'static [InstanceId]),
+    /// An instance is taken down: whether it was up.
+    Stop(InstanceId, bool),
+    /// Whether an instance is up.
+    IsUp(InstanceId, bool),
+}
+
+type Row = (u64, Act);
+
+const VERSION: Version = Version { major: 1, minor: 0 };
+
+/// What asks for any instance of the service, in any version.
+const ANY: Sought = Sought {
+    service: 0x1111,
+    instance: 0xffff,
+    major: 0xff,
+    minor: 0xffff_ffff,
+};
+
+/// Offers at 10, 40, 100, 220 and 1220.
+const IN_PHASES: &[Row] = &[
+    (0, Add(FIRST, VERSION)),
+    (0, Start(10)),
+    (0, QuietUntil(10)),
+    (10, Tick(&[FIRST])),
+    (11, QuietUntil(40)),
+    (40, Tick(&[FIRST])),
+    (41, QuietUntil(100)),
+    (100, Tick(&[FIRST])),
+    (101, QuietUntil(220)),
+    (220, Tick(&[FIRST])),
+    (221, QuietUntil(1220)),
+    (1220, Tick(&[FIRST])),
+    (1221, QuietUntil(1500)),
+];
+
+/// Without repetitions, at a few moments.
+const CYCLIC: &[Row] = &[
+    (0, Add(FIRST, VERSION)),
+    (0, Start(10)),
+    (9, Tick(&[])),
+    (10, Tick(&[FIRST])),
+    (1009, Tick(&[])),
+    (1010, Tick(&[FIRST])),
+    (2009, Tick(&[])),
+    (2010, Tick(&[FIRST])),
+];
+
+/// A tick that is late, and those after it.
+const LATE: &[Row] = &[
+    (0, Add(SECOND, VERSION)),
+    (0, Add(FIRST, VERSION)),
+    (0, Start(10)),
+    (1000, Tick(&[FIRST, SECOND])),
+    (1029, Tick(&[])),
+    (1030, Tick(&[FIRST, SECOND])),
+];
+
+/// Finds before and after the first Offer, and while instances are down.
+const FINDS: &[Row] = &[
+    (0, Add(FIRST, Version { major: 1, minor: 7 })),
+    (0, Add(SECOND, Version { major: 2, minor: 7 })),
+    (0, Start(10)),
+    (9, Tick(&[])),
+    (9, Find(ANY, &[])),
+    (10, Tick(&[FIRST, SECOND])),
+    (10, Find(ANY, &[FIRST, SECOND])),
+    (10, Stop(FIRST, true)),
+    (10, Stop(FIRST, false)),
+    (10, IsUp(FIRST, false)),
+    (10, Find(ANY, &[SECOND])),
+    (10, Start(10)),
+    (10, IsUp(FIRST, true)),
+    (10, Find(ANY, &[])),
+];
+
+/// The number of the first of these rows that comes out otherwise.
+fn first_wrong(alloc: Global, phases: Phases, rows: &[Row]) -> Option<usize> {
+    let mut offers = Offers::new(alloc);
+    first_wrong_of(&mut offers, phases, rows)
+}
+
+fn first_wrong_of(offers: &mut Offers, phases: Phases, rows: &[Row]) -> Option<usize> {
+    for (index, (millis, act)) in rows.iter().enumerate() {
+        if comes_out(offers, phases, *millis, *act) != Some(true) {
+            return Some(index);
         }
     }
-    assert!(rt; at == 5);
-    Ok(())
+    None
 }
 
-#[test]
-fn offers_without_repetitions(rt: HostRuntime) -> Result<(), Fail> {
-    let mut offers = Offers::new(rt.alloc());
-    let phases = Phases {
-        base: 30,
-        repetitions: 0,
-        cyclic: 1000,
-    };
-    offers.add(instance(1), Version { major: 1, minor: 0 })?;
-    offers.start(10);
-    for (millis, count) in [(9, 0), (10, 1), (1009, 0), (1010, 1), (2009, 0), (2010, 1)] {
-        let now = Moment::new(millis).ok_or("late")?;
-        let due = offers.tick(now, phases)?;
-        assert!(rt; due.len() == count);
+/// Whether an act comes out as it says, if there is such a moment.
+fn comes_out(offers: &mut Offers, phases: Phases, millis: u64, act: Act) -> Option<bool> {
+    let now = Moment::new(millis)?;
+    match act {
+        Add(instance, version) => Some(offers.add(instance, version).is_ok()),
+        Start(delay) => Some(starts(offers, delay)),
+        Tick(due) => Some(ticks(offers, phases, now, due)),
+        QuietUntil(end) => is_quiet(offers, phases, millis, end),
+        Find(sought, found) => Some(are_instances(offers.find(sought), found)),
+        Stop(instance, was_up) => Some(offers.stop(instance) == was_up),
+        IsUp(instance, is_up) => Some(offers.is_up(instance) == is_up),
     }
-    Ok(())
 }
 
-#[test]
-fn one_late_tick_sends_one_offer(rt: HostRuntime) -> Result<(), Fail> {
-    let mut offers = Offers::new(rt.alloc());
-    offers.add(instance(2), Version { major: 1, minor: 0 })?;
-    offers.add(instance(1), Version { major: 1, minor: 0 })?;
-    offers.start(10);
-    let both = [instance(1), instance(2)];
-    for (millis, sends) in [(1000, true), (1029, false), (1030, true)] {
-        let now = Moment::new(millis).ok_or("late")?;
-        let due = offers.tick(now, THREE)?;
-        if sends {
-            assert!(rt; due.as_slice() == both.as_slice());
-        } else {
-            assert!(rt; due.is_empty());
+fn starts(offers: &mut Offers, delay: u32) -> bool {
+    offers.start(delay);
+    true
+}
+
+fn ticks(offers: &mut Offers, phases: Phases, now: Moment, due: &[InstanceId]) -> bool {
+    are_instances(offers.tick(now, phases), due)
+}
+
+fn is_quiet(offers: &mut Offers, phases: Phases, start: u64, end: u64) -> Option<bool> {
+    for millis in start..end {
+        if !ticks(offers, phases, Moment::new(millis)?, &[]) {
+            return Some(false);
         }
     }
-    Ok(())
+    Some(true)
 }
 
 #[test]
-fn finds_are_answered(rt: HostRuntime) -> Result<(), Fail> {
-    let mut offers = Offers::new(rt.alloc());
-    let any = Sought {
-        service: 0x1111,
-        instance: 0xffff,
-        major: 0xff,
-        minor: 0xffff_ffff,
+fn offers_go_out_in_phases(rt: HostRuntime) {
+    assert!(rt; first_wrong(rt.alloc(), THREE, IN_PHASES).is_none());
+}
+
+#[test]
+fn offers_without_repetitions(rt: HostRuntime) {
+    assert!(rt; first_wrong(rt.alloc(), NO_REPETITIONS, CYCLIC).is_none());
+}
+
+#[test]
+fn one_late_tick_sends_one_offer(rt: HostRuntime) {
+    assert!(rt; first_wrong(rt.alloc(), THREE, LATE).is_none());
+}
+
+#[test]
+fn finds_are_answered(rt: HostRuntime) {
+    assert!(rt; first_wrong(rt.alloc(), THREE, FINDS).is_none());
+}
+
+/// What is asked for, by service, instance, major and minor version, and whether that fits the first
+/// instance in version 1.7.
+const FITS: &[(u16, u16, u8, u32, bool)] = &[
+    (0x1111, 1, 1, 7, true),
+    (0x1112, 1, 1, 7, false),
+    (0xffff, 1, 1, 7, false),
+    (0x1111, 2, 1, 7, false),
+    (0x1111, 0xffff, 1, 7, true),
+    (0x1111, 1, 2, 7, false),
+    (0x1111, 1, 0xff, 7, true),
+    (0x1111, 1, 1, 8, false),
+    (0x1111, 1, 1, 0xffff_ffff, true),
+    (0x1111, 0xffff, 0xff, 0xffff_ffff, true),
+];
+
+fn fits(service: u16, instance: u16, major: u8, minor: u32) -> bool {
+    let sought = Sought {
+        service,
+        instance,
+        major,
+        minor,
     };
-    offers.add(instance(1), Version { major: 1, minor: 7 })?;
-    offers.add(instance(2), Version { major: 2, minor: 7 })?;
-    offers.start(10);
-    let before = Moment::new(9).ok_or("late")?;
-    let _ = offers.tick(before, THREE)?;
-    let found = offers.find(any)?;
-    assert!(rt; found.is_empty());
-    let first = Moment::new(10).ok_or("late")?;
-    let _ = offers.tick(first, THREE)?;
-    let found = offers.find(any)?;
-    assert!(rt; found.as_slice() == [instance(1), instance(2)].as_slice());
-    assert!(rt; offers.stop(instance(1)));
-    assert!(rt; !offers.stop(instance(1)));
-    assert!(rt; !offers.is_up(instance(1)));
-    let found = offers.find(any)?;
-    assert!(rt; found.as_slice() == [instance(2)].as_slice());
-    offers.start(10);
-    assert!(rt; offers.is_up(instance(1)));
-    let found = offers.find(any)?;
-    assert!(rt; found.is_empty());
-    Ok(())
+    sought.fits(&FIRST, &Version { major: 1, minor: 7 })
 }
 
 #[test]
 fn any_values_one_by_one(rt: HostRuntime) {
-    let version = Version { major: 1, minor: 7 };
-    let rows = [
-        (0x1111, 1, 1, 7, true),
-        (0x1112, 1, 1, 7, false),
-        (0xffff, 1, 1, 7, false),
-        (0x1111, 2, 1, 7, false),
-        (0x1111, 0xffff, 1, 7, true),
-        (0x1111, 1, 2, 7, false),
-        (0x1111, 1, 0xff, 7, true),
-        (0x1111, 1, 1, 8, false),
-        (0x1111, 1, 1, 0xffff_ffff, true),
-        (0x1111, 0xffff, 0xff, 0xffff_ffff, true),
-    ];
-    for (service, number, major, minor, fits) in rows {
-        let sought = Sought {
-            service,
-            instance: number,
-            major,
-            minor,
-        };
-        assert!(rt; sought.fits(&instance(1), &version) == fits);
+    for (service, instance, major, minor, fit) in FITS {
+        assert!(rt; fits(*service, *instance, *major, *minor) == *fit);
     }
 }

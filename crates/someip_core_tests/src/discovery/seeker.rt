@@ -1,210 +1,373 @@
 //! Rows of finds and of offers that are known.
-use super::{THREE, instance};
-use sd_core::{Counted, KnownOffer, Phases, ReceivedOffer, Seeker, Uncounted};
+use super::{FIRST, NO_REPETITIONS, SECOND, THIRD, THREE, address, are_instances, endpoint};
+use Act::{Add, Known, Offer, QuietUntil, Reboot, Start, Stop, Tick};
+use sd_core::{Counted, InstanceId, KnownOffer, Phases, ReceivedOffer, Seeker, Ticked, Uncounted};
 use sd_wire::Ttl;
 use someip_tables::Moment;
-use std::net::{Ipv4Addr, SocketAddrV4};
-use std::test::Fail;
+use std::alloc::{AllocError, Global};
 
-/// The first peer, and another.
-fn peer(number: u8) -> Ipv4Addr {
-    Ipv4Addr::new(192, 168, 0, number)
+/// An Offer, and the host that it comes from. Its endpoint is a port of host 1.
+#[derive(Clone, Copy)]
+struct Offered {
+    instance: InstanceId,
+    major: u8,
+    ttl: u32,
+    port: Option<u16>,
+    by: u8,
 }
 
-/// An Offer by a peer of an instance in version 1, at a port of the first peer.
-fn offer_at(number: u16, port: u16, by: u8, ttl: Ttl) -> ReceivedOffer {
-    ReceivedOffer {
-        instance: instance(number),
-        major: 1,
-        ttl,
-        endpoint: Some(SocketAddrV4::new(peer(1), port)),
-        peer: peer(by),
-    }
+/// A call of the seeker, and what has to come of it.
+#[derive(Clone, Copy)]
+enum Act {
+    /// An instance is wanted in a major version.
+    Add(InstanceId, u8),
+    /// The search for every instance begins with this delay.
+    Start(u32),
+    /// The clock ticks: the offers of these instances end, and Finds of those go out.
+    Tick(&'static [InstanceId], &'static [InstanceId]),
+    /// The clock ticks at each moment from here to before this one, and nothing comes of it; an offer of
+    /// the first instance is known all the while, or is not.
+    QuietUntil(u64, bool),
+    /// An Offer comes.
+    Offer(Offered, Result<Counted, Uncounted>),
+    /// A StopOffer of an instance in a major version comes from a host: whether an offer ended.
+    Stop(InstanceId, u8, u8, bool),
+    /// A host began again, and the offers of these instances end.
+    Reboot(u8, &'static [InstanceId]),
+    /// The offer that is known of an instance, by its host and the port.
+    Known(InstanceId, Option<(u8, u16)>),
 }
 
-/// An Offer by the first peer of an instance in a version, without an endpoint.
-fn bare_offer(number: u16, major: u8, ttl: Ttl) -> ReceivedOffer {
-    ReceivedOffer {
-        instance: instance(number),
-        major,
-        ttl,
-        endpoint: None,
-        peer: peer(1),
-    }
+type Row = (u64, Act);
+
+/// The Offer of the first instance by host 1, for 3 seconds.
+const OFFER: Offered = Offered {
+    instance: FIRST,
+    major: 1,
+    ttl: 3,
+    port: Some(30509),
+    by: 1,
+};
+
+/// The same, until host 1 begins again.
+const LASTING: Offered = Offered {
+    ttl: 0xff_ffff,
+    ..OFFER
+};
+
+/// The first one again, without an endpoint.
+const BARE: Offered = Offered {
+    port: None,
+    ..OFFER
+};
+
+/// Finds at 10, 40, 100 and 220.
+const IN_PHASES: &[Row] = &[
+    (0, Add(FIRST, 1)),
+    (0, Start(10)),
+    (0, QuietUntil(10, false)),
+    (10, Tick(&[], &[FIRST])),
+    (11, QuietUntil(40, false)),
+    (40, Tick(&[], &[FIRST])),
+    (41, QuietUntil(100, false)),
+    (100, Tick(&[], &[FIRST])),
+    (101, QuietUntil(220, false)),
+    (220, Tick(&[], &[FIRST])),
+    (221, QuietUntil(1500, false)),
+];
+
+/// An Offer at 50, which passes at 3050.
+const FOUND: &[Row] = &[
+    (0, Add(FIRST, 1)),
+    (0, Start(10)),
+    (0, QuietUntil(10, false)),
+    (10, Tick(&[], &[FIRST])),
+    (10, Known(FIRST, None)),
+    (11, QuietUntil(40, false)),
+    (40, Tick(&[], &[FIRST])),
+    (40, Known(FIRST, None)),
+    (41, QuietUntil(51, false)),
+    (50, Offer(OFFER, Ok(Counted::New))),
+    (50, Known(FIRST, Some((1, 30509)))),
+    (51, QuietUntil(3050, true)),
+    (3050, Tick(&[FIRST], &[])),
+    (3050, Known(FIRST, None)),
+    (3051, QuietUntil(3500, false)),
+];
+
+/// A tick that is late, and those after it.
+const LATE: &[Row] = &[
+    (0, Add(SECOND, 1)),
+    (0, Add(FIRST, 1)),
+    (0, Start(10)),
+    (1000, Tick(&[], &[FIRST, SECOND])),
+    (1029, Tick(&[], &[])),
+    (1030, Tick(&[], &[FIRST, SECOND])),
+    (1090, Tick(&[], &[FIRST, SECOND])),
+];
+
+/// Without repetitions, and one more start.
+const ONCE: &[Row] = &[
+    (0, Add(FIRST, 1)),
+    (0, Start(10)),
+    (9, Tick(&[], &[])),
+    (10, Tick(&[], &[FIRST])),
+    (40, Tick(&[], &[])),
+    (1010, Tick(&[], &[])),
+    (5000, Tick(&[], &[])),
+    (5000, Start(20)),
+    (20, Tick(&[], &[FIRST])),
+];
+
+/// Offers that count, and those that do not.
+const COUNTED: &[Row] = &[
+    (0, Add(FIRST, 1)),
+    (0, Start(10)),
+    (
+        50,
+        Offer(
+            Offered {
+                instance: SECOND,
+                ..BARE
+            },
+            Err(Uncounted::Unwanted),
+        ),
+    ),
+    (
+        50,
+        Offer(Offered { major: 2, ..BARE }, Err(Uncounted::Unwanted)),
+    ),
+    (50, Offer(BARE, Err(Uncounted::NoEndpoint))),
+    (50, Offer(OFFER, Ok(Counted::New))),
+    (50, Offer(OFFER, Ok(Counted::Renewed))),
+    (
+        50,
+        Offer(
+            Offered {
+                port: Some(30510),
+                ..OFFER
+            },
+            Ok(Counted::Moved),
+        ),
+    ),
+    (50, Offer(BARE, Err(Uncounted::NoEndpoint))),
+    (
+        50,
+        Offer(
+            Offered {
+                port: Some(30510),
+                by: 2,
+                ..OFFER
+            },
+            Err(Uncounted::OtherPeer),
+        ),
+    ),
+    (50, Known(FIRST, Some((1, 30510)))),
+    (50, Known(SECOND, None)),
+];
+
+/// An offer that passes at 3050, while host 2 offers the instance too.
+const PASSING: &[Row] = &[
+    (0, Add(FIRST, 1)),
+    (0, Start(10)),
+    (50, Offer(OFFER, Ok(Counted::New))),
+    (
+        3049,
+        Offer(Offered { by: 2, ..LASTING }, Err(Uncounted::OtherPeer)),
+    ),
+    (3050, Stop(FIRST, 1, 1, false)),
+    (3050, Offer(Offered { by: 2, ..LASTING }, Ok(Counted::New))),
+    (9223372036854775807, Known(FIRST, Some((2, 30509)))),
+];
+
+/// StopOffers, and a start while an offer is known.
+const STOPPED: &[Row] = &[
+    (0, Add(FIRST, 1)),
+    (50, Offer(LASTING, Ok(Counted::New))),
+    (50, Stop(SECOND, 1, 1, false)),
+    (50, Known(FIRST, Some((1, 30509)))),
+    (50, Stop(FIRST, 2, 1, false)),
+    (50, Known(FIRST, Some((1, 30509)))),
+    (50, Stop(FIRST, 1, 2, false)),
+    (50, Known(FIRST, Some((1, 30509)))),
+    (50, Stop(FIRST, 1, 1, true)),
+    (50, Known(FIRST, None)),
+    (50, Stop(FIRST, 1, 1, false)),
+    (50, Known(FIRST, None)),
+    (50, Offer(LASTING, Ok(Counted::New))),
+    (50, Start(10)),
+    (50, Known(FIRST, None)),
+];
+
+/// Three offers, one of them by host 2, which begins again.
+const TOGETHER: &[Row] = &[
+    (0, Add(THIRD, 1)),
+    (
+        50,
+        Offer(
+            Offered {
+                instance: THIRD,
+                ..OFFER
+            },
+            Ok(Counted::New),
+        ),
+    ),
+    (50, Add(SECOND, 1)),
+    (
+        50,
+        Offer(
+            Offered {
+                instance: SECOND,
+                by: 2,
+                ..OFFER
+            },
+            Ok(Counted::New),
+        ),
+    ),
+    (50, Add(FIRST, 1)),
+    (50, Offer(OFFER, Ok(Counted::New))),
+    (50, Reboot(2, &[SECOND])),
+    (50, Reboot(2, &[])),
+    (3050, Tick(&[FIRST, THIRD], &[])),
+    (3050, Tick(&[], &[])),
+];
+
+/// The number of the first of these rows that comes out otherwise.
+fn first_wrong(alloc: Global, phases: Phases, rows: &[Row]) -> Option<usize> {
+    let mut seeker = Seeker::new(alloc);
+    first_wrong_of(&mut seeker, phases, rows)
 }
 
-#[test]
-fn finds_go_out_in_the_repetition_phase(rt: HostRuntime) -> Result<(), Fail> {
-    let mut seeker = Seeker::new(rt.alloc());
-    seeker.add(instance(1), 1)?;
-    seeker.start(10);
-    let mut at = 0;
-    let moments = [10, 40, 100, 220];
-    for millis in 0..1500 {
-        let now = Moment::new(millis).ok_or("late")?;
-        let ticked = seeker.tick(now, THREE)?;
-        assert!(rt; ticked.ended.is_empty());
-        if at < 4 && millis == moments[at] {
-            assert!(rt; ticked.finds.as_slice() == [instance(1)].as_slice());
-            at += 1;
-        } else {
-            assert!(rt; ticked.finds.is_empty());
+fn first_wrong_of(seeker: &mut Seeker, phases: Phases, rows: &[Row]) -> Option<usize> {
+    for (index, (millis, act)) in rows.iter().enumerate() {
+        if comes_out(seeker, phases, *millis, *act) != Some(true) {
+            return Some(index);
         }
     }
-    assert!(rt; at == 4);
-    Ok(())
+    None
 }
 
-#[test]
-fn finds_end_when_an_offer_is_known(rt: HostRuntime) -> Result<(), Fail> {
-    let mut seeker = Seeker::new(rt.alloc());
-    seeker.add(instance(1), 1)?;
-    seeker.start(10);
-    let offer = offer_at(1, 30509, 1, Ttl::new(3).ok_or("ttl")?);
-    for millis in 0..3500 {
-        let now = Moment::new(millis).ok_or("late")?;
-        let ticked = seeker.tick(now, THREE)?;
-        assert!(rt; ticked.finds.is_empty() == (millis != 10 && millis != 40));
-        assert!(rt; ticked.ended.is_empty() == (millis != 3050));
-        if millis == 50 {
-            assert!(rt; seeker.offer(&offer, now) == Ok(Counted::New));
+/// Whether an act comes out as it says, if there is such a moment.
+fn comes_out(seeker: &mut Seeker, phases: Phases, millis: u64, act: Act) -> Option<bool> {
+    let now = Moment::new(millis)?;
+    match act {
+        Add(instance, major) => Some(seeker.add(instance, major).is_ok()),
+        Start(delay) => Some(starts(seeker, delay)),
+        Tick(ended, finds) => Some(ticks(seeker, phases, now, ended, finds)),
+        QuietUntil(end, known) => is_quiet(seeker, phases, millis, end, known),
+        Offer(offered, counted) => counts(seeker, now, offered, counted),
+        Stop(instance, major, by, ended) => {
+            Some(seeker.stop(instance, major, address(by), now) == ended)
         }
-        assert!(rt; seeker.known(instance(1), now).is_some() == (50 <= millis && millis < 3050));
+        Reboot(by, ended) => Some(are_instances(seeker.peer_reboot(address(by), now), ended)),
+        Known(instance, known) => Some(seeker.known(instance, now) == known_at(known)),
     }
-    Ok(())
 }
 
-#[test]
-fn one_late_tick_sends_one_find(rt: HostRuntime) -> Result<(), Fail> {
-    let mut seeker = Seeker::new(rt.alloc());
-    seeker.add(instance(2), 1)?;
-    seeker.add(instance(1), 1)?;
-    seeker.start(10);
-    let both = [instance(1), instance(2)];
-    for (millis, sends) in [(1000, true), (1029, false), (1030, true), (1090, true)] {
-        let now = Moment::new(millis).ok_or("late")?;
-        let ticked = seeker.tick(now, THREE)?;
-        if sends {
-            assert!(rt; ticked.finds.as_slice() == both.as_slice());
-        } else {
-            assert!(rt; ticked.finds.is_empty());
+fn starts(seeker: &mut Seeker, delay: u32) -> bool {
+    seeker.start(delay);
+    true
+}
+
+fn ticks(
+    seeker: &mut Seeker,
+    phases: Phases,
+    now: Moment,
+    ended: &[InstanceId],
+    finds: &[InstanceId],
+) -> bool {
+    brings(seeker.tick(now, phases), ended, finds)
+}
+
+/// Whether a moment brings these ends and Finds.
+fn brings(ticked: Result<Ticked, AllocError>, ended: &[InstanceId], finds: &[InstanceId]) -> bool {
+    match ticked {
+        Ok(ticked) => ticked.ended.as_slice() == ended && ticked.finds.as_slice() == finds,
+        Err(_) => false,
+    }
+}
+
+fn is_quiet(
+    seeker: &mut Seeker,
+    phases: Phases,
+    start: u64,
+    end: u64,
+    known: bool,
+) -> Option<bool> {
+    for millis in start..end {
+        let now = Moment::new(millis)?;
+        if !ticks(seeker, phases, now, &[], &[]) || seeker.known(FIRST, now).is_some() != known {
+            return Some(false);
         }
     }
-    Ok(())
+    Some(true)
+}
+
+fn counts(
+    seeker: &mut Seeker,
+    now: Moment,
+    offered: Offered,
+    counted: Result<Counted, Uncounted>,
+) -> Option<bool> {
+    let offer = received(offered)?;
+    Some(seeker.offer(&offer, now) == counted)
+}
+
+/// The Offer as it arrives, if there is such a TTL.
+fn received(offered: Offered) -> Option<ReceivedOffer> {
+    Some(ReceivedOffer {
+        instance: offered.instance,
+        major: offered.major,
+        ttl: Ttl::new(offered.ttl)?,
+        endpoint: offered.port.map(|port| endpoint(1, port)),
+        peer: address(offered.by),
+    })
+}
+
+fn known_at(known: Option<(u8, u16)>) -> Option<KnownOffer> {
+    let (by, port) = known?;
+    Some(KnownOffer {
+        peer: address(by),
+        endpoint: endpoint(1, port),
+    })
 }
 
 #[test]
-fn finds_without_repetitions(rt: HostRuntime) -> Result<(), Fail> {
-    let mut seeker = Seeker::new(rt.alloc());
-    let phases = Phases {
-        base: 30,
-        repetitions: 0,
-        cyclic: 1000,
-    };
-    seeker.add(instance(1), 1)?;
-    seeker.start(10);
-    for (millis, count) in [(9, 0), (10, 1), (40, 0), (1010, 0), (5000, 0)] {
-        let now = Moment::new(millis).ok_or("late")?;
-        let ticked = seeker.tick(now, phases)?;
-        assert!(rt; ticked.finds.len() == count);
-    }
-    seeker.start(20);
-    let again = Moment::new(20).ok_or("late")?;
-    let ticked = seeker.tick(again, phases)?;
-    assert!(rt; ticked.finds.len() == 1);
-    Ok(())
+fn finds_go_out_in_the_repetition_phase(rt: HostRuntime) {
+    assert!(rt; first_wrong(rt.alloc(), THREE, IN_PHASES).is_none());
 }
 
 #[test]
-fn offers_count_or_do_not(rt: HostRuntime) -> Result<(), Fail> {
-    let mut seeker = Seeker::new(rt.alloc());
-    seeker.add(instance(1), 1)?;
-    seeker.start(10);
-    let ttl = Ttl::new(3).ok_or("ttl")?;
-    let now = Moment::new(50).ok_or("late")?;
-    let rows = [
-        (bare_offer(2, 1, ttl), Err(Uncounted::Unwanted)),
-        (bare_offer(1, 2, ttl), Err(Uncounted::Unwanted)),
-        (bare_offer(1, 1, ttl), Err(Uncounted::NoEndpoint)),
-        (offer_at(1, 30509, 1, ttl), Ok(Counted::New)),
-        (offer_at(1, 30509, 1, ttl), Ok(Counted::Renewed)),
-        (offer_at(1, 30510, 1, ttl), Ok(Counted::Moved)),
-        (bare_offer(1, 1, ttl), Err(Uncounted::NoEndpoint)),
-        (offer_at(1, 30510, 2, ttl), Err(Uncounted::OtherPeer)),
-    ];
-    for (received, counted) in rows {
-        assert!(rt; seeker.offer(&received, now) == counted);
-    }
-    let known = Some(KnownOffer {
-        peer: peer(1),
-        endpoint: SocketAddrV4::new(peer(1), 30510),
-    });
-    assert!(rt; seeker.known(instance(1), now) == known);
-    assert!(rt; seeker.known(instance(2), now).is_none());
-    Ok(())
+fn finds_end_when_an_offer_is_known(rt: HostRuntime) {
+    assert!(rt; first_wrong(rt.alloc(), THREE, FOUND).is_none());
 }
 
 #[test]
-fn an_offer_passes_at_its_moment(rt: HostRuntime) -> Result<(), Fail> {
-    let mut seeker = Seeker::new(rt.alloc());
-    seeker.add(instance(1), 1)?;
-    seeker.start(10);
-    let now = Moment::new(50).ok_or("late")?;
-    let before = Moment::new(3049).ok_or("late")?;
-    let at = Moment::new(3050).ok_or("late")?;
-    let offer = offer_at(1, 30509, 1, Ttl::new(3).ok_or("ttl")?);
-    let others = offer_at(1, 30509, 2, Ttl::UNTIL_REBOOT);
-    assert!(rt; seeker.offer(&offer, now) == Ok(Counted::New));
-    assert!(rt; seeker.offer(&others, before) == Err(Uncounted::OtherPeer));
-    assert!(rt; !seeker.stop(instance(1), 1, peer(1), at));
-    assert!(rt; seeker.offer(&others, at) == Ok(Counted::New));
-    let last = Moment::new(9223372036854775807).ok_or("late")?;
-    assert!(rt; seeker.known(instance(1), last).is_some());
-    Ok(())
+fn one_late_tick_sends_one_find(rt: HostRuntime) {
+    assert!(rt; first_wrong(rt.alloc(), THREE, LATE).is_none());
 }
 
 #[test]
-fn a_stop_offer_ends_an_offer(rt: HostRuntime) -> Result<(), Fail> {
-    let mut seeker = Seeker::new(rt.alloc());
-    seeker.add(instance(1), 1)?;
-    let now = Moment::new(50).ok_or("late")?;
-    let offer = offer_at(1, 30509, 1, Ttl::UNTIL_REBOOT);
-    assert!(rt; seeker.offer(&offer, now) == Ok(Counted::New));
-    let rows = [
-        (2, 1, 1, false, true),
-        (1, 2, 1, false, true),
-        (1, 1, 2, false, true),
-        (1, 1, 1, true, false),
-        (1, 1, 1, false, false),
-    ];
-    for (number, major, by, ended, known) in rows {
-        assert!(rt; seeker.stop(instance(number), major, peer(by), now) == ended);
-        assert!(rt; seeker.known(instance(1), now).is_some() == known);
-    }
-    assert!(rt; seeker.offer(&offer, now) == Ok(Counted::New));
-    seeker.start(10);
-    assert!(rt; seeker.known(instance(1), now).is_none());
-    Ok(())
+fn finds_without_repetitions(rt: HostRuntime) {
+    assert!(rt; first_wrong(rt.alloc(), NO_REPETITIONS, ONCE).is_none());
 }
 
 #[test]
-fn offers_end_together(rt: HostRuntime) -> Result<(), Fail> {
-    let mut seeker = Seeker::new(rt.alloc());
-    let ttl = Ttl::new(3).ok_or("ttl")?;
-    let now = Moment::new(50).ok_or("late")?;
-    for (number, by) in [(3, 1), (2, 2), (1, 1)] {
-        seeker.add(instance(number), 1)?;
-        let offer = offer_at(number, 30509, by, ttl);
-        assert!(rt; seeker.offer(&offer, now) == Ok(Counted::New));
-    }
-    let ended = seeker.peer_reboot(peer(2), now)?;
-    assert!(rt; ended.as_slice() == [instance(2)].as_slice());
-    let ended = seeker.peer_reboot(peer(2), now)?;
-    assert!(rt; ended.is_empty());
-    let at = Moment::new(3050).ok_or("late")?;
-    let ticked = seeker.tick(at, THREE)?;
-    assert!(rt; ticked.ended.as_slice() == [instance(1), instance(3)].as_slice());
-    let ticked = seeker.tick(at, THREE)?;
-    assert!(rt; ticked.ended.is_empty());
-    Ok(())
+fn offers_count_or_do_not(rt: HostRuntime) {
+    assert!(rt; first_wrong(rt.alloc(), THREE, COUNTED).is_none());
+}
+
+#[test]
+fn an_offer_passes_at_its_moment(rt: HostRuntime) {
+    assert!(rt; first_wrong(rt.alloc(), THREE, PASSING).is_none());
+}
+
+#[test]
+fn a_stop_offer_ends_an_offer(rt: HostRuntime) {
+    assert!(rt; first_wrong(rt.alloc(), THREE, STOPPED).is_none());
+}
+
+#[test]
+fn offers_end_together(rt: HostRuntime) {
+    assert!(rt; first_wrong(rt.alloc(), THREE, TOGETHER).is_none());
 }

@@ -1,18 +1,51 @@
 //! Rows of subscriptions at their server.
+use super::{FIRST, SECOND, address, counter, endpoint};
+use Act::{Clear, IsLive, Live, Reboot, Stop, StopOffer, Subscribe, Tick};
 use sd_core::{
-    Cause, InstanceId, Subscribe, SubscribeError, SubscribeRules, Subscribers, Subscription,
+    Cause, InstanceId, Subscribe as Request, SubscribeError, SubscribeRules, Subscribers,
+    Subscription,
 };
 use sd_session::{Channel, PeerTable, Seen};
-use sd_wire::{SubscriptionCounter, Ttl};
+use sd_wire::Ttl;
 use someip_tables::Moment;
-use std::net::{Ipv4Addr, SocketAddrV4};
+use std::alloc::{AllocError, Global};
+use std::collections::BTreeSet;
+use std::net::SocketAddrV4;
 use std::test::Fail;
 
-/// An instance, an eventgroup and a peer of the rows.
-const INSTANCE: InstanceId = InstanceId {
-    service: 0x1111,
-    instance: 1,
-};
+/// What a host asks for. Its endpoint is a port of its own.
+#[derive(Clone, Copy)]
+struct Asked {
+    instance: InstanceId,
+    eventgroup: u16,
+    host: u8,
+    port: Option<u16>,
+    counter: u8,
+    ttl: u32,
+}
+
+/// A call of the subscribers, and what has to come of it.
+#[derive(Clone, Copy)]
+enum Act {
+    /// A Subscribe comes to a server that knows this of it.
+    Subscribe(SubscribeRules, Asked, Result<(), SubscribeError>),
+    /// A StopSubscribe of what was asked for comes: whether it was live.
+    Stop(Asked, bool),
+    /// The offer of an instance is stopped.
+    StopOffer(InstanceId),
+    /// A host began again.
+    Reboot(u8),
+    /// The clock ticks.
+    Tick,
+    /// The server is started again.
+    Clear,
+    /// An event in these eventgroups of the first instance goes to these ports of hosts, in this order.
+    Live(&'static [u16], &'static [(u8, u16)]),
+    /// Whether port 40001 of host 2 is subscribed to the eventgroup 1 of an instance.
+    IsLive(InstanceId, bool),
+}
+
+type Row = (u64, Act);
 
 /// What a server knows that accepts a subscription, one to each eventgroup at a time.
 const ONE: SubscribeRules = SubscribeRules {
@@ -24,232 +57,383 @@ const ONE: SubscribeRules = SubscribeRules {
 
 const MANY: SubscribeRules = SubscribeRules { limit: 1024, ..ONE };
 
-fn peer(host: u8) -> Ipv4Addr {
-    Ipv4Addr::new(192, 168, 0, host)
+/// What a server knows whose eventgroups take no subscription.
+const CLOSED: SubscribeRules = SubscribeRules { limit: 0, ..ONE };
+
+/// The eventgroup 1 of the first instance, for 3 seconds.
+const ASKED: Asked = Asked {
+    instance: FIRST,
+    eventgroup: 1,
+    host: 2,
+    port: Some(40001),
+    counter: 0,
+    ttl: 3,
+};
+
+/// The same by host 3.
+const OTHER: Asked = Asked { host: 3, ..ASKED };
+
+/// The first one again, without an endpoint.
+const WITHOUT: Asked = Asked {
+    port: None,
+    ..ASKED
+};
+
+/// What host 2 asks for of the second instance.
+const BESIDE: Asked = Asked {
+    instance: SECOND,
+    ..ASKED
+};
+
+const FULL: Result<(), SubscribeError> = Err(SubscribeError::Nack(Cause::Full));
+
+/// A TTL in seconds, a moment, and how many endpoints are live then of a subscription that began at 0.
+const LASTING: &[(u32, u64, usize)] = &[
+    (3, 2999, 1),
+    (3, 3000, 0),
+    (0xff_ffff, 3000, 1),
+    (0xff_ffff, 9223372036854775807, 1),
+    (0xff_fffe, 16_777_213_999, 1),
+    (0xff_fffe, 16_777_214_000, 0),
+];
+
+/// Two hosts, of which one may be subscribed at a time.
+const CROWDED: &[Row] = &[
+    (0, Subscribe(ONE, ASKED, Ok(()))),
+    (10, Subscribe(ONE, OTHER, FULL)),
+    (20, Subscribe(ONE, ASKED, Ok(()))),
+    (3019, Subscribe(ONE, OTHER, FULL)),
+    (3020, Subscribe(ONE, OTHER, Ok(()))),
+    (3020, Subscribe(ONE, ASKED, FULL)),
+    (
+        3020,
+        Subscribe(
+            ONE,
+            Asked {
+                eventgroup: 2,
+                ..ASKED
+            },
+            Ok(()),
+        ),
+    ),
+];
+
+/// Requests that have every cause from one on.
+const REFUSED: &[Row] = &[
+    (
+        0,
+        Subscribe(
+            SubscribeRules {
+                is_offered: false,
+                is_same_major: false,
+                is_known_eventgroup: false,
+                ..CLOSED
+            },
+            WITHOUT,
+            Err(SubscribeError::Nack(Cause::NotOffered)),
+        ),
+    ),
+    (
+        0,
+        Subscribe(
+            SubscribeRules {
+                is_same_major: false,
+                is_known_eventgroup: false,
+                ..CLOSED
+            },
+            WITHOUT,
+            Err(SubscribeError::Nack(Cause::WrongMajor)),
+        ),
+    ),
+    (
+        0,
+        Subscribe(
+            SubscribeRules {
+                is_known_eventgroup: false,
+                ..CLOSED
+            },
+            WITHOUT,
+            Err(SubscribeError::Nack(Cause::UnknownEventgroup)),
+        ),
+    ),
+    (
+        0,
+        Subscribe(
+            CLOSED,
+            WITHOUT,
+            Err(SubscribeError::Nack(Cause::NoEndpoint)),
+        ),
+    ),
+    (0, Subscribe(CLOSED, ASKED, FULL)),
+];
+
+/// Two subscriptions of one endpoint, and others.
+const ENDPOINTS: &[Row] = &[
+    (0, Subscribe(MANY, ASKED, Ok(()))),
+    (
+        0,
+        Subscribe(
+            MANY,
+            Asked {
+                counter: 1,
+                ..ASKED
+            },
+            Ok(()),
+        ),
+    ),
+    (
+        0,
+        Subscribe(
+            MANY,
+            Asked {
+                eventgroup: 2,
+                port: Some(39999),
+                ..ASKED
+            },
+            Ok(()),
+        ),
+    ),
+    (
+        0,
+        Subscribe(
+            MANY,
+            Asked {
+                host: 1,
+                port: Some(40003),
+                ..ASKED
+            },
+            Ok(()),
+        ),
+    ),
+    (0, Live(&[2, 1], &[(1, 40003), (2, 39999), (2, 40001)])),
+    (0, Live(&[2], &[(2, 39999)])),
+];
+
+/// Each way in which a subscription ends.
+const ENDING: &[Row] = &[
+    (0, Subscribe(ONE, ASKED, Ok(()))),
+    (0, Subscribe(ONE, BESIDE, Ok(()))),
+    (
+        0,
+        Stop(
+            Asked {
+                counter: 1,
+                ..ASKED
+            },
+            false,
+        ),
+    ),
+    (3000, Stop(ASKED, false)),
+    (0, Subscribe(ONE, ASKED, Ok(()))),
+    (0, IsLive(FIRST, true)),
+    (0, Stop(ASKED, true)),
+    (0, IsLive(FIRST, false)),
+    (0, Subscribe(ONE, ASKED, Ok(()))),
+    (0, StopOffer(FIRST)),
+    (0, IsLive(FIRST, false)),
+    (0, IsLive(SECOND, true)),
+    (2999, Tick),
+    (0, IsLive(SECOND, true)),
+    (3000, Tick),
+    (0, IsLive(SECOND, false)),
+    (0, Subscribe(ONE, ASKED, Ok(()))),
+    (0, Clear),
+    (0, IsLive(FIRST, false)),
+];
+
+/// A message of a host: its session, what that shows of the host, and what the server does then.
+const HEARD: &[(u8, u16, Seen, Act)] = &[
+    (2, 1, Seen::Same, Subscribe(MANY, ASKED, Ok(()))),
+    (3, 1, Seen::Same, Subscribe(MANY, OTHER, Ok(()))),
+    (3, 2, Seen::Same, Subscribe(MANY, OTHER, Ok(()))),
+    (2, 1, Seen::Rebooted, Reboot(2)),
+];
+
+/// The number of the first of these rows that comes out otherwise.
+fn first_wrong(alloc: Global, rows: &[Row]) -> Option<usize> {
+    let mut subscribers = Subscribers::new(alloc);
+    first_wrong_of(&mut subscribers, rows)
 }
 
-/// A Subscribe of a host to eventgroup 1 with a TTL of 3 seconds.
-fn subscribe(host: u8, port: u16) -> Result<Subscribe, Fail> {
-    Ok(Subscribe {
-        instance: INSTANCE,
-        eventgroup: 1,
-        peer: peer(host),
-        endpoint: Some(SocketAddrV4::new(peer(host), port)),
-        counter: counter(0)?,
-        ttl: Ttl::new(3).ok_or("a TTL")?,
+fn first_wrong_of(subscribers: &mut Subscribers, rows: &[Row]) -> Option<usize> {
+    for (index, (millis, act)) in rows.iter().enumerate() {
+        if comes_out(subscribers, *millis, *act) != Some(true) {
+            return Some(index);
+        }
+    }
+    None
+}
+
+/// Whether an act comes out as it says, if there is such a moment.
+fn comes_out(subscribers: &mut Subscribers, millis: u64, act: Act) -> Option<bool> {
+    let now = Moment::new(millis)?;
+    match act {
+        Subscribe(rules, asked, answer) => {
+            Some(subscribers.subscribe(rules, request(asked)?, now) == answer)
+        }
+        Stop(asked, was_live) => Some(subscribers.stop(subscription(asked)?, now) == was_live),
+        StopOffer(instance) => Some(ends_offer(subscribers, instance)),
+        Reboot(host) => Some(ends_peer(subscribers, host)),
+        Tick => Some(ticks(subscribers, now)),
+        Clear => Some(clears(subscribers)),
+        Live(eventgroups, ports) => {
+            Some(are_ports(subscribers.live(FIRST, eventgroups, now), ports))
+        }
+        IsLive(instance, is_live) => {
+            Some(subscribers.is_live(instance, 1, endpoint(2, 40001), now) == is_live)
+        }
+    }
+}
+
+/// The Subscribe, if there are such a counter and TTL.
+fn request(asked: Asked) -> Option<Request> {
+    Some(Request {
+        instance: asked.instance,
+        eventgroup: asked.eventgroup,
+        peer: address(asked.host),
+        endpoint: asked.port.map(|port| endpoint(asked.host, port)),
+        counter: counter(asked.counter)?,
+        ttl: Ttl::new(asked.ttl)?,
     })
 }
 
-fn counter(number: u8) -> Result<SubscriptionCounter, Fail> {
-    Ok(SubscriptionCounter::new(number).ok_or("a counter")?)
+/// What is asked for, if it has an endpoint, and there is such a counter.
+fn subscription(asked: Asked) -> Option<Subscription> {
+    Some(Subscription {
+        instance: asked.instance,
+        eventgroup: asked.eventgroup,
+        peer: address(asked.host),
+        endpoint: endpoint(asked.host, asked.port?),
+        counter: counter(asked.counter)?,
+    })
 }
 
-/// What a server knows whose eventgroups take no subscription.
-fn full(is_offered: bool, is_same_major: bool, is_known_eventgroup: bool) -> SubscribeRules {
-    SubscribeRules {
-        is_offered,
-        is_same_major,
-        is_known_eventgroup,
-        limit: 0,
+fn ends_offer(subscribers: &mut Subscribers, instance: InstanceId) -> bool {
+    subscribers.stop_offer(instance);
+    true
+}
+
+fn ends_peer(subscribers: &mut Subscribers, host: u8) -> bool {
+    subscribers.peer_reboot(address(host));
+    true
+}
+
+fn ticks(subscribers: &mut Subscribers, now: Moment) -> bool {
+    subscribers.tick(now);
+    true
+}
+
+fn clears(subscribers: &mut Subscribers) -> bool {
+    subscribers.clear();
+    true
+}
+
+/// Whether the endpoints are these ports of hosts, in this order.
+fn are_ports(live: Result<BTreeSet<SocketAddrV4>, AllocError>, ports: &[(u8, u16)]) -> bool {
+    match live {
+        Ok(mut endpoints) => takes_all(&mut endpoints, ports),
+        Err(_) => false,
     }
 }
 
-fn nack(cause: Cause) -> Result<(), SubscribeError> {
-    Err(SubscribeError::Nack(cause))
-}
-
-fn at(millis: u64) -> Result<Moment, Fail> {
-    Ok(Moment::new(millis).ok_or("a moment")?)
-}
-
-#[test]
-fn subscriptions_last_for_their_ttl(rt: HostRuntime) -> Result<(), Fail> {
-    let last = (1 << 63) - 1;
-    let rows = [
-        (3, 2999, true),
-        (3, 3000, false),
-        (0xff_ffff, 3000, true),
-        (0xff_ffff, last, true),
-        (0xff_fffe, 16_777_213_999, true),
-        (0xff_fffe, 16_777_214_000, false),
-    ];
-    for (seconds, millis, is_live) in rows {
-        let mut subscribers = Subscribers::new(rt.alloc());
-        let request = Subscribe {
-            ttl: Ttl::new(seconds).ok_or("a TTL")?,
-            ..subscribe(2, 40001)?
-        };
-        subscribers.subscribe(ONE, request, Moment::start())?;
-        let live = subscribers.live(INSTANCE, &[1], at(millis)?)?;
-        assert!(rt; live.len() == usize::from(is_live));
+fn takes_all(endpoints: &mut BTreeSet<SocketAddrV4>, ports: &[(u8, u16)]) -> bool {
+    for (host, port) in ports {
+        if endpoints.pop_first() != Some(endpoint(*host, *port)) {
+            return false;
+        }
     }
-    Ok(())
+    endpoints.is_empty()
+}
+
+/// How many endpoints are live at a moment of a subscription with this TTL that began at 0.
+fn live_at(alloc: Global, ttl: u32, millis: u64) -> Option<usize> {
+    let mut subscribers = Subscribers::new(alloc);
+    left_of(&mut subscribers, Asked { ttl, ..ASKED }, millis)
+}
+
+fn left_of(subscribers: &mut Subscribers, asked: Asked, millis: u64) -> Option<usize> {
+    if comes_out(subscribers, 0, Subscribe(ONE, asked, Ok(()))) == Some(true) {
+        count(subscribers.live(FIRST, &[1], Moment::new(millis)?))
+    } else {
+        None
+    }
+}
+
+fn count(live: Result<BTreeSet<SocketAddrV4>, AllocError>) -> Option<usize> {
+    match live {
+        Ok(endpoints) => Some(endpoints.len()),
+        Err(_) => None,
+    }
 }
 
 #[test]
-fn an_eventgroup_is_full(rt: HostRuntime) -> Result<(), Fail> {
-    let full = nack(Cause::Full);
-    let first = subscribe(2, 40001)?;
-    let other = subscribe(3, 40001)?;
-    let rows = [
-        (first, 0, Ok(())),
-        (other, 10, full),
-        (first, 20, Ok(())),
-        (other, 3019, full),
-        (other, 3020, Ok(())),
-        (first, 3020, full),
-    ];
+fn subscriptions_last_for_their_ttl(rt: HostRuntime) {
+    for (ttl, millis, live) in LASTING {
+        assert!(rt; live_at(rt.alloc(), *ttl, *millis) == Some(*live));
+    }
+}
+
+#[test]
+fn an_eventgroup_is_full(rt: HostRuntime) {
+    assert!(rt; first_wrong(rt.alloc(), CROWDED).is_none());
+}
+
+#[test]
+fn the_first_cause_is_told(rt: HostRuntime) {
+    assert!(rt; first_wrong(rt.alloc(), REFUSED).is_none());
+}
+
+#[test]
+fn endpoints_are_told_once_and_in_order(rt: HostRuntime) {
+    assert!(rt; first_wrong(rt.alloc(), ENDPOINTS).is_none());
+}
+
+#[test]
+fn subscriptions_end(rt: HostRuntime) {
+    assert!(rt; first_wrong(rt.alloc(), ENDING).is_none());
+}
+
+/// The number of the first message that shows something else of its host, or that the server does not take
+/// as it has to.
+fn first_unheard(peers: &mut PeerTable, subscribers: &mut Subscribers) -> Option<usize> {
+    for (index, (host, session, seen, act)) in HEARD.iter().enumerate() {
+        let told = peers.saw(address(*host), Channel::Unicast, *session, true);
+        if told != Ok(*seen) || comes_out(subscribers, 0, *act) != Some(true) {
+            return Some(index);
+        }
+    }
+    None
+}
+
+#[test]
+fn a_reboot_ends_what_came_from_that_peer(rt: HostRuntime) {
+    let mut peers = PeerTable::new(rt.alloc(), 64);
     let mut subscribers = Subscribers::new(rt.alloc());
-    for (request, millis, answer) in rows {
-        assert!(rt; subscribers.subscribe(ONE, request, at(millis)?) == answer);
-    }
-    let another = Subscribe {
-        eventgroup: 2,
-        ..first
-    };
-    assert!(rt; subscribers.subscribe(ONE, another, at(3020)?) == Ok(()));
-    Ok(())
+    assert!(rt; first_unheard(&mut peers, &mut subscribers).is_none());
+    assert!(rt; comes_out(&mut subscribers, 0, Live(&[1], &[(3, 40001)])) == Some(true));
 }
 
-#[test]
-fn the_first_cause_is_told(rt: HostRuntime) -> Result<(), Fail> {
-    let now = Moment::start();
-    let without = Subscribe {
-        endpoint: None,
-        ..subscribe(2, 40001)?
-    };
-    let mut subscribers = Subscribers::new(rt.alloc());
-    let down = full(false, false, false);
-    assert!(rt; subscribers.subscribe(down, without, now) == nack(Cause::NotOffered));
-    let wrong = full(true, false, false);
-    assert!(rt; subscribers.subscribe(wrong, without, now) == nack(Cause::WrongMajor));
-    let unknown = full(true, true, false);
-    assert!(rt; subscribers.subscribe(unknown, without, now) == nack(Cause::UnknownEventgroup));
-    let known = full(true, true, true);
-    assert!(rt; subscribers.subscribe(known, without, now) == nack(Cause::NoEndpoint));
-    let with = subscribe(2, 40001)?;
-    assert!(rt; subscribers.subscribe(known, with, now) == nack(Cause::Full));
-    Ok(())
+const NAMES: &[(SubscribeError, &str)] = &[
+    (SubscribeError::Nack(Cause::NotOffered), "NotOffered"),
+    (SubscribeError::Nack(Cause::WrongMajor), "WrongMajor"),
+    (
+        SubscribeError::Nack(Cause::UnknownEventgroup),
+        "UnknownEventgroup",
+    ),
+    (SubscribeError::Nack(Cause::NoEndpoint), "NoEndpoint"),
+    (SubscribeError::Nack(Cause::Full), "Full"),
+    (SubscribeError::OutOfMemory, "out of memory"),
+];
+
+fn is_named(alloc: Global, error: SubscribeError, name: &str) -> Result<bool, Fail> {
+    let text = error.to_string(alloc)?;
+    Ok(text.as_str() == name)
 }
 
 #[test]
 fn causes_have_names(rt: HostRuntime) -> Result<(), Fail> {
-    let rows = [
-        (SubscribeError::Nack(Cause::NotOffered), "NotOffered"),
-        (SubscribeError::Nack(Cause::WrongMajor), "WrongMajor"),
-        (
-            SubscribeError::Nack(Cause::UnknownEventgroup),
-            "UnknownEventgroup",
-        ),
-        (SubscribeError::Nack(Cause::NoEndpoint), "NoEndpoint"),
-        (SubscribeError::Nack(Cause::Full), "Full"),
-        (SubscribeError::OutOfMemory, "out of memory"),
-    ];
-    for (error, name) in rows {
-        let text = error.to_string(rt.alloc())?;
-        assert!(rt; text.as_str() == name);
+    for (error, name) in NAMES {
+        assert!(rt; is_named(rt.alloc(), *error, name)?);
     }
-    Ok(())
-}
-
-#[test]
-fn endpoints_are_told_once_and_in_order(rt: HostRuntime) -> Result<(), Fail> {
-    let now = Moment::start();
-    let mut subscribers = Subscribers::new(rt.alloc());
-    let again = Subscribe {
-        counter: counter(1)?,
-        ..subscribe(2, 40001)?
-    };
-    let second = Subscribe {
-        eventgroup: 2,
-        ..subscribe(2, 39999)?
-    };
-    for request in [subscribe(2, 40001)?, again, second, subscribe(1, 40003)?] {
-        subscribers.subscribe(MANY, request, now)?;
-    }
-    let mut both = subscribers.live(INSTANCE, &[2, 1], now)?;
-    assert!(rt; both.pop_first() == Some(SocketAddrV4::new(peer(1), 40003)));
-    assert!(rt; both.pop_first() == Some(SocketAddrV4::new(peer(2), 39999)));
-    assert!(rt; both.pop_first() == Some(SocketAddrV4::new(peer(2), 40001)));
-    assert!(rt; both.is_empty());
-    let mut one = subscribers.live(INSTANCE, &[2], now)?;
-    assert!(rt; one.pop_first() == Some(SocketAddrV4::new(peer(2), 39999)));
-    assert!(rt; one.is_empty());
-    Ok(())
-}
-
-#[test]
-fn subscriptions_end(rt: HostRuntime) -> Result<(), Fail> {
-    let now = Moment::start();
-    let here = SocketAddrV4::new(peer(2), 40001);
-    let beside = InstanceId {
-        service: 0x1111,
-        instance: 2,
-    };
-    let stopped = Subscription {
-        instance: INSTANCE,
-        eventgroup: 1,
-        peer: peer(2),
-        endpoint: here,
-        counter: counter(0)?,
-    };
-    let mut subscribers = Subscribers::new(rt.alloc());
-    for instance in [INSTANCE, beside] {
-        let request = Subscribe {
-            instance,
-            ..subscribe(2, 40001)?
-        };
-        subscribers.subscribe(ONE, request, now)?;
-    }
-    assert!(rt;
-        !subscribers.stop(
-            Subscription {
-                counter: counter(1)?,
-                ..stopped
-            },
-            now
-        )
-    );
-    assert!(rt; !subscribers.stop(stopped, at(3000)?));
-    subscribers.subscribe(ONE, subscribe(2, 40001)?, now)?;
-    assert!(rt; subscribers.is_live(INSTANCE, 1, here, now));
-    assert!(rt; subscribers.stop(stopped, now));
-    assert!(rt; !subscribers.is_live(INSTANCE, 1, here, now));
-    subscribers.subscribe(ONE, subscribe(2, 40001)?, now)?;
-    subscribers.stop_offer(INSTANCE);
-    assert!(rt; !subscribers.is_live(INSTANCE, 1, here, now));
-    assert!(rt; subscribers.is_live(beside, 1, here, now));
-    subscribers.tick(at(2999)?);
-    assert!(rt; subscribers.is_live(beside, 1, here, now));
-    subscribers.tick(at(3000)?);
-    assert!(rt; !subscribers.is_live(beside, 1, here, now));
-    subscribers.subscribe(ONE, subscribe(2, 40001)?, now)?;
-    subscribers.clear();
-    assert!(rt; !subscribers.is_live(INSTANCE, 1, here, now));
-    Ok(())
-}
-
-#[test]
-fn a_reboot_ends_what_came_from_that_peer(rt: HostRuntime) -> Result<(), Fail> {
-    let now = Moment::start();
-    let mut peers = PeerTable::new(rt.alloc(), 64);
-    let mut subscribers = Subscribers::new(rt.alloc());
-    let rows = [
-        (2, 1, Seen::Same),
-        (3, 1, Seen::Same),
-        (3, 2, Seen::Same),
-        (2, 1, Seen::Rebooted),
-    ];
-    for (host, session, seen) in rows {
-        let told = peers.saw(peer(host), Channel::Unicast, session, true)?;
-        assert!(rt; told == seen);
-        match told {
-            Seen::Rebooted => subscribers.peer_reboot(peer(host)),
-            Seen::Same => subscribers.subscribe(MANY, subscribe(host, 40001)?, now)?,
-        }
-    }
-    let mut live = subscribers.live(INSTANCE, &[1], now)?;
-    assert!(rt; live.pop_first() == Some(SocketAddrV4::new(peer(3), 40001)));
-    assert!(rt; live.is_empty());
     Ok(())
 }

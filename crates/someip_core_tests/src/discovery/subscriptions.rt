@@ -1,203 +1,353 @@
 //! Rows of a client's subscriptions.
-use super::instance;
-use sd_core::{Acked, Beginning, Eventgroup, OutgoingSubscribe, SubscribeAnswer, Subscriptions};
+use super::{FIRST, SECOND, THIRD, address, counter};
+use Act::{Ack, Clear, IsSubscribed, Nack, Offer, Reboot, Stop, Tick, Unwant, Want};
+use sd_core::{
+    Acked, Beginning, Eventgroup, InstanceId, OutgoingSubscribe, SubscribeAnswer, Subscriptions,
+};
 use sd_wire::{SubscriptionCounter, Ttl};
 use someip_tables::{Deadline, Moment};
-use std::net::Ipv4Addr;
-use std::test::Fail;
+use std::alloc::{AllocError, Global};
 
-fn server() -> Ipv4Addr {
-    Ipv4Addr::new(192, 168, 0, 1)
-}
-
-fn other_server() -> Ipv4Addr {
-    Ipv4Addr::new(192, 168, 0, 9)
-}
-
-fn group(number: u16, id: u16) -> Eventgroup {
-    Eventgroup {
-        instance: instance(number),
-        id,
-    }
-}
-
-fn at(millis: u64) -> Moment {
-    match Moment::new(millis) {
-        Some(moment) => moment,
-        None => Moment::start(),
-    }
-}
-
-fn counter(number: u8) -> Option<SubscriptionCounter> {
-    SubscriptionCounter::new(number)
-}
-
-/// What a host of the network says of an eventgroup.
-fn answer(
-    number: u16,
-    id: u16,
+/// What a host says of an eventgroup.
+#[derive(Clone, Copy)]
+struct Said {
+    eventgroup: Eventgroup,
     has_wanted_major: bool,
     host: u8,
-    count: u8,
-) -> Result<SubscribeAnswer, Fail> {
-    Ok(SubscribeAnswer {
-        eventgroup: group(number, id),
-        has_wanted_major,
-        peer: Ipv4Addr::new(192, 168, 0, host),
-        counter: counter(count).ok_or("a counter")?,
+    counter: u8,
+}
+
+/// A call of the subscriptions, and what has to come of it.
+#[derive(Clone, Copy)]
+enum Act {
+    /// An eventgroup is wished, whose instance is offered by a host or by none: the counter of the
+    /// Subscribe that goes out.
+    Want(Eventgroup, Option<u8>, Option<u8>),
+    /// A wish is taken back: the host, the counter and the deadline of what ends.
+    Unwant(Eventgroup, Option<(u8, u8, Option<Deadline>)>),
+    /// An Offer of an instance comes from a host: the Subscribes that go out, and their counters.
+    Offer(InstanceId, u8, &'static [(Eventgroup, u8)]),
+    /// An Ack comes, with a TTL in seconds.
+    Ack(Said, u32, Acked),
+    /// A Nack comes: whether a subscription ended.
+    Nack(Said, bool),
+    /// A StopOffer of an instance ends these.
+    Stop(InstanceId, &'static [Eventgroup]),
+    /// A host began again, which ends these.
+    Reboot(u8, &'static [Eventgroup]),
+    /// The clock ticks, which ends these.
+    Tick(&'static [Eventgroup]),
+    /// Whether an eventgroup is subscribed.
+    IsSubscribed(Eventgroup, bool),
+    /// The client is started again.
+    Clear,
+}
+
+type Row = (u64, Act);
+
+/// The eventgroup 1 of the first instance.
+const GROUP: Eventgroup = Eventgroup {
+    instance: FIRST,
+    id: 1,
+};
+
+/// The eventgroup 2 of the first instance.
+const SECOND_GROUP: Eventgroup = Eventgroup {
+    instance: FIRST,
+    id: 2,
+};
+
+/// The eventgroup 1 of the second instance.
+const OF_SECOND: Eventgroup = Eventgroup {
+    instance: SECOND,
+    id: 1,
+};
+
+/// The eventgroup 1 of the third instance.
+const OF_THIRD: Eventgroup = Eventgroup {
+    instance: THIRD,
+    id: 1,
+};
+
+/// What host 1 says of the first subscription to the eventgroup 1 of the first instance.
+const GOOD: Said = Said {
+    eventgroup: GROUP,
+    has_wanted_major: true,
+    host: 1,
+    counter: 0,
+};
+
+/// The counter after sixteen turns, and after a new start.
+const ANEW: &[Row] = &[
+    (0, Clear),
+    (0, Want(GROUP, Some(1), Some(0))),
+    (0, Want(SECOND_GROUP, None, None)),
+];
+
+/// Answers each of which is another one in one part.
+const OTHERS: &[Said] = &[
+    Said { counter: 1, ..GOOD },
+    Said { host: 9, ..GOOD },
+    Said {
+        has_wanted_major: false,
+        ..GOOD
+    },
+    Said {
+        eventgroup: SECOND_GROUP,
+        ..GOOD
+    },
+    Said {
+        eventgroup: OF_SECOND,
+        ..GOOD
+    },
+];
+
+/// Acks that come one after the other.
+const LATEST: &[Row] = &[
+    (0, Want(GROUP, Some(1), Some(0))),
+    (100, Ack(GOOD, 5, Acked::Subscribed)),
+    (5099, IsSubscribed(GROUP, true)),
+    (5100, IsSubscribed(GROUP, false)),
+    (200, Ack(GOOD, 1, Acked::Renewed)),
+    (1199, IsSubscribed(GROUP, true)),
+    (1200, IsSubscribed(GROUP, false)),
+    (1200, Ack(GOOD, 5, Acked::NotPending)),
+    (1199, IsSubscribed(GROUP, true)),
+    (1200, IsSubscribed(GROUP, false)),
+    (1200, Nack(GOOD, false)),
+];
+
+/// Offers, and a Nack between them.
+const OFFERED: &[Row] = &[
+    (0, Want(SECOND_GROUP, None, None)),
+    (0, Want(GROUP, None, None)),
+    (0, Want(OF_SECOND, None, None)),
+    (0, Offer(FIRST, 1, &[(GROUP, 0), (SECOND_GROUP, 0)])),
+    (1000, Offer(FIRST, 1, &[(GROUP, 0), (SECOND_GROUP, 0)])),
+    (1000, Nack(GOOD, true)),
+    (1000, Nack(GOOD, false)),
+    (1000, Offer(FIRST, 1, &[(GROUP, 1), (SECOND_GROUP, 0)])),
+    (1000, Offer(THIRD, 1, &[])),
+];
+
+/// Each way in which subscriptions end.
+const ENDING: &[Row] = &[
+    (0, Want(OF_SECOND, Some(1), Some(0))),
+    (0, Want(SECOND_GROUP, Some(1), Some(0))),
+    (0, Want(GROUP, Some(1), Some(0))),
+    (0, Want(OF_THIRD, Some(9), Some(0))),
+    (0, Stop(FIRST, &[GROUP, SECOND_GROUP])),
+    (0, Want(GROUP, Some(1), Some(1))),
+    (0, Reboot(1, &[GROUP, OF_SECOND])),
+    (
+        0,
+        Ack(
+            Said {
+                eventgroup: OF_THIRD,
+                host: 9,
+                ..GOOD
+            },
+            1,
+            Acked::Subscribed,
+        ),
+    ),
+    (999, Tick(&[])),
+    (1000, Tick(&[OF_THIRD])),
+    (1000, Tick(&[])),
+];
+
+/// A subscription that lasts, and ends with its wish.
+const TAKEN_BACK: &[Row] = &[
+    (0, Want(GROUP, Some(1), Some(0))),
+    (0, Ack(GOOD, 0xff_ffff, Acked::Subscribed)),
+    (
+        1099511627776,
+        Unwant(GROUP, Some((1, 0, Some(Deadline::Never)))),
+    ),
+    (0, IsSubscribed(GROUP, false)),
+    (0, Offer(FIRST, 1, &[])),
+];
+
+/// The number of the first of these rows that comes out otherwise.
+fn first_wrong(alloc: Global, rows: &[Row]) -> Option<usize> {
+    let mut subscriptions = Subscriptions::new(alloc);
+    first_wrong_of(&mut subscriptions, rows)
+}
+
+fn first_wrong_of(subscriptions: &mut Subscriptions, rows: &[Row]) -> Option<usize> {
+    for (index, (millis, act)) in rows.iter().enumerate() {
+        if comes_out(subscriptions, *millis, *act) != Some(true) {
+            return Some(index);
+        }
+    }
+    None
+}
+
+/// Whether an act comes out as it says, if there is such a moment.
+fn comes_out(subscriptions: &mut Subscriptions, millis: u64, act: Act) -> Option<bool> {
+    let now = Moment::new(millis)?;
+    match act {
+        Want(eventgroup, host, sent) => wants(subscriptions, now, eventgroup, host, sent),
+        Unwant(eventgroup, stood) => {
+            Some(subscriptions.unwant(eventgroup, now) == beginning(stood)?)
+        }
+        Offer(instance, host, sent) => Some(are_sent(
+            subscriptions.offer(instance, address(host), now),
+            sent,
+        )),
+        Ack(said, ttl, told) => {
+            Some(subscriptions.ack(answer(said)?, Ttl::new(ttl)?, now) == told)
+        }
+        Nack(said, ended) => Some(subscriptions.nack(answer(said)?, now) == ended),
+        Stop(instance, ended) => Some(are_groups(subscriptions.stop(instance), ended)),
+        Reboot(host, ended) => Some(are_groups(subscriptions.peer_reboot(address(host)), ended)),
+        Tick(ended) => Some(are_groups(subscriptions.tick(now, &[]), ended)),
+        IsSubscribed(eventgroup, is) => Some(subscriptions.is_subscribed(&eventgroup, now) == is),
+        Clear => Some(clears(subscriptions)),
+    }
+}
+
+fn wants(
+    subscriptions: &mut Subscriptions,
+    now: Moment,
+    eventgroup: Eventgroup,
+    host: Option<u8>,
+    sent: Option<u8>,
+) -> Option<bool> {
+    let wanted = counter_of(sent)?;
+    Some(subscriptions.want(eventgroup, host.map(address), now) == Ok(wanted))
+}
+
+/// The counter with this number, if there is a number; none where there is no such counter.
+fn counter_of(number: Option<u8>) -> Option<Option<SubscriptionCounter>> {
+    match number {
+        Some(number) => Some(Some(counter(number)?)),
+        None => Some(None),
+    }
+}
+
+/// What stood, if anything did; none where there is no such counter.
+fn beginning(stood: Option<(u8, u8, Option<Deadline>)>) -> Option<Option<Beginning>> {
+    let Some((host, number, until)) = stood else {
+        return Some(None);
+    };
+    Some(Some(Beginning {
+        peer: address(host),
+        counter: counter(number)?,
+        until,
+    }))
+}
+
+/// The Ack or the Nack, if there is such a counter.
+fn answer(said: Said) -> Option<SubscribeAnswer> {
+    Some(SubscribeAnswer {
+        eventgroup: said.eventgroup,
+        has_wanted_major: said.has_wanted_major,
+        peer: address(said.host),
+        counter: counter(said.counter)?,
     })
 }
 
-#[test]
-fn counters_go_on(rt: HostRuntime) -> Result<(), Fail> {
-    let mut subscriptions = Subscriptions::new(rt.alloc());
-    for turn in 0..17 {
-        let sent = subscriptions.want(group(1, 1), Some(server()), at(0))?;
-        assert!(rt; sent == counter(turn % 16));
-        let again = subscriptions.want(group(1, 1), Some(server()), at(0))?;
-        assert!(rt; again == sent);
-        let ended = subscriptions.unwant(group(1, 1), at(0));
-        assert!(rt; ended.map(|beginning| beginning.peer) == Some(server()));
-        assert!(rt; subscriptions.unwant(group(1, 1), at(0)).is_none());
-    }
+fn clears(subscriptions: &mut Subscriptions) -> bool {
     subscriptions.clear();
-    let sent = subscriptions.want(group(1, 1), Some(server()), at(0))?;
-    assert!(rt; sent == counter(0));
-    assert!(rt; subscriptions.want(group(1, 2), None, at(0))?.is_none());
-    Ok(())
+    true
 }
 
-#[test]
-fn acks_are_compared(rt: HostRuntime) -> Result<(), Fail> {
-    let mut subscriptions = Subscriptions::new(rt.alloc());
-    let five = Ttl::new(5).ok_or("a TTL")?;
-    subscriptions.want(group(1, 1), Some(server()), at(0))?;
-    for (number, id, has_wanted_major, host, count) in [
-        (1, 1, true, 1, 1),
-        (1, 1, true, 9, 0),
-        (1, 1, false, 1, 0),
-        (1, 2, true, 1, 0),
-        (2, 1, true, 1, 0),
-    ] {
-        let other = answer(number, id, has_wanted_major, host, count)?;
-        assert!(rt; subscriptions.ack(other, five, at(100)) == Acked::NotPending);
-        let other = answer(number, id, has_wanted_major, host, count)?;
-        assert!(rt; !subscriptions.nack(other, at(100)));
+/// Whether the Subscribes go to these eventgroups, with these counters, in this order.
+fn are_sent(
+    answer: Result<Vec<OutgoingSubscribe>, AllocError>,
+    wanted: &[(Eventgroup, u8)],
+) -> bool {
+    match answer {
+        Ok(sent) => are_subscribes(&sent, wanted),
+        Err(_) => false,
     }
-    assert!(rt; !subscriptions.is_subscribed(&group(1, 1), at(100)));
-    Ok(())
 }
 
-#[test]
-fn the_latest_ack_decides(rt: HostRuntime) -> Result<(), Fail> {
-    let mut subscriptions = Subscriptions::new(rt.alloc());
-    subscriptions.want(group(1, 1), Some(server()), at(0))?;
-    for (ttl, millis, told, until) in [
-        (5, 100, Acked::Subscribed, 5100),
-        (1, 200, Acked::Renewed, 1200),
-        (5, 1200, Acked::NotPending, 1200),
-    ] {
-        let good = answer(1, 1, true, 1, 0)?;
-        let ttl = Ttl::new(ttl).ok_or("a TTL")?;
-        assert!(rt; subscriptions.ack(good, ttl, at(millis)) == told);
-        assert!(rt; subscriptions.is_subscribed(&group(1, 1), at(until - 1)));
-        assert!(rt; !subscriptions.is_subscribed(&group(1, 1), at(until)));
+fn are_subscribes(sent: &[OutgoingSubscribe], wanted: &[(Eventgroup, u8)]) -> bool {
+    if sent.len() != wanted.len() {
+        return false;
     }
-    let late = answer(1, 1, true, 1, 0)?;
-    assert!(rt; !subscriptions.nack(late, at(1200)));
-    Ok(())
+    for (subscribe, (eventgroup, number)) in sent.iter().zip(wanted) {
+        if subscribe.eventgroup != *eventgroup || Some(subscribe.counter) != counter(*number) {
+            return false;
+        }
+    }
+    true
 }
 
-#[test]
-fn offers_begin_and_renew(rt: HostRuntime) -> Result<(), Fail> {
-    let mut subscriptions = Subscriptions::new(rt.alloc());
-    let first = counter(0).ok_or("counter")?;
-    let second = counter(1).ok_or("counter")?;
-    subscriptions.want(group(1, 2), None, at(0))?;
-    subscriptions.want(group(1, 1), None, at(0))?;
-    subscriptions.want(group(2, 1), None, at(0))?;
-    let both = [
-        OutgoingSubscribe {
-            eventgroup: group(1, 1),
-            counter: first,
-        },
-        OutgoingSubscribe {
-            eventgroup: group(1, 2),
-            counter: first,
-        },
+/// Whether these eventgroups are answered, in this order.
+fn are_groups(answer: Result<Vec<Eventgroup>, AllocError>, wanted: &[Eventgroup]) -> bool {
+    match answer {
+        Ok(eventgroups) => eventgroups.as_slice() == wanted,
+        Err(_) => false,
+    }
+}
+
+/// Whether a wish begins with this counter, keeps it, and ends once.
+fn takes_turn(subscriptions: &mut Subscriptions, counter: u8) -> bool {
+    let rows = [
+        (0, Want(GROUP, Some(1), Some(counter))),
+        (0, Want(GROUP, Some(1), Some(counter))),
+        (0, Unwant(GROUP, Some((1, counter, None)))),
+        (0, Unwant(GROUP, None)),
     ];
-    for millis in [0, 1000] {
-        let sent = subscriptions.offer(instance(1), server(), at(millis))?;
-        assert!(rt; sent.as_slice() == both.as_slice());
+    first_wrong_of(subscriptions, &rows).is_none()
+}
+
+fn takes_turns(subscriptions: &mut Subscriptions) -> bool {
+    for turn in 0..17 {
+        if !takes_turn(subscriptions, turn % 16) {
+            return false;
+        }
     }
-    let nack = answer(1, 1, true, 1, 0)?;
-    assert!(rt; subscriptions.nack(nack, at(1000)));
-    let again = answer(1, 1, true, 1, 0)?;
-    assert!(rt; !subscriptions.nack(again, at(1000)));
-    let next = [
-        OutgoingSubscribe {
-            eventgroup: group(1, 1),
-            counter: second,
-        },
-        OutgoingSubscribe {
-            eventgroup: group(1, 2),
-            counter: first,
-        },
+    true
+}
+
+#[test]
+fn counters_go_on(rt: HostRuntime) {
+    let mut subscriptions = Subscriptions::new(rt.alloc());
+    assert!(rt; takes_turns(&mut subscriptions));
+    assert!(rt; first_wrong_of(&mut subscriptions, ANEW).is_none());
+}
+
+/// Whether an answer is none to what stands.
+fn is_not_pending(subscriptions: &mut Subscriptions, other: Said) -> bool {
+    let rows = [
+        (100, Ack(other, 5, Acked::NotPending)),
+        (100, Nack(other, false)),
     ];
-    let sent = subscriptions.offer(instance(1), server(), at(1000))?;
-    assert!(rt; sent.as_slice() == next.as_slice());
-    assert!(rt;
-        subscriptions
-            .offer(instance(3), server(), at(1000))?
-            .is_empty()
-    );
-    Ok(())
+    first_wrong_of(subscriptions, &rows).is_none()
 }
 
 #[test]
-fn subscriptions_end(rt: HostRuntime) -> Result<(), Fail> {
+fn acks_are_compared(rt: HostRuntime) {
     let mut subscriptions = Subscriptions::new(rt.alloc());
-    let one = Ttl::new(1).ok_or("ttl")?;
-    for (eventgroup, peer) in [
-        (group(2, 1), server()),
-        (group(1, 2), server()),
-        (group(1, 1), server()),
-        (group(3, 1), other_server()),
-    ] {
-        subscriptions.want(eventgroup, Some(peer), at(0))?;
+    let wish = Want(GROUP, Some(1), Some(0));
+    assert!(rt; comes_out(&mut subscriptions, 0, wish) == Some(true));
+    for other in OTHERS {
+        assert!(rt; is_not_pending(&mut subscriptions, *other));
     }
-    let ended = subscriptions.stop(instance(1))?;
-    assert!(rt; ended.as_slice() == [group(1, 1), group(1, 2)].as_slice());
-    subscriptions.want(group(1, 1), Some(server()), at(0))?;
-    let ended = subscriptions.peer_reboot(server())?;
-    assert!(rt; ended.as_slice() == [group(1, 1), group(2, 1)].as_slice());
-    let acked = answer(3, 1, true, 9, 0)?;
-    assert!(rt; subscriptions.ack(acked, one, at(0)) == Acked::Subscribed);
-    assert!(rt; subscriptions.tick(at(999), &[])?.is_empty());
-    let ended = subscriptions.tick(at(1000), &[])?;
-    assert!(rt; ended.as_slice() == [group(3, 1)].as_slice());
-    assert!(rt; subscriptions.tick(at(1000), &[])?.is_empty());
-    Ok(())
+    let none = IsSubscribed(GROUP, false);
+    assert!(rt; comes_out(&mut subscriptions, 100, none) == Some(true));
 }
 
 #[test]
-fn a_wish_is_taken_back(rt: HostRuntime) -> Result<(), Fail> {
-    let mut subscriptions = Subscriptions::new(rt.alloc());
-    let first = counter(0).ok_or("counter")?;
-    subscriptions.want(group(1, 1), Some(server()), at(0))?;
-    let acked = answer(1, 1, true, 1, 0)?;
-    assert!(rt; subscriptions.ack(acked, Ttl::UNTIL_REBOOT, at(0)) == Acked::Subscribed);
-    let stood = Beginning {
-        peer: server(),
-        counter: first,
-        until: Some(Deadline::Never),
-    };
-    assert!(rt; subscriptions.unwant(group(1, 1), at(1 << 40)) == Some(stood));
-    assert!(rt; !subscriptions.is_subscribed(&group(1, 1), at(0)));
-    assert!(rt;
-        subscriptions
-            .offer(instance(1), server(), at(0))?
-            .is_empty()
-    );
-    Ok(())
+fn the_latest_ack_decides(rt: HostRuntime) {
+    assert!(rt; first_wrong(rt.alloc(), LATEST).is_none());
+}
+
+#[test]
+fn offers_begin_and_renew(rt: HostRuntime) {
+    assert!(rt; first_wrong(rt.alloc(), OFFERED).is_none());
+}
+
+#[test]
+fn subscriptions_end(rt: HostRuntime) {
+    assert!(rt; first_wrong(rt.alloc(), ENDING).is_none());
+}
+
+#[test]
+fn a_wish_is_taken_back(rt: HostRuntime) {
+    assert!(rt; first_wrong(rt.alloc(), TAKEN_BACK).is_none());
 }

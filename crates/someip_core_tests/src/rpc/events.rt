@@ -1,83 +1,48 @@
 //! Rows of events.
-use super::requests::service;
-use super::{answer, endpoint, server};
-use someip_rpc::{RpcError, ServerCore, Subscriber};
-use someip_wire::{Header, MessageType, ReturnCode};
+use super::LONG;
+use super::acts::Act::{self, Clear, MayPublish, Publish, PublishMany, PublishTo};
+use super::acts::first_wrong;
+use someip_rpc::RpcError;
 use std::test::Fail;
 
-/// The header of the event 8001 with this session.
-fn event(session: u16) -> Header {
-    Header {
-        method: 0x8001,
-        client: 0,
-        ..answer(session, MessageType::Notification, ReturnCode::E_OK)
-    }
-}
+/// A live subscriber of the eventgroup 0001.
+const HERE: (u16, bool) = (1, true);
 
-/// The one subscriber of the eventgroup 0001.
-fn subscriber() -> Subscriber {
-    Subscriber {
-        eventgroup: 1,
-        endpoint: endpoint(2, 40001),
-        is_live: true,
-    }
-}
+/// Publications until the sessions wrap, and a new start.
+const COUNTED: &[Act] = &[
+    Publish(true, 0x8001, &[0x2a], Ok(1)),
+    PublishTo(true, HERE, 0x8001, &[], Ok(2)),
+    PublishMany(65533),
+    Publish(true, 0x8001, &[], Ok(1)),
+    Clear,
+    Publish(true, 0x8001, &[], Ok(1)),
+];
+
+/// Publications that have every cause from one on, and the first that takes a session.
+const REFUSED: &[Act] = &[
+    MayPublish(false, 0x8002, 1401, Err(RpcError::NotOffered)),
+    Publish(false, 0x8002, LONG, Err(RpcError::NotOffered)),
+    PublishTo(false, HERE, 0x8002, LONG, Err(RpcError::NotOffered)),
+    MayPublish(true, 0x8002, 1401, Err(RpcError::UnknownEvent)),
+    Publish(true, 0x8002, LONG, Err(RpcError::UnknownEvent)),
+    PublishTo(true, HERE, 0x8002, LONG, Err(RpcError::UnknownEvent)),
+    MayPublish(true, 0x8001, 1401, Err(RpcError::TooLong)),
+    Publish(true, 0x8001, LONG, Err(RpcError::TooLong)),
+    PublishTo(true, HERE, 0x8001, LONG, Err(RpcError::TooLong)),
+    PublishTo(true, (2, true), 0x8001, &[], Err(RpcError::UnknownEvent)),
+    PublishTo(true, (1, false), 0x8001, &[], Err(RpcError::NotSubscribed)),
+    MayPublish(true, 0x8001, 1400, Ok(())),
+    Publish(true, 0x8001, &[], Ok(1)),
+];
 
 #[test]
 fn an_event_counts_its_sessions(rt: HostRuntime) -> Result<(), Fail> {
-    let service = service(rt.alloc())?;
-    let mut core = ServerCore::new(rt.alloc());
-    let first = core.publish(&service, true, 1400, 0x8001, &[0x2a])?;
-    assert_eq!(rt; first.message.header, event(1));
-    assert!(rt; first.message.payload == [0x2a].as_slice());
-    let sent = first.to(endpoint(2, 40001));
-    assert_eq!(rt; sent.from, server());
-    assert_eq!(rt; sent.to, endpoint(2, 40001));
-    let alone = core.publish_to(&service, true, 1400, &subscriber(), 0x8001, &[])?;
-    assert_eq!(rt; alone.message.header, event(2));
-    assert_eq!(rt; alone.from, server());
-    assert_eq!(rt; alone.to, endpoint(2, 40001));
-    for _ in 0..65533 {
-        core.publish(&service, true, 1400, 0x8001, &[])?;
-    }
-    let wrapped = core.publish(&service, true, 1400, 0x8001, &[])?;
-    assert_eq!(rt; wrapped.message.header, event(1));
-    core.clear();
-    let anew = core.publish(&service, true, 1400, 0x8001, &[])?;
-    assert_eq!(rt; anew.message.header, event(1));
+    assert!(rt; first_wrong(rt.alloc(), COUNTED)?.is_none());
     Ok(())
 }
 
 #[test]
 fn events_that_are_refused(rt: HostRuntime) -> Result<(), Fail> {
-    let long = [0; 1401];
-    let service = service(rt.alloc())?;
-    let mut core = ServerCore::new(rt.alloc());
-    let rows = [
-        (false, 0x8002, RpcError::NotOffered),
-        (true, 0x8002, RpcError::UnknownEvent),
-        (true, 0x8001, RpcError::TooLong),
-    ];
-    for (is_up, event, error) in rows {
-        assert!(rt; service.may_publish(is_up, 1400, event, 1401) == Err(error));
-        assert!(rt; core.publish(&service, is_up, 1400, event, &long).err() == Some(error));
-        let one = core.publish_to(&service, is_up, 1400, &subscriber(), event, &long);
-        assert!(rt; one == Err(error));
-    }
-    let elsewhere = Subscriber {
-        eventgroup: 2,
-        ..subscriber()
-    };
-    let unknown = core.publish_to(&service, true, 1400, &elsewhere, 0x8001, &[]);
-    assert!(rt; unknown == Err(RpcError::UnknownEvent));
-    let gone = Subscriber {
-        is_live: false,
-        ..subscriber()
-    };
-    let unsubscribed = core.publish_to(&service, true, 1400, &gone, 0x8001, &[]);
-    assert!(rt; unsubscribed == Err(RpcError::NotSubscribed));
-    assert!(rt; service.may_publish(true, 1400, 0x8001, 1400).is_ok());
-    let first = core.publish(&service, true, 1400, 0x8001, &[])?;
-    assert_eq!(rt; first.message.header, event(1));
+    assert!(rt; first_wrong(rt.alloc(), REFUSED)?.is_none());
     Ok(())
 }

@@ -1,7 +1,10 @@
 //! A call with a long payload, and its long answer: both go in segments.
-use super::requests::service;
+use super::acts::service;
 use super::{call, rules, server};
-use someip_rpc::{Arrived, CallKind, ClientCore, ClientRules, Outgoing, Reply, ServerCore};
+use someip_rpc::{
+    Arrived, Call, CallKind, ClientCore, ClientRules, MessageId, Outgoing, Reply, ServerCore,
+    ServiceRules,
+};
 use someip_tables::Moment;
 use someip_tp::{
     Reassembly, ReassemblyKey, SegmentList, Sent, SentPiece, TpCall, TpError, are_in_time,
@@ -60,34 +63,93 @@ fn delivered(alloc: Global, sent: &Outgoing<'_>) -> Result<Vec<u8>, TpError> {
     received::<SegmentList>(alloc, &calls)
 }
 
-#[test]
-fn a_long_call_and_its_answer(rt: HostRuntime) -> Result<(), Fail> {
-    let now = Moment::start();
-    let rules = ClientRules {
+/// The rules of a client whose messages may be long.
+fn long_rules() -> ClientRules {
+    ClientRules {
         message_limit: 65536,
         ..rules()
-    };
-    let mut call = call(CallKind::Request);
-    call.message.method = 0x0421;
+    }
+}
+
+/// A call of the method 0421.
+fn long_call() -> Call {
+    Call {
+        message: MessageId {
+            service: 0x1111,
+            method: 0x0421,
+        },
+        ..call(CallKind::Request)
+    }
+}
+
+/// Whether a message comes with this payload to whoever puts its segments together.
+fn comes_whole(alloc: Global, sent: &Outgoing<'_>, payload: &[u8]) -> bool {
+    match delivered(alloc, sent) {
+        Ok(came) => came.as_slice() == payload,
+        Err(_) => false,
+    }
+}
+
+/// Whether a call with this payload comes to the instance, and is handed up under the first token.
+fn is_asked(
+    alloc: Global,
+    client: &mut ClientCore,
+    core: &mut ServerCore,
+    service: &ServiceRules,
+    payload: &[u8],
+) -> bool {
+    let now = Moment::start();
+    match client.call(&long_rules(), long_call(), payload, Some(server()), now) {
+        Ok(sent) => {
+            comes_whole(alloc, &sent, payload)
+                && core.on_request(service, true, sent.from, &sent.message.header)
+                    == Ok(Arrived::Request(1))
+        }
+        Err(_) => false,
+    }
+}
+
+/// Whether an answer with this payload comes to the client, and is the one that it awaits.
+fn is_answered(
+    alloc: Global,
+    client: &mut ClientCore,
+    core: &mut ServerCore,
+    payload: &[u8],
+) -> bool {
+    match core.answer(1, Reply::Response(ReturnCode::E_OK), payload, 65536) {
+        Ok(sent) => comes_whole(alloc, &sent, payload) && is_awaited(client, &sent),
+        Err(_) => false,
+    }
+}
+
+fn is_awaited(client: &mut ClientCore, sent: &Outgoing<'_>) -> bool {
+    let header = sent.message.header;
+    client
+        .on_answer(&long_rules(), sent.from, &header, Moment::start())
+        .is_ok()
+}
+
+/// Whether a call with 3000 bytes is answered by 5880.
+fn is_talked_over(
+    alloc: Global,
+    client: &mut ClientCore,
+    core: &mut ServerCore,
+    service: &ServiceRules,
+) -> bool {
+    match (payload_of(alloc, 3000), payload_of(alloc, 5880)) {
+        (Ok(question), Ok(reply)) => {
+            is_asked(alloc, client, core, service, &question)
+                && is_answered(alloc, client, core, &reply)
+        }
+        _ => false,
+    }
+}
+
+#[test]
+fn a_long_call_and_its_answer(rt: HostRuntime) -> Result<(), Fail> {
     let service = service(rt.alloc())?;
-    let question = payload_of(rt.alloc(), 3000)?;
-    let reply = payload_of(rt.alloc(), 5880)?;
     let mut client = ClientCore::new(rt.alloc());
     let mut core = ServerCore::new(rt.alloc());
-    let sent = client.call(&rules, call, &question, Some(server()), now)?;
-    let came = delivered(rt.alloc(), &sent)?;
-    assert_eq!(rt; came.as_slice(), question.as_slice());
-    let arrived = core.on_request(&service, true, sent.from, &sent.message.header)?;
-    assert!(rt; arrived == Arrived::Request(1));
-    let code = ReturnCode::E_OK;
-    let answered = core.answer(1, Reply::Response(code), &reply, 65536)?;
-    let came = delivered(rt.alloc(), &answered)?;
-    assert_eq!(rt; came.as_slice(), reply.as_slice());
-    let header = answered.message.header;
-    assert!(rt;
-        client
-            .on_answer(&rules, answered.from, &header, now)
-            .is_ok()
-    );
+    assert!(rt; is_talked_over(rt.alloc(), &mut client, &mut core, &service));
     Ok(())
 }

@@ -1,266 +1,272 @@
 //! Rows of requests, and of their answers.
-use super::{answer, call, endpoint, rules, server};
+use super::acts::Act::{self, Answer, Arrive, ArriveMany, Clear, Open};
+use super::acts::{Becomes, REQUEST, first_wrong, service};
+use super::{KEY, LONG, REFUSED, call, client, rules, server};
 use someip_rpc::{
-    Arrived, CallKey, CallKind, ClientCore, MessageId, Reply, RequestFault, RpcError, ServerCore,
-    ServiceRules,
+    Arrived, CallKind, ClientCore, Outgoing, Reply, RequestFault, RpcError, ServerCore,
 };
 use someip_tables::Moment;
 use someip_wire::{Header, MessageType, ReturnCode};
 use std::alloc::{AllocError, Global};
-use std::collections::{BTreeMap, BTreeSet};
-use std::net::SocketAddrV4;
 use std::test::Fail;
 
-/// The instance 0001 of the service 1111: the method 0421, the oneway 0422, and the event 8001 of the
-/// eventgroup 0001.
-pub fn service(alloc: Global) -> Result<ServiceRules, AllocError> {
-    let mut methods = BTreeSet::new(alloc);
-    methods.insert(0x0421)?;
-    let mut oneways = BTreeSet::new(alloc);
-    oneways.insert(0x0422)?;
-    let mut eventgroups = BTreeSet::new(alloc);
-    eventgroups.insert(1)?;
-    let mut events = BTreeMap::new(alloc);
-    events.insert(0x8001, eventgroups)?;
-    Ok(ServiceRules {
-        service: 0x1111,
-        instance: 1,
-        major: 1,
-        endpoint: server(),
-        methods,
-        oneways,
-        events,
-    })
-}
+const FINE: Reply = Reply::Response(ReturnCode::E_OK);
 
-/// The endpoint of the client.
-fn client() -> SocketAddrV4 {
-    endpoint(2, 40001)
-}
+/// The RESPONSE to the first request.
+const RESPONSE: Header = Header {
+    kind: MessageType::Response,
+    ..REQUEST
+};
 
-/// The request of the method 0421 with this session.
-fn request(session: u16) -> Header {
-    Header {
-        method: 0x0421,
-        ..answer(session, MessageType::Request, ReturnCode::E_OK)
-    }
-}
+/// A REQUEST_NO_RETURN of the oneway 0422.
+const ONEWAY: Header = Header {
+    method: 0x0422,
+    kind: MessageType::RequestNoReturn,
+    ..REQUEST
+};
 
-/// What becomes of a message that comes from the client.
-fn arrives(server: &mut ServerCore, service: &ServiceRules, header: &Header) -> Option<Arrived> {
-    server.on_request(service, true, client(), header).ok()
-}
+/// Two requests, a RESPONSE that is given twice, and an ERROR.
+const ANSWERED: &[Act] = &[
+    Arrive(
+        true,
+        Header {
+            session: 7,
+            ..REQUEST
+        },
+        Becomes::Request(1),
+    ),
+    Arrive(
+        true,
+        Header {
+            session: 8,
+            ..REQUEST
+        },
+        Becomes::Request(2),
+    ),
+    Answer(
+        1,
+        FINE,
+        &[3],
+        Ok(Header {
+            session: 7,
+            ..RESPONSE
+        }),
+    ),
+    Answer(1, FINE, &[3], Err(RpcError::UnknownToken)),
+    Answer(
+        2,
+        Reply::Error(ReturnCode(0x20)),
+        &[],
+        Ok(Header {
+            session: 8,
+            kind: MessageType::Error,
+            code: ReturnCode(0x20),
+            ..REQUEST
+        }),
+    ),
+];
 
-/// The code of the ERROR by which a message is refused.
-fn refusal(arrived: Option<Arrived>) -> Option<ReturnCode> {
-    match arrived {
-        Some(Arrived::Refused(error)) => Some(error.message.header.code),
-        _ => None,
-    }
-}
+/// Answers that have every cause from one on, and then a good one.
+const UNANSWERED: &[Act] = &[
+    Answer(
+        1,
+        Reply::Error(ReturnCode::E_OK),
+        LONG,
+        Err(RpcError::UnknownToken),
+    ),
+    Arrive(true, REQUEST, Becomes::Request(1)),
+    Answer(
+        1,
+        Reply::Error(ReturnCode::E_OK),
+        LONG,
+        Err(RpcError::BadErrorCode),
+    ),
+    Answer(
+        1,
+        Reply::Response(ReturnCode::E_NOT_OK),
+        LONG,
+        Err(RpcError::TooLong),
+    ),
+    Answer(
+        1,
+        Reply::Response(ReturnCode::E_NOT_OK),
+        &[],
+        Ok(Header {
+            code: ReturnCode::E_NOT_OK,
+            ..RESPONSE
+        }),
+    ),
+];
+
+/// Requests that fail every check from one on, and one while the instance is down.
+const FAULTY: &[Act] = &[
+    Arrive(
+        true,
+        Header {
+            service: 0x1112,
+            method: 0x0423,
+            interface: 2,
+            ..REQUEST
+        },
+        Becomes::Refused(0x02),
+    ),
+    Arrive(
+        true,
+        Header {
+            method: 0x0423,
+            interface: 2,
+            ..REQUEST
+        },
+        Becomes::Refused(0x08),
+    ),
+    Arrive(
+        true,
+        Header {
+            method: 0x0423,
+            ..REQUEST
+        },
+        Becomes::Refused(0x03),
+    ),
+    Arrive(
+        true,
+        Header {
+            method: 0x0422,
+            ..REQUEST
+        },
+        Becomes::Refused(0x0a),
+    ),
+    Arrive(false, REQUEST, Becomes::Refused(0x02)),
+];
+
+/// Messages that fail one check each, of which nobody is told, and a good one.
+const DROPPED: &[Act] = &[
+    Arrive(
+        true,
+        Header {
+            service: 0x1112,
+            ..ONEWAY
+        },
+        Becomes::Dropped(RequestFault::UnknownService),
+    ),
+    Arrive(
+        true,
+        Header {
+            interface: 2,
+            ..ONEWAY
+        },
+        Becomes::Dropped(RequestFault::WrongInterface),
+    ),
+    Arrive(
+        true,
+        Header {
+            method: 0x0423,
+            ..ONEWAY
+        },
+        Becomes::Dropped(RequestFault::UnknownMethod),
+    ),
+    Arrive(
+        true,
+        Header {
+            method: 0x0421,
+            ..ONEWAY
+        },
+        Becomes::Dropped(RequestFault::WrongType),
+    ),
+    Arrive(
+        true,
+        Header {
+            service: 0x1112,
+            kind: MessageType::Response,
+            ..ONEWAY
+        },
+        Becomes::Dropped(RequestFault::WrongType),
+    ),
+    Arrive(true, ONEWAY, Becomes::Oneway),
+];
+
+/// As many requests as can wait, and what comes then; an answer, and a new start.
+const CROWDED: &[Act] = &[
+    ArriveMany(1024, REQUEST),
+    Arrive(true, REQUEST, Becomes::Refused(0x04)),
+    Arrive(true, ONEWAY, Becomes::Oneway),
+    Answer(512, FINE, &[], Ok(RESPONSE)),
+    Open(1023),
+    Arrive(true, REQUEST, Becomes::Request(1025)),
+    Clear,
+    Arrive(true, REQUEST, Becomes::Request(1)),
+];
 
 #[test]
 fn a_request_and_its_answer(rt: HostRuntime) -> Result<(), Fail> {
-    let service = service(rt.alloc())?;
-    let mut server = ServerCore::new(rt.alloc());
-    let first = arrives(&mut server, &service, &request(7));
-    assert!(rt; first == Some(Arrived::Request(1)));
-    let second = arrives(&mut server, &service, &request(8));
-    assert!(rt; second == Some(Arrived::Request(2)));
-    let sent = server.answer(1, Reply::Response(ReturnCode::E_OK), &[3], 1400)?;
-    assert_eq!(rt; sent.from, super::server());
-    assert_eq!(rt; sent.to, client());
-    assert!(rt; sent.message.payload == [3].as_slice());
-    assert_eq!(rt;
-        sent.message.header,
-        Header {
-            kind: MessageType::Response,
-            ..request(7)
-        }
-    );
-    let again = server.answer(1, Reply::Response(ReturnCode::E_OK), &[3], 1400);
-    assert!(rt; again == Err(RpcError::UnknownToken));
-    let failed = server.answer(2, Reply::Error(ReturnCode(0x20)), &[], 1400)?;
-    assert_eq!(rt; failed.message.header.kind, MessageType::Error);
-    assert_eq!(rt; failed.message.header.code, ReturnCode(0x20));
+    assert!(rt; first_wrong(rt.alloc(), ANSWERED)?.is_none());
     Ok(())
 }
 
 #[test]
 fn answers_that_are_refused(rt: HostRuntime) -> Result<(), Fail> {
-    let long = [0; 1401];
-    let service = service(rt.alloc())?;
-    let mut server = ServerCore::new(rt.alloc());
-    let bad = Reply::Error(ReturnCode::E_OK);
-    let good = Reply::Response(ReturnCode::E_NOT_OK);
-    assert!(rt; server.answer(1, bad, &long, 1400) == Err(RpcError::UnknownToken));
-    let token = arrives(&mut server, &service, &request(1));
-    assert!(rt; token == Some(Arrived::Request(1)));
-    assert!(rt; server.answer(1, bad, &long, 1400) == Err(RpcError::BadErrorCode));
-    assert!(rt; server.answer(1, good, &long, 1400) == Err(RpcError::TooLong));
-    assert!(rt; server.answer(1, good, &[], 1400).is_ok());
+    assert!(rt; first_wrong(rt.alloc(), UNANSWERED)?.is_none());
     Ok(())
 }
 
 #[test]
 fn requests_that_are_refused(rt: HostRuntime) -> Result<(), Fail> {
-    let service = service(rt.alloc())?;
-    let mut server = ServerCore::new(rt.alloc());
-    let good = request(1);
-    let wrong = Header {
-        service: 0x1112,
-        method: 0x0423,
-        interface: 2,
-        ..good
-    };
-    let rows = [
-        (wrong, 0x02),
-        (
-            Header {
-                service: 0x1111,
-                ..wrong
-            },
-            0x08,
-        ),
-        (
-            Header {
-                method: 0x0423,
-                ..good
-            },
-            0x03,
-        ),
-        (
-            Header {
-                method: 0x0422,
-                ..good
-            },
-            0x0a,
-        ),
-    ];
-    for (header, code) in rows {
-        let refused = refusal(arrives(&mut server, &service, &header));
-        assert_eq!(rt; refused, Some(ReturnCode(code)));
-    }
-    let down = server.on_request(&service, false, client(), &good).ok();
-    assert_eq!(rt; refusal(down), Some(ReturnCode(0x02)));
+    assert!(rt; first_wrong(rt.alloc(), FAULTY)?.is_none());
     Ok(())
 }
 
 #[test]
 fn messages_that_are_dropped(rt: HostRuntime) -> Result<(), Fail> {
-    let service = service(rt.alloc())?;
-    let mut server = ServerCore::new(rt.alloc());
-    let oneway = Header {
-        method: 0x0422,
-        kind: MessageType::RequestNoReturn,
-        ..request(1)
-    };
-    let rows = [
-        (
-            Header {
-                service: 0x1112,
-                ..oneway
-            },
-            RequestFault::UnknownService,
-        ),
-        (
-            Header {
-                interface: 2,
-                ..oneway
-            },
-            RequestFault::WrongInterface,
-        ),
-        (
-            Header {
-                method: 0x0423,
-                ..oneway
-            },
-            RequestFault::UnknownMethod,
-        ),
-        (
-            Header {
-                method: 0x0421,
-                ..oneway
-            },
-            RequestFault::WrongType,
-        ),
-        (
-            Header {
-                service: 0x1112,
-                kind: MessageType::Response,
-                ..oneway
-            },
-            RequestFault::WrongType,
-        ),
-    ];
-    for (header, fault) in rows {
-        let dropped = arrives(&mut server, &service, &header);
-        assert!(rt; dropped == Some(Arrived::Dropped(fault)));
-    }
-    let good = arrives(&mut server, &service, &oneway);
-    assert!(rt; good == Some(Arrived::Oneway));
+    assert!(rt; first_wrong(rt.alloc(), DROPPED)?.is_none());
     Ok(())
 }
 
 #[test]
 fn open_requests_fill_up(rt: HostRuntime) -> Result<(), Fail> {
-    let service = service(rt.alloc())?;
-    let mut server = ServerCore::new(rt.alloc());
-    for _ in 0..1024 {
-        server.on_request(&service, true, client(), &request(1))?;
-    }
-    let full = refusal(arrives(&mut server, &service, &request(1)));
-    assert_eq!(rt; full, Some(ReturnCode(0x04)));
-    let oneway = Header {
-        method: 0x0422,
-        kind: MessageType::RequestNoReturn,
-        ..request(1)
-    };
-    let taken = arrives(&mut server, &service, &oneway);
-    assert!(rt; taken == Some(Arrived::Oneway));
-    server.answer(512, Reply::Response(ReturnCode::E_OK), &[], 1400)?;
-    assert_eq!(rt; server.open_requests(), 1023);
-    let free = arrives(&mut server, &service, &request(1));
-    assert!(rt; free == Some(Arrived::Request(1025)));
-    server.clear();
-    let anew = arrives(&mut server, &service, &request(1));
-    assert!(rt; anew == Some(Arrived::Request(1)));
+    assert!(rt; first_wrong(rt.alloc(), CROWDED)?.is_none());
     Ok(())
+}
+
+/// The ERROR by which the instance refuses what is sent to it.
+fn refusal(alloc: Global, sent: &Outgoing<'_>) -> Result<Option<Outgoing<'static>>, AllocError> {
+    let service = service(alloc)?;
+    let mut core = ServerCore::new(alloc);
+    match core.on_request(&service, true, sent.from, &sent.message.header) {
+        Ok(Arrived::Refused(error)) => Ok(Some(error)),
+        _ => Ok(None),
+    }
+}
+
+/// The ERROR that answers a call of a method that the server does not know.
+fn error_of_call(
+    alloc: Global,
+    caller: &mut ClientCore,
+) -> Result<Option<Outgoing<'static>>, AllocError> {
+    let request = call(CallKind::Request);
+    match caller.call(&rules(), request, &[], Some(server()), Moment::start()) {
+        Ok(sent) => refusal(alloc, &sent),
+        Err(_) => Ok(None),
+    }
+}
+
+/// Whether an ERROR is the one that a caller awaits, and is handed up.
+fn is_handed_up(caller: &mut ClientCore, error: &Outgoing<'_>) -> bool {
+    error.from == server()
+        && error.to == client()
+        && error.message.payload.is_empty()
+        && error.message.header == REFUSED
+        && caller.on_answer(&rules(), error.from, &error.message.header, Moment::start()) == Ok(KEY)
 }
 
 /// A call of a method that the server does not know: the ERROR that answers it is handed up.
 #[test]
-fn an_error_is_an_answer(rt: HostRuntime) -> Result<(), Fail> {
-    let now = Moment::start();
-    let service = service(rt.alloc())?;
+fn an_error_is_an_answer(rt: HostRuntime) {
     let mut caller = ClientCore::new(rt.alloc());
-    let mut server = ServerCore::new(rt.alloc());
-    let sent = caller.call(
-        &rules(),
-        call(CallKind::Request),
-        &[],
-        Some(super::server()),
-        now,
-    )?;
-    let arrived = server.on_request(&service, true, sent.from, &sent.message.header)?;
-    let Arrived::Refused(error) = arrived else {
-        return Err("no refusal")?;
-    };
-    assert_eq!(rt; error.from, super::server());
-    assert_eq!(rt; error.to, client());
-    assert!(rt; error.message.payload.is_empty());
-    assert_eq!(rt;
-        error.message.header,
-        answer(1, MessageType::Error, ReturnCode::E_UNKNOWN_METHOD)
-    );
-    let key = CallKey {
-        message: MessageId {
-            service: 0x1111,
-            method: 0x0423,
-        },
-        session: 1,
-    };
-    let answered = caller.on_answer(&rules(), error.from, &error.message.header, now);
-    assert!(rt; answered == Ok(key));
-    Ok(())
+    assert!(rt; is_answered(rt.alloc(), &mut caller));
+}
+
+fn is_answered(alloc: Global, caller: &mut ClientCore) -> bool {
+    match error_of_call(alloc, caller) {
+        Ok(Some(error)) => is_handed_up(caller, &error),
+        _ => false,
+    }
 }
