@@ -32,24 +32,50 @@ fn first_token(outputs: &[Output]) -> Option<u64> {
     })
 }
 
+/// The clock of the server goes on, and its Offer goes to the client.
+fn offer(
+    alloc: Global,
+    server: &mut Node<SegmentList>,
+    client: &mut Node<SegmentList>,
+) -> Result<(), NodeError> {
+    let offer = server.tick(10)?;
+    carry(alloc, &offer, client)?;
+    Ok(())
+}
+
+/// The client calls a method, and the request goes to the server, which hands it up.
+fn call(
+    alloc: Global,
+    server: &mut Node<SegmentList>,
+    client: &mut Node<SegmentList>,
+) -> Result<Vec<Output>, NodeError> {
+    let call = client.call(CallKind::Request, INSTANCE, 0x0421, &[1, 2])?;
+    carry(alloc, &call, server)
+}
+
+/// The application answers a request, and the answer goes to the client, which hands it up.
+fn answer(
+    alloc: Global,
+    token: u64,
+    server: &mut Node<SegmentList>,
+    client: &mut Node<SegmentList>,
+) -> Result<Vec<Output>, NodeError> {
+    let answer = server.answer(token, Reply::Response(ReturnCode::E_OK), &[3])?;
+    carry(alloc, &answer, client)
+}
+
 /// What is told last: the server offers, the client calls a method, and it is answered.
 fn run(
     alloc: Global,
     server: &mut Node<SegmentList>,
     client: &mut Node<SegmentList>,
 ) -> Result<Vec<Output>, NodeError> {
-    // The clock of the server goes on, and its Offer goes to the client.
-    let offer = server.tick(10)?;
-    carry(alloc, &offer, client)?;
-    // The client calls a method, and the request goes to the server.
-    let call = client.call(CallKind::Request, INSTANCE, 0x0421, &[1, 2])?;
-    let requests = carry(alloc, &call, server)?;
-    let Some(token) = first_token(&requests) else {
-        return Ok(requests);
-    };
-    // The application answers it, and the answer goes to the client.
-    let answer = server.answer(token, Reply::Response(ReturnCode::E_OK), &[3])?;
-    carry(alloc, &answer, client)
+    offer(alloc, server, client)?;
+    let requests = call(alloc, server, client)?;
+    match first_token(&requests) {
+        Some(token) => answer(alloc, token, server, client),
+        None => Ok(requests),
+    }
 }
 
 /// The lines of that. Each node has a function that owns it, since a function that has to drop two takes
