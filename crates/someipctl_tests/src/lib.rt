@@ -1,6 +1,12 @@
 //! Tests of the program below its `main`: what its commands do, and how it ends.
 //!
-//! Tests stand over the crates that they try, since a crate is proved again with its tests.
+//! Tests stand over the crates that they try, since a crate is proved again with its tests. Commands with what they
+//! print are the cases of `someip_cases`; here stands what no command line shows.
+//!
+//! - `cli`: what words come to, and the texts and statuses of failures;
+//! - `commands`: captures and payloads, and readers and writers that fail;
+//! - `run`: the same of a setup and a schedule;
+//! - `slow`: readers and writers that move few bytes a call.
 #![tactic(auto)]
 
 #[cfg(test)]
@@ -9,3 +15,5 @@ mod cli;
 mod commands;
 #[cfg(test)]
 mod run;
+#[cfg(test)]
+mod slow;

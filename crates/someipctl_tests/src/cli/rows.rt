@@ -1,126 +1,130 @@
 //! Calls of the program, and what comes of them.
-/// Words, what they come to, and what is printed of that: a capture's path, or a part of a text.
-pub type Row = (&'static [&'static str], &'static str, &'static str);
+use Command::{Payload, Run, Show, Vectors};
+use Wanted::{Help, Is, Usage};
+use someipctl_cli::Command;
 
-pub fn rows() -> [Row; 34] {
-    [
-        (&["someipctl", "vectors", "x"], "vectors", "x"),
-        (&["someipctl", "vectors", "-"], "vectors", "-"),
-        (
-            &["someipctl", "vectors"],
-            "usage",
-            "Usage: someipctl vectors <FILE>\n",
-        ),
-        (
-            &["someipctl", "vectors", "x", "y"],
-            "usage",
-            "error: unexpected argument 'y' found\n",
-        ),
-        (
-            &["someipctl", "help", "vectors"],
-            "help",
-            "  passed 1 of 2\n",
-        ),
-        (&["someipctl", "run", "x", "y"], "run", "x y"),
-        (
-            &["someipctl", "run", "x"],
-            "usage",
-            "Usage: someipctl run <SETUP> <SCHEDULE>\n",
-        ),
-        (&["someipctl", "help", "run"], "help", "  deliver N NODE\n"),
-        (&["someipctl", "show", "x"], "show", "x"),
-        (&["someipctl", "show", "-"], "show", "-"),
-        (&["someipctl", "show", ""], "show", ""),
-        (&["someipctl", "show", "help"], "show", "help"),
-        (&["someipctl", "show", "--", "-x"], "show", "-x"),
-        (&["other", "show", "a b"], "show", "a b"),
-        (&["someipctl", "payload", "u8", "-"], "payload", "u8 -"),
-        (&["someipctl", "payload", "u8", ""], "payload", "u8 "),
-        (
-            &["someipctl", "payload", "u8"],
-            "usage",
-            "Usage: someipctl payload <SHAPE> <HEX>\n",
-        ),
-        (
-            &["someipctl", "help", "payload"],
-            "help",
-            "  someipctl payload 'array<2,u16>' 0000000400010002\n",
-        ),
-        (
-            &["someipctl", "--help"],
-            "help",
-            "someipctl show examples/one.txt\n",
-        ),
-        (
-            &["someipctl", "-h"],
-            "help",
-            "Prints the messages of a capture, one a line",
-        ),
-        (
-            &["someipctl", "help"],
-            "help",
-            "Usage: someipctl <COMMAND>\n",
-        ),
-        (
-            &["someipctl", "help", "show"],
-            "help",
-            "Usage: someipctl show <CAPTURE>\n",
-        ),
-        (
-            &["someipctl", "show", "--help"],
-            "help",
-            "  12340421 00000008 00010001 01010000\n",
-        ),
-        (
-            &["someipctl", "show", "-h"],
-            "help",
-            " type REQUEST code 00 payload -\n",
-        ),
-        (
-            &[],
-            "usage",
-            "requires a subcommand but one was not provided",
-        ),
-        (&["/bin/other"], "usage", "Usage: someipctl <COMMAND>\n"),
-        (
-            &["someipctl", "list"],
-            "usage",
-            "error: unrecognized subcommand 'list'\n",
-        ),
-        (
-            &["someipctl", "help", "list"],
-            "usage",
-            "error: unrecognized subcommand 'list'\n",
-        ),
-        (
-            &["someipctl", "--version"],
-            "usage",
-            "error: unexpected argument '--version' found\n",
-        ),
-        (
-            &["someipctl", "-V"],
-            "usage",
-            "error: unexpected argument '-V' found\n",
-        ),
-        (
-            &["someipctl", "show"],
-            "usage",
-            "Usage: someipctl show <CAPTURE>\n",
-        ),
-        (
-            &["someipctl", "show", "x", "y"],
-            "usage",
-            "error: unexpected argument 'y' found\n",
-        ),
-        (
-            &["someipctl", "show", "-x"],
-            "usage",
-            "error: unexpected argument '-x' found\n",
-        ),
-        (
-            &["someipctl", "show", "--all", "x"],
-            "usage",
-            "error: unexpected argument '--all' found\n",
-        ),
-    ]
+/// What words come to.
+#[derive(Clone, Copy)]
+pub enum Wanted {
+    /// This command.
+    Is(Command<'static>),
+    /// A text of help with this part.
+    Help(&'static str),
+    /// A fault of usage with this part.
+    Usage(&'static str),
 }
+
+/// Words, and what they come to.
+pub type Row = (&'static [&'static str], Wanted);
+
+pub const ROWS: &[Row] = &[
+    (&["someipctl", "vectors", "x"], Is(Vectors { file: "x" })),
+    (&["someipctl", "vectors", "-"], Is(Vectors { file: "-" })),
+    (
+        &["someipctl", "vectors"],
+        Usage("Usage: someipctl vectors <FILE>\n"),
+    ),
+    (
+        &["someipctl", "vectors", "x", "y"],
+        Usage("error: unexpected argument 'y' found\n"),
+    ),
+    (&["someipctl", "help", "vectors"], Help("  passed 1 of 2\n")),
+    (
+        &["someipctl", "run", "x", "y"],
+        Is(Run {
+            setup: "x",
+            schedule: "y",
+        }),
+    ),
+    (
+        &["someipctl", "run", "x"],
+        Usage("Usage: someipctl run <SETUP> <SCHEDULE>\n"),
+    ),
+    (&["someipctl", "help", "run"], Help("  deliver N NODE\n")),
+    (&["someipctl", "show", "x"], Is(Show { capture: "x" })),
+    (&["someipctl", "show", "-"], Is(Show { capture: "-" })),
+    (&["someipctl", "show", ""], Is(Show { capture: "" })),
+    (&["someipctl", "show", "help"], Is(Show { capture: "help" })),
+    (
+        &["someipctl", "show", "--", "-x"],
+        Is(Show { capture: "-x" }),
+    ),
+    (&["other", "show", "a b"], Is(Show { capture: "a b" })),
+    (
+        &["someipctl", "payload", "u8", "-"],
+        Is(Payload {
+            shape: "u8",
+            hex: "-",
+        }),
+    ),
+    (
+        &["someipctl", "payload", "u8", ""],
+        Is(Payload {
+            shape: "u8",
+            hex: "",
+        }),
+    ),
+    (
+        &["someipctl", "payload", "u8"],
+        Usage("Usage: someipctl payload <SHAPE> <HEX>\n"),
+    ),
+    (
+        &["someipctl", "help", "payload"],
+        Help("  someipctl payload 'array<2,u16>' 0000000400010002\n"),
+    ),
+    (
+        &["someipctl", "--help"],
+        Help("someipctl show examples/one.txt\n"),
+    ),
+    (
+        &["someipctl", "-h"],
+        Help("Prints the messages of a capture, one a line"),
+    ),
+    (&["someipctl", "help"], Help("Usage: someipctl <COMMAND>\n")),
+    (
+        &["someipctl", "help", "show"],
+        Help("Usage: someipctl show <CAPTURE>\n"),
+    ),
+    (
+        &["someipctl", "show", "--help"],
+        Help("  12340421 00000008 00010001 01010000\n"),
+    ),
+    (
+        &["someipctl", "show", "-h"],
+        Help(" type REQUEST code 00 payload -\n"),
+    ),
+    (&[], Usage("requires a subcommand but one was not provided")),
+    (&["/bin/other"], Usage("Usage: someipctl <COMMAND>\n")),
+    (
+        &["someipctl", "list"],
+        Usage("error: unrecognized subcommand 'list'\n"),
+    ),
+    (
+        &["someipctl", "help", "list"],
+        Usage("error: unrecognized subcommand 'list'\n"),
+    ),
+    (
+        &["someipctl", "--version"],
+        Usage("error: unexpected argument '--version' found\n"),
+    ),
+    (
+        &["someipctl", "-V"],
+        Usage("error: unexpected argument '-V' found\n"),
+    ),
+    (
+        &["someipctl", "show"],
+        Usage("Usage: someipctl show <CAPTURE>\n"),
+    ),
+    (
+        &["someipctl", "show", "x", "y"],
+        Usage("error: unexpected argument 'y' found\n"),
+    ),
+    (
+        &["someipctl", "show", "-x"],
+        Usage("error: unexpected argument '-x' found\n"),
+    ),
+    (
+        &["someipctl", "show", "--all", "x"],
+        Usage("error: unexpected argument '--all' found\n"),
+    ),
+];
