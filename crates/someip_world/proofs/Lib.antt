@@ -1,12 +1,2 @@
 pub mod PlaceLemmas
 pub mod RunLemmas
-pub mod TurnLemmas
-pub mod OriginLemmas
-pub mod KnownOfferLemmas
-pub mod RunExampleLemmas
-pub mod AnnouncedLemmas
-pub mod OfferLemmas
-pub mod FitRunLemmas
-pub mod ConfiguredLemmas
-pub mod NumberLemmas
-pub mod WorkedTraceLemmas

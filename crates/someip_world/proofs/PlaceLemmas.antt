@@ -5,9 +5,9 @@ use Rattle.std.proofs.lemmas.List.{length-append}
 use Rattle.std.proofs.lemmas.Option.{slice_get_past, slice_get_read}
 use Rattle.std.specs.Prelude.{MatchOption, is_some}
 use Rattle.std.specs.Option.{option_and_then}
-use Rattle.someip_world.specs.declared.line.Datagram.{Datagram}
-use Rattle.someip_world.specs.declared.line.Line.{Line}
-use Rattle.someip_world.specs.Datagrams.{SentDatagram, datagram_at, datagram_in, datagrams_in}
+use Rattle.someip_world_rules.specs.declared.line.Datagram.{Datagram}
+use Rattle.someip_world_rules.specs.declared.line.Line.{Line}
+use Rattle.someip_world_rules.specs.Datagrams.{SentDatagram, datagram_at, datagram_in, datagrams_in}
 use Rattle.someip_world.specs.Places.{places_from}
 
 -- the place of one line more, if it tells of a datagram

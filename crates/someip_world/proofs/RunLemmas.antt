@@ -14,18 +14,18 @@ use Rattle.someip_node_rules.specs.declared.output.Output.{Output}
 use Rattle.someip_world_schedule.specs.declared.step.Step.{Step}
 use Rattle.someip_world_schedule.specs.StepNodes.{node_of}
 use Rattle.someip_world_setup.specs.declared.setup_node.SetupNode.{SetupNode}
-use Rattle.someip_world.specs.declared.error.RunError.{RunError}
-use Rattle.someip_world.specs.declared.error.RunError.TheVariants.{BadStep}
-use Rattle.someip_world.specs.declared.error.RunError.TheVariants as errors
-use Rattle.someip_world.specs.declared.line.Line.{Line}
+use Rattle.someip_world_rules.specs.declared.error.RunError.{RunError}
+use Rattle.someip_world_rules.specs.declared.error.RunError.TheVariants.{BadStep}
+use Rattle.someip_world_rules.specs.declared.error.RunError.TheVariants as errors
+use Rattle.someip_world_rules.specs.declared.line.Line.{Line}
 use Rattle.someip_world.specs.declared.performing.StepError.{StepError}
 use Rattle.someip_world.specs.declared.performing.StepError.TheVariants.{Bad, Refused, OutOfMemory}
-use Rattle.someip_world.specs.declared.step_fault.StepFault.{StepFault}
-use Rattle.someip_world.specs.declared.step_fault.StepFault.TheVariants.{UnknownNode}
-use Rattle.someip_world.specs.Deeds.{Deed, deed_of, done_with}
+use Rattle.someip_world_rules.specs.declared.step_fault.StepFault.{StepFault}
+use Rattle.someip_world_rules.specs.declared.step_fault.StepFault.TheVariants.{UnknownNode}
+use Rattle.someip_world_rules.specs.Deeds.{Deed, deed_of, done_with}
 use Rattle.someip_world.specs.Performing.{Does, Performs, Puts}
 use Rattle.someip_world.specs.Running.{AreStarted, Comes, Ends, IsStarted, AreOfWorld, view_of}
-use Rattle.someip_world.specs.Runs.{AreCopies, IsRun, World, happens, happens_at, told_lines, place_of, run_from, run_of, started_nodes, then_on, run_lines, unless_bad, world_after, world_of}
+use Rattle.someip_world_rules.specs.Runs.{AreCopies, IsRun, World, happens, happens_at, told_lines, place_of, run_from, run_of, started_nodes, then_on, run_lines, unless_bad, world_after, world_of}
 
 -- ---- the start
 

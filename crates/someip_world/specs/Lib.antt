@@ -1,12 +1,3 @@
-pub mod Datagrams
 pub mod Places
-pub mod Deeds
-pub mod Runs
 pub mod Performing
 pub mod Running
-pub mod Turns
-pub mod Origins
-pub mod KnownOffers
-pub mod RunExamples
-pub mod Announced
-pub mod WorkedTrace

@@ -10,13 +10,13 @@ use Rattle.someip_node_rules.specs.Plans.{Work}
 use Rattle.someip_node_rules.specs.Steps.{NodeView, StandsFor}
 use Rattle.someip_world.specs.declared.performing.StepError.{StepError}
 use Rattle.someip_world.specs.declared.performing.StepError.TheVariants.{Bad, Refused, OutOfMemory}
-use Rattle.someip_world.specs.declared.error.RunError.{RunError}
-use Rattle.someip_world.specs.declared.error.RunError.TheVariants as errors
-use Rattle.someip_world.specs.declared.line.Line.{Line}
-use Rattle.someip_world.specs.declared.step_fault.StepFault.{StepFault}
-use Rattle.someip_world.specs.declared.step_fault.StepFault.TheVariants.{PayloadTooLong}
-use Rattle.someip_world.specs.Deeds.{Deed, done_with}
-use Rattle.someip_world.specs.Runs.{told_lines}
+use Rattle.someip_world_rules.specs.declared.error.RunError.{RunError}
+use Rattle.someip_world_rules.specs.declared.error.RunError.TheVariants as errors
+use Rattle.someip_world_rules.specs.declared.line.Line.{Line}
+use Rattle.someip_world_rules.specs.declared.step_fault.StepFault.{StepFault}
+use Rattle.someip_world_rules.specs.declared.step_fault.StepFault.TheVariants.{PayloadTooLong}
+use Rattle.someip_world_rules.specs.Deeds.{Deed, done_with}
+use Rattle.someip_world_rules.specs.Runs.{told_lines}
 
 -- a node's refusal, and out of memory
 abbrev pub as_step_error : NodeError → StepError

@@ -1,7 +1,7 @@
 -- Where the lines stand that tell of datagrams.
 use Rattle.std.specs.Prelude.{ℕ, suc, List, [], ◌∷◌, is_some, if◌then◌else◌}
-use Rattle.someip_world.specs.declared.line.Line.{Line}
-use Rattle.someip_world.specs.Datagrams.{datagram_in}
+use Rattle.someip_world_rules.specs.declared.line.Line.{Line}
+use Rattle.someip_world_rules.specs.Datagrams.{datagram_in}
 
 -- the places of those of some lines that tell of datagrams, where the first line stands at a place
 abbrev pub places_from : ℕ → List Line → List ℕ

@@ -7,11 +7,11 @@ use Rattle.someip_node_rules.specs.Steps.{NodeView}
 use Rattle.someip_node_rules.specs.declared.config.Config.{Config}
 use Rattle.someip_world_schedule.specs.declared.step.Step.{Step}
 use Rattle.someip_world_setup.specs.declared.setup_node.SetupNode.{SetupNode}
-use Rattle.someip_world.specs.declared.error.RunError.{RunError}
-use Rattle.someip_world.specs.declared.error.RunError.TheVariants.{BadStep, OutOfMemory}
-use Rattle.someip_world.specs.declared.line.Line.{Line}
-use Rattle.someip_world.specs.declared.step_fault.StepFault.{StepFault}
-use Rattle.someip_world.specs.Runs.{World, happens, run_from}
+use Rattle.someip_world_rules.specs.declared.error.RunError.{RunError}
+use Rattle.someip_world_rules.specs.declared.error.RunError.TheVariants.{BadStep, OutOfMemory}
+use Rattle.someip_world_rules.specs.declared.line.Line.{Line}
+use Rattle.someip_world_rules.specs.declared.step_fault.StepFault.{StepFault}
+use Rattle.someip_world_rules.specs.Runs.{World, happens, run_from}
 
 -- a node that stands for a history, as its callers see it
 abbrev pub view_of : History → NodeView

@@ -1,6 +1,6 @@
 //! The lines of a run, with its datagrams by their numbers.
 
-use crate::line::{Datagram, Line};
+use someip_world_rules::{Datagram, Line};
 use std::alloc::{AllocError, Global};
 use std::marker::Model;
 
@@ -14,7 +14,7 @@ pub(crate) struct Log {
 
 impl Model for Log {
     ghost use Rattle.std.specs.Prelude.{◌≡◌, List};
-    ghost use Rattle.someip_world.specs.declared.line.Line.{Line};
+    ghost use Rattle.someip_world_rules.specs.declared.line.Line.{Line};
     ghost use Rattle.someip_world.specs.Places.{places_from};
 
     ghost Value = { List Line };
@@ -26,7 +26,7 @@ impl Model for Log {
 
 impl Log {
     ghost use Rattle.std.specs.Prelude.{◌≡◌, ◌++◌, [], ◌∷◌, None, Some, MatchOption, OnOk};
-    ghost use Rattle.someip_world.specs.Datagrams.{datagram_at};
+    ghost use Rattle.someip_world_rules.specs.Datagrams.{datagram_at};
 
     /// No lines yet.
     pub(crate) fn new(alloc: Global) -> Log

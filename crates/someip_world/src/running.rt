@@ -1,32 +1,18 @@
 //! Runs.
 ghost use Rattle.std.specs.Prelude.{◌≡◌, IfOk, IfErr};
-ghost use Rattle.someip_world.specs.Runs.{IsRun, place_of};
+ghost use Rattle.someip_world_rules.specs.Runs.{IsRun};
 ghost use Rattle.someip_world.specs.Running.{AreStarted, Happens, RunsOn};
-ghost use Rattle.someip_world.specs.declared.error.RunError.TheVariants as fault;
+ghost use Rattle.someip_world_rules.specs.declared.error.RunError.TheVariants as fault;
 
-use crate::error::RunError;
 use crate::log::Log;
 use crate::performing::perform;
-use crate::step_fault::StepFault;
 use crate::telling::tell;
-use crate::trace::Trace;
 use someip_node::Node;
 use someip_tp::Reassembly;
+use someip_world_rules::{RunError, StepFault, Trace, place_of};
 use someip_world_schedule::Step;
 use someip_world_setup::{Setup, SetupNode};
 use std::alloc::Global;
-
-/// The place of the node of a name. A setup has at most 64 nodes.
-fn place_of(nodes: &[SetupNode], name: &str) -> Option<usize>
-    ensures { result ≡ place_of nodes.now name.now }
-{
-    for (place, node) in nodes.iter().enumerate() {
-        if node.name.as_str() == name {
-            return Some(place);
-        }
-    }
-    None
-}
 
 /// The nodes of a setup, each started with its delay.
 fn start<R: Reassembly>(alloc: Global, nodes: &[SetupNode]) -> Result<Vec<Node<R>>, RunError>

@@ -1,13 +1,12 @@
 //! What a node gave in a step, as lines.
 ghost use Rattle.std.specs.Prelude.{◌≡◌, ◌++◌, OnOk, Ok};
-ghost use Rattle.someip_world.specs.Runs.{told_lines};
+ghost use Rattle.someip_world_rules.specs.Runs.{told_lines};
 ghost use Rattle.someip_world.specs.Performing.{Puts};
 
-use crate::error::RunError;
-use crate::line::{Line, Told};
 use crate::log::Log;
 use crate::performing::StepError;
 use someip_node::Output;
+use someip_world_rules::{Line, RunError, Told};
 use std::alloc::AllocError;
 
 /// Adds the lines of what a node gave.

@@ -2,8 +2,8 @@
 use Rattle.std.proofs.Common.{◌≡◌, ℕ, ◌+◌, ◌<◌, ◌≤◌, List, ◌∷◌, ◌++◌, length, get_or, drop, ap, sym, ◌∙◌, arith, Bool, true, false, if◌then◌else◌}
 use Rattle.std.specs.Prelude.{is_some}
 use Rattle.std.proofs.lemmas.List.{at_drop_more}
-use Rattle.someip_world.specs.Datagrams.{datagram_in}
-use Rattle.someip_world.specs.declared.line.Line.{Line}
+use Rattle.someip_world_rules.specs.Datagrams.{datagram_in}
+use Rattle.someip_world_rules.specs.declared.line.Line.{Line}
 use Rattle.someip_world_setup.specs.declared.setup_node.SetupNode.{SetupNode}
 use Rattle.someipctl_run.specs.Traces.{line_text, numbered_lines, number_after}
 

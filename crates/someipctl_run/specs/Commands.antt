@@ -2,9 +2,9 @@
 use Rattle.std.specs.Prelude.{ℕ, ◌≡◌, true, List, ◌++◌, map, Option, Some, None, Ok, Err, IsSomeAnd}
 use Rattle.std.specs.Io.KnownBytes.{Appends, Keeps}
 use Rattle.std.specs.Str.{is_utf8}
-use Rattle.someip_world.specs.Runs.{ComesTo}
-use Rattle.someip_world.specs.declared.error.RunError.TheVariants as runs
-use Rattle.someip_world.specs.declared.line.Line.{Line}
+use Rattle.someip_world_rules.specs.Runs.{ComesTo}
+use Rattle.someip_world_rules.specs.declared.error.RunError.TheVariants as runs
+use Rattle.someip_world_rules.specs.declared.line.Line.{Line}
 use Rattle.someip_world_schedule.specs.Schedule.{first_bad, steps_of}
 use Rattle.someip_world_schedule.specs.declared.step.Step.{Step}
 use Rattle.someip_world_setup.specs.GoodSetups.{Network}

@@ -1,6 +1,6 @@
 -- The faults of the command, by those of what it rests on.
-use Rattle.someip_world.specs.declared.error.RunError.{RunError}
-use Rattle.someip_world.specs.declared.error.RunError.TheVariants as runs
+use Rattle.someip_world_rules.specs.declared.error.RunError.{RunError}
+use Rattle.someip_world_rules.specs.declared.error.RunError.TheVariants as runs
 use Rattle.someip_world_schedule.specs.declared.error.ScheduleError.{ScheduleError}
 use Rattle.someip_world_schedule.specs.declared.error.ScheduleError.TheVariants as schedules
 use Rattle.someipctl_commands.specs.declared.input.ReadFault.{ReadFault}

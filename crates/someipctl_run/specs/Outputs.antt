@@ -6,8 +6,8 @@ use Rattle.sd_core.specs.Names.{cause_name}
 use Rattle.someip_node_rules.specs.Names.{drop_name, node_error_name}
 use Rattle.someip_node_rules.specs.declared.output.Output.{Output}
 use Rattle.someip_node_rules.specs.declared.output.Output.TheVariants.{Sent, Called, Request, Answered, TimedOut, Event, Known, Gone, Subscribed, Unsubscribed, Accepted, Nacked, Rebooted, Dropped}
-use Rattle.someip_world.specs.declared.line.Told.{Told}
-use Rattle.someip_world.specs.declared.line.Told.TheVariants.{Gave, Refused}
+use Rattle.someip_world_rules.specs.declared.line.Told.{Told}
+use Rattle.someip_world_rules.specs.declared.line.Told.TheVariants.{Gave, Refused}
 use Rattle.someipctl_print.specs.Lines.{payload_text}
 use Rattle.someipctl_print.specs.Parts.{hex2, hex4}
 use Rattle.someipctl_run.specs.Words.{instance_text, message_text, token_text}

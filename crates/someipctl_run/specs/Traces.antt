@@ -1,8 +1,8 @@
 -- A trace, byte for byte.
 use Rattle.std.specs.Prelude.{ℕ, ◌+◌, List, [], ◌∷◌, ◌++◌, slice_get, string_bytes, is_some, if◌then◌else◌, codes, decimal}
 use Rattle.std.specs.Option.{option_map_or}
-use Rattle.someip_world.specs.Datagrams.{datagram_in}
-use Rattle.someip_world.specs.declared.line.Line.{Line}
+use Rattle.someip_world_rules.specs.Datagrams.{datagram_in}
+use Rattle.someip_world_rules.specs.declared.line.Line.{Line}
 use Rattle.someip_world_setup.specs.declared.setup_node.SetupNode.{SetupNode}
 use Rattle.someipctl_print.specs.Lines.{joined}
 use Rattle.someipctl_print.specs.Words.{ended}

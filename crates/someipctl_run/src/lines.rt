@@ -1,6 +1,6 @@
 //! The lines of a trace.
 ghost use Rattle.std.specs.Prelude.{◌≡◌, ◌<◌, OnOk, OnErr, is_some};
-ghost use Rattle.someip_world.specs.Datagrams.{datagram_in};
+ghost use Rattle.someip_world_rules.specs.Datagrams.{datagram_in};
 ghost use Rattle.std.specs.List.{flat_map};
 ghost use Rattle.someipctl_print.specs.Parts.{part_text};
 ghost use Rattle.someipctl_print.specs.Sending.{Sends, Stops};

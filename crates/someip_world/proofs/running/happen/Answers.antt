@@ -1,6 +1,6 @@
 use Rattle.std.proofs.Common.{ap, arith, refl, sym, ◌∙◌}
 use Rattle.std.proofs.lemmas.Option.{slice_get_read}
-use Rattle.someip_world.specs.Runs.{place_of}
+use Rattle.someip_world_rules.specs.Runs.{place_of}
 use Rattle.someip_world.proofs.RunLemmas.{happened}
 use Rattle.someip_world.proofs.running.happen.Goals as goal
 

@@ -1,4 +1,4 @@
-use Rattle.someip_world.specs.Runs.{World}
+use Rattle.someip_world_rules.specs.Runs.{World}
 use Rattle.someip_world.specs.Running.{AreOfWorld}
 use Rattle.someip_world.proofs.RunLemmas.{GoesOn}
 use Rattle.someip_world.proofs.running.run_all.Given as goal

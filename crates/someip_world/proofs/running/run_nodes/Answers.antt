@@ -1,5 +1,5 @@
 use Rattle.std.proofs.Common.{Ok, ap, refl, sym, ◌∙◌}
-use Rattle.someip_world.specs.Runs.{world_of}
+use Rattle.someip_world_rules.specs.Runs.{world_of}
 use Rattle.someip_world.proofs.RunLemmas.{begun, failed, run_told, starts}
 use Rattle.someip_world.proofs.running.run_nodes.Goals as goal
 

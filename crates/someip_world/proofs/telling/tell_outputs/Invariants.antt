@@ -1,5 +1,5 @@
 use Rattle.std.proofs.Common.{◌≡◌, ◌++◌, Ok}
-use Rattle.someip_world.specs.Runs.{told_lines}
+use Rattle.someip_world_rules.specs.Runs.{told_lines}
 use Rattle.someip_world.proofs.telling.tell_outputs.Given as goal
 
 -- the lines so far and those of what is left are those of all

@@ -1,8 +1,0 @@
-use Rattle.someip_world.proofs.WorkedTraceLemmas.{nothing_to_deliver, trace_is}
-use Rattle.someip_world.proofs.example_laws.traces_by_example.Goals as goal
-
-pub returns-clause-trace : goal.returns-clause-trace
-returns-clause-trace c = trace_is
-
-pub returns-clause-bad_step : goal.returns-clause-bad_step
-returns-clause-bad_step c = nothing_to_deliver

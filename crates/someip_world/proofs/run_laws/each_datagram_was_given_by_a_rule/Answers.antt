@@ -1,5 +1,0 @@
-use Rattle.someip_world.proofs.OriginLemmas.{all_sent}
-use Rattle.someip_world.proofs.run_laws.each_datagram_was_given_by_a_rule.Goals as goal
-
-pub returns : goal.returns
-returns c = all_sent

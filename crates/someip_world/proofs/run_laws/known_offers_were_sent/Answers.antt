@@ -1,5 +1,0 @@
-use Rattle.someip_world.proofs.KnownOfferLemmas.{was_offered}
-use Rattle.someip_world.proofs.run_laws.known_offers_were_sent.Goals as goal
-
-pub returns : goal.returns
-returns c = was_offered

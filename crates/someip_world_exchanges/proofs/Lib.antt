@@ -1,0 +1,7 @@
+pub mod Fronts
+pub mod Sendings
+pub mod Deliverings
+pub mod WholeLemmas
+pub mod OpeningLemmas
+pub mod CourseLemmas
+pub mod EntryLemmas

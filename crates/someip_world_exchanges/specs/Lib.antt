@@ -1,0 +1,7 @@
+pub mod KeyOrder
+pub mod Namings
+pub mod Deliveries
+pub mod Openings
+pub mod Beginnings
+pub mod Belonging
+pub mod CleanReuse

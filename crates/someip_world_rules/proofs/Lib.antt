@@ -1,0 +1,10 @@
+pub mod TurnLemmas
+pub mod OriginLemmas
+pub mod KnownOfferLemmas
+pub mod RunExampleLemmas
+pub mod AnnouncedLemmas
+pub mod OfferLemmas
+pub mod FitRunLemmas
+pub mod ConfiguredLemmas
+pub mod NumberLemmas
+pub mod WorkedTraceLemmas

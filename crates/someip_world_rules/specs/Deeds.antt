@@ -1,0 +1,66 @@
+-- What is done at a node in a step, or why the step is bad.
+use Rattle.std.specs.Prelude.{ℕ, ◌+◌, Bool, ◌||◌, if◌then◌else◌, nat_lt, List, length, Option, None, Some, Result, Ok, Err}
+use Rattle.someip_node_rules.specs.declared.config.Config.{Config}
+use Rattle.someip_node_rules.specs.GoodConfigs.{is_good_delay}
+use Rattle.someip_node_rules.specs.Handling.{same_address}
+use Rattle.someip_node_rules.specs.History.{History, start_of}
+use Rattle.someip_node_rules.specs.Inputs as input
+use Rattle.someip_node_rules.specs.Plans.{Work}
+use Rattle.someip_node_rules.specs.Questions.{clock_at}
+use Rattle.someip_node_rules.specs.Steps.{step, work_on}
+use Rattle.someip_node_rules.specs.declared.error.NodeError.{NodeError}
+use Rattle.someip_world_schedule.specs.declared.step.Step.{Step}
+use Rattle.someip_world_schedule.specs.declared.step.Step.TheVariants.{Tick, Deliver, Call, Answer, Publish, PublishTo, Subscribe, Unsubscribe, StopOffer, Restart}
+use Rattle.someip_world_rules.specs.declared.line.Line.{Line}
+use Rattle.someip_world_rules.specs.declared.step_fault.StepFault.{StepFault}
+use Rattle.someip_world_rules.specs.declared.step_fault.StepFault.TheVariants.{NoSuchDatagram, NotAddressed, ClockPast, PayloadTooLong, BadDelay}
+use Rattle.someip_world_rules.specs.Datagrams.{SentDatagram, datagram_at}
+
+-- what is done at a node: it takes an input, or it is started again with a delay
+pub data Deed : Type 0 where
+  Takes : input.Input → Deed
+  Restarts : ℕ → Deed
+
+-- the greatest clock, in milliseconds
+abbrev pub clock_limit : ℕ
+clock_limit = 0x7FFF_FFFF_FFFF_FFFF
+
+-- a datagram may be delivered to the node that it was sent to, and to each node where it was sent to the group
+abbrev pub is_addressed : Config → SentDatagram → Bool
+is_addressed config d = same_address d.to.ip config.address || same_address d.to.ip config.common.group
+
+-- a datagram is delivered
+abbrev pub delivery : Config → Option SentDatagram → Result Deed StepFault
+delivery config None = Err NoSuchDatagram
+delivery config (Some d) = if is_addressed config d then Ok (Takes (input.Datagram d.from d.to d.bytes)) else Err NotAddressed
+
+-- an input with a payload, which may not be longer than a message may be
+abbrev pub unless_long : Config → List ℕ → input.Input → Result Deed StepFault
+unless_long config payload i = if nat_lt config.common.message_limit (length payload) then Err PayloadTooLong else Ok (Takes i)
+
+-- the clock goes on
+abbrev pub tick_deed : History → ℕ → Result Deed StepFault
+tick_deed h ms = if nat_lt clock_limit (clock_at h.items + ms) then Err ClockPast else Ok (Takes (input.Tick ms))
+
+-- the node is started again, with a delay in the range that the setup gives
+abbrev pub restart_deed : Config → ℕ → Result Deed StepFault
+restart_deed config delay = if is_good_delay config delay then Ok (Restarts delay) else Err BadDelay
+
+-- what a step does at a node with a history, after the lines of the steps before it
+abbrev pub deed_of : History → List Line → Step → Result Deed StepFault
+deed_of h lines (Tick node ms) = tick_deed h ms
+deed_of h lines (Deliver number node) = delivery h.config (datagram_at lines number)
+deed_of h lines (Call node kind instance method payload) = unless_long h.config payload (input.Call kind instance method payload)
+deed_of h lines (Answer node token reply payload) = unless_long h.config payload (input.Answer token reply payload)
+deed_of h lines (Publish node instance event payload) = unless_long h.config payload (input.Publish instance event payload)
+deed_of h lines (PublishTo node group to event payload) =
+    unless_long h.config payload (input.PublishTo group.instance group.id to event payload)
+deed_of h lines (Subscribe node group) = Ok (Takes (input.Subscribe group))
+deed_of h lines (Unsubscribe node group) = Ok (Takes (input.Unsubscribe group))
+deed_of h lines (StopOffer node instance) = Ok (Takes (input.StopOffer instance))
+deed_of h lines (Restart node delay) = restart_deed h.config delay
+
+-- what the node gives, and its history then; or its refusal
+abbrev pub done_with : History → Deed → Result (Work History) NodeError
+done_with h (Takes i) = step h i
+done_with h (Restarts delay) = Ok (work_on (start_of h.config delay))

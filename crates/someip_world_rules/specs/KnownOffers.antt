@@ -1,0 +1,45 @@
+-- Where the offers come from that nodes know.
+use Rattle.std.specs.Prelude.{◌≡◌, ℕ, IsTrue, List, Option, Some, take}
+use Rattle.std.specs.List.{Contains}
+use Rattle.std.specs.FinMap as finite
+use Rattle.std.specs.declared.net.socket_addr.SocketAddrV4.{SocketAddrV4}
+use Rattle.sd_wire.specs.declared.entry.ServiceEntry.{ServiceEntry}
+use Rattle.sd_wire.specs.declared.entry.EntryHead.TheVariants.{Service}
+use Rattle.sd_wire.specs.Endpoints.{first_udp_endpoint, options_of}
+use Rattle.sd_wire.specs.Kinds.{is_offer}
+use Rattle.sd_wire.specs.Values.{EntryValue}
+use Rattle.sd_core.specs.declared.keys.InstanceId.{InstanceId}
+use Rattle.someip_node_rules.specs.History.{History}
+use Rattle.someip_node_rules.specs.Inputs.{Datagram}
+use Rattle.someip_node_rules.specs.Packets.{Packet, HasServiceEntry}
+use Rattle.someip_node_rules.specs.SeekQuestions.{majors_of}
+use Rattle.someip_node_rules.specs.Trails.{IsLater}
+use Rattle.someip_node_rules.specs.declared.config.Config.{Config}
+use Rattle.someip_world_schedule.specs.declared.step.Step.{Step}
+use Rattle.someip_world_setup.specs.declared.setup_node.SetupNode.{SetupNode}
+use Rattle.someip_world_rules.specs.Deeds.{Takes}
+use Rattle.someip_world_rules.specs.Origins.{WasSent}
+use Rattle.someip_world_rules.specs.Turns.{Turn}
+
+-- An instance was offered at an endpoint to the node at a place, in its present life before a history: in a step of the run a
+-- datagram came to it with an Offer of the instance, in the major version in which the node wants it, whose first endpoint
+-- over UDP is that. The datagram was sent in a step before that one
+pub record WasOffered (nodes : List SetupNode) (configs : List Config) (steps : List Step) (place : ℕ) (h : History) (instance : InstanceId) (endpoint : SocketAddrV4) : Type 0 where
+  pub i : ℕ
+  pub step : Step
+  pub turn : Turn nodes configs steps i step
+  pub at : turn.place ≡ place
+  pub later : IsLater turn.history h
+  pub packet : Packet
+  pub takes : turn.deed ≡ Takes (Datagram packet.from packet.to packet.bytes)
+  pub sent : WasSent nodes configs (take i steps) (record { from = packet.from; to = packet.to; bytes = packet.bytes })
+  pub head : ServiceEntry
+  pub offers : IsTrue (is_offer head)
+  pub stands : HasServiceEntry packet head (Some endpoint)
+  pub named : instance ≡ record { service = head.service; instance = head.instance }
+  pub wanted : finite.get (majors_of h.config) instance ≡ Some head.major
+
+-- this entry about an instance is among those that are announced, with this as the first endpoint over UDP
+abbrev pub IsAmongAnnounced : List EntryValue → ServiceEntry → Option SocketAddrV4 → Type 0
+IsAmongAnnounced entries head endpoint =
+    (e : EntryValue) × Contains entries e × (e.head ≡ Service head) × (endpoint ≡ first_udp_endpoint (options_of e))

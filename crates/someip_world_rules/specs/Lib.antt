@@ -1,0 +1,9 @@
+pub mod Datagrams
+pub mod Deeds
+pub mod Runs
+pub mod Turns
+pub mod Origins
+pub mod KnownOffers
+pub mod RunExamples
+pub mod Announced
+pub mod WorkedTrace

@@ -1,0 +1,27 @@
+//! What a run over nodes is: the definitions, the lines of a trace, and what holds of every run.
+//!
+//! - [`Trace`], [`Line`], [`Told`]: what is told of a run;
+//! - [`Reuse`]: whether a run reused its keys cleanly;
+//! - [`RunError`], [`StepFault`]: why a run has no trace;
+//! - [`place_of`]: the node of a name;
+//! - [`run_laws`]: what holds of every run, whatever its setup and schedule;
+//! - [`numbers`]: that the numbers of setups and steps fit their fields;
+//! - [`example_laws`]: a worked run.
+#![tactic(auto)]
+
+mod error;
+pub mod example_laws;
+mod line;
+mod nodes;
+pub mod numbers;
+mod reuse;
+pub mod run_laws;
+mod step_fault;
+mod trace;
+
+pub use error::RunError;
+pub use line::{Datagram, Line, Told};
+pub use nodes::place_of;
+pub use reuse::Reuse;
+pub use step_fault::StepFault;
+pub use trace::Trace;
