@@ -1,0 +1,37 @@
+-- What is kept of a run, without where it lies in memory.
+use Rattle.std.specs.Prelude.{List, map}
+use Rattle.std.specs.Ordering.{nat_cmp}
+use Rattle.someip_tables.specs.Tables.{map_of}
+use Rattle.sd_core.specs.Eventgroups.{eventgroup_cmp}
+use Rattle.someip_rpc.specs.Ids as rpc
+use Rattle.someip_world_exchanges.specs.KeyOrder.{call_cmp, event_cmp, subscription_cmp}
+use Rattle.someip_world_ledger.specs.Books.{LifeKept, NoteKept, TakenKeys}
+use Rattle.someip_world_ledger.specs.StreamOrder.{stream_cmp}
+use Rattle.someip_world_ledger.specs.declared.life.Life.{Life}
+use Rattle.someip_world_ledger.specs.declared.note.Note.{Note}
+use Rattle.someip_world_ledger.specs.declared.taken.Taken.{Taken}
+
+abbrev pub view_taken : Taken → TakenKeys
+view_taken taken = record {
+  calls = map_of call_cmp taken.calls.entries;
+  events = map_of event_cmp taken.events.entries;
+  subscriptions = map_of subscription_cmp taken.subscriptions.entries;
+}
+
+abbrev pub view_life : Life → LifeKept
+view_life life = record {
+  clock = life.clock;
+  counters = map_of eventgroup_cmp life.counters.entries;
+  sessions = map_of rpc.event_cmp life.sessions.entries;
+  tokens = map_of nat_cmp life.tokens.entries;
+  arrivals = map_of stream_cmp life.arrivals.entries;
+}
+
+abbrev pub view_note : Note → NoteKept
+view_note note = record { step = note.step; answers = note.answers; said = note.said.items; stream = note.stream; payload = note.payload }
+
+abbrev pub view_notes : List Note → List NoteKept
+view_notes notes = map view_note notes
+
+abbrev pub view_lives : List Life → List LifeKept
+view_lives lives = map view_life lives
