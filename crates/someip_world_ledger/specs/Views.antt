@@ -1,11 +1,17 @@
 -- What is kept of a run, without where it lies in memory.
-use Rattle.std.specs.Prelude.{List, map}
+use Rattle.std.specs.Prelude.{ℕ, List, map}
+use Rattle.std.specs.BTreeMap.{BTreeMap}
+use Rattle.std.specs.Cmp.Lexicographic.{slice_cmp}
+use Rattle.std.specs.Global.{Vec}
 use Rattle.std.specs.Ordering.{nat_cmp}
 use Rattle.someip_tables.specs.Tables.{map_of}
+use Rattle.sd_core.specs.declared.eventgroup.Eventgroup.{Eventgroup}
 use Rattle.sd_core.specs.Eventgroups.{eventgroup_cmp}
 use Rattle.someip_rpc.specs.Ids as rpc
 use Rattle.someip_world_exchanges.specs.KeyOrder.{call_cmp, event_cmp, subscription_cmp}
-use Rattle.someip_world_ledger.specs.Books.{LifeKept, NoteKept, TakenKeys}
+use Rattle.someip_world_ledger.specs.Books.{LifeKept, NoteKept, PayloadNumbers, TakenKeys}
+use Rattle.someip_world_ledger.specs.declared.publishing.Publication as publishing
+use Rattle.someip_world_ledger.specs.Booking.{Openings, Publication}
 use Rattle.someip_world_ledger.specs.StreamOrder.{stream_cmp}
 use Rattle.someip_world_ledger.specs.declared.life.Life.{Life}
 use Rattle.someip_world_ledger.specs.declared.note.Note.{Note}
@@ -35,3 +41,12 @@ view_notes notes = map view_note notes
 
 abbrev pub view_lives : List Life → List LifeKept
 view_lives lives = map view_life lives
+
+abbrev pub view_numbers : BTreeMap (Vec ℕ) ℕ → PayloadNumbers
+view_numbers numbers = map_of (slice_cmp nat_cmp) (map (λ e. (e.0.items, e.1)) numbers.entries)
+
+abbrev pub view_openings : Taken → BTreeMap Eventgroup ℕ → Openings
+view_openings taken counters = record { taken = view_taken taken; counters = map_of eventgroup_cmp counters.entries }
+
+abbrev pub view_publication : publishing.Publication → Publication
+view_publication p = record { event = p.event; session = p.session; key = p.key }

@@ -1,9 +1,14 @@
 //! The verdict on a run: whether the keys of its exchanges were reused cleanly.
 #![tactic(auto)]
 
+mod breach;
 mod life;
 mod note;
+mod numbers;
+mod opening;
+mod publishing;
 mod said;
 mod stream;
 mod table;
 mod taken;
+mod telling;
