@@ -5,3 +5,14 @@ pub mod WholeLemmas
 pub mod OpeningLemmas
 pub mod CourseLemmas
 pub mod EntryLemmas
+pub mod Among
+pub mod RuleInputs
+pub mod ClockLemmas
+pub mod EventCounts
+pub mod OpeningItems
+pub mod CallOpenings
+pub mod GoodOffers
+pub mod EventOpenings
+pub mod TokenLemmas
+pub mod LongMessages
+pub mod SentNames

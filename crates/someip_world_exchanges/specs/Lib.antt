@@ -5,3 +5,4 @@ pub mod Openings
 pub mod Beginnings
 pub mod Belonging
 pub mod CleanReuse
+pub mod Payloads

@@ -1,1 +1,4 @@
 pub mod PayloadNumbers
+pub mod BookingLemmas
+pub mod JudgingLemmas
+pub mod Kept

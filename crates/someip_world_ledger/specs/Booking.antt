@@ -4,7 +4,8 @@ use Rattle.std.specs.FinMap as finite
 use Rattle.std.specs.FinMap.{FinMap}
 use Rattle.std.specs.BTreeMap as tree
 use Rattle.std.specs.List.{filter_map, flat_map, list_any}
-use Rattle.std.specs.Option.{option_map, option_map_or, option_to_list}
+use Rattle.std.specs.Option.{option_map, option_map_or}
+use Rattle.std.specs.Ordering.{nat_cmp}
 use Rattle.someip_tp.specs.Sent.{is_long}
 use Rattle.sd_core.specs.Eventgroups.{eventgroup_cmp}
 use Rattle.sd_core.specs.Keys.{instance_cmp}
@@ -108,11 +109,11 @@ life_on notes life (steps.Deliver number node) = arrived_with (note_at notes num
 life_on notes life (steps.Restart node delay) = new_life
 life_on notes life step = life
 
--- the requests that are handed up have these tokens
-abbrev pub handed_up : Option ℕ → List ℕ → LifeKept → LifeKept
-handed_up None tokens life = life
-handed_up (Some sent) [] life = life
-handed_up (Some sent) (token ∷ tokens) life = handed_up (Some sent) tokens (record life { tokens = finite.insert life.tokens token sent })
+-- the requests that are handed up have these tokens, each for the step that sent what is answered
+abbrev pub handed_up : Option ℕ → List ℕ → FinMap nat_cmp ℕ → FinMap nat_cmp ℕ
+handed_up None told tokens = tokens
+handed_up (Some sent) [] tokens = tokens
+handed_up (Some sent) (token ∷ told) tokens = handed_up (Some sent) told (finite.insert tokens token sent)
 
 -- ---- what opens
 
@@ -191,10 +192,15 @@ notes_of step answers payload (d ∷ datagrams) = note_of step answers payload d
 
 -- ---- a step
 
--- the node after a step, with what opened
+-- the node after a step, but for tokens and counters
+abbrev pub life_then : Config → List NoteKept → LifeKept → Step → LifeKept
+life_then config notes life step = published_session (publication_in config life step) (life_on notes life step)
+
+-- the node after a step that opened this
 abbrev pub life_after : Config → List NoteKept → LifeKept → Step → List Line → FinMap eventgroup_cmp ℕ → LifeKept
 life_after config notes life step lines counters =
-    record (handed_up (answered_in notes life step) (tokens_told lines) (published_session (publication_in config life step) (life_on notes life step))) {
+    record (life_then config notes life step) {
+      tokens = handed_up (answered_in notes life step) (tokens_told lines) (life_then config notes life step).tokens;
       counters = counters;
     }
 
@@ -202,7 +208,7 @@ life_after config notes life step lines counters =
 abbrev pub openings_after : Config → List NoteKept → TakenKeys → LifeKept → ℕ → Step → List Line → Openings
 openings_after config notes taken life n step lines =
     opened_by_all n (said_by_lines lines)
-    (record { taken = published_key n (publication_in config life step) taken; counters = (life_on notes life step).counters })
+    (record { taken = published_key n (publication_in config life step) taken; counters = (life_then config notes life step).counters })
 
 -- the step of an index, from 0, is done at the node of a place, and told by these lines
 abbrev pub booked : Config → ℕ → ℕ → Step → List Line → LifeKept → Book → Book

@@ -30,7 +30,7 @@ abbrev pub judged_at : (Book → Reuse) → ℕ → ℕ → Step → List Line �
 judged_at more n place step lines book (Some node) (Some life) =
     if breaks_at node.config.common.reassembly_timeout_ms book life step then Broken (n + 1)
     else more (booked node.config n place step lines life book)
-judged_at more n place step lines book node life = Clean
+judged_at more n place step lines book _ _ = Clean
 
 abbrev pub judged_on : (Book → Reuse) → List SetupNode → ℕ → Step → List Line → Book → Option ℕ → Reuse
 judged_on more nodes n step lines book None = Clean

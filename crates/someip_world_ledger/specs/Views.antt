@@ -9,10 +9,11 @@ use Rattle.sd_core.specs.declared.eventgroup.Eventgroup.{Eventgroup}
 use Rattle.sd_core.specs.Eventgroups.{eventgroup_cmp}
 use Rattle.someip_rpc.specs.Ids as rpc
 use Rattle.someip_world_exchanges.specs.KeyOrder.{call_cmp, event_cmp, subscription_cmp}
-use Rattle.someip_world_ledger.specs.Books.{LifeKept, NoteKept, PayloadNumbers, TakenKeys}
+use Rattle.someip_world_ledger.specs.Books.{Book, LifeKept, NoteKept, PayloadNumbers, TakenKeys}
 use Rattle.someip_world_ledger.specs.declared.publishing.Publication as publishing
 use Rattle.someip_world_ledger.specs.Booking.{Openings, Publication}
 use Rattle.someip_world_ledger.specs.StreamOrder.{stream_cmp}
+use Rattle.someip_world_ledger.specs.declared.ledger.Ledger.{Ledger}
 use Rattle.someip_world_ledger.specs.declared.life.Life.{Life}
 use Rattle.someip_world_ledger.specs.declared.note.Note.{Note}
 use Rattle.someip_world_ledger.specs.declared.taken.Taken.{Taken}
@@ -50,3 +51,11 @@ view_openings taken counters = record { taken = view_taken taken; counters = map
 
 abbrev pub view_publication : publishing.Publication → Publication
 view_publication p = record { event = p.event; session = p.session; key = p.key }
+
+abbrev pub view_book : Ledger → Book
+view_book ledger = record {
+  taken = view_taken ledger.taken;
+  notes = view_notes ledger.notes.items;
+  lives = view_lives ledger.lives.items;
+  payloads = view_numbers ledger.payloads;
+}

@@ -1,7 +1,10 @@
 //! The verdict on a run: whether the keys of its exchanges were reused cleanly.
 #![tactic(auto)]
 
+mod booking;
 mod breach;
+mod content;
+mod ledger;
 mod life;
 mod note;
 mod numbers;
@@ -12,3 +15,4 @@ mod stream;
 mod table;
 mod taken;
 mod telling;
+mod verdict;

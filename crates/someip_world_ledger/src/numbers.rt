@@ -13,8 +13,26 @@ use std::collections::BTreeMap;
 /// The most bytes of a payload that goes in one datagram (SOME/IP Protocol, "SOME/IP-TP").
 const SHORT: usize = 1400;
 
+/// The number of the payload that a step of an index sends, if it goes in segments.
+pub(crate) fn number_long(
+    alloc: Global,
+    numbers: &mut BTreeMap<Vec<u8>, usize>,
+    index: usize,
+    step: &Step,
+) -> Result<Option<usize>, AllocError>
+    ensures number { IfOk result (λ n. n
+        ≡ option_map (number_of (view_numbers numbers.old) index) (long_payload_of step.now)) }
+    ensures numbers { OnOk result (view_numbers numbers.new
+        ≡ numbered index (long_payload_of step.now) (view_numbers numbers.old)) }
+{
+    match long_payload_of(alloc, step)? {
+        Some(payload) => Ok(Some(number(numbers, index, payload)?)),
+        None => Ok(None),
+    }
+}
+
 /// The number of a payload: that of the first step that has it.
-pub(crate) fn number(
+fn number(
     numbers: &mut BTreeMap<Vec<u8>, usize>,
     step: usize,
     payload: Vec<u8>,
@@ -49,7 +67,7 @@ fn put_number(
 }
 
 /// The payload that a step sends, if it goes in segments.
-pub(crate) fn long_payload_of(alloc: Global, step: &Step) -> Result<Option<Vec<u8>>, AllocError>
+fn long_payload_of(alloc: Global, step: &Step) -> Result<Option<Vec<u8>>, AllocError>
     ensures { IfOk result (λ found. option_map (λ v. v.items) found ≡ long_payload_of step.now) }
 {
     match payload_of(step) {
