@@ -237,7 +237,7 @@ module _ (t : Tables) where
     publish_to_meant endpoint (Some service) is =
         (record { service = service; offered = is; from_instance = refl; to_is = refl; is = refl }, tt)
 
-  rule_meant : (r : Rule) → Meant r (rule r t)
+  pub rule_meant : (r : Rule) → Meant r (rule r t)
   rule_meant (Drops reason) = (tt, tt)
   rule_meant (TakesSegment o) = segment_meant o _
   rule_meant (TakesRequest instance from header payload) = instance_meant instance from header payload (offered_as t.config instance) refl

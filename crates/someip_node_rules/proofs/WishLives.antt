@@ -116,7 +116,7 @@ subscribes_is now peer c = cases c.beginning
     cases None = begun_is peer c
     cases (Some x) = at x (stands_with now peer (Begun x))
 
-wanted_is : (now : ℕ) (known : Option Ipv4Addr) (w : Bool) (c : Course) → (w ≡ false → c.beginning ≡ None)
+pub wanted_is : (now : ℕ) (known : Option Ipv4Addr) (w : Bool) (c : Course) → (w ≡ false → c.beginning ≡ None)
     → wish_from true (subscribes_if_known now known c) ≡ wished_with now known (wish_from w c)
 wanted_is now None w c unwished = cases w c.beginning unwished
   where

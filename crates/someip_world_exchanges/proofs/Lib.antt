@@ -16,3 +16,10 @@ pub mod EventOpenings
 pub mod TokenLemmas
 pub mod LongMessages
 pub mod SentNames
+pub mod BeginningLemmas
+pub mod AgreeingLemmas
+pub mod SubscribesLemmas
+pub mod RuleBeginnings
+pub mod BeginningWalks
+pub mod InputBeginnings
+pub mod SubscribesBegin

@@ -90,7 +90,7 @@ segment_pieces m = cases (is_long m.payload) refl
 
 -- ---- no message is given with the TP flag
 
-no_flag : (r : Rule) (t : Tables) (from to : SocketAddrV4) (m : MessageValue) → IsSent r t from to m → has_tp_flag m.header.kind ≡ false
+pub no_flag : (r : Rule) (t : Tables) (from to : SocketAddrV4) (m : MessageValue) → IsSent r t from to m → has_tp_flag m.header.kind ≡ false
 no_flag (plans.Calls kind instance method payload) t from to m s = ap (λ x. has_tp_flag x.header.kind) s.is ∙ by kind
   where
     by : (kind : CallKind) → has_tp_flag (kind_of_call kind) ≡ false

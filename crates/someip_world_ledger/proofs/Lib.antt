@@ -1,4 +1,7 @@
 pub mod PayloadNumbers
 pub mod BookingLemmas
 pub mod JudgingLemmas
+pub mod ApplicationLemmas
+pub mod ContentLemmas
+pub mod OutputLemmas
 pub mod Kept

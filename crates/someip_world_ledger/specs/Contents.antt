@@ -1,6 +1,7 @@
 -- What a datagram says of exchanges, by its own bytes and endpoints.
-use Rattle.std.specs.Prelude.{ℕ, ◌==◌, Bool, false, ◌&&◌, if◌then◌else◌, List, [], ◌∷◌, map, Option, None, Some, Result, Ok, Err}
+use Rattle.std.specs.Prelude.{◌==◌, Bool, false, ◌&&◌, if◌then◌else◌, List, [], ◌∷◌, map, Option, None, Some, Result, Ok, Err}
 use Rattle.std.specs.List.{flat_map}
+use Rattle.std.specs.Option.{option_map_or}
 use Rattle.std.specs.Net.Socket.{v4_ip}
 use Rattle.std.specs.declared.net.ipv4_addr.Ipv4Addr.{Ipv4Addr}
 use Rattle.std.specs.declared.net.socket_addr.SocketAddrV4.{SocketAddrV4}
@@ -17,9 +18,10 @@ use Rattle.sd_wire.specs.declared.error.SdError.{SdError}
 use Rattle.sd_wire.specs.Kinds.{is_subscribe}
 use Rattle.sd_wire.specs.Program.{reading}
 use Rattle.sd_wire.specs.Values.{ReadValue, SdValue}
+use Rattle.someip_node_rules.specs.declared.output.Output.{Output}
 use Rattle.someip_node_rules.specs.Fitting.{head_of}
 use Rattle.someip_node_rules.specs.Handling.{is_notification}
-use Rattle.someip_world_rules.specs.Datagrams.{SentDatagram}
+use Rattle.someip_world_rules.specs.Datagrams.{SentDatagram, sent_with}
 use Rattle.someip_world_exchanges.specs.declared.exchange_key.ExchangeKey.{ExchangeKey}
 use Rattle.someip_world_exchanges.specs.declared.exchange_key.ExchangeKey.TheVariants as keys
 use Rattle.someip_world_exchanges.specs.declared.naming.Naming.{Naming}
@@ -93,3 +95,9 @@ subscribe_of_key key = []
 -- the Subscribe that is said, if it is one
 abbrev pub subscribe_said : Said → List SentSubscribe
 subscribe_said said = if said.subscribes then subscribe_of_key said.naming.key else []
+
+-- ---- outputs
+
+-- what the datagrams among some outputs say, in order
+abbrev pub said_by_outputs : List Output → List Said
+said_by_outputs outputs = flat_map (λ o. option_map_or said_in (sent_with o) []) outputs

@@ -25,8 +25,11 @@ use std::net::{Ipv4Addr, SocketAddrV4};
 
 /// What a datagram says, in order.
 pub(crate) fn said_in(alloc: Global, datagram: &Datagram<'_>) -> Result<Vec<Said>, AllocError>
-    ensures { IfOk result (λ said. said.items ≡ said_in (record { from = datagram.now.from;
-        to = datagram.now.to; bytes = datagram.now.bytes.now })) }
+    ensures { IfOk result (λ said. said.items ≡ said_in (record {
+      from = datagram.now.from;
+      to = datagram.now.to;
+      bytes = datagram.now.bytes.now;
+    })) }
 {
     match Messages::new(datagram.bytes).next() {
         Some(Ok(message)) => said_by_message(alloc, datagram.from, datagram.to, &message),
@@ -36,8 +39,11 @@ pub(crate) fn said_in(alloc: Global, datagram: &Datagram<'_>) -> Result<Vec<Said
 
 /// The reassembly key of the whole message, where a datagram holds a segment.
 pub(crate) fn stream_in(datagram: &Datagram<'_>) -> Option<ReassemblyKey>
-    ensures { result ≡ stream_in (record { from = datagram.now.from; to = datagram.now.to;
-        bytes = datagram.now.bytes.now }) }
+    ensures { result ≡ stream_in (record {
+      from = datagram.now.from;
+      to = datagram.now.to;
+      bytes = datagram.now.bytes.now;
+    }) }
 {
     match Messages::new(datagram.bytes).next() {
         Some(Ok(message)) => {

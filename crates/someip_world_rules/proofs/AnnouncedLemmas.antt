@@ -28,7 +28,7 @@ use Rattle.someip_node_rules.proofs.MemberLemmas.{all_map, all_members, all_weak
 
 -- ---- the message of a datagram
 
-one_message : (m : wire.MessageValue) → Fits m → items_of (spelling m) ≡ Ok m ∷ []
+pub one_message : (m : wire.MessageValue) → Fits m → items_of (spelling m) ≡ Ok m ∷ []
 one_message m fits =
     items_from-datagram (m ∷ []) None (spelling m)
     (record { rest = []; parts = sym (append-nil (spelling m ++ []) ∙ append-nil (spelling m)); each = (fits, tt); ends = refl })
@@ -78,7 +78,7 @@ module _ (stamp : Stamp) (entries : List EntryValue) (numbered : stamp.session <
         code = omega arith;
       }
 
-  announced_holds : reading (discovery_payload stamp.reboot entries) ≡ Ok (as_read m)
+  pub announced_holds : reading (discovery_payload stamp.reboot entries) ≡ Ok (as_read m)
   announced_holds = ap reading payload_is ∙ holds_read (as_read m) text.0 (written_is_read m text.0 all text.1)
 
   module _ (p : Packet) (is : p.bytes ≡ spelling (discovery_message stamp entries)) where

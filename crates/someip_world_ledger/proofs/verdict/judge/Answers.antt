@@ -1,4 +1,4 @@
-use Rattle.std.proofs.Common.{refl, true, false, rules, ◌≡◌, ◌+◌, ◌≤◌, ◌<◌, length, sym, drop, ◌∙◌, ap, arith, slice_get, Some, map}
+use Rattle.std.proofs.Common.{get_or, refl, true, false, rules, ◌≡◌, ◌+◌, ◌≤◌, ◌<◌, length, sym, drop, ◌∙◌, ap, arith, slice_get, Some, map}
 use Rattle.std.proofs.lemmas.List.{length-map}
 use Rattle.std.proofs.lemmas.Option.{slice_get-map, slice_get_read}
 use Rattle.std.specs.Option.{option_map}
@@ -53,8 +53,9 @@ returns-then-breaks c =
     let own : slice_get c.loop-done.ledger.lives.items place ≡ Some c.index.result.now = slice_get_read c.loop-done.ledger.lives.items (length c.loop-done.ledger.lives.items) place c.index.result.now refl within c.index.ensures in
     let life : slice_get book.lives place ≡ Some (view_life c.index.result.now) = slice_get-map view_life c.loop-done.ledger.lives.items place ∙ ap (option_map view_life) own in
     let breaks : breaks_at node.config.common.reassembly_timeout_ms book (view_life c.index.result.now) step ≡ true =
-    let is : c.breaks.result ≡ breaks_at node.config.common.reassembly_timeout_ms book (view_life c.index.result.now) step = c.breaks.ensures in
-    let answer : c.breaks.result ≡ true = c.if-breaks.true in sym is ∙ answer in
+    let is : c.breaks.result ≡ breaks_at (get_or nodes place node).config.common.reassembly_timeout_ms book (view_life c.index.result.now) step = c.breaks.ensures in
+    let answer : c.breaks.result ≡ true = c.if-breaks.true in
+    ap (λ x. breaks_at x.config.common.reassembly_timeout_ms book (view_life c.index.result.now) step) c.index-nodes-place.is ∙ sym is ∙ answer in
     sym (sym c.loop-done.invariant ∙ judged_left nodes book i step steps lines c.loop-done-test.true c.index-steps-done.is
     ∙ judged_broken nodes book i step (drop (i + 1) steps) lines place named node here (view_life c.index.result.now) life breaks)
 
@@ -74,12 +75,15 @@ loop-done-preserved c =
     let own : slice_get c.loop-done.ledger.lives.items place ≡ Some c.index.result.now = slice_get_read c.loop-done.ledger.lives.items (length c.loop-done.ledger.lives.items) place c.index.result.now refl within c.index.ensures in
     let life : slice_get book.lives place ≡ Some (view_life c.index.result.now) = slice_get-map view_life c.loop-done.ledger.lives.items place ∙ ap (option_map view_life) own in
     let breaks : breaks_at node.config.common.reassembly_timeout_ms book (view_life c.index.result.now) step ≡ false =
-    let is : c.breaks.result ≡ breaks_at node.config.common.reassembly_timeout_ms book (view_life c.index.result.now) step = c.breaks.ensures in
-    let answer : c.breaks.result ≡ false = c.if-breaks.false in sym is ∙ answer in
+    let is : c.breaks.result ≡ breaks_at (get_or nodes place node).config.common.reassembly_timeout_ms book (view_life c.index.result.now) step = c.breaks.ensures in
+    let answer : c.breaks.result ≡ false = c.if-breaks.false in
+    ap (λ x. breaks_at x.config.common.reassembly_timeout_ms book (view_life c.index.result.now) step) c.index-nodes-place.is ∙ sym is ∙ answer in
     let front : c.split_at.result.0.now ≡ own_lines (i + 1) lines = c.split_at.ensures.front ∙ c.own_count.ensures.own in
     let back : c.split_at.result.1.now ≡ other_lines (i + 1) lines = c.split_at.ensures.back ∙ c.own_count.ensures.others in
     let next : view_book c.book.new.self ≡ booked node.config i place step (own_lines (i + 1) lines) (view_life c.index.result.now) book =
-    c.in_ok-book.ensures c.index.result.now own ∙ ap (λ ls. booked node.config i place step ls (view_life c.index.result.now) book) front in
+    let is : view_book c.book.new.self ≡ booked (get_or nodes place node).config i place step c.split_at.result.0.now (view_life c.index.result.now) book = c.in_ok-book.ensures c.index.result.now own in
+    is ∙ sym (ap (λ x. booked x.config i place step c.split_at.result.0.now (view_life c.index.result.now) book) c.index-nodes-place.is)
+    ∙ ap (λ ls. booked node.config i place step ls (view_life c.index.result.now) book) front in
     (λ k. judged_from nodes (i + 1) (next k) (drop (i + 1) steps) (back k))
     ∙ sym (judged_counted nodes (booked node.config i place step (own_lines (i + 1) lines) (view_life c.index.result.now) book) i (drop (i + 1) steps) (other_lines (i + 1) lines))
     ∙ sym (judged_more nodes book i step (drop (i + 1) steps) lines place named node here (view_life c.index.result.now) life breaks)
