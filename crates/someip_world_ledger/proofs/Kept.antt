@@ -109,3 +109,7 @@ module _ (nodes : List SetupNode) (configs : List Config) (steps : List Step) wh
     pub notes : AllZip (IsNoted book.payloads) (dispatches_in w.lines) book.notes
     pub lives : (place : ℕ) (h : History) → slice_get w.histories place ≡ Some h → (life : LifeKept) × (slice_get book.lives place ≡ Some life) × KeepsLife book.payloads n place h life
     pub payloads : KeepsPayloads book.payloads
+
+-- numbers stay
+abbrev pub PayloadsGrow : PayloadNumbers → PayloadNumbers → Type 0
+PayloadsGrow payloads more = (payload : List ℕ) (number : ℕ) → finite.get payloads payload ≡ Some number → finite.get more payload ≡ Some number
