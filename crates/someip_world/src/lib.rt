@@ -14,7 +14,9 @@ mod running;
 mod telling;
 
 pub use running::run;
-pub use someip_world_rules::{Line, RunError, StepFault, Told, Trace, example_laws, numbers, run_laws};
+pub use someip_world_rules::{
+    Line, RunError, StepFault, Told, Trace, example_laws, numbers, run_laws,
+};
 pub use someip_world_schedule::{
     MethodId, NodeName, ScheduleError, Step, StepPayload, read_schedule,
 };

@@ -5,3 +5,4 @@ pub mod ApplicationLemmas
 pub mod ContentLemmas
 pub mod OutputLemmas
 pub mod Kept
+pub mod LifeSpans

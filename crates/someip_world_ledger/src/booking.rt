@@ -164,8 +164,11 @@ fn note_line(
 /// What is kept of a datagram.
 fn note_of(alloc: Global, sending: Sending, datagram: &Datagram<'_>) -> Result<Note, AllocError>
     ensures { IfOk result (λ note. view_note note
-        ≡ note_of sending.step sending.answers sending.payload (record { from = datagram.now.from;
-        to = datagram.now.to; bytes = datagram.now.bytes.now })) }
+        ≡ note_of sending.step sending.answers sending.payload (record {
+          from = datagram.now.from;
+          to = datagram.now.to;
+          bytes = datagram.now.bytes.now;
+        })) }
 {
     let said = said_in(alloc, datagram)?;
     let stream = stream_in(datagram).map(|key| Stream::of(&key));

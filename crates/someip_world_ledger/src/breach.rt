@@ -66,12 +66,7 @@ fn is_after(since: Option<usize>, at: Option<usize>) -> bool
 }
 
 /// Whether another payload came under the reassembly key, less than the timeout ago.
-fn is_mixed(
-    timeout_ms: u32,
-    now: Moment,
-    arrival: Option<Arrival>,
-    payload: Option<usize>,
-) -> bool
+fn is_mixed(timeout_ms: u32, now: Moment, arrival: Option<Arrival>, payload: Option<usize>) -> bool
     ensures { result ≡ is_mixed timeout_ms now arrival payload }
 {
     match (arrival, payload) {

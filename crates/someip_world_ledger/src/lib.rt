@@ -1,4 +1,7 @@
-//! The verdict on a run: whether the keys of its exchanges were reused cleanly.
+//! What is kept of a run beside its nodes, to judge whether it reuses the keys of its exchanges cleanly.
+//!
+//! - [`judge`]: the first step of a run that breaks clean reuse, by what is kept of the steps before it;
+//! - `ledger` keeps it, `booking` says how a step changes it, and `breach` what breaks clean reuse.
 #![tactic(auto)]
 
 mod booking;
@@ -16,3 +19,5 @@ mod table;
 mod taken;
 mod telling;
 mod verdict;
+
+pub use verdict::judge;

@@ -31,9 +31,16 @@ pub(crate) fn publication_in(config: &Config, life: &Life, step: &Step) -> Optio
 {
     match step {
         Step::Publish {
-            instance, event, ..
+            instance,
+            event,
+            ..
         } => publication_of(config, life, *instance, *event),
-        Step::PublishTo { group, event, .. } => publication_of(config, life, group.instance, *event),
+        Step::PublishTo { group, event, .. } => publication_of(
+            config,
+            life,
+            group.instance,
+            *event,
+        ),
         _ => None,
     }
 }

@@ -9,8 +9,12 @@ use someip_world_schedule::Step;
 use someip_world_setup::SetupNode;
 use std::alloc::{AllocError, Global};
 
-/// Whether some steps reuse keys cleanly, over the nodes of a setup, where they are told by these lines.
-pub(crate) fn judge(
+/// The first of some steps that breaks clean reuse, over the nodes of a setup, where the lines are those of
+/// their trace: it is found by what is kept of the steps before it, in one pass over steps and lines.
+///
+/// What is kept is defined in `specs/Books.antt`, and how a step changes it in `Booking.antt`. That this
+/// agrees with the definition of clean reuse on every run is not proved yet.
+pub fn judge(
     alloc: Global,
     nodes: &[SetupNode],
     steps: &[Step],
