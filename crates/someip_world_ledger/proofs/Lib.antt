@@ -6,3 +6,5 @@ pub mod ContentLemmas
 pub mod OutputLemmas
 pub mod Kept
 pub mod LifeSpans
+pub mod Zipped
+pub mod NumberSteps
