@@ -8,3 +8,4 @@ pub mod Kept
 pub mod LifeSpans
 pub mod Zipped
 pub mod NumberSteps
+pub mod LifeSteps
