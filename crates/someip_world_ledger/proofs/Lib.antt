@@ -9,3 +9,4 @@ pub mod LifeSpans
 pub mod Zipped
 pub mod NumberSteps
 pub mod LifeSteps
+pub mod RestartSteps
