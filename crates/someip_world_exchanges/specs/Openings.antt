@@ -1,5 +1,5 @@
 -- When exchanges open: with a call, a publication, and the beginning of a subscription.
-use Rattle.std.specs.Prelude.{◌≡◌, ◌<◌, ◌≤◌, ℕ, suc, List, [], ◌∷◌, None, Some}
+use Rattle.std.specs.Prelude.{◌≡◌, ◌<◌, ℕ, suc, List, [], ◌∷◌, None, Some}
 use Rattle.std.specs.List.{Contains}
 use Rattle.std.specs.declared.net.ipv4_addr.Ipv4Addr.{Ipv4Addr}
 use Rattle.sd_core.specs.declared.eventgroup.Eventgroup.{Eventgroup}

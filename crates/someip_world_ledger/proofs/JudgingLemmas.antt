@@ -1,5 +1,5 @@
 -- How the verdict goes on, step by step.
-use Rattle.std.proofs.Common.{◌≡◌, ◌<◌, ◌≤◌, arith, ℕ, suc, ◌+◌, true, false, List, [], ◌∷◌, drop, length, get_or, slice_get, Option, None, Some, refl, sym, ap, ◌∙◌}
+use Rattle.std.proofs.Common.{◌≡◌, ◌<◌, ◌≤◌, arith, ℕ, suc, ◌+◌, true, false, List, ◌∷◌, drop, length, get_or, slice_get, Option, None, Some, refl, sym, ap, ◌∙◌}
 use Rattle.std.proofs.lemmas.List.{at_drop_more}
 use Rattle.std.proofs.lemmas.Option.{slice_get_past}
 use Rattle.someip_world_schedule.specs.StepNodes.{node_of}

@@ -1,5 +1,5 @@
 -- What is kept of the life of a node stays at a step of another node.
-use Rattle.std.proofs.Common.{◌≡◌, ◌≢◌, ◌<◌, ◌≤◌, ◌⊎◌, inl, inr, arith, ℕ, zero, suc, List, Option, None, Some, refl, sym, subst, ◌∙◌}
+use Rattle.std.proofs.Common.{◌≡◌, ◌≢◌, ◌<◌, ◌⊎◌, inl, inr, arith, ℕ, zero, suc, List, Option, None, Some, refl, sym, subst, ◌∙◌}
 use Rattle.std.specs.FinMap as finite
 use Rattle.someip_wire.specs.Spelling.{MessageValue}
 use Rattle.someip_tp.specs.declared.key.ReassemblyKey.{ReassemblyKey}
@@ -15,7 +15,7 @@ use Rattle.someip_world_exchanges.proofs.Deliverings.{one_turn}
 use Rattle.someip_world_ledger.specs.Books.{LifeKept, PayloadNumbers}
 use Rattle.someip_world_ledger.specs.Streams.{stream_of}
 use Rattle.someip_world_ledger.specs.declared.life.Arrival.{Arrival}
-use Rattle.someip_world_ledger.proofs.Kept.{IsLastArrival, KeepsLife, KnowsArrival, PayloadsGrow}
+use Rattle.someip_world_ledger.proofs.Kept.{KeepsLife, KnowsArrival, PayloadsGrow}
 
 -- a number below the next one is below this one, or is this one
 pub below_next : (k n : ℕ) → k < suc n → (k < n) ⊎ (k ≡ n)

@@ -1,11 +1,10 @@
 -- What is kept of a life after a step that a node refuses.
-use Rattle.std.proofs.Common.{◌≡◌, ℕ, suc, Bool, true, false, if◌then◌else◌, List, Option, None, Some, Result, Ok, Err, sym, subst, ◌∙◌}
+use Rattle.std.proofs.Common.{◌≡◌, ℕ, suc, Bool, true, false, if◌then◌else◌, List, Option, None, Some, Ok, Err, sym, subst, ◌∙◌}
 use Rattle.someip_wire.specs.Spelling.{MessageValue}
 use Rattle.someip_tp.specs.declared.key.ReassemblyKey.{ReassemblyKey}
 use Rattle.someip_node_rules.specs.History.{History}
 use Rattle.someip_node_rules.specs.Inputs as inputs
 use Rattle.someip_node_rules.specs.Inputs.{Input}
-use Rattle.someip_node_rules.specs.Plans.{Work}
 use Rattle.someip_node_rules.specs.Steps.{step}
 use Rattle.someip_node_rules.specs.declared.config.Config.{Config}
 use Rattle.someip_node_rules.specs.declared.error.NodeError.{NodeError}
@@ -15,7 +14,6 @@ use Rattle.someip_world_rules.specs.Datagrams.{SentDatagram, datagram_at}
 use Rattle.someip_world_rules.specs.Deeds.{Deed, Takes, Restarts, delivery, is_addressed}
 use Rattle.someip_world_rules.specs.declared.step_fault.StepFault.TheVariants.{NotAddressed}
 use Rattle.someip_world_rules.specs.Turns.{Turn}
-use Rattle.someip_world_exchanges.specs.Belonging.{HandsUp}
 use Rattle.someip_world_exchanges.specs.CleanReuse.{Arrives}
 use Rattle.someip_world_exchanges.specs.Deliveries.{Delivers, Does, Restarted}
 use Rattle.someip_world_exchanges.proofs.Deliverings.{one_turn}

@@ -1,13 +1,12 @@
 -- The numbers of payloads, by the bytes of their keys.
-use Rattle.std.proofs.Common.{◌≡◌, ℕ, Bool, true, false, cond, List, [], ◌∷◌, map, Option, Some, refl, sym, ap, subst, ◌∙◌}
-use Rattle.std.specs.BTreeMap as tree
-use Rattle.std.specs.BTreeMap.{BTreeMap, is_at}
+use Rattle.std.proofs.Common.{◌≡◌, ℕ, Bool, true, false, cond, List, [], ◌∷◌, map, Some, refl, sym, ap, subst, ◌∙◌}
+use Rattle.std.specs.BTreeMap.{is_at}
 use Rattle.std.specs.Cmp.{eq_by_cmp_equiv, Equal-is}
 use Rattle.std.specs.Cmp.Lexicographic.{slice_cmp}
 use Rattle.std.specs.FinMap.{get, insert}
 use Rattle.std.specs.Global.{Vec}
 use Rattle.std.specs.Map.{KeepsOthers, IsKeyTest, AreApart, lookup}
-use Rattle.std.specs.Ordering.{is_eq, eq_by_cmp, nat_cmp}
+use Rattle.std.specs.Ordering.{eq_by_cmp, nat_cmp}
 use Rattle.std.proofs.lemmas.Cmp.{nat_list_cmp_total}
 use Rattle.std.proofs.lemmas.Map.Lookups.{exact_bytes}
 use Rattle.someip_tables.specs.Tables.{map_of}

@@ -1,11 +1,10 @@
 -- What is kept of a life after the node is started again.
-use Rattle.std.proofs.Common.{◌≡◌, ℕ, ◌<◌, ◌≤◌, suc, arith, Bool, true, false, if◌then◌else◌, List, [], Option, None, Some, Result, Ok, Err, refl, sym, ap, subst, ◌∙◌}
+use Rattle.std.proofs.Common.{◌≡◌, ℕ, ◌<◌, suc, arith, Bool, true, false, if◌then◌else◌, List, [], Option, None, Some, Ok, Err, refl, sym, ap, subst, ◌∙◌}
 use Rattle.std.specs.FinMap as finite
 use Rattle.std.specs.FinMap.{get-empty}
 use Rattle.someip_node_rules.specs.History.{History}
 use Rattle.someip_node_rules.specs.Inputs.{Input}
 use Rattle.someip_node_rules.specs.CallQuestions.{times_published}
-use Rattle.someip_node_rules.specs.Items.{Item}
 use Rattle.someip_node_rules.specs.Questions.{clock_at}
 use Rattle.someip_node_rules.specs.WishQuestions.{course_at}
 use Rattle.std.specs.Ordering.{nat_cmp}
@@ -17,12 +16,12 @@ use Rattle.someip_world_schedule.specs.declared.step.Step.{Step}
 use Rattle.someip_world_schedule.specs.declared.step.Step.TheVariants as steps
 use Rattle.someip_world_setup.specs.declared.setup_node.SetupNode.{SetupNode}
 use Rattle.someip_world_rules.specs.Datagrams.{SentDatagram, datagram_at}
-use Rattle.someip_world_rules.specs.Deeds.{Deed, Takes, Restarts, deed_of, delivery, is_addressed}
+use Rattle.someip_world_rules.specs.Deeds.{Takes, Restarts, deed_of, delivery, is_addressed}
 use Rattle.someip_world_rules.specs.declared.line.Line.{Line}
 use Rattle.someip_world_rules.specs.declared.step_fault.StepFault.{StepFault}
 use Rattle.someip_world_rules.specs.Turns.{Turn}
 use Rattle.someip_world_exchanges.specs.Beginnings.{last_counter}
-use Rattle.someip_world_exchanges.specs.Deliveries.{LivesOn, Restarted}
+use Rattle.someip_world_exchanges.specs.Deliveries.{LivesOn}
 use Rattle.someip_world_ledger.specs.Books.{LifeKept, NoteKept, PayloadNumbers, new_life}
 use Rattle.someip_world_ledger.specs.Booking.{answered_in, handed_up, life_after, life_then, tokens_told}
 use Rattle.someip_world_ledger.specs.StreamOrder.{stream_cmp}

@@ -1,5 +1,5 @@
 -- How a step changes what is kept of a run.
-use Rattle.std.specs.Prelude.{ℕ, suc, ◌+◌, ◌^◌, ◌==◌, Bool, true, false, nat_lt, if◌then◌else◌, List, [], ◌∷◌, ◌++◌, Option, None, Some, slice_set}
+use Rattle.std.specs.Prelude.{ℕ, ◌+◌, ◌^◌, ◌==◌, Bool, true, false, nat_lt, if◌then◌else◌, List, [], ◌∷◌, ◌++◌, Option, None, Some, slice_set}
 use Rattle.std.specs.FinMap as finite
 use Rattle.std.specs.FinMap.{FinMap}
 use Rattle.std.specs.BTreeMap as tree
@@ -18,7 +18,7 @@ use Rattle.someip_node_rules.specs.declared.config.OfferedService.{OfferedServic
 use Rattle.someip_node_rules.specs.declared.output.Output.TheVariants.{Request}
 use Rattle.someip_world_schedule.specs.declared.step.Step.{Step}
 use Rattle.someip_world_schedule.specs.declared.step.Step.TheVariants as steps
-use Rattle.someip_world_rules.specs.Datagrams.{SentDatagram, datagram_in, datagrams_in}
+use Rattle.someip_world_rules.specs.Datagrams.{SentDatagram, datagrams_in}
 use Rattle.someip_world_rules.specs.declared.line.Line.{Line}
 use Rattle.someip_world_rules.specs.declared.line.Told.{Told}
 use Rattle.someip_world_rules.specs.declared.line.Told.TheVariants.{Gave, Refused}
@@ -26,7 +26,7 @@ use Rattle.someip_world_exchanges.specs.declared.exchange_key.ExchangeKey.{Excha
 use Rattle.someip_world_exchanges.specs.declared.exchange_key.ExchangeKey.TheVariants as keys
 use Rattle.someip_world_exchanges.specs.declared.exchange_key.SubscriptionExchange.{SubscriptionExchange}
 use Rattle.someip_world_exchanges.specs.declared.naming.Side.{Side}
-use Rattle.someip_world_exchanges.specs.declared.naming.Side.TheVariants.{Answerer, Opener}
+use Rattle.someip_world_exchanges.specs.declared.naming.Side.TheVariants.{Opener}
 use Rattle.someip_world_exchanges.specs.Namings.{of_event}
 use Rattle.someip_world_ledger.specs.Books.{Book, LifeKept, NoteKept, PayloadNumbers, TakenKeys, new_life, note_at, taken_with}
 use Rattle.someip_world_ledger.specs.Contents.{said_in, stream_in}

@@ -1,4 +1,4 @@
-use Rattle.std.proofs.Common.{get_or, refl, true, false, rules, ◌≡◌, ◌+◌, ◌≤◌, ◌<◌, length, sym, drop, ◌∙◌, ap, arith, slice_get, Some, map}
+use Rattle.std.proofs.Common.{get_or, refl, true, false, rules, ◌≡◌, ◌+◌, ◌≤◌, ◌<◌, length, sym, drop, ◌∙◌, ap, arith, slice_get, Some}
 use Rattle.std.proofs.lemmas.List.{length-map}
 use Rattle.std.proofs.lemmas.Option.{slice_get-map, slice_get_read}
 use Rattle.std.specs.Option.{option_map}

@@ -3,7 +3,7 @@ use Rattle.std.proofs.lemmas.List.{map-set}
 use Rattle.std.proofs.lemmas.Option.{get_or_from_slice_get}
 use Rattle.someip_world_rules.specs.Datagrams.{datagrams_in}
 use Rattle.someip_world_ledger.specs.Booking.{answered_in, life_after, notes_of, openings_after}
-use Rattle.someip_world_ledger.specs.Views.{view_book, view_life, view_lives, view_notes, view_taken}
+use Rattle.someip_world_ledger.specs.Views.{view_book, view_life}
 use Rattle.someip_world_ledger.proofs.BookingLemmas.{booked_so}
 use Rattle.someip_world_ledger.proofs.ledger.Ledger.book.Goals as goal
 
