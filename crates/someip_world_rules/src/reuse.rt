@@ -2,7 +2,6 @@
 
 /// Whether a run reused the keys of its exchanges cleanly: no step delivers what belongs to an exchange
 /// whose key a newer one has taken, nor mixes the segments of two messages that have one reassembly key.
-/// Where keys are reused cleanly, an answer surely belongs to its call.
 #[derive(Clone, Copy, Debug, PartialEq, Eq)]
 pub enum Reuse {
     /// It did.
