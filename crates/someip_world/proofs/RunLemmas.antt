@@ -24,7 +24,7 @@ use Rattle.someip_world_rules.specs.declared.step_fault.StepFault.{StepFault}
 use Rattle.someip_world_rules.specs.declared.step_fault.StepFault.TheVariants.{UnknownNode}
 use Rattle.someip_world_rules.specs.Deeds.{Deed, deed_of, done_with}
 use Rattle.someip_world.specs.Performing.{Does, Performs, Puts}
-use Rattle.someip_world.specs.Running.{AreStarted, Comes, Ends, IsStarted, AreOfWorld, view_of}
+use Rattle.someip_world.specs.Running.{AreStarted, Comes, Ends, IsStarted, IsTold, AreOfWorld, view_of}
 use Rattle.someip_world_rules.specs.Runs.{AreCopies, IsRun, World, happens, happens_at, told_lines, place_of, run_from, run_of, started_nodes, then_on, run_lines, unless_bad, world_after, world_of}
 
 -- ---- the start
@@ -182,7 +182,7 @@ run_told setup configs steps (Ok w) lines is ends = ap run_lines is ∙ ap Ok (s
 run_told setup configs steps (Err error) lines is ends = absurd ends
 
 pub failed : (setup : List SetupNode) (configs : List Config) (steps : List Step) (error : RunError) (lines : List Line) → AreCopies setup configs
-    → Ends (run_from setup 1 (world_of setup configs) steps) (Err error) lines → IsRun setup steps (Err error)
+    → Ends (run_from setup 1 (world_of setup configs) steps) (Err error) lines → IsTold setup steps (Err error)
 failed setup configs steps errors.OutOfMemory lines are ends = record {}
 failed setup configs steps (BadStep at fault) lines are ends = (configs, are, cases (run_from setup 1 (world_of setup configs) steps) refl ends)
   where
@@ -190,3 +190,8 @@ failed setup configs steps (BadStep at fault) lines are ends = (configs, are, ca
         → run_of setup configs steps ≡ Err (BadStep at fault)
     cases (Ok w) is e = absurd e
     cases (Err error) is e = ap run_lines is ∙ ap Err e
+
+-- a run that tells no lines has no trace
+pub no_trace : (setup : List SetupNode) (steps : List Step) (error : RunError) → IsTold setup steps (Err error) → IsRun setup steps (Err error)
+no_trace setup steps (BadStep at fault) told = told
+no_trace setup steps errors.OutOfMemory told = record {}

@@ -1,5 +1,6 @@
 -- What the functions of a run do with its nodes.
 use Rattle.std.specs.Prelude.{◌≡◌, ℕ, List, map, Some, Result, Ok, Err}
+use Rattle.std.specs.Global.{Vec}
 use Rattle.std.specs.List.{AllZip}
 use Rattle.someip_node_rules.specs.Copies.{IsCopy}
 use Rattle.someip_node_rules.specs.History.{History, answers_of, start_of}
@@ -11,7 +12,7 @@ use Rattle.someip_world_rules.specs.declared.error.RunError.{RunError}
 use Rattle.someip_world_rules.specs.declared.error.RunError.TheVariants.{BadStep, OutOfMemory}
 use Rattle.someip_world_rules.specs.declared.line.Line.{Line}
 use Rattle.someip_world_rules.specs.declared.step_fault.StepFault.{StepFault}
-use Rattle.someip_world_rules.specs.Runs.{World, happens, run_from}
+use Rattle.someip_world_rules.specs.Runs.{ComesTo, World, happens, run_from}
 
 -- a node that stands for a history, as its callers see it
 abbrev pub view_of : History → NodeView
@@ -48,3 +49,9 @@ Ends due result lines = ⊥
 
 abbrev pub RunsOn : List SetupNode → List Step → List NodeView → List Line → Result (Unit {0}) RunError → List Line → Type 0
 RunsOn setup steps old before result after = (w : World) → AreOfWorld old before w → Ends (run_from setup 1 w steps) result after
+
+-- a run tells these lines, or the first bad step, or memory ran out
+abbrev pub IsTold : List SetupNode → List Step → Result (Vec Line) RunError → Type 0
+IsTold nodes steps (Ok lines) = ComesTo nodes steps (Ok lines.items)
+IsTold nodes steps (Err (BadStep index fault)) = ComesTo nodes steps (Err (BadStep index fault))
+IsTold nodes steps (Err OutOfMemory) = Unit {0}

@@ -3,7 +3,8 @@
 //!
 //! - [`Setup::read`]: the setup of a network, read from TOML;
 //! - [`read_schedule`]: the steps of a schedule;
-//! - [`run`]: the trace of a schedule over the nodes of a setup, as [`Line`]s;
+//! - [`run`]: the trace of a schedule over the nodes of a setup, as [`Line`]s, and the verdict on it,
+//!   whether it reused the keys of its exchanges cleanly: [`Reuse`].
 //!
 //! What a run is, the laws of every run and the types of a trace are those of `someip_world_rules`.
 #![tactic(auto)]
@@ -15,7 +16,7 @@ mod telling;
 
 pub use running::run;
 pub use someip_world_rules::{
-    Line, RunError, StepFault, Told, Trace, example_laws, numbers, run_laws,
+    Line, Reuse, RunError, StepFault, Told, Trace, example_laws, numbers, run_laws,
 };
 pub use someip_world_schedule::{
     MethodId, NodeName, ScheduleError, Step, StepPayload, read_schedule,

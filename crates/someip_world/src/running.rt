@@ -1,7 +1,8 @@
 //! Runs.
 ghost use Rattle.std.specs.Prelude.{◌≡◌, IfOk, IfErr};
+ghost use Rattle.someip_world_exchanges.specs.CleanReuse.{IsVerdictOn};
 ghost use Rattle.someip_world_rules.specs.Runs.{IsRun};
-ghost use Rattle.someip_world.specs.Running.{AreStarted, Happens, RunsOn};
+ghost use Rattle.someip_world.specs.Running.{AreStarted, Happens, IsTold, RunsOn};
 ghost use Rattle.someip_world_rules.specs.declared.error.RunError.TheVariants as fault;
 
 use crate::log::Log;
@@ -9,7 +10,8 @@ use crate::performing::perform;
 use crate::telling::tell;
 use someip_node::Node;
 use someip_tp::Reassembly;
-use someip_world_rules::{RunError, StepFault, Trace, place_of};
+use someip_world_ledger::verdict_on;
+use someip_world_rules::{Line, RunError, StepFault, Trace, place_of};
 use someip_world_schedule::Step;
 use someip_world_setup::{Setup, SetupNode};
 use std::alloc::Global;
@@ -67,30 +69,35 @@ fn run_all<R: Reassembly>(
     Ok(())
 }
 
-/// Runs a schedule over nodes.
+/// Runs a schedule over nodes: the lines of its trace.
 fn run_nodes<R: Reassembly>(
     alloc: Global,
     setup: &[SetupNode],
     steps: &[Step],
-) -> Result<Trace, RunError>
-    ensures { IsRun setup.now steps.now result }
+) -> Result<Vec<Line>, RunError>
+    ensures { IsTold setup.now steps.now result }
 {
     let mut nodes = start::<R>(alloc, setup)?;
     let mut log = Log::new(alloc);
     match run_all(alloc, setup, &mut nodes, &mut log, steps) {
-        Ok(()) => Ok(Trace {
-            lines: log.into_lines(),
-        }),
+        Ok(()) => Ok(log.into_lines()),
         Err(error) => Err(error),
     }
 }
 
 /// Runs a schedule over the nodes of a setup: each node is started with its delay, and the steps happen
-/// one after the other. The trace tells all that the nodes gave.
+/// one after the other. The trace tells all that the nodes gave, and whether they reused the keys of their
+/// exchanges cleanly.
 ///
 /// It is refused as `BadStep` with the index of the first step that can't happen.
 pub fn run<R: Reassembly>(alloc: Global, setup: &Setup, steps: &[Step]) -> Result<Trace, RunError>
-    ensures { IsRun setup.now.nodes steps.now result }
+    // Its lines are those of the run.
+    ensures lines { IsRun setup.now.nodes steps.now result }
+    // The verdict is that on this run: the first step that breaks clean reuse is named, if one does.
+    ensures verdict { IfOk result
+        (λ trace. IsVerdictOn setup.now.nodes steps.now trace.lines.items trace.verdict) }
 {
-    run_nodes::<R>(alloc, setup.nodes(), steps)
+    let lines = run_nodes::<R>(alloc, setup.nodes(), steps)?;
+    let verdict = verdict_on(alloc, setup, steps, &lines)?;
+    Ok(Trace { lines, verdict })
 }

@@ -1,5 +1,5 @@
 -- Clean reuse of keys: when a step breaks it, and the verdict on a run.
-use Rattle.std.specs.Prelude.{true, ◌≡◌, ◌≢◌, ◌<◌, ℕ, ◌+◌, List, length}
+use Rattle.std.specs.Prelude.{true, ◌≡◌, ◌≢◌, ◌<◌, ℕ, ◌+◌, List, length, Ok}
 use Rattle.someip_wire.specs.Spelling.{MessageValue}
 use Rattle.someip_tp.specs.Keys.{segment_key}
 use Rattle.someip_tp.specs.Sent.{is_long}
@@ -10,6 +10,8 @@ use Rattle.someip_node_rules.specs.declared.config.Config.{Config}
 use Rattle.someip_world_schedule.specs.declared.step.Step.{Step}
 use Rattle.someip_world_setup.specs.declared.setup_node.SetupNode.{SetupNode}
 use Rattle.someip_world_rules.specs.Datagrams.{SentDatagram}
+use Rattle.someip_world_rules.specs.Runs.{AreCopies, run_of}
+use Rattle.someip_world_rules.specs.declared.line.Line.{Line}
 use Rattle.someip_world_rules.specs.declared.reuse.Reuse.{Reuse}
 use Rattle.someip_world_rules.specs.declared.reuse.Reuse.TheVariants.{Broken, Clean}
 use Rattle.someip_world_exchanges.specs.Belonging.{Belongs}
@@ -74,3 +76,7 @@ module _ (nodes : List SetupNode) (configs : List Config) (steps : List Step) wh
   abbrev pub IsVerdict : Reuse → Type 0
   IsVerdict Clean = IsCleanBefore (length steps)
   IsVerdict (Broken at) = (i : ℕ) × (at ≡ i + 1) × Breaks i × IsCleanBefore i
+
+-- the verdict on a trace: that on the run of the steps which tells it, over copies of the configurations of the nodes
+abbrev pub IsVerdictOn : List SetupNode → List Step → List Line → Reuse → Type 0
+IsVerdictOn nodes steps lines verdict = (configs : List Config) → AreCopies nodes configs → run_of nodes configs steps ≡ Ok lines → IsVerdict nodes configs steps verdict

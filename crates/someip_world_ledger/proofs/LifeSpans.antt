@@ -59,11 +59,11 @@ module _ (nodes : List SetupNode) (configs : List Config) (ss : List Step) (n pl
         cases (inl l) = knows i now m l (lives_back i lives) arrives
         cases (inr e) = none now m (subst (λ j. Arrives nodes configs ss j place now m key) e arrives)
 
-    -- a step that delivers no segment here leaves what is known of arrivals
-    pub arrivals_stay : ((now : ℕ) (m : MessageValue) (key : ReassemblyKey) → Arrives nodes configs ss n place now m key → ⊥)
-        → (key : ReassemblyKey) (o : Option Arrival) → KnowsArrival nodes configs ss payloads n place key o → KnowsArrival nodes configs ss more (suc n) place key o
-    arrivals_stay none key None knows = none_arrives key (λ now m. none now m key) knows
-    arrivals_stay none key (Some arrival) knows =
+    -- a step that delivers no segment under a key here leaves what is known of its arrivals
+    pub arrival_stays : (key : ReassemblyKey) → ((now : ℕ) (m : MessageValue) → Arrives nodes configs ss n place now m key → ⊥)
+        → (o : Option Arrival) → KnowsArrival nodes configs ss payloads n place key o → KnowsArrival nodes configs ss more (suc n) place key o
+    arrival_stays key none None knows = none_arrives key none knows
+    arrival_stays key none (Some arrival) knows =
         let before = knows.before in
         record {
           i = knows.i;
@@ -72,8 +72,13 @@ module _ (nodes : List SetupNode) (configs : List Config) (ss : List Step) (n pl
           message = knows.message;
           arrives = knows.arrives;
           payload = grow knows.message.payload arrival.payload knows.payload;
-          last = λ k now m. none_next (λ j. Arrives nodes configs ss j place now m key) knows.i n (λ j. knows.last j now m) (none now m key) k;
+          last = λ k now m. none_next (λ j. Arrives nodes configs ss j place now m key) knows.i n (λ j. knows.last j now m) (none now m) k;
         }
+
+    -- one that delivers no segment here leaves what is known of all arrivals
+    pub arrivals_stay : ((now : ℕ) (m : MessageValue) (key : ReassemblyKey) → Arrives nodes configs ss n place now m key → ⊥)
+        → (key : ReassemblyKey) (o : Option Arrival) → KnowsArrival nodes configs ss payloads n place key o → KnowsArrival nodes configs ss more (suc n) place key o
+    arrivals_stay none key = arrival_stays key (λ now m. none now m key)
 
   -- a step that hands up nothing here leaves what was handed up
   pub handed_stays : (token since : ℕ) → (HandsUp nodes configs ss n place token → ⊥) → WasHandedUp nodes configs ss place token n since → WasHandedUp nodes configs ss place token (suc n) since

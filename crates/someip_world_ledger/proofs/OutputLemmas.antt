@@ -83,11 +83,11 @@ flat_map_weaker f g (x ∷ xs) y all among = cases (Contains-append_cases (f x) 
 
 -- ---- what an output says
 
-abbrev said_by_output : Output → List Said
+abbrev pub said_by_output : Output → List Said
 said_by_output o = option_map_or said_in (sent_with o) []
 
 -- the output of something that is read back says what that names, if it is a datagram
-output_case : (given : Given) → AreReadBack given → (P : List Said → Type 0) → P [] → ((d : SentDatagram) → Contains (written given) (Sent d.from d.to d.bytes) → P (said_in d))
+pub output_case : (given : Given) → AreReadBack given → (P : List Said → Type 0) → P [] → ((d : SentDatagram) → Contains (written given) (Sent d.from d.to d.bytes) → P (said_in d))
     → (o : Output) → Contains (written given) o → P (said_by_output o)
 output_case given are P none some o among = cases (sent_with o) refl
   where

@@ -30,7 +30,7 @@ use Rattle.someip_world_ledger.proofs.Kept.{KeepsLife, KnowsArrival}
 
 -- ---- the step is a Restart
 
-no_restart_if : (b : Bool) (input : Input) (fault : StepFault) (delay : ℕ) → (if b then Err fault else Ok (Takes input)) ≡ Ok (Restarts delay) → ⊥
+pub no_restart_if : (b : Bool) (input : Input) (fault : StepFault) (delay : ℕ) → (if b then Err fault else Ok (Takes input)) ≡ Ok (Restarts delay) → ⊥
 no_restart_if true input fault delay is = absurd cc
 no_restart_if false input fault delay is = absurd cc
 
@@ -47,7 +47,7 @@ module _ (config : Config) (notes : List NoteKept) (life : LifeKept) (h : Histor
   abbrev IsNew : Step → Type 0
   IsNew s = (life_then config notes life s ≡ new_life) × (answered_in notes life s ≡ None)
 
-  begins_anew : (s : Step) → deed_of h lines s ≡ Ok (Restarts delay) → IsNew s
+  pub begins_anew : (s : Step) → deed_of h lines s ≡ Ok (Restarts delay) → IsNew s
   begins_anew (steps.Restart node ms) is = (refl, refl)
   begins_anew (steps.Tick node ms) is = absurd (no_restart_if _ _ _ delay is)
   begins_anew (steps.Deliver number node) is = absurd (no_restart_delivered h.config (datagram_at lines number) delay is)
@@ -59,6 +59,21 @@ module _ (config : Config) (notes : List NoteKept) (life : LifeKept) (h : Histor
   begins_anew (steps.Unsubscribe node group) is = absurd cc
   begins_anew (steps.StopOffer node instance) is = absurd cc
 
+-- ---- a new life
+
+-- nothing is kept of a life that has just begun
+module _ (nodes : List SetupNode) (configs : List Config) (ss : List Step) (payloads : PayloadNumbers) (n place : ℕ)
+    (none_lives : (i : ℕ) → i < n → LivesOn nodes configs ss place i n → ⊥) (h : History) (fresh : h.items ≡ []) where
+  pub new_kept : KeepsLife nodes configs ss payloads n place h new_life
+  new_kept = record {
+    clock = ap clock_at (sym fresh);
+    counters = λ q. get-empty eventgroup_cmp q ∙ ap (λ items. last_counter (course_at items q).begun) (sym fresh);
+    sessions = λ e. ap session_after_last (get-empty event_cmp e) ∙ ap (λ items. session_after (suc (times_published items e)) 0) (sym fresh);
+    handed = λ token since at. let none : finite.get new_life.tokens token ≡ None = get-empty nat_cmp token in absurd cc;
+    handed_only = λ token since was. absurd (none_lives was.i was.before was.lives);
+    arrivals = λ key. subst (KnowsArrival nodes configs ss payloads n place key) (sym (get-empty stream_cmp (stream_of key))) (λ i now m lt lives a. none_lives i lt lives);
+  }
+
 -- ---- what is kept of it
 
 module _ (nodes : List SetupNode) (configs : List Config) (ss : List Step) (n : ℕ) (s : Step) (t : Turn nodes configs ss n s) (delay : ℕ) (is : t.deed ≡ Restarts delay) where
@@ -67,20 +82,10 @@ module _ (nodes : List SetupNode) (configs : List Config) (ss : List Step) (n : 
   none_lives i lt lives = lives n (omega (arith, lt)) (omega arith) (record { step = s; turn = t; at = refl; delay = delay; restarts = is })
 
   module _ (payloads : PayloadNumbers) (h : History) (fresh : h.items ≡ []) where
-    new_kept : KeepsLife nodes configs ss payloads (suc n) t.place h new_life
-    new_kept = record {
-      clock = ap clock_at (sym fresh);
-      counters = λ q. get-empty eventgroup_cmp q ∙ ap (λ items. last_counter (course_at items q).begun) (sym fresh);
-      sessions = λ e. ap session_after_last (get-empty event_cmp e) ∙ ap (λ items. session_after (suc (times_published items e)) 0) (sym fresh);
-      handed = λ token since at. let none : finite.get new_life.tokens token ≡ None = get-empty nat_cmp token in absurd cc;
-      handed_only = λ token since was. absurd (none_lives was.i was.before was.lives);
-      arrivals = λ key. subst (KnowsArrival nodes configs ss payloads (suc n) t.place key) (sym (get-empty stream_cmp (stream_of key))) (λ i now m lt lives a. none_lives i lt lives);
-    }
-
     -- nothing is kept of it but that it is new
     pub restarted_life : (config : Config) (notes : List NoteKept) (life : LifeKept) (lines : List Line)
         → KeepsLife nodes configs ss payloads (suc n) t.place h (life_after config notes life s lines finite.empty)
     restarted_life config notes life lines =
         let new = begins_anew config notes life t.history t.before.lines delay s (t.due ∙ ap Ok is) in
         subst (KeepsLife nodes configs ss payloads (suc n) t.place h)
-        (λ k. record (sym new.0 k) { tokens = handed_up (sym new.1 k) (tokens_told lines) (sym new.0 k).tokens; counters = finite.empty }) new_kept
+        (λ k. record (sym new.0 k) { tokens = handed_up (sym new.1 k) (tokens_told lines) (sym new.0 k).tokens; counters = finite.empty }) (new_kept nodes configs ss payloads (suc n) t.place none_lives h fresh)

@@ -1,6 +1,6 @@
 //! What is kept of a run beside its nodes, to judge whether it reuses the keys of its exchanges cleanly.
 //!
-//! - [`judge`]: the first step of a run that breaks clean reuse, by what is kept of the steps before it;
+//! - [`verdict_on`]: the first step of a run that breaks clean reuse, if one does;
 //! - `ledger` keeps it, `booking` says how a step changes it, and `breach` what breaks clean reuse.
 #![tactic(auto)]
 
@@ -20,4 +20,4 @@ mod taken;
 mod telling;
 mod verdict;
 
-pub use verdict::judge;
+pub use verdict::verdict_on;

@@ -1,20 +1,36 @@
 //! The verdict on a run.
 ghost use Rattle.std.specs.Prelude.{◌≡◌, IfOk};
+ghost use Rattle.someip_world_exchanges.specs.CleanReuse.{IsVerdictOn};
 ghost use Rattle.someip_world_ledger.specs.Judging.{judged};
 
 use crate::ledger::Ledger;
 use crate::telling::own_count;
+use someip_world_rules::run_laws::all_that_a_setup_gives_fits;
 use someip_world_rules::{Line, Reuse, place_of};
 use someip_world_schedule::Step;
-use someip_world_setup::SetupNode;
+use someip_world_setup::{Setup, SetupNode};
 use std::alloc::{AllocError, Global};
 
-/// The first of some steps that breaks clean reuse, over the nodes of a setup, where the lines are those of
-/// their trace: it is found by what is kept of the steps before it, in one pass over steps and lines.
+/// The verdict on a run over the nodes of a setup, of which these lines are the trace: the first step that
+/// breaks clean reuse, if one does.
 ///
-/// What is kept is defined in `specs/Books.antt`, and how a step changes it in `Booking.antt`. That this
-/// agrees with the definition of clean reuse on every run is not proved yet.
-pub fn judge(
+/// It is found in one pass over steps and lines, by what is kept of the steps before. An error says that
+/// memory ran out.
+pub fn verdict_on(
+    alloc: Global,
+    setup: &Setup,
+    steps: &[Step],
+    lines: &[Line],
+) -> Result<Reuse, AllocError>
+    ensures { IfOk result (IsVerdictOn setup.now.nodes steps.now lines.now) }
+{
+    all_that_a_setup_gives_fits(setup, steps);
+    judge(alloc, setup.nodes(), steps, lines)
+}
+
+/// The first of some steps that breaks clean reuse, over the nodes of a setup. What is kept is defined in
+/// `specs/Books.antt`, and how a step changes it in `Booking.antt`.
+fn judge(
     alloc: Global,
     nodes: &[SetupNode],
     steps: &[Step],

@@ -116,12 +116,12 @@ module _ (nodes : List SetupNode) (configs : List Config) (steps : List Step) wh
 
 -- ---- what nodes met
 
-get_set_same : {X : Type 0} (xs : List X) (k : ℕ) (x y : X) → slice_get (slice_set xs k x) k ≡ Some y → y ≡ x
+pub get_set_same : {X : Type 0} (xs : List X) (k : ℕ) (x y : X) → slice_get (slice_set xs k x) k ≡ Some y → y ≡ x
 get_set_same [] k x y is = absurd cc
 get_set_same (z ∷ xs) zero x y is = cc
 get_set_same (z ∷ xs) (suc k) x y is = get_set_same xs k x y is
 
-get_set_other : {X : Type 0} (xs : List X) (k j : ℕ) (x : X) → j ≢ k → slice_get (slice_set xs k x) j ≡ slice_get xs j
+pub get_set_other : {X : Type 0} (xs : List X) (k j : ℕ) (x : X) → j ≢ k → slice_get (slice_set xs k x) j ≡ slice_get xs j
 get_set_other [] k j x ne = refl
 get_set_other (z ∷ xs) zero zero x ne = absurd (ne refl)
 get_set_other (z ∷ xs) zero (suc j) x ne = refl

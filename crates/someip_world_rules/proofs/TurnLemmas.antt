@@ -86,7 +86,7 @@ outputs_within : (index place : ℕ) (outputs : List Output) → AreWithin index
 outputs_within index place [] = tt
 outputs_within index place (o ∷ outputs) = ((omega arith, omega arith), outputs_within index place outputs)
 
-told_within : (index place : ℕ) (given : Result (List Output) NodeError) → AreWithin index (index + 1) (told_lines index place given)
+pub told_within : (index place : ℕ) (given : Result (List Output) NodeError) → AreWithin index (index + 1) (told_lines index place given)
 told_within index place (Ok outputs) = outputs_within index place outputs
 told_within index place (Err refusal) = ((omega arith, omega arith), tt)
 

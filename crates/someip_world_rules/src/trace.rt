@@ -1,10 +1,13 @@
 //! Traces.
 
 use crate::line::Line;
+use crate::reuse::Reuse;
 
-/// What all nodes gave in a run.
+/// What all nodes gave in a run, and the verdict on it.
 #[derive(Drop)]
 pub struct Trace {
     /// What they gave, in the order in which it came.
     pub lines: Vec<Line>,
+    /// Whether the run reused the keys of its exchanges cleanly, or the first step that broke it.
+    pub verdict: Reuse,
 }

@@ -2,9 +2,11 @@
 use Rattle.std.specs.Prelude.{ℕ, ◌≡◌, true, List, ◌++◌, map, Option, Some, None, Ok, Err, IsSomeAnd}
 use Rattle.std.specs.Io.KnownBytes.{Appends, Keeps}
 use Rattle.std.specs.Str.{is_utf8}
+use Rattle.someip_world_exchanges.specs.CleanReuse.{IsVerdictOn}
 use Rattle.someip_world_rules.specs.Runs.{ComesTo}
 use Rattle.someip_world_rules.specs.declared.error.RunError.TheVariants as runs
 use Rattle.someip_world_rules.specs.declared.line.Line.{Line}
+use Rattle.someip_world_rules.specs.declared.reuse.Reuse.{Reuse}
 use Rattle.someip_world_schedule.specs.Schedule.{first_bad, steps_of}
 use Rattle.someip_world_schedule.specs.declared.step.Step.{Step}
 use Rattle.someip_world_setup.specs.GoodSetups.{Network}
@@ -49,9 +51,10 @@ RefusesInput input setups.OutOfMemory = Unit {0}
 abbrev pub SpellsSteps : List ℕ → List Step → Type 0
 SpellsSteps text steps = (map (λ s. Some s) steps ≡ steps_of text) × (first_bad text ≡ None)
 
--- these are the lines of the schedule's trace
-abbrev pub IsTraceOf : List SetupNode → List ℕ → List Line → Type 0
-IsTraceOf nodes text lines = (steps : List Step) × SpellsSteps text steps × ComesTo nodes steps (Ok lines)
+-- these are the lines of the schedule's trace, and this is the verdict on it
+abbrev pub IsTraceOf : List SetupNode → List ℕ → List Line → Reuse → Type 0
+IsTraceOf nodes text lines verdict =
+    (steps : List Step) × SpellsSteps text steps × ComesTo nodes steps (Ok lines) × IsVerdictOn nodes steps lines verdict
 
 -- a schedule has no trace: a line is bad, or a step can't happen
 abbrev pub RefusesTrace : List SetupNode → List ℕ → RunFault → Type 0
@@ -62,12 +65,14 @@ RefusesTrace nodes text fault = ⊥
 
 -- the trace was written
 abbrev pub Ran : List SetupNode → List ℕ → Option (List ℕ) → Option (List ℕ) → Type 0
-Ran nodes text before after = (lines : List Line) × IsTraceOf nodes text lines × Appends before after (trace_text nodes lines)
+Ran nodes text before after =
+    (lines : List Line) × (verdict : Reuse) × IsTraceOf nodes text lines verdict × Appends before after (trace_text nodes lines verdict)
 
 -- a beginning of it was written
 abbrev pub RanPartly : List SetupNode → List ℕ → Option (List ℕ) → Option (List ℕ) → Type 0
 RanPartly nodes text before after =
-    (lines : List Line) × IsTraceOf nodes text lines × (sent : List ℕ) × (unsent : List ℕ) × Appends before after sent × (sent ++ unsent ≡ trace_text nodes lines)
+    (lines : List Line) × (verdict : Reuse) × IsTraceOf nodes text lines verdict
+    × (sent : List ℕ) × (unsent : List ℕ) × Appends before after sent × (sent ++ unsent ≡ trace_text nodes lines verdict)
 
 -- what a fault says of the schedule, and of what was written
 abbrev pub RefusesRun : List SetupNode → List ℕ → RunFault → Option (List ℕ) → Option (List ℕ) → Type 0

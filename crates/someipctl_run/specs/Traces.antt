@@ -3,6 +3,8 @@ use Rattle.std.specs.Prelude.{ℕ, ◌+◌, List, [], ◌∷◌, ◌++◌, slice
 use Rattle.std.specs.Option.{option_map_or}
 use Rattle.someip_world_rules.specs.Datagrams.{datagram_in}
 use Rattle.someip_world_rules.specs.declared.line.Line.{Line}
+use Rattle.someip_world_rules.specs.declared.reuse.Reuse.{Reuse}
+use Rattle.someip_world_rules.specs.declared.reuse.Reuse.TheVariants.{Broken, Clean}
 use Rattle.someip_world_setup.specs.declared.setup_node.SetupNode.{SetupNode}
 use Rattle.someipctl_print.specs.Lines.{joined}
 use Rattle.someipctl_print.specs.Words.{ended}
@@ -29,6 +31,11 @@ abbrev pub numbered_lines : List SetupNode → ℕ → List Line → List ℕ
 numbered_lines nodes number [] = []
 numbered_lines nodes number (line ∷ lines) = line_text nodes number line ++ numbered_lines nodes (number_after number line) lines
 
--- a whole trace: datagrams count from 1
-abbrev pub trace_text : List SetupNode → List Line → List ℕ
-trace_text nodes lines = numbered_lines nodes 1 lines
+-- the verdict: a step is named by its index
+abbrev pub reuse_line : Reuse → List ℕ
+reuse_line Clean = joined (codes "reuse clean\n" ∷ [])
+reuse_line (Broken step) = joined (codes "reuse broken at " ∷ decimal step ∷ codes "\n" ∷ [])
+
+-- a whole trace: datagrams count from 1, and the verdict comes last
+abbrev pub trace_text : List SetupNode → List Line → Reuse → List ℕ
+trace_text nodes lines verdict = numbered_lines nodes 1 lines ++ reuse_line verdict

@@ -1,14 +1,14 @@
-//! The lines of a trace.
+//! The lines of a trace, and the verdict on it.
 ghost use Rattle.std.specs.Prelude.{◌≡◌, ◌<◌, OnOk, OnErr, is_some};
 ghost use Rattle.someip_world_rules.specs.Datagrams.{datagram_in};
 ghost use Rattle.std.specs.List.{flat_map};
 ghost use Rattle.someipctl_print.specs.Parts.{part_text};
 ghost use Rattle.someipctl_print.specs.Sending.{Sends, Stops};
-ghost use Rattle.someipctl_run.specs.Traces.{line_head, line_text, numbered_lines, node_name, number_after};
+ghost use Rattle.someipctl_run.specs.Traces.{line_head, line_text, numbered_lines, node_name, number_after, reuse_line};
 
 use crate::outputs::put_told;
 use someip_node::Output;
-use someip_world::{Line, SetupNode, Told};
+use someip_world::{Line, Reuse, SetupNode, Told};
 use someipctl_print::{Buffer, CannotWrite, Part, put_parts};
 use std::io::Write;
 
@@ -30,6 +30,31 @@ pub(crate) fn put_lines<W: Write>(
         number = number_after(number, line);
     }
     Ok(())
+}
+
+/// Prints the verdict.
+pub(crate) fn put_reuse<W: Write>(
+    buffer: &mut Buffer,
+    writer: &mut W,
+    verdict: Reuse,
+) -> Result<(), CannotWrite>
+    ensures ok { OnOk result (Sends (W.contents writer.old) buffer.old
+        (W.contents writer.new) buffer.new (reuse_line verdict)) }
+    ensures err { OnErr result (Stops (W.contents writer.old) buffer.old
+        (W.contents writer.new) (reuse_line verdict)) }
+{
+    match verdict {
+        Reuse::Clean => put_parts(buffer, writer, &[Part::Text("reuse clean\n")]),
+        Reuse::Broken(step) => put_parts(
+            buffer,
+            writer,
+            &[
+                Part::Text("reuse broken at "),
+                Part::Number(step),
+                Part::Text("\n"),
+            ],
+        ),
+    }
 }
 
 /// The number of the next datagram after a line.

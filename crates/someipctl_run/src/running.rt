@@ -1,27 +1,27 @@
 //! Running a schedule.
 ghost use Rattle.std.specs.Prelude.{◌≡◌, [], IfOk, IfErr, OnOk, OnErr};
 ghost use Rattle.std.specs.Io.KnownBytes.{Appends};
-ghost use Rattle.someipctl_print.specs.Sending.{Stops};
+ghost use Rattle.someipctl_print.specs.Sending.{Sends, Stops};
 ghost use Rattle.someipctl_run.specs.Commands.{IsTraceOf, Ran, RanInput, RefusesInputRun, RefusesRun, RefusesTrace};
 ghost use Rattle.someipctl_run.specs.Traces.{trace_text};
 
 use crate::error::RunFault;
-use crate::lines::put_lines;
+use crate::lines::{put_lines, put_reuse};
 use someip_tp::SegmentList;
-use someip_world::{Line, Setup, SetupNode, Trace, read_schedule, run};
+use someip_world::{Setup, SetupNode, Trace, read_schedule, run};
 use someipctl_commands::read_all;
 use someipctl_print::{Buffer, CannotWrite};
 use std::alloc::Global;
 use std::io::{Read, Write};
 
-/// Reads a schedule whole, runs it over a setup, and then writes the trace.
+/// Reads a schedule whole, runs it over a setup, and then writes the trace, with the verdict as its last line.
 pub fn run_schedule<R: Read, W: Write>(
     alloc: Global,
     setup: &Setup,
     reader: &mut R,
     writer: &mut W,
 ) -> Result<(), RunFault>
-    // The trace of the schedule was written, byte for byte.
+    // The trace of the schedule was written, byte for byte, and the verdict on it.
     ensures ran { OnOk result (RanInput setup.now.nodes (R.remaining reader.old)
         (W.contents writer.old) (W.contents writer.new)) }
     // An error names the first bad line or the first step that can't happen, and leaves nothing
@@ -47,13 +47,14 @@ fn run_text<W: Write>(
 {
     let trace = trace_of(alloc, setup, text)?;
     let mut buffer = Buffer::new(alloc)?;
-    write_lines(&mut buffer, writer, setup.nodes(), &trace.lines)?;
+    write_trace(&mut buffer, writer, setup.nodes(), &trace)?;
     Ok(())
 }
 
 /// The trace of the schedule that a text spells over a setup.
 fn trace_of(alloc: Global, setup: &Setup, text: &[u8]) -> Result<Trace, RunFault>
-    ensures ok { IfOk result (λ trace. IsTraceOf setup.now.nodes text.now trace.lines.items) }
+    ensures ok { IfOk result
+        (λ trace. IsTraceOf setup.now.nodes text.now trace.lines.items trace.verdict) }
     ensures err { IfErr result (RefusesTrace setup.now.nodes text.now) }
 {
     let steps = read_schedule(alloc, text)?;
@@ -61,19 +62,35 @@ fn trace_of(alloc: Global, setup: &Setup, text: &[u8]) -> Result<Trace, RunFault
     Ok(trace)
 }
 
-/// Writes lines through an empty buffer.
-fn write_lines<W: Write>(
+/// Writes a trace through an empty buffer.
+fn write_trace<W: Write>(
     buffer: &mut Buffer,
     writer: &mut W,
     nodes: &[SetupNode],
-    lines: &[Line],
+    trace: &Trace,
 ) -> Result<(), CannotWrite>
     requires empty { buffer.old ≡ [] }
-    ensures ok { OnOk result (Appends (W.contents writer.old)
-        (W.contents writer.new) (trace_text nodes.now lines.now)) }
-    ensures err { OnErr result (Stops (W.contents writer.old) []
-        (W.contents writer.new) (trace_text nodes.now lines.now)) }
+    ensures ok { OnOk result (Appends (W.contents writer.old) (W.contents writer.new)
+        (trace_text nodes.now trace.lines.now.items trace.verdict)) }
+    ensures err { OnErr result (Stops (W.contents writer.old) [] (W.contents writer.new)
+        (trace_text nodes.now trace.lines.now.items trace.verdict)) }
 {
-    put_lines(buffer, writer, nodes, lines)?;
+    put_trace(buffer, writer, nodes, trace)?;
     buffer.flush(writer)
+}
+
+/// Prints a trace.
+fn put_trace<W: Write>(
+    buffer: &mut Buffer,
+    writer: &mut W,
+    nodes: &[SetupNode],
+    trace: &Trace,
+) -> Result<(), CannotWrite>
+    ensures ok { OnOk result (Sends (W.contents writer.old) buffer.old (W.contents writer.new) buffer.new
+        (trace_text nodes.now trace.lines.now.items trace.verdict)) }
+    ensures err { OnErr result (Stops (W.contents writer.old) buffer.old (W.contents writer.new)
+        (trace_text nodes.now trace.lines.now.items trace.verdict)) }
+{
+    put_lines(buffer, writer, nodes, &trace.lines)?;
+    put_reuse(buffer, writer, trace.verdict)
 }
