@@ -190,8 +190,3 @@ failed setup configs steps (BadStep at fault) lines are ends = (configs, are, ca
         → run_of setup configs steps ≡ Err (BadStep at fault)
     cases (Ok w) is e = absurd e
     cases (Err error) is e = ap run_lines is ∙ ap Err e
-
--- a run that tells no lines has no trace
-pub no_trace : (setup : List SetupNode) (steps : List Step) (error : RunError) → IsTold setup steps (Err error) → IsRun setup steps (Err error)
-no_trace setup steps (BadStep at fault) told = told
-no_trace setup steps errors.OutOfMemory told = record {}

@@ -8,7 +8,7 @@ ghost use Rattle.someipctl_run.specs.Traces.{trace_text};
 use crate::error::RunFault;
 use crate::lines::{put_lines, put_reuse};
 use someip_tp::SegmentList;
-use someip_world::{Setup, SetupNode, Trace, read_schedule, run};
+use someip_world::{Line, Reuse, Setup, SetupNode, Trace, read_schedule, run};
 use someipctl_commands::read_all;
 use someipctl_print::{Buffer, CannotWrite};
 use std::alloc::Global;
@@ -47,7 +47,13 @@ fn run_text<W: Write>(
 {
     let trace = trace_of(alloc, setup, text)?;
     let mut buffer = Buffer::new(alloc)?;
-    write_trace(&mut buffer, writer, setup.nodes(), &trace)?;
+    write_trace(
+        &mut buffer,
+        writer,
+        setup.nodes(),
+        &trace.lines,
+        trace.verdict,
+    )?;
     Ok(())
 }
 
@@ -62,35 +68,37 @@ fn trace_of(alloc: Global, setup: &Setup, text: &[u8]) -> Result<Trace, RunFault
     Ok(trace)
 }
 
-/// Writes a trace through an empty buffer.
+/// Writes lines and the verdict on them through an empty buffer.
 fn write_trace<W: Write>(
     buffer: &mut Buffer,
     writer: &mut W,
     nodes: &[SetupNode],
-    trace: &Trace,
+    lines: &[Line],
+    verdict: Reuse,
 ) -> Result<(), CannotWrite>
     requires empty { buffer.old ≡ [] }
     ensures ok { OnOk result (Appends (W.contents writer.old) (W.contents writer.new)
-        (trace_text nodes.now trace.lines.now.items trace.verdict)) }
+        (trace_text nodes.now lines.now verdict)) }
     ensures err { OnErr result (Stops (W.contents writer.old) [] (W.contents writer.new)
-        (trace_text nodes.now trace.lines.now.items trace.verdict)) }
+        (trace_text nodes.now lines.now verdict)) }
 {
-    put_trace(buffer, writer, nodes, trace)?;
+    put_trace(buffer, writer, nodes, lines, verdict)?;
     buffer.flush(writer)
 }
 
-/// Prints a trace.
+/// Prints lines and the verdict on them.
 fn put_trace<W: Write>(
     buffer: &mut Buffer,
     writer: &mut W,
     nodes: &[SetupNode],
-    trace: &Trace,
+    lines: &[Line],
+    verdict: Reuse,
 ) -> Result<(), CannotWrite>
     ensures ok { OnOk result (Sends (W.contents writer.old) buffer.old (W.contents writer.new) buffer.new
-        (trace_text nodes.now trace.lines.now.items trace.verdict)) }
+        (trace_text nodes.now lines.now verdict)) }
     ensures err { OnErr result (Stops (W.contents writer.old) buffer.old (W.contents writer.new)
-        (trace_text nodes.now trace.lines.now.items trace.verdict)) }
+        (trace_text nodes.now lines.now verdict)) }
 {
-    put_lines(buffer, writer, nodes, &trace.lines)?;
-    put_reuse(buffer, writer, trace.verdict)
+    put_lines(buffer, writer, nodes, lines)?;
+    put_reuse(buffer, writer, verdict)
 }
