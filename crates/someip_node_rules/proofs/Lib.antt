@@ -18,6 +18,7 @@ pub mod UpLemmas
 pub mod StandingLemmas
 pub mod MemberLemmas
 pub mod PlanLemmas
+pub mod TrailLemmas
 pub mod EntryRules
 pub mod ReplyLemmas
 pub mod DatagramRules

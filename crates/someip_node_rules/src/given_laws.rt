@@ -32,16 +32,18 @@ pub fn a_plan_does_its_rules()
         × (done.before.outputs ≡ w.outputs ++ flat_map written (given_by earlier)) }
 {}
 
-/// Each rule that is done in a step is one that its input brings about, at a history on the way: a tick
-/// brings about its own rule and the Offers and Finds that are due, a call of the application the rule
-/// of that call, and a datagram the rules of the messages, segments and entries that stand in it, and
-/// replies to those entries.
+/// Each rule that is done in a step is one that its input brings about, done at what the rules before it
+/// met: a tick brings about its own rule and the Offers and Finds that are due, a call of the application
+/// the rule of that call, and a datagram the rules of the messages, segments and entries that stand in it,
+/// and the replies that the rules of those entries gave before: so an Ack that is replied answers a
+/// Subscribe with an endpoint that nothing spoke against where its rule was done, and a Nack one that was
+/// refused there.
 pub fn rules_are_brought_about()
     ensures { (h : History) (input : Input) → AllByRecursion (WasBrought h input) (trail_of h input) }
 {}
 
 /// What a step gives, message by message and word by word, was given by a rule that the input brings
-/// about, at a history on the way, and says by which: a message that is sent is a call, an answer, an
+/// about, at what the rules before it met, and says by which: a message that is sent is a call, an answer, an
 /// ERROR or an event of that rule, one of Service Discovery has its entries, a request, an answer and an
 /// event that are handed up are those of a message that came, and so on. The outputs are that, written.
 pub fn outputs_are_given()
@@ -51,8 +53,8 @@ pub fn outputs_are_given()
         → done.outputs ≡ flat_map written (given_by (trail_of h input)) }
 {}
 
-/// What a history meets in a step is met by a rule that the input brings about, at a history on the way,
-/// and says by which: a Subscribe that is accepted, an Ack, an Offer that counts are of an entry, a call
+/// What a history meets in a step is met by a rule that the input brings about, at what the rules before it
+/// met, and says by which: a Subscribe that is accepted, an Ack, an Offer that counts are of an entry, a call
 /// is that of the application, and so on. After the step, that was met.
 pub fn items_are_met()
     ensures items { (h : History) (input : Input)
@@ -61,10 +63,11 @@ pub fn items_are_met()
         → done.state ≡ after h (met_by (trail_of h input)) }
 {}
 
-/// What is handed up came in the datagram of that step: a request, an answer and an event have the
-/// payload of a message that stands in the datagram, or of one that a segment in it completed, with the
-/// parts that were held on the way. A request came to its instance and fails no check; an answer and an
-/// event came to the client, from where a call waits for the answer, or where the event is published.
+/// What is handed up came in the datagram of that step, and a rule that was done took it: a request, an
+/// answer and an event have the payload of a message that stands in the datagram, or of one that a segment
+/// in it completed, which the rule before took, with the parts that were held there. A request came to its
+/// instance and fails no check; an answer and an event came to the client, from where a call waits for the
+/// answer, or, in a NOTIFICATION, where the event is published, at the history where the rule was done.
 pub fn what_is_handed_up_came()
     ensures requests { (h : History) (input : Input) (done : Work History) (token : Option ℕ)
         (instance : InstanceId) (method : ℕ) (payload : List ℕ) → step h input ≡ Ok done

@@ -15,8 +15,7 @@ use Rattle.someip_node_rules.specs.Trails.{Done, given_by, trail_of}
 use Rattle.someip_node_rules.specs.WishQuestions.{course_at}
 use Rattle.someip_node_rules.proofs.MeaningLemmas.{done_by}
 use Rattle.someip_node_rules.proofs.MemberLemmas.{at_member}
-use Rattle.someip_node_rules.proofs.StepRules.{all_brought}
-use Rattle.someip_world_rules.proofs.OriginLemmas.{config_kept}
+use Rattle.someip_node_rules.proofs.StepRules.{config_there}
 use Rattle.someip_world_exchanges.specs.Beginnings.{SentSubscribe, about, begun_after, counter_after, last_counter, subscribes_in}
 use Rattle.someip_world_exchanges.specs.Namings.{of_subscription}
 use Rattle.someip_world_exchanges.specs.Openings.{Begins, Opens, OpensBy}
@@ -66,8 +65,7 @@ not_refused (Some fault) plan h done is = absurd cc
 -- the configuration of a node is the same at each rule of a step
 same_address : (h : History) (input : Input) (done : Done) → Contains (trail_of h input) done → done.before.state.config.address ≡ h.config.address
 same_address h input done among =
-    let was = at_member (WasBrought h input) (trail_of h input) done (all_brought h input) among in
-    ap (λ x. x.config.address) was.0.1 ∙ ap (λ config. config.address) (config_kept h was.0.0)
+    ap (λ config. config.address) (config_there h input done among)
 
 module _ (h : History) (input : Input) (q : Eventgroup) (done : Work History) (ttls : HasTtls h.config) (is : step h input ≡ Ok done) where
   -- the Subscribes of the eventgroup that the step sends

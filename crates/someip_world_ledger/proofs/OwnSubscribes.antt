@@ -35,9 +35,8 @@ use Rattle.someip_node_rules.specs.declared.config.WantedService.{WantedService}
 use Rattle.someip_node_rules.specs.declared.output.Output.TheVariants.{Sent}
 use Rattle.someip_node_rules.proofs.MeaningLemmas.{all_given, outputs_written}
 use Rattle.someip_node_rules.proofs.MemberLemmas.{all_both, all_flat_map, all_from_members, all_weaker, at_member}
-use Rattle.someip_node_rules.proofs.StepRules.{all_brought}
+use Rattle.someip_node_rules.proofs.StepRules.{config_there}
 use Rattle.someip_world_rules.specs.Datagrams.{SentDatagram}
-use Rattle.someip_world_rules.proofs.OriginLemmas.{config_kept}
 use Rattle.someip_world_exchanges.specs.Namings.{named_by_kind}
 use Rattle.someip_world_exchanges.proofs.SubscribesLemmas.{HasTtls}
 use Rattle.someip_world_exchanges.proofs.WholeLemmas.{no_flag}
@@ -107,9 +106,7 @@ announced_from r t from to stamp entries is = absurd is
 module _ (h : History) (input : Input) where
   -- the address of a node is the same at each rule of a step
   pub address_kept : (done : Done) → Contains (trail_of h input) done → done.before.state.config.address ≡ h.config.address
-  address_kept done among =
-      let was = at_member (WasBrought h input) (trail_of h input) done (all_brought h input) among in
-      ap (λ x. x.config.address) was.0.1 ∙ ap (λ config. config.address) (config_kept h was.0.0)
+  address_kept done among = ap (λ config. config.address) (config_there h input done among)
 
   module _ (well : is_good h.config ≡ true) where
     -- each Subscribe that a datagram of what is given says is the node's own

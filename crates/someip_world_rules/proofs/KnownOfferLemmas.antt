@@ -30,6 +30,8 @@ use Rattle.someip_node_rules.specs.Plans.{TakesOffer}
 use Rattle.someip_node_rules.specs.Questions.{clock_at}
 use Rattle.someip_node_rules.specs.SeekQuestions.{known_offer_at, majors_of, offer_from}
 use Rattle.someip_node_rules.specs.declared.config.Config.{Config}
+use Rattle.someip_node_rules.specs.Trails.{Done}
+use Rattle.someip_node_rules.proofs.StepRules.{config_kept, config_there}
 use Rattle.someip_world_schedule.specs.declared.step.Step.{Step}
 use Rattle.someip_world_schedule.specs.declared.step.Step.TheVariants as steps
 use Rattle.someip_world_setup.specs.declared.setup_node.SetupNode.{SetupNode}
@@ -42,7 +44,7 @@ use Rattle.someip_world_rules.specs.KnownOffers.{WasOffered}
 use Rattle.someip_world_rules.specs.Origins.{WasMet, WasSent}
 use Rattle.someip_world_rules.specs.Runs.{World}
 use Rattle.someip_world_rules.specs.Turns.{LeadTo, Turn}
-use Rattle.someip_world_rules.proofs.OriginLemmas.{all_origins, all_sent, config_kept}
+use Rattle.someip_world_rules.proofs.OriginLemmas.{all_origins, all_sent}
 
 -- ---- an offer that is known counted
 
@@ -81,21 +83,21 @@ module _ (P : Item → Type 0) (q : InstanceId) (lasting : Lasting KnownOffer) w
 
 -- ---- an Offer that is taken stands in a datagram
 
-offer_came : (h : History) (input : Input) (o : ReceivedOffer) (at : History) → Brings h input (TakesOffer o) at
+offer_came : (h : History) (input : Input) (o : ReceivedOffer) (earlier : List Done) → Brings h input (TakesOffer o) earlier
     → (p : Packet) × (input ≡ inputs.Datagram p.from p.to p.bytes) × OfEntry p (TakesOffer o)
-offer_came h (inputs.Datagram from to bytes) o at m = (record { from = from; to = to; bytes = bytes }, refl, m.1)
-offer_came h (inputs.Tick ms) o at (inl m) = let e = m.0 in absurd cc
-offer_came h (inputs.Tick ms) o at (inr m) = let e = m.1 in absurd cc
-offer_came h (inputs.Call kind instance method payload) o at m = let e = m.0 in absurd cc
-offer_came h (inputs.Answer token reply payload) o at m = let e = m.0 in absurd cc
-offer_came h (inputs.Publish instance event payload) o at m = let e = m.0 in absurd cc
-offer_came h (inputs.PublishTo instance eventgroup endpoint event payload) o at m = let e = m.0 in absurd cc
-offer_came h (inputs.Subscribe eventgroup) o at (inl m) = let e = m.0 in absurd cc
-offer_came h (inputs.Subscribe eventgroup) o at (inr m) = let e = m.2 in absurd cc
-offer_came h (inputs.Unsubscribe eventgroup) o at (inl m) = absurd cc
-offer_came h (inputs.Unsubscribe eventgroup) o at (inr m) = let e = m.2 in absurd cc
-offer_came h (inputs.StopOffer instance) o at (inl m) = absurd cc
-offer_came h (inputs.StopOffer instance) o at (inr m) = let e = m.0 in absurd cc
+offer_came h (inputs.Datagram from to bytes) o earlier m = (record { from = from; to = to; bytes = bytes }, refl, m.1)
+offer_came h (inputs.Tick ms) o earlier (inl m) = let e = m.0 in absurd cc
+offer_came h (inputs.Tick ms) o earlier (inr m) = let e = m.1 in absurd cc
+offer_came h (inputs.Call kind instance method payload) o earlier m = let e = m.0 in absurd cc
+offer_came h (inputs.Answer token reply payload) o earlier m = let e = m.0 in absurd cc
+offer_came h (inputs.Publish instance event payload) o earlier m = let e = m.0 in absurd cc
+offer_came h (inputs.PublishTo instance eventgroup endpoint event payload) o earlier m = let e = m.0 in absurd cc
+offer_came h (inputs.Subscribe eventgroup) o earlier (inl m) = let e = m.0 in absurd cc
+offer_came h (inputs.Subscribe eventgroup) o earlier (inr m) = let e = m.2 in absurd cc
+offer_came h (inputs.Unsubscribe eventgroup) o earlier (inl m) = absurd cc
+offer_came h (inputs.Unsubscribe eventgroup) o earlier (inr m) = let e = m.2 in absurd cc
+offer_came h (inputs.StopOffer instance) o earlier (inl m) = absurd cc
+offer_came h (inputs.StopOffer instance) o earlier (inr m) = let e = m.0 in absurd cc
 
 -- ---- a datagram that is delivered was sent
 
@@ -178,12 +180,12 @@ module _ (nodes : List SetupNode) (configs : List Config) (ss : List Step) where
     counted_so o named was =
         let by = was.by in
         let at : History = by.done.before.state in
-        let came = offer_came was.turn.history was.input o at (subst (λ r. Brings was.turn.history was.input r at) by.holds.0 by.brought.1) in
+        let came = offer_came was.turn.history was.input o by.brought.earlier (subst (λ r. Brings was.turn.history was.input r by.brought.earlier) by.holds.0 by.brought.brings) in
         let p : Packet = came.0 in
         let takes : was.turn.deed ≡ Takes (inputs.Datagram p.from p.to p.bytes) = was.takes ∙ ap Takes came.1 in
         let entry = came.2 in
         let is = entry.3 in
-        let at_config : at.config ≡ was.turn.history.config = ap (λ x. x.config) by.brought.0.1 ∙ config_kept was.turn.history by.brought.0.0 in
+        let at_config : at.config ≡ was.turn.history.config = config_there was.turn.history was.input by.done by.among in
         let now_config : h.config ≡ was.turn.history.config = ap (λ x. x.config) was.later.1 ∙ config_kept was.turn.history was.later.0 in
         let version : finite.get (majors_of at.config) o.instance ≡ Some o.major =
         wanted_so (finite.get (majors_of at.config) o.instance) (known_at (answers_of at).clock (finite.get (answers_of at).seek.known o.instance)) o by.holds.1 in

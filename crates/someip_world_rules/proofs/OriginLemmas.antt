@@ -19,6 +19,7 @@ use Rattle.someip_node_rules.specs.declared.output.Output.{Output}
 use Rattle.someip_node_rules.specs.declared.output.Output.TheVariants.{Sent}
 use Rattle.someip_node_rules.proofs.MeaningLemmas.{all_given, outputs_written}
 use Rattle.someip_node_rules.proofs.MeetingLemmas.{all_met, state_met}
+use Rattle.someip_node_rules.proofs.StepRules.{config_kept}
 use Rattle.someip_node_rules.proofs.MemberLemmas.{all_append, all_flat_map, all_from_members, all_weaker}
 use Rattle.someip_world_schedule.specs.declared.step.Step.{Step}
 use Rattle.someip_world_setup.specs.declared.setup_node.SetupNode.{SetupNode}
@@ -127,10 +128,6 @@ get_set_other (z ∷ xs) zero zero x ne = absurd (ne refl)
 get_set_other (z ∷ xs) zero (suc j) x ne = refl
 get_set_other (z ∷ xs) (suc k) zero x ne = refl
 get_set_other (z ∷ xs) (suc k) (suc j) x ne = get_set_other xs k j x (λ e. ne (ap suc e))
-
-pub config_kept : (h : History) (xs : List Item) → (after h xs).config ≡ h.config
-config_kept h [] = refl
-config_kept h (x ∷ xs) = config_kept (met h x) xs
 
 after_both : (h : History) (xs ys : List Item) → after (after h xs) ys ≡ after h (xs ++ ys)
 after_both h [] ys = refl
