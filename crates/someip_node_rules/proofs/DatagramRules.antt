@@ -138,8 +138,7 @@ module _ (h : History) (p : Packet) where
       → Allowed ds (each (message_plan_to (Peer (v4_ip p.from))) fs) w
   fronts_allowed [] ds all w = tt
   fronts_allowed (front ∷ fs) ds all w =
-      let more : List Done = record { by = RepliesTo (v4_ip p.from) front; before = w } ∷ [] in
-      (
+      let more : List Done = record { by = RepliesTo (v4_ip p.from) front; before = w } ∷ [] in (
         (refl, all.0),
         λ _.
             fronts_allowed fs (ds ++ more)

@@ -4,7 +4,6 @@ use Rattle.std.specs.List.{Contains, flat_map}
 use Rattle.std.specs.declared.net.ipv4_addr.Ipv4Addr.{Ipv4Addr}
 use Rattle.sd_core.specs.declared.eventgroup.Eventgroup.{Eventgroup}
 use Rattle.someip_node_rules.specs.declared.error.NodeError.{NodeError}
-use Rattle.someip_node_rules.specs.Bringing.{WasBrought}
 use Rattle.someip_node_rules.specs.History.{History, answers_of, historic}
 use Rattle.someip_node_rules.specs.Inputs.{Input, plan_of, refusal_of}
 use Rattle.someip_node_rules.specs.Items as items
@@ -14,7 +13,6 @@ use Rattle.someip_node_rules.specs.Steps.{step, unless_refused, work_on}
 use Rattle.someip_node_rules.specs.Trails.{Done, given_by, trail_of}
 use Rattle.someip_node_rules.specs.WishQuestions.{course_at}
 use Rattle.someip_node_rules.proofs.MeaningLemmas.{done_by}
-use Rattle.someip_node_rules.proofs.MemberLemmas.{at_member}
 use Rattle.someip_node_rules.proofs.StepRules.{config_there}
 use Rattle.someip_world_exchanges.specs.Beginnings.{SentSubscribe, about, begun_after, counter_after, last_counter, subscribes_in}
 use Rattle.someip_world_exchanges.specs.Namings.{of_subscription}

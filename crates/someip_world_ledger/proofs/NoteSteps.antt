@@ -27,8 +27,8 @@ use Rattle.someip_world_rules.specs.Datagrams.{SentDatagram, datagrams_in, sent_
 use Rattle.someip_world_rules.specs.Runs.{World, told_lines}
 use Rattle.someip_world_rules.specs.Turns.{Turn}
 use Rattle.someip_world_exchanges.specs.Belonging.{Answered, WasHandedUp}
-use Rattle.someip_world_exchanges.specs.Deliveries.{Delivers, Dispatch, Does, Sends, dispatch_at, dispatch_in, dispatches_in}
-use Rattle.someip_world_exchanges.proofs.Deliverings.{one_turn}
+use Rattle.someip_world_rules.specs.Deliveries.{Delivers, Dispatch, Does, Sends, dispatch_at, dispatch_in, dispatches_in}
+use Rattle.someip_world_rules.proofs.Deliverings.{one_turn}
 use Rattle.someip_world_exchanges.proofs.LongMessages.{long_payload}
 use Rattle.someip_world_exchanges.proofs.RuleInputs.{is_answer, no_answer_answers}
 use Rattle.someip_world_ledger.specs.Books.{Book, LifeKept, NoteKept, PayloadNumbers, note_at}

@@ -14,7 +14,6 @@ use Rattle.sd_wire.specs.declared.entry.EventgroupKind.TheVariants.{Subscribe, A
 use Rattle.sd_wire.specs.Kinds.{has_type_subscribe}
 use Rattle.sd_wire.specs.Values.{EntryValue, ReadValue, good}
 use Rattle.sd_session.specs.declared.stamp.Stamp.{Stamp}
-use Rattle.someip_node_rules.specs.Bringing.{WasBrought}
 use Rattle.someip_node_rules.specs.Fitting.{FitsWire, head_of}
 use Rattle.someip_node_rules.specs.GoodConfigs.{has_own_ports, is_good, is_good_common, is_good_group, is_good_instance, is_good_offer, is_good_port, is_good_want}
 use Rattle.someip_node_rules.specs.Handling.{same_address}
@@ -34,7 +33,7 @@ use Rattle.someip_node_rules.specs.declared.config.Config.{Config}
 use Rattle.someip_node_rules.specs.declared.config.WantedService.{WantedService}
 use Rattle.someip_node_rules.specs.declared.output.Output.TheVariants.{Sent}
 use Rattle.someip_node_rules.proofs.MeaningLemmas.{all_given, outputs_written}
-use Rattle.someip_node_rules.proofs.MemberLemmas.{all_both, all_flat_map, all_from_members, all_weaker, at_member}
+use Rattle.someip_node_rules.proofs.MemberLemmas.{all_both, all_flat_map, all_from_members, all_weaker}
 use Rattle.someip_node_rules.proofs.StepRules.{config_there}
 use Rattle.someip_world_rules.specs.Datagrams.{SentDatagram}
 use Rattle.someip_world_exchanges.specs.Namings.{named_by_kind}

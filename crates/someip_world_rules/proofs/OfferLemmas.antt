@@ -33,7 +33,7 @@ use Rattle.someip_node_rules.specs.Replies.{IsDue, IsFindOf, IsOfferOf, IsReply,
 use Rattle.someip_node_rules.specs.Sending as sending
 use Rattle.someip_node_rules.specs.Setups.{client_endpoint, offered_as, wanted_as}
 use Rattle.someip_node_rules.specs.Tables.{Tables}
-use Rattle.someip_node_rules.specs.Trails.{Done, trail_of}
+use Rattle.someip_node_rules.specs.Trails.{Done}
 use Rattle.someip_node_rules.proofs.MemberLemmas.{all_weaker, at_member}
 use Rattle.someip_node_rules.proofs.StepRules.{config_there}
 use Rattle.someip_world_rules.specs.Announced.{IsConfigured}
