@@ -43,3 +43,6 @@ pub mod FitRules
 pub mod FitPlans
 pub mod FitPackets
 pub mod FitExamples
+pub mod StepTrails
+pub mod CameExamples
+pub mod AnsweringLemmas

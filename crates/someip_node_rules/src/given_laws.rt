@@ -2,20 +2,24 @@
 //! contract of a function that does nothing.
 ghost use Rattle.std.specs.Prelude.{◌≡◌, ℕ, List, ◌∷◌, ◌++◌, Option, Result, Ok};
 ghost use Rattle.std.specs.List.{AllByRecursion, Contains, flat_map};
+ghost use Rattle.std.specs.declared.net.ipv4_addr.Ipv4Addr.{Ipv4Addr};
 ghost use Rattle.std.specs.declared.net.socket_addr.SocketAddrV4.{SocketAddrV4};
 ghost use Rattle.someip_wire.specs.declared.header.ReturnCode.{ReturnCode};
+ghost use Rattle.sd_wire.specs.Values.{EntryValue};
 ghost use Rattle.sd_core.specs.declared.keys.InstanceId.{InstanceId};
 ghost use Rattle.someip_rpc.specs.declared.ids.MessageId.{MessageId};
 ghost use Rattle.someip_node_rules.specs.declared.output.Output.TheVariants.{Answered, Event, Request};
+ghost use Rattle.someip_node_rules.specs.Answerings.{AnswersSubscribe, IsAnswer};
 ghost use Rattle.someip_node_rules.specs.Bringing.{WasBrought};
 ghost use Rattle.someip_node_rules.specs.HandUps.{AnswerCame, EventCame, RequestCame};
 ghost use Rattle.someip_node_rules.specs.History.{History, historic};
-ghost use Rattle.someip_node_rules.specs.Inputs.{Input, Publish, PublishTo};
+ghost use Rattle.someip_node_rules.specs.Inputs.{Datagram, Input, Publish, PublishTo};
 ghost use Rattle.someip_node_rules.specs.Meanings.{GivenBy};
 ghost use Rattle.someip_node_rules.specs.Meetings.{MetBy};
 ghost use Rattle.someip_node_rules.specs.Outputs.{written};
+ghost use Rattle.someip_node_rules.specs.Packets.{Packet};
 ghost use Rattle.someip_node_rules.specs.Published.{IsPublished, IsPublishedTo};
-ghost use Rattle.someip_node_rules.specs.Plans.{Plan, Work, run};
+ghost use Rattle.someip_node_rules.specs.Plans.{Plan, RepliesTo, Work, run};
 ghost use Rattle.someip_node_rules.specs.Steps.{step};
 ghost use Rattle.someip_node_rules.specs.Trails.{Done, after, given_by, met_by, trail, trail_of};
 
@@ -40,6 +44,15 @@ pub fn a_plan_does_its_rules()
 /// refused there.
 pub fn rules_are_brought_about()
     ensures { (h : History) (input : Input) → AllByRecursion (WasBrought h input) (trail_of h input) }
+{}
+
+/// An Ack that is replied to a datagram answers a Subscribe in it that a rule accepted in that step before,
+/// by the tables that it found, and a Nack one that such a rule refused, with the cause that it told.
+pub fn acks_answer_subscribes()
+    ensures { (h : History) (p : Packet) (done : Done)
+        (was : WasBrought h (Datagram p.from p.to p.bytes) done) (peer : Ipv4Addr)
+        (entries : List EntryValue) → done.by ≡ RepliesTo peer entries → (reply : EntryValue)
+        → Contains entries reply → IsAnswer reply → AnswersSubscribe p was.earlier reply }
 {}
 
 /// What a step gives, message by message and word by word, was given by a rule that the input brings

@@ -1,5 +1,6 @@
 -- Lives of nodes: over which steps they go on.
-use Rattle.std.proofs.Common.{◌≡◌, ◌⊎◌, inl, inr, ◌<◌, ℕ, zero, suc, List, arith, refl, ◌∙◌, subst}
+use Rattle.std.proofs.Common.{◌≡◌, ◌⊎◌, inl, inr, ◌<◌, ◌≤◌, ℕ, zero, suc, List, arith, refl, ◌∙◌, subst}
+use Rattle.std.proofs.lemmas.Bool.{cases_lt}
 use Rattle.someip_node_rules.specs.declared.config.Config.{Config}
 use Rattle.someip_world_schedule.specs.declared.step.Step.{Step}
 use Rattle.someip_world_setup.specs.declared.setup_node.SetupNode.{SetupNode}
@@ -20,6 +21,14 @@ below_next (suc k) (suc n) lt = cases (below_next k n (omega (arith, lt)))
     cases (inr e) = inr (omega (arith, e))
 
 module _ (nodes : List SetupNode) (configs : List Config) (ss : List Step) (n place : ℕ) where
+  -- a step since which a node lives on comes after each step that starts it again
+  pub after_restart : (i j : ℕ) → LivesOn nodes configs ss place i n → j < n → Restarted nodes configs ss j place → j < i
+  after_restart i j lives lt r = cases (cases_lt j i)
+    where
+      cases : (j < i) ⊎ (i ≤ j) → j < i
+      cases (inl l) = l
+      cases (inr le) = absurd (lives j le lt r)
+
   -- a step starts a node again just where it is of that node, and starts it again
   pub not_restarted : (s : Step) (t : Turn nodes configs ss n s) → (t.place ≡ place → (delay : ℕ) → t.deed ≡ Restarts delay → ⊥) → Restarted nodes configs ss n place → ⊥
   not_restarted s t other r = let one = one_turn nodes configs ss n s t r.step r.turn in other (one.place ∙ r.at) r.delay (one.deed ∙ r.restarts)

@@ -25,6 +25,7 @@ ghost use Rattle.someip_node_rules.specs.Fitting.{FitsConfig};
 ghost use Rattle.someip_node_rules.specs.History.{History};
 ghost use Rattle.someip_node_rules.specs.Inputs as inputs;
 ghost use Rattle.someip_node_rules.specs.Inputs.{Input};
+ghost use Rattle.someip_node_rules.specs.Items.{Item};
 ghost use Rattle.someip_node_rules.specs.Meanings.{GivenBy};
 ghost use Rattle.someip_node_rules.specs.Published.{IsPublished, IsPublishedTo, publication};
 ghost use Rattle.someip_world_schedule.specs.declared.step.Step.{Step};
@@ -34,8 +35,8 @@ ghost use Rattle.someip_world_rules.specs.declared.line.Line.{Line};
 ghost use Rattle.someip_world_rules.specs.Turns.{IsOfRun, LeadTo, TakesIt, ToldTurn};
 ghost use Rattle.sd_wire.specs.Kinds.{is_offer};
 ghost use Rattle.someip_world_rules.specs.Announced.{AllFits, FitNodes, FitsStep, IsConfigured, KnowsAsConfigured};
-ghost use Rattle.someip_world_rules.specs.Deliveries.{dispatches_in};
-ghost use Rattle.someip_world_rules.specs.Origins.{HasOrigins, WasSent};
+ghost use Rattle.someip_world_rules.specs.Deliveries.{Restarted, dispatches_in};
+ghost use Rattle.someip_world_rules.specs.Origins.{HasOrigins, WasMet, WasSent};
 ghost use Rattle.someip_world_rules.specs.RunExamples.{CanPublish, GivesJust, subscribed_for};
 ghost use Rattle.someip_world_rules.specs.Runs.{AreCopies, IsRun, World, run_of};
 ghost use Rattle.someip_world_rules.specs.declared.trace.Trace.{Trace};
@@ -101,6 +102,19 @@ pub fn known_offers_were_sent()
         (instance : InstanceId) (lasting : Lasting KnownOffer)
         → slice_get w.histories place ≡ Some h → known_offer_at h.items instance ≡ Some lasting
         → WasOffered nodes configs steps n place h instance lasting.value.endpoint }
+{}
+
+/// A node that is started again begins another life, however alike the two go on: what it met in the life
+/// that it has after some steps of a run was met after each step that started it again, and so was each
+/// offer that it knows.
+pub fn lives_begin_with_a_restart()
+    ensures met { (nodes : List SetupNode) (configs : List Config) (steps : List Step) (n place : ℕ)
+        (item : Item) (was : WasMet nodes configs steps n place item) (j : ℕ) → j < n
+        → Restarted nodes configs steps j place → j < was.i }
+    ensures offered { (nodes : List SetupNode) (configs : List Config) (steps : List Step)
+        (n place : ℕ) (h : History) (instance : InstanceId) (endpoint : SocketAddrV4)
+        (was : WasOffered nodes configs steps n place h instance endpoint) (j : ℕ) → j < n
+        → Restarted nodes configs steps j place → j < was.i }
 {}
 
 /// Example: a server that accepted a Subscribe with a TTL of 3 seconds. An event that it publishes 2999
