@@ -32,15 +32,12 @@ use Rattle.someip_node_rules.specs.declared.receiver.Receiver.TheVariants.{Peer}
 use Rattle.someip_node_rules.specs.declared.target.Target.TheVariants as target
 use Rattle.someip_node_rules.proofs.ClientRun.{answer_header, answer_taken, answered_by, both_flags, reads_answer, takes_answer, to_client, waits_at}
 use Rattle.someip_node_rules.proofs.HandUpLemmas.{answer_came}
-use Rattle.someip_node_rules.proofs.MemberLemmas.{all_append, all_weaker, at_member}
+use Rattle.someip_node_rules.proofs.MemberLemmas.{all_append, all_weaker, at_member, only_one}
 use Rattle.someip_node_rules.proofs.RuleReplies.{rule_replied}
 use Rattle.someip_node_rules.proofs.ServerEvents.{accepts, is_down, reads_subscribe, stopped_heard_items, stopped_items, subscribe_read, takes_subscribe}
 use Rattle.someip_node_rules.proofs.StepLemmas.{has_room, is_new, work_after}
 use Rattle.someip_node_rules.proofs.StepRules.{all_brought}
 use Rattle.someip_node_rules.proofs.StepTrails.{all_reply, entry_trail, message_trail}
-
-only_one : {X : Type 0} (only x : X) → Contains (only ∷ []) x → x ≡ only
-only_one only x among = at_member (λ y. y ≡ only) (only ∷ []) x (refl, tt) among
 
 -- ---- an answer
 
