@@ -180,10 +180,10 @@ module _ (config : Config) (is : WantsEvent config) where
       ∙ rw (is.client.wants, is.client.major, is.client.address, is.client.client_port, is.client.client_id) refl
 
   -- what is read of the answer
-  abbrev answer_header : Header
+  abbrev pub answer_header : Header
   answer_header = record { service = 0x1111; method = 0x0421; client = 0x0102; session = 1; interface = 1; kind = kinds.Response; code = record { 0 = 0 } }
 
-  reads_answer : target_plan target.Client server client answer_bytes ≡ both (act (TakesAnswer server answer_header (3 ∷ []))) rest
+  pub reads_answer : target_plan target.Client server client answer_bytes ≡ both (act (TakesAnswer server answer_header (3 ∷ []))) rest
   unfolding items_within
   reads_answer = refl
 
@@ -194,7 +194,7 @@ module _ (config : Config) (is : WantsEvent config) where
   abbrev call_key : CallKey
   call_key = record { message = method; session = 1 }
 
-  waits_at : (items : List Item) → get (waiting_calls (answers_of (having_met config items))) call_key ≡ unless_passed (clock_at items) (unless_passed (clock_at items) (awaited_at config items call_key))
+  pub waits_at : (items : List Item) → get (waiting_calls (answers_of (having_met config items))) call_key ≡ unless_passed (clock_at items) (unless_passed (clock_at items) (awaited_at config items call_key))
   waits_at items =
       get-unexpired calls_total exact_calls (clock_at items) (answers_of (having_met config items)).client.pending call_key
       ∙ ap (unless_passed (clock_at items)) (get-pending config items call_key)
@@ -206,10 +206,10 @@ module _ (config : Config) (is : WantsEvent config) where
   waits = waits_at called_items ∙ rw is.client.timeout refl
 
   -- what becomes of it
-  abbrev answered_by : Option (Lasting Awaited) → Outcome
+  abbrev pub answered_by : Option (Lasting Awaited) → Outcome
   answered_by waiting = answer_by answer_header (3 ∷ []) (if is_awaited server 1 waiting then None else Some NotPending)
 
-  takes_answer : (items : List Item) → rule (TakesAnswer server answer_header (3 ∷ [])) (answers_of (having_met config items)) ≡ answered_by (get (waiting_calls (answers_of (having_met config items))) call_key)
+  pub takes_answer : (items : List Item) → rule (TakesAnswer server answer_header (3 ∷ [])) (answers_of (having_met config items)) ≡ answered_by (get (waiting_calls (answers_of (having_met config items))) call_key)
   takes_answer items = rw is.client.client_id refl
 
   pub answer_taken : LeadsTo (having_met config called_items) (Datagram server client answer_bytes) (AnsweredOutput method 1 (record { 0 = 0 }) (3 ∷ []) ∷ []) replied_items

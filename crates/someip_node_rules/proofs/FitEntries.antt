@@ -158,6 +158,6 @@ module _ (h : History) (fits : FitsHistory h) where
   pub reply_fits : (r : Rule) → FitsHead r → (e : EntryValue) → IsReply r (answers_of h) e → FitsEntry e
   reply_fits (TakesFind head) own e of = as_offer _ e of
   reply_fits (TakesOffer o) own e of = as_subscribe _ (subscribes_fit h.items fits.1 _ o.instance o.peer) e of.1
-  reply_fits (TakesSubscribe peer head endpoint) own e (inl of) = subst FitsEntry (sym of.1) (ack_entry_fits h.config fits.0 head head.ttl own own.ttl)
+  reply_fits (TakesSubscribe peer head endpoint) own e (inl of) = subst FitsEntry (sym of.3) (ack_entry_fits h.config fits.0 head head.ttl own own.ttl)
   reply_fits (TakesSubscribe peer head endpoint) own e (inr of) = subst FitsEntry (sym of.2) (ack_entry_fits h.config fits.0 head 0 own (omega arith))
   reply_fits r own e of = absurd of

@@ -18,6 +18,7 @@ pub mod UpLemmas
 pub mod StandingLemmas
 pub mod MemberLemmas
 pub mod PlanLemmas
+pub mod TrailLemmas
 pub mod EntryRules
 pub mod ReplyLemmas
 pub mod DatagramRules
@@ -42,3 +43,6 @@ pub mod FitRules
 pub mod FitPlans
 pub mod FitPackets
 pub mod FitExamples
+pub mod StepTrails
+pub mod CameExamples
+pub mod AnsweringLemmas

@@ -38,6 +38,10 @@ all_members xs = recursion_from_All (Contains xs) xs (All-contains_itself xs)
 pub at_member : {X : Type 0} (P : X → Type 0) (xs : List X) (x : X) → AllByRecursion P xs → Contains xs x → P x
 at_member P xs x h i = All-contains P xs x (All-from_recursion P xs h) i
 
+-- an element of a list of one is that one
+pub only_one : {X : Type 0} (only x : X) → Contains (only ∷ []) x → x ≡ only
+only_one only x among = at_member (λ y. y ≡ only) (only ∷ []) x (refl, tt) among
+
 pub all_from_members : {X : Type 0} (P : X → Type 0) (xs : List X) → ((x : X) → Contains xs x → P x) → AllByRecursion P xs
 all_from_members P xs f = all_weaker (Contains xs) P f xs (all_members xs)
 

@@ -30,15 +30,6 @@ module _ {S : Type 0} (k : Kept S) (P : Work S → Type 0) (May : Rule → Work 
     run_keeps (asks f) w h a = run_keeps (f (k.ask w.state)) w h a
     run_keeps (replying f) w h a = let none : P (record w { replies = [] }) = forgets w h in run_keeps (f w.replies) (record w { replies = [] }) none (a none)
 
--- what may be done as long as less holds may be done as long as more does
-module _ {S : Type 0} (k : Kept S) (P Q : Work S → Type 0) (May : Rule → Work S → Type 0) (less : (w : Work S) → Q w → P w) where
-  pub allows_more : (p : Plan) (w : Work S) → Allows k P May p w → Allows k Q May p w
-  allows_more rest w a = tt
-  allows_more (act r) w a = a
-  allows_more (both p q) w a = (allows_more p w a.0, λ then. allows_more q (run k p w) (a.1 (less (run k p w) then)))
-  allows_more (asks f) w a = allows_more (f (k.ask w.state)) w a
-  allows_more (replying f) w a = λ none. allows_more (f w.replies) (record w { replies = [] }) (a (less (record w { replies = [] }) none))
-
 -- each rule that was done might be done, and P held where it was done
 module _ (P : Work History → Type 0) (May : Rule → Work History → Type 0)
     (keeps : (r : Rule) (w : Work History) → P w → May r w → P (does historic (rule r) w)) (forgets : (w : Work History) → P w → P (record w { replies = [] })) where

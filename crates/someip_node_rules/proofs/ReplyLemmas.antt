@@ -103,7 +103,7 @@ module _ (t : Tables) where
       → Replied (TakesSubscribe peer head endpoint) (subscribe_by head (subscribe_in peer head endpoint) cause)
   subscribe_replied peer head endpoint (Some cause) is = (inr (cause, is, refl), tt)
   subscribe_replied peer head None None is = tt
-  subscribe_replied peer head (Some endpoint) None is = (inl (is, refl), tt)
+  subscribe_replied peer head (Some endpoint) None is = (inl (endpoint, refl, is, refl), tt)
 
   -- the rules of entries, each
   pub entry_replied : (p : Packet) (r : Rule) → OfEntry p r → Replied r (rule r t)

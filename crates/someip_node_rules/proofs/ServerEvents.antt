@@ -64,10 +64,10 @@ use Rattle.someip_node_rules.proofs.StepLemmas.{has_room, is_new, joins, one_ent
 use Rattle.someip_node_rules.proofs.UpLemmas.{up_is}
 
 -- what is read of the Subscribe
-abbrev subscribe_read : ReadValue
+abbrev pub subscribe_read : ReadValue
 subscribe_read = good (record { head = OfEventgroup subscribe_head; first = udp_option client ∷ []; second = [] })
 
-reads_subscribe : target_plan (target.Discovery Unicast) (discovery_at client.ip) (discovery_at server_address) subscribe_bytes
+pub reads_subscribe : target_plan (target.Discovery Unicast) (discovery_at client.ip) (discovery_at server_address) subscribe_bytes
     ≡ both (heard_plan client.ip Unicast 1 (record { flags = both_flags; entries = subscribe_read ∷ [] })) rest
 unfolding items_within options_within
 reads_subscribe = refl
@@ -99,7 +99,7 @@ module _ (config : Config) (is : OffersEvent config) where
   has_group : has_eventgroup (service is.server.events) 1 ≡ true
   has_group = ap (λ (es : List (ℕ × BTreeSet ℕ)). list_any (λ e. contains nat_cmp e.1 1) es) is.events
 
-  abbrev asks : Subscribe
+  abbrev pub asks : Subscribe
   asks = subscribe_in client.ip subscribe_head (Some client)
 
   module _ (items : List Item) where
@@ -107,20 +107,20 @@ module _ (config : Config) (is : OffersEvent config) where
     t = answers_of (having_met config items)
 
     -- what becomes of it, by whether the instance is up
-    abbrev answered_if : Bool → Outcome
+    abbrev pub answered_if : Bool → Outcome
     answered_if up =
         subscribe_by subscribe_head asks
         (nack_cause (record { is_offered = up; is_same_major = true; is_known_eventgroup = has_eventgroup (service is.server.events) 1; limit = 16 }) asks (live_subscribers t))
 
-    takes_subscribe : (up : Bool) → is_up t instance ≡ up → rule (TakesSubscribe client.ip subscribe_head (Some client)) t ≡ answered_if up
+    pub takes_subscribe : (up : Bool) → is_up t instance ≡ up → rule (TakesSubscribe client.ip subscribe_head (Some client)) t ≡ answered_if up
     takes_subscribe up goes_on =
         ap (λ found. subscribe_by subscribe_head asks (nack_cause (rules_by subscribe_head (is_up t instance) found) asks (live_subscribers t))) (offered_here config is)
         ∙ ap answered_if goes_on
 
-  abbrev heard_items : List Item
+  abbrev pub heard_items : List Item
   heard_items = PeerHeard client.ip Unicast first ∷ answered_items
 
-  accepts : rule (TakesSubscribe client.ip subscribe_head (Some client)) (answers_of (having_met config heard_items)) ≡ accepted_at subscribe_head asks client
+  pub accepts : rule (TakesSubscribe client.ip subscribe_head (Some client)) (answers_of (having_met config heard_items)) ≡ accepted_at subscribe_head asks client
   accepts =
       takes_subscribe heard_items true (up_at config is heard_items refl)
       ∙ ap (λ known. subscribe_by subscribe_head asks (nack_cause (record { is_offered = true; is_same_major = true; is_known_eventgroup = known; limit = 16 }) asks (live_subscribers (answers_of (having_met config heard_items))))) has_group
@@ -137,13 +137,13 @@ module _ (config : Config) (is : OffersEvent config) where
 
   -- the offer was stopped before it
 
-  abbrev stopped_items : List Item
+  abbrev pub stopped_items : List Item
   stopped_items = OfferStopped instance ∷ answered_items
 
-  abbrev stopped_heard_items : List Item
+  abbrev pub stopped_heard_items : List Item
   stopped_heard_items = PeerHeard client.ip Unicast first ∷ stopped_items
 
-  is_down : is_up (answers_of (having_met config stopped_heard_items)) instance ≡ false
+  pub is_down : is_up (answers_of (having_met config stopped_heard_items)) instance ≡ false
   is_down = up_is (having_met config stopped_heard_items) instance ∙ rw is.server.offers refl
 
   pub subscribe_nacked : LeadsTo (having_met config stopped_items) (Datagram (discovery_at client.ip) (discovery_at server_address) subscribe_bytes)

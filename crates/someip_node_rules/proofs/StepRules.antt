@@ -1,8 +1,8 @@
 -- Each rule that is done in a step is one that its input brings about.
-use Rattle.std.proofs.Common.{◌≡◌, ℕ, ◌+◌, List, [], ◌∷◌, ◌++◌, Option, None, Some, Result, Ok, Err, refl, ap, sym, ◌∙◌, inl, inr}
+use Rattle.std.proofs.Common.{◌≡◌, ℕ, ◌+◌, List, [], ◌∷◌, ◌++◌, Option, None, Some, Result, Ok, Err, arith, refl, ap, ◌∙◌, inl, inr}
 use Rattle.std.specs.List.{AllByRecursion, Contains, flat_map}
 use Rattle.std.specs.Option.{option_map_or}
-use Rattle.std.proofs.lemmas.Grind.{fold-append}
+use Rattle.std.proofs.lemmas.List.Elements.{Contains-append_right}
 use Rattle.std.specs.declared.net.ipv4_addr.Ipv4Addr.{Ipv4Addr}
 use Rattle.std.specs.declared.net.socket_addr.SocketAddrV4.{SocketAddrV4}
 use Rattle.someip_wire.specs.declared.header.Header.{Header}
@@ -35,20 +35,18 @@ use Rattle.someip_node_rules.specs.Learning.{hearing_by}
 use Rattle.someip_node_rules.specs.Messages.{answer_by, by_type, event_by, oneway_by, request_by, request_to, segment_by}
 use Rattle.someip_node_rules.specs.Outcomes.{Outcome, nothing}
 use Rattle.someip_node_rules.specs.Packets.{Packet}
-use Rattle.someip_node_rules.specs.Plans.{Plan, Rule, Drops, TakesSegment, TakesRequest, TakesAnswer, TakesEvent, Hears, TakesFind, RepliesTo, Work, does, each, rule, run}
+use Rattle.someip_node_rules.specs.Plans.{Plan, Rule, Drops, TakesSegment, TakesRequest, TakesAnswer, TakesEvent, Hears, TakesFind, RepliesTo, Work, does, each, rule}
 use Rattle.someip_node_rules.specs.Receivers.{message_plan_to}
 use Rattle.someip_node_rules.specs.Replies.{IsDue, IsReply}
 use Rattle.someip_node_rules.specs.Setups.{offered_as}
 use Rattle.someip_node_rules.specs.Steps.{work_on}
 use Rattle.someip_node_rules.specs.Tables.{Tables, known_peer}
-use Rattle.someip_node_rules.specs.Trails.{Done, IsLater, after, outcome_of, trail_of}
-use Rattle.someip_node_rules.proofs.DatagramRules.{MayBe, OnWay, datagram_allowed}
-use Rattle.someip_node_rules.proofs.MemberLemmas.{all_append, all_both, all_flat_map, all_fronts, all_members, all_weaker}
+use Rattle.someip_node_rules.specs.Trails.{Done, after, met_by, outcome_of, trail_of}
+use Rattle.someip_node_rules.proofs.DatagramRules.{AllReply, MayBe, datagram_allowed, reply_on}
+use Rattle.someip_node_rules.proofs.MemberLemmas.{all_append, all_both, all_flat_map, all_fronts, all_members, all_weaker, at_member}
 use Rattle.someip_node_rules.proofs.ReplyLemmas.{due_says, entry_replied}
-use Rattle.someip_node_rules.proofs.PlanLemmas.{Allows, Might, allows_more, run_keeps, trail_keeps}
-
-pub later_more : (h later : History) (items : List Item) → IsLater h later → IsLater h (after later items)
-later_more h later items (more, is) = (more ++ items, ap (λ x. after x items) is ∙ sym (fold-append met h more items))
+use Rattle.someip_node_rules.proofs.PlanLemmas.{before_each}
+use Rattle.someip_node_rules.proofs.TrailLemmas.{AllowsAfter, IsAt, all_might}
 
 -- ---- which rules reply
 
@@ -94,101 +92,121 @@ module _ (P : EntryValue → Type 0) where
 -- ---- datagrams
 
 module _ (h : History) (p : Packet) where
-  entry_replies : (r : Rule) (at : History) → IsLater h at → OfEntry p r → AllByRecursion (RepliesToEntry h p) (rule r (answers_of at)).replies
-  entry_replies r at later entry =
-      all_weaker (IsReply r (answers_of at)) (RepliesToEntry h p) (λ reply says. record { by = r; at = at; later = later; entry = entry; says = says })
-      (rule r (answers_of at)).replies (entry_replied (answers_of at) p r entry)
+  -- what the rule of an entry replies is a reply to the entry once it was done
+  entry_replies : (ds : List Done) (r : Rule) (w : Work History) → OfEntry p r
+      → AllByRecursion (RepliesToEntry p (ds ++ record { by = r; before = w } ∷ [])) (rule r (answers_of w.state)).replies
+  entry_replies ds r w entry =
+      let done : Done = record { by = r; before = w } in
+      let replies : List EntryValue = (rule r (answers_of w.state)).replies in
+      all_both (Contains replies) (IsReply r (answers_of w.state)) (RepliesToEntry p (ds ++ done ∷ [])) (λ reply gave says. record {
+        done = done;
+        among = Contains-append_right ds (done ∷ []) done (0, omega arith, refl);
+        entry = entry;
+        gave = gave;
+        says = says;
+      }) replies (all_members replies) (entry_replied (answers_of w.state) p r entry)
 
-  replies_of : (r : Rule) (at : History) → IsLater h at → OfDatagram h p r at → AllByRecursion (RepliesToEntry h p) (rule r (answers_of at)).replies
-  replies_of (Drops reason) at later m = tt
-  replies_of (TakesSegment o) at later m = segment_replies (RepliesToEntry h p) o _
-  replies_of (TakesRequest instance from header payload) at later m = instance_replies (RepliesToEntry h p) instance from header payload (answers_of at) (offered_as at.config instance)
-  replies_of (TakesAnswer from header payload) at later m = answer_replies (RepliesToEntry h p) header payload _
-  replies_of (TakesEvent from header payload) at later m = event_replies (RepliesToEntry h p) header payload _
-  replies_of (Hears peer channel stamp) at later m = hearing_replies (RepliesToEntry h p) peer channel stamp _ (answers_of at)
-  replies_of (RepliesTo peer entries) at later m = tt
-  replies_of (TakesFind head) at later m = entry_replies (TakesFind head) at later m.1
-  replies_of r at later m = entry_replies r at later m.1
+  replies_of : (ds : List Done) (r : Rule) (w : Work History) → OfDatagram h p r ds
+      → AllByRecursion (RepliesToEntry p (ds ++ record { by = r; before = w } ∷ [])) (rule r (answers_of w.state)).replies
+  replies_of ds (Drops reason) w m = tt
+  replies_of ds (TakesSegment o) w m = segment_replies _ o _
+  replies_of ds (TakesRequest instance from header payload) w m = instance_replies _ instance from header payload (answers_of w.state) (offered_as w.state.config instance)
+  replies_of ds (TakesAnswer from header payload) w m = answer_replies _ header payload _
+  replies_of ds (TakesEvent from header payload) w m = event_replies _ header payload _
+  replies_of ds (Hears peer channel stamp) w m = hearing_replies _ peer channel stamp _ (answers_of w.state)
+  replies_of ds (RepliesTo peer entries) w m = tt
+  replies_of ds (TakesFind head) w m = entry_replies ds (TakesFind head) w m.1
+  replies_of ds r w m = entry_replies ds r w m.1
 
-  datagram_keeps : (r : Rule) (w : Work History) → OnWay h p w → MayBe h p r w → OnWay h p (does historic (rule r) w)
-  datagram_keeps r w way m = (
-    later_more h w.state (rule r (answers_of w.state)).items way.0,
-    all_append (RepliesToEntry h p) w.replies (rule r (answers_of w.state)).replies way.1 (replies_of r w.state way.0 m),
-  )
+  datagram_keeps : (ds : List Done) (r : Rule) (w : Work History) → AllReply h p ds w → MayBe h p ds r w
+      → AllReply h p (ds ++ record { by = r; before = w } ∷ []) (does historic (rule r) w)
+  datagram_keeps ds r w way m =
+      let done : Done = record { by = r; before = w } in
+      all_append (RepliesToEntry p (ds ++ done ∷ [])) w.replies (rule r (answers_of w.state)).replies
+      (all_weaker (RepliesToEntry p ds) (RepliesToEntry p (ds ++ done ∷ [])) (reply_on h p ds (done ∷ [])) w.replies way) (replies_of ds r w m)
 
 -- ---- each input
 
 -- replies to a datagram are those to its entries, and no other input is replied to
-abbrev AreReplies : History → Input → List EntryValue → Type 0
-AreReplies h (Datagram from to bytes) replies = AllByRecursion (RepliesToEntry h (record { from = from; to = to; bytes = bytes })) replies
-AreReplies h input replies = Unit {0}
-
-abbrev OnStep : History → Input → Work History → Type 0
-OnStep h input w = IsLater h w.state × AreReplies h input w.replies
+abbrev AreReplies : Input → List Done → Work History → Type 0
+AreReplies (Datagram from to bytes) ds w = AllByRecursion (RepliesToEntry (record { from = from; to = to; bytes = bytes }) ds) w.replies
+AreReplies input ds w = Unit {0}
 
 module _ (h : History) where
-  step_starts : (input : Input) → OnStep h input (work_on h)
-  step_starts (Datagram from to bytes) = (([], refl), tt)
-  step_starts input = (([], refl), tt)
+  abbrev MayIn : Input → List Done → Rule → Work History → Type 0
+  MayIn input ds r w = Brings h input r ds
 
-  step_goes_on : (input : Input) (r : Rule) (w : Work History) → OnStep h input w → Brings h input r w.state → OnStep h input (does historic (rule r) w)
-  step_goes_on (Datagram from to bytes) r w way m = datagram_keeps h (record { from = from; to = to; bytes = bytes }) r w way m
-  step_goes_on input r w way m = (later_more h w.state (rule r (answers_of w.state)).items way.0, tt)
+  step_starts : (input : Input) → AreReplies input [] (work_on h)
+  step_starts (Datagram from to bytes) = tt
+  step_starts input = tt
 
-  step_forgets : (input : Input) (w : Work History) → OnStep h input w → OnStep h input (record w { replies = [] })
-  step_forgets (Datagram from to bytes) w way = (way.0, tt)
-  step_forgets input w way = (way.0, tt)
+  step_goes_on : (input : Input) (ds : List Done) (r : Rule) (w : Work History) → AreReplies input ds w → MayIn input ds r w
+      → AreReplies input (ds ++ record { by = r; before = w } ∷ []) (does historic (rule r) w)
+  step_goes_on (Datagram from to bytes) ds r w way m = datagram_keeps h (record { from = from; to = to; bytes = bytes }) ds r w way m
+  step_goes_on input ds r w way m = tt
 
-  abbrev AllowedBy : Input → Plan → Work History → Type 0
-  AllowedBy input plan w = Allows historic (OnStep h input) (λ r v. Brings h input r v.state) plan w
+  step_forgets : (input : Input) (ds : List Done) (w : Work History) → AreReplies input ds w → AreReplies input ds (record w { replies = [] })
+  step_forgets (Datagram from to bytes) ds w way = tt
+  step_forgets input ds w way = tt
+
+  abbrev AllowedBy : Input → List Done → Plan → Work History → Type 0
+  AllowedBy input ds plan w = AllowsAfter (AreReplies input) (MayIn input) ds plan w
 
   due_allowed : (ms : ℕ) (entries : List (List EntryValue)) → AllByRecursion (AllByRecursion (IsDue ((answers_of h).clock + ms) (answers_of h))) entries
-      → (w : Work History) → AllowedBy (Tick ms) (each (message_plan_to Group) entries) w
-  due_allowed ms [] all w = tt
-  due_allowed ms (front ∷ more) all w = (inr (front, refl, all.0), λ _. due_allowed ms more all.1 _)
+      → (ds : List Done) (w : Work History) → AllowedBy (Tick ms) ds (each (message_plan_to Group) entries) w
+  due_allowed ms [] all ds w = tt
+  due_allowed ms (front ∷ more) all ds w = (inr (front, refl, all.0), λ _. due_allowed ms more all.1 _ _)
 
-  tick_allowed : (ms : ℕ) → AllowedBy (Tick ms) (plan_of (Tick ms)) (work_on h)
+  tick_allowed : (ms : ℕ) → AllowedBy (Tick ms) [] (plan_of (Tick ms)) (work_on h)
   tick_allowed ms =
       let due : List EntryValue = due_entries ((answers_of h).clock + ms) (answers_of h) in
-      (inl (refl, refl), λ _. due_allowed ms (fronts due) (all_fronts (IsDue ((answers_of h).clock + ms) (answers_of h)) (front_lengths due) due (due_says (answers_of h) ((answers_of h).clock + ms))) _)
+      (inl (refl, refl), λ _. due_allowed ms (fronts due) (all_fronts (IsDue ((answers_of h).clock + ms) (answers_of h)) (front_lengths due) due (due_says (answers_of h) ((answers_of h).clock + ms))) _ _)
 
   wish_allowed : (eventgroup : Eventgroup) (known : Option Ipv4Addr) → known_peer (answers_of h) eventgroup.instance ≡ known
-      → (w : Work History) → AllowedBy (Subscribe eventgroup) (peer_plan known (wish_entries eventgroup (answers_of h))) w
-  wish_allowed eventgroup None is w = tt
-  wish_allowed eventgroup (Some peer) is w = inr (peer, is, refl)
+      → (ds : List Done) (w : Work History) → AllowedBy (Subscribe eventgroup) ds (peer_plan known (wish_entries eventgroup (answers_of h))) w
+  wish_allowed eventgroup None is ds w = tt
+  wish_allowed eventgroup (Some peer) is ds w = inr (peer, is, refl)
 
   back_allowed : (eventgroup : Eventgroup) (stands : Option Beginning) → standing_of eventgroup (answers_of h) ≡ stands
-      → AllowedBy (Unsubscribe eventgroup) (stop_subscribe_plan eventgroup stands (answers_of h)) (work_on h)
+      → AllowedBy (Unsubscribe eventgroup) [] (stop_subscribe_plan eventgroup stands (answers_of h)) (work_on h)
   back_allowed eventgroup None is = tt
   back_allowed eventgroup (Some beginning) is = inr (beginning, is, refl, refl)
 
-  plan_allowed : (input : Input) → AllowedBy input (plan_of input) (work_on h)
+  plan_allowed : (input : Input) → AllowedBy input [] (plan_of input) (work_on h)
   plan_allowed (Datagram from to bytes) = datagram_allowed h (record { from = from; to = to; bytes = bytes })
   plan_allowed (Tick ms) = tick_allowed ms
   plan_allowed (Call kind instance method payload) = (refl, refl)
   plan_allowed (Answer token reply payload) = (refl, refl)
   plan_allowed (Publish instance event payload) = (refl, refl)
   plan_allowed (PublishTo instance eventgroup endpoint event payload) = (refl, refl)
-  plan_allowed (Subscribe eventgroup) = (inl (refl, refl), λ _. wish_allowed eventgroup (known_peer (answers_of h) eventgroup.instance) refl _)
+  plan_allowed (Subscribe eventgroup) = (inl (refl, refl), λ _. wish_allowed eventgroup (known_peer (answers_of h) eventgroup.instance) refl _ _)
   plan_allowed (Unsubscribe eventgroup) = (back_allowed eventgroup (standing_of eventgroup (answers_of h)) refl, λ _. inl refl)
   plan_allowed (StopOffer instance) = (inr (refl, refl), λ _. inl refl)
 
   pub all_brought : (input : Input) → AllByRecursion (WasBrought h input) (trail_of h input)
   all_brought input =
-      all_weaker (Might (OnStep h input) (λ r v. Brings h input r v.state) (step_goes_on input) (step_forgets input)) (WasBrought h input)
-      (λ done might. (might.0.0, might.1)) (trail_of h input)
-      (trail_keeps (OnStep h input) (λ r v. Brings h input r v.state) (step_goes_on input) (step_forgets input) (plan_of input) (work_on h) (step_starts input) (plan_allowed input))
+      all_weaker (IsAt (AreReplies input) (MayIn input) (trail_of h input)) (WasBrought h input) (λ done at. record {
+        earlier = at.earlier;
+        later = at.later;
+        trail = at.splits;
+        at = (before_each (plan_of input) (work_on h) at.earlier at.later done at.splits).0;
+        brings = at.might.1;
+      }) (trail_of h input)
+      (all_might (AreReplies input) (MayIn input) (step_goes_on input) (step_forgets input) (plan_of input) (work_on h) (step_starts input) (plan_allowed input))
 
-  -- the principle for a step: what each rule that the input brings about keeps, the step keeps
-  module _ (input : Input) (P : Work History → Type 0)
-      (keeps : (r : Rule) (w : Work History) → IsLater h w.state → Brings h input r w.state → P w → P (does historic (rule r) w))
-      (forgets : (w : Work History) → P w → P (record w { replies = [] })) where
-    pub step_keeps : P (work_on h) → P (run historic (plan_of input) (work_on h))
-    step_keeps start =
-        (run_keeps historic (λ w. OnStep h input w × P w) (λ r v. Brings h input r v.state)
-        (λ r w both m. (step_goes_on input r w both.0 m, keeps r w both.0.0 m both.1)) (λ w both. (step_forgets input w both.0, forgets w both.1)) (plan_of input)
-        (work_on h) (step_starts input, start)
-        (allows_more historic (OnStep h input) (λ w. OnStep h input w × P w) (λ r v. Brings h input r v.state) (λ w both. both.0) (plan_of input) (work_on h) (plan_allowed input))).1
+-- ---- configurations
+
+pub config_kept : (h : History) (xs : List Item) → (after h xs).config ≡ h.config
+config_kept h [] = refl
+config_kept h (x ∷ xs) = config_kept (met h x) xs
+
+-- the configuration of a node is the same at each rule of a step
+pub config_there : (h : History) (input : Input) (done : Done) → Contains (trail_of h input) done → done.before.state.config ≡ h.config
+config_there h input done among =
+    let was = at_member (WasBrought h input) (trail_of h input) done (all_brought h input) among in
+    ap (λ x. x.config) was.at ∙ config_kept h (met_by was.earlier)
+
+-- ---- what is said
 
 -- what each rule says was said by one that was done
 module _ (h : History) (input : Input) {X : Type 0} (Holds : X → Rule → Tables → Type 0) (of : Outcome → List X)

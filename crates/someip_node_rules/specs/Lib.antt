@@ -32,6 +32,7 @@ pub mod Trails
 pub mod Packets
 pub mod Replies
 pub mod Bringing
+pub mod Answerings
 pub mod Sending
 pub mod Meanings
 pub mod Meetings

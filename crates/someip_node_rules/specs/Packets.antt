@@ -1,5 +1,5 @@
 -- What stands in a datagram that comes: its messages, its segments, and the entries of Service Discovery.
-use Rattle.std.specs.Prelude.{◌≡◌, ◌⊎◌, ℕ, Bool, IsFalse, IsTrue, List, Option, None, Some, Ok}
+use Rattle.std.specs.Prelude.{◌≡◌, ◌⊎◌, ℕ, Bool, IsFalse, IsTrue, List, [], ◌∷◌, ◌++◌, Option, None, Some, Ok}
 use Rattle.std.specs.List.{Contains}
 use Rattle.std.specs.declared.net.socket_addr.SocketAddrV4.{SocketAddrV4}
 use Rattle.someip_wire.specs.declared.header.Header.{Header}
@@ -16,9 +16,10 @@ use Rattle.sd_wire.specs.Endpoints.{first_udp_endpoint, options_of}
 use Rattle.sd_wire.specs.Program.{reading}
 use Rattle.sd_wire.specs.Values.{EntryValue, ReadValue, SdValue, good, bad_run}
 use Rattle.someip_node_rules.specs.Handling.{is_discovery}
-use Rattle.someip_node_rules.specs.History.{History, answers_of}
+use Rattle.someip_node_rules.specs.History.{answers_of}
 use Rattle.someip_node_rules.specs.Messages as messages
-use Rattle.someip_node_rules.specs.Trails.{IsLater, after}
+use Rattle.someip_node_rules.specs.Plans.{TakesSegment}
+use Rattle.someip_node_rules.specs.Trails.{Done}
 
 -- a datagram that comes: where from, where to, and its bytes
 pub record Packet : Type 0 where
@@ -47,19 +48,20 @@ pub record HasSegment (p : Packet) (header : Header) (o : Offer) : Type 0 where
   pub reads : segment_in message.payload ≡ Ok read
   pub offered : o ≡ offer (segment_key p.from p.to message.header) read.0 read.1 read.2
 
--- a segment of it completed a message with this header, which has this payload: the parts that were held at one history
--- took it, and the next one has met that
-pub record Completes (h : History) (p : Packet) (header : Header) (payload : List ℕ) (next : History) : Type 0 where
+-- a segment of it completed a message with this header, which has this payload: of the rules that were done before, the last
+-- one took it, and the parts that were held there made it whole
+pub record Completes (p : Packet) (header : Header) (payload : List ℕ) (earlier : List Done) : Type 0 where
   pub offer : Offer
   pub segment : HasSegment p header offer
-  pub held : History
-  pub later : IsLater h held
-  pub whole : messages.completed offer (answers_of held) ≡ Some payload
-  pub met : next ≡ after held (messages.segment offer (answers_of held)).items
+  pub before : List Done
+  pub took : Done
+  pub last : earlier ≡ before ++ took ∷ []
+  pub by : took.by ≡ TakesSegment offer
+  pub whole : messages.completed offer (answers_of took.before.state) ≡ Some payload
 
--- a message came: it stands in the datagram whole, or a segment of the datagram completed it
-abbrev pub Came : History → Packet → Header → List ℕ → History → Type 0
-Came h p header payload at = HasWhole p header payload ⊎ Completes h p header payload at
+-- a message came, once some rules were done: it stands in the datagram whole, or a segment of the datagram completed it
+abbrev pub Came : Packet → Header → List ℕ → List Done → Type 0
+Came p header payload earlier = HasWhole p header payload ⊎ Completes p header payload earlier
 
 -- ---- Service Discovery
 

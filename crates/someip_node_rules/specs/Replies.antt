@@ -41,10 +41,11 @@ IsSubscribeOf t subscribes entry =
     × (wanted_as t.config subscribe.eventgroup.instance ≡ Some want)
     × (entry ≡ subscribe_entry (client_endpoint t.config) want.major want.ttl subscribe.eventgroup subscribe.counter)
 
--- the Ack of a Subscribe that nothing speaks against, or its Nack
+-- the Ack of a Subscribe with an endpoint that nothing speaks against, or its Nack
 abbrev pub IsAnswerOf : Tables → Ipv4Addr → EventgroupEntry → Option SocketAddrV4 → EntryValue → Type 0
 IsAnswerOf t peer head endpoint entry =
-    ((nack_cause (rules_for head t) (subscribe_in peer head endpoint) (live_subscribers t) ≡ None) × (entry ≡ ack_entry head head.ttl))
+    ((subscriber : SocketAddrV4) × (endpoint ≡ Some subscriber)
+    × (nack_cause (rules_for head t) (subscribe_in peer head endpoint) (live_subscribers t) ≡ None) × (entry ≡ ack_entry head head.ttl))
     ⊎ ((cause : Cause) × (nack_cause (rules_for head t) (subscribe_in peer head endpoint) (live_subscribers t) ≡ Some cause)
     × (entry ≡ ack_entry head 0))
 

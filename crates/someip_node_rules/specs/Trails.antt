@@ -1,5 +1,5 @@
 -- What a plan does over a history, rule by rule, each with the work that it was done at.
-use Rattle.std.specs.Prelude.{◌≡◌, List, [], ◌∷◌, ◌++◌}
+use Rattle.std.specs.Prelude.{List, [], ◌∷◌, ◌++◌}
 use Rattle.std.specs.List.{flat_map, fold}
 use Rattle.someip_node_rules.specs.History.{History, answers_of, historic, met}
 use Rattle.someip_node_rules.specs.Inputs.{Input, plan_of}
@@ -41,7 +41,3 @@ met_by dones = flat_map (λ done. (outcome_of done).items) dones
 -- a history once more was met
 abbrev pub after : History → List Item → History
 after h items = fold met h items
-
--- a history is on the way from another: more was met
-abbrev pub IsLater : History → History → Type 0
-IsLater h later = (more : List Item) × (later ≡ after h more)

@@ -1,20 +1,26 @@
 //! A run by example: what two nodes give in each of its steps, and have met with it, computed from the
 //! definitions. A node offers an instance; the other finds it, calls it, subscribes to its eventgroup and
 //! takes an event. Each law is the contract of a function that does nothing.
-ghost use Rattle.std.specs.Prelude.{◌≡◌, [], ◌∷◌, Some, Ok, Err};
+ghost use Rattle.std.specs.Prelude.{◌≡◌, ℕ, List, [], ◌∷◌, Some, Ok, Err};
+ghost use Rattle.someip_wire.specs.declared.header.ReturnCode.{ReturnCode};
 ghost use Rattle.sd_session.specs.declared.stamp.Channel.TheVariants.{Multicast};
 ghost use Rattle.sd_session.specs.Sessions.{first};
 ghost use Rattle.sd_core.specs.declared.error.Cause.TheVariants.{NotOffered};
 ghost use Rattle.someip_rpc.specs.declared.call.CallKind.TheVariants as kind;
 ghost use Rattle.someip_rpc.specs.declared.error.DropCause.TheVariants.{NotPending};
 ghost use Rattle.someip_rpc.specs.declared.error.RpcError.TheVariants.{UnknownToken};
+ghost use Rattle.someip_rpc.specs.declared.ids.MessageId.{MessageId};
 ghost use Rattle.someip_rpc.specs.declared.request.Reply.TheVariants.{Response};
 ghost use Rattle.someip_node_rules.specs.Advances.{after_inputs};
+ghost use Rattle.someip_node_rules.specs.Bringing.{RepliesToEntry};
 ghost use Rattle.someip_node_rules.specs.CallExamples.{instance_offer};
+ghost use Rattle.someip_node_rules.specs.Entries.{ack_entry};
+ghost use Rattle.someip_node_rules.specs.HandUps.{AnswerCame};
 ghost use Rattle.someip_node_rules.specs.History.{start_of};
 ghost use Rattle.someip_node_rules.specs.Inputs.{Answer, Call, Publish, Subscribe, Tick};
 ghost use Rattle.someip_node_rules.specs.Items.{OfferCounted, OfferStopped, PeerAddressed, PeerHeard, Ticked, Wished};
-ghost use Rattle.someip_node_rules.specs.WorkedExamples.{client, gives, instance, nack_given, server, server_address};
+ghost use Rattle.someip_node_rules.specs.Trails.{trail_of};
+ghost use Rattle.someip_node_rules.specs.WorkedExamples.{client, gives, instance, nack_given, server, server_address, subscribe_head};
 ghost use Rattle.someip_node_rules.specs.WorkedRun.{LeadsTo, OffersEvent, WantsEvent, accepted_items, ack_packet, having_met, answer_packet, answered_items, call_packet, called_items, client_inputs, comes, event_packet, eventgroup, goes, known_items, method, offer_packet, offered_items, published_items, replied_items, requested_items, server_inputs, subscribe_packet, subscribed_items, wished_items};
 ghost use Rattle.someip_node_rules.specs.declared.config.Config.{Config};
 ghost use Rattle.someip_node_rules.specs.declared.drops.DropReason.TheVariants as reason;
@@ -144,4 +150,29 @@ pub fn steps_join_by_example()
         → after_inputs (start_of config 10) server_inputs ≡ having_met config published_items }
     ensures client { (config : Config) → WantsEvent config
         → after_inputs (start_of config 10) client_inputs ≡ having_met config subscribed_items }
+{}
+
+/// The answer to the call of the worked run came to the client that awaits it. Where the same datagram comes
+/// once more, no answer came with it: what takes it there finds no call that waits.
+pub fn answers_come_by_example()
+    ensures awaited { (config : Config) → WantsEvent config
+        → AnswerCame (having_met config called_items) (comes answer_packet)
+        method 1 (record { 0 = 0 }) (3 ∷ []) }
+    ensures taken_before { (config : Config) → WantsEvent config → (message : MessageId) (session : ℕ)
+        (code : ReturnCode) (payload : List ℕ)
+        → ¬ (AnswerCame (having_met config replied_items) (comes answer_packet)
+        message session code payload) }
+{}
+
+/// The Ack of the worked run is replied to its Subscribe. Where the offer was stopped before, no rule that is
+/// done with the same Subscribe replies an Ack.
+pub fn replies_by_example()
+    ensures accepted { (config : Config) → OffersEvent config
+        → RepliesToEntry subscribe_packet
+        (trail_of (having_met config answered_items) (comes subscribe_packet))
+        (ack_entry subscribe_head 3) }
+    ensures refused { (config : Config) → OffersEvent config
+        → ¬ (RepliesToEntry subscribe_packet
+        (trail_of (having_met config (OfferStopped instance ∷ answered_items)) (comes subscribe_packet))
+        (ack_entry subscribe_head 3)) }
 {}

@@ -1,12 +1,8 @@
 -- What stands in lists of one, and in one of several lists.
-use Rattle.std.proofs.Common.{◌≡◌, List, [], ◌∷◌, arith, refl, sym}
+use Rattle.std.proofs.Common.{◌≡◌, List, [], ◌∷◌, arith, sym}
 use Rattle.std.specs.List.{AllByRecursion, Contains, flat_map}
 use Rattle.std.proofs.lemmas.List.Elements.{Contains-append_left, Contains-append_right}
 use Rattle.someip_node_rules.proofs.MemberLemmas.{all_flat_map, all_from_members, all_weaker, at_member}
-
--- an element of a list of one is that one
-pub only_one : {X : Type 0} (only x : X) → Contains (only ∷ []) x → x ≡ only
-only_one only x among = at_member (λ y. y ≡ only) (only ∷ []) x (refl, tt) among
 
 -- the one of a list of one is an element
 pub is_among : {X : Type 0} (only x : X) → x ≡ only → Contains (only ∷ []) x

@@ -24,7 +24,7 @@ use Rattle.someip_node_rules.specs.declared.receiver.Receiver.{Receiver}
 use Rattle.someip_node_rules.specs.declared.receiver.Receiver.TheVariants.{Group, Peer}
 use Rattle.someip_node_rules.proofs.MemberLemmas.{all_fronts, all_weaker}
 use Rattle.someip_node_rules.proofs.PlanLemmas.{state_of_run}
-use Rattle.someip_world_rules.proofs.OriginLemmas.{config_kept}
+use Rattle.someip_node_rules.proofs.StepRules.{config_kept}
 use Rattle.someip_world_exchanges.specs.Beginnings.{SentSubscribe, about, subscribe_in_head, subscribes_among, subscribes_in}
 use Rattle.someip_world_exchanges.proofs.AgreeingLemmas.{Agrees, agrees_both, agrees_none, calm_agrees}
 use Rattle.someip_world_exchanges.proofs.RuleBeginnings.{IsOther, is_calm, is_message, is_replied, no_message, no_replies, offer_agrees, other_replies, rule_calm, said_by_none}

@@ -18,13 +18,13 @@ use Rattle.someip_node_rules.specs.Setups.{client_endpoint}
 use Rattle.someip_node_rules.specs.Steps.{work_on}
 use Rattle.someip_node_rules.specs.Tables.{Tables, known_endpoint}
 use Rattle.someip_node_rules.specs.Trails.{Done, given_by, outcome_of, trail_of}
-use Rattle.someip_node_rules.proofs.MemberLemmas.{at_member}
+use Rattle.someip_node_rules.proofs.MemberLemmas.{at_member, only_one}
 use Rattle.someip_world_exchanges.specs.Namings.{named_in, of_call}
 use Rattle.someip_world_exchanges.specs.Openings.{Opens, OpensBy}
 use Rattle.someip_world_exchanges.specs.declared.exchange_key.ExchangeKey.{ExchangeKey}
 use Rattle.someip_world_exchanges.specs.declared.naming.Naming.{Naming}
 use Rattle.someip_world_exchanges.specs.declared.naming.Side.TheVariants.{Opener}
-use Rattle.someip_world_exchanges.proofs.Among.{is_among, only_one}
+use Rattle.someip_world_exchanges.proofs.Among.{is_among}
 
 -- a key as the opener of its exchange names it
 abbrev pub opener_of : ExchangeKey → Naming

@@ -25,7 +25,7 @@ use Rattle.someip_node_rules.specs.Published.{publication}
 use Rattle.someip_node_rules.specs.Setups.{offered_as}
 use Rattle.someip_node_rules.specs.Steps.{step, work_on}
 use Rattle.someip_node_rules.specs.Trails.{Done, given_by, outcome_of, trail_of}
-use Rattle.someip_node_rules.proofs.MemberLemmas.{all_from_members, all_map, at_member}
+use Rattle.someip_node_rules.proofs.MemberLemmas.{all_from_members, all_map, at_member, only_one}
 use Rattle.someip_node_rules.proofs.PublishedLemmas.{is_published, is_published_to}
 use Rattle.someip_world_exchanges.specs.Namings.{named_in, of_event}
 use Rattle.someip_world_exchanges.specs.Openings.{IsEventKey, Opens, OpensBy}
@@ -33,7 +33,7 @@ use Rattle.someip_world_exchanges.specs.declared.exchange_key.ExchangeKey.{Excha
 use Rattle.someip_world_exchanges.specs.declared.naming.Naming.{Naming}
 use Rattle.someip_world_exchanges.proofs.CallOpenings.{opener_of}
 use Rattle.someip_world_exchanges.proofs.GoodOffers.{offered_own}
-use Rattle.someip_world_exchanges.proofs.Among.{is_among, only_one}
+use Rattle.someip_world_exchanges.proofs.Among.{is_among}
 
 -- ---- the instance is offered
 

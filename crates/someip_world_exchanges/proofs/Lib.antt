@@ -1,6 +1,3 @@
-pub mod Fronts
-pub mod Sendings
-pub mod Deliverings
 pub mod WholeLemmas
 pub mod OpeningLemmas
 pub mod CourseLemmas

@@ -26,7 +26,7 @@ use Rattle.someip_node_rules.specs.Meetings.{IsMet}
 use Rattle.someip_node_rules.specs.Plans as plans
 use Rattle.someip_node_rules.specs.Plans.{Rule, rule}
 use Rattle.someip_node_rules.specs.Tables.{Tables}
-use Rattle.someip_node_rules.specs.Trails.{trail_of}
+use Rattle.someip_node_rules.specs.Trails.{Done, trail_of}
 use Rattle.someip_node_rules.proofs.MeetingLemmas.{rule_noted}
 use Rattle.someip_node_rules.proofs.MemberLemmas.{at_member}
 use Rattle.someip_node_rules.proofs.StepRules.{all_brought}
@@ -46,7 +46,7 @@ module _ (h : History) (input : Input) (key : ExchangeKey) (o : OpensBy h input 
 
   -- and asked by it
   pub opening_asked : AskedBy o.done.by input
-  opening_asked = asked_by h o.done.before.state input o.done.by opening_brought.1
+  opening_asked = asked_by h opening_brought.earlier input o.done.by opening_brought.brings
 
   -- and it met the item by which the exchange is opened
   pub opening_met : IsMet o.item o.done.by (answers_of o.done.before.state)
@@ -106,12 +106,12 @@ IsSending (plans.Publishes instance event payload) = Unit {0}
 IsSending (plans.PublishesTo instance endpoint event payload) = Unit {0}
 IsSending r = ⊥
 
-sending_rule : (h at : History) (input : Input) (r : Rule) → is_sending input ≡ true → Brings h input r at → IsSending r
-sending_rule h at (inputs.Call kind instance method payload) r is brings = subst IsSending (sym brings.0) tt
-sending_rule h at (inputs.Answer token reply payload) r is brings = subst IsSending (sym brings.0) tt
-sending_rule h at (inputs.Publish instance event payload) r is brings = subst IsSending (sym brings.0) tt
-sending_rule h at (inputs.PublishTo instance eventgroup endpoint event payload) r is brings = subst IsSending (sym brings.0) tt
-sending_rule h at input r is brings = absurd cc
+sending_rule : (h : History) (earlier : List Done) (input : Input) (r : Rule) → is_sending input ≡ true → Brings h input r earlier → IsSending r
+sending_rule h earlier (inputs.Call kind instance method payload) r is brings = subst IsSending (sym brings.0) tt
+sending_rule h earlier (inputs.Answer token reply payload) r is brings = subst IsSending (sym brings.0) tt
+sending_rule h earlier (inputs.Publish instance event payload) r is brings = subst IsSending (sym brings.0) tt
+sending_rule h earlier (inputs.PublishTo instance eventgroup endpoint event payload) r is brings = subst IsSending (sym brings.0) tt
+sending_rule h earlier input r is brings = absurd cc
 
 -- by an item no subscription begins
 abbrev BeginsNone : Item → Type 0
@@ -154,6 +154,7 @@ by_begun at item k none opens =
 -- no call, answer or publication opens the key of a subscription
 pub sending_opens_no_subscription : (h : History) (input : Input) → is_sending input ≡ true → (k : SubscriptionExchange) → OpensBy h input (keys.Subscription k) → ⊥
 sending_opens_no_subscription h input is k o =
-    let sending = sending_rule h o.done.before.state input o.done.by is (opening_brought h input (keys.Subscription k) o).1 in
+    let brought = opening_brought h input (keys.Subscription k) o in
+    let sending = sending_rule h brought.earlier input o.done.by is brought.brings in
     let none = subst (AllByRecursion BeginsNone) o.meets (sending_none (answers_of o.done.before.state) o.done.by sending) in
     by_begun o.done.before.state o.item k none.0 o.opens

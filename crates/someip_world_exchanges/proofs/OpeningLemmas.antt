@@ -34,7 +34,7 @@ use Rattle.someip_node_rules.proofs.MemberLemmas.{at_member}
 use Rattle.someip_world_schedule.specs.declared.step.Step.{Step}
 use Rattle.someip_world_setup.specs.declared.setup_node.SetupNode.{SetupNode}
 use Rattle.someip_world_rules.specs.Datagrams.{SentDatagram}
-use Rattle.someip_world_exchanges.specs.Deliveries.{Sends}
+use Rattle.someip_world_rules.specs.Deliveries.{Sends}
 use Rattle.someip_world_exchanges.specs.declared.exchange_key.ExchangeKey.{ExchangeKey}
 use Rattle.someip_world_exchanges.specs.declared.naming.Naming.{Naming}
 use Rattle.someip_world_exchanges.specs.declared.naming.Side.TheVariants.{Opener}

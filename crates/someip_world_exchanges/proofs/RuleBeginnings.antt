@@ -111,7 +111,7 @@ other_replies r t is = all_weaker (IsReply r t) IsOther (λ e m. by r e is m) (r
     by : (x : Rule) (e : EntryValue) → is_calm x ≡ true → IsReply x t e → IsOther e
     by (plans.TakesFind head) e calm says = λ peer. ap (λ v. subscribe_in_head peer v.head) says.4
     by (plans.TakesOffer o) e calm says = absurd cc
-    by (plans.TakesSubscribe from head endpoint) e calm (inl says) = λ peer. ap (λ v. subscribe_in_head peer v.head) says.1
+    by (plans.TakesSubscribe from head endpoint) e calm (inl says) = λ peer. ap (λ v. subscribe_in_head peer v.head) says.3
     by (plans.TakesSubscribe from head endpoint) e calm (inr says) = λ peer. ap (λ v. subscribe_in_head peer v.head) says.2
     by x e calm says = absurd says
 

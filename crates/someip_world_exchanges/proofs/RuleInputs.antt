@@ -10,6 +10,7 @@ use Rattle.someip_node_rules.specs.Outputs.{Given}
 use Rattle.someip_node_rules.specs.Plans as plans
 use Rattle.someip_node_rules.specs.Plans.{Rule}
 use Rattle.someip_node_rules.specs.Tables.{Tables}
+use Rattle.someip_node_rules.specs.Trails.{Done}
 
 -- ---- the kinds of inputs
 
@@ -43,9 +44,9 @@ AskedBy (plans.PublishesTo instance endpoint event payload) input =
     (eventgroup : ℕ) × (input ≡ inputs.PublishTo instance eventgroup endpoint event payload)
 AskedBy r input = Unit {0}
 
-module _ (h at : History) where
+module _ (h : History) (earlier : List Done) where
   -- each rule that an input brings about was asked by it
-  pub asked_by : (input : Input) (r : Rule) → Brings h input r at → AskedBy r input
+  pub asked_by : (input : Input) (r : Rule) → Brings h input r earlier → AskedBy r input
   asked_by (inputs.Datagram from to bytes) (plans.Ticks ms) brings = absurd brings.1
   asked_by (inputs.Datagram from to bytes) (plans.Calls kind instance method payload) brings = absurd brings.1
   asked_by (inputs.Datagram from to bytes) (plans.Answers token reply payload) brings = absurd brings.1
@@ -71,13 +72,13 @@ module _ (h at : History) where
 module _ (h : History) (input : Input) (Holds : Rule → Tables → Type 0) (by : WasDone h input Holds) where
   -- a rule that was done in a step was asked by the input of the step
   pub done_asked : AskedBy by.done.by input
-  done_asked = asked_by h by.done.before.state input by.done.by by.brought.1
+  done_asked = asked_by h by.brought.earlier input by.done.by by.brought.brings
 
 module _ (h : History) (given : Given) where
   -- all that is given for an answer is given by the rule that answers
   pub answer_answers : (token : ℕ) (reply : Reply) (payload : List ℕ) (by : GivenBy h (inputs.Answer token reply payload) given)
       → by.done.by ≡ plans.Answers token reply payload
-  answer_answers token reply payload by = by.brought.1.0
+  answer_answers token reply payload by = by.brought.brings.0
 
   -- and by that rule nothing is given but for that answer
   pub answers_answer : (input : Input) (by : GivenBy h input given) (token : ℕ) (reply : Reply) (payload : List ℕ)

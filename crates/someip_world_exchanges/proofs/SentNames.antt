@@ -77,7 +77,7 @@ module _ (h : History) (kind : CallKind) (instance : InstanceId) (method : ℕ) 
   call_names given by n named =
       at_member IsOfOpener (named_in given) n
       (call_all kind instance method payload (answers_of by.done.before.state) given
-      (subst (λ r. Means given r (answers_of by.done.before.state)) by.brought.1.0 by.holds))
+      (subst (λ r. Means given r (answers_of by.done.before.state)) by.brought.brings.0 by.holds))
       named
 
   -- and what is named, the call opens
@@ -111,7 +111,7 @@ pub answer_names : (h : History) (token : ℕ) (reply : Reply) (payload : List �
     → (n : Naming) → Contains (named_in given) n → n.side ≡ Answerer
 answer_names h token reply payload given by n named =
     at_member IsOfAnswerer (named_in given) n
-    (answer_all token reply payload (answers_of by.done.before.state) given (subst (λ r. Means given r (answers_of by.done.before.state)) by.brought.1.0 by.holds))
+    (answer_all token reply payload (answers_of by.done.before.state) given (subst (λ r. Means given r (answers_of by.done.before.state)) by.brought.brings.0 by.holds))
     named
 
 -- ---- inputs by which the application sends nothing

@@ -4,7 +4,6 @@ use Rattle.std.specs.List.{Contains, flat_map}
 use Rattle.std.specs.declared.net.ipv4_addr.Ipv4Addr.{Ipv4Addr}
 use Rattle.sd_core.specs.declared.eventgroup.Eventgroup.{Eventgroup}
 use Rattle.someip_node_rules.specs.declared.error.NodeError.{NodeError}
-use Rattle.someip_node_rules.specs.Bringing.{WasBrought}
 use Rattle.someip_node_rules.specs.History.{History, answers_of, historic}
 use Rattle.someip_node_rules.specs.Inputs.{Input, plan_of, refusal_of}
 use Rattle.someip_node_rules.specs.Items as items
@@ -14,9 +13,7 @@ use Rattle.someip_node_rules.specs.Steps.{step, unless_refused, work_on}
 use Rattle.someip_node_rules.specs.Trails.{Done, given_by, trail_of}
 use Rattle.someip_node_rules.specs.WishQuestions.{course_at}
 use Rattle.someip_node_rules.proofs.MeaningLemmas.{done_by}
-use Rattle.someip_node_rules.proofs.MemberLemmas.{at_member}
-use Rattle.someip_node_rules.proofs.StepRules.{all_brought}
-use Rattle.someip_world_rules.proofs.OriginLemmas.{config_kept}
+use Rattle.someip_node_rules.proofs.StepRules.{config_there}
 use Rattle.someip_world_exchanges.specs.Beginnings.{SentSubscribe, about, begun_after, counter_after, last_counter, subscribes_in}
 use Rattle.someip_world_exchanges.specs.Namings.{of_subscription}
 use Rattle.someip_world_exchanges.specs.Openings.{Begins, Opens, OpensBy}
@@ -66,8 +63,7 @@ not_refused (Some fault) plan h done is = absurd cc
 -- the configuration of a node is the same at each rule of a step
 same_address : (h : History) (input : Input) (done : Done) → Contains (trail_of h input) done → done.before.state.config.address ≡ h.config.address
 same_address h input done among =
-    let was = at_member (WasBrought h input) (trail_of h input) done (all_brought h input) among in
-    ap (λ x. x.config.address) was.0.1 ∙ ap (λ config. config.address) (config_kept h was.0.0)
+    ap (λ config. config.address) (config_there h input done among)
 
 module _ (h : History) (input : Input) (q : Eventgroup) (done : Work History) (ttls : HasTtls h.config) (is : step h input ≡ Ok done) where
   -- the Subscribes of the eventgroup that the step sends

@@ -10,7 +10,7 @@ use Rattle.someip_node_rules.specs.declared.output.Output.TheVariants.{Request}
 use Rattle.someip_world_schedule.specs.declared.step.Step.{Step}
 use Rattle.someip_world_setup.specs.declared.setup_node.SetupNode.{SetupNode}
 use Rattle.someip_world_rules.specs.Datagrams.{SentDatagram}
-use Rattle.someip_world_exchanges.specs.Deliveries.{Delivers, Does, LivesOn, Sends}
+use Rattle.someip_world_rules.specs.Deliveries.{Delivers, Does, LivesOn, Sends}
 use Rattle.someip_world_exchanges.specs.declared.exchange_key.ExchangeKey.{ExchangeKey}
 use Rattle.someip_world_exchanges.specs.declared.naming.Side.{Side}
 use Rattle.someip_world_exchanges.specs.declared.naming.Side.TheVariants.{Answerer, Opener}

@@ -1,6 +1,5 @@
 pub mod KeyOrder
 pub mod Namings
-pub mod Deliveries
 pub mod Openings
 pub mod Beginnings
 pub mod Belonging

@@ -20,7 +20,7 @@ use Rattle.someip_rpc.specs.Sessions.{session_after}
 use Rattle.someip_world_schedule.specs.declared.step.Step.{Step}
 use Rattle.someip_world_setup.specs.declared.setup_node.SetupNode.{SetupNode}
 use Rattle.someip_world_exchanges.specs.declared.exchange_key.ExchangeKey.{ExchangeKey}
-use Rattle.someip_world_exchanges.specs.Deliveries.{Does}
+use Rattle.someip_world_rules.specs.Deliveries.{Does}
 use Rattle.someip_world_exchanges.specs.Namings.{of_call, of_event, of_subscription}
 
 -- by an item a subscription of an eventgroup begins at a peer, with a counter: there is one more, and it stands

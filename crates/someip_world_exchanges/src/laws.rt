@@ -22,7 +22,7 @@ ghost use Rattle.someip_world_exchanges.specs.declared.naming.Side.TheVariants.{
 ghost use Rattle.someip_world_exchanges.specs.Beginnings.{about, begun_after, counter_after, last_counter, subscribes_in};
 ghost use Rattle.someip_world_exchanges.specs.Namings.{named_in, of_subscription};
 ghost use Rattle.someip_world_exchanges.specs.Openings.{Opened, OpensBy};
-ghost use Rattle.someip_world_exchanges.specs.Deliveries.{Delivers, Sends};
+ghost use Rattle.someip_world_rules.specs.Deliveries.{Delivers, Sends};
 
 /// What a step delivers was sent by the step whose lines tell of it, an earlier one: a rule gave the message
 /// there.

@@ -30,7 +30,7 @@ use Rattle.someip_node_rules.specs.Plans.{Rule}
 use Rattle.someip_node_rules.specs.Sending.{IsEventTo, IsSent}
 use Rattle.someip_node_rules.specs.Setups.{offered_as}
 use Rattle.someip_node_rules.specs.Tables.{Tables}
-use Rattle.someip_world_rules.proofs.OriginLemmas.{config_kept}
+use Rattle.someip_node_rules.proofs.StepRules.{config_there}
 use Rattle.someip_world_ledger.specs.Contents.{is_of_discovery}
 
 -- ---- the services of a good configuration
@@ -118,14 +118,9 @@ sent_by_application (plans.Publishes instance event payload) t from to m good s 
 sent_by_application (plans.PublishesTo instance endpoint event payload) t from to m good s = event_sent instance event payload _ t from m good s
 sent_by_application r t from to m good s = absurd s
 
--- the configuration stays that of the start
-config_there : (h : History) (input : Input) (from to : SocketAddrV4) (m : MessageValue) (by : GivenBy h input (Sends from to m)) → by.done.before.state.config ≡ h.config
-config_there h input from to m by =
-    let later = by.brought.0 in ap (λ (x : History). x.config) later.1 ∙ config_kept h later.0
-
 -- a message that was given is none of Service Discovery
 pub given_by_application : (h : History) (input : Input) (from to : SocketAddrV4) (m : MessageValue) → is_good h.config ≡ true → GivenBy h input (Sends from to m)
     → is_of_discovery m.header ≡ false
 given_by_application h input from to m good by =
-    let there : is_good by.done.before.state.config ≡ true = ap is_good (config_there h input from to m by) ∙ good in
+    let there : is_good by.done.before.state.config ≡ true = ap is_good (config_there h input by.done by.among) ∙ good in
     sent_by_application by.done.by (answers_of by.done.before.state) from to m there by.holds

@@ -23,9 +23,9 @@ use Rattle.someip_world_rules.specs.Deeds.{Takes}
 use Rattle.someip_world_rules.specs.Turns.{Turn}
 use Rattle.someip_world_rules.specs.declared.line.Line.{Line}
 use Rattle.someip_world_exchanges.specs.CleanReuse.{Arrives}
-use Rattle.someip_world_exchanges.specs.Deliveries.{Delivers, Sends, dispatches_in}
-use Rattle.someip_world_exchanges.proofs.Deliverings.{delivered_in, one_turn}
-use Rattle.someip_world_exchanges.proofs.Sendings.{sent_before}
+use Rattle.someip_world_rules.specs.Deliveries.{Delivers, Sends, dispatches_in}
+use Rattle.someip_world_rules.proofs.Deliverings.{delivered_in, one_turn}
+use Rattle.someip_world_rules.proofs.Sendings.{sent_before}
 use Rattle.someip_world_ledger.specs.Books.{LifeKept, NoteKept, PayloadNumbers}
 use Rattle.someip_world_ledger.specs.Booking.{Publication, arrived, arrived_with, life_on, published_session}
 use Rattle.someip_world_ledger.specs.Contents.{stream_in}

@@ -20,8 +20,8 @@ use Rattle.someip_world_rules.specs.Datagrams.{datagrams_in}
 use Rattle.someip_world_rules.specs.Deeds.{Deed, Takes, Restarts, done_with}
 use Rattle.someip_world_rules.specs.Runs.{told_lines, world_after}
 use Rattle.someip_world_rules.specs.Turns.{Turn}
-use Rattle.someip_world_rules.proofs.OriginLemmas.{get_set_other, get_set_same}
-use Rattle.someip_world_exchanges.specs.Deliveries.{dispatch_in, dispatches_in}
+use Rattle.someip_world_rules.proofs.Fronts.{get_set_other, get_set_same}
+use Rattle.someip_world_rules.specs.Deliveries.{dispatch_in, dispatches_in}
 use Rattle.someip_world_ledger.specs.Books.{Book, LifeKept, PayloadNumbers}
 use Rattle.someip_world_ledger.specs.Booking.{Openings, answered_in, booked, is_refused, life_after, long_payload_of, notes_of, number_of, numbered, openings_after}
 use Rattle.someip_world_ledger.proofs.KeySteps.{counters_kept, taken_kept}

@@ -18,10 +18,10 @@ use Rattle.someip_world_rules.specs.Datagrams.{SentDatagram}
 use Rattle.someip_world_rules.specs.Turns.{Turn}
 use Rattle.someip_world_exchanges.specs.Belonging.{Belongs}
 use Rattle.someip_world_exchanges.specs.CleanReuse.{Arrives, Breaks, IsCleanBefore, Mixed, Old, message_key}
-use Rattle.someip_world_exchanges.specs.Deliveries.{Delivers, LivesOn, Sends}
+use Rattle.someip_world_rules.specs.Deliveries.{Delivers, LivesOn, Sends}
 use Rattle.someip_world_exchanges.specs.Openings.{IsTaken}
 use Rattle.someip_world_exchanges.specs.declared.exchange_key.ExchangeKey.{ExchangeKey}
-use Rattle.someip_world_exchanges.proofs.Deliverings.{one_turn}
+use Rattle.someip_world_rules.proofs.Deliverings.{one_turn}
 use Rattle.someip_world_ledger.specs.Books.{Book, LifeKept, NoteKept, breaks_at, is_breach, is_mixed, is_old, arrival_at, note_at}
 use Rattle.someip_world_ledger.proofs.DeliveryNotes.{delivery_kept, life_kept, note_delivered}
 use Rattle.someip_world_ledger.proofs.Kept.{Kept}

@@ -1,5 +1,5 @@
 -- In a life of a node its clock never goes back.
-use Rattle.std.proofs.Common.{◌≡◌, ◌≢◌, ◌<◌, ◌≤◌, ◌⊎◌, inl, inr, arith, ℕ, zero, suc, ◌+◌, Bool, true, false, eqb, List, [], ◌∷◌, take, slice_get, slice_set, Some, Result, Ok, Err, refl, sym, ap, subst, ◌∙◌}
+use Rattle.std.proofs.Common.{◌≡◌, ◌<◌, ◌≤◌, ◌⊎◌, inl, inr, arith, ℕ, suc, ◌+◌, Bool, true, false, eqb, List, take, slice_get, slice_set, Some, Result, Ok, Err, refl, sym, ap, subst, ◌∙◌}
 use Rattle.std.proofs.lemmas.Bool.{eqb-true, eqb-false}
 use Rattle.someip_node_rules.specs.History.{History}
 use Rattle.someip_node_rules.specs.Inputs as inputs
@@ -14,10 +14,10 @@ use Rattle.someip_world_setup.specs.declared.setup_node.SetupNode.{SetupNode}
 use Rattle.someip_world_rules.specs.Deeds.{Deed, Takes, Restarts, done_with}
 use Rattle.someip_world_rules.specs.Runs.{World, history_after, world_after, world_of}
 use Rattle.someip_world_rules.specs.Turns.{LeadTo, Turn}
-use Rattle.someip_world_exchanges.specs.Deliveries.{LivesOn}
+use Rattle.someip_world_rules.specs.Deliveries.{LivesOn}
 use Rattle.someip_world_exchanges.proofs.ClockLemmas.{other_clock, tick_clock}
-use Rattle.someip_world_exchanges.proofs.Fronts.{on_the_way, one_world, within}
-use Rattle.someip_world_ledger.proofs.LifeSpans.{below_next}
+use Rattle.someip_world_rules.proofs.Fronts.{get_set_other, get_set_same, on_the_way, one_world, within}
+use Rattle.someip_world_rules.proofs.Lives.{below_next}
 
 -- ---- one step
 
@@ -30,20 +30,6 @@ grows h input done is = let after = other_clock h input done refl is in omega (a
 grows_after : (h : History) (input : Input) (due : Result (Work History) NodeError) → step h input ≡ due → clock_at h.items ≤ clock_at (history_after h due).items
 grows_after h input (Ok done) is = grows h input done is
 grows_after h input (Err refusal) is = omega arith
-
--- ---- places of a list that is set at one
-
-get_set_same : {X : Type 0} (xs : List X) (k : ℕ) (x y : X) → slice_get (slice_set xs k x) k ≡ Some y → y ≡ x
-get_set_same [] k x y is = absurd cc
-get_set_same (z ∷ xs) zero x y is = cc
-get_set_same (z ∷ xs) (suc k) x y is = get_set_same xs k x y is
-
-get_set_other : {X : Type 0} (xs : List X) (k j : ℕ) (x : X) → j ≢ k → slice_get (slice_set xs k x) j ≡ slice_get xs j
-get_set_other [] k j x ne = refl
-get_set_other (z ∷ xs) zero zero x ne = absurd (ne refl)
-get_set_other (z ∷ xs) zero (suc j) x ne = refl
-get_set_other (z ∷ xs) (suc k) zero x ne = refl
-get_set_other (z ∷ xs) (suc k) (suc j) x ne = get_set_other xs k j x (λ e. ne (ap suc e))
 
 -- ---- a life
 

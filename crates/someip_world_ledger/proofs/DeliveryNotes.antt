@@ -10,7 +10,7 @@ use Rattle.someip_world_schedule.specs.declared.step.Step.TheVariants as steps
 use Rattle.someip_world_setup.specs.declared.setup_node.SetupNode.{SetupNode}
 use Rattle.someip_world_rules.specs.Datagrams.{SentDatagram}
 use Rattle.someip_world_rules.specs.Turns.{Turn}
-use Rattle.someip_world_exchanges.specs.Deliveries.{Delivers, Dispatch, Sends, dispatch_at}
+use Rattle.someip_world_rules.specs.Deliveries.{Delivers, Dispatch, Sends, dispatch_at}
 use Rattle.someip_world_ledger.specs.Books.{Book, LifeKept, NoteKept, PayloadNumbers, note_at}
 use Rattle.someip_world_ledger.specs.Contents.{said_in, stream_in}
 use Rattle.someip_world_ledger.specs.Streams.{stream_of}

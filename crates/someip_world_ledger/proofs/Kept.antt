@@ -22,7 +22,7 @@ use Rattle.someip_world_rules.specs.Runs.{World}
 use Rattle.someip_world_exchanges.specs.Beginnings.{last_counter}
 use Rattle.someip_world_exchanges.specs.Belonging.{Answered, WasHandedUp}
 use Rattle.someip_world_exchanges.specs.CleanReuse.{Arrives}
-use Rattle.someip_world_exchanges.specs.Deliveries.{Dispatch, LivesOn, Sends, dispatches_in}
+use Rattle.someip_world_rules.specs.Deliveries.{Dispatch, LivesOn, Sends, dispatches_in}
 use Rattle.someip_world_exchanges.specs.Openings.{Opened}
 use Rattle.someip_world_exchanges.specs.declared.exchange_key.ExchangeKey.{ExchangeKey}
 use Rattle.someip_world_ledger.specs.Books.{Book, LifeKept, NoteKept, PayloadNumbers, TakenKeys, taken_at}

@@ -1,5 +1,5 @@
 -- What is kept of the life of a node stays at a step of another node.
-use Rattle.std.proofs.Common.{◌≡◌, ◌≢◌, ◌<◌, ◌⊎◌, inl, inr, arith, ℕ, zero, suc, List, Option, None, Some, refl, sym, subst, ◌∙◌}
+use Rattle.std.proofs.Common.{◌≡◌, ◌≢◌, ◌<◌, ◌⊎◌, inl, inr, arith, ℕ, suc, List, Option, None, Some, sym, subst, ◌∙◌}
 use Rattle.std.specs.FinMap as finite
 use Rattle.someip_wire.specs.Spelling.{MessageValue}
 use Rattle.someip_tp.specs.declared.key.ReassemblyKey.{ReassemblyKey}
@@ -10,23 +10,13 @@ use Rattle.someip_world_setup.specs.declared.setup_node.SetupNode.{SetupNode}
 use Rattle.someip_world_rules.specs.Turns.{Turn}
 use Rattle.someip_world_exchanges.specs.Belonging.{HandsUp, WasHandedUp}
 use Rattle.someip_world_exchanges.specs.CleanReuse.{Arrives}
-use Rattle.someip_world_exchanges.specs.Deliveries.{LivesOn, Restarted}
-use Rattle.someip_world_exchanges.proofs.Deliverings.{one_turn}
+use Rattle.someip_world_rules.specs.Deliveries.{LivesOn, Restarted}
+use Rattle.someip_world_rules.proofs.Deliverings.{one_turn}
+use Rattle.someip_world_rules.proofs.Lives.{below_next, lives_back, lives_next}
 use Rattle.someip_world_ledger.specs.Books.{LifeKept, PayloadNumbers}
 use Rattle.someip_world_ledger.specs.Streams.{stream_of}
 use Rattle.someip_world_ledger.specs.declared.life.Arrival.{Arrival}
 use Rattle.someip_world_ledger.proofs.Kept.{KeepsLife, KnowsArrival, PayloadsGrow}
-
--- a number below the next one is below this one, or is this one
-pub below_next : (k n : ℕ) → k < suc n → (k < n) ⊎ (k ≡ n)
-below_next zero zero lt = inr refl
-below_next zero (suc n) lt = inl (omega arith)
-below_next (suc k) zero lt = absurd (omega (arith, lt))
-below_next (suc k) (suc n) lt = cases (below_next k n (omega (arith, lt)))
-  where
-    cases : (k < n) ⊎ (k ≡ n) → (suc k < suc n) ⊎ (suc k ≡ suc n)
-    cases (inl l) = inl (omega (arith, l))
-    cases (inr e) = inr (omega (arith, e))
 
 -- what no earlier step does, and this one does not, no step up to this one does
 pub none_next : (P : ℕ → Type 0) (i n : ℕ) → ((k : ℕ) → i < k → k < n → P k → ⊥) → (P n → ⊥) → (k : ℕ) → i < k → k < suc n → P k → ⊥
@@ -37,18 +27,6 @@ none_next P i n before here k after lt p = cases (below_next k n lt)
     cases (inr e) = here (subst P e p)
 
 module _ (nodes : List SetupNode) (configs : List Config) (ss : List Step) (n place : ℕ) (alive : Restarted nodes configs ss n place → ⊥) where
-  -- a life goes on over a step that starts nothing again at its place
-  pub lives_next : (i : ℕ) → LivesOn nodes configs ss place i n → LivesOn nodes configs ss place i (suc n)
-  lives_next i lives k since lt r = cases (below_next k n lt)
-    where
-      cases : (k < n) ⊎ (k ≡ n) → ⊥
-      cases (inl l) = lives k since l r
-      cases (inr e) = alive (subst (λ j. Restarted nodes configs ss j place) e r)
-
-  -- and it was the same life before
-  pub lives_back : (i : ℕ) → LivesOn nodes configs ss place i (suc n) → LivesOn nodes configs ss place i n
-  lives_back i lives k since lt r = lives k since (omega (arith, lt)) r
-
   module _ (payloads more : PayloadNumbers) (grow : PayloadsGrow payloads more) where
     -- no segment came before this step, nor in it
     none_arrives : (key : ReassemblyKey) → ((now : ℕ) (m : MessageValue) → Arrives nodes configs ss n place now m key → ⊥) → KnowsArrival nodes configs ss payloads n place key None
@@ -56,7 +34,7 @@ module _ (nodes : List SetupNode) (configs : List Config) (ss : List Step) (n pl
     none_arrives key none knows i now m lt lives arrives = cases (below_next i n lt)
       where
         cases : (i < n) ⊎ (i ≡ n) → ⊥
-        cases (inl l) = knows i now m l (lives_back i lives) arrives
+        cases (inl l) = knows i now m l (lives_back nodes configs ss n place alive i lives) arrives
         cases (inr e) = none now m (subst (λ j. Arrives nodes configs ss j place now m key) e arrives)
 
     -- a step that delivers no segment under a key here leaves what is known of its arrivals
@@ -68,7 +46,7 @@ module _ (nodes : List SetupNode) (configs : List Config) (ss : List Step) (n pl
         record {
           i = knows.i;
           before = omega (arith, before);
-          lives = lives_next knows.i knows.lives;
+          lives = lives_next nodes configs ss n place alive knows.i knows.lives;
           message = knows.message;
           arrives = knows.arrives;
           payload = grow knows.message.payload arrival.payload knows.payload;
@@ -87,7 +65,7 @@ module _ (nodes : List SetupNode) (configs : List Config) (ss : List Step) (n pl
       record {
         i = was.i;
         before = omega (arith, before);
-        lives = lives_next was.i was.lives;
+        lives = lives_next nodes configs ss n place alive was.i was.lives;
         handed = was.handed;
         last = none_next (λ j. HandsUp nodes configs ss j place token) was.i n was.last none;
         datagram = was.datagram;
@@ -99,7 +77,7 @@ module _ (nodes : List SetupNode) (configs : List Config) (ss : List Step) (n pl
   handed_before token since none was = cases (below_next was.i n was.before)
     where
       cases : (was.i < n) ⊎ (was.i ≡ n) → WasHandedUp nodes configs ss place token n since
-      cases (inl l) = record { i = was.i; before = l; lives = lives_back was.i was.lives; handed = was.handed; last = λ k after lt. was.last k after (omega (arith, lt)); datagram = was.datagram; delivers = was.delivers }
+      cases (inl l) = record { i = was.i; before = l; lives = lives_back nodes configs ss n place alive was.i was.lives; handed = was.handed; last = λ k after lt. was.last k after (omega (arith, lt)); datagram = was.datagram; delivers = was.delivers }
       cases (inr e) = absurd (none (subst (λ j. HandsUp nodes configs ss j place token) e was.handed))
 
 -- a step that does nothing at a place leaves what is kept of the life there

@@ -15,8 +15,8 @@ use Rattle.someip_world_rules.specs.Deeds.{Deed, Takes, Restarts, delivery, is_a
 use Rattle.someip_world_rules.specs.declared.step_fault.StepFault.TheVariants.{NotAddressed}
 use Rattle.someip_world_rules.specs.Turns.{Turn}
 use Rattle.someip_world_exchanges.specs.CleanReuse.{Arrives}
-use Rattle.someip_world_exchanges.specs.Deliveries.{Delivers, Does, Restarted}
-use Rattle.someip_world_exchanges.proofs.Deliverings.{one_turn}
+use Rattle.someip_world_rules.specs.Deliveries.{Delivers, Does, Restarted}
+use Rattle.someip_world_rules.proofs.Deliverings.{one_turn}
 use Rattle.someip_world_ledger.specs.Books.{LifeKept, PayloadNumbers}
 use Rattle.someip_world_ledger.proofs.Kept.{KeepsLife, PayloadsGrow}
 use Rattle.someip_world_ledger.proofs.LifeSpans.{quiet_life}

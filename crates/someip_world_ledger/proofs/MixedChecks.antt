@@ -15,8 +15,8 @@ use Rattle.someip_world_setup.specs.declared.setup_node.SetupNode.{SetupNode}
 use Rattle.someip_world_rules.specs.Announced.{AllFits}
 use Rattle.someip_world_rules.specs.Datagrams.{SentDatagram}
 use Rattle.someip_world_exchanges.specs.CleanReuse.{Arrives, DeliversMixed, IsCleanBefore, Mixed, message_key}
-use Rattle.someip_world_exchanges.specs.Deliveries.{Delivers, LivesOn, Sends}
-use Rattle.someip_world_exchanges.proofs.Sendings.{sent_before}
+use Rattle.someip_world_rules.specs.Deliveries.{Delivers, LivesOn, Sends}
+use Rattle.someip_world_rules.proofs.Sendings.{sent_before}
 use Rattle.someip_world_ledger.specs.Books.{LifeKept, NoteKept, PayloadNumbers, arrival_at, is_mixed}
 use Rattle.someip_world_ledger.specs.Booking.{payload_of}
 use Rattle.someip_world_ledger.specs.Contents.{stream_in}

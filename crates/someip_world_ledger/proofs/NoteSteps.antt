@@ -27,8 +27,8 @@ use Rattle.someip_world_rules.specs.Datagrams.{SentDatagram, datagrams_in, sent_
 use Rattle.someip_world_rules.specs.Runs.{World, told_lines}
 use Rattle.someip_world_rules.specs.Turns.{Turn}
 use Rattle.someip_world_exchanges.specs.Belonging.{Answered, WasHandedUp}
-use Rattle.someip_world_exchanges.specs.Deliveries.{Delivers, Dispatch, Does, Sends, dispatch_at, dispatch_in, dispatches_in}
-use Rattle.someip_world_exchanges.proofs.Deliverings.{one_turn}
+use Rattle.someip_world_rules.specs.Deliveries.{Delivers, Dispatch, Does, Sends, dispatch_at, dispatch_in, dispatches_in}
+use Rattle.someip_world_rules.proofs.Deliverings.{one_turn}
 use Rattle.someip_world_exchanges.proofs.LongMessages.{long_payload}
 use Rattle.someip_world_exchanges.proofs.RuleInputs.{is_answer, no_answer_answers}
 use Rattle.someip_world_ledger.specs.Books.{Book, LifeKept, NoteKept, PayloadNumbers, note_at}
@@ -97,7 +97,7 @@ module _ (nodes : List SetupNode) (configs : List Config) (ss : List Step) where
     -- an answer is given by the rule that answers
     answer_rule : (h : History) (given : Given) (input : Input) (by : GivenBy h input given) (token : ℕ) (reply : Reply) (payload : List ℕ)
         → input ≡ inputs.Answer token reply payload → by.done.by ≡ plans.Answers token reply payload
-    answer_rule h given input by token reply payload is = (subst (λ i. Brings h i by.done.by by.done.before.state) is by.brought.1).0
+    answer_rule h given input by token reply payload is = (subst (λ i. Brings h i by.done.by by.brought.earlier) is by.brought.brings).0
 
     module _ (book : Book) (life : LifeKept) where
       abbrev KeepsNotes : World → Type 0

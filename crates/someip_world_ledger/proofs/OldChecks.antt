@@ -13,13 +13,13 @@ use Rattle.someip_world_rules.specs.Announced.{AllFits}
 use Rattle.someip_world_rules.specs.Datagrams.{SentDatagram}
 use Rattle.someip_world_exchanges.specs.Belonging.{Belongs, IsMeant}
 use Rattle.someip_world_exchanges.specs.CleanReuse.{DeliversOld}
-use Rattle.someip_world_exchanges.specs.Deliveries.{Delivers}
+use Rattle.someip_world_rules.specs.Deliveries.{Delivers}
 use Rattle.someip_world_exchanges.specs.Openings.{IsTaken}
 use Rattle.someip_world_exchanges.specs.declared.exchange_key.ExchangeKey.{ExchangeKey}
 use Rattle.someip_world_exchanges.specs.declared.naming.Naming.{Naming}
 use Rattle.someip_world_exchanges.specs.declared.naming.Side.{Side}
 use Rattle.someip_world_exchanges.specs.declared.naming.Side.TheVariants.{Answerer, Opener}
-use Rattle.someip_world_exchanges.proofs.Sendings.{sent_before}
+use Rattle.someip_world_rules.proofs.Sendings.{sent_before}
 use Rattle.someip_world_ledger.specs.Books.{NoteKept, PayloadNumbers, TakenKeys, is_after, is_old, since_of, taken_at}
 use Rattle.someip_world_ledger.specs.Contents.{said_in}
 use Rattle.someip_world_ledger.specs.declared.said.Said.{Said}

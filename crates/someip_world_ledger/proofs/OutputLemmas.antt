@@ -25,7 +25,7 @@ use Rattle.someip_node_rules.specs.Trails.{given_by, trail_of}
 use Rattle.someip_node_rules.proofs.MeaningLemmas.{all_given, outputs_written}
 use Rattle.someip_node_rules.proofs.MemberLemmas.{all_both, all_flat_map, all_from_members, all_members, all_weaker, at_member}
 use Rattle.someip_world_rules.specs.Datagrams.{SentDatagram, sent_with}
-use Rattle.someip_world_rules.proofs.OriginLemmas.{sends}
+use Rattle.someip_world_rules.proofs.Sendings.{sends}
 use Rattle.someip_world_exchanges.specs.declared.naming.Naming.{Naming}
 use Rattle.someip_world_exchanges.specs.Beginnings.{subscribes_in}
 use Rattle.someip_world_exchanges.specs.Namings.{named_in}

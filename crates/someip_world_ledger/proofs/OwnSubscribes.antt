@@ -14,7 +14,6 @@ use Rattle.sd_wire.specs.declared.entry.EventgroupKind.TheVariants.{Subscribe, A
 use Rattle.sd_wire.specs.Kinds.{has_type_subscribe}
 use Rattle.sd_wire.specs.Values.{EntryValue, ReadValue, good}
 use Rattle.sd_session.specs.declared.stamp.Stamp.{Stamp}
-use Rattle.someip_node_rules.specs.Bringing.{WasBrought}
 use Rattle.someip_node_rules.specs.Fitting.{FitsWire, head_of}
 use Rattle.someip_node_rules.specs.GoodConfigs.{has_own_ports, is_good, is_good_common, is_good_group, is_good_instance, is_good_offer, is_good_port, is_good_want}
 use Rattle.someip_node_rules.specs.Handling.{same_address}
@@ -34,10 +33,9 @@ use Rattle.someip_node_rules.specs.declared.config.Config.{Config}
 use Rattle.someip_node_rules.specs.declared.config.WantedService.{WantedService}
 use Rattle.someip_node_rules.specs.declared.output.Output.TheVariants.{Sent}
 use Rattle.someip_node_rules.proofs.MeaningLemmas.{all_given, outputs_written}
-use Rattle.someip_node_rules.proofs.MemberLemmas.{all_both, all_flat_map, all_from_members, all_weaker, at_member}
-use Rattle.someip_node_rules.proofs.StepRules.{all_brought}
+use Rattle.someip_node_rules.proofs.MemberLemmas.{all_both, all_flat_map, all_from_members, all_weaker}
+use Rattle.someip_node_rules.proofs.StepRules.{config_there}
 use Rattle.someip_world_rules.specs.Datagrams.{SentDatagram}
-use Rattle.someip_world_rules.proofs.OriginLemmas.{config_kept}
 use Rattle.someip_world_exchanges.specs.Namings.{named_by_kind}
 use Rattle.someip_world_exchanges.proofs.SubscribesLemmas.{HasTtls}
 use Rattle.someip_world_exchanges.proofs.WholeLemmas.{no_flag}
@@ -107,9 +105,7 @@ announced_from r t from to stamp entries is = absurd is
 module _ (h : History) (input : Input) where
   -- the address of a node is the same at each rule of a step
   pub address_kept : (done : Done) → Contains (trail_of h input) done → done.before.state.config.address ≡ h.config.address
-  address_kept done among =
-      let was = at_member (WasBrought h input) (trail_of h input) done (all_brought h input) among in
-      ap (λ x. x.config.address) was.0.1 ∙ ap (λ config. config.address) (config_kept h was.0.0)
+  address_kept done among = ap (λ config. config.address) (config_there h input done among)
 
   module _ (well : is_good h.config ≡ true) where
     -- each Subscribe that a datagram of what is given says is the node's own

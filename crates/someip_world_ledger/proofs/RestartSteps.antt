@@ -21,7 +21,7 @@ use Rattle.someip_world_rules.specs.declared.line.Line.{Line}
 use Rattle.someip_world_rules.specs.declared.step_fault.StepFault.{StepFault}
 use Rattle.someip_world_rules.specs.Turns.{Turn}
 use Rattle.someip_world_exchanges.specs.Beginnings.{last_counter}
-use Rattle.someip_world_exchanges.specs.Deliveries.{LivesOn}
+use Rattle.someip_world_rules.specs.Deliveries.{LivesOn}
 use Rattle.someip_world_ledger.specs.Books.{LifeKept, NoteKept, PayloadNumbers, new_life}
 use Rattle.someip_world_ledger.specs.Booking.{answered_in, handed_up, life_after, life_then, tokens_told}
 use Rattle.someip_world_ledger.specs.StreamOrder.{stream_cmp}

@@ -1,5 +1,5 @@
 -- What a datagram that was sent says, and the message of which it is a segment.
-use Rattle.std.proofs.Common.{◌≡◌, arith, ℕ, ◌+◌, Bool, true, false, if◌then◌else◌, List, take, slice_get, None, Some, refl, sym, ap, subst, ◌∙◌}
+use Rattle.std.proofs.Common.{◌≡◌, arith, ℕ, ◌+◌, Bool, true, false, if◌then◌else◌, List, slice_get, None, Some, refl, sym, ap, subst, ◌∙◌}
 use Rattle.std.specs.List.{Contains}
 use Rattle.std.specs.declared.net.socket_addr.SocketAddrV4.{SocketAddrV4}
 use Rattle.someip_wire.specs.Spelling.{MessageValue}
@@ -19,12 +19,12 @@ use Rattle.someip_world_setup.specs.declared.setup_node.SetupNode.{SetupNode}
 use Rattle.someip_world_rules.specs.Announced.{AllFits}
 use Rattle.someip_world_rules.specs.Datagrams.{SentDatagram}
 use Rattle.someip_world_rules.specs.Turns.{Turn}
-use Rattle.someip_world_rules.proofs.OriginLemmas.{all_origins}
+use Rattle.someip_world_rules.proofs.OriginLemmas.{turn_configured}
 use Rattle.someip_world_exchanges.specs.CleanReuse.{Arrives, message_key}
-use Rattle.someip_world_exchanges.specs.Deliveries as deliveries
-use Rattle.someip_world_exchanges.specs.Deliveries.{Does}
+use Rattle.someip_world_rules.specs.Deliveries as deliveries
+use Rattle.someip_world_rules.specs.Deliveries.{Does}
 use Rattle.someip_world_exchanges.specs.Payloads.{payload_in}
-use Rattle.someip_world_exchanges.proofs.Deliverings.{one_turn}
+use Rattle.someip_world_rules.proofs.Deliverings.{one_turn}
 use Rattle.someip_world_exchanges.proofs.LongMessages.{long_payload}
 use Rattle.someip_world_exchanges.proofs.WholeLemmas.{no_flag}
 use Rattle.someip_world_ledger.specs.Contents.{stream_in}
@@ -69,20 +69,16 @@ module _ (d : SentDatagram) (key : ReassemblyKey) where
 -- ---- the steps of a run
 
 module _ (nodes : List SetupNode) (configs : List Config) (ss : List Step) where
-  -- the node of a step has the configuration of its place
-  pub turn_configured : (i : ℕ) (s : Step) (t : Turn nodes configs ss i s) → slice_get configs t.place ≡ Some t.history.config
-  turn_configured i s t = (all_origins nodes configs (take i ss) t.before t.led t.place t.history t.stands).configured
-
-  -- so at one place there is one configuration
+  -- at one place there is one configuration
   pub one_config : (i j : ℕ) (s r : Step) (t : Turn nodes configs ss i s) (u : Turn nodes configs ss j r) → t.place ≡ u.place → t.history.config ≡ u.history.config
   one_config i j s r t u at =
-      let both : Some t.history.config ≡ Some u.history.config = sym (turn_configured i s t) ∙ ap (slice_get configs) at ∙ turn_configured j r u in cc
+      let both : Some t.history.config ≡ Some u.history.config = sym (turn_configured nodes configs ss i s t) ∙ ap (slice_get configs) at ∙ turn_configured nodes configs ss j r u in cc
 
   module _ (fits : AllFits nodes configs ss) (well : (place : ℕ) (c : Config) → slice_get configs place ≡ Some c → is_good c ≡ true)
       (i : ℕ) (d : SentDatagram) (s : deliveries.Sends nodes configs ss i d) where
     -- the node that sent it has a good configuration, and what it gave fits its fields
     is_well : is_good s.does.turn.history.config ≡ true
-    is_well = well s.does.turn.place s.does.turn.history.config (turn_configured i s.does.step s.does.turn)
+    is_well = well s.does.turn.place s.does.turn.history.config (turn_configured nodes configs ss i s.does.step s.does.turn)
 
     given_fits : FitsWire s.given
     given_fits = fits i s.does.step s.does.turn s.does.input s.given s.does.takes s.by

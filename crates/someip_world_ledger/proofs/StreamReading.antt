@@ -1,5 +1,5 @@
 -- A segment of a long message is told by what is read of its datagram.
-use Rattle.std.proofs.Common.{◌≡◌, ℕ, Bool, true, false, if◌then◌else◌, List, take, slice_get, None, Some, refl, sym, ap, ◌∙◌}
+use Rattle.std.proofs.Common.{◌≡◌, ℕ, Bool, true, false, if◌then◌else◌, List, slice_get, None, Some, refl, sym, ap, ◌∙◌}
 use Rattle.std.specs.Prelude.{unwrap_or}
 use Rattle.std.specs.List.{Contains}
 use Rattle.std.specs.declared.net.socket_addr.SocketAddrV4.{SocketAddrV4}
@@ -22,9 +22,9 @@ use Rattle.someip_world_schedule.specs.declared.step.Step.{Step}
 use Rattle.someip_world_setup.specs.declared.setup_node.SetupNode.{SetupNode}
 use Rattle.someip_world_rules.specs.Announced.{AllFits}
 use Rattle.someip_world_rules.specs.Datagrams.{SentDatagram}
-use Rattle.someip_world_rules.proofs.OriginLemmas.{all_origins}
+use Rattle.someip_world_rules.proofs.OriginLemmas.{turn_configured}
 use Rattle.someip_world_exchanges.specs.CleanReuse.{Arrives, message_key}
-use Rattle.someip_world_exchanges.specs.Deliveries.{Sends}
+use Rattle.someip_world_rules.specs.Deliveries.{Sends}
 use Rattle.someip_world_exchanges.proofs.WholeLemmas.{no_flag}
 use Rattle.someip_world_ledger.specs.Contents.{stream_in}
 use Rattle.someip_world_ledger.specs.Streams.{stream_of}
@@ -96,7 +96,7 @@ module _ (nodes : List SetupNode) (configs : List Config) (ss : List Step) (fits
   well_sent : (k : ℕ) (d : SentDatagram) (u : Sends nodes configs ss k d) → is_good u.does.turn.history.config ≡ true
   well_sent k d u =
       let t = u.does.turn in
-      well t.place t.history.config (all_origins nodes configs (take k ss) t.before t.led t.place t.history t.stands).configured
+      well t.place t.history.config (turn_configured nodes configs ss k u.does.step t)
 
   -- and what it gave fits
   fits_sent : (k : ℕ) (d : SentDatagram) (u : Sends nodes configs ss k d) → FitsWire u.given

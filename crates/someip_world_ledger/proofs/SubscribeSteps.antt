@@ -19,7 +19,8 @@ use Rattle.someip_world_exchanges.specs.declared.naming.Naming.{Naming}
 use Rattle.someip_world_exchanges.specs.declared.naming.Side.{Side}
 use Rattle.someip_world_exchanges.specs.declared.naming.Side.TheVariants.{Answerer, Opener}
 use Rattle.someip_world_exchanges.proofs.AgreeingLemmas.{subscribe_with}
-use Rattle.someip_world_exchanges.proofs.Among.{is_among, only_one}
+use Rattle.someip_node_rules.proofs.MemberLemmas.{only_one}
+use Rattle.someip_world_exchanges.proofs.Among.{is_among}
 use Rattle.someip_world_exchanges.proofs.BeginningLemmas.{begun-append, counter-append}
 use Rattle.someip_world_exchanges.proofs.CallOpenings.{opener_of}
 use Rattle.someip_world_ledger.specs.Booking.{Openings, opened_by, opened_by_all, opened_by_key, subscribed}

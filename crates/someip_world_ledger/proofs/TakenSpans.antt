@@ -9,8 +9,8 @@ use Rattle.someip_world_setup.specs.declared.setup_node.SetupNode.{SetupNode}
 use Rattle.someip_world_rules.specs.Datagrams.{SentDatagram}
 use Rattle.someip_world_rules.specs.Deeds.{Takes, Restarts}
 use Rattle.someip_world_rules.specs.Turns.{Turn}
-use Rattle.someip_world_exchanges.specs.Deliveries.{Delivers, Dispatch, LivesOn, Restarted, dispatch_at, dispatches_in}
-use Rattle.someip_world_exchanges.proofs.Deliverings.{one_turn}
+use Rattle.someip_world_rules.specs.Deliveries.{Delivers, Dispatch, LivesOn, Restarted, dispatch_at, dispatches_in}
+use Rattle.someip_world_rules.proofs.Deliverings.{one_turn}
 use Rattle.someip_world_ledger.specs.Books.{NoteKept, PayloadNumbers, note_at}
 use Rattle.someip_world_ledger.proofs.Kept.{IsNoted}
 use Rattle.someip_world_ledger.proofs.Zipped.{note_of_number}

@@ -13,14 +13,15 @@ use Rattle.someip_world_setup.specs.declared.setup_node.SetupNode.{SetupNode}
 use Rattle.someip_world_rules.specs.Deeds.{Takes, Restarts, deed_of}
 use Rattle.someip_world_rules.specs.declared.line.Line.{Line}
 use Rattle.someip_world_rules.specs.Turns.{Turn}
-use Rattle.someip_world_exchanges.specs.Deliveries.{Does}
+use Rattle.someip_world_rules.specs.Deliveries.{Does}
 use Rattle.someip_world_exchanges.specs.Openings.{Opened, OpensBy}
 use Rattle.someip_world_exchanges.specs.declared.exchange_key.ExchangeKey.{ExchangeKey}
-use Rattle.someip_world_exchanges.proofs.Deliverings.{one_turn}
+use Rattle.someip_world_rules.proofs.Deliverings.{one_turn}
 use Rattle.someip_world_ledger.specs.Books.{LifeKept, NoteKept, TakenKeys, taken_at}
 use Rattle.someip_world_ledger.specs.Booking.{openings_after, publication_in, published_key}
 use Rattle.someip_world_ledger.proofs.Kept.{KeepsTaken, KnowsOpening}
-use Rattle.someip_world_ledger.proofs.LifeSpans.{below_next, none_next}
+use Rattle.someip_world_ledger.proofs.LifeSpans.{none_next}
+use Rattle.someip_world_rules.proofs.Lives.{below_next}
 use Rattle.someip_world_ledger.proofs.LifeSteps.{refused_does_nothing}
 use Rattle.someip_world_ledger.proofs.RestartSteps.{begins_anew, no_restart_if}
 

@@ -16,6 +16,7 @@ use Rattle.someip_node_rules.specs.Outputs as outputs
 use Rattle.someip_node_rules.specs.Plans.{Rule, TakesRequest, Work}
 use Rattle.someip_node_rules.specs.Steps.{step}
 use Rattle.someip_node_rules.specs.declared.config.Config.{Config}
+use Rattle.someip_node_rules.specs.Trails.{Done}
 use Rattle.someip_world_schedule.specs.declared.step.Step.{Step}
 use Rattle.someip_world_setup.specs.declared.setup_node.SetupNode.{SetupNode}
 use Rattle.someip_world_rules.specs.Datagrams.{SentDatagram}
@@ -23,32 +24,33 @@ use Rattle.someip_world_rules.specs.Deeds.{Takes}
 use Rattle.someip_world_rules.specs.Runs.{told_lines}
 use Rattle.someip_world_rules.specs.Turns.{Turn}
 use Rattle.someip_world_exchanges.specs.Belonging.{HandsUp, WasHandedUp}
-use Rattle.someip_world_exchanges.specs.Deliveries.{Delivers, dispatches_in}
-use Rattle.someip_world_exchanges.proofs.Deliverings.{delivered_in, one_turn}
+use Rattle.someip_world_rules.specs.Deliveries.{Delivers, dispatches_in}
+use Rattle.someip_world_rules.proofs.Deliverings.{delivered_in, one_turn}
 use Rattle.someip_world_exchanges.proofs.TokenLemmas.{given_token, token_given}
 use Rattle.someip_world_ledger.specs.Books.{LifeKept, NoteKept, PayloadNumbers}
 use Rattle.someip_world_ledger.specs.Booking.{answered_in, handed_up, tokens_told}
 use Rattle.someip_world_ledger.proofs.Kept.{IsNoted}
-use Rattle.someip_world_ledger.proofs.LifeSpans.{below_next, handed_before, handed_stays}
+use Rattle.someip_world_ledger.proofs.LifeSpans.{handed_before, handed_stays}
+use Rattle.someip_world_rules.proofs.Lives.{below_next}
 use Rattle.someip_world_ledger.proofs.TakenSpans.{lives_here, noted_here, one_delivery, taken_no_restart}
 use Rattle.someip_world_ledger.proofs.TokensTold.{handed_other, handed_told, is_told, output_told, told_output}
 
 -- a request is handed up only of a datagram
-request_came : (h at : History) (input : Input) (r : Rule) (instance : InstanceId) (from : SocketAddrV4) (header : Header) (payload : List ℕ) → r ≡ TakesRequest instance from header payload
-    → Brings h input r at → (d : SentDatagram) × (input ≡ inputs.Datagram d.from d.to d.bytes)
-request_came h at (inputs.Datagram from to bytes) r instance peer header payload is brings = (record { from = from; to = to; bytes = bytes }, refl)
-request_came h at (inputs.Tick ms) r instance peer header payload is (inl brings) = let other = brings.0 in absurd cc
-request_came h at (inputs.Tick ms) r instance peer header payload is (inr brings) = let other = brings.1 in absurd cc
-request_came h at (inputs.Call kind callee method sent) r instance peer header payload is brings = let other = brings.0 in absurd cc
-request_came h at (inputs.Answer token reply sent) r instance peer header payload is brings = let other = brings.0 in absurd cc
-request_came h at (inputs.Publish own event sent) r instance peer header payload is brings = let other = brings.0 in absurd cc
-request_came h at (inputs.PublishTo own group to event sent) r instance peer header payload is brings = let other = brings.0 in absurd cc
-request_came h at (inputs.Subscribe group) r instance peer header payload is (inl brings) = let other = brings.0 in absurd cc
-request_came h at (inputs.Subscribe group) r instance peer header payload is (inr brings) = let other = brings.2 in absurd cc
-request_came h at (inputs.Unsubscribe group) r instance peer header payload is (inl brings) = absurd cc
-request_came h at (inputs.Unsubscribe group) r instance peer header payload is (inr brings) = let other = brings.2 in absurd cc
-request_came h at (inputs.StopOffer own) r instance peer header payload is (inl brings) = absurd cc
-request_came h at (inputs.StopOffer own) r instance peer header payload is (inr brings) = let other = brings.0 in absurd cc
+request_came : (h : History) (earlier : List Done) (input : Input) (r : Rule) (instance : InstanceId) (from : SocketAddrV4) (header : Header) (payload : List ℕ) → r ≡ TakesRequest instance from header payload
+    → Brings h input r earlier → (d : SentDatagram) × (input ≡ inputs.Datagram d.from d.to d.bytes)
+request_came h earlier (inputs.Datagram from to bytes) r instance peer header payload is brings = (record { from = from; to = to; bytes = bytes }, refl)
+request_came h earlier (inputs.Tick ms) r instance peer header payload is (inl brings) = let other = brings.0 in absurd cc
+request_came h earlier (inputs.Tick ms) r instance peer header payload is (inr brings) = let other = brings.1 in absurd cc
+request_came h earlier (inputs.Call kind callee method sent) r instance peer header payload is brings = let other = brings.0 in absurd cc
+request_came h earlier (inputs.Answer token reply sent) r instance peer header payload is brings = let other = brings.0 in absurd cc
+request_came h earlier (inputs.Publish own event sent) r instance peer header payload is brings = let other = brings.0 in absurd cc
+request_came h earlier (inputs.PublishTo own group to event sent) r instance peer header payload is brings = let other = brings.0 in absurd cc
+request_came h earlier (inputs.Subscribe group) r instance peer header payload is (inl brings) = let other = brings.0 in absurd cc
+request_came h earlier (inputs.Subscribe group) r instance peer header payload is (inr brings) = let other = brings.2 in absurd cc
+request_came h earlier (inputs.Unsubscribe group) r instance peer header payload is (inl brings) = absurd cc
+request_came h earlier (inputs.Unsubscribe group) r instance peer header payload is (inr brings) = let other = brings.2 in absurd cc
+request_came h earlier (inputs.StopOffer own) r instance peer header payload is (inl brings) = absurd cc
+request_came h earlier (inputs.StopOffer own) r instance peer header payload is (inr brings) = let other = brings.0 in absurd cc
 
 module _ (nodes : List SetupNode) (configs : List Config) (ss : List Step) (n : ℕ) (s : Step) (t : Turn nodes configs ss n s) (input : Input) (is : t.deed ≡ Takes input) where
   module _ (payloads : PayloadNumbers) (notes : List NoteKept) (noted : AllZip (IsNoted nodes configs ss payloads) (dispatches_in t.before.lines) notes) where
@@ -100,7 +102,7 @@ module _ (nodes : List SetupNode) (configs : List Config) (ss : List Step) (n : 
           let o = told_output (n + 1) t.place token done.outputs some in
           let by = token_given t.history input done did token o.0 o.1 o.2 o.3 in
           let r = by.holds in
-          let came = request_came t.history by.done.before.state input by.done.by o.0 r.0 r.1 o.2 r.2 by.brought.1 in
+          let came = request_came t.history by.brought.earlier input by.done.by o.0 r.0 r.1 o.2 r.2 by.brought.brings in
           came_up token (record {
             does = record { step = s; turn = t; input = input; takes = is; done = done; happened = did };
             at = refl;

@@ -22,13 +22,13 @@ use Rattle.someip_world_rules.specs.Runs.{AreCopies, World, started_nodes, told_
 use Rattle.someip_world_rules.specs.Turns.{LeadTo, Turn}
 use Rattle.someip_world_rules.specs.declared.line.Line.{Line}
 use Rattle.someip_world_rules.specs.declared.reuse.Reuse.{Reuse}
-use Rattle.someip_world_rules.proofs.OriginLemmas.{all_origins}
+use Rattle.someip_world_rules.proofs.OriginLemmas.{turn_configured}
 use Rattle.someip_world_rules.proofs.TurnLemmas.{AreWithin, ends_in, told_more, told_within, turn_in, went_through}
 use Rattle.someip_world_exchanges.specs.CleanReuse.{Breaks, IsCleanBefore, IsVerdict, IsVerdictOn}
 use Rattle.someip_world_exchanges.specs.KeyOrder.{call_cmp, event_cmp, subscription_cmp}
 use Rattle.someip_world_exchanges.specs.declared.exchange_key.ExchangeKey.{ExchangeKey}
 use Rattle.someip_world_exchanges.specs.declared.exchange_key.ExchangeKey.TheVariants as keys
-use Rattle.someip_world_exchanges.proofs.Fronts.{one_world}
+use Rattle.someip_world_rules.proofs.Fronts.{one_world}
 use Rattle.someip_world_ledger.specs.Books.{Book, LifeKept, breaks_at, new_life, none_taken}
 use Rattle.someip_world_ledger.specs.Booking.{booked}
 use Rattle.someip_world_ledger.specs.Judging.{first_book, judged, judged_from, other_lines, own_lines}
@@ -37,7 +37,7 @@ use Rattle.someip_world_ledger.proofs.CheckLemmas.{breaks_only, breaks_so}
 use Rattle.someip_world_ledger.proofs.GoodCopies.{copies_are_good}
 use Rattle.someip_world_ledger.proofs.JudgingLemmas.{judged_broken, judged_more}
 use Rattle.someip_world_ledger.proofs.Kept.{KeepsTaken, Kept, KnowsOpening}
-use Rattle.someip_world_ledger.proofs.LifeSpans.{below_next}
+use Rattle.someip_world_rules.proofs.Lives.{below_next}
 use Rattle.someip_world_ledger.proofs.RestartSteps.{new_kept}
 use Rattle.someip_world_ledger.proofs.Zipped.{beside_second}
 
@@ -136,7 +136,7 @@ module _ (nodes : List SetupNode) (configs : List Config) (are : AreCopies nodes
 
     -- the node that acts: its configuration is a copy of that of the setup
     configured : slice_get configs turn.place ≡ Some turn.history.config
-    configured = (all_origins nodes configs (take i ss) turn.before turn.led turn.place turn.history turn.stands).configured
+    configured = turn_configured nodes configs ss i s turn
 
     abbrev Acts : Type 0
     Acts = (node : SetupNode) × (slice_get nodes turn.place ≡ Some node) × IsCopy node.config turn.history.config

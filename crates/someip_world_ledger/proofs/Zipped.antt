@@ -1,7 +1,7 @@
 -- Two lists side by side, at one place.
 use Rattle.std.proofs.Common.{◌≡◌, ℕ, zero, suc, List, [], ◌∷◌, slice_get, Some, refl, subst}
 use Rattle.std.specs.List.{AllZip}
-use Rattle.someip_world_exchanges.specs.Deliveries.{Dispatch, dispatch_at, dispatches_in}
+use Rattle.someip_world_rules.specs.Deliveries.{Dispatch, dispatch_at, dispatches_in}
 use Rattle.someip_world_rules.specs.declared.line.Line.{Line}
 use Rattle.someip_world_ledger.specs.Books.{NoteKept, note_at}
 

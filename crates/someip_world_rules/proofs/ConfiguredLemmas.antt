@@ -1,5 +1,5 @@
 -- The endpoint of a known offer is a configured one.
-use Rattle.std.proofs.Common.{◌≡◌, ℕ, true, false, List, [], ◌∷◌, map, take, slice_get, Some, refl, sym, subst}
+use Rattle.std.proofs.Common.{◌≡◌, ℕ, true, false, List, [], ◌∷◌, map, length, arith, slice_get, Some, refl, sym, subst}
 use Rattle.std.specs.List.{AllByRecursion, Contains}
 use Rattle.std.specs.declared.net.socket_addr.SocketAddrV4.{SocketAddrV4}
 use Rattle.someip_tables.specs.declared.lasting.Lasting.{Lasting}
@@ -21,7 +21,7 @@ use Rattle.someip_node_rules.specs.Meanings.{GivenBy, IsTold}
 use Rattle.someip_node_rules.specs.Outputs.{Given, Announces, Sends, Tells, datagram_of, written}
 use Rattle.someip_node_rules.specs.Packets.{Packet, HasServiceEntry}
 use Rattle.someip_node_rules.specs.SeekQuestions.{known_offer_at}
-use Rattle.someip_node_rules.proofs.MemberLemmas.{all_both, all_map, all_take, at_member}
+use Rattle.someip_node_rules.proofs.MemberLemmas.{all_both, all_map, at_member}
 use Rattle.someip_world_schedule.specs.declared.step.Step.{Step}
 use Rattle.someip_world_setup.specs.declared.setup_node.SetupNode.{SetupNode}
 use Rattle.someip_world_rules.specs.Announced.{FitsStep, IsAsConfigured, IsConfigured}
@@ -31,7 +31,8 @@ use Rattle.someip_world_rules.proofs.AnnouncedLemmas.{entry_read, undiscovered}
 use Rattle.someip_world_rules.proofs.FitRunLemmas.{all_given_fits, pieces_undiscovered}
 use Rattle.someip_world_rules.proofs.KnownOfferLemmas.{was_offered}
 use Rattle.someip_world_rules.proofs.OfferLemmas.{announced_own}
-use Rattle.someip_world_rules.proofs.OriginLemmas.{all_origins}
+use Rattle.someip_world_rules.proofs.OriginLemmas.{turn_configured}
+use Rattle.someip_world_rules.proofs.Fronts.{whole_leads}
 
 -- ---- what is given
 
@@ -69,19 +70,18 @@ module _ (nodes : List SetupNode) (configs : List Config) (steps : List Step) (w
   pub as_configured : (place : ℕ) (h : History) (instance : InstanceId) (lasting : Lasting KnownOffer) → slice_get w.histories place ≡ Some h
       → known_offer_at h.items instance ≡ Some lasting → IsAsConfigured configs h instance lasting.value.endpoint
   as_configured place h instance lasting here known =
-      let offer = was_offered nodes configs steps w led place h instance lasting here known in
-      let from = offer.sent in
-      let t = from.turn in
-      let given = all_given_fits nodes configs fit (take offer.i steps) (all_take FitsStep offer.i steps all) from.i from.step t from.input from.given from.takes from.by in
-      let own = by_given offer.packet offer.head lasting.value.endpoint offer.stands offer.offers t.history from.input from.given from.by given from.among in
-      let origins = all_origins nodes configs (take from.i (take offer.i steps)) t.before t.led t.place t.history t.stands in
+      let offer = was_offered nodes configs steps (length steps) w (omega arith) (whole_leads nodes configs steps w led) place h here instance lasting known in
+      let does = offer.sends.does in
+      let t = does.turn in
+      let given = all_given_fits nodes configs fit steps all offer.sent does.step t does.input offer.sends.given does.takes offer.sends.by in
+      let own = by_given offer.packet offer.head lasting.value.endpoint offer.stands offer.offers t.history does.input offer.sends.given offer.sends.by given offer.sends.among in
       record {
         major = offer.head.major;
         wanted = offer.wanted;
         offered = record {
           place = t.place;
           config = t.history.config;
-          here = origins.configured;
+          here = turn_configured nodes configs steps offer.sent does.step t;
           configured = subst (λ q. IsConfigured t.history.config q offer.head.major (Some lasting.value.endpoint)) (sym offer.named) own;
         };
       }

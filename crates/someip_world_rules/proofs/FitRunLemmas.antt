@@ -1,7 +1,7 @@
 -- All that is given in a run fits its fields.
 use Rattle.std.proofs.Common.{◌≡◌, ℕ, zero, suc, ◌+◌, ◌<◌, ◌^◌, Bool, true, false, arith, List, [], ◌∷◌, drop, length, map, take, slice_set, Option, None, Some, Result, Ok, Err, if◌then◌else◌, refl, sym, ap, subst, ◌∙◌}
 use Rattle.std.specs.Prelude.{nat_lt}
-use Rattle.std.specs.List.{AllByRecursion, AllZip, Contains}
+use Rattle.std.specs.List.{AllByRecursion, AllZip, Contains, cons_option}
 use Rattle.std.proofs.lemmas.Bool.{ltb-false}
 use Rattle.std.proofs.lemmas.List.Elements.{filter_map-append}
 use Rattle.std.specs.Net.Addr.{IsIpv4Addr}
@@ -54,8 +54,8 @@ use Rattle.someip_world_rules.specs.Deeds.{Deed, Takes, Restarts, deed_of, deliv
 use Rattle.someip_world_rules.specs.Runs.{AreCopies, World, history_after, told_lines, started_nodes, world_after}
 use Rattle.someip_world_rules.specs.Turns.{LeadTo, Turn}
 use Rattle.someip_world_rules.proofs.AnnouncedLemmas.{announced_fits, only_message, undiscovered, value_read}
-use Rattle.someip_world_rules.proofs.KnownOfferLemmas.{all_got, numbered}
-use Rattle.someip_world_rules.proofs.OriginLemmas.{at_end, datagrams_of_outputs, sends}
+use Rattle.someip_world_rules.proofs.Fronts.{all_got, on_the_way, whole_leads}
+use Rattle.someip_world_rules.proofs.Sendings.{sends}
 
 -- ---- the pieces of a message that is none of Service Discovery
 
@@ -86,6 +86,23 @@ pieces_undiscovered m not = cases (is_long m.payload)
         all_map (λ piece. is_discovery (piece_message piece).header ≡ false) InSegment (segments_of m)
         (segments_undiscovered (length m.payload) (segment_header m.header) 0 m.payload (no_notification (segment_header m.header) (flagged m.header.kind)))
     cases false = (not, tt)
+
+-- ---- datagrams
+
+module _ (P : SentDatagram → Type 0) where
+  datagrams_of_outputs : (index place : ℕ) (outputs : List Output) → AllByRecursion (λ o. (d : SentDatagram) → sent_with o ≡ Some d → P d) outputs
+      → AllByRecursion P (datagrams_in (told_lines index place (Ok outputs)))
+  datagrams_of_outputs index place [] all = tt
+  datagrams_of_outputs index place (o ∷ outputs) all = cases (sent_with o) refl (datagrams_of_outputs index place outputs all.1)
+    where
+      cases : (d : Option SentDatagram) → sent_with o ≡ d → AllByRecursion P (datagrams_in (told_lines index place (Ok outputs)))
+          → AllByRecursion P (cons_option d (datagrams_in (told_lines index place (Ok outputs))))
+      cases None is rest = rest
+      cases (Some d) is rest = (all.0 d is, rest)
+
+  numbered : (lines : List Line) (number : ℕ) (d : SentDatagram) → AllByRecursion P (datagrams_in lines) → datagram_at lines number ≡ Some d → P d
+  numbered lines zero d all is = absurd cc
+  numbered lines (suc n) d all is = all_got P (datagrams_in lines) n d all is
 
 -- ---- what is sent fits as it comes
 
@@ -204,7 +221,7 @@ module _ (nodes : List SetupNode) (configs : List Config) (ss : List Step) (i : 
     by_step input fits (Err refusal) is = (own, tt)
     by_step input fits (Ok done) is = (
       done_fits t.history input own fits done is,
-      datagrams_of_outputs nodes configs ss FitsSent (i + 1) t.place done.outputs
+      datagrams_of_outputs FitsSent (i + 1) t.place done.outputs
           (subst (AllByRecursion (Comes t.history input)) (sym (outputs_written t.history input done is))
           (all_flat_map (Comes t.history input) written (given_by (trail_of t.history input))
           (all_weaker (GivenBy t.history input) (λ g. AllByRecursion (Comes t.history input) (written g))
@@ -229,8 +246,8 @@ module _ (nodes : List SetupNode) (configs : List Config) (ss : List Step) (i : 
 module _ (nodes : List SetupNode) (configs : List Config) (fits : AllByRecursion FitsConfig configs) where
   pub world_fits : (ss : List Step) → AllByRecursion FitsStep ss → (w : World) → LeadTo nodes configs ss w → FitsWorld w
   world_fits ss all w ends =
-      at_end nodes configs ss w FitsWorld ends (started_all nodes configs fits, tt)
-      (λ i s t was. turn_keeps nodes configs ss i s t (all_got FitsStep ss i s all t.here) was)
+      on_the_way nodes configs ss (λ _. FitsWorld) (started_all nodes configs fits, tt)
+      (λ i s t was. turn_keeps nodes configs ss i s t (all_got FitsStep ss i s all t.here) was) (length ss) w (omega arith) (whole_leads nodes configs ss w ends)
 
   pub turn_fits : (ss : List Step) → AllByRecursion FitsStep ss → (i : ℕ) (s : Step) (t : Turn nodes configs ss i s) (input : Input) → t.deed ≡ Takes input
       → FitsHistory t.history × FitsInput input

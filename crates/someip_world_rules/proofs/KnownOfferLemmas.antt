@@ -1,5 +1,5 @@
 -- The offers that nodes know came with datagrams of the run.
-use Rattle.std.proofs.Common.{◌≡◌, inl, inr, ℕ, zero, suc, ◌+◌, Bool, true, false, eqb, not, if◌then◌else◌, List, [], ◌∷◌, take, slice_get, Option, None, Some, Ok, Err, refl, sym, ap, subst, ◌∙◌}
+use Rattle.std.proofs.Common.{◌≡◌, inl, inr, ℕ, ◌+◌, ◌≤◌, length, Bool, true, false, eqb, not, if◌then◌else◌, List, [], ◌∷◌, take, slice_get, Option, None, Some, refl, sym, ap, subst, ◌∙◌}
 use Rattle.std.specs.Prelude.{is_none}
 use Rattle.std.specs.List.{AllByRecursion}
 use Rattle.std.specs.Option.{option_map_or}
@@ -30,19 +30,19 @@ use Rattle.someip_node_rules.specs.Plans.{TakesOffer}
 use Rattle.someip_node_rules.specs.Questions.{clock_at}
 use Rattle.someip_node_rules.specs.SeekQuestions.{known_offer_at, majors_of, offer_from}
 use Rattle.someip_node_rules.specs.declared.config.Config.{Config}
+use Rattle.someip_node_rules.specs.Trails.{Done}
+use Rattle.someip_node_rules.proofs.StepRules.{config_there}
 use Rattle.someip_world_schedule.specs.declared.step.Step.{Step}
-use Rattle.someip_world_schedule.specs.declared.step.Step.TheVariants as steps
 use Rattle.someip_world_setup.specs.declared.setup_node.SetupNode.{SetupNode}
-use Rattle.someip_world_rules.specs.declared.line.Line.{Line}
-use Rattle.someip_world_rules.specs.declared.step_fault.StepFault.{StepFault}
-use Rattle.someip_world_rules.specs.declared.step_fault.StepFault.TheVariants.{BadDelay, ClockPast, NotAddressed, PayloadTooLong}
-use Rattle.someip_world_rules.specs.Datagrams.{SentDatagram, datagram_at, datagrams_in}
-use Rattle.someip_world_rules.specs.Deeds.{Takes, Restarts, deed_of, delivery, is_addressed}
+use Rattle.someip_world_rules.specs.Datagrams.{SentDatagram}
+use Rattle.someip_world_rules.specs.Deeds.{Takes}
 use Rattle.someip_world_rules.specs.KnownOffers.{WasOffered}
-use Rattle.someip_world_rules.specs.Origins.{WasMet, WasSent}
+use Rattle.someip_world_rules.specs.Origins.{HasOrigins, WasMet}
+use Rattle.someip_world_rules.proofs.Deliverings.{delivered_in}
+use Rattle.someip_world_rules.proofs.Sendings.{sent_before}
 use Rattle.someip_world_rules.specs.Runs.{World}
-use Rattle.someip_world_rules.specs.Turns.{LeadTo, Turn}
-use Rattle.someip_world_rules.proofs.OriginLemmas.{all_origins, all_sent, config_kept}
+use Rattle.someip_world_rules.specs.Turns.{LeadTo}
+use Rattle.someip_world_rules.proofs.OriginLemmas.{all_origins, turn_configured}
 
 -- ---- an offer that is known counted
 
@@ -81,73 +81,21 @@ module _ (P : Item → Type 0) (q : InstanceId) (lasting : Lasting KnownOffer) w
 
 -- ---- an Offer that is taken stands in a datagram
 
-offer_came : (h : History) (input : Input) (o : ReceivedOffer) (at : History) → Brings h input (TakesOffer o) at
+offer_came : (h : History) (input : Input) (o : ReceivedOffer) (earlier : List Done) → Brings h input (TakesOffer o) earlier
     → (p : Packet) × (input ≡ inputs.Datagram p.from p.to p.bytes) × OfEntry p (TakesOffer o)
-offer_came h (inputs.Datagram from to bytes) o at m = (record { from = from; to = to; bytes = bytes }, refl, m.1)
-offer_came h (inputs.Tick ms) o at (inl m) = let e = m.0 in absurd cc
-offer_came h (inputs.Tick ms) o at (inr m) = let e = m.1 in absurd cc
-offer_came h (inputs.Call kind instance method payload) o at m = let e = m.0 in absurd cc
-offer_came h (inputs.Answer token reply payload) o at m = let e = m.0 in absurd cc
-offer_came h (inputs.Publish instance event payload) o at m = let e = m.0 in absurd cc
-offer_came h (inputs.PublishTo instance eventgroup endpoint event payload) o at m = let e = m.0 in absurd cc
-offer_came h (inputs.Subscribe eventgroup) o at (inl m) = let e = m.0 in absurd cc
-offer_came h (inputs.Subscribe eventgroup) o at (inr m) = let e = m.2 in absurd cc
-offer_came h (inputs.Unsubscribe eventgroup) o at (inl m) = absurd cc
-offer_came h (inputs.Unsubscribe eventgroup) o at (inr m) = let e = m.2 in absurd cc
-offer_came h (inputs.StopOffer instance) o at (inl m) = absurd cc
-offer_came h (inputs.StopOffer instance) o at (inr m) = let e = m.0 in absurd cc
-
--- ---- a datagram that is delivered was sent
-
-if_taken : (b : Bool) (input other : Input) (fault : StepFault) → (if b then Err fault else Ok (Takes input)) ≡ Ok (Takes other) → input ≡ other
-if_taken true input other fault is = absurd cc
-if_taken false input other fault is = cc
-
-if_restarted : (b : Bool) (delay : ℕ) (other : Input) (fault : StepFault) → (if b then Ok (Restarts delay) else Err fault) ≡ Ok (Takes other) → ⊥
-if_restarted true delay other fault is = absurd cc
-if_restarted false delay other fault is = absurd cc
-
-module _ (h : History) (lines : List Line) (p : Packet) where
-  abbrev Came : Input
-  Came = inputs.Datagram p.from p.to p.bytes
-
-  abbrev WasThere : Type 0
-  WasThere = (number : ℕ) × (datagram_at lines number ≡ Some (record { from = p.from; to = p.to; bytes = p.bytes }))
-
-  if_addressed : (d : SentDatagram) (b : Bool) → (if b then Ok (Takes (inputs.Datagram d.from d.to d.bytes)) else Err NotAddressed) ≡ Ok (Takes Came)
-      → d ≡ record { from = p.from; to = p.to; bytes = p.bytes }
-  if_addressed d true is =
-      let from : d.from ≡ p.from = cc in
-      let to : d.to ≡ p.to = cc in
-      let bytes : d.bytes ≡ p.bytes = cc in
-      λ i. record { from = from i; to = to i; bytes = bytes i }
-  if_addressed d false is = absurd cc
-
-  was_there : (number : ℕ) (d : Option SentDatagram) → datagram_at lines number ≡ d → delivery h.config d ≡ Ok (Takes Came) → WasThere
-  was_there number None e is = absurd cc
-  was_there number (Some d) e is = (number, e ∙ ap Some (if_addressed d (is_addressed h.config d) is))
-
-  delivered : (s : Step) → deed_of h lines s ≡ Ok (Takes Came) → WasThere
-  delivered (steps.Tick node ms) is = let e = if_taken _ (inputs.Tick ms) Came ClockPast is in absurd cc
-  delivered (steps.Deliver number node) is = was_there number (datagram_at lines number) refl is
-  delivered (steps.Call node kind instance method payload) is = let e = if_taken _ (inputs.Call kind instance method payload) Came PayloadTooLong is in absurd cc
-  delivered (steps.Answer node token reply payload) is = let e = if_taken _ (inputs.Answer token reply payload) Came PayloadTooLong is in absurd cc
-  delivered (steps.Publish node instance event payload) is = let e = if_taken _ (inputs.Publish instance event payload) Came PayloadTooLong is in absurd cc
-  delivered (steps.PublishTo node group to event payload) is =
-      let e = if_taken _ (inputs.PublishTo group.instance group.id to event payload) Came PayloadTooLong is in absurd cc
-  delivered (steps.Subscribe node group) is = absurd cc
-  delivered (steps.Unsubscribe node group) is = absurd cc
-  delivered (steps.StopOffer node instance) is = absurd cc
-  delivered (steps.Restart node delay) is = absurd (if_restarted _ delay Came BadDelay is)
-
-pub all_got : {X : Type 0} (P : X → Type 0) (xs : List X) (n : ℕ) (x : X) → AllByRecursion P xs → slice_get xs n ≡ Some x → P x
-all_got P [] n x all is = absurd cc
-all_got P (y ∷ xs) zero x all is = let same : y ≡ x = cc in subst P same all.0
-all_got P (y ∷ xs) (suc n) x all is = all_got P xs n x all.1 is
-
-pub numbered : (P : SentDatagram → Type 0) (lines : List Line) (number : ℕ) (d : SentDatagram) → AllByRecursion P (datagrams_in lines) → datagram_at lines number ≡ Some d → P d
-numbered P lines zero d all is = absurd cc
-numbered P lines (suc n) d all is = all_got P (datagrams_in lines) n d all is
+offer_came h (inputs.Datagram from to bytes) o earlier m = (record { from = from; to = to; bytes = bytes }, refl, m.1)
+offer_came h (inputs.Tick ms) o earlier (inl m) = let e = m.0 in absurd cc
+offer_came h (inputs.Tick ms) o earlier (inr m) = let e = m.1 in absurd cc
+offer_came h (inputs.Call kind instance method payload) o earlier m = let e = m.0 in absurd cc
+offer_came h (inputs.Answer token reply payload) o earlier m = let e = m.0 in absurd cc
+offer_came h (inputs.Publish instance event payload) o earlier m = let e = m.0 in absurd cc
+offer_came h (inputs.PublishTo instance eventgroup endpoint event payload) o earlier m = let e = m.0 in absurd cc
+offer_came h (inputs.Subscribe eventgroup) o earlier (inl m) = let e = m.0 in absurd cc
+offer_came h (inputs.Subscribe eventgroup) o earlier (inr m) = let e = m.2 in absurd cc
+offer_came h (inputs.Unsubscribe eventgroup) o earlier (inl m) = absurd cc
+offer_came h (inputs.Unsubscribe eventgroup) o earlier (inr m) = let e = m.2 in absurd cc
+offer_came h (inputs.StopOffer instance) o earlier (inl m) = absurd cc
+offer_came h (inputs.StopOffer instance) o earlier (inr m) = let e = m.0 in absurd cc
 
 -- ---- an Offer that counts is one of a version that is wanted
 
@@ -164,48 +112,50 @@ wanted_so (Some w) known o is = cases (eqb w o.major) refl is
 
 -- ---- the whole
 
-module _ (nodes : List SetupNode) (configs : List Config) (ss : List Step) where
-  -- what came in a turn was sent before
-  pub sent_before : (i : ℕ) (s : Step) (t : Turn nodes configs ss i s) (p : Packet) → t.deed ≡ Takes (inputs.Datagram p.from p.to p.bytes)
-      → WasSent nodes configs (take i ss) (record { from = p.from; to = p.to; bytes = p.bytes })
-  sent_before i s t p is =
-      let there = delivered t.history t.before.lines p s (t.due ∙ ap Ok is) in
-      numbered (WasSent nodes configs (take i ss)) t.before.lines there.0 (record { from = p.from; to = p.to; bytes = p.bytes })
-      (all_sent nodes configs (take i ss) t.before t.led) there.1
+module _ (nodes : List SetupNode) (configs : List Config) (ss : List Step) (n : ℕ) (w : World) (le : n ≤ length ss) (led : LeadTo nodes configs (take n ss) w)
+    (place : ℕ) (h : History) (here : slice_get w.histories place ≡ Some h) (instance : InstanceId) where
+  origins : HasOrigins nodes configs ss n place h
+  origins = all_origins nodes configs ss n w le led place h here
 
-  module _ (place : ℕ) (h : History) (instance : InstanceId) (endpoint : SocketAddrV4) where
-    counted_so : (o : ReceivedOffer) → instance ≡ o.instance → WasMet nodes configs ss place h (items.OfferCounted o endpoint) → WasOffered nodes configs ss place h instance endpoint
-    counted_so o named was =
-        let by = was.by in
-        let at : History = by.done.before.state in
-        let came = offer_came was.turn.history was.input o at (subst (λ r. Brings was.turn.history was.input r at) by.holds.0 by.brought.1) in
-        let p : Packet = came.0 in
-        let takes : was.turn.deed ≡ Takes (inputs.Datagram p.from p.to p.bytes) = was.takes ∙ ap Takes came.1 in
-        let entry = came.2 in
-        let is = entry.3 in
-        let at_config : at.config ≡ was.turn.history.config = ap (λ x. x.config) by.brought.0.1 ∙ config_kept was.turn.history by.brought.0.0 in
-        let now_config : h.config ≡ was.turn.history.config = ap (λ x. x.config) was.later.1 ∙ config_kept was.turn.history was.later.0 in
-        let version : finite.get (majors_of at.config) o.instance ≡ Some o.major =
-        wanted_so (finite.get (majors_of at.config) o.instance) (known_at (answers_of at).clock (finite.get (answers_of at).seek.known o.instance)) o by.holds.1 in
-        record {
-          i = was.i;
-          step = was.step;
-          turn = was.turn;
-          at = was.at;
-          later = was.later;
-          packet = p;
-          takes = takes;
-          sent = sent_before was.i was.step was.turn p takes;
-          head = entry.0;
-          offers = entry.1;
-          stands = subst (HasServiceEntry p entry.0) by.holds.2 entry.2;
-          named = named ∙ ap (λ x. x.instance) is;
-          wanted = (λ j. finite.get (majors_of ((now_config ∙ sym at_config) j)) (named j)) ∙ version ∙ ap (λ x. Some x.major) is;
-        }
+  counted_so : (endpoint : SocketAddrV4) (o : ReceivedOffer) → instance ≡ o.instance → WasMet nodes configs ss n place (items.OfferCounted o endpoint)
+      → WasOffered nodes configs ss n place h instance endpoint
+  counted_so endpoint o named was =
+      let by = was.by in
+      let does = was.does in
+      let at : History = by.done.before.state in
+      let came = offer_came does.turn.history does.input o by.brought.earlier (subst (λ r. Brings does.turn.history does.input r by.brought.earlier) by.holds.0 by.brought.brings) in
+      let p : Packet = came.0 in
+      let d : SentDatagram = record { from = p.from; to = p.to; bytes = p.bytes } in
+      let deed : does.turn.deed ≡ Takes (inputs.Datagram p.from p.to p.bytes) = does.takes ∙ ap Takes came.1 in
+      let delivered = delivered_in nodes configs ss was.i d does.step does.turn deed in
+      let sent = sent_before nodes configs ss was.i delivered.sent d delivered.delivers in
+      let entry = came.2 in
+      let is = entry.3 in
+      let at_config : at.config ≡ does.turn.history.config = config_there does.turn.history does.input by.done by.among in
+      let both : Some h.config ≡ Some does.turn.history.config = sym origins.configured ∙ ap (slice_get configs) (sym was.at) ∙ turn_configured nodes configs ss was.i does.step does.turn in
+      let now_config : h.config ≡ does.turn.history.config = cc in
+      let version : finite.get (majors_of at.config) o.instance ≡ Some o.major =
+      wanted_so (finite.get (majors_of at.config) o.instance) (known_at (answers_of at).clock (finite.get (answers_of at).seek.known o.instance)) o by.holds.1 in
+      record {
+        i = was.i;
+        before = was.before;
+        does = does;
+        at = was.at;
+        lives = was.lives;
+        packet = p;
+        takes = came.1;
+        sent = delivered.sent;
+        earlier = sent.0;
+        delivers = delivered.delivers;
+        sends = sent.1;
+        head = entry.0;
+        offers = entry.1;
+        stands = subst (HasServiceEntry p entry.0) by.holds.2 entry.2;
+        named = named ∙ ap (λ x. x.instance) is;
+        wanted = (λ j. finite.get (majors_of ((now_config ∙ sym at_config) j)) (named j)) ∙ version ∙ ap (λ x. Some x.major) is;
+      }
 
-  pub was_offered : (w : World) → LeadTo nodes configs ss w → (place : ℕ) (h : History) (instance : InstanceId) (lasting : Lasting KnownOffer)
-      → slice_get w.histories place ≡ Some h → known_offer_at h.items instance ≡ Some lasting → WasOffered nodes configs ss place h instance lasting.value.endpoint
-  was_offered w led place h instance lasting here known =
-      let origins = all_origins nodes configs ss w led place h here in
-      let counted = known_counted (WasMet nodes configs ss place h) instance lasting h.items origins.met known in
-      counted_so place h instance lasting.value.endpoint counted.0 counted.1 counted.2
+  pub was_offered : (lasting : Lasting KnownOffer) → known_offer_at h.items instance ≡ Some lasting → WasOffered nodes configs ss n place h instance lasting.value.endpoint
+  was_offered lasting known =
+      let counted = known_counted (WasMet nodes configs ss n place) instance lasting h.items origins.met known in
+      counted_so lasting.value.endpoint counted.0 counted.1 counted.2

@@ -1,4 +1,8 @@
 pub mod TurnLemmas
+pub mod Fronts
+pub mod Sendings
+pub mod Deliverings
+pub mod Lives
 pub mod OriginLemmas
 pub mod KnownOfferLemmas
 pub mod RunExampleLemmas

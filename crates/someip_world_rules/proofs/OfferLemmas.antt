@@ -1,7 +1,8 @@
 -- The Offers that a node announces are those of its configuration.
 use Rattle.std.proofs.Common.{◌≡◌, inl, inr, ℕ, ◌+◌, true, List, [], ◌∷◌, Option, None, Some, refl, sym, ap, subst, ◌∙◌}
-use Rattle.std.specs.List.{AllByRecursion}
+use Rattle.std.specs.List.{AllByRecursion, Contains}
 use Rattle.std.specs.Option.{option_map_or}
+use Rattle.std.proofs.lemmas.List.Elements.{Contains-append_left}
 use Rattle.std.specs.declared.net.ipv4_addr.Ipv4Addr.{Ipv4Addr}
 use Rattle.std.specs.declared.net.socket_addr.SocketAddrV4.{SocketAddrV4}
 use Rattle.sd_wire.specs.declared.entry.EntryHead.TheVariants.{Service, Eventgroup}
@@ -32,10 +33,11 @@ use Rattle.someip_node_rules.specs.Replies.{IsDue, IsFindOf, IsOfferOf, IsReply,
 use Rattle.someip_node_rules.specs.Sending as sending
 use Rattle.someip_node_rules.specs.Setups.{client_endpoint, offered_as, wanted_as}
 use Rattle.someip_node_rules.specs.Tables.{Tables}
+use Rattle.someip_node_rules.specs.Trails.{Done}
 use Rattle.someip_node_rules.proofs.MemberLemmas.{all_weaker, at_member}
+use Rattle.someip_node_rules.proofs.StepRules.{config_there}
 use Rattle.someip_world_rules.specs.Announced.{IsConfigured}
 use Rattle.someip_world_rules.specs.KnownOffers.{IsAmongAnnounced}
-use Rattle.someip_world_rules.proofs.OriginLemmas.{config_kept}
 
 -- an Offer is of an instance that is configured; other entries are free
 abbrev pub IsOwn : Config → EntryValue → Type 0
@@ -87,7 +89,7 @@ module _ (t : Tables) where
   as_reply : (r : Rule) (e : EntryValue) → IsReply r t e → IsOwn t.config e
   as_reply (TakesFind head) e of = as_offer _ e of
   as_reply (TakesOffer o) e of = as_subscribe _ e of.1
-  as_reply (TakesSubscribe peer head endpoint) e (inl of) = subst (IsOwn t.config) (sym of.1) (ack_own t.config head head.ttl)
+  as_reply (TakesSubscribe peer head endpoint) e (inl of) = subst (IsOwn t.config) (sym of.3) (ack_own t.config head head.ttl)
   as_reply (TakesSubscribe peer head endpoint) e (inr of) = subst (IsOwn t.config) (sym of.2) (ack_own t.config head 0)
   as_reply r e of = absurd of
 
@@ -111,65 +113,71 @@ module _ (h : History) where
   abbrev Own : List EntryValue → Type 0
   Own entries = AllByRecursion (IsOwn h.config) entries
 
-  replied_own : (p : Packet) (e : EntryValue) → RepliesToEntry h p e → IsOwn h.config e
-  replied_own p e reply =
-      let at_config : reply.at.config ≡ h.config = ap (λ x. x.config) reply.later.1 ∙ config_kept h reply.later.0 in
-      subst (λ c. IsOwn c e) at_config (as_reply (answers_of reply.at) reply.by e reply.says)
+  -- rules were done at histories of this configuration
+  abbrev Keep : List Done → Type 0
+  Keep earlier = (done : Done) → Contains earlier done → done.before.state.config ≡ h.config
 
-  group_own : (input : Input) (own : List EntryValue) (at : History) → Brings h input (Announces own) at → Own own
-  group_own (inputs.Datagram from to bytes) own at m = absurd m.1
-  group_own (inputs.Tick ms) own at (inl m) = let e = m.0 in absurd cc
-  group_own (inputs.Tick ms) own at (inr m) =
+  replied_own : (p : Packet) (earlier : List Done) → Keep earlier → (e : EntryValue) → RepliesToEntry p earlier e → IsOwn h.config e
+  replied_own p earlier keep e reply =
+      subst (λ c. IsOwn c e) (keep reply.done reply.among) (as_reply (answers_of reply.done.before.state) reply.done.by e reply.says)
+
+  group_own : (input : Input) (own : List EntryValue) (earlier : List Done) → Brings h input (Announces own) earlier → Own own
+  group_own (inputs.Datagram from to bytes) own earlier m = absurd m.1
+  group_own (inputs.Tick ms) own earlier (inl m) = let e = m.0 in absurd cc
+  group_own (inputs.Tick ms) own earlier (inr m) =
       let r = m.1 in
       let same : own ≡ m.0 = cc in
       subst Own (sym same) (all_weaker (IsDue ((answers_of h).clock + ms) (answers_of h)) (IsOwn h.config) (as_due (answers_of h) ((answers_of h).clock + ms)) m.0 m.2)
-  group_own (inputs.Call kind instance method payload) own at m = let e = m.0 in absurd cc
-  group_own (inputs.Answer token reply payload) own at m = let e = m.0 in absurd cc
-  group_own (inputs.Publish instance event payload) own at m = let e = m.0 in absurd cc
-  group_own (inputs.PublishTo instance eventgroup endpoint event payload) own at m = let e = m.0 in absurd cc
-  group_own (inputs.Subscribe eventgroup) own at (inl m) = let e = m.0 in absurd cc
-  group_own (inputs.Subscribe eventgroup) own at (inr m) = let e = m.2 in absurd cc
-  group_own (inputs.Unsubscribe eventgroup) own at (inl m) = absurd cc
-  group_own (inputs.Unsubscribe eventgroup) own at (inr m) = let e = m.2 in absurd cc
-  group_own (inputs.StopOffer instance) own at (inl m) = absurd cc
-  group_own (inputs.StopOffer instance) own at (inr m) =
+  group_own (inputs.Call kind instance method payload) own earlier m = let e = m.0 in absurd cc
+  group_own (inputs.Answer token reply payload) own earlier m = let e = m.0 in absurd cc
+  group_own (inputs.Publish instance event payload) own earlier m = let e = m.0 in absurd cc
+  group_own (inputs.PublishTo instance eventgroup endpoint event payload) own earlier m = let e = m.0 in absurd cc
+  group_own (inputs.Subscribe eventgroup) own earlier (inl m) = let e = m.0 in absurd cc
+  group_own (inputs.Subscribe eventgroup) own earlier (inr m) = let e = m.2 in absurd cc
+  group_own (inputs.Unsubscribe eventgroup) own earlier (inl m) = absurd cc
+  group_own (inputs.Unsubscribe eventgroup) own earlier (inr m) = let e = m.2 in absurd cc
+  group_own (inputs.StopOffer instance) own earlier (inl m) = absurd cc
+  group_own (inputs.StopOffer instance) own earlier (inr m) =
       let r = m.0 in
       let same : own ≡ stop_offer_of (answers_of h) instance = cc in
       subst Own (sym same) (stop_own (answers_of h) instance (offered_as h.config instance) refl)
 
-  peer_own : (input : Input) (peer : Ipv4Addr) (own : List EntryValue) (at : History) → Brings h input (RepliesTo peer own) at → Own own
-  peer_own (inputs.Datagram from to bytes) peer own at m =
-      all_weaker (RepliesToEntry h (record { from = from; to = to; bytes = bytes })) (IsOwn h.config) (replied_own (record { from = from; to = to; bytes = bytes })) own m.1
-  peer_own (inputs.Tick ms) peer own at (inl m) = let e = m.0 in absurd cc
-  peer_own (inputs.Tick ms) peer own at (inr m) = let e = m.1 in absurd cc
-  peer_own (inputs.Call kind instance method payload) peer own at m = let e = m.0 in absurd cc
-  peer_own (inputs.Answer token reply payload) peer own at m = let e = m.0 in absurd cc
-  peer_own (inputs.Publish instance event payload) peer own at m = let e = m.0 in absurd cc
-  peer_own (inputs.PublishTo instance eventgroup endpoint event payload) peer own at m = let e = m.0 in absurd cc
-  peer_own (inputs.Subscribe eventgroup) peer own at (inl m) = let e = m.0 in absurd cc
-  peer_own (inputs.Subscribe eventgroup) peer own at (inr m) =
+  peer_own : (input : Input) (peer : Ipv4Addr) (own : List EntryValue) (earlier : List Done) → Keep earlier → Brings h input (RepliesTo peer own) earlier → Own own
+  peer_own (inputs.Datagram from to bytes) peer own earlier keep m =
+      all_weaker (RepliesToEntry (record { from = from; to = to; bytes = bytes }) earlier) (IsOwn h.config) (replied_own (record { from = from; to = to; bytes = bytes }) earlier keep) own m.1
+  peer_own (inputs.Tick ms) peer own earlier keep (inl m) = let e = m.0 in absurd cc
+  peer_own (inputs.Tick ms) peer own earlier keep (inr m) = let e = m.1 in absurd cc
+  peer_own (inputs.Call kind instance method payload) peer own earlier keep m = let e = m.0 in absurd cc
+  peer_own (inputs.Answer token reply payload) peer own earlier keep m = let e = m.0 in absurd cc
+  peer_own (inputs.Publish instance event payload) peer own earlier keep m = let e = m.0 in absurd cc
+  peer_own (inputs.PublishTo instance eventgroup endpoint event payload) peer own earlier keep m = let e = m.0 in absurd cc
+  peer_own (inputs.Subscribe eventgroup) peer own earlier keep (inl m) = let e = m.0 in absurd cc
+  peer_own (inputs.Subscribe eventgroup) peer own earlier keep (inr m) =
       let r = m.2 in
       let same : own ≡ wish_entries eventgroup (answers_of h) = cc in
       subst Own (sym same) (wish_own (answers_of h) eventgroup _)
-  peer_own (inputs.Unsubscribe eventgroup) peer own at (inl m) = absurd cc
-  peer_own (inputs.Unsubscribe eventgroup) peer own at (inr m) =
+  peer_own (inputs.Unsubscribe eventgroup) peer own earlier keep (inl m) = absurd cc
+  peer_own (inputs.Unsubscribe eventgroup) peer own earlier keep (inr m) =
       let r = m.2 in
       let same : own ≡ stop_subscribe_of (answers_of h) eventgroup m.0.counter = cc in
       subst Own (sym same) (wanted_own (answers_of h) eventgroup (λ w. 0) m.0.counter (wanted_as h.config eventgroup.instance))
-  peer_own (inputs.StopOffer instance) peer own at (inl m) = absurd cc
-  peer_own (inputs.StopOffer instance) peer own at (inr m) = let e = m.0 in absurd cc
+  peer_own (inputs.StopOffer instance) peer own earlier keep (inl m) = absurd cc
+  peer_own (inputs.StopOffer instance) peer own earlier keep (inr m) = let e = m.0 in absurd cc
 
-  rule_own : (input : Input) (r : Rule) (at : History) (t : Tables) (from to : SocketAddrV4) (stamp : Stamp) (entries : List EntryValue) → Brings h input r at
+  rule_own : (input : Input) (r : Rule) (earlier : List Done) (t : Tables) (from to : SocketAddrV4) (stamp : Stamp) (entries : List EntryValue) → Keep earlier → Brings h input r earlier
       → sending.IsAnnounced r t from to stamp entries → Own entries
-  rule_own input (Announces own) at t from to stamp entries brings says = subst Own (sym says.3) (group_own input own at brings)
-  rule_own input (RepliesTo peer own) at t from to stamp entries brings says = subst Own (sym says.3) (peer_own input peer own at brings)
-  rule_own input r at t from to stamp entries brings says = absurd says
+  rule_own input (Announces own) earlier t from to stamp entries keep brings says = subst Own (sym says.3) (group_own input own earlier brings)
+  rule_own input (RepliesTo peer own) earlier t from to stamp entries keep brings says = subst Own (sym says.3) (peer_own input peer own earlier keep brings)
+  rule_own input r earlier t from to stamp entries keep brings says = absurd says
 
 pub announced_own : (h : History) (input : Input) (from to : SocketAddrV4) (stamp : Stamp) (entries : List EntryValue) → GivenBy h input (outputs.Announces from to stamp entries)
     → (head : ServiceEntry) (endpoint : Option SocketAddrV4) → IsAmongAnnounced entries head endpoint → is_offer head ≡ true
     → IsConfigured h.config (record { service = head.service; instance = head.instance }) head.major endpoint
 announced_own h input from to stamp entries given head endpoint announced offers =
-    let all = rule_own h input given.done.by given.done.before.state (answers_of given.done.before.state) from to stamp entries given.brought.1 given.holds in
+    let was = given.brought in
+    let keep : Keep h was.earlier = λ done before.
+    config_there h input done (subst (λ dones. Contains dones done) (sym was.trail) (Contains-append_left was.earlier (given.done ∷ was.later) done before)) in
+    let all = rule_own h input given.done.by was.earlier (answers_of given.done.before.state) from to stamp entries keep was.brings given.holds in
     let own = at_member (IsOwn h.config) entries announced.0 all announced.1 in
     let one = own head announced.2 offers in
     subst (IsConfigured h.config (record { service = head.service; instance = head.instance }) head.major) (sym announced.3) one

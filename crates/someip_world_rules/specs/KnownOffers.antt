@@ -1,5 +1,5 @@
 -- Where the offers come from that nodes know.
-use Rattle.std.specs.Prelude.{◌≡◌, ℕ, IsTrue, List, Option, Some, take}
+use Rattle.std.specs.Prelude.{◌≡◌, ◌<◌, ℕ, IsTrue, List, Option, Some}
 use Rattle.std.specs.List.{Contains}
 use Rattle.std.specs.FinMap as finite
 use Rattle.std.specs.declared.net.socket_addr.SocketAddrV4.{SocketAddrV4}
@@ -13,26 +13,26 @@ use Rattle.someip_node_rules.specs.History.{History}
 use Rattle.someip_node_rules.specs.Inputs.{Datagram}
 use Rattle.someip_node_rules.specs.Packets.{Packet, HasServiceEntry}
 use Rattle.someip_node_rules.specs.SeekQuestions.{majors_of}
-use Rattle.someip_node_rules.specs.Trails.{IsLater}
 use Rattle.someip_node_rules.specs.declared.config.Config.{Config}
 use Rattle.someip_world_schedule.specs.declared.step.Step.{Step}
 use Rattle.someip_world_setup.specs.declared.setup_node.SetupNode.{SetupNode}
-use Rattle.someip_world_rules.specs.Deeds.{Takes}
-use Rattle.someip_world_rules.specs.Origins.{WasSent}
-use Rattle.someip_world_rules.specs.Turns.{Turn}
+use Rattle.someip_world_rules.specs.Deliveries.{Delivers, Does, LivesOn, Sends}
 
--- An instance was offered at an endpoint to the node at a place, in its present life before a history: in a step of the run a
--- datagram came to it with an Offer of the instance, in the major version in which the node wants it, whose first endpoint
--- over UDP is that. The datagram was sent in a step before that one
-pub record WasOffered (nodes : List SetupNode) (configs : List Config) (steps : List Step) (place : ℕ) (h : History) (instance : InstanceId) (endpoint : SocketAddrV4) : Type 0 where
+-- An instance was offered at an endpoint to the node at a place in one of the first steps, in the life that it has after
+-- these, in which its history is this: the step delivered a datagram with an Offer of the instance, in the major version in
+-- which the node wants it, whose first endpoint over UDP is that. An earlier step sent the datagram
+pub record WasOffered (nodes : List SetupNode) (configs : List Config) (steps : List Step) (n : ℕ) (place : ℕ) (h : History) (instance : InstanceId) (endpoint : SocketAddrV4) : Type 0 where
   pub i : ℕ
-  pub step : Step
-  pub turn : Turn nodes configs steps i step
-  pub at : turn.place ≡ place
-  pub later : IsLater turn.history h
+  pub before : i < n
+  pub does : Does nodes configs steps i
+  pub at : does.turn.place ≡ place
+  pub lives : LivesOn nodes configs steps place i n
   pub packet : Packet
-  pub takes : turn.deed ≡ Takes (Datagram packet.from packet.to packet.bytes)
-  pub sent : WasSent nodes configs (take i steps) (record { from = packet.from; to = packet.to; bytes = packet.bytes })
+  pub takes : does.input ≡ Datagram packet.from packet.to packet.bytes
+  pub sent : ℕ
+  pub earlier : sent < i
+  pub delivers : Delivers nodes configs steps i sent (record { from = packet.from; to = packet.to; bytes = packet.bytes })
+  pub sends : Sends nodes configs steps sent (record { from = packet.from; to = packet.to; bytes = packet.bytes })
   pub head : ServiceEntry
   pub offers : IsTrue (is_offer head)
   pub stands : HasServiceEntry packet head (Some endpoint)

@@ -2,6 +2,7 @@ pub mod Datagrams
 pub mod Deeds
 pub mod Runs
 pub mod Turns
+pub mod Deliveries
 pub mod Origins
 pub mod KnownOffers
 pub mod RunExamples

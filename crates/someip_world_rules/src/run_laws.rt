@@ -1,6 +1,6 @@
 //! Laws of every run, whatever its nodes, configurations and steps. Each is the contract of a function
 //! that does nothing.
-ghost use Rattle.std.specs.Prelude.{◌≡◌, ◌≢◌, true, ◌<◌, ◌^◌, ℕ, List, [], ◌∷◌, Option, Some, Ok, slice_get, take};
+ghost use Rattle.std.specs.Prelude.{◌≡◌, ◌≢◌, true, ◌<◌, ◌≤◌, ◌^◌, ℕ, List, length, [], ◌∷◌, Option, Some, Ok, slice_get, take};
 ghost use Rattle.std.specs.List.{AllByRecursion};
 ghost use Rattle.std.specs.declared.net.socket_addr.SocketAddrV4.{SocketAddrV4};
 ghost use Rattle.someip_wire.specs.Spelling.{Fits, MessageValue, spelling};
@@ -25,6 +25,7 @@ ghost use Rattle.someip_node_rules.specs.Fitting.{FitsConfig};
 ghost use Rattle.someip_node_rules.specs.History.{History};
 ghost use Rattle.someip_node_rules.specs.Inputs as inputs;
 ghost use Rattle.someip_node_rules.specs.Inputs.{Input};
+ghost use Rattle.someip_node_rules.specs.Items.{Item};
 ghost use Rattle.someip_node_rules.specs.Meanings.{GivenBy};
 ghost use Rattle.someip_node_rules.specs.Published.{IsPublished, IsPublishedTo, publication};
 ghost use Rattle.someip_world_schedule.specs.declared.step.Step.{Step};
@@ -34,8 +35,8 @@ ghost use Rattle.someip_world_rules.specs.declared.line.Line.{Line};
 ghost use Rattle.someip_world_rules.specs.Turns.{IsOfRun, LeadTo, TakesIt, ToldTurn};
 ghost use Rattle.sd_wire.specs.Kinds.{is_offer};
 ghost use Rattle.someip_world_rules.specs.Announced.{AllFits, FitNodes, FitsStep, IsConfigured, KnowsAsConfigured};
-ghost use Rattle.someip_world_rules.specs.Datagrams.{datagrams_in};
-ghost use Rattle.someip_world_rules.specs.Origins.{HasOrigins, WasSent};
+ghost use Rattle.someip_world_rules.specs.Deliveries.{Restarted, dispatches_in};
+ghost use Rattle.someip_world_rules.specs.Origins.{HasOrigins, WasMet, WasSent};
 ghost use Rattle.someip_world_rules.specs.RunExamples.{CanPublish, GivesJust, subscribed_for};
 ghost use Rattle.someip_world_rules.specs.Runs.{AreCopies, IsRun, World, run_of};
 ghost use Rattle.someip_world_rules.specs.declared.trace.Trace.{Trace};
@@ -74,31 +75,46 @@ pub fn publications_go_to_each_live_endpoint_once()
         (λ h done. IsPublishedTo h group.instance group.id to event payload done) }
 {}
 
-/// Each datagram of a run was sent in a step of it, in which a node took an input: a rule that this input
-/// brings about gave the message whose datagram it is, at the history of that node.
+/// Each datagram that is told of after some steps of a run was sent by the step whose line tells of it, in
+/// which a node took an input and did not refuse it: a rule that this input brings about gave the message
+/// whose datagram it is, at the history of that node.
 pub fn each_datagram_was_given_by_a_rule()
-    ensures { (nodes : List SetupNode) (configs : List Config) (steps : List Step) (w : World)
-        → LeadTo nodes configs steps w
-        → AllByRecursion (WasSent nodes configs steps) (datagrams_in w.lines) }
+    ensures { (nodes : List SetupNode) (configs : List Config) (steps : List Step) (n : ℕ) (w : World)
+        → n ≤ length steps → LeadTo nodes configs (take n steps) w
+        → AllByRecursion (WasSent nodes configs steps n) (dispatches_in w.lines) }
 {}
 
-/// The node at a place has its configuration in every world that a run leads to, and each item that it
-/// met in its present life was met in a step of the run at that place, by a rule that the step's input
-/// brings about.
+/// The node at a place has its configuration after any number of the steps of a run, and each item of its
+/// history was met in one of these steps at that place, by a rule that the step's input brings about, which
+/// was not refused. Since that step the node was not started again.
 pub fn each_item_was_met_by_a_rule()
-    ensures { (nodes : List SetupNode) (configs : List Config) (steps : List Step) (w : World)
-        → LeadTo nodes configs steps w → (place : ℕ) (h : History)
-        → slice_get w.histories place ≡ Some h → HasOrigins nodes configs steps place h }
+    ensures { (nodes : List SetupNode) (configs : List Config) (steps : List Step) (n : ℕ) (w : World)
+        → n ≤ length steps → LeadTo nodes configs (take n steps) w → (place : ℕ) (h : History)
+        → slice_get w.histories place ≡ Some h → HasOrigins nodes configs steps n place h }
 {}
 
-/// An offer that a node knows in a run came with an Offer entry of a datagram that was sent before, in the
-/// node's present life: for the instance, in the major version that the node wants, with that endpoint.
+/// An offer that a node knows after some steps of a run came with an Offer entry of a datagram that one of
+/// these steps delivered to it, and since then it was not started again: for the instance, in the major
+/// version that the node wants, with that endpoint. An earlier step sent the datagram.
 pub fn known_offers_were_sent()
-    ensures { (nodes : List SetupNode) (configs : List Config) (steps : List Step) (w : World)
-        → LeadTo nodes configs steps w → (place : ℕ) (h : History) (instance : InstanceId)
-        (lasting : Lasting KnownOffer) → slice_get w.histories place ≡ Some h
-        → known_offer_at h.items instance ≡ Some lasting
-        → WasOffered nodes configs steps place h instance lasting.value.endpoint }
+    ensures { (nodes : List SetupNode) (configs : List Config) (steps : List Step) (n : ℕ) (w : World)
+        → n ≤ length steps → LeadTo nodes configs (take n steps) w → (place : ℕ) (h : History)
+        (instance : InstanceId) (lasting : Lasting KnownOffer)
+        → slice_get w.histories place ≡ Some h → known_offer_at h.items instance ≡ Some lasting
+        → WasOffered nodes configs steps n place h instance lasting.value.endpoint }
+{}
+
+/// A node that is started again begins another life, however alike the two go on: what it met in the life
+/// that it has after some steps of a run was met after each step that started it again, and so was each
+/// offer that it knows.
+pub fn lives_begin_with_a_restart()
+    ensures met { (nodes : List SetupNode) (configs : List Config) (steps : List Step) (n place : ℕ)
+        (item : Item) (was : WasMet nodes configs steps n place item) (j : ℕ) → j < n
+        → Restarted nodes configs steps j place → j < was.i }
+    ensures offered { (nodes : List SetupNode) (configs : List Config) (steps : List Step)
+        (n place : ℕ) (h : History) (instance : InstanceId) (endpoint : SocketAddrV4)
+        (was : WasOffered nodes configs steps n place h instance endpoint) (j : ℕ) → j < n
+        → Restarted nodes configs steps j place → j < was.i }
 {}
 
 /// Example: a server that accepted a Subscribe with a TTL of 3 seconds. An event that it publishes 2999

@@ -1,4 +1,4 @@
-use Rattle.someip_world_rules.proofs.OriginLemmas.{all_sent}
+use Rattle.someip_world_rules.proofs.Sendings.{all_sent}
 use Rattle.someip_world_rules.proofs.run_laws.each_datagram_was_given_by_a_rule.Goals as goal
 
 pub returns : goal.returns

@@ -1,5 +1,7 @@
 -- What each step keeps holds on the way of a run; and a step of a front of a schedule is a step of the schedule.
-use Rattle.std.proofs.Common.{◌≡◌, ℕ, zero, suc, ◌+◌, ◌<◌, ◌≤◌, List, [], ◌∷◌, length, arith, take, slice_get, Some, Ok, refl, sym, ap, subst, ◌∙◌}
+use Rattle.std.proofs.Common.{◌≡◌, ◌≢◌, ℕ, zero, suc, ◌+◌, ◌<◌, ◌≤◌, List, [], ◌∷◌, length, arith, take, slice_get, slice_set, Some, Ok, refl, sym, ap, subst, ◌∙◌}
+use Rattle.std.specs.List.{AllByRecursion}
+use Rattle.std.proofs.lemmas.List.{take_all}
 use Rattle.someip_node_rules.specs.declared.config.Config.{Config}
 use Rattle.someip_world_schedule.specs.declared.step.Step.{Step}
 use Rattle.someip_world_setup.specs.declared.setup_node.SetupNode.{SetupNode}
@@ -38,6 +40,24 @@ take_less xs (suc i) zero le = absurd (omega (arith, le))
 take_less [] (suc i) (suc k) le = refl
 take_less (x ∷ xs) (suc i) (suc k) le = ap (λ ys. x ∷ ys) (take_less xs i k (omega (arith, le)))
 
+pub all_got : {X : Type 0} (P : X → Type 0) (xs : List X) (n : ℕ) (x : X) → AllByRecursion P xs → slice_get xs n ≡ Some x → P x
+all_got P [] n x all is = absurd cc
+all_got P (y ∷ xs) zero x all is = let same : y ≡ x = cc in subst P same all.0
+all_got P (y ∷ xs) (suc n) x all is = all_got P xs n x all.1 is
+
+-- a place of a list that is set, and each other
+pub get_set_same : {X : Type 0} (xs : List X) (k : ℕ) (x y : X) → slice_get (slice_set xs k x) k ≡ Some y → y ≡ x
+get_set_same [] k x y is = absurd cc
+get_set_same (z ∷ xs) zero x y is = cc
+get_set_same (z ∷ xs) (suc k) x y is = get_set_same xs k x y is
+
+pub get_set_other : {X : Type 0} (xs : List X) (k j : ℕ) (x : X) → j ≢ k → slice_get (slice_set xs k x) j ≡ slice_get xs j
+get_set_other [] k j x ne = refl
+get_set_other (z ∷ xs) zero zero x ne = absurd (ne refl)
+get_set_other (z ∷ xs) zero (suc j) x ne = refl
+get_set_other (z ∷ xs) (suc k) zero x ne = refl
+get_set_other (z ∷ xs) (suc k) (suc j) x ne = get_set_other xs k j x (λ e. ne (ap suc e))
+
 -- ---- steps
 
 module _ (nodes : List SetupNode) (configs : List Config) (steps : List Step) where
@@ -63,6 +83,10 @@ module _ (nodes : List SetupNode) (configs : List Config) (steps : List Step) wh
   pub widened_deed : (k i : ℕ) (s : Step) (t : Turn nodes configs (take k steps) i s) → (widened k i s t).deed ≡ t.deed
   unfolding widened
   widened_deed k i s t = refl
+
+  -- a world at the end is one on the way, after all steps
+  pub whole_leads : (w : World) → LeadTo nodes configs steps w → LeadTo nodes configs (take (length steps) steps) w
+  whole_leads w led = subst (λ ss. LeadTo nodes configs ss w) (sym (take_all (length steps) steps (omega arith))) led
 
   pub one_world : (ss : List Step) (v w : World) → LeadTo nodes configs ss v → LeadTo nodes configs ss w → v ≡ w
   one_world ss v w a b = let same : Ok v ≡ Ok w = sym a ∙ b in cc

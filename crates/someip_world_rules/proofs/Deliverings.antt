@@ -16,9 +16,10 @@ use Rattle.someip_world_rules.specs.Datagrams.{SentDatagram, datagram_at, datagr
 use Rattle.someip_world_rules.specs.Deeds.{Takes, Restarts, deed_of, delivery, is_addressed}
 use Rattle.someip_world_rules.specs.Runs.{place_of}
 use Rattle.someip_world_rules.specs.Turns.{Turn}
-use Rattle.someip_world_exchanges.specs.Deliveries.{Delivers, dispatch_at, dispatches_in}
-use Rattle.someip_world_exchanges.proofs.Fronts.{one_world, within}
-use Rattle.someip_world_exchanges.proofs.Sendings.{WasDispatched, all_dispatched, one_dispatched}
+use Rattle.someip_world_rules.specs.Origins.{WasSent}
+use Rattle.someip_world_rules.specs.Deliveries.{Delivers, dispatch_at, dispatches_in}
+use Rattle.someip_world_rules.proofs.Fronts.{one_world, within}
+use Rattle.someip_world_rules.proofs.Sendings.{all_sent, one_sent}
 
 -- ---- a step at which a node takes a datagram
 
@@ -74,8 +75,8 @@ module _ (nodes : List SetupNode) (configs : List Config) (ss : List Step) (n : 
       let same = both.1 in
       let there = told_as t.before.lines number d (at ∙ ap Some same) in
       let inside = within ss n _ t.here in
-      let was = one_dispatched nodes configs ss (WasDispatched nodes configs ss n) t.before.lines number (record { step = there.0; datagram = d })
-      (all_dispatched nodes configs ss n t.before (omega (arith, inside)) t.led) there.1 in
+      let was = one_sent nodes configs ss (WasSent nodes configs ss n) t.before.lines number (record { step = there.0; datagram = d })
+      (all_sent nodes configs ss n t.before (omega (arith, inside)) t.led) there.1 in
       record {
         sent = was.i;
         delivers = record { number = number; node = node; turn = t; numbered = there.1 ∙ ap (λ k. Some (record { step = k; datagram = d })) was.index };
