@@ -38,3 +38,8 @@ pub mod MixedTests
 pub mod MixedChecks
 pub mod CheckLemmas
 pub mod VerdictLemmas
+pub mod WorkedSteps
+pub mod LateAnswers
+pub mod OldErrors
+pub mod OldOneways
+pub mod WorkedVerdicts
