@@ -42,4 +42,6 @@ pub mod WorkedSteps
 pub mod LateAnswers
 pub mod OldErrors
 pub mod OldOneways
+pub mod OldSubscribes
+pub mod MixedAnswers
 pub mod WorkedVerdicts

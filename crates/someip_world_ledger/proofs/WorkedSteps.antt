@@ -54,7 +54,7 @@ abbrev pub kept : TakenKeys → List NoteKept → FinMap nat_cmp ℕ → Book
 kept taken notes tokens = record { taken = taken; notes = notes; lives = life_with tokens ∷ new_life ∷ []; payloads = finite.empty }
 
 -- what stands under the key, and under a token, is what was put there last
-taken_last : (taken : TakenKeys) (method step : ℕ) → taken_at (taken_by method step taken) (keys.Call (called method)) ≡ Some step
+pub taken_last : (taken : TakenKeys) (method step : ℕ) → taken_at (taken_by method step taken) (keys.Call (called method)) ≡ Some step
 taken_last taken method step =
     get-insert calls_total taken.calls (called method) step (called method)
     ∙ ap (λ b. cond b (Some step) (finite.get taken.calls (called method))) (own_test calls_total (called method))

@@ -9,7 +9,7 @@ use Rattle.someip_world_rules.specs.declared.reuse.Reuse.{Reuse}
 use Rattle.someip_world_rules.proofs.FitRunLemmas.{all_given_fits, copies_fit}
 use Rattle.someip_world_exchanges.specs.CleanReuse.{IsVerdictOn}
 use Rattle.someip_world_ledger.specs.Judging.{judged}
-use Rattle.someip_world_ledger.specs.VerdictExamples.{IsOfTwo, answered_late, refused_twice, sent_twice}
+use Rattle.someip_world_ledger.specs.VerdictExamples.{IsOfTwo, answered_late, answered_twice, refused_twice, sent_twice, subscribed_twice}
 use Rattle.someip_world_ledger.proofs.VerdictLemmas.{verdict_so}
 
 -- a verdict that is computed over two nodes
@@ -29,3 +29,9 @@ twice_fits number node = (tt, (tt, ((omega arith, omega arith), (tt, (tt, (tt, (
 
 pub sent_fits : (number : ℕ) (node : List ℕ) → AllByRecursion FitsStep (sent_twice number node)
 sent_fits number node = (tt, (tt, ((omega arith, omega arith), (tt, (tt, ((omega arith, omega arith), (tt, tt)))))))
+
+pub mixed_fits : (more : List Step) → AllByRecursion FitsStep more → AllByRecursion FitsStep (answered_twice more)
+mixed_fits more fit = (tt, (tt, ((omega arith, omega arith), (tt, (tt, (omega arith, (omega arith, (tt, fit))))))))
+
+pub subscribed_fits : (number : ℕ) (node : List ℕ) → AllByRecursion FitsStep (subscribed_twice number node)
+subscribed_fits number node = (tt, (tt, (omega arith, (tt, (tt, (tt, (omega arith, (tt, tt))))))))
