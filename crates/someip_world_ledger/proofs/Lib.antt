@@ -38,3 +38,10 @@ pub mod MixedTests
 pub mod MixedChecks
 pub mod CheckLemmas
 pub mod VerdictLemmas
+pub mod WorkedSteps
+pub mod LateAnswers
+pub mod OldErrors
+pub mod OldOneways
+pub mod OldSubscribes
+pub mod MixedAnswers
+pub mod WorkedVerdicts

@@ -5,3 +5,4 @@ pub mod Books
 pub mod Booking
 pub mod Judging
 pub mod Views
+pub mod VerdictExamples

@@ -1,12 +1,14 @@
 //! What is kept of a run beside its nodes, to judge whether it reuses the keys of its exchanges cleanly.
 //!
 //! - [`verdict_on`]: the first step of a run that breaks clean reuse, if one does;
+//! - [`example_laws`]: verdicts by example;
 //! - `ledger` keeps it, `booking` says how a step changes it, and `breach` what breaks clean reuse.
 #![tactic(auto)]
 
 mod booking;
 mod breach;
 mod content;
+pub mod example_laws;
 mod ledger;
 mod life;
 mod note;
