@@ -24,15 +24,15 @@ use Rattle.someip_world_rules.proofs.Fronts.{get_set_other, get_set_same}
 use Rattle.someip_world_rules.specs.Deliveries.{dispatch_in, dispatches_in}
 use Rattle.someip_world_ledger.specs.Books.{Book, LifeKept, PayloadNumbers}
 use Rattle.someip_world_ledger.specs.Booking.{Openings, answered_in, booked, is_refused, life_after, long_payload_of, notes_of, number_of, numbered, openings_after}
-use Rattle.someip_world_ledger.proofs.KeySteps.{counters_kept, taken_kept}
+use Rattle.someip_world_ledger.proofs.keeping.KeySteps.{counters_kept, taken_kept}
 use Rattle.someip_world_ledger.proofs.Kept.{IsNoted, KeepsLife, KeepsTaken, Kept, PayloadsGrow}
-use Rattle.someip_world_ledger.proofs.LifeSpans.{other_life}
-use Rattle.someip_world_ledger.proofs.LifeSteps.{refused_life}
-use Rattle.someip_world_ledger.proofs.NoteSteps.{notes_kept}
-use Rattle.someip_world_ledger.proofs.NumberSteps.{numbers_kept, numbers_stay}
-use Rattle.someip_world_ledger.proofs.RestartSteps.{restarted_life}
-use Rattle.someip_world_ledger.proofs.TakenLives.{taken_life}
-use Rattle.someip_world_ledger.proofs.TakenSteps.{counters_restarted, taken_refused, taken_restarted}
+use Rattle.someip_world_ledger.proofs.lives.LifeSpans.{other_life}
+use Rattle.someip_world_ledger.proofs.lives.LifeSteps.{refused_life}
+use Rattle.someip_world_ledger.proofs.noting.NoteSteps.{notes_kept}
+use Rattle.someip_world_ledger.proofs.noting.NumberSteps.{numbers_kept, numbers_stay}
+use Rattle.someip_world_ledger.proofs.lives.RestartSteps.{restarted_life}
+use Rattle.someip_world_ledger.proofs.lives.TakenLives.{taken_life}
+use Rattle.someip_world_ledger.proofs.keeping.TakenSteps.{counters_restarted, taken_refused, taken_restarted}
 
 -- what is set at a place that is there, is there
 set_there : {X : Type 0} (xs : List X) (k : ℕ) (x y : X) → slice_get xs k ≡ Some y → slice_get (slice_set xs k x) k ≡ Some x

@@ -33,13 +33,13 @@ use Rattle.someip_world_ledger.specs.Books.{Book, LifeKept, breaks_at, new_life,
 use Rattle.someip_world_ledger.specs.Booking.{booked}
 use Rattle.someip_world_ledger.specs.Judging.{first_book, judged, judged_from, other_lines, own_lines}
 use Rattle.someip_world_ledger.proofs.BookSteps.{booked_kept}
-use Rattle.someip_world_ledger.proofs.CheckLemmas.{breaks_only, breaks_so}
+use Rattle.someip_world_ledger.proofs.checking.CheckLemmas.{breaks_only, breaks_so}
 use Rattle.someip_world_ledger.proofs.GoodCopies.{copies_are_good}
 use Rattle.someip_world_ledger.proofs.JudgingLemmas.{judged_broken, judged_more}
 use Rattle.someip_world_ledger.proofs.Kept.{KeepsTaken, Kept, KnowsOpening}
 use Rattle.someip_world_rules.proofs.Lives.{below_next}
-use Rattle.someip_world_ledger.proofs.RestartSteps.{new_kept}
-use Rattle.someip_world_ledger.proofs.Zipped.{beside_second}
+use Rattle.someip_world_ledger.proofs.lives.RestartSteps.{new_kept}
+use Rattle.someip_world_ledger.proofs.noting.Zipped.{beside_second}
 
 -- ---- lines
 

@@ -1,8 +1,10 @@
 -- Worked runs over a server a and a client b. Each ends with a delivery, before which b began again and made a call of the key
 -- that an earlier call had: an answer, an ERROR or a oneway of the earlier call breaks clean reuse, and one of the later does not.
-use Rattle.std.specs.Prelude.{◌≡◌, ◌++◌, ℕ, List, [], ◌∷◌, replicate, Some}
+use Rattle.std.specs.Prelude.{◌≡◌, ◌++◌, ℕ, List, [], ◌∷◌, length, replicate, Result, Some}
 use Rattle.someip_rpc.specs.declared.call.CallKind.TheVariants as kinds
 use Rattle.someip_rpc.specs.declared.request.Reply.TheVariants.{Response}
+use Rattle.someip_node_rules.specs.declared.error.NodeError.{NodeError}
+use Rattle.someip_node_rules.specs.declared.output.Output.{Output}
 use Rattle.someip_node_rules.specs.declared.output.Output.TheVariants.{Accepted, Answered, Called, Known, Request, Sent}
 use Rattle.someip_node_rules.specs.WorkedExamples.{asking, client, instance, refusing, server}
 use Rattle.someip_node_rules.specs.WorkedRun.{ack_packet, answer_packet, call_packet, eventgroup, goes, offer_packet, subscribe_packet}
@@ -11,7 +13,10 @@ use Rattle.someip_world_schedule.specs.declared.step.Step.TheVariants.{Tick, Del
 use Rattle.someip_world_setup.specs.GoodSetups.{IsGoodNetwork, Network}
 use Rattle.someip_world_setup.specs.declared.setup_node.SetupNode.{SetupNode}
 use Rattle.someip_world_rules.specs.Announced.{FitNodes}
+use Rattle.someip_world_rules.specs.Runs.{told_lines}
 use Rattle.someip_world_rules.specs.declared.line.Line.{Line}
+use Rattle.someip_world_rules.specs.declared.reuse.Reuse.{Reuse}
+use Rattle.someip_world_exchanges.specs.CleanReuse.{IsVerdictOn}
 use Rattle.someip_world_rules.specs.WorkedTrace.{AreNamed, a, b, gave}
 
 -- the nodes of a network that a setup may hold are a and b
@@ -22,6 +27,11 @@ pub record IsOfTwo (network : Network) : Type 0 where
   pub second : SetupNode
   pub are : network.nodes ≡ first ∷ second ∷ []
   pub named : AreNamed first second
+
+-- the verdict on some steps, where these lines are told before the last of them tells what its node gives
+abbrev pub IsVerdictThen : List SetupNode → List Step → List Line → Reuse → Type 0
+IsVerdictThen nodes steps lines verdict =
+    (place : ℕ) (given : Result (List Output) NodeError) → IsVerdictOn nodes steps (lines ++ told_lines (length steps) place given) verdict
 
 -- a call of a method takes the first session
 abbrev pub called_first : ℕ → ℕ → Line

@@ -4,30 +4,29 @@ ghost use Rattle.someip_world_schedule.specs.declared.step.Step.TheVariants.{Del
 ghost use Rattle.someip_world_setup.specs.GoodSetups.{Network};
 ghost use Rattle.someip_world_rules.specs.WorkedTrace.{a, b};
 ghost use Rattle.someip_world_rules.specs.declared.reuse.Reuse.TheVariants.{Broken, Clean};
-ghost use Rattle.someip_world_exchanges.specs.CleanReuse.{IsVerdictOn};
-ghost use Rattle.someip_world_ledger.specs.VerdictExamples.{IsOfTwo, answered_late, answered_late_lines, answered_twice, answered_twice_lines, refused_twice, refused_twice_lines, sent_twice, sent_twice_lines, subscribed_twice, subscribed_twice_lines};
+ghost use Rattle.someip_world_ledger.specs.VerdictExamples.{IsOfTwo, IsVerdictThen, answered_late, answered_late_lines, answered_twice, answered_twice_lines, refused_twice, refused_twice_lines, sent_twice, sent_twice_lines, subscribed_twice, subscribed_twice_lines};
 
 /// A client calls, begins again, and makes a call with the key of the first. The answer of the first call, its
 /// ERROR that comes once more, and its request where it is a oneway each break clean reuse in the last step;
 /// the request of the second call in their place does not. So it is with the Ack of a first subscription and
-/// the Subscribe of a second.
+/// the Subscribe of a second. The lines are those before the last step, whatever that tells.
 pub fn verdicts_by_example()
     ensures old_answer { (network : Network) → IsOfTwo network
-        → IsVerdictOn network.nodes (answered_late 4 b) answered_late_lines (Broken 9) }
+        → IsVerdictThen network.nodes (answered_late 4 b) answered_late_lines (Broken 9) }
     ensures request_behind_the_answer { (network : Network) → IsOfTwo network
-        → IsVerdictOn network.nodes (answered_late 3 a) answered_late_lines Clean }
+        → IsVerdictThen network.nodes (answered_late 3 a) answered_late_lines Clean }
     ensures old_error { (network : Network) → IsOfTwo network
-        → IsVerdictOn network.nodes (refused_twice 3 b) refused_twice_lines (Broken 9) }
+        → IsVerdictThen network.nodes (refused_twice 3 b) refused_twice_lines (Broken 9) }
     ensures request_behind_the_error { (network : Network) → IsOfTwo network
-        → IsVerdictOn network.nodes (refused_twice 4 a) refused_twice_lines Clean }
+        → IsVerdictThen network.nodes (refused_twice 4 a) refused_twice_lines Clean }
     ensures old_oneway { (network : Network) → IsOfTwo network
-        → IsVerdictOn network.nodes (sent_twice 2 a) sent_twice_lines (Broken 7) }
+        → IsVerdictThen network.nodes (sent_twice 2 a) sent_twice_lines (Broken 7) }
     ensures second_oneway { (network : Network) → IsOfTwo network
-        → IsVerdictOn network.nodes (sent_twice 3 a) sent_twice_lines Clean }
+        → IsVerdictThen network.nodes (sent_twice 3 a) sent_twice_lines Clean }
     ensures old_ack { (network : Network) → IsOfTwo network
-        → IsVerdictOn network.nodes (subscribed_twice 3 b) subscribed_twice_lines (Broken 8) }
+        → IsVerdictThen network.nodes (subscribed_twice 3 b) subscribed_twice_lines (Broken 8) }
     ensures second_subscribe { (network : Network) → IsOfTwo network
-        → IsVerdictOn network.nodes (subscribed_twice 4 a) subscribed_twice_lines Clean }
+        → IsVerdictThen network.nodes (subscribed_twice 4 a) subscribed_twice_lines Clean }
 {}
 
 /// A request comes twice, and is answered with other bytes each time, in two segments. The first segment of the
@@ -36,10 +35,10 @@ pub fn verdicts_by_example()
 pub fn mixed_segments_by_example()
     ensures in_time { (network : Network) (two : IsOfTwo network)
         → two.second.config.common.reassembly_timeout_ms ≡ 1000
-        → IsVerdictOn network.nodes (answered_twice (Deliver 6 b ∷ [])) answered_twice_lines
+        → IsVerdictThen network.nodes (answered_twice (Deliver 6 b ∷ [])) answered_twice_lines
         (Broken 9) }
     ensures too_late { (network : Network) (two : IsOfTwo network)
         → two.second.config.common.reassembly_timeout_ms ≡ 1000
-        → IsVerdictOn network.nodes (answered_twice (Tick b 1000 ∷ Deliver 6 b ∷ []))
+        → IsVerdictThen network.nodes (answered_twice (Tick b 1000 ∷ Deliver 6 b ∷ []))
         answered_twice_lines Clean }
 {}

@@ -3,8 +3,8 @@ use Rattle.someip_world_schedule.specs.declared.step.Step.TheVariants.{Deliver, 
 use Rattle.someip_world_rules.specs.WorkedTrace.{b}
 use Rattle.someip_world_rules.specs.declared.reuse.Reuse.TheVariants.{Broken, Clean}
 use Rattle.someip_world_ledger.specs.VerdictExamples.{answered_twice, answered_twice_lines}
-use Rattle.someip_world_ledger.proofs.MixedAnswers.{mixed, parted}
-use Rattle.someip_world_ledger.proofs.WorkedVerdicts.{mixed_fits, verdict_is}
+use Rattle.someip_world_ledger.proofs.examples.MixedAnswers.{mixed, parted}
+use Rattle.someip_world_ledger.proofs.examples.WorkedVerdicts.{mixed_fits, verdict_is}
 use Rattle.someip_world_ledger.proofs.example_laws.mixed_segments_by_example.Goals as goal
 
 pub returns-clause-in_time : goal.returns-clause-in_time

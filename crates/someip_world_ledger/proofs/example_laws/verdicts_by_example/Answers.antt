@@ -1,11 +1,11 @@
 use Rattle.someip_world_rules.specs.WorkedTrace.{a, b}
 use Rattle.someip_world_rules.specs.declared.reuse.Reuse.TheVariants.{Broken, Clean}
 use Rattle.someip_world_ledger.specs.VerdictExamples.{answered_late, answered_late_lines, refused_twice, refused_twice_lines, sent_twice, sent_twice_lines, subscribed_twice, subscribed_twice_lines}
-use Rattle.someip_world_ledger.proofs.LateAnswers as late
-use Rattle.someip_world_ledger.proofs.OldErrors as errors
-use Rattle.someip_world_ledger.proofs.OldOneways as oneways
-use Rattle.someip_world_ledger.proofs.OldSubscribes as subscribes
-use Rattle.someip_world_ledger.proofs.WorkedVerdicts.{late_fits, sent_fits, subscribed_fits, twice_fits, verdict_is}
+use Rattle.someip_world_ledger.proofs.examples.LateAnswers as late
+use Rattle.someip_world_ledger.proofs.examples.OldErrors as errors
+use Rattle.someip_world_ledger.proofs.examples.OldOneways as oneways
+use Rattle.someip_world_ledger.proofs.examples.OldSubscribes as subscribes
+use Rattle.someip_world_ledger.proofs.examples.WorkedVerdicts.{late_fits, sent_fits, subscribed_fits, twice_fits, verdict_is}
 use Rattle.someip_world_ledger.proofs.example_laws.verdicts_by_example.Goals as goal
 
 pub returns-clause-old_answer : goal.returns-clause-old_answer

@@ -1,6 +1,6 @@
 use Rattle.std.proofs.Common.{◌∙◌, sym, rules, ◌≡◌}
 use Rattle.std.specs.Map.{lookup}
-use Rattle.someip_world_ledger.proofs.PayloadNumbers.{get_shown, same}
+use Rattle.someip_world_ledger.proofs.noting.PayloadNumbers.{get_shown, same}
 use Rattle.someip_world_ledger.proofs.numbers.number_at.Goals as goal
 
 pub returns : goal.returns

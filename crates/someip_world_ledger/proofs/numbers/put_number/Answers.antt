@@ -1,4 +1,4 @@
-use Rattle.someip_world_ledger.proofs.PayloadNumbers.{insert_shown}
+use Rattle.someip_world_ledger.proofs.noting.PayloadNumbers.{insert_shown}
 use Rattle.someip_world_ledger.proofs.numbers.put_number.Goals as goal
 
 pub returns : goal.returns
