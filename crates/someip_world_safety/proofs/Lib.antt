@@ -1,0 +1,11 @@
+pub mod AddressLemmas
+pub mod PeerLemmas
+pub mod ReplyPlans
+pub mod ReplyRules
+pub mod SentEntries
+pub mod AnsweredEntries
+pub mod RuleItems
+pub mod StepStandings
+pub mod AckLemmas
+pub mod StandingLemmas
+pub mod AckAlone
