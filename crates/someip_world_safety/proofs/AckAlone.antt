@@ -1,18 +1,16 @@
 -- In a step in which an Ack is taken no subscription begins: no node sends an Ack beside an Offer.
-use Rattle.std.proofs.Common.{◌≡◌, ℕ, true, List, refl, sym, ap, subst, ◌∙◌}
+use Rattle.std.proofs.Common.{◌≡◌, ℕ, List, sym, subst}
 use Rattle.std.specs.List.{Contains}
 use Rattle.std.specs.declared.net.ipv4_addr.Ipv4Addr.{Ipv4Addr}
 use Rattle.sd_wire.specs.declared.entry.EventgroupEntry.{EventgroupEntry}
 use Rattle.sd_wire.specs.declared.entry.ServiceEntry.{ServiceEntry}
-use Rattle.sd_wire.specs.Kinds.{is_find}
 use Rattle.sd_wire.specs.Values.{EntryValue, good}
 use Rattle.someip_node_rules.specs.declared.config.Config.{Config}
 use Rattle.someip_node_rules.specs.Bringing.{Brings, OfDatagram, WasBrought}
 use Rattle.someip_node_rules.specs.History.{History}
-use Rattle.someip_node_rules.specs.Inputs.{Input, Datagram}
 use Rattle.someip_node_rules.specs.Packets.{Packet, HasEntry}
-use Rattle.someip_node_rules.specs.Plans.{Rule, RepliesTo, TakesAck, TakesOffer, Wishes}
-use Rattle.someip_node_rules.specs.Trails.{Done, trail_of}
+use Rattle.someip_node_rules.specs.Plans.{Rule, TakesOffer, Wishes}
+use Rattle.someip_node_rules.specs.Trails.{trail_of}
 use Rattle.someip_node_rules.proofs.MemberLemmas.{at_member}
 use Rattle.someip_node_rules.proofs.StepRules.{all_brought}
 use Rattle.someip_world_schedule.specs.declared.step.Step.{Step}
@@ -21,14 +19,14 @@ use Rattle.someip_world_rules.specs.Announced.{AllFits}
 use Rattle.someip_world_rules.specs.Datagrams.{SentDatagram}
 use Rattle.someip_world_exchanges.specs.Deliveries.{Does}
 use Rattle.someip_world_exchanges.proofs.EntryLemmas.{announced_with}
-use Rattle.someip_world_safety.specs.Addresses.{AreOffGroup}
-use Rattle.someip_world_safety.proofs.AckLemmas.{AckWay, IsReplied, SubscribeWay, ack_came, ack_way, replied_beside, way_back}
+use Rattle.someip_world_safety.proofs.AckWays.{AckWay, IsReplied, SubscribeWay, ack_way, replied_beside, way_back}
 use Rattle.someip_world_safety.proofs.AnsweredEntries.{answers_find}
+use Rattle.someip_world_safety.proofs.EntryInputs.{ack_came}
 use Rattle.someip_world_safety.proofs.RuleItems.{MayBegin}
 use Rattle.someip_world_safety.proofs.SentEntries.{IsInstanceEntry, no_find_to_peer}
 use Rattle.someip_world_safety.proofs.StepStandings.{AcksBeginNone}
 
-module _ (nodes : List SetupNode) (configs : List Config) (ss : List Step) (fits : AllFits nodes configs ss) (off_group : AreOffGroup configs) where
+module _ (nodes : List SetupNode) (configs : List Config) (ss : List Step) (fits : AllFits nodes configs ss) where
   -- what stands in a datagram beside an entry that was sent as a reply was sent with it
   beside : (i : ℕ) (d : SentDatagram) (head : EventgroupEntry) (r : IsReplied nodes configs ss i d head) (entry : EntryValue) → HasEntry (record { from = d.from; to = d.to; bytes = d.bytes }) (good entry)
       → Contains r.entries entry
@@ -46,12 +44,12 @@ module _ (nodes : List SetupNode) (configs : List Config) (ss : List Step) (fits
 
   -- an Ack that answers a Subscribe has no entry about an instance beside it: that would answer a Find, which no node sends
   -- beside a Subscribe
-  no_instance_beside : (n : ℕ) (does : Does nodes configs ss n) (peer : Ipv4Addr) (head : EventgroupEntry) (a : AckWay nodes configs ss fits off_group n does peer head)
-      → SubscribeWay nodes configs ss fits off_group a.sent a.ack.sends.does a.ack.peer head
+  no_instance_beside : (n : ℕ) (does : Does nodes configs ss n) (peer : Ipv4Addr) (head : EventgroupEntry) (a : AckWay nodes configs ss n does peer head)
+      → SubscribeWay nodes configs ss a.sent a.ack.sends.does a.ack.peer head
       → (entry : EntryValue) (offer : ServiceEntry) → HasEntry (record { from = a.datagram.from; to = a.datagram.to; bytes = a.datagram.bytes }) (good entry) → IsInstanceEntry entry offer → ⊥
   no_instance_beside n does peer head a b entry offer has is =
       let q : Packet = record { from = b.datagram.from; to = b.datagram.to; bytes = b.datagram.bytes } in
-      let replied = replied_beside nodes configs ss fits off_group a.sent a.datagram head a.ack q b.came entry (beside a.sent a.datagram head a.ack entry has) in
+      let replied = replied_beside nodes configs ss fits a.sent a.datagram head a.ack q b.came entry (beside a.sent a.datagram head a.ack entry has) in
       let found = answers_find a.ack.sends.does.turn.history q entry replied offer is in
       let find = found.2.1 in
       let s = b.sub.sends in
@@ -59,11 +57,11 @@ module _ (nodes : List SetupNode) (configs : List Config) (ss : List Step) (fits
       (subst (λ r. Brings s.does.turn.history s.does.input r s.by.done.before.state) b.sub.by s.by.brought.1) (beside b.since b.datagram b.says.asked b.sub find.entry find.stands) find.is found.1
 
   -- so no rule of the step takes an Offer, nor a wish
-  module _ (n : ℕ) (does : Does nodes configs ss n) (peer : Ipv4Addr) (head : EventgroupEntry) (a : AckWay nodes configs ss fits off_group n does peer head) where
+  module _ (n : ℕ) (does : Does nodes configs ss n) (peer : Ipv4Addr) (head : EventgroupEntry) (a : AckWay nodes configs ss n does peer head) where
     begins_none : (at : History) (r : Rule) → MayBegin r → OfDatagram does.turn.history (record { from = a.datagram.from; to = a.datagram.to; bytes = a.datagram.bytes }) r at → ⊥
     begins_none at (TakesOffer offer) may came =
         let has = came.1.2 in
-        no_instance_beside n does peer head a (way_back nodes configs ss fits off_group a.sent a.datagram head a.ack a.acks) has.entry came.1.0 has.stands has.is
+        no_instance_beside n does peer head a (way_back nodes configs ss fits a.sent a.datagram head a.ack a.acks) has.entry came.1.0 has.stands has.is
     begins_none at (Wishes eventgroup) may came = absurd came.1
     begins_none at r may came = absurd may
 
@@ -71,7 +69,7 @@ module _ (nodes : List SetupNode) (configs : List Config) (ss : List Step) (fits
   acks_begin_none n does d e peer head among by there may =
       let h : History = does.turn.history in
       let brought = at_member (WasBrought h does.input) (trail_of h does.input) d (all_brought h does.input) among in
-      let came = ack_came nodes configs ss fits off_group h does.input peer head d.before.state (subst (λ r. Brings h does.input r d.before.state) by brought.1) in
-      let a = ack_way nodes configs ss fits off_group n does peer head came.0 came.1 came.2 in
+      let came = ack_came h does.input d.before.state peer head (subst (λ r. Brings h does.input r d.before.state) by brought.1) in
+      let a = ack_way nodes configs ss fits n does peer head came.packet came.is came.entry in
       let other = at_member (WasBrought h does.input) (trail_of h does.input) e (all_brought h does.input) there in
       begins_none n does peer head a e.before.state e.by may (subst (λ input. Brings h input e.by e.before.state) a.came other.1)

@@ -1,5 +1,5 @@
 -- Which entry of a datagram an Ack or an Offer answers that is sent back for it.
-use Rattle.std.proofs.Common.{◌≡◌, ◌⊎◌, inl, inr, true, IsTrue, List, [], ◌∷◌, Option, None, Some, refl, sym, ap, subst, ◌∙◌}
+use Rattle.std.proofs.Common.{◌≡◌, inl, inr, true, IsTrue, List, [], ◌∷◌, Option, None, Some, refl, sym, ap, subst, ◌∙◌}
 use Rattle.std.specs.List.{Contains}
 use Rattle.std.specs.Net.Socket.{v4_ip}
 use Rattle.std.specs.declared.net.ipv4_addr.Ipv4Addr.{Ipv4Addr}
@@ -16,7 +16,7 @@ use Rattle.someip_node_rules.specs.Bringing.{OfDatagram, WasBrought}
 use Rattle.someip_node_rules.specs.Entries.{ack_entry}
 use Rattle.someip_node_rules.specs.History.{History, answers_of}
 use Rattle.someip_node_rules.specs.Inputs.{Datagram}
-use Rattle.someip_node_rules.specs.Items.{Item, SubscriptionAccepted}
+use Rattle.someip_node_rules.specs.Items.{SubscriptionAccepted}
 use Rattle.someip_node_rules.specs.Learning.{eventgroup_in}
 use Rattle.someip_node_rules.specs.Packets.{Packet, HasServiceEntry, HasSubscribe}
 use Rattle.someip_node_rules.specs.Plans as plans

@@ -1,11 +1,14 @@
 pub mod AddressLemmas
+pub mod EntryInputs
+pub mod KnownPeers
 pub mod PeerLemmas
+pub mod SentEntries
 pub mod ReplyPlans
 pub mod ReplyRules
-pub mod SentEntries
 pub mod AnsweredEntries
 pub mod RuleItems
 pub mod StepStandings
+pub mod AckWays
+pub mod AckAlone
 pub mod AckLemmas
 pub mod StandingLemmas
-pub mod AckAlone

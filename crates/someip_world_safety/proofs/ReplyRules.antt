@@ -1,5 +1,5 @@
 -- What a node sends back for a datagram are replies of the rules that took its entries.
-use Rattle.std.proofs.Common.{◌≡◌, ℕ, Bool, not, List, Option, None, Some, Result, Ok, Err, refl, if◌then◌else◌}
+use Rattle.std.proofs.Common.{◌≡◌, ℕ, Bool, not, List, Option, None, Some, Result, Ok, Err, refl}
 use Rattle.std.specs.List.{AllByRecursion, Contains}
 use Rattle.std.specs.Net.Socket.{v4_ip}
 use Rattle.std.specs.declared.net.ipv4_addr.Ipv4Addr.{Ipv4Addr}

@@ -1,17 +1,16 @@
 -- By which rules subscriptions begin or are acknowledged, and what the opening of one says.
-use Rattle.std.proofs.Common.{◌≡◌, ◌≢◌, ◌⊎◌, inl, inr, ℕ, zero, suc, ◌+◌, ◌<◌, ◌≤◌, ◌%◌, Bool, true, false, ◌&&◌, ltb, eqb, if◌then◌else◌, List, [], ◌∷◌, ◌++◌, length, take, slice_get, slice_set, Option, None, Some, Result, Ok, Err, arith, refl, sym, ap, subst, append_assoc, ◌∙◌}
+use Rattle.std.proofs.Common.{◌≡◌, ℕ, suc, ◌<◌, Bool, true, false, ◌&&◌, if◌then◌else◌, List, [], ◌∷◌, ◌++◌, Option, None, Some, Ok, arith, refl, sym, ap, subst, ◌∙◌}
 use Rattle.std.specs.List.{AllByRecursion, Contains}
 use Rattle.std.specs.Prelude.{◌==◌}
 use Rattle.std.specs.Option.{option_map_or}
-use Rattle.std.proofs.lemmas.List.Elements.{Contains-append_right, Contains-get_or}
+use Rattle.std.proofs.lemmas.List.Elements.{Contains-get_or}
 use Rattle.std.proofs.lemmas.Grind.{flat_map-append}
-use Rattle.std.proofs.lemmas.Bool.{eqb-true, eqb-false, ltb-true, ltb-false}
+use Rattle.std.proofs.lemmas.Bool.{eqb-true}
 use Rattle.std.proofs.lemmas.List.{append-nil}
 use Rattle.std.specs.declared.net.ipv4_addr.Ipv4Addr.{Ipv4Addr}
 use Rattle.std.specs.declared.net.socket_addr.SocketAddrV4.{SocketAddrV4}
 use Rattle.someip_tables.proofs.Entries.{same_by_test}
 use Rattle.someip_tables.specs.EndpointOrder.{exact_addresses}
-use Rattle.someip_tables.specs.declared.deadline.Deadline.{Deadline}
 use Rattle.sd_wire.specs.declared.entry.EventgroupEntry.{EventgroupEntry}
 use Rattle.sd_core.specs.declared.eventgroup.Eventgroup.{Eventgroup}
 use Rattle.sd_core.specs.declared.received.ReceivedOffer.{ReceivedOffer}
@@ -19,12 +18,9 @@ use Rattle.sd_core.specs.declared.received.Uncounted.{Uncounted}
 use Rattle.sd_core.specs.declared.received.Uncounted.TheVariants as left_out
 use Rattle.sd_core.specs.declared.wish.Beginning.{Beginning}
 use Rattle.sd_core.specs.declared.wish.SubscribeAnswer.{SubscribeAnswer}
-use Rattle.sd_core.specs.EventgroupOrder.{exact_eventgroups}
 use Rattle.sd_core.specs.SeekTables.{uncounted}
 use Rattle.sd_core.specs.Wishes.{is_over, is_with}
-use Rattle.someip_node_rules.specs.declared.config.Config.{Config}
-use Rattle.someip_node_rules.specs.declared.error.NodeError.{NodeError}
-use Rattle.someip_node_rules.specs.History.{History, answers_of, met, start_of}
+use Rattle.someip_node_rules.specs.History.{History, answers_of, met}
 use Rattle.someip_node_rules.specs.Inputs.{Input, plan_of}
 use Rattle.someip_node_rules.specs.Items as items
 use Rattle.someip_node_rules.specs.Items.{Item}
@@ -32,34 +28,19 @@ use Rattle.someip_node_rules.specs.Learning.{answer_in, eventgroup_in, offer_by,
 use Rattle.someip_node_rules.specs.Meetings.{IsMet}
 use Rattle.someip_node_rules.specs.Plans.{Rule, TakesAck, TakesOffer, Wishes, Work, rule}
 use Rattle.someip_node_rules.specs.Outcomes.{nothing}
-use Rattle.someip_node_rules.specs.Questions.{clock_at}
 use Rattle.someip_node_rules.specs.Tables.{Tables}
 use Rattle.someip_node_rules.specs.Steps.{step, work_on}
 use Rattle.someip_node_rules.specs.Trails.{Done, after, met_by, outcome_of, trail_of}
-use Rattle.someip_node_rules.specs.WishQuestions.{course_at, is_answered_by, known_peer_at, same_eventgroup}
+use Rattle.someip_node_rules.specs.WishQuestions.{course_at, is_answered_by}
 use Rattle.someip_node_rules.proofs.MeetingLemmas.{rule_noted, state_met}
 use Rattle.someip_node_rules.proofs.MemberLemmas.{all_weaker, at_member}
 use Rattle.someip_node_rules.proofs.PlanLemmas.{before_each}
-use Rattle.someip_world_schedule.specs.declared.step.Step.{Step}
-use Rattle.someip_world_setup.specs.declared.setup_node.SetupNode.{SetupNode}
-use Rattle.someip_world_rules.specs.Datagrams.{SentDatagram}
-use Rattle.someip_world_rules.specs.Deeds.{Deed, Takes, Restarts, done_with}
-use Rattle.someip_world_rules.specs.Runs.{World, history_after, started_nodes, world_after, world_of}
-use Rattle.someip_world_rules.specs.Turns.{LeadTo, Turn}
-use Rattle.someip_world_rules.proofs.OriginLemmas.{all_origins, config_kept}
-use Rattle.someip_world_exchanges.specs.Belonging.{Belongs}
-use Rattle.someip_world_exchanges.specs.Deliveries.{Delivers, Does, LivesOn, Restarted}
+use Rattle.someip_world_rules.proofs.OriginLemmas.{config_kept}
 use Rattle.someip_world_exchanges.specs.Namings.{of_subscription}
-use Rattle.someip_world_exchanges.specs.declared.exchange_key.ExchangeKey.{ExchangeKey}
 use Rattle.someip_world_exchanges.specs.declared.exchange_key.ExchangeKey.TheVariants as keys
 use Rattle.someip_world_exchanges.specs.declared.exchange_key.SubscriptionExchange.{SubscriptionExchange}
-use Rattle.someip_world_safety.specs.Addresses.{HaveOwnAddresses}
-use Rattle.someip_world_exchanges.specs.Openings.{Begins, Opened, Opens, OpensBy}
-use Rattle.someip_world_exchanges.specs.CleanReuse.{IsCleanBefore, Old}
-use Rattle.someip_world_safety.specs.Subscriptions.{SubscriptionsAreSafe, WasAccepted}
-use Rattle.someip_world_exchanges.proofs.CourseLemmas.{BeginsAt, GoesOn, acked_so, begun_grows_on, is_tame, offered_so, tame_goes_on, wished_so}
-use Rattle.someip_world_exchanges.proofs.Deliverings.{one_turn}
-use Rattle.someip_world_exchanges.proofs.Fronts.{on_the_way}
+use Rattle.someip_world_exchanges.specs.Openings.{Opens, OpensBy}
+use Rattle.someip_world_exchanges.proofs.CourseLemmas.{begun_grows_on, is_tame}
 
 -- ---- the items of a rule: none that begins or acknowledges, or one alone
 
@@ -203,4 +184,3 @@ opens_more h input done address peer q counter is by =
     ap (λ x. after x (met_by later)) (sym after_d ∙ ap (λ x. after x (outcome_of d).items) at) ∙ sym (after_parts h earlier later d) ∙ ap (λ ds. after h (met_by ds)) (sym parts.2) ∙ sym (state_met h input done is) in
     let last : (course_at (after (met d.before.state by.item) (met_by later)).items q).begun ≡ (course_at done.state.items q).begun = ap (λ x. (course_at x.items q).begun) end in
     (says.0 ∙ ap (λ x. x.config.address) at ∙ ap (λ c. c.address) (config_kept h (met_by earlier)), omega (arith, low, low_at, mid, high, last))
-

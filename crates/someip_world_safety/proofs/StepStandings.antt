@@ -1,64 +1,45 @@
 -- Within a step, a subscription that stands at a client is the newest exchange of its key; and where it was acknowledged, its server accepted it.
-use Rattle.std.proofs.Common.{◌≡◌, ◌≢◌, ◌⊎◌, inl, inr, ℕ, zero, suc, ◌+◌, ◌<◌, ◌≤◌, ◌%◌, Bool, true, false, ◌&&◌, ltb, eqb, if◌then◌else◌, List, [], ◌∷◌, ◌++◌, length, take, slice_get, slice_set, Option, None, Some, Result, Ok, Err, arith, refl, sym, ap, subst, append_assoc, ◌∙◌}
-use Rattle.std.specs.List.{AllByRecursion, Contains}
-use Rattle.std.specs.Prelude.{◌==◌}
-use Rattle.std.specs.Option.{option_map_or}
-use Rattle.std.proofs.lemmas.List.Elements.{Contains-append_right, Contains-get_or}
-use Rattle.std.proofs.lemmas.Grind.{flat_map-append}
-use Rattle.std.proofs.lemmas.Bool.{eqb-true, eqb-false, ltb-true, ltb-false}
+use Rattle.std.proofs.Common.{◌≡◌, ◌⊎◌, inl, inr, ℕ, suc, ◌<◌, ◌≤◌, ◌%◌, Bool, true, false, ltb, List, [], ◌∷◌, ◌++◌, slice_get, None, Some, arith, refl, sym, ap, subst, append_assoc, ◌∙◌}
+use Rattle.std.specs.List.{Contains}
+use Rattle.std.proofs.lemmas.List.Elements.{Contains-append_right}
+use Rattle.std.proofs.lemmas.Bool.{ltb-true, ltb-false}
 use Rattle.std.proofs.lemmas.List.{append-nil}
 use Rattle.std.specs.declared.net.ipv4_addr.Ipv4Addr.{Ipv4Addr}
 use Rattle.std.specs.declared.net.socket_addr.SocketAddrV4.{SocketAddrV4}
 use Rattle.someip_tables.proofs.Entries.{same_by_test}
-use Rattle.someip_tables.specs.EndpointOrder.{exact_addresses}
 use Rattle.someip_tables.specs.declared.deadline.Deadline.{Deadline}
 use Rattle.sd_wire.specs.declared.entry.EventgroupEntry.{EventgroupEntry}
 use Rattle.sd_core.specs.declared.eventgroup.Eventgroup.{Eventgroup}
 use Rattle.sd_core.specs.declared.received.ReceivedOffer.{ReceivedOffer}
-use Rattle.sd_core.specs.declared.received.Uncounted.{Uncounted}
-use Rattle.sd_core.specs.declared.received.Uncounted.TheVariants as left_out
 use Rattle.sd_core.specs.declared.wish.Beginning.{Beginning}
 use Rattle.sd_core.specs.declared.wish.SubscribeAnswer.{SubscribeAnswer}
 use Rattle.sd_core.specs.EventgroupOrder.{exact_eventgroups}
-use Rattle.sd_core.specs.SeekTables.{uncounted}
-use Rattle.sd_core.specs.Wishes.{is_over, is_with}
 use Rattle.someip_node_rules.specs.declared.config.Config.{Config}
-use Rattle.someip_node_rules.specs.declared.error.NodeError.{NodeError}
-use Rattle.someip_node_rules.specs.History.{History, answers_of, met, start_of}
-use Rattle.someip_node_rules.specs.Inputs.{Input, plan_of}
+use Rattle.someip_node_rules.specs.History.{History, met}
+use Rattle.someip_node_rules.specs.Inputs.{plan_of}
 use Rattle.someip_node_rules.specs.Items as items
 use Rattle.someip_node_rules.specs.Items.{Item}
-use Rattle.someip_node_rules.specs.Learning.{answer_in, eventgroup_in, offer_by, offer_counts}
-use Rattle.someip_node_rules.specs.Meetings.{IsMet}
-use Rattle.someip_node_rules.specs.Plans.{Rule, TakesAck, TakesOffer, Wishes, Work, rule}
-use Rattle.someip_node_rules.specs.Outcomes.{nothing}
+use Rattle.someip_node_rules.specs.Learning.{eventgroup_in}
+use Rattle.someip_node_rules.specs.Plans.{TakesAck, TakesOffer, Wishes}
 use Rattle.someip_node_rules.specs.Questions.{clock_at}
-use Rattle.someip_node_rules.specs.Tables.{Tables}
-use Rattle.someip_node_rules.specs.Steps.{step, work_on}
+use Rattle.someip_node_rules.specs.Steps.{work_on}
 use Rattle.someip_node_rules.specs.Trails.{Done, after, met_by, outcome_of, trail_of}
 use Rattle.someip_node_rules.specs.WishQuestions.{course_at, is_answered_by, known_peer_at, same_eventgroup}
-use Rattle.someip_node_rules.proofs.MeetingLemmas.{rule_noted, state_met}
-use Rattle.someip_node_rules.proofs.MemberLemmas.{all_weaker, at_member}
 use Rattle.someip_node_rules.proofs.PlanLemmas.{before_each}
 use Rattle.someip_world_schedule.specs.declared.step.Step.{Step}
 use Rattle.someip_world_setup.specs.declared.setup_node.SetupNode.{SetupNode}
 use Rattle.someip_world_rules.specs.Datagrams.{SentDatagram}
-use Rattle.someip_world_rules.specs.Deeds.{Deed, Takes, Restarts, done_with}
-use Rattle.someip_world_rules.specs.Runs.{World, history_after, started_nodes, world_after, world_of}
-use Rattle.someip_world_rules.specs.Turns.{LeadTo, Turn}
-use Rattle.someip_world_rules.proofs.OriginLemmas.{all_origins, config_kept}
+use Rattle.someip_world_rules.specs.Runs.{World}
+use Rattle.someip_world_rules.proofs.OriginLemmas.{config_kept}
 use Rattle.someip_world_exchanges.specs.Belonging.{Belongs}
-use Rattle.someip_world_exchanges.specs.Deliveries.{Delivers, Does, LivesOn, Restarted}
+use Rattle.someip_world_exchanges.specs.Deliveries.{Delivers, Does, LivesOn}
 use Rattle.someip_world_exchanges.specs.Namings.{of_subscription}
 use Rattle.someip_world_exchanges.specs.declared.exchange_key.ExchangeKey.{ExchangeKey}
-use Rattle.someip_world_safety.specs.Addresses.{HaveOwnAddresses}
-use Rattle.someip_world_exchanges.specs.Openings.{Begins, Opened, Opens, OpensBy}
+use Rattle.someip_world_exchanges.specs.Openings.{Begins, Opened, Opens}
 use Rattle.someip_world_exchanges.specs.CleanReuse.{IsCleanBefore, Old}
-use Rattle.someip_world_safety.specs.Subscriptions.{SubscriptionsAreSafe, WasAccepted}
-use Rattle.someip_world_exchanges.proofs.CourseLemmas.{BeginsAt, GoesOn, acked_so, begun_grows_on, is_tame, offered_so, tame_goes_on, wished_so}
-use Rattle.someip_world_exchanges.proofs.Deliverings.{one_turn}
-use Rattle.someip_world_exchanges.proofs.Fronts.{on_the_way}
-use Rattle.someip_world_safety.proofs.RuleItems.{AWish, AllTame, AnAck, AnOffer, Kinds, MayBegin, Tame, after_more, answered_parts, first_of_list, kinds_of, opens_more}
+use Rattle.someip_world_safety.specs.Subscriptions.{WasAccepted}
+use Rattle.someip_world_exchanges.proofs.CourseLemmas.{BeginsAt, GoesOn, acked_so, offered_so, tame_goes_on, wished_so}
+use Rattle.someip_world_safety.proofs.RuleItems.{AWish, AllTame, AnAck, AnOffer, Kinds, MayBegin, Tame, after_more, answered_parts, first_of_list, kinds_of}
 
 -- ---- the invariant
 
@@ -277,4 +258,3 @@ module _ (nodes : List SetupNode) (configs : List Config) (ss : List Step) where
 
     pub all_in_step : AllInStep h → AllInStep (after h (met_by trail))
     all_in_step old = walk [] trail refl old
-

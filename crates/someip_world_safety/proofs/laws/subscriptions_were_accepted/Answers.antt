@@ -5,4 +5,4 @@ use Rattle.someip_world_safety.proofs.laws.subscriptions_were_accepted.Goals as 
 
 pub returns : goal.returns
 returns c nodes configs steps fits own off_group n w le led clean =
-    subscriptions_are_safe nodes configs steps own (acks_say nodes configs steps fits off_group) (acks_begin_none nodes configs steps fits off_group) n w le led clean
+    subscriptions_are_safe nodes configs steps own (acks_say nodes configs steps fits off_group) (acks_begin_none nodes configs steps fits) n w le led clean
