@@ -65,6 +65,7 @@ module _ (nodes : List SetupNode) (configs : List Config) (ss : List Step) (fits
     begins_none at (Wishes eventgroup) may came = absurd came.1
     begins_none at r may came = absurd may
 
+  -- in no step in which an Ack is taken a subscription begins
   pub acks_begin_none : AcksBeginNone nodes configs ss
   acks_begin_none n does d e peer head among by there may =
       let h : History = does.turn.history in

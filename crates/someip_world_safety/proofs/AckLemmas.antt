@@ -41,6 +41,7 @@ use Rattle.someip_world_safety.proofs.StepStandings.{AckSays, AcksSay}
 
 -- ---- keys that are named
 
+-- one of two holds
 either_true : (a b : Bool) → (a || b) ≡ true → (a ≡ true) ⊎ (b ≡ true)
 -- ---- keys that are named
 
@@ -77,9 +78,11 @@ module _ (nodes : List SetupNode) (configs : List Config) (ss : List Step) (fits
           absurd (off_group peer t.history.config t.place node (all_origins nodes configs (take n ss) t.before t.led t.place t.history t.stands).configured
           (sym goal ∙ same_by_test exact_addresses (v4_ip d.to) t.history.config.common.group same))
 
+  -- what a reply answers was sent by the step whose datagram it was given for
   answered_as : (place i since : ℕ) (r : Rule) (peer : Ipv4Addr) (own : List EntryValue) → r ≡ RepliesTo peer own → (d : SentDatagram) → Delivers nodes configs ss i since d → Answered nodes configs ss place i r since
   answered_as place i since r peer own is d delivers = subst (λ x. Answered nodes configs ss place i x since) (sym is) (d, delivers)
 
+  -- one step after another
   in_turn : (a b c : ℕ) → a < b → b < c → a < c
   in_turn a b c first second = omega (arith, first, second)
 
@@ -88,6 +91,7 @@ module _ (nodes : List SetupNode) (configs : List Config) (ss : List Step) (fits
   reply_names i d head r =
       subst (λ g. Contains (named_in g) (named_by_kind head.kind (v4_ip d.from) (v4_ip d.to) head)) (sym r.is) (names (v4_ip d.from) (v4_ip d.to) r.entries r.value head r.among r.about)
 
+  -- an Ack belongs to the exchange of the Subscribe that it answers
   ack_belongs : (i : ℕ) (d : SentDatagram) (head : EventgroupEntry) (r : IsReplied nodes configs ss i d head) (client server : Ipv4Addr) → is_ack head ≡ true → v4_ip d.from ≡ server → v4_ip d.to ≡ client
       → (since : ℕ) (two : SentDatagram) → Delivers nodes configs ss i since two → Belongs nodes configs ss i d (of_subscription client server (eventgroup_in head) head.counter) since
   ack_belongs i d head r client server ack from to since two delivers = record {
@@ -97,6 +101,7 @@ module _ (nodes : List SetupNode) (configs : List Config) (ss : List Step) (fits
     meant = answered_as r.sends.does.turn.place i since r.sends.by.done.by r.peer r.entries r.by two delivers;
   }
 
+  -- and a Subscribe to its own
   subscribe_belongs : (i : ℕ) (d : SentDatagram) (head : EventgroupEntry) (r : IsReplied nodes configs ss i d head) (client server : Ipv4Addr) (q : Eventgroup) (counter : ℕ) → is_subscribe head ≡ true → v4_ip d.from ≡ client → v4_ip d.to ≡ server
       → eventgroup_in head ≡ q → head.counter ≡ counter → Belongs nodes configs ss i d (of_subscription client server q counter) i
   subscribe_belongs i d head r client server q counter sub from to group counted = record {
@@ -113,6 +118,7 @@ module _ (nodes : List SetupNode) (configs : List Config) (ss : List Step) (fits
   replied_to : (i : ℕ) (d : SentDatagram) (head : EventgroupEntry) (r : IsReplied nodes configs ss i d head) (n : ℕ) (s : Step) (t : Turn nodes configs ss n s) → is_addressed t.history.config d ≡ true → r.peer ≡ t.history.config.address
   replied_to i d head r n s t addressed = at_node n s t d r.peer r.goal (replies_go_to_nodes nodes configs ss fits i r.sends.does r.sends.by.done r.peer r.entries r.value r.among r.sends.by.brought.1 r.by) addressed
 
+  -- both ways together
   ends_say : (n : ℕ) (does : Does nodes configs ss n) (peer : Ipv4Addr) (head : EventgroupEntry) (a : AckWay nodes configs ss n does peer head) (b : SubscribeWay nodes configs ss a.sent a.ack.sends.does a.ack.peer head)
       → AckSays nodes configs ss n does.turn.history.config.address peer (eventgroup_in head) head.counter
   ends_say n does peer head a b =
@@ -154,6 +160,7 @@ module _ (nodes : List SetupNode) (configs : List Config) (ss : List Step) (fits
         };
       }
 
+  -- each Ack that is taken says so
   pub acks_say : AcksSay nodes configs ss
   acks_say n does d peer head among by =
       let brought = at_member (WasBrought does.turn.history does.input) (trail_of does.turn.history does.input) d (all_brought does.turn.history does.input) among in

@@ -94,6 +94,7 @@ module _ (nodes : List SetupNode) (configs : List Config) (ss : List Step) where
     pub sub : IsReplied since datagram says.asked
 
   module _ (fits : AllFits nodes configs ss) where
+    -- what is announced with such an entry is so, by the rule that announced it
     by_rule : (i : ℕ) (d : SentDatagram) (head : EventgroupEntry) (s : Sends nodes configs ss i d) (stamp : Stamp) (entries : List EntryValue) (value : EntryValue)
         → s.given ≡ outputs.Announces d.from d.to stamp entries → Contains entries value → IsGroupEntry value head
         → (r : Rule) → s.by.done.by ≡ r → Brings s.does.turn.history s.does.input r s.by.done.before.state → IsAnnounced r (answers_of s.by.done.before.state) d.from d.to stamp entries
@@ -181,6 +182,7 @@ module _ (nodes : List SetupNode) (configs : List Config) (ss : List Step) where
         was_replied ack.sends.does.turn.history p.from p.to p.bytes ack.sends.by.done ack.peer ack.entries e
         (subst (λ input. Contains (trail_of ack.sends.does.turn.history input) ack.sends.by.done) is ack.sends.by.among) ack.by among
 
+    -- the way of the Subscribe that an Ack answers
     pub way_back : (i : ℕ) (d : SentDatagram) (head : EventgroupEntry) (ack : IsReplied i d head) → is_ack head ≡ true → SubscribeWay i ack.sends.does ack.peer head
     way_back i d head ack is =
         let brought = subst (λ r. Brings ack.sends.does.turn.history ack.sends.does.input r ack.sends.by.done.before.state) ack.by ack.sends.by.brought.1 in

@@ -13,10 +13,12 @@ use Rattle.someip_world_setup.specs.declared.setup_node.SetupNode.{SetupNode}
 use Rattle.someip_world_rules.specs.Runs.{AreCopies}
 use Rattle.someip_world_safety.specs.Addresses.{AreOffGroup, HaveOwnAddresses}
 
+-- neither of two holds
 neither : (a b : Bool) → (a || b) ≡ false → (a ≡ false) × (b ≡ false)
 neither true b is = absurd cc
 neither false b is = (refl, is)
 
+-- an address is none of several that it is not equal to by test
 none_same : (x : Ipv4Addr) (xs : List Ipv4Addr) (q : ℕ) (b : Ipv4Addr) → list_any (same_address x) xs ≡ false → slice_get xs q ≡ Some b → x ≢ b
 none_same x [] q b none is = absurd cc
 none_same x (y ∷ ys) zero b none is = λ same.
@@ -27,6 +29,7 @@ none_same x (y ∷ ys) zero b none is = λ same.
     let clash = sym own ∙ both in absurd cc
 none_same x (y ∷ ys) (suc q) b none is = none_same x ys q b (neither (same_address x y) (list_any (same_address x) ys) none).1 is
 
+-- where none stands twice, equal ones stand at one place
 one_place : (xs : List Ipv4Addr) → has_repeat same_address xs ≡ false → (p q : ℕ) (a b : Ipv4Addr) → slice_get xs p ≡ Some a → slice_get xs q ≡ Some b → a ≡ b → p ≡ q
 one_place [] none p q a b first second same = absurd cc
 one_place (x ∷ xs) none zero zero a b first second same = refl
@@ -46,20 +49,24 @@ copied (node ∷ nodes) (d ∷ configs) are zero c is =
     let one : d ≡ c = cc in (node, refl, ap (λ x. x.address) (sym one) ∙ ap (λ x. x.address) are.0.0, ap (λ x. x.common) (sym one) ∙ ap (λ x. x.common) are.0.0)
 copied (node ∷ nodes) (d ∷ configs) are (suc p) c is = copied nodes configs are.1 p c is
 
+-- the address of a node
 address_at : (nodes : List SetupNode) (p : ℕ) (node : SetupNode) → slice_get nodes p ≡ Some node → slice_get (addresses_of nodes) p ≡ Some node.config.address
 address_at [] p node is = absurd cc
 address_at (x ∷ nodes) zero node is = let one : x ≡ node = cc in ap (λ y. Some y.config.address) one
 address_at (x ∷ nodes) (suc p) node is = address_at nodes p node is
 
+-- what holds of all holds of each
 all_at : {X : Type 0} (P : X → Type 0) (xs : List X) (n : ℕ) (x : X) → AllByRecursion P xs → slice_get xs n ≡ Some x → P x
 all_at P [] n x all is = absurd cc
 all_at P (y ∷ xs) zero x all is = let same : y ≡ x = cc in subst P same all.0
 all_at P (y ∷ xs) (suc n) x all is = all_at P xs n x all.1 is
 
 module _ (network : Network) (good : IsGoodNetwork network) (configs : List Config) (are : AreCopies network.nodes configs) where
+  -- the group has no address of a node, and no two nodes have one
   parts : (list_any (same_address network.common.group) (addresses_of network.nodes) ≡ false) × (has_repeat same_address (addresses_of network.nodes) ≡ false)
   parts = neither (list_any (same_address network.common.group) (addresses_of network.nodes)) (has_repeat same_address (addresses_of network.nodes)) good.addresses
 
+  -- nodes have addresses of their own
   pub own_addresses : HaveOwnAddresses configs
   own_addresses p q c d first second same =
       let a = copied network.nodes configs are p c first in
@@ -67,6 +74,7 @@ module _ (network : Network) (good : IsGoodNetwork network) (configs : List Conf
       one_place (addresses_of network.nodes) parts.1 p q a.0.config.address b.0.config.address (address_at network.nodes p a.0 a.1) (address_at network.nodes q b.0 b.1)
       (sym a.2 ∙ same ∙ b.2)
 
+  -- and none has that of the group
   pub off_group : AreOffGroup configs
   off_group address config place node here =
       let a = copied network.nodes configs are node.0 node.1 node.2 in

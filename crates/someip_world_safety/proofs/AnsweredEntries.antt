@@ -47,6 +47,7 @@ pub record AnswersSubscribe (h : History) (p : Packet) (head : EventgroupEntry) 
   pub group : eventgroup_in asked ≡ eventgroup_in head
   pub counted : asked.counter ≡ head.counter
 
+-- nothing stands in an empty list
 none_among : {X : Type 0} (x : X) → Contains [] x → ⊥
 none_among x among = at_member (λ _. ⊥) [] x tt among
 
@@ -87,9 +88,11 @@ module _ (h : History) (p : Packet) where
     abbrev t : Tables
     t = answers_of of.done.before.state
 
+    -- the rule that replied was brought about by the datagram
     brought : OfDatagram h p of.done.by at
     brought = (at_member (WasBrought h (Datagram p.from p.to p.bytes)) trail of.done (all_brought h (Datagram p.from p.to p.bytes)) of.among).1
 
+    -- and its reply says what replies of its rule say
     says : IsReply of.done.by t e
     says = at_member (IsReply of.done.by t) (outcome_of of.done).replies e (rule_replied t of.done.by) of.replied
 
@@ -115,6 +118,7 @@ module _ (h : History) (p : Packet) where
           counted = a.counted;
         }
 
+    -- by the rule that replied
     by_rule : (head : EventgroupEntry) → IsGroupEntry e head → is_ack head ≡ true → (r : Rule) → of.done.by ≡ r → OfDatagram h p r at → IsReply r t e → AnswersSubscribe h p head
     by_rule head is ack (plans.TakesSubscribe client asked endpoint) by came s = by_subscribe head is ack client asked endpoint by came
     by_rule head is ack (plans.TakesFind f) by came s = let o = ap (λ x. x.head) s.4 in absurd cc
@@ -124,6 +128,7 @@ module _ (h : History) (p : Packet) where
         let other = k ∙ is_ack_kind head ack in absurd cc
     by_rule head is ack r by came s = absurd s
 
+    -- an Ack that was replied answers a Subscribe that was accepted
     pub answers_subscribe : (head : EventgroupEntry) → IsGroupEntry e head → is_ack head ≡ true → AnswersSubscribe h p head
     answers_subscribe head is ack = by_rule head is ack of.done.by refl brought says
 
@@ -131,6 +136,7 @@ module _ (h : History) (p : Packet) where
     abbrev AnswersFind : Type 0
     AnswersFind = (f : ServiceEntry) × IsTrue (is_find f) × ((endpoint : Option SocketAddrV4) × HasServiceEntry p f endpoint)
 
+    -- by the rule that replied
     by_finder : (head : ServiceEntry) → IsInstanceEntry e head → (r : Rule) → OfDatagram h p r at → IsReply r t e → AnswersFind
     by_finder head is (plans.TakesFind f) came s = (f, came.1.0, came.1.1)
     by_finder head is (plans.TakesOffer o) came s = let x = ap (λ y. y.head) s.1.4 in absurd cc
@@ -138,5 +144,6 @@ module _ (h : History) (p : Packet) where
     by_finder head is (plans.TakesSubscribe client asked endpoint) came (inr s) = let x = ap (λ y. y.head) s.2 in absurd cc
     by_finder head is r came s = absurd s
 
+    -- an entry about an instance that was replied answers a Find
     pub answers_find : (head : ServiceEntry) → IsInstanceEntry e head → AnswersFind
     answers_find head is = by_finder head is of.done.by brought says

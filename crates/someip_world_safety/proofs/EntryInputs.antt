@@ -16,9 +16,11 @@ TakesEntry (TakesAck peer head) = Unit {0}
 TakesEntry r = ⊥
 
 module _ (h : History) (r : Rule) (at : History) (takes : TakesEntry r) where
+  -- the rule is no other
   other : (q : Rule) → r ≡ q → TakesEntry q
   other q is = subst TakesEntry is takes
 
+  -- no other input brings such a rule about
   by_datagram : (input : Input) → Brings h input r at → (p : Packet) × (input ≡ Datagram p.from p.to p.bytes)
   by_datagram (Datagram from to bytes) m = (record { from = from; to = to; bytes = bytes }, refl)
   by_datagram (Tick ms) (inl m) = absurd (other _ m.0)
@@ -41,11 +43,13 @@ pub record CameWith (input : Input) (r : Rule) : Type 0 where
   pub entry : OfEntry packet r
 
 module _ (h : History) (input : Input) (at : History) where
+  -- an Ack
   pub ack_came : (peer : Ipv4Addr) (head : EventgroupEntry) → Brings h input (TakesAck peer head) at → CameWith input (TakesAck peer head)
   ack_came peer head m =
       let came = by_datagram h (TakesAck peer head) at tt input m in
       record { packet = came.0; is = came.1; entry = (subst (λ i. Brings h i (TakesAck peer head) at) came.1 m).1 }
 
+  -- an Offer
   pub offer_came : (offer : ReceivedOffer) → Brings h input (TakesOffer offer) at → CameWith input (TakesOffer offer)
   offer_came offer m =
       let came = by_datagram h (TakesOffer offer) at tt input m in

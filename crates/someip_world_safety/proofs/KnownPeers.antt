@@ -32,6 +32,7 @@ use Rattle.someip_world_exchanges.proofs.CourseLemmas.{BeginsAt, GoesOn, acked_s
 
 -- ---- the peers of known offers, and of subscriptions
 
+-- what is kept stood before
 still_kept : {V : Type 0} (p : V → Bool) (o : Option V) (v : V) → kept_if p o ≡ Some v → o ≡ Some v
 still_kept p None v is = is
 still_kept p (Some x) v is = cases (p x) is
@@ -47,15 +48,18 @@ module _ (P : Ipv4Addr → Type 0) where
   IsFrom item = Unit {0}
 
   module _ (q : InstanceId) (lasting : Lasting KnownOffer) where
+    -- an Offer that counted sets the known offer of its instance, and no other
     by_offer : (offer : ReceivedOffer) (endpoint : SocketAddrV4) (now : ℕ) (stood : Option (Lasting KnownOffer)) → P offer.peer → (stood ≡ Some lasting → P lasting.value.peer)
         → (b : Bool) → (if b then Some (offer_from offer endpoint now) else stood) ≡ Some lasting → P lasting.value.peer
     by_offer offer endpoint now stood here rest true is = let one : offer_from offer endpoint now ≡ lasting = cc in subst (λ l. P l.value.peer) one here
     by_offer offer endpoint now stood here rest false is = rest is
 
+    -- a known offer that is not gone stood before
     unless_gone : (b : Bool) (stood : Option (Lasting KnownOffer)) → (stood ≡ Some lasting → P lasting.value.peer) → (if b then None else stood) ≡ Some lasting → P lasting.value.peer
     unless_gone true stood rest is = absurd cc
     unless_gone false stood rest is = rest is
 
+    -- the peer of a known offer
     pub known_from : (met : List Item) → AllByRecursion IsFrom met → known_offer_at met q ≡ Some lasting → P lasting.value.peer
     known_from [] all is = absurd cc
     known_from (items.OfferCounted offer endpoint ∷ before) all is =
@@ -65,6 +69,7 @@ module _ (P : Ipv4Addr → Type 0) where
     known_from (items.PeerRebooted peer ∷ before) all is = known_from before all.1 (still_kept (λ l. not (stands_by peer (clock_at before) l)) (known_offer_at before q) lasting is)
     known_from (item ∷ before) all is = known_from before all.1 is
 
+  -- the peer of one that lasts
   pub known_peer_from : (now : ℕ) (q : InstanceId) (peer : Ipv4Addr) (met : List Item) → AllByRecursion IsFrom met → option_map (λ known. known.peer) (known_at now (known_offer_at met q)) ≡ Some peer → P peer
   known_peer_from now q peer met all is = cases (known_offer_at met q) refl is
     where
@@ -76,6 +81,7 @@ module _ (P : Ipv4Addr → Type 0) where
       cases None here e = absurd cc
       cases (Some lasting) here e = by_time lasting (not (has_passed now lasting.until)) here e
 
+  -- the peer of a subscription
   pub course_from : (met : List Item) (q : Eventgroup) (b : Beginning) → AllByRecursion IsFrom met → (course_at met q).beginning ≡ Some b → P b.peer
   course_from [] q b all is = absurd cc
   course_from (x ∷ before) q b all is = cases x (is_tame x) refl (λ c e. course_from before q c all.1 e) all.0 is
@@ -112,6 +118,7 @@ module _ (P : Ipv4Addr → Type 0) where
 
 -- ---- from the tables
 
+-- what stands by the stage of a wish was begun
 stage_begun : (now : ℕ) (stage : Stage) (b : Beginning) → standing now stage ≡ Some b → stage ≡ stages.Begun b
 stage_begun now stages.Unwished b is = absurd cc
 stage_begun now stages.Waiting b is = absurd cc
@@ -121,6 +128,7 @@ stage_begun now (stages.Begun x) b is = cases (is_over now x) is
     cases true e = absurd cc
     cases false e = let one : x ≡ b = cc in ap stages.Begun one
 
+-- a stage that was begun is that of the course
 course_begun : (wished : Bool) (o : Option Beginning) (b : Beginning) → stage_of wished o ≡ stages.Begun b → o ≡ Some b
 course_begun false o b is = absurd cc
 course_begun true None b is = absurd cc

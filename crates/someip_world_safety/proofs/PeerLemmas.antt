@@ -71,6 +71,7 @@ module _ (nodes : List SetupNode) (configs : List Config) (ss : List Step) (fits
   abbrev IsNode : Ipv4Addr → Type 0
   IsNode = IsOfNode configs
 
+  -- each Offer that a node met came from a node
   met_from : (n place : ℕ) (h : History) (x : Item) → WasMet nodes configs (take n ss) place h x → IsFrom IsNode x
   met_from n place h (items.OfferCounted offer endpoint) was =
       let by = was.by in
@@ -81,6 +82,7 @@ module _ (nodes : List SetupNode) (configs : List Config) (ss : List Step) (fits
       subst IsNode (ap (λ x. x.peer) (sym of.3)) node
   met_from n place h x was = tt
 
+  -- so it is with all that a node met
   all_from : (n : ℕ) (s : Step) (t : Turn nodes configs ss n s) → AllByRecursion (IsFrom IsNode) t.history.items
   all_from n s t =
       let origins = all_origins nodes configs (take n ss) t.before t.led t.place t.history t.stands in
@@ -101,6 +103,7 @@ module _ (nodes : List SetupNode) (configs : List Config) (ss : List Step) (fits
     abbrev h : History
     h = does.turn.history
 
+    -- by the input
     by_input : (input : Input) (peer : Ipv4Addr) (own : List EntryValue) (at : History) (e : EntryValue) → does.input ≡ input → Contains own e → Brings h input (RepliesTo peer own) at → IsNode peer
     by_input (inputs.Datagram from to bytes) peer own at e is among m =
         let p : Packet = record { from = from; to = to; bytes = bytes } in

@@ -28,6 +28,7 @@ IsFair Fair (both p q) = IsFair Fair p × IsFair Fair q
 IsFair Fair (asks f) = (t : _) → IsFair Fair (f t)
 IsFair Fair (replying f) = (entries : List EntryValue) → IsFair (SendsOnly entries) (f entries)
 
+-- several plans are fair where each is
 pub fair_each : {X : Type 0} (Fair : Rule → Type 0) (Q : X → Type 0) (f : X → Plan) → ((x : X) → Q x → IsFair Fair (f x)) → (xs : List X) → AllByRecursion Q xs → IsFair Fair (each f xs)
 fair_each Fair Q f one [] all = tt
 fair_each Fair Q f one (x ∷ xs) all = (one x all.0, fair_each Fair Q f one xs all.1)
@@ -40,10 +41,12 @@ pub record IsReplyOf (dones : List Done) (entry : EntryValue) : Type 0 where
   pub among : Contains dones done
   pub replied : Contains (outcome_of done).replies entry
 
+-- the first part of a list
 left_of : {X : Type 0} (P : X → Type 0) (xs ys : List X) → AllByRecursion P (xs ++ ys) → AllByRecursion P xs
 left_of P [] ys all = tt
 left_of P (x ∷ xs) ys all = (all.0, left_of P xs ys all.1)
 
+-- the second part
 right_of : {X : Type 0} (P : X → Type 0) (xs ys : List X) → AllByRecursion P (xs ++ ys) → AllByRecursion P ys
 right_of P [] ys all = all
 right_of P (x ∷ xs) ys all = right_of P xs ys all.1
@@ -53,6 +56,7 @@ module _ (dones : List Done) where
   abbrev SendsReplies : Done → Type 0
   SendsReplies d = (peer : Ipv4Addr) (own : List EntryValue) → d.by ≡ RepliesTo peer own → AllByRecursion (IsReplyOf dones) own
 
+  -- the replies so far are replies of these
   abbrev AreReplies : Work History → Type 0
   AreReplies w = AllByRecursion (IsReplyOf dones) w.replies
 

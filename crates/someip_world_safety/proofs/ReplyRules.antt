@@ -47,29 +47,35 @@ use Rattle.someip_world_safety.proofs.ReplyPlans.{IsFair, IsReplyOf, SendsNone, 
 abbrev RepliesAlone : Plan → Type 0
 RepliesAlone p = IsFair SendsNone p
 
+-- several such plans
 all_alone : {X : Type 0} (f : X → Plan) → ((x : X) → RepliesAlone (f x)) → (xs : List X) → RepliesAlone (each f xs)
 all_alone f one xs = fair_each SendsNone (λ _. Unit {0}) f (λ x _. one x) xs (all_from_members (λ _. Unit {0}) xs (λ _ _. tt))
 
 -- ---- messages of the application
 
+-- a message that comes to the client
 client_alone : (from : SocketAddrV4) (header : Header) (payload : List ℕ) (kind : MessageType) → RepliesAlone (client_plan from header payload kind)
 client_alone from header payload kinds.Notification = tt
 client_alone from header payload _ = tt
 
+-- a whole message
 whole_alone : (goal : Target) (from : SocketAddrV4) (header : Header) (payload : List ℕ) → RepliesAlone (whole_plan goal from header payload)
 whole_alone (target.Instance instance) from header payload = tt
 whole_alone target.Client from header payload = client_alone from header payload header.kind
 whole_alone (target.Discovery channel) from header payload = tt
 whole_alone target.Nowhere from header payload = tt
 
+-- what a segment completed
 completed_alone : (goal : Target) (from : SocketAddrV4) (header : Header) (whole : Option (List ℕ)) → RepliesAlone (completed_plan goal from header whole)
 completed_alone goal from header None = tt
 completed_alone goal from header (Some payload) = whole_alone goal from (record header { kind = without_tp_flag header.kind }) payload
 
+-- a segment
 segment_alone : (goal : Target) (from to : SocketAddrV4) (header : Header) (read : Result (ℕ × Bool × List ℕ) TpError) → RepliesAlone (segment_plan goal from to header read)
 segment_alone goal from to header (Err fault) = tt
 segment_alone goal from to header (Ok r) = λ t. (tt, completed_alone goal from header (completed (offer (segment_key from to header) r.0 r.1 r.2) t))
 
+-- a message, whole or a segment
 message_alone : (goal : Target) (from to : SocketAddrV4) (m : MessageValue) → RepliesAlone (message_plan goal from to m)
 message_alone goal from to m =
     cond_both (has_tp_flag m.header.kind) _ _ RepliesAlone (λ _. segment_alone goal from to m.header (segment_in m.payload)) (λ _. whole_alone goal from m.header m.payload)
@@ -77,14 +83,17 @@ message_alone goal from to m =
 -- ---- Service Discovery
 
 module _ (peer : Ipv4Addr) where
+  -- an entry about an instance
   service_alone : (head : ServiceEntry) (endpoint : Option SocketAddrV4) → RepliesAlone (service_plan peer head endpoint)
   service_alone head endpoint = cond_both (is_find head) _ _ RepliesAlone (λ _. tt) (λ _. cond_both (is_stop_offer head) _ _ RepliesAlone (λ _. tt) (λ _. tt))
 
+  -- an entry about an eventgroup
   eventgroup_alone : (head : EventgroupEntry) (endpoint : Option SocketAddrV4) → RepliesAlone (eventgroup_plan peer head endpoint)
   eventgroup_alone head endpoint =
       cond_both (is_subscribe head) _ _ RepliesAlone (λ _. tt)
       (λ _. cond_both (is_stop_subscribe head) _ _ RepliesAlone (λ _. tt) (λ _. cond_both (is_ack head) _ _ RepliesAlone (λ _. tt) (λ _. tt)))
 
+  -- an entry
   entry_alone : (e : ReadValue) → RepliesAlone (entry_plan peer e)
   entry_alone (good e) = by_head e.head
     where
@@ -100,20 +109,24 @@ module _ (peer : Ipv4Addr) where
       fair_each (SendsOnly entries) (AllByRecursion (Contains entries)) (message_plan_to (Peer peer)) (λ front all. all) (fronts entries)
       (all_fronts (Contains entries) (front_lengths entries) entries (all_members entries))
 
+  -- a message of Service Discovery with its entries, and the replies to them
   heard_alone : (channel : Channel) (session : ℕ) (v : SdValue) → RepliesAlone (heard_plan peer channel session v)
   heard_alone channel session v = λ t.
       cond_both (not (may_hold t.config.common.peers t.peers peer)) _ _ RepliesAlone (λ _. tt) (λ _. (tt, (all_alone (entry_plan peer) entry_alone v.entries, replies_alone)))
 
+  -- one that was read
   reading_alone : (channel : Channel) (session : ℕ) (read : Result SdValue SdError) → RepliesAlone (reading_plan peer channel session read)
   reading_alone channel session (Err fault) = tt
   reading_alone channel session (Ok v) = heard_alone channel session v
 
+  -- one that came
   discovery_alone : (channel : Channel) (m : MessageValue) → RepliesAlone (discovery_plan peer channel m)
   discovery_alone channel m = cond_both (is_discovery m.header) _ _ RepliesAlone (λ _. reading_alone channel m.header.session (reading m.payload)) (λ _. tt)
 
 -- ---- datagrams
 
 module _ (from to : SocketAddrV4) where
+  -- a message where it is taken
   item_alone : (goal : Target) (item : Result MessageValue WireError) → RepliesAlone (item_plan goal from to item)
   item_alone goal (Err fault) = tt
   item_alone (target.Discovery channel) (Ok m) = discovery_alone (v4_ip from) channel m
@@ -121,12 +134,14 @@ module _ (from to : SocketAddrV4) where
   item_alone target.Client (Ok m) = message_alone target.Client from to m
   item_alone target.Nowhere (Ok m) = message_alone target.Nowhere from to m
 
+  -- all messages of a datagram
   target_alone : (goal : Target) (bytes : List ℕ) → RepliesAlone (target_plan goal from to bytes)
   target_alone target.Nowhere bytes = tt
   target_alone (target.Discovery channel) bytes = all_alone (item_plan (target.Discovery channel) from to) (item_alone (target.Discovery channel)) (items_of bytes)
   target_alone (target.Instance instance) bytes = all_alone (item_plan (target.Instance instance) from to) (item_alone (target.Instance instance)) (items_of bytes)
   target_alone target.Client bytes = all_alone (item_plan target.Client from to) (item_alone target.Client) (items_of bytes)
 
+  -- a datagram
   datagram_alone : (bytes : List ℕ) → RepliesAlone (datagram_plan from to bytes)
   datagram_alone bytes = λ t. cond_both (same_address (v4_ip from) t.config.address) _ _ RepliesAlone (λ _. tt) (λ _. target_alone (target_of t.config to) bytes)
 

@@ -44,15 +44,18 @@ use Rattle.someip_world_exchanges.proofs.CourseLemmas.{begun_grows_on, is_tame}
 
 -- ---- the items of a rule: none that begins or acknowledges, or one alone
 
+-- the rules of these items
 abbrev is_special : Rule → Bool
 is_special (TakesOffer offer) = true
 is_special (TakesAck peer head) = true
 is_special (Wishes eventgroup) = true
 is_special r = false
 
+-- another rule does not meet them
 no_special : (r : Rule) (x : Item) (q : Rule) → is_special r ≡ false → is_special q ≡ true → r ≡ q → is_tame x ≡ true
 no_special r x q none some is = let same = ap is_special is in absurd cc
 
+-- what another rule meets is tame
 tame_unless : (r : Rule) (x : Item) (h : History) → is_special r ≡ false → IsMet x r (answers_of h) → is_tame x ≡ true
 tame_unless r (items.OfferCounted offer endpoint) h none m = no_special r (items.OfferCounted offer endpoint) (TakesOffer offer) none refl m.0
 tame_unless r (items.Wished eventgroup) h none m = no_special r (items.Wished eventgroup) (Wishes eventgroup) none refl m
@@ -74,6 +77,7 @@ module _ (h : History) where
   abbrev t : Tables
   t = answers_of h
 
+  -- an Offer counts, or nothing is met
   of_offer : (o : ReceivedOffer) (cause : Option Uncounted) → Kinds (TakesOffer o) (offer_by o cause t).items
   of_offer o None = by_endpoint o.endpoint
     where
@@ -84,9 +88,11 @@ module _ (h : History) where
   of_offer o (Some left_out.NoEndpoint) = Tame tt
   of_offer o (Some left_out.OtherPeer) = Tame tt
 
+  -- another rule
   of_tame : (r : Rule) → is_special r ≡ false → Kinds r (rule r t).items
   of_tame r none = Tame (all_weaker (λ x. IsMet x r t) (λ x. is_tame x ≡ true) (λ x m. tame_unless r x h none m) (rule r t).items (rule_noted t r))
 
+  -- each rule
   pub kinds_of : (r : Rule) → Kinds r (rule r t).items
   kinds_of r = cases r (is_special r) refl
     where
@@ -105,11 +111,13 @@ MayBegin r = ⊥
 
 -- ---- what an answered subscription shares with its answer
 
+-- both of two hold
 both_true : (a b : Bool) → (a && b) ≡ true → (a ≡ true) × (b ≡ true)
 both_true true true is = (refl, refl)
 both_true true false is = absurd cc
 both_true false b is = absurd cc
 
+-- the peer and the counter
 pub answered_parts : (now : ℕ) (answer : SubscribeAnswer) (was : Beginning) → is_answered_by now answer was ≡ true → (was.peer ≡ answer.peer) × (was.counter ≡ answer.counter)
 answered_parts now answer was is = cases (is_over now was) is
   where
@@ -124,13 +132,16 @@ answered_parts now answer was is = cases (is_over now was) is
 
 -- ---- histories on the way
 
+-- one after the other
 after_both : (h : History) (xs ys : List Item) → after (after h xs) ys ≡ after h (xs ++ ys)
 after_both h [] ys = refl
 after_both h (x ∷ xs) ys = after_both (met h x) xs ys
 
+-- the first of a list stands in it
 pub first_of_list : {X : Type 0} (x : X) (xs : List X) → Contains (x ∷ xs) x
 first_of_list x xs = Contains-get_or (x ∷ xs) 0 x (omega arith)
 
+-- after one rule more
 pub after_more : (h : History) (earlier : List Done) (d : Done) → after (after h (met_by earlier)) (outcome_of d).items ≡ after h (met_by (earlier ++ d ∷ []))
 after_more h earlier d =
     ap (after (after h (met_by earlier))) (sym (append-nil (outcome_of d).items)) ∙ after_both h (met_by earlier) ((outcome_of d).items ++ [])
@@ -138,9 +149,11 @@ after_more h earlier d =
 
 -- ---- what an opening says
 
+-- one key is of one exchange
 same_fields : (a b : SubscriptionExchange) → keys.Subscription a ≡ keys.Subscription b → a ≡ b
 same_fields a b is = cc
 
+-- an item that opens the key of a subscription makes one beginning more, at the node of the address
 pub opens_so : (at : History) (x : Item) (address peer : Ipv4Addr) (q : Eventgroup) (counter : ℕ) → Opens at x (of_subscription address peer q counter)
     → (address ≡ at.config.address) × ((course_at at.items q).begun < (course_at (met at x).items q).begun)
 opens_so at (items.Called call p session) address peer q counter o = absurd cc
@@ -152,6 +165,7 @@ opens_so at x address peer q counter o =
     let more : (course_at (met at x).items q).begun ≡ suc (course_at at.items q).begun = subst (λ e. (course_at (met at x).items e).begun ≡ suc (course_at at.items e).begun) same o.3.more in
     (own, omega (arith, more))
 
+-- a list is cut at each of its elements
 all_split : {X : Type 0} (xs : List X) → AllByRecursion (λ x. (earlier : List X) × (later : List X) × (xs ≡ earlier ++ x ∷ later)) xs
 all_split [] = tt
 all_split (x ∷ xs) = (
@@ -160,6 +174,7 @@ all_split (x ∷ xs) = (
       (λ y parts. (x ∷ parts.0, parts.1, ap (λ zs. x ∷ zs) parts.2)) xs (all_split xs),
 )
 
+-- what is met before a rule, by it and after it
 after_parts : (h : History) (earlier later : List Done) (d : Done) → after h (met_by (earlier ++ d ∷ later)) ≡ after (after (after h (met_by earlier)) (outcome_of d).items) (met_by later)
 after_parts h earlier later d =
     ap (after h) (flat_map-append (λ (done : Done). (outcome_of done).items) earlier (d ∷ later)) ∙ sym (after_both h (met_by earlier) ((outcome_of d).items ++ met_by later))

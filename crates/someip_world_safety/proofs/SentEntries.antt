@@ -38,6 +38,7 @@ IsInstanceEntry e head = e.head ≡ heads.Service head
 
 -- ---- kinds
 
+-- an Ack has the type of an Ack
 pub is_ack_kind : (head : EventgroupEntry) → is_ack head ≡ true → head.kind ≡ group_kinds.Ack
 is_ack_kind head is = by head.kind is
   where
@@ -45,6 +46,7 @@ is_ack_kind head is = by head.kind is
     by group_kinds.Ack e = refl
     by group_kinds.Subscribe e = absurd cc
 
+-- and a Subscribe that of a Subscribe
 pub is_subscribe_kind : (head : EventgroupEntry) → is_subscribe head ≡ true → head.kind ≡ group_kinds.Subscribe
 is_subscribe_kind head is = by head.kind is
   where
@@ -59,6 +61,7 @@ due_no_group : (now : ℕ) (t : Tables) (e : EntryValue) (head : EventgroupEntry
 due_no_group now t e head (inl due) is = let same = due.4 in let o = ap (λ x. x.head) same in absurd cc
 due_no_group now t e head (inr due) is = let same = due.4 in let o = ap (λ x. x.head) same in absurd cc
 
+-- what is stopped is an Offer
 stop_offer_no_group : (t : Tables) (instance : InstanceId) (e : EntryValue) (head : EventgroupEntry) → Contains (stop_offer_of t instance) e → IsGroupEntry e head → ⊥
 stop_offer_no_group t instance e head among is = at_member (λ x. (g : EventgroupEntry) → IsGroupEntry x g → ⊥) (stop_offer_of t instance) e (by (offered_as t.config instance)) among head is
   where
@@ -94,11 +97,13 @@ announces_no_group h (StopOffer instance) own at e head (inr m) among is =
 abbrev IsAsking : EntryValue → Type 0
 IsAsking e = (head : EventgroupEntry) × IsGroupEntry e head × (head.kind ≡ group_kinds.Subscribe)
 
+-- the Subscribe of a wanted instance
 subscribe_asks : (t : Tables) (o : Option WantedService) (eventgroup : Eventgroup) (counter : ℕ) (ttl_of : WantedService → ℕ)
     → AllByRecursion IsAsking (option_map_or (λ want. subscribe_entry (client_endpoint t.config) want.major (ttl_of want) eventgroup counter ∷ []) o [])
 subscribe_asks t None eventgroup counter ttl_of = tt
 subscribe_asks t (Some want) eventgroup counter ttl_of = ((_, refl, refl), tt)
 
+-- and that of a wish
 wish_asks : (t : Tables) (eventgroup : Eventgroup) (counter : Option ℕ) → AllByRecursion IsAsking (wish_entries_by t eventgroup counter)
 wish_asks t eventgroup None = tt
 wish_asks t eventgroup (Some counter) = subscribe_asks t (wanted_as t.config eventgroup.instance) eventgroup counter (λ want. want.ttl)
@@ -108,6 +113,7 @@ pub data ToPeer (h : History) (input : Input) (peer : Ipv4Addr) (own : List Entr
   Back : (p : Packet) → input ≡ Datagram p.from p.to p.bytes → peer ≡ v4_ip p.from → RepliesToEntry h p e → ToPeer h input peer own e
   Asks : IsAsking e → ToPeer h input peer own e
 
+-- what a rule sends to a peer
 pub to_peer : (h : History) (input : Input) (peer : Ipv4Addr) (own : List EntryValue) (at : History) (e : EntryValue) → Brings h input (RepliesTo peer own) at → Contains own e → ToPeer h input peer own e
 to_peer h (Datagram from to bytes) peer own at e m among =
     let p : Packet = record { from = from; to = to; bytes = bytes } in Back p refl m.0 (at_member (RepliesToEntry h p) own e m.1 among)
@@ -134,6 +140,7 @@ to_peer h (StopOffer instance) peer own at e (inr m) among = let x = m.0 in absu
 
 -- ---- so no Find goes to a peer
 
+-- no reply is a Find
 reply_no_find : (r : Rule) (t : Tables) (e : EntryValue) (f : ServiceEntry) → IsReply r t e → IsInstanceEntry e f → is_find f ≡ true → ⊥
 reply_no_find (plans.TakesFind sought) t e f says is find =
     let x = ap (λ y. y.head) says.4 in
@@ -144,6 +151,7 @@ reply_no_find (plans.TakesSubscribe peer asked endpoint) t e f (inl says) is fin
 reply_no_find (plans.TakesSubscribe peer asked endpoint) t e f (inr says) is find = let x = ap (λ y. y.head) says.2 in absurd cc
 reply_no_find r t e f says is find = absurd says
 
+-- and nothing else that goes to a peer
 pub no_find_to_peer : (h : History) (input : Input) (peer : Ipv4Addr) (own : List EntryValue) (at : History) (e : EntryValue) (f : ServiceEntry) → Brings h input (RepliesTo peer own) at → Contains own e
     → IsInstanceEntry e f → is_find f ≡ true → ⊥
 no_find_to_peer h input peer own at e f brought among is find = cases (to_peer h input peer own at e brought among)

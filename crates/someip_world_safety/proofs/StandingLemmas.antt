@@ -41,6 +41,7 @@ exactly i n low high = omega (arith, low, high)
 
 -- ---- the start
 
+-- each node begins with the history of its start
 pub begun_so : (ns : List SetupNode) (cs : List Config) (place : ℕ) (h : History) → slice_get (started_nodes ns cs) place ≡ Some h
     → (config : Config) × (delay : ℕ) × (slice_get cs place ≡ Some config) × (h ≡ start_of config delay)
 begun_so [] cs place h is = absurd cc
@@ -52,6 +53,7 @@ module _ (nodes : List SetupNode) (configs : List Config) (ss : List Step) where
   -- ---- from step to step
 
   module _ (own : HaveOwnAddresses configs) (acks : AcksSay nodes configs ss) (alone : AcksBeginNone nodes configs ss) where
+    -- what was accepted before a step was accepted before the next
     later_accepted : (n : ℕ) (address peer : Ipv4Addr) (q : Eventgroup) (counter since : ℕ) → WasAccepted nodes configs ss n address peer q counter since
         → WasAccepted nodes configs ss (suc n) address peer q counter since
     later_accepted n address peer q counter since w = let less = w.before in record {
@@ -92,16 +94,19 @@ module _ (nodes : List SetupNode) (configs : List Config) (ss : List Step) where
           last_on i after until o true is = none (subst (λ j. Opened nodes configs ss j (key_at nodes configs ss address q b)) (eqb-true i n is) o)
           last_on i after until o false is = let ne = eqb-false i n is in begun.last i after (below i n until ne) o
 
+      -- a step that takes an input starts no node again
       takes_no_restart : (input : Input) → t.deed ≡ Takes input → Restarted nodes configs ss n t.place → ⊥
       takes_no_restart input takes r =
           let one = one_turn nodes configs ss n s t r.step r.turn in
           let e = sym takes ∙ one.deed ∙ r.restarts in
           absurd cc
 
+      -- and one at another place not this node
       other_place : (place : ℕ) → place ≢ t.place → Restarted nodes configs ss n place → ⊥
       other_place place ne r =
           let one = one_turn nodes configs ss n s t r.step r.turn in ne (sym r.at ∙ sym one.place)
 
+      -- a node has its configuration
       configured : (place : ℕ) (h : History) → slice_get t.before.histories place ≡ Some h → slice_get configs place ≡ Some h.config
       configured place h here = (all_origins nodes configs (take n ss) t.before t.led place h here).configured
 
@@ -124,6 +129,7 @@ module _ (nodes : List SetupNode) (configs : List Config) (ss : List Step) where
                 omega (arith, low, high, more),
           )
 
+      -- a refused input opens nothing
       refused_opens_none : (refusal : NodeError) (input : Input) → t.deed ≡ Takes input → step t.history input ≡ Err refusal → (key : ExchangeKey) → Opened nodes configs ss n key → ⊥
       refused_opens_none refusal input takes refused key o =
           let does = o.does in
@@ -133,6 +139,7 @@ module _ (nodes : List SetupNode) (configs : List Config) (ss : List Step) where
           let e = sym refused ∙ (λ i. step (one.history i) (input_is i)) ∙ does.happened in
           absurd cc
 
+      -- after a step in which the node takes an input
       by_due : (input : Input) → t.deed ≡ Takes input → (due : Result (Work History) NodeError) → step t.history input ≡ due → (q : Eventgroup) (b : Beginning)
           → (course_at (history_after t.history due).items q).beginning ≡ Some b → IsBegun nodes configs ss (suc n) t.place t.history.config.address q b
       by_due input takes (Err refusal) due q b is =
@@ -158,11 +165,13 @@ module _ (nodes : List SetupNode) (configs : List Config) (ss : List Step) where
             acked = λ until ends. let e = sym none ∙ ends in absurd cc;
           }
 
+      -- after a step, at its node
       by_deed : (deed : Deed) → t.deed ≡ deed → (q : Eventgroup) (b : Beginning) → (course_at (history_after t.history (done_with t.history deed)).items q).beginning ≡ Some b
           → IsBegun nodes configs ss (suc n) t.place t.history.config.address q b
       by_deed (Takes input) takes q b is = by_due input takes (step t.history input) refl q b is
       by_deed (Restarts delay) takes q b is = absurd cc
 
+      -- a step leaves the configuration
       config_after : (deed : Deed) → (history_after t.history (done_with t.history deed)).config ≡ t.history.config
       config_after (Takes input) = by_result (step t.history input) refl
         where
@@ -171,6 +180,7 @@ module _ (nodes : List SetupNode) (configs : List Config) (ss : List Step) where
           by_result (Ok done) due = ap (λ x. x.config) (state_met t.history input done due) ∙ config_kept t.history (met_by (trail_of t.history input))
       config_after (Restarts delay) = refl
 
+      -- after a step, at all nodes
       pub begun_after : AreBegun nodes configs ss (suc n) (world_after (n + 1) t.place t.before t.history (done_with t.history t.deed))
       begun_after place h q b here is = cases (eqb place t.place) refl
         where
@@ -191,13 +201,16 @@ module _ (nodes : List SetupNode) (configs : List Config) (ss : List Step) where
               (λ o. ne (own place t.place h.config t.history.config (configured place h old) (configured t.place t.history t.stands) (opened_here h.config.address b.peer q b.counter o).0))
               (was place h q b old is)
 
+    -- clean up to a step, and so up to the one before
     clean_before : (n : ℕ) → IsCleanBefore nodes configs ss (suc n) → IsCleanBefore nodes configs ss n
     clean_before n clean i lt = clean i (omega (arith, lt))
 
+    -- at the start nothing was begun
     none_begun : AreBegun nodes configs ss 0 (world_of nodes configs)
     none_begun place h q b here is = let start = begun_so nodes configs place h here in
         let none : (course_at h.items q).beginning ≡ None = ap (λ x. (course_at x.items q).beginning) start.3 in let e = sym none ∙ is in absurd cc
 
+    -- before each step
     pub all_begun : (n : ℕ) (w : World) → n ≤ length ss → LeadTo nodes configs (take n ss) w → IsCleanBefore nodes configs ss n → AreBegun nodes configs ss n w
     all_begun =
         on_the_way nodes configs ss (λ n w. IsCleanBefore nodes configs ss n → AreBegun nodes configs ss n w) (λ clean. none_begun)

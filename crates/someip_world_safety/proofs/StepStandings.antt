@@ -44,6 +44,7 @@ use Rattle.someip_world_safety.proofs.RuleItems.{AWish, AllTame, AnAck, AnOffer,
 -- ---- the invariant
 
 module _ (nodes : List SetupNode) (configs : List Config) (ss : List Step) where
+  -- the key of a subscription that stands
   abbrev pub key_at : Ipv4Addr → Eventgroup → Beginning → ExchangeKey
   key_at address q b = of_subscription address b.peer q b.counter
 
@@ -63,6 +64,7 @@ module _ (nodes : List SetupNode) (configs : List Config) (ss : List Step) where
     pub last : (i : ℕ) → begun < i → i < n → Opened nodes configs ss i (key_at address q b) → ⊥
     pub acked : (until : Deadline) → b.until ≡ Some until → IsAcked n address b.peer q b.counter begun
 
+  -- all that stand at the nodes of a world are so
   abbrev pub AreBegun : ℕ → World → Type 0
   AreBegun n w =
       (place : ℕ) (h : History) (q : Eventgroup) (b : Beginning) → slice_get w.histories place ≡ Some h → (course_at h.items q).beginning ≡ Some b
@@ -114,6 +116,7 @@ module _ (nodes : List SetupNode) (configs : List Config) (ss : List Step) where
     abbrev pub AllInStep : History → Type 0
     AllInStep at = (q : Eventgroup) (b : Beginning) → (course_at at.items q).beginning ≡ Some b → InStep at q b
 
+    -- a course that goes on leaves it so
     goes_on_so : (at next : History) (q : Eventgroup) (b : Beginning) → GoesOn (course_at at.items q) (course_at next.items q)
         → ((b : Beginning) → (course_at at.items q).beginning ≡ Some b → InStep at q b) → (course_at next.items q).beginning ≡ Some b → InStep next q b
     goes_on_so at next q b goes old is = cases (old b (goes.keeps b is))
@@ -122,6 +125,7 @@ module _ (nodes : List SetupNode) (configs : List Config) (ss : List Step) where
         cases (Before count begun) = Before (goes.count ∙ count) begun
         cases (Now opened none e there may) = Now opened none e there may
 
+    -- tame items leave it so
     tame_step : (xs : List Item) (at : History) → AllTame xs → AllInStep at → AllInStep (after at xs)
     tame_step [] at all old = old
     tame_step (x ∷ xs) at all old = tame_step xs (met at x) all.1 (λ q b is. goes_on_so at (met at x) q b (tame_goes_on x at.items q all.0) (old q) is)
@@ -130,6 +134,7 @@ module _ (nodes : List SetupNode) (configs : List Config) (ss : List Step) where
       abbrev at : History
       at = d.before.state
 
+      -- what begins by an item of a rule opens its exchange in this step
       begins_so : (x : Item) (q : Eventgroup) (peer : Ipv4Addr) (counter : ℕ) (b : Beginning) → MayBegin d.by → (outcome_of d).items ≡ x ∷ []
           → ((key : ExchangeKey) → (e : Eventgroup) × (p : Ipv4Addr) × (c : ℕ) × Begins at x e p c × (key ≡ of_subscription at.config.address p e c) → Opens at x key)
           → BeginsAt (course_at at.items q) (course_at (met at x).items q) peer counter → (course_at (met at x).items q).beginning ≡ Some b → InStep (met at x) q b
@@ -151,6 +156,7 @@ module _ (nodes : List SetupNode) (configs : List Config) (ss : List Step) where
           (sym (ap (λ y. y.until) same)) d among may
 
       module _ (old : AllInStep at) where
+        -- an Offer
         offer_step : (offer : ReceivedOffer) (endpoint : SocketAddrV4) → d.by ≡ TakesOffer offer → (outcome_of d).items ≡ items.OfferCounted offer endpoint ∷ [] → AllInStep (met at (items.OfferCounted offer endpoint))
         offer_step offer endpoint by one q b is = cases (offered_so offer endpoint at.items q)
           where
@@ -159,6 +165,7 @@ module _ (nodes : List SetupNode) (configs : List Config) (ss : List Step) where
             cases (inl goes) = goes_on_so at (met at (items.OfferCounted offer endpoint)) q b goes (old q) is
             cases (inr begins) = begins_so (items.OfferCounted offer endpoint) q offer.peer _ b (subst MayBegin (sym by) tt) one (λ key o. o) begins is
 
+        -- a wish
         wish_step : (eventgroup : Eventgroup) → d.by ≡ Wishes eventgroup → (outcome_of d).items ≡ items.Wished eventgroup ∷ [] → AllInStep (met at (items.Wished eventgroup))
         wish_step eventgroup by one q b is = cases (wished_so eventgroup at.items q)
           where
@@ -224,10 +231,12 @@ module _ (nodes : List SetupNode) (configs : List Config) (ss : List Step) where
                 not_later a i lt opened true is = absurd (breaks a i (ltb-true a.since i is) lt opened)
                 not_later a i lt opened false is = ltb-false a.since i is
 
+            -- what stood before, by how it stood
             by_old : (was : Beginning) → InStep at q was → was.peer ≡ b.peer → was.counter ≡ b.counter → AckSays n address b.peer q b.counter → InStep (met at (items.AckCame answer ttl)) q b
             by_old was (Before same begun) same_peer same_counter a = Before (count ∙ same) (acked_now was begun same_peer same_counter a)
             by_old was (Now opened none e there may) same_peer same_counter a = absurd (alone n does d e peer head among by there may)
 
+            -- what the Ack does not answer
             plain : InStep at q b → InStep (met at (items.AckCame answer ttl)) q b
             plain (Before same begun) = Before (count ∙ same) begun
             plain (Now opened none e there may) = Now opened none e there may
@@ -238,6 +247,7 @@ module _ (nodes : List SetupNode) (configs : List Config) (ss : List Step) where
             cases (inl stood) = plain (old q b stood)
             cases (inr w) = by_old w.0 (old q w.0 w.1) w.2 w.3 (says w.0 w.2 w.3 w.4 w.5)
 
+        -- a rule
         done_step : Kinds d.by (outcome_of d).items → AllInStep (after at (outcome_of d).items)
         done_step (Tame all) = tame_step (outcome_of d).items at all old
         done_step (AnOffer offer endpoint by one) = subst (λ xs. AllInStep (after at xs)) (sym one) (offer_step offer endpoint by one)
@@ -256,5 +266,6 @@ module _ (nodes : List SetupNode) (configs : List Config) (ss : List Step) where
         walk (earlier ++ d ∷ []) later (is ∙ sym (append_assoc earlier (d ∷ []) later))
         (subst AllInStep (ap (λ x. after x (outcome_of d).items) at ∙ after_more h earlier d) next)
 
+    -- the whole step
     pub all_in_step : AllInStep h → AllInStep (after h (met_by trail))
     all_in_step old = walk [] trail refl old
