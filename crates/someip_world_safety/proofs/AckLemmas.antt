@@ -1,7 +1,7 @@
 -- An Ack that comes to a client belongs to the exchange of the Subscribe that it answers, which its server accepted.
-use Rattle.std.proofs.Common.{◌≡◌, ◌⊎◌, inl, inr, ℕ, ◌<◌, Bool, true, false, ◌||◌, List, [], ◌∷◌, ◌++◌, take, Some, arith, refl, sym, ap, subst, ◌∙◌}
+use Rattle.std.proofs.Common.{◌≡◌, ◌⊎◌, inl, inr, ℕ, ◌<◌, Bool, true, false, ◌||◌, List, [], ◌∷◌, ◌++◌, Some, arith, refl, sym, ap, subst, ◌∙◌}
 use Rattle.std.specs.List.{AllByRecursion, Contains}
-use Rattle.std.proofs.lemmas.List.Elements.{Contains-append_right, Contains-get_or}
+use Rattle.std.proofs.lemmas.List.Elements.{Contains-append_left, Contains-append_right, Contains-get_or}
 use Rattle.std.specs.Net.Socket.{v4_ip}
 use Rattle.std.specs.declared.net.ipv4_addr.Ipv4Addr.{Ipv4Addr}
 use Rattle.someip_tables.proofs.Entries.{same_by_test}
@@ -27,9 +27,9 @@ use Rattle.someip_world_rules.specs.Announced.{AllFits}
 use Rattle.someip_world_rules.specs.Datagrams.{SentDatagram}
 use Rattle.someip_world_rules.specs.Deeds.{is_addressed}
 use Rattle.someip_world_rules.specs.Turns.{Turn}
-use Rattle.someip_world_rules.proofs.OriginLemmas.{all_origins}
+use Rattle.someip_world_rules.proofs.OriginLemmas.{turn_configured}
 use Rattle.someip_world_exchanges.specs.Belonging.{Answered, Belongs}
-use Rattle.someip_world_exchanges.specs.Deliveries.{Delivers, Does}
+use Rattle.someip_world_rules.specs.Deliveries.{Delivers, Does}
 use Rattle.someip_world_exchanges.specs.Namings.{named_by_entries, named_by_head, named_by_kind, named_in, of_subscription}
 use Rattle.someip_world_exchanges.specs.declared.naming.Side.TheVariants.{Answerer, Opener}
 use Rattle.someip_world_safety.specs.Addresses.{AreOffGroup, IsOfNode}
@@ -43,11 +43,7 @@ use Rattle.someip_world_safety.proofs.StepStandings.{AckSays, AcksSay}
 
 -- one of two holds
 either_true : (a b : Bool) → (a || b) ≡ true → (a ≡ true) ⊎ (b ≡ true)
--- ---- keys that are named
-
 either_true true b is = inl refl
--- ---- keys that are named
-
 either_true false b is = inr is
 
 -- an entry names its key
@@ -75,7 +71,7 @@ module _ (nodes : List SetupNode) (configs : List Config) (ss : List Step) (fits
       cases : (same_address (v4_ip d.to) t.history.config.address ≡ true) ⊎ (same_address (v4_ip d.to) t.history.config.common.group ≡ true) → peer ≡ t.history.config.address
       cases (inl same) = sym goal ∙ same_by_test exact_addresses (v4_ip d.to) t.history.config.address same
       cases (inr same) =
-          absurd (off_group peer t.history.config t.place node (all_origins nodes configs (take n ss) t.before t.led t.place t.history t.stands).configured
+          absurd (off_group peer t.history.config t.place node (turn_configured nodes configs ss n s t)
           (sym goal ∙ same_by_test exact_addresses (v4_ip d.to) t.history.config.common.group same))
 
   -- what a reply answers was sent by the step whose datagram it was given for
@@ -116,18 +112,18 @@ module _ (nodes : List SetupNode) (configs : List Config) (ss : List Step) (fits
 
   -- the addresses at both ends
   replied_to : (i : ℕ) (d : SentDatagram) (head : EventgroupEntry) (r : IsReplied nodes configs ss i d head) (n : ℕ) (s : Step) (t : Turn nodes configs ss n s) → is_addressed t.history.config d ≡ true → r.peer ≡ t.history.config.address
-  replied_to i d head r n s t addressed = at_node n s t d r.peer r.goal (replies_go_to_nodes nodes configs ss fits i r.sends.does r.sends.by.done r.peer r.entries r.value r.among r.sends.by.brought.1 r.by) addressed
+  replied_to i d head r n s t addressed = at_node n s t d r.peer r.goal (replies_go_to_nodes nodes configs ss fits i r.sends.does r.sends.by.done r.peer r.entries r.value r.among r.sends.by.brought r.by) addressed
 
   -- both ways together
-  ends_say : (n : ℕ) (does : Does nodes configs ss n) (peer : Ipv4Addr) (head : EventgroupEntry) (a : AckWay nodes configs ss n does peer head) (b : SubscribeWay nodes configs ss a.sent a.ack.sends.does a.ack.peer head)
+  ends_say : (n : ℕ) (does : Does nodes configs ss n) (peer : Ipv4Addr) (head : EventgroupEntry) (a : AckWay nodes configs ss n does peer head) (b : SubscribeWay nodes configs ss a.sent a.datagram head a.ack)
       → AckSays nodes configs ss n does.turn.history.config.address peer (eventgroup_in head) head.counter
   ends_say n does peer head a b =
       let at_client : a.ack.peer ≡ does.turn.history.config.address = replied_to a.sent a.datagram head a.ack n does.step does.turn a.addressed in
-      let at_server : b.sub.peer ≡ a.ack.sends.does.turn.history.config.address = replied_to b.since b.datagram b.says.asked b.sub a.sent a.ack.sends.does.step a.ack.sends.does.turn b.addressed in
+      let at_server : b.sub.peer ≡ a.ack.sends.does.turn.history.config.address = replied_to b.since b.datagram b.says.accepted.head b.sub a.sent a.ack.sends.does.step a.ack.sends.does.turn b.addressed in
       let server_is : a.ack.sends.does.turn.history.config.address ≡ peer = sym a.ack.source ∙ a.source in
       let client_is : v4_ip b.datagram.from ≡ does.turn.history.config.address = b.back ∙ at_client in
-      let subscriber : b.says.client ≡ does.turn.history.config.address = b.says.from ∙ client_is in
       let server_too : v4_ip b.datagram.to ≡ peer = b.sub.goal ∙ at_server ∙ server_is in
+      let was = a.ack.sends.by.brought in
       let back_to : v4_ip a.datagram.to ≡ does.turn.history.config.address = a.ack.goal ∙ at_client in
       record {
         sent = a.sent;
@@ -141,22 +137,22 @@ module _ (nodes : List SetupNode) (configs : List Config) (ss : List Step) (fits
           before = a.before;
           by = record {
             does = a.ack.sends.does;
-            done = b.says.done;
-            among = subst (λ input. Contains (trail_of a.ack.sends.does.turn.history input) b.says.done) (sym b.came) b.says.among;
-            head = b.says.asked;
-            endpoint = b.says.endpoint;
-            takes = b.says.takes ∙ ap (λ c. TakesSubscribe c b.says.asked (Some b.says.endpoint)) subscriber;
-            subscribes = b.says.subscribes;
+            done = b.says.accepted.done;
+            among = subst (λ ds. Contains ds b.says.accepted.done) (sym was.trail) (Contains-append_left was.earlier (a.ack.sends.by.done ∷ was.later) b.says.accepted.done b.says.accepted.among);
+            head = b.says.accepted.head;
+            endpoint = b.says.accepted.subscriber;
+            takes = b.says.accepted.takes ∙ ap (λ c. TakesSubscribe c b.says.accepted.head (Some b.says.accepted.subscriber)) client_is;
+            subscribes = b.says.accepted.subscribes;
             about = b.says.group;
             counted = b.says.counted;
-            accepts = b.says.accepts
-                ∙ ap (λ c. SubscriptionAccepted (subscription_at (subscribe_in c b.says.asked (Some b.says.endpoint)) b.says.endpoint) b.says.asked.ttl ∷ []) subscriber;
+            accepts = b.says.accepted.accepts
+                ∙ ap (λ c. SubscriptionAccepted (subscription_at (subscribe_in c b.says.accepted.head (Some b.says.accepted.subscriber)) b.says.accepted.subscriber) b.says.accepted.head.ttl ∷ []) client_is;
           };
           is_server = server_is;
           sent = b.since;
           datagram = b.datagram;
           delivers = b.delivers;
-          belongs = subscribe_belongs b.since b.datagram b.says.asked b.sub does.turn.history.config.address peer (eventgroup_in head) head.counter b.says.subscribes client_is server_too b.says.group b.says.counted;
+          belongs = subscribe_belongs b.since b.datagram b.says.accepted.head b.sub does.turn.history.config.address peer (eventgroup_in head) head.counter b.says.accepted.subscribes client_is server_too b.says.group b.says.counted;
         };
       }
 
@@ -164,6 +160,6 @@ module _ (nodes : List SetupNode) (configs : List Config) (ss : List Step) (fits
   pub acks_say : AcksSay nodes configs ss
   acks_say n does d peer head among by =
       let brought = at_member (WasBrought does.turn.history does.input) (trail_of does.turn.history does.input) d (all_brought does.turn.history does.input) among in
-      let came = ack_came does.turn.history does.input d.before.state peer head (subst (λ r. Brings does.turn.history does.input r d.before.state) by brought.1) in
+      let came = ack_came does.turn.history does.input brought.earlier peer head (subst (λ r. Brings does.turn.history does.input r brought.earlier) by brought.brings) in
       let a = ack_way nodes configs ss fits n does peer head came.packet came.is came.entry in
       ends_say n does peer head a (way_back nodes configs ss fits a.sent a.datagram head a.ack a.acks)

@@ -1,6 +1,6 @@
 -- In a network that was read, nodes have addresses of their own, and none has that of the group.
-use Rattle.std.proofs.Common.{◌≡◌, ◌≢◌, ℕ, zero, suc, Bool, true, false, ◌||◌, List, [], ◌∷◌, slice_get, Some, refl, sym, ap, subst, ◌∙◌}
-use Rattle.std.specs.List.{AllByRecursion, list_any}
+use Rattle.std.proofs.Common.{◌≡◌, ◌≢◌, ℕ, zero, suc, Bool, true, false, ◌||◌, List, [], ◌∷◌, slice_get, Some, refl, sym, ap, ◌∙◌}
+use Rattle.std.specs.List.{list_any}
 use Rattle.std.proofs.lemmas.List.Elements.{recursion_from_All}
 use Rattle.std.specs.declared.net.ipv4_addr.Ipv4Addr.{Ipv4Addr}
 use Rattle.someip_tables.proofs.Entries.{own_test}
@@ -11,6 +11,7 @@ use Rattle.someip_world_setup.specs.Clashes.{has_repeat}
 use Rattle.someip_world_setup.specs.GoodSetups.{IsGoodNetwork, IsGoodNode, Network, addresses_of}
 use Rattle.someip_world_setup.specs.declared.setup_node.SetupNode.{SetupNode}
 use Rattle.someip_world_rules.specs.Runs.{AreCopies}
+use Rattle.someip_world_rules.proofs.Fronts.{all_got}
 use Rattle.someip_world_safety.specs.Addresses.{AreOffGroup, HaveOwnAddresses}
 
 -- neither of two holds
@@ -55,12 +56,6 @@ address_at [] p node is = absurd cc
 address_at (x ∷ nodes) zero node is = let one : x ≡ node = cc in ap (λ y. Some y.config.address) one
 address_at (x ∷ nodes) (suc p) node is = address_at nodes p node is
 
--- what holds of all holds of each
-all_at : {X : Type 0} (P : X → Type 0) (xs : List X) (n : ℕ) (x : X) → AllByRecursion P xs → slice_get xs n ≡ Some x → P x
-all_at P [] n x all is = absurd cc
-all_at P (y ∷ xs) zero x all is = let same : y ≡ x = cc in subst P same all.0
-all_at P (y ∷ xs) (suc n) x all is = all_at P xs n x all.1 is
-
 module _ (network : Network) (good : IsGoodNetwork network) (configs : List Config) (are : AreCopies network.nodes configs) where
   -- the group has no address of a node, and no two nodes have one
   parts : (list_any (same_address network.common.group) (addresses_of network.nodes) ≡ false) × (has_repeat same_address (addresses_of network.nodes) ≡ false)
@@ -79,7 +74,7 @@ module _ (network : Network) (good : IsGoodNetwork network) (configs : List Conf
   off_group address config place node here =
       let a = copied network.nodes configs are node.0 node.1 node.2 in
       let b = copied network.nodes configs are place config here in
-      let shared = (all_at (IsGoodNode network.common) network.nodes place b.0 (recursion_from_All (IsGoodNode network.common) network.nodes good.nodes) b.1).shared in
+      let shared = (all_got (IsGoodNode network.common) network.nodes place b.0 (recursion_from_All (IsGoodNode network.common) network.nodes good.nodes) b.1).shared in
       let group : config.common.group ≡ network.common.group = ap (λ x. x.group) (b.3 ∙ shared) in
       λ same. none_same network.common.group (addresses_of network.nodes) node.0 a.0.config.address parts.0 (address_at network.nodes node.0 a.0 a.1)
       (sym group ∙ sym same ∙ sym node.3 ∙ a.2)

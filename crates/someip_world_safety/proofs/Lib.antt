@@ -3,8 +3,6 @@ pub mod EntryInputs
 pub mod KnownPeers
 pub mod PeerLemmas
 pub mod SentEntries
-pub mod ReplyPlans
-pub mod ReplyRules
 pub mod AnsweredEntries
 pub mod RuleItems
 pub mod StepStandings

@@ -1,5 +1,5 @@
 -- What is sent to a peer goes to a node.
-use Rattle.std.proofs.Common.{◌≡◌, inl, inr, ℕ, List, take, Some, refl, sym, ap, subst, ◌∙◌}
+use Rattle.std.proofs.Common.{◌≡◌, inl, inr, ℕ, List, arith, Some, refl, sym, ap, subst, ◌∙◌}
 use Rattle.std.specs.List.{AllByRecursion, Contains}
 use Rattle.std.specs.Option.{option_map}
 use Rattle.std.specs.Net.Socket.{v4_ip}
@@ -11,7 +11,7 @@ use Rattle.sd_session.specs.declared.stamp.Stamp.{Stamp}
 use Rattle.sd_core.specs.declared.received.KnownOffer.{KnownOffer}
 use Rattle.sd_core.specs.SeekTables.{known_at}
 use Rattle.someip_node_rules.specs.declared.config.Config.{Config}
-use Rattle.someip_node_rules.specs.Bringing.{Brings, OfEntry, RepliesToEntry}
+use Rattle.someip_node_rules.specs.Bringing.{Brings, OfEntry, RepliesToEntry, WasBrought}
 use Rattle.someip_node_rules.specs.History.{History, answers_of}
 use Rattle.someip_node_rules.specs.Inputs as inputs
 use Rattle.someip_node_rules.specs.Inputs.{Input}
@@ -29,6 +29,7 @@ use Rattle.someip_node_rules.specs.Sending.{IsAnnounced}
 use Rattle.someip_node_rules.specs.Tables.{Tables}
 use Rattle.someip_node_rules.specs.Trails.{Done}
 use Rattle.someip_node_rules.proofs.MemberLemmas.{all_weaker, at_member}
+use Rattle.someip_node_rules.proofs.StepRules.{config_there}
 use Rattle.someip_node_rules.proofs.WishLives.{get-known}
 use Rattle.someip_world_schedule.specs.declared.step.Step.{Step}
 use Rattle.someip_world_setup.specs.declared.setup_node.SetupNode.{SetupNode}
@@ -37,13 +38,13 @@ use Rattle.someip_world_rules.specs.Datagrams.{SentDatagram}
 use Rattle.someip_world_rules.specs.Deeds as deeds
 use Rattle.someip_world_rules.specs.Origins.{WasMet}
 use Rattle.someip_world_rules.specs.Turns.{Turn}
-use Rattle.someip_world_rules.proofs.OriginLemmas.{all_origins, config_kept}
-use Rattle.someip_world_exchanges.specs.Deliveries.{Does}
+use Rattle.someip_world_rules.proofs.OriginLemmas.{all_origins, turn_configured}
+use Rattle.someip_world_rules.specs.Deliveries.{Does}
 use Rattle.someip_world_safety.specs.Addresses.{IsOfNode}
-use Rattle.someip_world_exchanges.proofs.Deliverings.{delivered_in}
+use Rattle.someip_world_rules.proofs.Deliverings.{delivered_in}
 use Rattle.someip_world_exchanges.proofs.EntryLemmas.{announced_with}
-use Rattle.someip_world_exchanges.proofs.Fronts.{widened, widened_deed}
-use Rattle.someip_world_exchanges.proofs.Sendings.{sent_before}
+use Rattle.someip_world_rules.proofs.Fronts.{within}
+use Rattle.someip_world_rules.proofs.Sendings.{sent_before}
 use Rattle.someip_world_safety.proofs.EntryInputs.{offer_came}
 use Rattle.someip_world_safety.proofs.KnownPeers.{IsFrom, course_from, known_peer_from, standing_begun}
 
@@ -64,29 +65,31 @@ module _ (nodes : List SetupNode) (configs : List Config) (ss : List Step) (fits
       let w = announced_with p entry has was.does.turn.history was.does.input was.given was.by fit was.among in
       let holds = subst (λ g. Means g was.by.done.by (answers_of was.by.done.before.state)) {y = outputs.Announces p.from p.to w.stamp w.entries} w.is was.by.holds in
       let source = from_node was.by.done.by (answers_of was.by.done.before.state) p.from p.to w.stamp w.entries holds in
-      let config : was.by.done.before.state.config ≡ was.does.turn.history.config = ap (λ x. x.config) was.by.brought.0.1 ∙ config_kept was.does.turn.history was.by.brought.0.0 in
+      let config : was.by.done.before.state.config ≡ was.does.turn.history.config = config_there was.does.turn.history was.does.input was.by.done was.by.among in
       let t2 = was.does.turn in
-      (t2.place, t2.history.config, (all_origins nodes configs (take del.sent ss) t2.before t2.led t2.place t2.history t2.stands).configured, sym (source ∙ ap (λ c. c.address) config))
+      (t2.place, t2.history.config, turn_configured nodes configs ss del.sent was.does.step t2, sym (source ∙ ap (λ c. c.address) config))
 
   abbrev IsNode : Ipv4Addr → Type 0
   IsNode = IsOfNode configs
 
   -- each Offer that a node met came from a node
-  met_from : (n place : ℕ) (h : History) (x : Item) → WasMet nodes configs (take n ss) place h x → IsFrom IsNode x
-  met_from n place h (items.OfferCounted offer endpoint) was =
+  met_from : (n place : ℕ) (x : Item) → WasMet nodes configs ss n place x → IsFrom IsNode x
+  met_from n place (items.OfferCounted offer endpoint) was =
       let by = was.by in
-      let came = offer_came was.turn.history was.input by.done.before.state offer (subst (λ r. Brings was.turn.history was.input r by.done.before.state) by.holds.0 by.brought.1) in
+      let does = was.does in
+      let came = offer_came does.turn.history does.input by.brought.earlier offer (subst (λ r. Brings does.turn.history does.input r by.brought.earlier) by.holds.0 by.brought.brings) in
       let p : Packet = came.packet in
       let of = came.entry in
-      let node = came_from_node was.i was.step (widened nodes configs ss n was.i was.step was.turn) p (good of.2.entry) (widened_deed nodes configs ss n was.i was.step was.turn ∙ was.takes ∙ ap deeds.Takes came.is) of.2.stands in
+      let node = came_from_node was.i does.step does.turn p (good of.2.entry) (does.takes ∙ ap deeds.Takes came.is) of.2.stands in
       subst IsNode (ap (λ x. x.peer) (sym of.3)) node
-  met_from n place h x was = tt
+  met_from n place x was = tt
 
   -- so it is with all that a node met
   all_from : (n : ℕ) (s : Step) (t : Turn nodes configs ss n s) → AllByRecursion (IsFrom IsNode) t.history.items
   all_from n s t =
-      let origins = all_origins nodes configs (take n ss) t.before t.led t.place t.history t.stands in
-      all_weaker (WasMet nodes configs (take n ss) t.place t.history) (IsFrom IsNode) (met_from n t.place t.history) t.history.items origins.met
+      let inside = within ss n s t.here in
+      let origins = all_origins nodes configs ss n t.before (omega (arith, inside)) t.led t.place t.history t.stands in
+      all_weaker (WasMet nodes configs ss n t.place) (IsFrom IsNode) (met_from n t.place) t.history.items origins.met
 
   -- a reply is to an entry that came
   replied_entry : (p : Packet) (by : Rule) (t : Tables) (e : EntryValue) → OfEntry p by → IsReply by t e → (entry : ReadValue) × HasEntry p entry
@@ -104,33 +107,33 @@ module _ (nodes : List SetupNode) (configs : List Config) (ss : List Step) (fits
     h = does.turn.history
 
     -- by the input
-    by_input : (input : Input) (peer : Ipv4Addr) (own : List EntryValue) (at : History) (e : EntryValue) → does.input ≡ input → Contains own e → Brings h input (RepliesTo peer own) at → IsNode peer
-    by_input (inputs.Datagram from to bytes) peer own at e is among m =
+    by_input : (input : Input) (peer : Ipv4Addr) (own : List EntryValue) (earlier : List Done) (e : EntryValue) → does.input ≡ input → Contains own e → Brings h input (RepliesTo peer own) earlier → IsNode peer
+    by_input (inputs.Datagram from to bytes) peer own earlier e is among m =
         let p : Packet = record { from = from; to = to; bytes = bytes } in
-        let reply = at_member (RepliesToEntry h p) own e m.1 among in
-        let entry = replied_entry p reply.by (answers_of reply.at) e reply.entry reply.says in
+        let reply = at_member (RepliesToEntry p earlier) own e m.1 among in
+        let entry = replied_entry p reply.done.by (answers_of reply.done.before.state) e reply.entry reply.says in
         subst IsNode (sym m.0) (came_from_node n does.step does.turn p entry.0 (does.takes ∙ ap deeds.Takes is) entry.1)
-    by_input (inputs.Tick ms) peer own at e is among (inl m) = let x = m.0 in absurd cc
-    by_input (inputs.Tick ms) peer own at e is among (inr m) = let x = m.1 in absurd cc
-    by_input (inputs.Call kind instance method bytes) peer own at e is among m = let x = m.0 in absurd cc
-    by_input (inputs.Answer token reply bytes) peer own at e is among m = let x = m.0 in absurd cc
-    by_input (inputs.Publish instance event bytes) peer own at e is among m = let x = m.0 in absurd cc
-    by_input (inputs.PublishTo instance eventgroup endpoint event bytes) peer own at e is among m = let x = m.0 in absurd cc
-    by_input (inputs.Subscribe eventgroup) peer own at e is among (inl m) = let x = m.0 in absurd cc
-    by_input (inputs.Subscribe eventgroup) peer own at e is among (inr m) =
+    by_input (inputs.Tick ms) peer own earlier e is among (inl m) = let x = m.0 in absurd cc
+    by_input (inputs.Tick ms) peer own earlier e is among (inr m) = let x = m.1 in absurd cc
+    by_input (inputs.Call kind instance method bytes) peer own earlier e is among m = let x = m.0 in absurd cc
+    by_input (inputs.Answer token reply bytes) peer own earlier e is among m = let x = m.0 in absurd cc
+    by_input (inputs.Publish instance event bytes) peer own earlier e is among m = let x = m.0 in absurd cc
+    by_input (inputs.PublishTo instance eventgroup endpoint event bytes) peer own earlier e is among m = let x = m.0 in absurd cc
+    by_input (inputs.Subscribe eventgroup) peer own earlier e is among (inl m) = let x = m.0 in absurd cc
+    by_input (inputs.Subscribe eventgroup) peer own earlier e is among (inr m) =
         let x = m.2 in
         let one : m.0 ≡ peer = cc in
         let known : option_map (λ known. known.peer) (known_at (clock_at h.items) (known_offer_at h.items eventgroup.instance)) ≡ Some m.0 =
         ap (λ o. option_map (λ (known : KnownOffer). known.peer) (known_at (clock_at h.items) o)) (sym (get-known h.items eventgroup.instance)) ∙ m.1 in
         subst IsNode one (known_peer_from IsNode (clock_at h.items) eventgroup.instance m.0 h.items (all_from n does.step does.turn) known)
-    by_input (inputs.Unsubscribe eventgroup) peer own at e is among (inl m) = absurd cc
-    by_input (inputs.Unsubscribe eventgroup) peer own at e is among (inr m) =
+    by_input (inputs.Unsubscribe eventgroup) peer own earlier e is among (inl m) = absurd cc
+    by_input (inputs.Unsubscribe eventgroup) peer own earlier e is among (inr m) =
         let x = m.2 in
         let one : m.0.peer ≡ peer = cc in
         subst IsNode one (course_from IsNode h.items eventgroup m.0 (all_from n does.step does.turn) (standing_begun h eventgroup m.0 m.1))
-    by_input (inputs.StopOffer instance) peer own at e is among (inl m) = absurd cc
-    by_input (inputs.StopOffer instance) peer own at e is among (inr m) = let x = m.0 in absurd cc
+    by_input (inputs.StopOffer instance) peer own earlier e is among (inl m) = absurd cc
+    by_input (inputs.StopOffer instance) peer own earlier e is among (inr m) = let x = m.0 in absurd cc
 
     -- what is sent to a peer goes to a node
-    pub replies_go_to_nodes : (d : Done) (peer : Ipv4Addr) (own : List EntryValue) (e : EntryValue) → Contains own e → Brings h does.input d.by d.before.state → d.by ≡ RepliesTo peer own → IsNode peer
-    replies_go_to_nodes d peer own e among brought is = by_input does.input peer own d.before.state e refl among (subst (λ r. Brings h does.input r d.before.state) is brought)
+    pub replies_go_to_nodes : (d : Done) (peer : Ipv4Addr) (own : List EntryValue) (e : EntryValue) → Contains own e → WasBrought h does.input d → d.by ≡ RepliesTo peer own → IsNode peer
+    replies_go_to_nodes d peer own e among was is = by_input does.input peer own was.earlier e refl among (subst (λ r. Brings h does.input r was.earlier) is was.brings)

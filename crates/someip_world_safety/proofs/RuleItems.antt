@@ -4,7 +4,7 @@ use Rattle.std.specs.List.{AllByRecursion, Contains}
 use Rattle.std.specs.Prelude.{◌==◌}
 use Rattle.std.specs.Option.{option_map_or}
 use Rattle.std.proofs.lemmas.List.Elements.{Contains-get_or}
-use Rattle.std.proofs.lemmas.Grind.{flat_map-append}
+use Rattle.std.proofs.lemmas.Grind.{flat_map-append, fold-append}
 use Rattle.std.proofs.lemmas.Bool.{eqb-true}
 use Rattle.std.proofs.lemmas.List.{append-nil}
 use Rattle.std.specs.declared.net.ipv4_addr.Ipv4Addr.{Ipv4Addr}
@@ -20,8 +20,9 @@ use Rattle.sd_core.specs.declared.wish.Beginning.{Beginning}
 use Rattle.sd_core.specs.declared.wish.SubscribeAnswer.{SubscribeAnswer}
 use Rattle.sd_core.specs.SeekTables.{uncounted}
 use Rattle.sd_core.specs.Wishes.{is_over, is_with}
+use Rattle.someip_node_rules.specs.Bringing.{WasBrought}
 use Rattle.someip_node_rules.specs.History.{History, answers_of, met}
-use Rattle.someip_node_rules.specs.Inputs.{Input, plan_of}
+use Rattle.someip_node_rules.specs.Inputs.{Input}
 use Rattle.someip_node_rules.specs.Items as items
 use Rattle.someip_node_rules.specs.Items.{Item}
 use Rattle.someip_node_rules.specs.Learning.{answer_in, eventgroup_in, offer_by, offer_counts}
@@ -29,13 +30,12 @@ use Rattle.someip_node_rules.specs.Meetings.{IsMet}
 use Rattle.someip_node_rules.specs.Plans.{Rule, TakesAck, TakesOffer, Wishes, Work, rule}
 use Rattle.someip_node_rules.specs.Outcomes.{nothing}
 use Rattle.someip_node_rules.specs.Tables.{Tables}
-use Rattle.someip_node_rules.specs.Steps.{step, work_on}
+use Rattle.someip_node_rules.specs.Steps.{step}
 use Rattle.someip_node_rules.specs.Trails.{Done, after, met_by, outcome_of, trail_of}
 use Rattle.someip_node_rules.specs.WishQuestions.{course_at, is_answered_by}
 use Rattle.someip_node_rules.proofs.MeetingLemmas.{rule_noted, state_met}
 use Rattle.someip_node_rules.proofs.MemberLemmas.{all_weaker, at_member}
-use Rattle.someip_node_rules.proofs.PlanLemmas.{before_each}
-use Rattle.someip_world_rules.proofs.OriginLemmas.{config_kept}
+use Rattle.someip_node_rules.proofs.StepRules.{all_brought, config_there}
 use Rattle.someip_world_exchanges.specs.Namings.{of_subscription}
 use Rattle.someip_world_exchanges.specs.declared.exchange_key.ExchangeKey.TheVariants as keys
 use Rattle.someip_world_exchanges.specs.declared.exchange_key.SubscriptionExchange.{SubscriptionExchange}
@@ -132,11 +132,6 @@ answered_parts now answer was is = cases (is_over now was) is
 
 -- ---- histories on the way
 
--- one after the other
-after_both : (h : History) (xs ys : List Item) → after (after h xs) ys ≡ after h (xs ++ ys)
-after_both h [] ys = refl
-after_both h (x ∷ xs) ys = after_both (met h x) xs ys
-
 -- the first of a list stands in it
 pub first_of_list : {X : Type 0} (x : X) (xs : List X) → Contains (x ∷ xs) x
 first_of_list x xs = Contains-get_or (x ∷ xs) 0 x (omega arith)
@@ -144,7 +139,7 @@ first_of_list x xs = Contains-get_or (x ∷ xs) 0 x (omega arith)
 -- after one rule more
 pub after_more : (h : History) (earlier : List Done) (d : Done) → after (after h (met_by earlier)) (outcome_of d).items ≡ after h (met_by (earlier ++ d ∷ []))
 after_more h earlier d =
-    ap (after (after h (met_by earlier))) (sym (append-nil (outcome_of d).items)) ∙ after_both h (met_by earlier) ((outcome_of d).items ++ [])
+    ap (after (after h (met_by earlier))) (sym (append-nil (outcome_of d).items)) ∙ sym (fold-append met h (met_by earlier) ((outcome_of d).items ++ []))
     ∙ ap (after h) (sym (flat_map-append (λ (done : Done). (outcome_of done).items) earlier (d ∷ [])))
 
 -- ---- what an opening says
@@ -165,37 +160,27 @@ opens_so at x address peer q counter o =
     let more : (course_at (met at x).items q).begun ≡ suc (course_at at.items q).begun = subst (λ e. (course_at (met at x).items e).begun ≡ suc (course_at at.items e).begun) same o.3.more in
     (own, omega (arith, more))
 
--- a list is cut at each of its elements
-all_split : {X : Type 0} (xs : List X) → AllByRecursion (λ x. (earlier : List X) × (later : List X) × (xs ≡ earlier ++ x ∷ later)) xs
-all_split [] = tt
-all_split (x ∷ xs) = (
-  ([], xs, refl),
-  all_weaker (λ y. (earlier : List _) × (later : List _) × (xs ≡ earlier ++ y ∷ later)) (λ y. (earlier : List _) × (later : List _) × (x ∷ xs ≡ earlier ++ y ∷ later))
-      (λ y parts. (x ∷ parts.0, parts.1, ap (λ zs. x ∷ zs) parts.2)) xs (all_split xs),
-)
-
 -- what is met before a rule, by it and after it
 after_parts : (h : History) (earlier later : List Done) (d : Done) → after h (met_by (earlier ++ d ∷ later)) ≡ after (after (after h (met_by earlier)) (outcome_of d).items) (met_by later)
 after_parts h earlier later d =
-    ap (after h) (flat_map-append (λ (done : Done). (outcome_of done).items) earlier (d ∷ later)) ∙ sym (after_both h (met_by earlier) ((outcome_of d).items ++ met_by later))
-    ∙ sym (after_both (after h (met_by earlier)) (outcome_of d).items (met_by later))
+    ap (after h) (flat_map-append (λ (done : Done). (outcome_of done).items) earlier (d ∷ later)) ∙ fold-append met h (met_by earlier) ((outcome_of d).items ++ met_by later)
+    ∙ fold-append met (after h (met_by earlier)) (outcome_of d).items (met_by later)
 
 -- where a subscription begins, there are more beginnings after the step
 pub opens_more : (h : History) (input : Input) (done : Work History) (address peer : Ipv4Addr) (q : Eventgroup) (counter : ℕ) → step h input ≡ Ok done → OpensBy h input (of_subscription address peer q counter)
     → (address ≡ h.config.address) × ((course_at h.items q).begun < (course_at done.state.items q).begun)
 opens_more h input done address peer q counter is by =
     let d = by.done in
-    let parts = at_member (λ x. (earlier : List Done) × (later : List Done) × (trail_of h input ≡ earlier ++ x ∷ later)) (trail_of h input) d (all_split (trail_of h input)) by.among in
-    let earlier : List Done = parts.0 in
-    let later : List Done = parts.1 in
-    let at = (before_each (plan_of input) (work_on h) earlier later d parts.2).0 in
+    let was = at_member (WasBrought h input) (trail_of h input) d (all_brought h input) by.among in
+    let earlier : List Done = was.earlier in
+    let later : List Done = was.later in
     let says = opens_so d.before.state by.item address peer q counter by.opens in
     let low = begun_grows_on h (met_by earlier) q in
-    let low_at : (course_at (after h (met_by earlier)).items q).begun ≡ (course_at d.before.state.items q).begun = ap (λ x. (course_at x.items q).begun) (sym at) in
+    let low_at : (course_at (after h (met_by earlier)).items q).begun ≡ (course_at d.before.state.items q).begun = ap (λ x. (course_at x.items q).begun) (sym was.at) in
     let mid = says.1 in
     let after_d : after d.before.state (outcome_of d).items ≡ met d.before.state by.item = ap (after d.before.state) by.meets in
     let high = begun_grows_on (met d.before.state by.item) (met_by later) q in
     let end : after (met d.before.state by.item) (met_by later) ≡ done.state =
-    ap (λ x. after x (met_by later)) (sym after_d ∙ ap (λ x. after x (outcome_of d).items) at) ∙ sym (after_parts h earlier later d) ∙ ap (λ ds. after h (met_by ds)) (sym parts.2) ∙ sym (state_met h input done is) in
+    ap (λ x. after x (met_by later)) (sym after_d ∙ ap (λ x. after x (outcome_of d).items) was.at) ∙ sym (after_parts h earlier later d) ∙ ap (λ ds. after h (met_by ds)) (sym was.trail) ∙ sym (state_met h input done is) in
     let last : (course_at (after (met d.before.state by.item) (met_by later)).items q).begun ≡ (course_at done.state.items q).begun = ap (λ x. (course_at x.items q).begun) end in
-    (says.0 ∙ ap (λ x. x.config.address) at ∙ ap (λ c. c.address) (config_kept h (met_by earlier)), omega (arith, low, low_at, mid, high, last))
+    (says.0 ∙ ap (λ c. c.address) (config_there h input d by.among), omega (arith, low, low_at, mid, high, last))

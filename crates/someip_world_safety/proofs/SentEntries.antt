@@ -27,6 +27,7 @@ use Rattle.someip_node_rules.specs.Plans.{Rule, Announces, RepliesTo}
 use Rattle.someip_node_rules.specs.Replies.{IsDue, IsReply}
 use Rattle.someip_node_rules.specs.Setups.{client_endpoint, offered_as, wanted_as}
 use Rattle.someip_node_rules.specs.Tables.{Tables}
+use Rattle.someip_node_rules.specs.Trails.{Done}
 use Rattle.someip_node_rules.proofs.MemberLemmas.{at_member}
 
 -- an entry about an eventgroup, and one about an instance
@@ -70,23 +71,23 @@ stop_offer_no_group t instance e head among is = at_member (λ x. (g : Eventgrou
     by (Some service) = ((λ g is. absurd cc), tt)
 
 -- an entry that was announced by an input as due or stopped is none about an eventgroup
-pub announces_no_group : (h : History) (input : Input) (own : List EntryValue) (at : History) (e : EntryValue) (head : EventgroupEntry) → Brings h input (Announces own) at → Contains own e → IsGroupEntry e head → ⊥
-announces_no_group h (Datagram from to bytes) own at e head m among is = absurd m.1
-announces_no_group h (Tick ms) own at e head (inl m) among is = let x = m.0 in absurd cc
-announces_no_group h (Tick ms) own at e head (inr m) among is =
+pub announces_no_group : (h : History) (input : Input) (own : List EntryValue) (earlier : List Done) (e : EntryValue) (head : EventgroupEntry) → Brings h input (Announces own) earlier → Contains own e → IsGroupEntry e head → ⊥
+announces_no_group h (Datagram from to bytes) own earlier e head m among is = absurd m.1
+announces_no_group h (Tick ms) own earlier e head (inl m) among is = let x = m.0 in absurd cc
+announces_no_group h (Tick ms) own earlier e head (inr m) among is =
     let by = m.1 in
     let same : own ≡ m.0 = cc in
     due_no_group ((answers_of h).clock + ms) (answers_of h) e head (at_member (IsDue ((answers_of h).clock + ms) (answers_of h)) m.0 e m.2 (subst (λ es. Contains es e) same among)) is
-announces_no_group h (Call kind instance method bytes) own at e head m among is = let x = m.0 in absurd cc
-announces_no_group h (Answer token reply bytes) own at e head m among is = let x = m.0 in absurd cc
-announces_no_group h (Publish instance event bytes) own at e head m among is = let x = m.0 in absurd cc
-announces_no_group h (PublishTo instance eventgroup endpoint event bytes) own at e head m among is = let x = m.0 in absurd cc
-announces_no_group h (Subscribe eventgroup) own at e head (inl m) among is = let x = m.0 in absurd cc
-announces_no_group h (Subscribe eventgroup) own at e head (inr m) among is = let x = m.2 in absurd cc
-announces_no_group h (Unsubscribe eventgroup) own at e head (inl m) among is = absurd cc
-announces_no_group h (Unsubscribe eventgroup) own at e head (inr m) among is = let x = m.2 in absurd cc
-announces_no_group h (StopOffer instance) own at e head (inl m) among is = absurd cc
-announces_no_group h (StopOffer instance) own at e head (inr m) among is =
+announces_no_group h (Call kind instance method bytes) own earlier e head m among is = let x = m.0 in absurd cc
+announces_no_group h (Answer token reply bytes) own earlier e head m among is = let x = m.0 in absurd cc
+announces_no_group h (Publish instance event bytes) own earlier e head m among is = let x = m.0 in absurd cc
+announces_no_group h (PublishTo instance eventgroup endpoint event bytes) own earlier e head m among is = let x = m.0 in absurd cc
+announces_no_group h (Subscribe eventgroup) own earlier e head (inl m) among is = let x = m.0 in absurd cc
+announces_no_group h (Subscribe eventgroup) own earlier e head (inr m) among is = let x = m.2 in absurd cc
+announces_no_group h (Unsubscribe eventgroup) own earlier e head (inl m) among is = absurd cc
+announces_no_group h (Unsubscribe eventgroup) own earlier e head (inr m) among is = let x = m.2 in absurd cc
+announces_no_group h (StopOffer instance) own earlier e head (inl m) among is = absurd cc
+announces_no_group h (StopOffer instance) own earlier e head (inr m) among is =
     let by = m.0 in
     let same : own ≡ stop_offer_of (answers_of h) instance = cc in
     stop_offer_no_group (answers_of h) instance e head (subst (λ es. Contains es e) same among) is
@@ -109,34 +110,34 @@ wish_asks t eventgroup None = tt
 wish_asks t eventgroup (Some counter) = subscribe_asks t (wanted_as t.config eventgroup.instance) eventgroup counter (λ want. want.ttl)
 
 -- what a node sends to a peer by a datagram are replies, and by any other input Subscribes and StopSubscribes
-pub data ToPeer (h : History) (input : Input) (peer : Ipv4Addr) (own : List EntryValue) (e : EntryValue) : Type 0 where
-  Back : (p : Packet) → input ≡ Datagram p.from p.to p.bytes → peer ≡ v4_ip p.from → RepliesToEntry h p e → ToPeer h input peer own e
-  Asks : IsAsking e → ToPeer h input peer own e
+pub data ToPeer (input : Input) (peer : Ipv4Addr) (earlier : List Done) (e : EntryValue) : Type 0 where
+  Back : (p : Packet) → input ≡ Datagram p.from p.to p.bytes → peer ≡ v4_ip p.from → RepliesToEntry p earlier e → ToPeer input peer earlier e
+  Asks : IsAsking e → ToPeer input peer earlier e
 
 -- what a rule sends to a peer
-pub to_peer : (h : History) (input : Input) (peer : Ipv4Addr) (own : List EntryValue) (at : History) (e : EntryValue) → Brings h input (RepliesTo peer own) at → Contains own e → ToPeer h input peer own e
-to_peer h (Datagram from to bytes) peer own at e m among =
-    let p : Packet = record { from = from; to = to; bytes = bytes } in Back p refl m.0 (at_member (RepliesToEntry h p) own e m.1 among)
-to_peer h (Tick ms) peer own at e (inl m) among = let x = m.0 in absurd cc
-to_peer h (Tick ms) peer own at e (inr m) among = let x = m.1 in absurd cc
-to_peer h (Call kind instance method bytes) peer own at e m among = let x = m.0 in absurd cc
-to_peer h (Answer token reply bytes) peer own at e m among = let x = m.0 in absurd cc
-to_peer h (Publish instance event bytes) peer own at e m among = let x = m.0 in absurd cc
-to_peer h (PublishTo instance eventgroup endpoint event bytes) peer own at e m among = let x = m.0 in absurd cc
-to_peer h (Subscribe eventgroup) peer own at e (inl m) among = let x = m.0 in absurd cc
-to_peer h (Subscribe eventgroup) peer own at e (inr m) among =
+pub to_peer : (h : History) (input : Input) (peer : Ipv4Addr) (own : List EntryValue) (earlier : List Done) (e : EntryValue) → Brings h input (RepliesTo peer own) earlier → Contains own e → ToPeer input peer earlier e
+to_peer h (Datagram from to bytes) peer own earlier e m among =
+    let p : Packet = record { from = from; to = to; bytes = bytes } in Back p refl m.0 (at_member (RepliesToEntry p earlier) own e m.1 among)
+to_peer h (Tick ms) peer own earlier e (inl m) among = let x = m.0 in absurd cc
+to_peer h (Tick ms) peer own earlier e (inr m) among = let x = m.1 in absurd cc
+to_peer h (Call kind instance method bytes) peer own earlier e m among = let x = m.0 in absurd cc
+to_peer h (Answer token reply bytes) peer own earlier e m among = let x = m.0 in absurd cc
+to_peer h (Publish instance event bytes) peer own earlier e m among = let x = m.0 in absurd cc
+to_peer h (PublishTo instance eventgroup endpoint event bytes) peer own earlier e m among = let x = m.0 in absurd cc
+to_peer h (Subscribe eventgroup) peer own earlier e (inl m) among = let x = m.0 in absurd cc
+to_peer h (Subscribe eventgroup) peer own earlier e (inr m) among =
     let by = m.2 in
     let same : own ≡ wish_entries eventgroup (answers_of h) = cc in
     Asks (at_member IsAsking (wish_entries eventgroup (answers_of h)) e (wish_asks (answers_of h) eventgroup _) (subst (λ es. Contains es e) same among))
-to_peer h (Unsubscribe eventgroup) peer own at e (inl m) among = absurd cc
-to_peer h (Unsubscribe eventgroup) peer own at e (inr m) among =
+to_peer h (Unsubscribe eventgroup) peer own earlier e (inl m) among = absurd cc
+to_peer h (Unsubscribe eventgroup) peer own earlier e (inr m) among =
     let by = m.2 in
     let same : own ≡ stop_subscribe_of (answers_of h) eventgroup m.0.counter = cc in
     Asks
     (at_member IsAsking (stop_subscribe_of (answers_of h) eventgroup m.0.counter) e
     (subscribe_asks (answers_of h) (wanted_as (answers_of h).config eventgroup.instance) eventgroup m.0.counter (λ want. 0)) (subst (λ es. Contains es e) same among))
-to_peer h (StopOffer instance) peer own at e (inl m) among = absurd cc
-to_peer h (StopOffer instance) peer own at e (inr m) among = let x = m.0 in absurd cc
+to_peer h (StopOffer instance) peer own earlier e (inl m) among = absurd cc
+to_peer h (StopOffer instance) peer own earlier e (inr m) among = let x = m.0 in absurd cc
 
 -- ---- so no Find goes to a peer
 
@@ -147,15 +148,15 @@ reply_no_find (plans.TakesFind sought) t e f says is find =
     let kind : service_kinds.Offer ≡ f.kind = cc in
     let none : is_find f ≡ false = ap has_type_find (sym kind) in absurd cc
 reply_no_find (plans.TakesOffer o) t e f says is find = let x = ap (λ y. y.head) says.1.4 in absurd cc
-reply_no_find (plans.TakesSubscribe peer asked endpoint) t e f (inl says) is find = let x = ap (λ y. y.head) says.1 in absurd cc
+reply_no_find (plans.TakesSubscribe peer asked endpoint) t e f (inl says) is find = let x = ap (λ y. y.head) says.3 in absurd cc
 reply_no_find (plans.TakesSubscribe peer asked endpoint) t e f (inr says) is find = let x = ap (λ y. y.head) says.2 in absurd cc
 reply_no_find r t e f says is find = absurd says
 
 -- and nothing else that goes to a peer
-pub no_find_to_peer : (h : History) (input : Input) (peer : Ipv4Addr) (own : List EntryValue) (at : History) (e : EntryValue) (f : ServiceEntry) → Brings h input (RepliesTo peer own) at → Contains own e
+pub no_find_to_peer : (h : History) (input : Input) (peer : Ipv4Addr) (own : List EntryValue) (earlier : List Done) (e : EntryValue) (f : ServiceEntry) → Brings h input (RepliesTo peer own) earlier → Contains own e
     → IsInstanceEntry e f → is_find f ≡ true → ⊥
-no_find_to_peer h input peer own at e f brought among is find = cases (to_peer h input peer own at e brought among)
+no_find_to_peer h input peer own earlier e f brought among is find = cases (to_peer h input peer own earlier e brought among)
   where
-    cases : ToPeer h input peer own e → ⊥
-    cases (Back p came back reply) = reply_no_find reply.by (answers_of reply.at) e f reply.says is find
+    cases : ToPeer input peer earlier e → ⊥
+    cases (Back p came back reply) = reply_no_find reply.done.by (answers_of reply.done.before.state) e f reply.says is find
     cases (Asks asks) = let x = asks.1 in absurd cc

@@ -1,53 +1,37 @@
 -- From step to step, a subscription that stands at a client is the newest exchange of its key; and where it was acknowledged, its server accepted it.
-use Rattle.std.proofs.Common.{◌≡◌, ◌≢◌, ℕ, zero, suc, ◌+◌, ◌<◌, ◌≤◌, Bool, true, false, eqb, List, [], ◌∷◌, length, take, slice_get, slice_set, None, Some, Result, Ok, Err, arith, refl, sym, ap, subst, ◌∙◌}
+use Rattle.std.proofs.Common.{◌≡◌, ◌⊎◌, inl, inr, ℕ, suc, ◌+◌, ◌<◌, ◌≤◌, Bool, true, false, eqb, List, length, take, slice_get, slice_set, None, Some, Result, Ok, Err, arith, refl, sym, ap, subst, ◌∙◌}
 use Rattle.std.proofs.lemmas.Bool.{eqb-true, eqb-false}
 use Rattle.std.specs.declared.net.ipv4_addr.Ipv4Addr.{Ipv4Addr}
 use Rattle.sd_core.specs.declared.eventgroup.Eventgroup.{Eventgroup}
 use Rattle.sd_core.specs.declared.wish.Beginning.{Beginning}
 use Rattle.someip_node_rules.specs.declared.config.Config.{Config}
 use Rattle.someip_node_rules.specs.declared.error.NodeError.{NodeError}
-use Rattle.someip_node_rules.specs.History.{History, start_of}
+use Rattle.someip_node_rules.specs.History.{History}
 use Rattle.someip_node_rules.specs.Inputs.{Input}
 use Rattle.someip_node_rules.specs.Plans.{Work}
 use Rattle.someip_node_rules.specs.Steps.{step}
 use Rattle.someip_node_rules.specs.Trails.{after, met_by, trail_of}
 use Rattle.someip_node_rules.specs.WishQuestions.{course_at}
 use Rattle.someip_node_rules.proofs.MeetingLemmas.{state_met}
+use Rattle.someip_node_rules.proofs.StepRules.{config_kept}
 use Rattle.someip_world_schedule.specs.declared.step.Step.{Step}
 use Rattle.someip_world_setup.specs.declared.setup_node.SetupNode.{SetupNode}
 use Rattle.someip_world_rules.specs.Deeds.{Deed, Takes, Restarts, done_with}
-use Rattle.someip_world_rules.specs.Runs.{World, history_after, started_nodes, world_after, world_of}
+use Rattle.someip_world_rules.specs.Runs.{World, history_after, world_after, world_of}
 use Rattle.someip_world_rules.specs.Turns.{LeadTo, Turn}
-use Rattle.someip_world_rules.proofs.OriginLemmas.{all_origins, config_kept, get_set_other, get_set_same}
-use Rattle.someip_world_exchanges.specs.Deliveries.{Does, Restarted}
+use Rattle.someip_world_rules.proofs.OriginLemmas.{all_origins, begun_so, turn_configured}
+use Rattle.someip_world_rules.proofs.Lives.{below_next, lives_next, not_restarted}
+use Rattle.someip_world_rules.specs.Deliveries.{Does, Restarted}
 use Rattle.someip_world_exchanges.specs.Namings.{of_subscription}
 use Rattle.someip_world_exchanges.specs.declared.exchange_key.ExchangeKey.{ExchangeKey}
 use Rattle.someip_world_safety.specs.Addresses.{HaveOwnAddresses}
 use Rattle.someip_world_exchanges.specs.Openings.{Opened}
 use Rattle.someip_world_exchanges.specs.CleanReuse.{IsCleanBefore}
 use Rattle.someip_world_safety.specs.Subscriptions.{SubscriptionsAreSafe, WasAccepted}
-use Rattle.someip_world_exchanges.proofs.Deliverings.{one_turn}
-use Rattle.someip_world_exchanges.proofs.Fronts.{on_the_way}
+use Rattle.someip_world_rules.proofs.Deliverings.{one_turn}
+use Rattle.someip_world_rules.proofs.Fronts.{get_set_other, get_set_same, on_the_way, within}
 use Rattle.someip_world_safety.proofs.RuleItems.{opens_more}
 use Rattle.someip_world_safety.proofs.StepStandings.{AcksBeginNone, AcksSay, AreBegun, Before, InStep, IsAcked, IsBegun, Now, all_in_step, key_at}
-
--- ---- numbers
-
-pub below : (i n : ℕ) → i < suc n → i ≢ n → i < n
-below i n lt ne = omega (arith, lt, ne)
-
-pub exactly : (i n : ℕ) → n ≤ i → i < suc n → i ≡ n
-exactly i n low high = omega (arith, low, high)
-
--- ---- the start
-
--- each node begins with the history of its start
-pub begun_so : (ns : List SetupNode) (cs : List Config) (place : ℕ) (h : History) → slice_get (started_nodes ns cs) place ≡ Some h
-    → (config : Config) × (delay : ℕ) × (slice_get cs place ≡ Some config) × (h ≡ start_of config delay)
-begun_so [] cs place h is = absurd cc
-begun_so (n ∷ ns) [] place h is = absurd cc
-begun_so (n ∷ ns) (c ∷ cs) zero h is = (c, n.delay, refl, cc)
-begun_so (n ∷ ns) (c ∷ cs) (suc place) h is = begun_so ns cs place h is
 
 module _ (nodes : List SetupNode) (configs : List Config) (ss : List Step) where
   -- ---- from step to step
@@ -78,37 +62,25 @@ module _ (nodes : List SetupNode) (configs : List Config) (ss : List Step) where
             begun = begun.begun;
             before = omega (arith, early);
             opened = begun.opened;
-            lives = λ i from until r. lives_on i from until r (eqb i n) refl;
-            last = λ i after until o. last_on i after until o (eqb i n) refl;
+            lives = lives_next nodes configs ss n place alive begun.begun begun.lives;
+            last = λ i after until o. last_on i after (below_next i n until) o;
             acked = λ until ends. let a = begun.acked until ends in let less = a.before in record { since = a.since; from = a.from; before = omega (arith, less); accepted = acc a };
           }
         where
           acc : (a : IsAcked nodes configs ss n address b.peer q b.counter begun.begun) → WasAccepted nodes configs ss (suc n) address b.peer q b.counter a.since
           acc a = later_accepted n address b.peer q b.counter a.since a.accepted
 
-          lives_on : (i : ℕ) → begun.begun ≤ i → i < suc n → Restarted nodes configs ss i place → (k : Bool) → eqb i n ≡ k → ⊥
-          lives_on i from until r true is = alive (subst (λ j. Restarted nodes configs ss j place) (eqb-true i n is) r)
-          lives_on i from until r false is = let ne = eqb-false i n is in begun.lives i from (below i n until ne) r
-
-          last_on : (i : ℕ) → begun.begun < i → i < suc n → Opened nodes configs ss i (key_at nodes configs ss address q b) → (k : Bool) → eqb i n ≡ k → ⊥
-          last_on i after until o true is = none (subst (λ j. Opened nodes configs ss j (key_at nodes configs ss address q b)) (eqb-true i n is) o)
-          last_on i after until o false is = let ne = eqb-false i n is in begun.last i after (below i n until ne) o
+          last_on : (i : ℕ) → begun.begun < i → (i < n) ⊎ (i ≡ n) → Opened nodes configs ss i (key_at nodes configs ss address q b) → ⊥
+          last_on i after (inl less) o = begun.last i after less o
+          last_on i after (inr same) o = none (subst (λ j. Opened nodes configs ss j (key_at nodes configs ss address q b)) same o)
 
       -- a step that takes an input starts no node again
       takes_no_restart : (input : Input) → t.deed ≡ Takes input → Restarted nodes configs ss n t.place → ⊥
-      takes_no_restart input takes r =
-          let one = one_turn nodes configs ss n s t r.step r.turn in
-          let e = sym takes ∙ one.deed ∙ r.restarts in
-          absurd cc
-
-      -- and one at another place not this node
-      other_place : (place : ℕ) → place ≢ t.place → Restarted nodes configs ss n place → ⊥
-      other_place place ne r =
-          let one = one_turn nodes configs ss n s t r.step r.turn in ne (sym r.at ∙ sym one.place)
+      takes_no_restart input takes = not_restarted nodes configs ss n t.place s t (λ at delay restarts. absurd cc)
 
       -- a node has its configuration
       configured : (place : ℕ) (h : History) → slice_get t.before.histories place ≡ Some h → slice_get configs place ≡ Some h.config
-      configured place h here = (all_origins nodes configs (take n ss) t.before t.led place h here).configured
+      configured place h here = let inside = within ss n s t.here in (all_origins nodes configs ss n t.before (omega (arith, inside)) t.led place h here).configured
 
       -- an opening in this step is in the node's own step
       opened_here : (address peer : Ipv4Addr) (q : Eventgroup) (counter : ℕ) → Opened nodes configs ss n (of_subscription address peer q counter)
@@ -160,7 +132,7 @@ module _ (nodes : List SetupNode) (configs : List Config) (ss : List Step) where
             begun = n;
             before = omega arith;
             opened = opened;
-            lives = λ i from until r. takes_no_restart input takes (subst (λ j. Restarted nodes configs ss j t.place) (exactly i n from until) r);
+            lives = lives_next nodes configs ss n t.place (takes_no_restart input takes) n (λ i from until. absurd (omega (arith, from, until)));
             last = λ i after until o. absurd (omega (arith, after, until));
             acked = λ until ends. let e = sym none ∙ ends in absurd cc;
           }
@@ -197,7 +169,7 @@ module _ (nodes : List SetupNode) (configs : List Config) (ss : List Step) where
           cases false e =
               let ne = eqb-false place t.place e in
               let old : slice_get t.before.histories place ≡ Some h = sym (get_set_other t.before.histories t.place place due ne) ∙ here in
-              longer place h.config.address q b (other_place place ne)
+              longer place h.config.address q b (not_restarted nodes configs ss n place s t (λ at. absurd (ne (sym at))))
               (λ o. ne (own place t.place h.config t.history.config (configured place h old) (configured t.place t.history t.stands) (opened_here h.config.address b.peer q b.counter o).0))
               (was place h q b old is)
 
@@ -207,7 +179,7 @@ module _ (nodes : List SetupNode) (configs : List Config) (ss : List Step) where
 
     -- at the start nothing was begun
     none_begun : AreBegun nodes configs ss 0 (world_of nodes configs)
-    none_begun place h q b here is = let start = begun_so nodes configs place h here in
+    none_begun place h q b here is = let start = begun_so nodes configs ss nodes configs place h here in
         let none : (course_at h.items q).beginning ≡ None = ap (λ x. (course_at x.items q).beginning) start.3 in let e = sym none ∙ is in absurd cc
 
     -- before each step
@@ -217,14 +189,14 @@ module _ (nodes : List SetupNode) (configs : List Config) (ss : List Step) where
         (λ n s t was clean. begun_after n s t clean (was (clean_before n clean)))
 
     -- an exchange of a node's address was opened by this node
-    own_place : (n : ℕ) (w : World) → LeadTo nodes configs (take n ss) w → (place : ℕ) (h : History) → slice_get w.histories place ≡ Some h → {peer : Ipv4Addr} → {q : Eventgroup} → {counter : ℕ}
+    own_place : (n : ℕ) (w : World) → n ≤ length ss → LeadTo nodes configs (take n ss) w → (place : ℕ) (h : History) → slice_get w.histories place ≡ Some h → {peer : Ipv4Addr} → {q : Eventgroup} → {counter : ℕ}
         → (i : ℕ) (o : Opened nodes configs ss i (of_subscription h.config.address peer q counter)) → o.does.turn.place ≡ place
-    own_place n w led place h here {peer} {q} {counter} i o =
+    own_place n w le led place h here {peer} {q} {counter} i o =
         let t = o.does.turn in
         let says = opens_more t.history o.does.input o.does.done h.config.address peer q counter o.does.happened o.by in
         sym
-        (own place t.place h.config t.history.config (all_origins nodes configs (take n ss) w led place h here).configured
-        (all_origins nodes configs (take i ss) t.before t.led t.place t.history t.stands).configured says.0)
+        (own place t.place h.config t.history.config (all_origins nodes configs ss n w le led place h here).configured
+        (turn_configured nodes configs ss i o.does.step t) says.0)
 
     -- each subscription that a client counts on is safe
     pub subscriptions_are_safe : (n : ℕ) (w : World) → n ≤ length ss → LeadTo nodes configs (take n ss) w → IsCleanBefore nodes configs ss n → SubscriptionsAreSafe nodes configs ss n w
@@ -243,6 +215,6 @@ module _ (nodes : List SetupNode) (configs : List Config) (ss : List Step) where
             before = from;
             last = λ i after until. b.last i after (omega (arith, until, less));
           };
-          own = own_place n w led place h here b.begun b.opened;
+          own = own_place n w le led place h here b.begun b.opened;
           accepted = a.accepted;
         }

@@ -26,13 +26,13 @@ use Rattle.someip_node_rules.specs.Steps.{work_on}
 use Rattle.someip_node_rules.specs.Trails.{Done, after, met_by, outcome_of, trail_of}
 use Rattle.someip_node_rules.specs.WishQuestions.{course_at, is_answered_by, known_peer_at, same_eventgroup}
 use Rattle.someip_node_rules.proofs.PlanLemmas.{before_each}
+use Rattle.someip_node_rules.proofs.StepRules.{config_there}
 use Rattle.someip_world_schedule.specs.declared.step.Step.{Step}
 use Rattle.someip_world_setup.specs.declared.setup_node.SetupNode.{SetupNode}
 use Rattle.someip_world_rules.specs.Datagrams.{SentDatagram}
 use Rattle.someip_world_rules.specs.Runs.{World}
-use Rattle.someip_world_rules.proofs.OriginLemmas.{config_kept}
 use Rattle.someip_world_exchanges.specs.Belonging.{Belongs}
-use Rattle.someip_world_exchanges.specs.Deliveries.{Delivers, Does, LivesOn}
+use Rattle.someip_world_rules.specs.Deliveries.{Delivers, Does, LivesOn}
 use Rattle.someip_world_exchanges.specs.Namings.{of_subscription}
 use Rattle.someip_world_exchanges.specs.declared.exchange_key.ExchangeKey.{ExchangeKey}
 use Rattle.someip_world_exchanges.specs.Openings.{Begins, Opened, Opens}
@@ -260,7 +260,7 @@ module _ (nodes : List SetupNode) (configs : List Config) (ss : List Step) where
     walk earlier (d ∷ later) is old =
         let at = (before_each (plan_of does.input) (work_on h) earlier later d is).0 in
         let among : Contains trail d = subst (λ ds. Contains ds d) (sym is) (Contains-append_right earlier (d ∷ later) d (first_of_list d later)) in
-        let own : d.before.state.config.address ≡ address = ap (λ x. x.config.address) at ∙ ap (λ c. c.address) (config_kept h (met_by earlier)) in
+        let own : d.before.state.config.address ≡ address = ap (λ c. c.address) (config_there h does.input d among) in
         let here : AllInStep d.before.state = subst AllInStep (sym at) old in
         let next : AllInStep (after d.before.state (outcome_of d).items) = done_step d among own here (kinds_of d.before.state d.by) in
         walk (earlier ++ d ∷ []) later (is ∙ sym (append_assoc earlier (d ∷ []) later))
