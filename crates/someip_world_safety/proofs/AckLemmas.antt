@@ -1,7 +1,7 @@
 -- An Ack that comes to a client belongs to the exchange of the Subscribe that it answers, which its server accepted.
-use Rattle.std.proofs.Common.{◌≡◌, ◌⊎◌, inl, inr, ℕ, ◌<◌, Bool, true, false, ◌||◌, List, [], ◌∷◌, ◌++◌, Some, arith, refl, sym, ap, subst, ◌∙◌}
-use Rattle.std.specs.List.{AllByRecursion, Contains}
-use Rattle.std.proofs.lemmas.List.Elements.{Contains-append_left, Contains-append_right, Contains-get_or}
+use Rattle.std.proofs.Common.{◌≡◌, ◌⊎◌, inl, inr, ℕ, ◌<◌, Bool, true, false, ◌||◌, List, [], ◌∷◌, Some, arith, refl, sym, ap, subst, ◌∙◌}
+use Rattle.std.specs.List.{Contains}
+use Rattle.std.proofs.lemmas.List.Elements.{Contains-append_left}
 use Rattle.std.specs.Net.Socket.{v4_ip}
 use Rattle.std.specs.declared.net.ipv4_addr.Ipv4Addr.{Ipv4Addr}
 use Rattle.someip_tables.proofs.Entries.{same_by_test}
@@ -19,7 +19,7 @@ use Rattle.someip_node_rules.specs.Items.{SubscriptionAccepted}
 use Rattle.someip_node_rules.specs.Plans.{Rule, RepliesTo, TakesSubscribe}
 use Rattle.someip_node_rules.specs.Subscribing.{subscribe_in}
 use Rattle.someip_node_rules.specs.Trails.{trail_of}
-use Rattle.someip_node_rules.proofs.MemberLemmas.{all_weaker, at_member}
+use Rattle.someip_node_rules.proofs.MemberLemmas.{at_member}
 use Rattle.someip_node_rules.proofs.StepRules.{all_brought}
 use Rattle.someip_world_schedule.specs.declared.step.Step.{Step}
 use Rattle.someip_world_setup.specs.declared.setup_node.SetupNode.{SetupNode}
@@ -27,11 +27,13 @@ use Rattle.someip_world_rules.specs.Announced.{AllFits}
 use Rattle.someip_world_rules.specs.Datagrams.{SentDatagram}
 use Rattle.someip_world_rules.specs.Deeds.{is_addressed}
 use Rattle.someip_world_rules.specs.Turns.{Turn}
+use Rattle.someip_world_rules.specs.Deliveries.{Delivers, Does}
 use Rattle.someip_world_rules.proofs.OriginLemmas.{turn_configured}
 use Rattle.someip_world_exchanges.specs.Belonging.{Answered, Belongs}
-use Rattle.someip_world_rules.specs.Deliveries.{Delivers, Does}
 use Rattle.someip_world_exchanges.specs.Namings.{named_by_entries, named_by_head, named_by_kind, named_in, of_subscription}
 use Rattle.someip_world_exchanges.specs.declared.naming.Side.TheVariants.{Answerer, Opener}
+use Rattle.someip_world_exchanges.specs.declared.naming.Naming.{Naming}
+use Rattle.someip_world_exchanges.proofs.Among.{among_all, is_among}
 use Rattle.someip_world_safety.specs.Addresses.{AreOffGroup, IsOfNode}
 use Rattle.someip_world_safety.proofs.AckWays.{AckWay, IsReplied, SubscribeWay, ack_way, way_back}
 use Rattle.someip_world_safety.proofs.EntryInputs.{ack_came}
@@ -50,18 +52,8 @@ either_true false b is = inr is
 names : (from to : Ipv4Addr) (entries : List EntryValue) (value : EntryValue) (head : EventgroupEntry) → Contains entries value → IsGroupEntry value head
     → Contains (named_by_entries from to entries) (named_by_kind head.kind from to head)
 names from to entries value head among about =
-    at_member (λ e. IsGroupEntry e head → Contains (named_by_entries from to entries) (named_by_kind head.kind from to head)) entries value
-    (within entries) among about
-  where
-    within : (es : List EntryValue) → AllByRecursion (λ e. IsGroupEntry e head → Contains (named_by_entries from to es) (named_by_kind head.kind from to head)) es
-    within [] = tt
-    within (e ∷ es) = (
-      λ is. subst (λ x. Contains (named_by_head from to x ++ named_by_entries from to es) (named_by_kind head.kind from to head)) (sym is)
-          (Contains-get_or (named_by_kind head.kind from to head ∷ named_by_entries from to es) 0 (named_by_kind head.kind from to head) (omega arith)),
-      all_weaker (λ x. IsGroupEntry x head → Contains (named_by_entries from to es) (named_by_kind head.kind from to head))
-          (λ x. IsGroupEntry x head → Contains (named_by_head from to e.head ++ named_by_entries from to es) (named_by_kind head.kind from to head))
-          (λ x f is. Contains-append_right (named_by_head from to e.head) (named_by_entries from to es) (named_by_kind head.kind from to head) (f is)) es (within es),
-    )
+    let naming : Naming = named_by_kind head.kind from to head in
+    among_all (λ e. named_by_head from to e.head) entries value naming among (subst (λ x. Contains (named_by_head from to x) naming) (sym about) (is_among naming naming refl))
 
 module _ (nodes : List SetupNode) (configs : List Config) (ss : List Step) (fits : AllFits nodes configs ss) (off_group : AreOffGroup configs) where
   -- a datagram that is delivered to a node and went to a node went to this one

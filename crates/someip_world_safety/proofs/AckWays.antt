@@ -29,8 +29,8 @@ use Rattle.someip_world_rules.specs.Deeds as deeds
 use Rattle.someip_world_rules.specs.Deeds.{is_addressed}
 use Rattle.someip_world_rules.specs.Deliveries.{Delivers, Does, Sends}
 use Rattle.someip_world_rules.proofs.Deliverings.{delivered_in}
-use Rattle.someip_world_exchanges.proofs.EntryLemmas.{announced_with}
 use Rattle.someip_world_rules.proofs.Sendings.{sent_before}
+use Rattle.someip_world_exchanges.proofs.EntryLemmas.{announced_with}
 use Rattle.someip_world_safety.proofs.AnsweredEntries.{AnswersAsked, answers_asked}
 use Rattle.someip_world_safety.proofs.SentEntries.{Asks, Back, IsGroupEntry, ToPeer, announces_no_group, is_ack_kind, to_peer}
 
@@ -45,9 +45,9 @@ ack_sent_back : (h : History) (input : Input) (peer : Ipv4Addr) (own : List Entr
     → Contains own e → IsGroupEntry e head → is_ack head ≡ true → IsSentBack input peer earlier e
 ack_sent_back h input peer own earlier e head brought among is ack = cases (to_peer h input peer own earlier e brought among)
   where
-    cases : ToPeer input peer earlier e → IsSentBack input peer earlier e
+    cases : ToPeer h input peer earlier e → IsSentBack input peer earlier e
     cases (Back p came back reply) = record { packet = p; is = came; back = back; reply = reply }
-    cases (Asks asks) =
+    cases (Asks asks partner) =
         let asked = asks.1 in
         let same : asks.0 ≡ head = cc in
         let clash = sym asks.2 ∙ ap (λ x. x.kind) same ∙ is_ack_kind head ack in absurd cc

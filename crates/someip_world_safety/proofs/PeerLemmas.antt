@@ -1,5 +1,5 @@
 -- What is sent to a peer goes to a node.
-use Rattle.std.proofs.Common.{◌≡◌, inl, inr, ℕ, List, arith, Some, refl, sym, ap, subst, ◌∙◌}
+use Rattle.std.proofs.Common.{◌≡◌, inl, inr, ℕ, List, arith, Some, sym, ap, subst, ◌∙◌}
 use Rattle.std.specs.List.{AllByRecursion, Contains}
 use Rattle.std.specs.Option.{option_map}
 use Rattle.std.specs.Net.Socket.{v4_ip}
@@ -8,10 +8,11 @@ use Rattle.std.specs.declared.net.socket_addr.SocketAddrV4.{SocketAddrV4}
 use Rattle.sd_wire.specs.Values.{EntryValue, ReadValue, bad_run, good}
 use Rattle.sd_wire.specs.declared.entry.EntryHead.TheVariants as heads
 use Rattle.sd_session.specs.declared.stamp.Stamp.{Stamp}
+use Rattle.sd_core.specs.declared.keys.InstanceId.{InstanceId}
 use Rattle.sd_core.specs.declared.received.KnownOffer.{KnownOffer}
 use Rattle.sd_core.specs.SeekTables.{known_at}
 use Rattle.someip_node_rules.specs.declared.config.Config.{Config}
-use Rattle.someip_node_rules.specs.Bringing.{Brings, OfEntry, RepliesToEntry, WasBrought}
+use Rattle.someip_node_rules.specs.Bringing.{Brings, OfEntry, WasBrought}
 use Rattle.someip_node_rules.specs.History.{History, answers_of}
 use Rattle.someip_node_rules.specs.Inputs as inputs
 use Rattle.someip_node_rules.specs.Inputs.{Input}
@@ -28,7 +29,7 @@ use Rattle.someip_node_rules.specs.SeekQuestions.{known_offer_at}
 use Rattle.someip_node_rules.specs.Sending.{IsAnnounced}
 use Rattle.someip_node_rules.specs.Tables.{Tables}
 use Rattle.someip_node_rules.specs.Trails.{Done}
-use Rattle.someip_node_rules.proofs.MemberLemmas.{all_weaker, at_member}
+use Rattle.someip_node_rules.proofs.MemberLemmas.{all_weaker}
 use Rattle.someip_node_rules.proofs.StepRules.{config_there}
 use Rattle.someip_node_rules.proofs.WishLives.{get-known}
 use Rattle.someip_world_schedule.specs.declared.step.Step.{Step}
@@ -38,15 +39,16 @@ use Rattle.someip_world_rules.specs.Datagrams.{SentDatagram}
 use Rattle.someip_world_rules.specs.Deeds as deeds
 use Rattle.someip_world_rules.specs.Origins.{WasMet}
 use Rattle.someip_world_rules.specs.Turns.{Turn}
-use Rattle.someip_world_rules.proofs.OriginLemmas.{all_origins, turn_configured}
 use Rattle.someip_world_rules.specs.Deliveries.{Does}
-use Rattle.someip_world_safety.specs.Addresses.{IsOfNode}
+use Rattle.someip_world_rules.proofs.OriginLemmas.{all_origins, turn_configured}
 use Rattle.someip_world_rules.proofs.Deliverings.{delivered_in}
-use Rattle.someip_world_exchanges.proofs.EntryLemmas.{announced_with}
 use Rattle.someip_world_rules.proofs.Fronts.{within}
 use Rattle.someip_world_rules.proofs.Sendings.{sent_before}
+use Rattle.someip_world_exchanges.proofs.EntryLemmas.{announced_with}
+use Rattle.someip_world_safety.specs.Addresses.{IsOfNode}
 use Rattle.someip_world_safety.proofs.EntryInputs.{offer_came}
 use Rattle.someip_world_safety.proofs.KnownPeers.{IsFrom, course_from, known_peer_from, standing_begun}
+use Rattle.someip_world_safety.proofs.SentEntries.{Asks, Back, ToPeer, to_peer}
 
 module _ (nodes : List SetupNode) (configs : List Config) (ss : List Step) (fits : AllFits nodes configs ss) where
   -- what announces goes out from a node
@@ -106,34 +108,18 @@ module _ (nodes : List SetupNode) (configs : List Config) (ss : List Step) (fits
     abbrev h : History
     h = does.turn.history
 
-    -- by the input
-    by_input : (input : Input) (peer : Ipv4Addr) (own : List EntryValue) (earlier : List Done) (e : EntryValue) → does.input ≡ input → Contains own e → Brings h input (RepliesTo peer own) earlier → IsNode peer
-    by_input (inputs.Datagram from to bytes) peer own earlier e is among m =
-        let p : Packet = record { from = from; to = to; bytes = bytes } in
-        let reply = at_member (RepliesToEntry p earlier) own e m.1 among in
-        let entry = replied_entry p reply.done.by (answers_of reply.done.before.state) e reply.entry reply.says in
-        subst IsNode (sym m.0) (came_from_node n does.step does.turn p entry.0 (does.takes ∙ ap deeds.Takes is) entry.1)
-    by_input (inputs.Tick ms) peer own earlier e is among (inl m) = let x = m.0 in absurd cc
-    by_input (inputs.Tick ms) peer own earlier e is among (inr m) = let x = m.1 in absurd cc
-    by_input (inputs.Call kind instance method bytes) peer own earlier e is among m = let x = m.0 in absurd cc
-    by_input (inputs.Answer token reply bytes) peer own earlier e is among m = let x = m.0 in absurd cc
-    by_input (inputs.Publish instance event bytes) peer own earlier e is among m = let x = m.0 in absurd cc
-    by_input (inputs.PublishTo instance eventgroup endpoint event bytes) peer own earlier e is among m = let x = m.0 in absurd cc
-    by_input (inputs.Subscribe eventgroup) peer own earlier e is among (inl m) = let x = m.0 in absurd cc
-    by_input (inputs.Subscribe eventgroup) peer own earlier e is among (inr m) =
-        let x = m.2 in
-        let one : m.0 ≡ peer = cc in
-        let known : option_map (λ known. known.peer) (known_at (clock_at h.items) (known_offer_at h.items eventgroup.instance)) ≡ Some m.0 =
-        ap (λ o. option_map (λ (known : KnownOffer). known.peer) (known_at (clock_at h.items) o)) (sym (get-known h.items eventgroup.instance)) ∙ m.1 in
-        subst IsNode one (known_peer_from IsNode (clock_at h.items) eventgroup.instance m.0 h.items (all_from n does.step does.turn) known)
-    by_input (inputs.Unsubscribe eventgroup) peer own earlier e is among (inl m) = absurd cc
-    by_input (inputs.Unsubscribe eventgroup) peer own earlier e is among (inr m) =
-        let x = m.2 in
-        let one : m.0.peer ≡ peer = cc in
-        subst IsNode one (course_from IsNode h.items eventgroup m.0 (all_from n does.step does.turn) (standing_begun h eventgroup m.0 m.1))
-    by_input (inputs.StopOffer instance) peer own earlier e is among (inl m) = absurd cc
-    by_input (inputs.StopOffer instance) peer own earlier e is among (inr m) = let x = m.0 in absurd cc
-
     -- what is sent to a peer goes to a node
     pub replies_go_to_nodes : (d : Done) (peer : Ipv4Addr) (own : List EntryValue) (e : EntryValue) → Contains own e → WasBrought h does.input d → d.by ≡ RepliesTo peer own → IsNode peer
-    replies_go_to_nodes d peer own e among was is = by_input does.input peer own was.earlier e refl among (subst (λ r. Brings h does.input r was.earlier) is was.brings)
+    replies_go_to_nodes d peer own e among was is = cases (to_peer h does.input peer own was.earlier e (subst (λ r. Brings h does.input r was.earlier) is was.brings) among)
+      where
+        cases : ToPeer h does.input peer was.earlier e → IsNode peer
+        cases (Back p came back reply) =
+            let entry = replied_entry p reply.done.by (answers_of reply.done.before.state) e reply.entry reply.says in
+            subst IsNode (sym back) (came_from_node n does.step does.turn p entry.0 (does.takes ∙ ap deeds.Takes came) entry.1)
+        cases (Asks asks (inl known)) =
+            let instance : InstanceId = known.0.instance in
+            let stands : option_map (λ known. known.peer) (known_at (clock_at h.items) (known_offer_at h.items instance)) ≡ Some peer =
+            ap (λ o. option_map (λ (known : KnownOffer). known.peer) (known_at (clock_at h.items) o)) (sym (get-known h.items instance)) ∙ known.1 in
+            known_peer_from IsNode (clock_at h.items) instance peer h.items (all_from n does.step does.turn) stands
+        cases (Asks asks (inr begun)) =
+            subst IsNode begun.3 (course_from IsNode h.items begun.0 begun.1 (all_from n does.step does.turn) (standing_begun h begun.0 begun.1 begun.2))

@@ -1,9 +1,8 @@
 -- By which rules subscriptions begin or are acknowledged, and what the opening of one says.
 use Rattle.std.proofs.Common.{◌≡◌, ℕ, suc, ◌<◌, Bool, true, false, ◌&&◌, if◌then◌else◌, List, [], ◌∷◌, ◌++◌, Option, None, Some, Ok, arith, refl, sym, ap, subst, ◌∙◌}
-use Rattle.std.specs.List.{AllByRecursion, Contains}
+use Rattle.std.specs.List.{AllByRecursion}
 use Rattle.std.specs.Prelude.{◌==◌}
 use Rattle.std.specs.Option.{option_map_or}
-use Rattle.std.proofs.lemmas.List.Elements.{Contains-get_or}
 use Rattle.std.proofs.lemmas.Grind.{flat_map-append, fold-append}
 use Rattle.std.proofs.lemmas.Bool.{eqb-true}
 use Rattle.std.proofs.lemmas.List.{append-nil}
@@ -131,10 +130,6 @@ answered_parts now answer was is = cases (is_over now was) is
         (same_by_test exact_addresses was.peer answer.peer b.1, eqb-true was.counter answer.counter a.1)
 
 -- ---- histories on the way
-
--- the first of a list stands in it
-pub first_of_list : {X : Type 0} (x : X) (xs : List X) → Contains (x ∷ xs) x
-first_of_list x xs = Contains-get_or (x ∷ xs) 0 x (omega arith)
 
 -- after one rule more
 pub after_more : (h : History) (earlier : List Done) (d : Done) → after (after h (met_by earlier)) (outcome_of d).items ≡ after h (met_by (earlier ++ d ∷ []))

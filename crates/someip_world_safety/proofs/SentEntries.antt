@@ -1,5 +1,5 @@
 -- Which entries about eventgroups a node sends, and that it sends no Find to a peer.
-use Rattle.std.proofs.Common.{◌≡◌, inl, inr, ℕ, ◌+◌, true, false, ◌&&◌, ltb, List, [], ◌∷◌, Option, None, Some, refl, sym, ap, subst}
+use Rattle.std.proofs.Common.{◌≡◌, ◌⊎◌, inl, inr, ℕ, ◌+◌, true, false, ◌&&◌, ltb, List, [], ◌∷◌, Option, None, Some, refl, sym, ap, subst, ◌∙◌}
 use Rattle.std.specs.List.{AllByRecursion, Contains}
 use Rattle.std.specs.Option.{option_map_or}
 use Rattle.std.specs.Net.Socket.{v4_ip}
@@ -14,10 +14,11 @@ use Rattle.sd_wire.specs.Kinds.{has_type_ack, has_type_find, has_type_subscribe,
 use Rattle.sd_wire.specs.Values.{EntryValue}
 use Rattle.sd_core.specs.declared.eventgroup.Eventgroup.{Eventgroup}
 use Rattle.sd_core.specs.declared.keys.InstanceId.{InstanceId}
+use Rattle.sd_core.specs.declared.wish.Beginning.{Beginning}
 use Rattle.someip_node_rules.specs.declared.config.OfferedService.{OfferedService}
 use Rattle.someip_node_rules.specs.declared.config.WantedService.{WantedService}
 use Rattle.someip_node_rules.specs.Bringing.{Brings, RepliesToEntry}
-use Rattle.someip_node_rules.specs.Calls.{stop_offer_of, stop_subscribe_of, wish_entries, wish_entries_by}
+use Rattle.someip_node_rules.specs.Calls.{standing_of, stop_offer_of, stop_subscribe_of, wish_entries, wish_entries_by}
 use Rattle.someip_node_rules.specs.Entries.{offer_entry, subscribe_entry}
 use Rattle.someip_node_rules.specs.History.{History, answers_of}
 use Rattle.someip_node_rules.specs.Inputs.{Input, Datagram, Tick, Call, Answer, Publish, PublishTo, Subscribe, Unsubscribe, StopOffer}
@@ -26,7 +27,7 @@ use Rattle.someip_node_rules.specs.Plans as plans
 use Rattle.someip_node_rules.specs.Plans.{Rule, Announces, RepliesTo}
 use Rattle.someip_node_rules.specs.Replies.{IsDue, IsReply}
 use Rattle.someip_node_rules.specs.Setups.{client_endpoint, offered_as, wanted_as}
-use Rattle.someip_node_rules.specs.Tables.{Tables}
+use Rattle.someip_node_rules.specs.Tables.{Tables, known_peer}
 use Rattle.someip_node_rules.specs.Trails.{Done}
 use Rattle.someip_node_rules.proofs.MemberLemmas.{at_member}
 
@@ -109,13 +110,19 @@ wish_asks : (t : Tables) (eventgroup : Eventgroup) (counter : Option ℕ) → Al
 wish_asks t eventgroup None = tt
 wish_asks t eventgroup (Some counter) = subscribe_asks t (wanted_as t.config eventgroup.instance) eventgroup counter (λ want. want.ttl)
 
+-- a peer is that of a known offer, or of a subscription that stands
+abbrev pub IsPartner : History → Ipv4Addr → Type 0
+IsPartner h peer =
+    ((eventgroup : Eventgroup) × (known_peer (answers_of h) eventgroup.instance ≡ Some peer))
+    ⊎ ((eventgroup : Eventgroup) × (b : Beginning) × (standing_of eventgroup (answers_of h) ≡ Some b) × (b.peer ≡ peer))
+
 -- what a node sends to a peer by a datagram are replies, and by any other input Subscribes and StopSubscribes
-pub data ToPeer (input : Input) (peer : Ipv4Addr) (earlier : List Done) (e : EntryValue) : Type 0 where
-  Back : (p : Packet) → input ≡ Datagram p.from p.to p.bytes → peer ≡ v4_ip p.from → RepliesToEntry p earlier e → ToPeer input peer earlier e
-  Asks : IsAsking e → ToPeer input peer earlier e
+pub data ToPeer (h : History) (input : Input) (peer : Ipv4Addr) (earlier : List Done) (e : EntryValue) : Type 0 where
+  Back : (p : Packet) → input ≡ Datagram p.from p.to p.bytes → peer ≡ v4_ip p.from → RepliesToEntry p earlier e → ToPeer h input peer earlier e
+  Asks : IsAsking e → IsPartner h peer → ToPeer h input peer earlier e
 
 -- what a rule sends to a peer
-pub to_peer : (h : History) (input : Input) (peer : Ipv4Addr) (own : List EntryValue) (earlier : List Done) (e : EntryValue) → Brings h input (RepliesTo peer own) earlier → Contains own e → ToPeer input peer earlier e
+pub to_peer : (h : History) (input : Input) (peer : Ipv4Addr) (own : List EntryValue) (earlier : List Done) (e : EntryValue) → Brings h input (RepliesTo peer own) earlier → Contains own e → ToPeer h input peer earlier e
 to_peer h (Datagram from to bytes) peer own earlier e m among =
     let p : Packet = record { from = from; to = to; bytes = bytes } in Back p refl m.0 (at_member (RepliesToEntry p earlier) own e m.1 among)
 to_peer h (Tick ms) peer own earlier e (inl m) among = let x = m.0 in absurd cc
@@ -128,14 +135,18 @@ to_peer h (Subscribe eventgroup) peer own earlier e (inl m) among = let x = m.0 
 to_peer h (Subscribe eventgroup) peer own earlier e (inr m) among =
     let by = m.2 in
     let same : own ≡ wish_entries eventgroup (answers_of h) = cc in
+    let one : m.0 ≡ peer = cc in
     Asks (at_member IsAsking (wish_entries eventgroup (answers_of h)) e (wish_asks (answers_of h) eventgroup _) (subst (λ es. Contains es e) same among))
+    (inl (eventgroup, m.1 ∙ ap Some one))
 to_peer h (Unsubscribe eventgroup) peer own earlier e (inl m) among = absurd cc
 to_peer h (Unsubscribe eventgroup) peer own earlier e (inr m) among =
     let by = m.2 in
     let same : own ≡ stop_subscribe_of (answers_of h) eventgroup m.0.counter = cc in
+    let one : m.0.peer ≡ peer = cc in
     Asks
     (at_member IsAsking (stop_subscribe_of (answers_of h) eventgroup m.0.counter) e
     (subscribe_asks (answers_of h) (wanted_as (answers_of h).config eventgroup.instance) eventgroup m.0.counter (λ want. 0)) (subst (λ es. Contains es e) same among))
+    (inr (eventgroup, m.0, m.1, one))
 to_peer h (StopOffer instance) peer own earlier e (inl m) among = absurd cc
 to_peer h (StopOffer instance) peer own earlier e (inr m) among = let x = m.0 in absurd cc
 
@@ -157,6 +168,6 @@ pub no_find_to_peer : (h : History) (input : Input) (peer : Ipv4Addr) (own : Lis
     → IsInstanceEntry e f → is_find f ≡ true → ⊥
 no_find_to_peer h input peer own earlier e f brought among is find = cases (to_peer h input peer own earlier e brought among)
   where
-    cases : ToPeer input peer earlier e → ⊥
+    cases : ToPeer h input peer earlier e → ⊥
     cases (Back p came back reply) = reply_no_find reply.done.by (answers_of reply.done.before.state) e f reply.says is find
-    cases (Asks asks) = let x = asks.1 in absurd cc
+    cases (Asks asks partner) = let x = asks.1 in absurd cc

@@ -19,17 +19,17 @@ use Rattle.someip_world_setup.specs.declared.setup_node.SetupNode.{SetupNode}
 use Rattle.someip_world_rules.specs.Deeds.{Deed, Takes, Restarts, done_with}
 use Rattle.someip_world_rules.specs.Runs.{World, history_after, world_after, world_of}
 use Rattle.someip_world_rules.specs.Turns.{LeadTo, Turn}
+use Rattle.someip_world_rules.specs.Deliveries.{Does, Restarted}
 use Rattle.someip_world_rules.proofs.OriginLemmas.{all_origins, begun_so, turn_configured}
 use Rattle.someip_world_rules.proofs.Lives.{below_next, lives_next, not_restarted}
-use Rattle.someip_world_rules.specs.Deliveries.{Does, Restarted}
-use Rattle.someip_world_exchanges.specs.Namings.{of_subscription}
-use Rattle.someip_world_exchanges.specs.declared.exchange_key.ExchangeKey.{ExchangeKey}
-use Rattle.someip_world_safety.specs.Addresses.{HaveOwnAddresses}
-use Rattle.someip_world_exchanges.specs.Openings.{Opened}
-use Rattle.someip_world_exchanges.specs.CleanReuse.{IsCleanBefore}
-use Rattle.someip_world_safety.specs.Subscriptions.{SubscriptionsAreSafe, WasAccepted}
 use Rattle.someip_world_rules.proofs.Deliverings.{one_turn}
 use Rattle.someip_world_rules.proofs.Fronts.{get_set_other, get_set_same, on_the_way, within}
+use Rattle.someip_world_exchanges.specs.Namings.{of_subscription}
+use Rattle.someip_world_exchanges.specs.declared.exchange_key.ExchangeKey.{ExchangeKey}
+use Rattle.someip_world_exchanges.specs.Openings.{Opened}
+use Rattle.someip_world_exchanges.specs.CleanReuse.{IsCleanBefore}
+use Rattle.someip_world_safety.specs.Addresses.{HaveOwnAddresses}
+use Rattle.someip_world_safety.specs.Subscriptions.{SubscriptionsAreSafe, WasAccepted}
 use Rattle.someip_world_safety.proofs.RuleItems.{opens_more}
 use Rattle.someip_world_safety.proofs.StepStandings.{AcksBeginNone, AcksSay, AreBegun, Before, InStep, IsAcked, IsBegun, Now, all_in_step, key_at}
 

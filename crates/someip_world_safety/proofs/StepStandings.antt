@@ -31,15 +31,15 @@ use Rattle.someip_world_schedule.specs.declared.step.Step.{Step}
 use Rattle.someip_world_setup.specs.declared.setup_node.SetupNode.{SetupNode}
 use Rattle.someip_world_rules.specs.Datagrams.{SentDatagram}
 use Rattle.someip_world_rules.specs.Runs.{World}
-use Rattle.someip_world_exchanges.specs.Belonging.{Belongs}
 use Rattle.someip_world_rules.specs.Deliveries.{Delivers, Does, LivesOn}
+use Rattle.someip_world_exchanges.specs.Belonging.{Belongs}
 use Rattle.someip_world_exchanges.specs.Namings.{of_subscription}
 use Rattle.someip_world_exchanges.specs.declared.exchange_key.ExchangeKey.{ExchangeKey}
 use Rattle.someip_world_exchanges.specs.Openings.{Begins, Opened, Opens}
 use Rattle.someip_world_exchanges.specs.CleanReuse.{IsCleanBefore, Old}
-use Rattle.someip_world_safety.specs.Subscriptions.{WasAccepted}
 use Rattle.someip_world_exchanges.proofs.CourseLemmas.{BeginsAt, GoesOn, acked_so, offered_so, tame_goes_on, wished_so}
-use Rattle.someip_world_safety.proofs.RuleItems.{AWish, AllTame, AnAck, AnOffer, Kinds, MayBegin, Tame, after_more, answered_parts, first_of_list, kinds_of}
+use Rattle.someip_world_safety.specs.Subscriptions.{WasAccepted}
+use Rattle.someip_world_safety.proofs.RuleItems.{AWish, AllTame, AnAck, AnOffer, Kinds, MayBegin, Tame, after_more, answered_parts, kinds_of}
 
 -- ---- the invariant
 
@@ -259,7 +259,7 @@ module _ (nodes : List SetupNode) (configs : List Config) (ss : List Step) where
     walk earlier [] is old = subst (λ ds. AllInStep (after h (met_by ds))) (sym (is ∙ append-nil earlier)) old
     walk earlier (d ∷ later) is old =
         let at = (before_each (plan_of does.input) (work_on h) earlier later d is).0 in
-        let among : Contains trail d = subst (λ ds. Contains ds d) (sym is) (Contains-append_right earlier (d ∷ later) d (first_of_list d later)) in
+        let among : Contains trail d = subst (λ ds. Contains ds d) (sym is) (Contains-append_right earlier (d ∷ later) d (0, omega arith, refl)) in
         let own : d.before.state.config.address ≡ address = ap (λ c. c.address) (config_there h does.input d among) in
         let here : AllInStep d.before.state = subst AllInStep (sym at) old in
         let next : AllInStep (after d.before.state (outcome_of d).items) = done_step d among own here (kinds_of d.before.state d.by) in

@@ -20,8 +20,8 @@ use Rattle.someip_world_schedule.specs.declared.step.Step.{Step}
 use Rattle.someip_world_setup.specs.declared.setup_node.SetupNode.{SetupNode}
 use Rattle.someip_world_rules.specs.Datagrams.{SentDatagram}
 use Rattle.someip_world_rules.specs.Runs.{World}
-use Rattle.someip_world_exchanges.specs.Belonging.{Belongs, IsNewest}
 use Rattle.someip_world_rules.specs.Deliveries.{Delivers, Does, LivesOn}
+use Rattle.someip_world_exchanges.specs.Belonging.{Belongs, IsNewest}
 use Rattle.someip_world_exchanges.specs.Namings.{of_subscription}
 
 module _ (nodes : List SetupNode) (configs : List Config) (steps : List Step) where
