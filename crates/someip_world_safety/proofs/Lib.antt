@@ -1,0 +1,12 @@
+pub mod AddressLemmas
+pub mod EntryInputs
+pub mod KnownPeers
+pub mod PeerLemmas
+pub mod SentEntries
+pub mod AnsweredEntries
+pub mod RuleItems
+pub mod StepStandings
+pub mod AckWays
+pub mod AckAlone
+pub mod AckLemmas
+pub mod StandingLemmas

@@ -1,0 +1,29 @@
+//! Laws of safety, of every run in which keys are reused cleanly. Each is the contract of a function that
+//! does nothing.
+ghost use Rattle.std.specs.Prelude.{◌≤◌, ℕ, List, length, take};
+ghost use Rattle.someip_node_rules.specs.declared.config.Config.{Config};
+ghost use Rattle.someip_world_schedule.specs.declared.step.Step.{Step};
+ghost use Rattle.someip_world_setup.specs.declared.setup_node.SetupNode.{SetupNode};
+ghost use Rattle.someip_world_setup.specs.GoodSetups.{IsGoodNetwork, Network};
+ghost use Rattle.someip_world_rules.specs.Announced.{AllFits};
+ghost use Rattle.someip_world_rules.specs.Runs.{AreCopies, World};
+ghost use Rattle.someip_world_rules.specs.Turns.{LeadTo};
+ghost use Rattle.someip_world_exchanges.specs.CleanReuse.{IsCleanBefore};
+ghost use Rattle.someip_world_safety.specs.Addresses.{AreOffGroup, HaveOwnAddresses};
+ghost use Rattle.someip_world_safety.specs.Subscriptions.{SubscriptionsAreSafe};
+
+/// A client counts itself subscribed, before each step up to which keys are reused cleanly, only where the
+/// server at which the subscription was begun accepted a Subscribe that belongs to this beginning. All that
+/// is given fits its fields, nodes have addresses of their own, and none has that of the group.
+pub fn subscriptions_were_accepted()
+    ensures { (nodes : List SetupNode) (configs : List Config) (steps : List Step)
+        → AllFits nodes configs steps → HaveOwnAddresses configs → AreOffGroup configs
+        → (n : ℕ) (w : World) → n ≤ length steps → LeadTo nodes configs (take n steps) w
+        → IsCleanBefore nodes configs steps n → SubscriptionsAreSafe nodes configs steps n w }
+{}
+
+/// In a network that was read, nodes have addresses of their own, and none has that of the group.
+pub fn addresses_are_apart()
+    ensures { (network : Network) (configs : List Config) → IsGoodNetwork network
+        → AreCopies network.nodes configs → HaveOwnAddresses configs × AreOffGroup configs }
+{}
