@@ -36,16 +36,16 @@ step_config h input done is = ap (λ (s : History). s.config) (state_met h input
 -- ---- the clock
 
 -- an item leaves the clock as it is
-abbrev LeavesClock : Item → Type 0
+abbrev pub LeavesClock : Item → Type 0
 LeavesClock item = (now : ℕ) → clock_by item now ≡ now
 
 -- where each item does, the clock stays
-clock_stays : (h : History) (met_items : List Item) → AllByRecursion LeavesClock met_items → clock_at (after h met_items).items ≡ clock_at h.items
+pub clock_stays : (h : History) (met_items : List Item) → AllByRecursion LeavesClock met_items → clock_at (after h met_items).items ≡ clock_at h.items
 clock_stays h [] all = refl
 clock_stays h (item ∷ rest) all = clock_stays (met h item) rest all.1 ∙ all.0 (clock_at h.items)
 
 -- what is met by an input that is no tick leaves the clock
-leaves_clock : (h : History) (input : Input) → is_tick input ≡ false → (item : Item) → MetBy h input item → LeavesClock item
+pub leaves_clock : (h : History) (input : Input) → is_tick input ≡ false → (item : Item) → MetBy h input item → LeavesClock item
 leaves_clock h input other (items.Ticked ms) by now =
     let tick : input ≡ inputs.Tick ms = subst (λ r. AskedBy r input) by.holds (done_asked h input _ by) in
     let none = subst (λ x. is_tick x ≡ false) tick other in absurd cc

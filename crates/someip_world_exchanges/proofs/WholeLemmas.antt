@@ -77,11 +77,11 @@ whole_pieces m = cases (is_long m.payload) refl
     cases false is = ((λ none. (refl, is)), tt)
 
 -- a piece with the TP flag is a segment of the message, which is long; unless the message itself has the flag
-abbrev IsSegment : MessageValue → PieceValue → Type 0
+abbrev pub IsSegment : MessageValue → PieceValue → Type 0
 IsSegment m piece = has_tp_flag m.header.kind ≡ false → has_tp_flag (piece_message piece).header.kind ≡ true
     → (is_long m.payload ≡ true) × ((s : SegmentValue) × Contains (segments_of m) s × (piece ≡ InSegment s))
 
-segment_pieces : (m : MessageValue) → AllByRecursion (IsSegment m) (sent m)
+pub segment_pieces : (m : MessageValue) → AllByRecursion (IsSegment m) (sent m)
 segment_pieces m = cases (is_long m.payload) refl
   where
     cases : (b : Bool) → is_long m.payload ≡ b → AllByRecursion (IsSegment m) (if b then map InSegment (segments_of m) else Alone m ∷ [])
