@@ -22,6 +22,7 @@ use Rattle.someip_node_rules.specs.Packets.{Came, Completes, Packet}
 use Rattle.someip_node_rules.specs.Questions.{clock_at}
 use Rattle.someip_node_rules.specs.Setups.{limits_of}
 use Rattle.someip_node_rules.specs.Steps.{work_on}
+use Rattle.someip_node_rules.specs.Tables.{Tables}
 use Rattle.someip_node_rules.specs.Trails.{Done, after, met_by, outcome_of, trail_of}
 use Rattle.someip_node_rules.proofs.MeetingLemmas.{all_met}
 use Rattle.someip_node_rules.proofs.PlanLemmas.{before_each}
@@ -94,12 +95,15 @@ module _ (nodes : List SetupNode) (configs : List Config) (steps : List Step) wh
       limits : Limits
       limits = limits_of h.config
 
+      took : Tables
+      took = answers_of c.took.before.state
+
       whole : message_at (parts_after limits (clock_at (after h (met_by c.before)).items) c.offer (parts_in limits (after h (met_by c.before)).items)) c.offer.key ≡ Some payload
       whole =
           subst (λ g. message_at (parts_after (limits_of g) (clock_at (after h (met_by c.before)).items) c.offer (parts_in (limits_of g) (after h (met_by c.before)).items)) c.offer.key ≡ Some payload)
           (config_kept h (met_by c.before))
           (subst (λ (x : History). message_at (parts_after (limits_of x.config) (clock_at x.items) c.offer (parts_in (limits_of x.config) x.items)) c.offer.key ≡ Some payload) at
-          (completed_there _ _ payload c.whole))
+          (completed_there (judgement (limits_of took.config) took.clock c.offer took.parts) (message_at (parts_after (limits_of took.config) took.clock c.offer took.parts) c.offer.key) payload c.whole))
 
       payload_is : payload ≡ message.message.payload
       payload_is = whole_given nodes configs steps fits n does p is clean was (after h (met_by c.before)).items holding header c.offer c.segment payload whole
