@@ -1,9 +1,8 @@
 -- A message that came to the application, whole or in segments, was given as it came by the step that sent its datagram.
-use Rattle.std.proofs.Common.{◌≡◌, inl, inr, ℕ, suc, ◌≤◌, List, [], ◌∷◌, ◌++◌, take, None, Some, Result, Ok, Err, Option, arith, refl, sym, ap, subst, append_assoc, ◌∙◌}
+use Rattle.std.proofs.Common.{◌≡◌, inl, inr, ℕ, suc, List, [], ◌∷◌, ◌++◌, Some, Result, Ok, Err, Option, arith, refl, sym, ap, subst, append_assoc, ◌∙◌}
 use Rattle.std.specs.List.{AllByRecursion}
 use Rattle.std.proofs.lemmas.Grind.{flat_map-append}
 use Rattle.someip_wire.specs.declared.header.Header.{Header}
-use Rattle.someip_wire.specs.Spelling.{MessageValue}
 use Rattle.someip_tp.specs.declared.error.TpError.{TpError}
 use Rattle.someip_tp.specs.declared.reassembly.Offered.{Offered}
 use Rattle.someip_tp.specs.declared.reassembly.Offered.TheVariants.{Part, Whole}
@@ -14,9 +13,8 @@ use Rattle.someip_node_rules.specs.DiscoveryQuestions.{parts_in}
 use Rattle.someip_node_rules.specs.Handling.{target_of}
 use Rattle.someip_node_rules.specs.History.{History, answers_of}
 use Rattle.someip_node_rules.specs.Inputs.{Datagram, plan_of}
-use Rattle.someip_node_rules.specs.Items.{Item}
 use Rattle.someip_node_rules.specs.Meetings.{MetBy}
-use Rattle.someip_node_rules.specs.Messages.{completed, completed_by}
+use Rattle.someip_node_rules.specs.Messages.{completed_by}
 use Rattle.someip_node_rules.specs.Outputs as outputs
 use Rattle.someip_node_rules.specs.Packets.{Came, Completes, Packet}
 use Rattle.someip_node_rules.specs.Questions.{clock_at}
@@ -52,7 +50,7 @@ front_all P [] ys all = tt
 front_all P (x ∷ xs) ys all = (all.0, front_all P xs ys all.1)
 
 module _ (nodes : List SetupNode) (configs : List Config) (steps : List Step) where
-  -- what came in segments was given so
+  -- a message that a segment of a datagram made whole was given by the step that sent this segment
   segments_were_given : AllFits nodes configs steps → (n : ℕ) (does : Does nodes configs steps n) (p : Packet) (header : Header) (payload : List ℕ) (done : Done) (earlier later : List Done)
       → does.input ≡ Datagram p.from p.to p.bytes → trail_of does.turn.history does.input ≡ earlier ++ done ∷ later → Completes p header payload earlier → IsCleanBefore nodes configs steps (suc n)
       → WasGiven nodes configs steps n p.from p.to header payload
@@ -108,7 +106,7 @@ module _ (nodes : List SetupNode) (configs : List Config) (steps : List Step) wh
       payload_is : payload ≡ message.message.payload
       payload_is = whole_given nodes configs steps fits n does p is clean was (after h (met_by c.before)).items holding header c.offer c.segment payload whole
 
-  -- what came to the application was given so
+  -- a message that came to the application, whole or in segments, was given so by the step that sent its datagram
   pub came_was_given : AllFits nodes configs steps → (n : ℕ) (does : Does nodes configs steps n) (p : Packet) (header : Header) (payload : List ℕ) (done : Done) (earlier later : List Done)
       → does.input ≡ Datagram p.from p.to p.bytes → trail_of does.turn.history does.input ≡ earlier ++ done ∷ later → IsForApplication (target_of does.turn.history.config p.to) → Came p header payload earlier
       → IsCleanBefore nodes configs steps (suc n) → WasGiven nodes configs steps n p.from p.to header payload

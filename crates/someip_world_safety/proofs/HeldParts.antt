@@ -9,7 +9,7 @@ use Rattle.someip_wire.specs.Spelling.{MessageValue}
 use Rattle.someip_tp.specs.declared.key.ReassemblyKey.{ReassemblyKey}
 use Rattle.someip_tp.specs.Accepted.{HoldsOnly}
 use Rattle.someip_tp.specs.Offers.{Offer, message_at, parts_after}
-use Rattle.someip_tp.specs.Parts.{Limits, Part, Parts, parts_at}
+use Rattle.someip_tp.specs.Parts.{Limits, Part, parts_at}
 use Rattle.someip_tp.proofs.BoundLemmas.{left_same}
 use Rattle.someip_node_rules.specs.declared.config.Config.{Config}
 use Rattle.someip_node_rules.specs.Bringing.{Brings}
@@ -22,7 +22,7 @@ use Rattle.someip_node_rules.specs.Meetings.{MetBy}
 use Rattle.someip_node_rules.specs.Outputs as outputs
 use Rattle.someip_node_rules.specs.Packets.{HasSegment, Packet}
 use Rattle.someip_node_rules.specs.Plans.{TakesSegment}
-use Rattle.someip_node_rules.specs.Questions.{clock_at, clock_by}
+use Rattle.someip_node_rules.specs.Questions.{clock_at}
 use Rattle.someip_node_rules.specs.Setups.{limits_of}
 use Rattle.someip_node_rules.specs.Trails.{after}
 use Rattle.someip_world_schedule.specs.declared.step.Step.{Step}
@@ -70,11 +70,11 @@ module _ (nodes : List SetupNode) (configs : List Config) (ss : List Step) where
     abbrev d : SentDatagram
     d = record { from = p.from; to = p.to; bytes = p.bytes }
 
-    -- the delivery of the step
+    -- the datagram is delivered in the step
     pub came : DeliveredIn nodes configs ss n d does.step does.turn
     came = delivered_in nodes configs ss n d does.step does.turn (does.takes ∙ ap Takes is)
 
-    -- how its datagram was sent
+    -- an earlier step sent the datagram
     pub source : Sends nodes configs ss came.sent d
     source = (sent_before nodes configs ss n came.sent d came.delivers).1
 
@@ -84,7 +84,7 @@ module _ (nodes : List SetupNode) (configs : List Config) (ss : List Step) where
         segment_given p header o segment source.does.turn.history source.does.input source.given source.by
         (fits came.sent source.does.step source.does.turn source.does.input source.given source.does.takes source.by) source.among
 
-    -- and arrives in the step
+    -- a segment of a message arrives in the step
     abbrev arrives : (header : Header) (o : Offer) (g : IsOfMessage p header o source.given) → Arrives nodes configs ss n place now g.message (plain_key o.key)
     arrives header o g = record {
       sent = came.sent;
@@ -146,7 +146,7 @@ module _ (nodes : List SetupNode) (configs : List Config) (ss : List Step) where
           same_payload header o g part (subst (λ k. k < part.last + limits.timeout) old.clock time)
           (old.parts o.key part (left_same limits (clock_at its) (parts_in limits its) o.key part is))
 
-      -- a segment is offered
+      -- after a segment of the datagram was offered, all parts are so
       after_segment : (its : List Item) → Holding its → (header : Header) (o : Offer) → HasSegment p header o → (key : ReassemblyKey) (part : Part)
           → get (parts_after limits (clock_at its) o (parts_in limits its)) key ≡ Some part → InStep key part
       after_segment its old header o segment key part is = cases (offered_parts limits (clock_at its) o (parts_in limits its) key part is)
@@ -163,7 +163,7 @@ module _ (nodes : List SetupNode) (configs : List Config) (ss : List Step) where
               (subst (λ k. Arrives nodes configs ss n place k g.message (plain_key o.key)) (sym last) (arrives header o g)))
               (joined_holds (clock_at its) o g.message (parts_at limits (clock_at its) (parts_in limits its)) key part g.segment (left_holds its old header o g) joined)
 
-      -- each item
+      -- after each item that is met in the step, all parts are so
       after_item : (item : Item) (its : List Item) → MetBy h does.input item → Holding its → (key : ReassemblyKey) (part : Part) → get (parts_by limits item (clock_at its) (parts_in limits its)) key ≡ Some part → InStep key part
       after_item (items.SegmentOffered o) its by old key part stands =
           let brings : Brings h does.input (TakesSegment o) by.brought.earlier = subst (λ r. Brings h does.input r by.brought.earlier) by.holds by.brought.brings in
@@ -171,18 +171,19 @@ module _ (nodes : List SetupNode) (configs : List Config) (ss : List Step) where
           after_segment its old segment.0 o segment.1 key part stands
       after_item item its by old key part stands = old.parts key part (no_new_parts limits item (clock_at its) (parts_in limits its) key part (λ o e. absurd cc) stands)
 
+      -- one item more leaves the clock and the parts so
       one_more : (item : Item) (its : List Item) → MetBy h does.input item → Holding its → Holding (item ∷ its)
       one_more item its by old = record {
         clock = leaves_clock h does.input (ap is_tick is) item by (clock_at its) ∙ old.clock;
         parts = after_item item its by old;
       }
 
-      -- through all that is met in the step
+      -- all that is met in the step, one item after the other, leaves the clock and the parts so
       pub holding_on : (at : History) (xs : List Item) → AllByRecursion (MetBy h does.input) xs → Holding at.items → Holding (after at xs).items
       holding_on at [] all old = old
       holding_on at (x ∷ xs) all old = holding_on (met at x) xs all.1 (one_more x at.items all.0 old)
 
-      -- at its beginning
+      -- at the beginning of the step they are so
       pub holding_first : Holding h.items
       holding_first = record { clock = refl; parts = λ key part stands. Before (was key part stands) }
 

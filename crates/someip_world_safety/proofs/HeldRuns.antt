@@ -1,13 +1,12 @@
 -- From step to step of a run that reuses its keys cleanly, each part that a node holds is of one message.
-use Rattle.std.proofs.Common.{◌≡◌, ◌⊎◌, inl, inr, ℕ, suc, ◌+◌, ◌≤◌, ◌<◌, Bool, true, false, eqb, List, [], ◌∷◌, length, take, slice_get, slice_set, None, Some, Result, Ok, Err, arith, refl, sym, ap, subst, ◌∙◌}
+use Rattle.std.proofs.Common.{◌≡◌, ◌⊎◌, inl, inr, ℕ, suc, ◌+◌, ◌≤◌, Bool, true, false, eqb, List, [], ◌∷◌, length, take, slice_get, slice_set, Some, Result, Ok, Err, arith, refl, sym, subst, ◌∙◌}
 use Rattle.std.specs.FinMap.{empty, get, get-empty}
 use Rattle.std.specs.List.{AllByRecursion}
 use Rattle.std.proofs.lemmas.Bool.{eqb-true, eqb-false}
-use Rattle.someip_wire.specs.declared.header.Header.{Header}
 use Rattle.someip_tp.specs.declared.key.ReassemblyKey.{ReassemblyKey}
 use Rattle.someip_tp.specs.Keys.{key_cmp}
 use Rattle.someip_tp.specs.Offers.{Offer}
-use Rattle.someip_tp.specs.Parts.{Limits, Part, Parts}
+use Rattle.someip_tp.specs.Parts.{Limits, Part}
 use Rattle.someip_node_rules.specs.declared.config.Config.{Config}
 use Rattle.someip_node_rules.specs.declared.error.NodeError.{NodeError}
 use Rattle.someip_node_rules.specs.Bringing.{Brings}
@@ -33,7 +32,7 @@ use Rattle.someip_world_rules.specs.Deeds.{Deed, Takes, Restarts, done_with}
 use Rattle.someip_world_rules.specs.Deliveries.{Does, Restarted}
 use Rattle.someip_world_rules.specs.Runs.{World, history_after, world_after, world_of}
 use Rattle.someip_world_rules.specs.Turns.{LeadTo, Turn}
-use Rattle.someip_world_rules.proofs.Fronts.{get_set_other, get_set_same, on_the_way, within}
+use Rattle.someip_world_rules.proofs.Fronts.{get_set_other, get_set_same, on_the_way}
 use Rattle.someip_world_rules.proofs.Lives.{lives_next, not_restarted}
 use Rattle.someip_world_rules.proofs.OriginLemmas.{begun_so}
 use Rattle.someip_world_exchanges.specs.CleanReuse.{IsCleanBefore}
@@ -44,8 +43,8 @@ use Rattle.someip_world_safety.proofs.PartWalks.{no_new_parts}
 none_held : {Q : Type 0} (key : ReassemblyKey) (part : Part) → get (empty {X = Part} {R = key_cmp}) key ≡ Some part → Q
 none_held key part is = let none = get-empty {X = Part} key_cmp key in absurd cc
 
--- what an input other than a datagram brings about offers no segment
 module _ (h : History) (earlier : List Done) (o : Offer) where
+  -- an input other than a datagram brings about no rule that takes a segment
   no_segment : (input : Input) → ((p : Packet) → input ≡ inputs.Datagram p.from p.to p.bytes → ⊥) → Brings h input (TakesSegment o) earlier → ⊥
   no_segment (inputs.Datagram from to bytes) none brings = none (record { from = from; to = to; bytes = bytes }) refl
   no_segment (inputs.Tick ms) none (inl is) = let e = is.0 in absurd cc
@@ -63,11 +62,13 @@ module _ (h : History) (earlier : List Done) (o : Offer) where
 
 -- where the input is no datagram, only parts stand after the step that stood before
 module _ (h : History) (input : Input) (none : (p : Packet) → input ≡ inputs.Datagram p.from p.to p.bytes → ⊥) (limits : Limits) (key : ReassemblyKey) (part : Part) where
+  -- no item that is met offers a segment
   no_offer : (item : Item) → MetBy h input item → (o : Offer) → item ≡ items.SegmentOffered o → ⊥
   no_offer item by o is =
       let offered : MetBy h input (items.SegmentOffered o) = subst (MetBy h input) is by in
       no_segment h offered.brought.earlier o input none (subst (λ r. Brings h input r offered.brought.earlier) offered.holds offered.brought.brings)
 
+  -- a part that stands after all that is met stood before
   stood : (at : History) (xs : List Item) → AllByRecursion (MetBy h input) xs → get (parts_in limits (after at xs).items) key ≡ Some part → get (parts_in limits at.items) key ≡ Some part
   stood at [] all is = is
   stood at (x ∷ xs) all is = no_new_parts limits x (clock_at at.items) (parts_in limits at.items) key part (no_offer x all.0) (stood (met at x) xs all.1 is)
@@ -130,6 +131,7 @@ module _ (nodes : List SetupNode) (configs : List Config) (ss : List Step) (fits
             longer n t.place alive key part
             (was t.place t.history t.stands key part (stood t.history input other limits key part t.history news (all_met t.history input) stands))
 
+    -- after a step, at its node
     by_deed : (deed : Deed) → t.deed ≡ deed → AllHeld nodes configs ss (suc n) t.place (history_after t.history (done_with t.history deed))
     by_deed (Takes input) takes key part is = by_due input takes (step t.history input) refl key part is
     by_deed (Restarts delay) takes key part is = none_held key part is
@@ -161,7 +163,7 @@ module _ (nodes : List SetupNode) (configs : List Config) (ss : List Step) (fits
       let start = begun_so nodes configs ss nodes configs place h here in
       none_held key part (subst (λ (x : History). get (parts_in (limits_of x.config) x.items) key ≡ Some part) start.3 is)
 
-  -- before each step
+  -- before each step of a run that was clean so far, all parts at all nodes are held so
   pub all_held : (n : ℕ) (w : World) → n ≤ length ss → LeadTo nodes configs (take n ss) w → IsCleanBefore nodes configs ss n → AreHeld n w
   all_held =
       on_the_way nodes configs ss (λ n w. IsCleanBefore nodes configs ss n → AreHeld n w) (λ clean. held_first)

@@ -1,7 +1,7 @@
 -- Which parts stand once an item was met: those that stood before, and the one of a segment that was offered.
-use Rattle.std.proofs.Common.{◌≡◌, ◌⊎◌, inl, inr, ℕ, ◌+◌, ◌<◌, Bool, true, false, cond, not, ◌&&◌, nat_le, if◌then◌else◌, List, Option, None, Some, refl, sym, ap, subst, ◌∙◌, arith}
+use Rattle.std.proofs.Common.{◌≡◌, ◌⊎◌, inl, inr, ℕ, ◌+◌, ◌<◌, Bool, true, false, cond, not, ◌&&◌, nat_le, if◌then◌else◌, List, Option, None, Some, refl, sym, subst, ◌∙◌, arith}
 use Rattle.std.specs.Option.{is_none, is_some, unwrap_or, option_and_then}
-use Rattle.std.specs.FinMap.{get, insert, remove, len, get-insert, get-remove}
+use Rattle.std.specs.FinMap.{get, remove, len, get-insert, get-remove}
 use Rattle.std.proofs.lemmas.Bool.Decides.{nat_tests}
 use Rattle.someip_wire.specs.Spelling.{MessageValue}
 use Rattle.someip_tables.specs.Retained.{kept_if}

@@ -1,19 +1,17 @@
 -- A segment that came with a datagram is one of a long message, which the step that sent the datagram gave.
-use Rattle.std.proofs.Common.{◌≡◌, ℕ, Bool, true, false, List, [], ◌∷◌, map, Result, Ok, refl, sym, ap, subst, ◌∙◌}
-use Rattle.std.specs.List.{AllByRecursion, Contains}
-use Rattle.std.specs.declared.net.socket_addr.SocketAddrV4.{SocketAddrV4}
+use Rattle.std.proofs.Common.{◌≡◌, true, false, [], ◌∷◌, map, Result, Ok, refl, sym, ap, subst, ◌∙◌}
+use Rattle.std.specs.List.{Contains}
 use Rattle.someip_wire.specs.declared.header.Header.{Header}
 use Rattle.someip_wire.specs.declared.header.MessageType.{MessageType}
 use Rattle.someip_wire.specs.declared.header.MessageType.TheVariants as kinds
 use Rattle.someip_wire.specs.Kinds.{has_tp_flag, with_tp_flag, without_tp_flag}
 use Rattle.someip_wire.specs.Spelling.{Fits, MessageValue, spelling}
-use Rattle.someip_tp.specs.declared.error.TpError.{TpError}
 use Rattle.someip_tp.specs.declared.key.ReassemblyKey.{ReassemblyKey}
 use Rattle.someip_tp.specs.Accepted.{IsSegmentOf}
 use Rattle.someip_tp.specs.Keys.{segment_key}
 use Rattle.someip_tp.specs.Offers.{Offer, offer}
 use Rattle.someip_tp.specs.Segments.{SegmentValue, segment_header, segment_message}
-use Rattle.someip_tp.specs.Sent.{PieceValue, InSegment, is_long, piece_message, segments_of, sent}
+use Rattle.someip_tp.specs.Sent.{PieceValue, is_long, piece_message, segments_of, sent}
 use Rattle.someip_tp.specs.TpHeader.{segment_in}
 use Rattle.someip_tp.proofs.AcceptedLemmas.{own_read, segment_is}
 use Rattle.someip_tp.proofs.SentLemmas.{all_fit}

@@ -17,7 +17,7 @@ use Rattle.someip_world_exchanges.proofs.WholeLemmas.{IsForApplication, given_wh
 use Rattle.someip_world_safety.specs.GivenMessages.{WasGiven}
 
 module _ (nodes : List SetupNode) (configs : List Config) (steps : List Step) where
-  -- what came whole to the application was given so
+  -- a message that came whole to the application was given so by the step that sent its datagram
   pub whole_was_given : AllFits nodes configs steps → (n : ℕ) (does : Does nodes configs steps n) (p : Packet) (header : Header) (payload : List ℕ) → does.input ≡ Datagram p.from p.to p.bytes
       → IsForApplication (target_of does.turn.history.config p.to) → HasWhole p header payload → WasGiven nodes configs steps n p.from p.to header payload
   whole_was_given fits n does p header payload is goal whole =
