@@ -10,3 +10,9 @@ pub mod AckWays
 pub mod AckAlone
 pub mod AckLemmas
 pub mod StandingLemmas
+pub mod WholeGiven
+pub mod PartWalks
+pub mod SentSegments
+pub mod HeldParts
+pub mod HeldRuns
+pub mod CameGiven

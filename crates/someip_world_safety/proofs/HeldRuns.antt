@@ -1,0 +1,170 @@
+-- From step to step of a run that reuses its keys cleanly, each part that a node holds is of one message.
+use Rattle.std.proofs.Common.{◌≡◌, ◌⊎◌, inl, inr, ℕ, suc, ◌+◌, ◌≤◌, Bool, true, false, eqb, List, [], ◌∷◌, length, take, slice_get, slice_set, Some, Result, Ok, Err, arith, refl, sym, subst, ◌∙◌}
+use Rattle.std.specs.FinMap.{empty, get, get-empty}
+use Rattle.std.specs.List.{AllByRecursion}
+use Rattle.std.proofs.lemmas.Bool.{eqb-true, eqb-false}
+use Rattle.someip_tp.specs.declared.key.ReassemblyKey.{ReassemblyKey}
+use Rattle.someip_tp.specs.Keys.{key_cmp}
+use Rattle.someip_tp.specs.Offers.{Offer}
+use Rattle.someip_tp.specs.Parts.{Limits, Part}
+use Rattle.someip_node_rules.specs.declared.config.Config.{Config}
+use Rattle.someip_node_rules.specs.declared.error.NodeError.{NodeError}
+use Rattle.someip_node_rules.specs.Bringing.{Brings}
+use Rattle.someip_node_rules.specs.DiscoveryQuestions.{parts_in}
+use Rattle.someip_node_rules.specs.History.{History, met}
+use Rattle.someip_node_rules.specs.Inputs as inputs
+use Rattle.someip_node_rules.specs.Inputs.{Input}
+use Rattle.someip_node_rules.specs.Items as items
+use Rattle.someip_node_rules.specs.Items.{Item}
+use Rattle.someip_node_rules.specs.Meetings.{MetBy}
+use Rattle.someip_node_rules.specs.Packets.{Packet}
+use Rattle.someip_node_rules.specs.Plans.{TakesSegment, Work}
+use Rattle.someip_node_rules.specs.Questions.{clock_at}
+use Rattle.someip_node_rules.specs.Setups.{limits_of}
+use Rattle.someip_node_rules.specs.Steps.{step}
+use Rattle.someip_node_rules.specs.Trails.{Done, after, met_by, trail_of}
+use Rattle.someip_node_rules.proofs.MeetingLemmas.{all_met, state_met}
+use Rattle.someip_node_rules.proofs.StepRules.{config_kept}
+use Rattle.someip_world_schedule.specs.declared.step.Step.{Step}
+use Rattle.someip_world_setup.specs.declared.setup_node.SetupNode.{SetupNode}
+use Rattle.someip_world_rules.specs.Announced.{AllFits}
+use Rattle.someip_world_rules.specs.Deeds.{Deed, Takes, Restarts, done_with}
+use Rattle.someip_world_rules.specs.Deliveries.{Does, Restarted}
+use Rattle.someip_world_rules.specs.Runs.{World, history_after, world_after, world_of}
+use Rattle.someip_world_rules.specs.Turns.{LeadTo, Turn}
+use Rattle.someip_world_rules.proofs.Fronts.{get_set_other, get_set_same, on_the_way}
+use Rattle.someip_world_rules.proofs.Lives.{lives_next, not_restarted}
+use Rattle.someip_world_rules.proofs.OriginLemmas.{begun_so}
+use Rattle.someip_world_exchanges.specs.CleanReuse.{IsCleanBefore}
+use Rattle.someip_world_safety.proofs.HeldParts.{AllHeld, IsHeld, held_on, holding_first, holding_on}
+use Rattle.someip_world_safety.proofs.PartWalks.{no_new_parts}
+
+-- a node that is just started holds no part
+none_held : {Q : Type 0} (key : ReassemblyKey) (part : Part) → get (empty {X = Part} {R = key_cmp}) key ≡ Some part → Q
+none_held key part is = let none = get-empty {X = Part} key_cmp key in absurd cc
+
+module _ (h : History) (earlier : List Done) (o : Offer) where
+  -- an input other than a datagram brings about no rule that takes a segment
+  no_segment : (input : Input) → ((p : Packet) → input ≡ inputs.Datagram p.from p.to p.bytes → ⊥) → Brings h input (TakesSegment o) earlier → ⊥
+  no_segment (inputs.Datagram from to bytes) none brings = none (record { from = from; to = to; bytes = bytes }) refl
+  no_segment (inputs.Tick ms) none (inl is) = let e = is.0 in absurd cc
+  no_segment (inputs.Tick ms) none (inr is) = let e = is.1 in absurd cc
+  no_segment (inputs.Call kind instance method payload) none brings = let e = brings.0 in absurd cc
+  no_segment (inputs.Answer token reply payload) none brings = let e = brings.0 in absurd cc
+  no_segment (inputs.Publish instance event payload) none brings = let e = brings.0 in absurd cc
+  no_segment (inputs.PublishTo instance eventgroup endpoint event payload) none brings = let e = brings.0 in absurd cc
+  no_segment (inputs.Subscribe eventgroup) none (inl is) = let e = is.0 in absurd cc
+  no_segment (inputs.Subscribe eventgroup) none (inr is) = let e = is.2 in absurd cc
+  no_segment (inputs.Unsubscribe eventgroup) none (inl is) = absurd cc
+  no_segment (inputs.Unsubscribe eventgroup) none (inr is) = let e = is.2 in absurd cc
+  no_segment (inputs.StopOffer instance) none (inl is) = absurd cc
+  no_segment (inputs.StopOffer instance) none (inr is) = let e = is.0 in absurd cc
+
+-- where the input is no datagram, only parts stand after the step that stood before
+module _ (h : History) (input : Input) (none : (p : Packet) → input ≡ inputs.Datagram p.from p.to p.bytes → ⊥) (limits : Limits) (key : ReassemblyKey) (part : Part) where
+  -- no item that is met offers a segment
+  no_offer : (item : Item) → MetBy h input item → (o : Offer) → item ≡ items.SegmentOffered o → ⊥
+  no_offer item by o is =
+      let offered : MetBy h input (items.SegmentOffered o) = subst (MetBy h input) is by in
+      no_segment h offered.brought.earlier o input none (subst (λ r. Brings h input r offered.brought.earlier) offered.holds offered.brought.brings)
+
+  -- a part that stands after all that is met stood before
+  stood : (at : History) (xs : List Item) → AllByRecursion (MetBy h input) xs → get (parts_in limits (after at xs).items) key ≡ Some part → get (parts_in limits at.items) key ≡ Some part
+  stood at [] all is = is
+  stood at (x ∷ xs) all is = no_new_parts limits x (clock_at at.items) (parts_in limits at.items) key part (no_offer x all.0) (stood (met at x) xs all.1 is)
+
+-- an input is a datagram, or none
+datagram_or_none : (input : Input) → ((p : Packet) × (input ≡ inputs.Datagram p.from p.to p.bytes)) ⊎ ((p : Packet) → input ≡ inputs.Datagram p.from p.to p.bytes → ⊥)
+datagram_or_none (inputs.Datagram from to bytes) = inl (record { from = from; to = to; bytes = bytes }, refl)
+datagram_or_none input = inr (λ p e. absurd cc)
+
+module _ (nodes : List SetupNode) (configs : List Config) (ss : List Step) (fits : AllFits nodes configs ss) where
+  -- all parts at the nodes of a world are held so
+  abbrev pub AreHeld : ℕ → World → Type 0
+  AreHeld n w = (place : ℕ) (h : History) → slice_get w.histories place ≡ Some h → AllHeld nodes configs ss n place h
+
+  -- a part is held longer where its node is not started again
+  longer : (n place : ℕ) → (Restarted nodes configs ss n place → ⊥) → (key : ReassemblyKey) (part : Part) → IsHeld nodes configs ss n place key part → IsHeld nodes configs ss (suc n) place key part
+  longer n place alive key part held =
+      let early = held.before in record {
+        step = held.step;
+        before = omega (arith, early);
+        lives = lives_next nodes configs ss n place alive held.step held.lives;
+        message = held.message;
+        arrived = held.arrived;
+        holds = held.holds;
+      }
+
+  module _ (n : ℕ) (s : Step) (t : Turn nodes configs ss n s) (clean : IsCleanBefore nodes configs ss (suc n)) (was : AreHeld n t.before) where
+    -- after a step in which the node takes an input
+    by_due : (input : Input) → t.deed ≡ Takes input → (due : Result (Work History) NodeError) → step t.history input ≡ due → AllHeld nodes configs ss (suc n) t.place (history_after t.history due)
+    by_due input takes (Err refusal) due key part is =
+        longer n t.place (not_restarted nodes configs ss n t.place s t (λ at delay restarts. absurd cc)) key part (was t.place t.history t.stands key part is)
+    by_due input takes (Ok done) due key part is = cases (datagram_or_none input)
+      where
+        alive : Restarted nodes configs ss n t.place → ⊥
+        alive = not_restarted nodes configs ss n t.place s t (λ at delay restarts. absurd cc)
+
+        does : Does nodes configs ss n
+        does = record { step = s; turn = t; input = input; takes = takes; done = done; happened = due }
+
+        news : List Item
+        news = met_by (trail_of t.history input)
+
+        limits : Limits
+        limits = limits_of t.history.config
+
+        -- the part stands after what was met
+        stands : get (parts_in limits (after t.history news).items) key ≡ Some part
+        stands =
+            subst (λ c. get (parts_in (limits_of c) (after t.history news).items) key ≡ Some part) (config_kept t.history news)
+            (subst (λ (x : History). get (parts_in (limits_of x.config) x.items) key ≡ Some part) (state_met t.history input done due) is)
+
+        cases : ((p : Packet) × (input ≡ inputs.Datagram p.from p.to p.bytes)) ⊎ ((p : Packet) → input ≡ inputs.Datagram p.from p.to p.bytes → ⊥) → IsHeld nodes configs ss (suc n) t.place key part
+        cases (inl datagram) =
+            let holding =
+            holding_on nodes configs ss fits n does datagram.0 datagram.1 clean (was t.place t.history t.stands) t.history news (all_met t.history input)
+            (holding_first nodes configs ss fits n does datagram.0 datagram.1 clean (was t.place t.history t.stands)) in
+            held_on nodes configs ss fits n does datagram.0 datagram.1 clean (was t.place t.history t.stands)
+            (lives_next nodes configs ss n t.place alive n (λ i from until. absurd (omega (arith, from, until)))) (lives_next nodes configs ss n t.place alive) key part (holding.parts key part stands)
+        cases (inr other) =
+            longer n t.place alive key part
+            (was t.place t.history t.stands key part (stood t.history input other limits key part t.history news (all_met t.history input) stands))
+
+    -- after a step, at its node
+    by_deed : (deed : Deed) → t.deed ≡ deed → AllHeld nodes configs ss (suc n) t.place (history_after t.history (done_with t.history deed))
+    by_deed (Takes input) takes key part is = by_due input takes (step t.history input) refl key part is
+    by_deed (Restarts delay) takes key part is = none_held key part is
+
+    -- after a step, at all nodes
+    held_after : AreHeld (suc n) (world_after (n + 1) t.place t.before t.history (done_with t.history t.deed))
+    held_after place h here = cases (eqb place t.place) refl
+      where
+        due : History
+        due = history_after t.history (done_with t.history t.deed)
+
+        cases : (k : Bool) → eqb place t.place ≡ k → AllHeld nodes configs ss (suc n) place h
+        cases true e =
+            let same : place ≡ t.place = eqb-true place t.place e in
+            let there : h ≡ due = get_set_same t.before.histories t.place due h (subst (λ p. slice_get (slice_set t.before.histories t.place due) p ≡ Some h) same here) in
+            subst (λ q. AllHeld nodes configs ss (suc n) q h) (sym same) (subst (AllHeld nodes configs ss (suc n) t.place) (sym there) (by_deed t.deed refl))
+        cases false e =
+            let ne = eqb-false place t.place e in
+            let old : slice_get t.before.histories place ≡ Some h = sym (get_set_other t.before.histories t.place place due ne) ∙ here in
+            (λ key part is. longer n place (not_restarted nodes configs ss n place s t (λ at. absurd (ne (sym at)))) key part (was place h old key part is))
+
+  -- clean up to a step, and so up to the one before
+  pub clean_before : (n : ℕ) → IsCleanBefore nodes configs ss (suc n) → IsCleanBefore nodes configs ss n
+  clean_before n clean i lt = clean i (omega (arith, lt))
+
+  -- at the start no part is held
+  held_first : AreHeld 0 (world_of nodes configs)
+  held_first place h here key part is =
+      let start = begun_so nodes configs ss nodes configs place h here in
+      none_held key part (subst (λ (x : History). get (parts_in (limits_of x.config) x.items) key ≡ Some part) start.3 is)
+
+  -- before each step of a run that was clean so far, all parts at all nodes are held so
+  pub all_held : (n : ℕ) (w : World) → n ≤ length ss → LeadTo nodes configs (take n ss) w → IsCleanBefore nodes configs ss n → AreHeld n w
+  all_held =
+      on_the_way nodes configs ss (λ n w. IsCleanBefore nodes configs ss n → AreHeld n w) (λ clean. held_first)
+      (λ n s t was clean. held_after n s t clean (was (clean_before n clean)))
