@@ -1,2 +1,4 @@
 pub mod Addresses
 pub mod Subscriptions
+pub mod AwaitedCalls
+pub mod OpenRequests

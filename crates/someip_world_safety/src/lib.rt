@@ -1,6 +1,7 @@
-//! What is safe in a run of SOME/IP nodes that reuses its keys cleanly.
+//! What is safe in a run of SOME/IP nodes, of some of it where the run reuses its keys cleanly.
 //!
-//! - [`laws`]: a client counts itself subscribed only where the server accepted its Subscribe.
+//! - [`laws`]: a client counts itself subscribed only where the server accepted its Subscribe; the calls that wait
+//!   were made, and the requests that are open were handed up.
 #![tactic(auto)]
 
 pub mod laws;
