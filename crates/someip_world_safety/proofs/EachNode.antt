@@ -19,7 +19,7 @@ module _ (nodes : List SetupNode) (configs : List Config) (ss : List Step) (P : 
     (start : (n place : ℕ) (config : Config) (delay : ℕ) → P n place (start_of config delay))
     (stays : (n : ℕ) (s : Step) (t : Turn nodes configs ss n s) (place : ℕ) (h : History) → place ≢ t.place → P n place h → P (suc n) place h)
     (goes : (n : ℕ) (s : Step) (t : Turn nodes configs ss n s) (input : Input) → t.deed ≡ Takes input → (due : Result (Work History) NodeError) → step t.history input ≡ due → P n t.place t.history
-      → P (suc n) t.place (history_after t.history due)) where
+    → P (suc n) t.place (history_after t.history due)) where
   -- it holds of the histories of all nodes
   abbrev HoldOf : ℕ → World → Type 0
   HoldOf n w = (place : ℕ) (h : History) → slice_get w.histories place ≡ Some h → P n place h

@@ -52,10 +52,12 @@ open_below (x ∷ before) token request is = open_below before token request is
 
 -- ---- items that hand up no request
 
+-- an item is none by which a request is handed up
 abbrev pub is_quiet : Item → Bool
 is_quiet (items.Requested request) = false
 is_quiet item = true
 
+-- nor is any of several
 abbrev pub AllQuiet : List Item → Type 0
 AllQuiet xs = AllByRecursion (λ x. is_quiet x ≡ true) xs
 

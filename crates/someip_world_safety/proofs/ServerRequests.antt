@@ -73,6 +73,7 @@ module _ (nodes : List SetupNode) (configs : List Config) (ss : List Step) where
         absurd (omega (arith, below, high, same))
 
     module _ (input : Input) (takes : t.deed ≡ Takes input) where
+      -- a step that takes an input starts no node again
       alive : Restarted nodes configs ss n t.place → ⊥
       alive = takes_no_restart nodes configs ss n s t input takes
 

@@ -33,6 +33,7 @@ is_next header next token (inl is) = let same = is.1 in cc
 is_next header next token (inr is) = let none = is.1 in absurd cc
 
 module _ (h : History) (input : Input) where
+  -- the rules of the step
   abbrev trail : List Done
   trail = trail_of h input
 
@@ -43,6 +44,7 @@ module _ (h : History) (input : Input) where
     Stood : open_request_at h.items token ≡ Some request → IsOpenIn token request
     Handed : (d : Done) → Contains trail d → IsRequestedBy d.by (answers_of d.before.state) request → token ≡ next_token d.before.state.items → IsOpenIn token request
 
+  -- all that are open at a history are so
   abbrev AllOpenIn : History → Type 0
   AllOpenIn at = (token : ℕ) (request : Asked) → open_request_at at.items token ≡ Some request → IsOpenIn token request
 

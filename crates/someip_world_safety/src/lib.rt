@@ -1,4 +1,5 @@
-//! What is safe in a run of SOME/IP nodes, of some of it where the run reuses its keys cleanly.
+//! What is safe in a run of SOME/IP nodes: some of it in every run, the rest where the run reuses its keys
+//! cleanly.
 //!
 //! - [`laws`]: a client counts itself subscribed only where the server accepted its Subscribe; the calls that wait
 //!   were made, and the requests that are open were handed up.
