@@ -4,6 +4,7 @@ use Rattle.someip_node_rules.specs.declared.config.Config.{Config}
 use Rattle.someip_node_rules.specs.declared.error.NodeError.{NodeError}
 use Rattle.someip_node_rules.specs.Inputs.{Input}
 use Rattle.someip_node_rules.specs.Steps.{step}
+use Rattle.someip_node_rules.specs.Trails.{met_by, trail_of}
 use Rattle.someip_world_schedule.specs.declared.step.Step.{Step}
 use Rattle.someip_world_setup.specs.declared.setup_node.SetupNode.{SetupNode}
 use Rattle.someip_world_rules.specs.Deeds.{Takes}
@@ -32,6 +33,10 @@ module _ (nodes : List SetupNode) (configs : List Config) (ss : List Step) (n : 
         let one = one_turn nodes configs ss n s t does.step does.turn in
         let inputs_are : Takes does.input ≡ Takes input = sym does.takes ∙ sym one.deed ∙ takes in
         cc
+
+    -- so the rules of the step meet the same
+    pub same_met : (does : Does nodes configs ss n) → met_by (trail_of does.turn.history does.input) ≡ met_by (trail_of t.history input)
+    same_met does = λ i. met_by (trail_of (same_history does i) (same_input does i))
 
     -- and with a refused input nothing is done
     pub not_refused : (refusal : NodeError) → step t.history input ≡ Err refusal → Does nodes configs ss n → ⊥

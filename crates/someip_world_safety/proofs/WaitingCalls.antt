@@ -1,6 +1,6 @@
 -- A call that waits for its answer was made in a step of the same life, and no answer to it was taken since.
 use Rattle.std.proofs.Common.{◌≡◌, ◌≢◌, ◌⊎◌, inl, inr, ℕ, suc, ◌<◌, ◌≤◌, List, [], length, take, Some, Result, Ok, Err, arith, refl, sym, ap, subst, ◌∙◌}
-use Rattle.std.specs.List.{Contains}
+use Rattle.std.specs.List.{AllByRecursion, Contains}
 use Rattle.std.specs.declared.net.socket_addr.SocketAddrV4.{SocketAddrV4}
 use Rattle.someip_tables.specs.declared.lasting.Lasting.{Lasting}
 use Rattle.someip_rpc.specs.declared.call.Awaited.{Awaited}
@@ -14,6 +14,7 @@ use Rattle.someip_node_rules.specs.History.{History}
 use Rattle.someip_node_rules.specs.Inputs as inputs
 use Rattle.someip_node_rules.specs.Inputs.{Input}
 use Rattle.someip_node_rules.specs.Items as items
+use Rattle.someip_node_rules.specs.Items.{Item}
 use Rattle.someip_node_rules.specs.Meetings.{IsMet, MetBy}
 use Rattle.someip_node_rules.specs.Plans.{Work}
 use Rattle.someip_node_rules.specs.Steps.{step}
@@ -32,7 +33,7 @@ use Rattle.someip_world_exchanges.proofs.RuleInputs.{AskedBy, done_asked}
 use Rattle.someip_world_safety.specs.AwaitedCalls.{CallsAreAwaited, IsAwaited, Makes, TakesAnswerTo}
 use Rattle.someip_world_safety.proofs.CallItems.{IsOther, Since, WasCalled, Waited, since}
 use Rattle.someip_world_safety.proofs.EachNode.{each_node}
-use Rattle.someip_world_safety.proofs.SameStep.{not_refused, same_history, same_input, same_place, takes_no_restart}
+use Rattle.someip_world_safety.proofs.SameStep.{not_refused, same_met, same_place, takes_no_restart}
 
 module _ (nodes : List SetupNode) (configs : List Config) (ss : List Step) where
   -- a call that was met in a step was asked for by the input of the step
@@ -96,23 +97,41 @@ module _ (nodes : List SetupNode) (configs : List Config) (ss : List Step) where
         (λ to m at. ne (sym at ∙ same_place nodes configs ss n s t m.does)) (was key l is)
 
     module _ (input : Input) (takes : t.deed ≡ Takes input) where
+      -- what the rules of the step meet
+      abbrev news : List Item
+      news = met_by (trail_of t.history input)
+
+      -- a step that takes an input starts no node again
+      alive : Restarted nodes configs ss n t.place → ⊥
+      alive = takes_no_restart nodes configs ss n s t input takes
+
+      -- a step with a refused input does none of these
+      refused : (refusal : NodeError) → step t.history input ≡ Err refusal → Does nodes configs ss n → ⊥
+      refused = not_refused nodes configs ss n s t input takes
+
+      module _ (key : CallKey) (l : Lasting Awaited) (none : AllByRecursion (IsOther t.history.config key l) news) where
+        -- nor does one whose rules meet only what is not about the call: it takes no answer to it
+        takes_none : TakesAnswerTo nodes configs ss n t.place key → ⊥
+        takes_none k =
+            let among = subst (λ xs. Contains xs (items.AnswerTaken key)) (same_met nodes configs ss n s t input takes k.does) k.met in
+            (at_member (IsOther t.history.config key l) news (items.AnswerTaken key) none among).0 refl
+
+        -- and makes no such call
+        makes_none : (to : SocketAddrV4) → Makes nodes configs ss n key to → ⊥
+        makes_none to m =
+            let among = subst (λ xs. Contains xs (items.Called m.call to m.session)) (same_met nodes configs ss n s t input takes m.does) m.met in
+            (at_member (IsOther t.history.config key l) news (items.Called m.call to m.session) none among).1 m.call to m.session refl m.kind m.keyed
+
       -- after a step in which the node takes an input
       goes : (due : Result (Work History) NodeError) → step t.history input ≡ due → Await n t.place t.history → Await (suc n) t.place (history_after t.history due)
-      goes (Err refusal) due was key l is =
-          longer t.place key l.value.peer (takes_no_restart nodes configs ss n s t input takes) (λ k. not_refused nodes configs ss n s t input takes refusal due k.does) (λ to m at. not_refused nodes configs ss n s t input takes refusal due m.does) (was key l is)
+      goes (Err refusal) due was key l is = longer t.place key l.value.peer alive (λ k. refused refusal due k.does) (λ to m at. refused refusal due m.does) (was key l is)
       goes (Ok done) due was key l is =
           let end = state_met t.history input done due in
-          let config : done.state.config ≡ t.history.config = ap (λ x. x.config) end ∙ config_kept t.history (met_by (trail_of t.history input)) in
-          cases (since t.history.config key l t.history (met_by (trail_of t.history input)) ((λ i. awaited_at (sym config i) (sym end i).items key) ∙ is))
+          let config : done.state.config ≡ t.history.config = ap (λ x. x.config) end ∙ config_kept t.history news in
+          cases (since t.history.config key l t.history news ((λ i. awaited_at (sym config i) (sym end i).items key) ∙ is))
         where
-          cases : Since t.history.config key l t.history (met_by (trail_of t.history input)) → IsAwaited nodes configs ss (suc n) t.place key l.value.peer
-          cases (Waited stood none) =
-              longer t.place key l.value.peer (takes_no_restart nodes configs ss n s t input takes)
-              (λ k. (at_member (IsOther t.history.config key l) (met_by (trail_of t.history input)) (items.AnswerTaken key) none
-              (subst (λ xs. Contains xs (items.AnswerTaken key)) (λ i. met_by (trail_of (same_history nodes configs ss n s t k.does i) (same_input nodes configs ss n s t input takes k.does i))) k.met)).0 refl)
-              (λ to m at. (at_member (IsOther t.history.config key l) (met_by (trail_of t.history input)) (items.Called m.call to m.session) none
-              (subst (λ xs. Contains xs (items.Called m.call to m.session)) (λ i. met_by (trail_of (same_history nodes configs ss n s t m.does i) (same_input nodes configs ss n s t input takes m.does i))) m.met)).1 m.call to m.session refl m.kind m.keyed)
-              (was key l stood)
+          cases : Since t.history.config key l t.history news → IsAwaited nodes configs ss (suc n) t.place key l.value.peer
+          cases (Waited stood none) = longer t.place key l.value.peer alive (takes_none key l none) (λ to m at. makes_none key l none to m) (was key l stood)
           cases (WasCalled call peer session among kind keyed to) =
               let does : Does nodes configs ss n = record { step = s; turn = t; input = input; takes = takes; done = done; happened = due } in
               let made = made_here n does call peer session key among kind keyed in
@@ -121,7 +140,7 @@ module _ (nodes : List SetupNode) (configs : List Config) (ss : List Step) where
                 before = omega arith;
                 call = made.0;
                 at = ap (λ d. d.turn.place) made.1;
-                lives = lives_next nodes configs ss n t.place (takes_no_restart nodes configs ss n s t input takes) n (λ i from until. absurd (omega (arith, from, until)));
+                lives = lives_next nodes configs ss n t.place alive n (λ i from until. absurd (omega (arith, from, until)));
                 first = λ i later until k. absurd (omega (arith, later, until));
                 last = λ i later until to m at. absurd (omega (arith, later, until));
               })
