@@ -1,4 +1,11 @@
 pub mod AddressLemmas
+pub mod EachNode
+pub mod CallItems
+pub mod SameStep
+pub mod WaitingCalls
+pub mod RequestItems
+pub mod StepRequests
+pub mod ServerRequests
 pub mod EntryInputs
 pub mod KnownPeers
 pub mod PeerLemmas

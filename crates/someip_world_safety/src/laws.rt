@@ -1,5 +1,5 @@
-//! Laws of safety, of every run in which keys are reused cleanly. Each is the contract of a function that
-//! does nothing.
+//! Laws of safety, of every run, or of every one in which keys are reused cleanly. Each is the contract of a
+//! function that does nothing.
 ghost use Rattle.std.specs.Prelude.{◌≤◌, ℕ, List, length, take};
 ghost use Rattle.someip_node_rules.specs.declared.config.Config.{Config};
 ghost use Rattle.someip_world_schedule.specs.declared.step.Step.{Step};
@@ -10,6 +10,8 @@ ghost use Rattle.someip_world_rules.specs.Runs.{AreCopies, World};
 ghost use Rattle.someip_world_rules.specs.Turns.{LeadTo};
 ghost use Rattle.someip_world_exchanges.specs.CleanReuse.{IsCleanBefore};
 ghost use Rattle.someip_world_safety.specs.Addresses.{AreOffGroup, HaveOwnAddresses};
+ghost use Rattle.someip_world_safety.specs.AwaitedCalls.{CallsAreAwaited};
+ghost use Rattle.someip_world_safety.specs.OpenRequests.{RequestsAreOpen};
 ghost use Rattle.someip_world_safety.specs.Subscriptions.{SubscriptionsAreSafe};
 
 /// A client counts itself subscribed, before each step up to which keys are reused cleanly, only where the
@@ -26,4 +28,22 @@ pub fn subscriptions_were_accepted()
 pub fn addresses_are_apart()
     ensures { (network : Network) (configs : List Config) → IsGoodNetwork network
         → AreCopies network.nodes configs → HaveOwnAddresses configs × AreOffGroup configs }
+{}
+
+/// A call waits for its answer at a client, before each step, only where the client made it in a step of its
+/// present life, at the endpoint that it awaits the answer of. Since then it took no answer to it, and made no
+/// other call of its Message ID and session.
+pub fn calls_that_wait_were_made()
+    ensures { (nodes : List SetupNode) (configs : List Config) (steps : List Step) (n : ℕ) (w : World)
+        → n ≤ length steps → LeadTo nodes configs (take n steps) w
+        → CallsAreAwaited nodes configs steps n w }
+{}
+
+/// A request is open at a server under a token, before each step, only where the server handed it up under this
+/// token in a step of its present life: as it took the REQUEST from an endpoint to an instance that it offers.
+/// Since then it handed up no other of that token.
+pub fn open_requests_were_handed_up()
+    ensures { (nodes : List SetupNode) (configs : List Config) (steps : List Step) (n : ℕ) (w : World)
+        → n ≤ length steps → LeadTo nodes configs (take n steps) w
+        → RequestsAreOpen nodes configs steps n w }
 {}

@@ -1,6 +1,8 @@
-//! What is safe in a run of SOME/IP nodes that reuses its keys cleanly.
+//! What is safe in a run of SOME/IP nodes: some of it in every run, the rest where the run reuses its keys
+//! cleanly.
 //!
-//! - [`laws`]: a client counts itself subscribed only where the server accepted its Subscribe.
+//! - [`laws`]: a client counts itself subscribed only where the server accepted its Subscribe; the calls that wait
+//!   were made, and the requests that are open were handed up.
 #![tactic(auto)]
 
 pub mod laws;
