@@ -10,3 +10,7 @@ pub mod AckWays
 pub mod AckAlone
 pub mod AckLemmas
 pub mod StandingLemmas
+pub mod ClientEndpoint
+pub mod EventTests
+pub mod SentEvents
+pub mod SafeEvents

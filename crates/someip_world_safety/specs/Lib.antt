@@ -1,2 +1,4 @@
 pub mod Addresses
 pub mod Subscriptions
+pub mod GivenMessages
+pub mod Events
