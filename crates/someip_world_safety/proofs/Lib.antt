@@ -14,3 +14,4 @@ pub mod ClientEndpoint
 pub mod EventTests
 pub mod SentEvents
 pub mod SafeEvents
+pub mod PublicationLemmas
