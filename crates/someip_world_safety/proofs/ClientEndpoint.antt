@@ -35,6 +35,7 @@ module _ (config : Config) (to : SocketAddrV4) where
   no_group true is = absurd cc
   no_group false is = absurd cc
 
+  -- the client takes only what comes to the node's own address
   by_address : (b : Bool) → same_address (v4_ip to) config.address ≡ b
       → (if b then own_target config (v4_port to) else if (same_address (v4_ip to) config.common.group && eqb (v4_port to) 30490) then target.Discovery channels.Multicast else target.Nowhere) ≡ target.Client
       → to ≡ client_endpoint config

@@ -135,6 +135,7 @@ module _ (nodes : List SetupNode) (configs : List Config) (steps : List Step) (n
           says = refl;
         }
 
+    -- a message of the kind of events is given only by the rules that publish
     by_rule : (r : Rule) (t : Tables) → AskedBy r does.input → IsSent r t from to m → Due
     by_rule (plans.Calls c instance method bytes) t asked s = absurd (no_call c (sym (ap (λ x. x.header.kind) s.is) ∙ kind))
     by_rule (plans.Answers token reply bytes) t asked s = absurd (no_reply reply (sym (ap (λ x. x.header.kind) s.is) ∙ kind))
