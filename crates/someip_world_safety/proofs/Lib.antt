@@ -23,3 +23,8 @@ pub mod SentSegments
 pub mod HeldParts
 pub mod HeldRuns
 pub mod CameGiven
+pub mod ClientEndpoint
+pub mod EventTests
+pub mod SentEvents
+pub mod SafeEvents
+pub mod PublicationLemmas

@@ -1,5 +1,8 @@
 pub mod Addresses
-pub mod GivenMessages
-pub mod Subscriptions
 pub mod AwaitedCalls
+pub mod GivenMessages
 pub mod OpenRequests
+pub mod Answers
+pub mod Events
+pub mod Subscriptions
+pub mod Safety

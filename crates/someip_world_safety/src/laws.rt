@@ -1,17 +1,20 @@
 //! Laws of safety, of every run, or of every one in which keys are reused cleanly. Each is the contract of a
 //! function that does nothing.
 ghost use Rattle.std.specs.Prelude.{◌≤◌, ℕ, List, length, take};
+ghost use Rattle.std.specs.List.{AllByRecursion};
 ghost use Rattle.someip_node_rules.specs.declared.config.Config.{Config};
+ghost use Rattle.someip_node_rules.specs.Fitting.{FitsConfig};
 ghost use Rattle.someip_world_schedule.specs.declared.step.Step.{Step};
 ghost use Rattle.someip_world_setup.specs.declared.setup_node.SetupNode.{SetupNode};
 ghost use Rattle.someip_world_setup.specs.GoodSetups.{IsGoodNetwork, Network};
-ghost use Rattle.someip_world_rules.specs.Announced.{AllFits};
+ghost use Rattle.someip_world_rules.specs.Announced.{AllFits, FitsStep};
 ghost use Rattle.someip_world_rules.specs.Runs.{AreCopies, World};
 ghost use Rattle.someip_world_rules.specs.Turns.{LeadTo};
 ghost use Rattle.someip_world_exchanges.specs.CleanReuse.{IsCleanBefore};
 ghost use Rattle.someip_world_safety.specs.Addresses.{AreOffGroup, HaveOwnAddresses};
 ghost use Rattle.someip_world_safety.specs.AwaitedCalls.{CallsAreAwaited};
 ghost use Rattle.someip_world_safety.specs.OpenRequests.{RequestsAreOpen};
+ghost use Rattle.someip_world_safety.specs.Safety.{OffersAreConfigured, PublishesToAll, PublishesToOne};
 ghost use Rattle.someip_world_safety.specs.Subscriptions.{SubscriptionsAreSafe};
 
 /// A client counts itself subscribed, before each step up to which keys are reused cleanly, only where the
@@ -46,4 +49,19 @@ pub fn open_requests_were_handed_up()
     ensures { (nodes : List SetupNode) (configs : List Config) (steps : List Step) (n : ℕ) (w : World)
         → n ≤ length steps → LeadTo nodes configs (take n steps) w
         → RequestsAreOpen nodes configs steps n w }
+{}
+
+/// An event that is published in a step goes once to each endpoint that is live at its node in that moment
+/// for one of the event's eventgroups, and to no other; one that is published to one endpoint once to that,
+/// which is live for the named eventgroup of the event. The endpoint of each offer that a node knows before
+/// a step is one that a node is configured with for the instance, in the major version in which it is
+/// wanted, where the numbers of the configurations and of the steps fit their fields.
+pub fn publications_go_to_subscribers()
+    ensures to_all { (nodes : List SetupNode) (configs : List Config) (steps : List Step) (i : ℕ)
+        → PublishesToAll nodes configs steps i }
+    ensures to_one { (nodes : List SetupNode) (configs : List Config) (steps : List Step) (i : ℕ)
+        → PublishesToOne nodes configs steps i }
+    ensures offers { (nodes : List SetupNode) (configs : List Config) (steps : List Step) (n : ℕ)
+        → AllByRecursion FitsConfig configs → AllByRecursion FitsStep steps
+        → OffersAreConfigured nodes configs steps n }
 {}

@@ -2,7 +2,8 @@
 //! cleanly.
 //!
 //! - [`laws`]: a client counts itself subscribed only where the server accepted its Subscribe; the calls that wait
-//!   were made, and the requests that are open were handed up.
+//!   were made, and the requests that are open were handed up; what is published goes to those who are
+//!   subscribed, and the offers that nodes know are configured.
 #![tactic(auto)]
 
 pub mod laws;

@@ -1,0 +1,30 @@
+-- What is safe in each run, however its keys are reused: what is published, and the offers that nodes know.
+use Rattle.std.specs.Prelude.{◌≡◌, ◌≤◌, ℕ, List, length, take}
+use Rattle.std.specs.declared.net.socket_addr.SocketAddrV4.{SocketAddrV4}
+use Rattle.sd_core.specs.declared.keys.InstanceId.{InstanceId}
+use Rattle.someip_node_rules.specs.declared.config.Config.{Config}
+use Rattle.someip_node_rules.specs.Inputs.{Publish, PublishTo}
+use Rattle.someip_node_rules.specs.Published.{IsPublished, IsPublishedTo}
+use Rattle.someip_world_schedule.specs.declared.step.Step.{Step}
+use Rattle.someip_world_setup.specs.declared.setup_node.SetupNode.{SetupNode}
+use Rattle.someip_world_rules.specs.Announced.{KnowsAsConfigured}
+use Rattle.someip_world_rules.specs.Deliveries.{Does}
+use Rattle.someip_world_rules.specs.Runs.{World}
+use Rattle.someip_world_rules.specs.Turns.{LeadTo}
+
+module _ (nodes : List SetupNode) (configs : List Config) (steps : List Step) where
+  -- an event that a step publishes goes once to each endpoint that is then live for one of its eventgroups, and to no other
+  abbrev pub PublishesToAll : ℕ → Type 0
+  PublishesToAll i =
+      (does : Does nodes configs steps i) (instance : InstanceId) (event : ℕ) (payload : List ℕ) → does.input ≡ Publish instance event payload
+      → IsPublished does.turn.history instance event payload does.done
+
+  -- an event that a step publishes to one endpoint goes once to that, which is then live for the named eventgroup of the event
+  abbrev pub PublishesToOne : ℕ → Type 0
+  PublishesToOne i =
+      (does : Does nodes configs steps i) (instance : InstanceId) (eventgroup : ℕ) (endpoint : SocketAddrV4) (event : ℕ) (payload : List ℕ)
+      → does.input ≡ PublishTo instance eventgroup endpoint event payload → IsPublishedTo does.turn.history instance eventgroup endpoint event payload does.done
+
+  -- each offer that a node knows after some of the steps is one that a node is configured to make
+  abbrev pub OffersAreConfigured : ℕ → Type 0
+  OffersAreConfigured n = (w : World) → n ≤ length steps → LeadTo nodes configs (take n steps) w → KnowsAsConfigured configs w
