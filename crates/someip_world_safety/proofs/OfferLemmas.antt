@@ -1,6 +1,6 @@
 -- In a network that was read, each offer is at its node's own address, and is the only one of its instance.
 use Rattle.std.proofs.Common.{◌≡◌, ℕ, zero, suc, Bool, true, false, ◌&&◌, ◌||◌, ◌==◌, nat_le, not, cond, List, [], ◌∷◌, ◌++◌, map, slice_get, Some, refl, sym, ap, subst, ◌∙◌}
-use Rattle.std.specs.List.{AllByRecursion, AllZip, Contains, flat_map, list_all, list_any}
+use Rattle.std.specs.List.{AllByRecursion, AllZip, flat_map, list_all, list_any}
 use Rattle.std.specs.Map.{lookup}
 use Rattle.std.specs.BTreeMap.{is_at}
 use Rattle.std.specs.BTreeSet.{contains}
@@ -109,8 +109,7 @@ each_found : (es : List Offer) → has_repeat same_instance (map (λ e. e.0) es)
 each_found [] none = tt
 each_found (e ∷ es) none =
     let parts = neither (list_any (same_instance e.0) (map (λ e. e.0) es)) (has_repeat same_instance (map (λ e. e.0) es)) none in
-    let own : is_at (instance_cmp e.0) e.0 ≡ true = own_test instances_total e.0 in
-    (
+    let own : is_at (instance_cmp e.0) e.0 ≡ true = own_test instances_total e.0 in (
       ap (λ b. cond b (Some e.1) (lookup (is_at (instance_cmp e.0)) es)) own,
       all_both (IsFound es) (λ x. same_instance e.0 x.0 ≡ false) (IsFound (e ∷ es)) (λ x found other. found_behind e es x found other) es
           (each_found es parts.1) (none_passes (same_instance e.0) es parts.0),
@@ -169,8 +168,7 @@ copy_offers config copy is good none instance service among =
     copied_all (λ e. is_good_offer config e ≡ true) (λ e. v4_ip e.1.rules.endpoint ≡ copy.address)
     (λ a b copies fine. ap (λ r. v4_ip r.endpoint) copies.1.1.0 ∙ good_address config a fine ∙ address) config.offers.entries copy.offers.entries is.1
     (each_passes (is_good_offer config) config.offers.entries (good_offers config good)) in
-    let found = each_found copy.offers.entries (ap (has_repeat same_instance) (same_instances config.offers.entries copy.offers.entries is.1) ∙ none) in
-    (
+    let found = each_found copy.offers.entries (ap (has_repeat same_instance) (same_instances config.offers.entries copy.offers.entries is.1) ∙ none) in (
       at_member (λ e. v4_ip e.1.rules.endpoint ≡ copy.address) copy.offers.entries (instance, service) at among,
       at_member (IsFound copy.offers.entries) copy.offers.entries (instance, service) found among,
     )

@@ -1,5 +1,5 @@
 -- An answer that was sent was produced for a call: by the application, or of a check that failed.
-use Rattle.std.proofs.Common.{◌≡◌, inl, inr, ℕ, suc, ◌<◌, true, List, [], ◌∷◌, Some, arith, refl, sym, ap, subst, ◌∙◌}
+use Rattle.std.proofs.Common.{◌≡◌, inl, inr, ℕ, suc, ◌<◌, true, List, [], Some, arith, refl, sym, ap, subst, ◌∙◌}
 use Rattle.std.specs.List.{Contains}
 use Rattle.std.specs.declared.net.socket_addr.SocketAddrV4.{SocketAddrV4}
 use Rattle.someip_wire.specs.declared.header.Header.{Header}
@@ -26,7 +26,7 @@ use Rattle.someip_node_rules.specs.Plans.{Rule}
 use Rattle.someip_node_rules.specs.Sending.{IsAnswerTo, IsErrorTo, IsSent}
 use Rattle.someip_node_rules.specs.Setups.{offered_as}
 use Rattle.someip_node_rules.specs.Tables.{Tables}
-use Rattle.someip_node_rules.specs.Trails.{Done, after, met_by}
+use Rattle.someip_node_rules.specs.Trails.{after, met_by}
 use Rattle.someip_node_rules.proofs.NamedLemmas.{get-request}
 use Rattle.someip_node_rules.proofs.StepRules.{config_there}
 use Rattle.someip_world_schedule.specs.declared.step.Step.{Step}
@@ -80,6 +80,7 @@ module _ (nodes : List SetupNode) (configs : List Config) (steps : List Step) (f
 
   module _ (instance : InstanceId) (peer : SocketAddrV4) (header : Header) (payload : List ℕ) (takes : s.by.done.by ≡ plans.TakesRequest instance peer header payload)
       (from to : SocketAddrV4) (m : MessageValue) (e : IsErrorTo instance peer header t from to m) where
+    -- the ERROR that tells it
     abbrev error : MessageValue
     error = record { header = answer_header (asked e.service.rules peer header) kinds.Error (fault_code e.fault); payload = [] }
 
@@ -137,6 +138,7 @@ module _ (nodes : List SetupNode) (configs : List Config) (steps : List Step) (f
           all_open nodes configs steps i s.does.turn.before (omega (arith, inside)) s.does.turn.led s.does.turn.place s.does.turn.history token e.request s.does.turn.stands there
 
       module _ (o : IsOpenRequest nodes configs steps i s.does.turn.place token e.request) where
+        -- the answer to the open request
         abbrev answer : MessageValue
         answer = record { header = answer_header (asked o.service.rules o.from o.header) (kind_of_reply reply) (code_of_reply reply); payload = payload }
 
