@@ -28,3 +28,7 @@ pub mod EventTests
 pub mod SentEvents
 pub mod SafeEvents
 pub mod PublicationLemmas
+pub mod InstanceEndpoint
+pub mod OfferLemmas
+pub mod TakenCalls
+pub mod ProducedAnswers
