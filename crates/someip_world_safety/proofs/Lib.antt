@@ -28,3 +28,8 @@ pub mod EventTests
 pub mod SentEvents
 pub mod SafeEvents
 pub mod PublicationLemmas
+pub mod AnswerTests
+pub mod AnsweredCalls
+pub mod SentCalls
+pub mod MadeCalls
+pub mod SafeAnswers
