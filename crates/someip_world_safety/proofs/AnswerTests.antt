@@ -1,5 +1,5 @@
 -- What the test of an answer says of the call that it answers.
-use Rattle.std.proofs.Common.{◌≡◌, ℕ, ◌==◌, Bool, true, false, not, ◌&&◌, eqb, if◌then◌else◌, Option, None, Some, refl, sym, ap, ◌∙◌}
+use Rattle.std.proofs.Common.{◌≡◌, ℕ, Bool, true, false, not, ◌&&◌, eqb, if◌then◌else◌, Option, None, Some, refl, sym, ap, ◌∙◌}
 use Rattle.std.specs.FinMap as finite
 use Rattle.std.specs.Ordering.{eq_by_cmp}
 use Rattle.std.specs.declared.net.socket_addr.SocketAddrV4.{SocketAddrV4}
@@ -17,7 +17,6 @@ use Rattle.someip_rpc.specs.Answers.{answer_drop, answered_call, is_answer_to_a_
 use Rattle.someip_rpc.specs.Calls.{Pending}
 use Rattle.someip_rpc.specs.IdOrder.{calls_total, exact_calls}
 use Rattle.someip_rpc.specs.declared.call.Awaited.{Awaited}
-use Rattle.someip_rpc.specs.declared.error.DropCause.{DropCause}
 use Rattle.someip_rpc.specs.declared.error.DropCause.TheVariants.{NotPending, WrongType}
 use Rattle.someip_rpc.specs.declared.ids.CallKey.{CallKey}
 use Rattle.someip_node_rules.specs.CallQuestions.{awaited_at}
@@ -86,6 +85,6 @@ waits_by_history h key l is =
     let lasts : Lasting Awaited → Bool = λ lasting. not (has_passed now lasting.until) in
     let o = awaited_at h.config h.items key in
     let told : unless_passed now (unless_passed now o) ≡ Some l =
-        ap (unless_passed now) (sym (get-pending h.config h.items key)) ∙ sym (get-unexpired calls_total exact_calls now (answers_of h).client.pending key) ∙ is
+    ap (unless_passed now) (sym (get-pending h.config h.items key)) ∙ sym (get-unexpired calls_total exact_calls now (answers_of h).client.pending key) ∙ is
     in
     kept_there lasts o l (kept_there lasts (unless_passed now o) l told)

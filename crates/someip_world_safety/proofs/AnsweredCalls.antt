@@ -1,5 +1,5 @@
 -- An answer that is handed up is for a call that waits before the step.
-use Rattle.std.proofs.Common.{◌≡◌, ℕ, List, ◌∷◌, ◌++◌, Some, arith, refl, sym, ap, subst, ◌∙◌}
+use Rattle.std.proofs.Common.{◌≡◌, ℕ, List, ◌∷◌, ◌++◌, Some, arith, sym, ap, subst, ◌∙◌}
 use Rattle.std.specs.List.{Contains}
 use Rattle.std.proofs.lemmas.Grind.{flat_map-append}
 use Rattle.std.proofs.lemmas.List.Elements.{Contains-append_left}
@@ -60,10 +60,10 @@ module _ (nodes : List SetupNode) (configs : List Config) (steps : List Step) (n
   no_call : (call : Call) (peer : SocketAddrV4) (number : ℕ) → Contains (met_by e.earlier) (items.Called call peer number) → ⊥
   no_call call peer number among =
       let splits : met_by (trail_of h does.input) ≡ met_by e.earlier ++ met_by (e.done ∷ e.later) =
-          ap met_by e.trail ∙ flat_map-append (λ (d : Done). (outcome_of d).items) e.earlier (e.done ∷ e.later)
+      ap met_by e.trail ∙ flat_map-append (λ (d : Done). (outcome_of d).items) e.earlier (e.done ∷ e.later)
       in
       let inside : Contains (met_by (trail_of h does.input)) (items.Called call peer number) =
-          subst (λ xs. Contains xs (items.Called call peer number)) (sym splits) (Contains-append_left (met_by e.earlier) (met_by (e.done ∷ e.later)) (items.Called call peer number) among)
+      subst (λ xs. Contains xs (items.Called call peer number)) (sym splits) (Contains-append_left (met_by e.earlier) (met_by (e.done ∷ e.later)) (items.Called call peer number) among)
       in
       let by = at_member (MetBy h does.input) (met_by (trail_of h does.input)) (items.Called call peer number) (all_met h does.input) inside in
       let made = by.holds in
@@ -79,8 +79,8 @@ module _ (nodes : List SetupNode) (configs : List Config) (steps : List Step) (n
   pub answered_call_waits : IsAwaited nodes configs steps n does.turn.place key e.packet.from
   answered_call_waits =
       let there = waits_by_history e.done.before.state key passed.lasting passed.waits in
-      let within_it : awaited_at h.config (after h (met_by e.earlier)).items key ≡ Some passed.lasting = (λ i. awaited_at (sym same_config i) (sym at i).items key) ∙ there in
+      let in_step : awaited_at h.config (after h (met_by e.earlier)).items key ≡ Some passed.lasting = (λ i. awaited_at (sym same_config i) (sym at i).items key) ∙ there in
       let inside = within steps n does.step does.turn.here in
       subst (IsAwaited nodes configs steps n does.turn.place key) passed.peer
       (all_awaited nodes configs steps n does.turn.before (omega (arith, inside)) does.turn.led does.turn.place h key passed.lasting does.turn.stands
-      (waited (since h.config key passed.lasting h (met_by e.earlier) within_it)))
+      (waited (since h.config key passed.lasting h (met_by e.earlier) in_step)))

@@ -1,5 +1,5 @@
 -- An answer that is handed up is safe, where each answer that was sent was produced for its call.
-use Rattle.std.proofs.Common.{◌≡◌, ◌⊎◌, inl, inr, ℕ, suc, ◌<◌, ◌≤◌, true, List, slice_get, Some, arith, refl, sym, ap, subst, ◌∙◌}
+use Rattle.std.proofs.Common.{◌≡◌, ◌⊎◌, inl, inr, ℕ, suc, ◌<◌, ◌≤◌, true, List, slice_get, Some, arith, sym, ap, subst, ◌∙◌}
 use Rattle.std.specs.List.{Contains}
 use Rattle.std.specs.declared.net.socket_addr.SocketAddrV4.{SocketAddrV4}
 use Rattle.std.proofs.lemmas.Bool.{cases_lt}
@@ -11,7 +11,6 @@ use Rattle.someip_rpc.specs.declared.ids.CallKey.{CallKey}
 use Rattle.someip_rpc.specs.declared.ids.MessageId.{MessageId}
 use Rattle.someip_node_rules.specs.declared.config.Config.{Config}
 use Rattle.someip_node_rules.specs.declared.output.Output.TheVariants.{Answered}
-use Rattle.someip_node_rules.specs.Handling.{target_of}
 use Rattle.someip_node_rules.specs.HandUps.{AnswerCame}
 use Rattle.someip_node_rules.specs.Inputs as inputs
 use Rattle.someip_node_rules.specs.Outputs as outputs
@@ -77,8 +76,8 @@ module _ (nodes : List SetupNode) (configs : List Config) (steps : List Step) wh
       one_config : config ≡ a.call.does.turn.history.config
       one_config =
           let now = turn_configured nodes configs steps n does.step does.turn in
-          let then_it = turn_configured nodes configs steps a.made a.call.does.step a.call.does.turn in
-          let both : Some config ≡ Some a.call.does.turn.history.config = sym now ∙ ap (slice_get configs) (sym a.at) ∙ then_it in cc
+          let at_call = turn_configured nodes configs steps a.made a.call.does.step a.call.does.turn in
+          let both : Some config ≡ Some a.call.does.turn.history.config = sym now ∙ ap (slice_get configs) (sym a.at) ∙ at_call in cc
 
       -- the call opened the exchange
       opened : Opened nodes configs steps a.made exchange
@@ -127,7 +126,7 @@ module _ (nodes : List SetupNode) (configs : List Config) (steps : List Step) wh
       same_payload asked w =
           let input = same_input nodes configs steps a.made a.call.does.step a.call.does.turn a.call.does.input a.call.does.takes w.makes.does in
           let both : inputs.Call calls.Request w.makes.instance w.makes.method w.makes.payload ≡ inputs.Call calls.Request a.call.instance a.call.method a.call.payload =
-              sym w.makes.is ∙ input ∙ a.call.is
+          sym w.makes.is ∙ input ∙ a.call.is
           in
           let one : w.makes.payload ≡ a.call.payload = cc in sym w.says ∙ one
 

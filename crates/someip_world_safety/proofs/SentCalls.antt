@@ -1,5 +1,5 @@
 -- A call that a server takes was made by a client, and the exchange that its request belongs to is the one of that call.
-use Rattle.std.proofs.Common.{◌≡◌, ℕ, List, [], ◌∷◌, ◌++◌, Option, None, Some, refl, sym, ap, subst, ◌∙◌}
+use Rattle.std.proofs.Common.{◌≡◌, ℕ, List, [], ◌++◌, Option, Some, refl, sym, ap, subst, ◌∙◌}
 use Rattle.std.specs.List.{Contains, flat_map}
 use Rattle.std.specs.Option.{option_map_or}
 use Rattle.std.specs.declared.net.socket_addr.SocketAddrV4.{SocketAddrV4}
@@ -171,7 +171,7 @@ module _ (nodes : List SetupNode) (configs : List Config) (steps : List Step) wh
       named =
           let other = b.sent.does in
           let there : Contains (flat_map named_in (given_by (trail_of other.turn.history other.input))) name =
-              among_all named_in (given_by (trail_of other.turn.history other.input)) b.sent.given name b.sent.told b.named
+          among_all named_in (given_by (trail_of other.turn.history other.input)) b.sent.given name b.sent.told b.named
           in
           let history = same_history nodes configs steps i does.step does.turn other in
           let input = same_input nodes configs steps i does.step does.turn does.input does.takes other in
@@ -186,6 +186,6 @@ module _ (nodes : List SetupNode) (configs : List Config) (steps : List Step) wh
   taken_was_made j made client server exchange payload took =
       let g = took.given in
       let own : (s : Sends nodes configs steps made g.datagram) × (s.given ≡ outputs.Sends client server (record { header = took.header; payload = payload })) =
-          subst (λ k. (s : Sends nodes configs steps k g.datagram) × (s.given ≡ outputs.Sends client server (record { header = took.header; payload = payload }))) took.sent_so (g.sends, g.given)
+      subst (λ k. (s : Sends nodes configs steps k g.datagram) × (s.given ≡ outputs.Sends client server (record { header = took.header; payload = payload }))) took.sent_so (g.sends, g.given)
       in
       sent_by_call made g.datagram own.0 client server took.header payload own.1 took.request exchange took.belongs
