@@ -32,3 +32,8 @@ pub mod InstanceEndpoint
 pub mod OfferLemmas
 pub mod TakenCalls
 pub mod ProducedAnswers
+pub mod AnswerTests
+pub mod AnsweredCalls
+pub mod SentCalls
+pub mod MadeCalls
+pub mod SafeAnswers
