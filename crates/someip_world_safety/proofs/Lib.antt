@@ -37,3 +37,4 @@ pub mod AnsweredCalls
 pub mod SentCalls
 pub mod MadeCalls
 pub mod SafeAnswers
+pub mod SafeRuns
