@@ -28,3 +28,13 @@ pub mod EventTests
 pub mod SentEvents
 pub mod SafeEvents
 pub mod PublicationLemmas
+pub mod InstanceEndpoint
+pub mod OfferLemmas
+pub mod TakenCalls
+pub mod ProducedAnswers
+pub mod AnswerTests
+pub mod AnsweredCalls
+pub mod SentCalls
+pub mod MadeCalls
+pub mod SafeAnswers
+pub mod SafeRuns

@@ -1,6 +1,6 @@
 //! Laws of safety, of every run, or of every one in which keys are reused cleanly. Each is the contract of a
 //! function that does nothing.
-ghost use Rattle.std.specs.Prelude.{◌≤◌, ℕ, List, length, take};
+ghost use Rattle.std.specs.Prelude.{◌≤◌, ℕ, suc, List, length, take};
 ghost use Rattle.std.specs.List.{AllByRecursion};
 ghost use Rattle.someip_node_rules.specs.declared.config.Config.{Config};
 ghost use Rattle.someip_node_rules.specs.Fitting.{FitsConfig};
@@ -14,7 +14,8 @@ ghost use Rattle.someip_world_exchanges.specs.CleanReuse.{IsCleanBefore};
 ghost use Rattle.someip_world_safety.specs.Addresses.{AreOffGroup, HaveOwnAddresses};
 ghost use Rattle.someip_world_safety.specs.AwaitedCalls.{CallsAreAwaited};
 ghost use Rattle.someip_world_safety.specs.OpenRequests.{RequestsAreOpen};
-ghost use Rattle.someip_world_safety.specs.Safety.{OffersAreConfigured, PublishesToAll, PublishesToOne};
+ghost use Rattle.someip_world_safety.specs.OwnOffers.{HaveOwnOffers};
+ghost use Rattle.someip_world_safety.specs.Safety.{AnswersAreSafe, EventsAreSafe, OffersAreConfigured, PublishesToAll, PublishesToOne};
 ghost use Rattle.someip_world_safety.specs.Subscriptions.{SubscriptionsAreSafe};
 
 /// A client counts itself subscribed, before each step up to which keys are reused cleanly, only where the
@@ -64,4 +65,32 @@ pub fn publications_go_to_subscribers()
     ensures offers { (nodes : List SetupNode) (configs : List Config) (steps : List Step) (n : ℕ)
         → AllByRecursion FitsConfig configs → AllByRecursion FitsStep steps
         → OffersAreConfigured nodes configs steps n }
+{}
+
+/// An answer that a step hands up, up to which and with which keys are reused cleanly, is for a call of the
+/// client's present life, which waits for it and got none before; and in an earlier step the server at the call's
+/// peer endpoint produced just this code and payload, for a request that belongs to that call and has exactly its
+/// payload: its application answered, or the request failed a check. All that is given fits its fields, nodes
+/// have addresses of their own, and offers are at them.
+pub fn answers_are_the_servers()
+    ensures { (nodes : List SetupNode) (configs : List Config) (steps : List Step)
+        → AllFits nodes configs steps → HaveOwnAddresses configs → HaveOwnOffers configs → (n : ℕ)
+        → IsCleanBefore nodes configs steps (suc n) → AnswersAreSafe nodes configs steps n }
+{}
+
+/// An event that a step hands up, up to which and with which keys are reused cleanly, has the payload of an earlier
+/// publication of that event from the endpoint of the known offer, which was sent to this client's endpoint
+/// while that was live there for one of the event's eventgroups; and the client is subscribed to an eventgroup
+/// to which its own set-up gives the event. All that is given fits its fields.
+pub fn events_that_are_handed_up_were_published()
+    ensures { (nodes : List SetupNode) (configs : List Config) (steps : List Step)
+        → AllFits nodes configs steps → (n : ℕ) → IsCleanBefore nodes configs steps (suc n)
+        → EventsAreSafe nodes configs steps n }
+{}
+
+/// In a network that was read, each offer of a node is at the node's address, and is the only one of its
+/// instance there.
+pub fn offers_are_at_their_nodes()
+    ensures { (network : Network) (configs : List Config) → IsGoodNetwork network
+        → AreCopies network.nodes configs → HaveOwnOffers configs }
 {}

@@ -1,19 +1,22 @@
 use Rattle.someip_world_safety.proofs.AckAlone.{acks_begin_none}
 use Rattle.someip_world_safety.proofs.AckLemmas.{acks_say}
 use Rattle.someip_world_safety.proofs.AddressLemmas.{off_group, own_addresses}
-use Rattle.someip_world_safety.proofs.CameGiven.{came_was_given}
+use Rattle.someip_world_safety.proofs.OfferLemmas.{own_offers}
 use Rattle.someip_world_safety.proofs.PublicationLemmas.{publishes_to_all, publishes_to_one}
-use Rattle.someip_world_safety.proofs.SafeEvents.{event_is_safe}
+use Rattle.someip_world_safety.proofs.SafeRuns.{answers_are_safe, events_are_safe}
 use Rattle.someip_world_safety.proofs.StandingLemmas.{subscriptions_are_safe}
 use Rattle.someip_world_safety.proofs.safety.runs_are_safe.Goals as goal
 
-pub returns-clause-events : goal.returns-clause-events
-returns-clause-events c configs n are clean does instance event payload stands =
-    let nodes = c.args.setup.now.nodes in
-    let steps = c.args.steps.now in
+pub returns-clause-answers : goal.returns-clause-answers
+returns-clause-answers c configs n are clean =
+    let network = c.args.setup.now in
     let fits = c.all_that_a_setup_gives_fits.ensures configs are in
-    event_is_safe nodes configs steps fits n does instance event payload stands
-    (λ p header done earlier later input trail goal came. came_was_given nodes configs steps fits n does p header payload done earlier later input trail goal came clean)
+    let good = c.nodes.ensures.good in
+    answers_are_safe network.nodes configs c.args.steps.now fits n clean (own_addresses network good configs are) (own_offers network good configs are)
+
+pub returns-clause-events : goal.returns-clause-events
+returns-clause-events c configs n are clean =
+    let fits = c.all_that_a_setup_gives_fits.ensures configs are in events_are_safe c.args.setup.now.nodes configs c.args.steps.now fits n clean
 
 pub returns-clause-subscriptions : goal.returns-clause-subscriptions
 returns-clause-subscriptions c configs n w are le led clean =
