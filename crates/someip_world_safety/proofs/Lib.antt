@@ -31,6 +31,7 @@ pub mod PublicationLemmas
 pub mod InstanceEndpoint
 pub mod OfferLemmas
 pub mod TakenCalls
+pub mod Produced
 pub mod ProducedAnswers
 pub mod AnswerTests
 pub mod AnsweredCalls

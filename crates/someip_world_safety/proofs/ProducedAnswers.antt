@@ -46,7 +46,7 @@ use Rattle.someip_world_exchanges.proofs.RuleInputs.{AskedBy, done_asked}
 use Rattle.someip_world_safety.specs.GivenMessages.{WasGiven}
 use Rattle.someip_world_safety.specs.OpenRequests.{IsOpenRequest}
 use Rattle.someip_world_safety.specs.OwnOffers.{HaveOwnOffers}
-use Rattle.someip_world_safety.specs.Produced.{WasProduced}
+use Rattle.someip_world_safety.proofs.Produced.{WasProduced}
 use Rattle.someip_world_safety.proofs.ServerRequests.{all_open}
 use Rattle.someip_world_safety.proofs.TakenCalls.{call_taken, request_given}
 

@@ -34,7 +34,7 @@ use Rattle.someip_world_safety.specs.Addresses.{HaveOwnAddresses}
 use Rattle.someip_world_safety.specs.Answers.{IsAnswered, IsRefused, IsSafeAnswer}
 use Rattle.someip_world_safety.specs.AwaitedCalls.{IsAwaited, Makes}
 use Rattle.someip_world_safety.specs.GivenMessages.{WasGiven}
-use Rattle.someip_world_safety.specs.Produced.{WasProduced}
+use Rattle.someip_world_safety.proofs.Produced.{WasProduced}
 use Rattle.someip_world_safety.proofs.AnsweredCalls.{answered_call_waits, passed, same_config}
 use Rattle.someip_world_safety.proofs.CameGiven.{came_was_given}
 use Rattle.someip_world_safety.proofs.ClientEndpoint.{came_to_client}

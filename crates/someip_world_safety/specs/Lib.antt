@@ -3,7 +3,6 @@ pub mod AwaitedCalls
 pub mod GivenMessages
 pub mod OpenRequests
 pub mod Answers
-pub mod Produced
 pub mod OwnOffers
 pub mod Events
 pub mod Subscriptions
