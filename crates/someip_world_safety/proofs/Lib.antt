@@ -39,3 +39,5 @@ pub mod SentCalls
 pub mod MadeCalls
 pub mod SafeAnswers
 pub mod SafeRuns
+pub mod AnswerAlone
+pub mod OneMessage

@@ -1,5 +1,5 @@
 -- An answer that is handed up is safe, where each answer that was sent was produced for its call.
-use Rattle.std.proofs.Common.{◌≡◌, ◌⊎◌, inl, inr, ℕ, suc, ◌<◌, ◌≤◌, true, List, slice_get, Some, arith, sym, ap, subst, ◌∙◌}
+use Rattle.std.proofs.Common.{◌≡◌, ◌⊎◌, inl, inr, ℕ, suc, ◌<◌, ◌≤◌, true, List, [], ◌∷◌, slice_get, Ok, Some, arith, sym, ap, subst, ◌∙◌}
 use Rattle.std.specs.List.{Contains}
 use Rattle.std.specs.declared.net.socket_addr.SocketAddrV4.{SocketAddrV4}
 use Rattle.std.proofs.lemmas.Bool.{cases_lt}
@@ -16,6 +16,7 @@ use Rattle.someip_node_rules.specs.Inputs as inputs
 use Rattle.someip_node_rules.specs.Outputs as outputs
 use Rattle.someip_node_rules.specs.Setups.{client_endpoint}
 use Rattle.someip_node_rules.proofs.HandUpLemmas.{answer_came}
+use Rattle.someip_node_rules.specs.Steps.{step}
 use Rattle.someip_world_schedule.specs.declared.step.Step.{Step}
 use Rattle.someip_world_setup.specs.declared.setup_node.SetupNode.{SetupNode}
 use Rattle.someip_world_rules.specs.Announced.{AllFits}
@@ -35,6 +36,8 @@ use Rattle.someip_world_safety.specs.Answers.{IsAnswered, IsRefused, IsSafeAnswe
 use Rattle.someip_world_safety.specs.AwaitedCalls.{IsAwaited, Makes}
 use Rattle.someip_world_safety.specs.GivenMessages.{WasGiven}
 use Rattle.someip_world_safety.proofs.Produced.{WasProduced}
+use Rattle.someip_world_safety.proofs.AnswerAlone.{given_alone}
+use Rattle.someip_world_safety.proofs.OneMessage.{HoldsOne, taken_holds_one}
 use Rattle.someip_world_safety.proofs.AnsweredCalls.{answered_call_waits, passed, same_config}
 use Rattle.someip_world_safety.proofs.CameGiven.{came_was_given}
 use Rattle.someip_world_safety.proofs.ClientEndpoint.{came_to_client}
@@ -140,15 +143,16 @@ module _ (nodes : List SetupNode) (configs : List Config) (steps : List Step) wh
           subst (Due i (client_endpoint config) peer exchange code payload a.made) says (subst (λ k. Due i (client_endpoint config) peer exchange code payload k asked) one due)
 
       -- an answer for the call that waits is safe
-      safe : (i : ℕ) → i < n → (code : ReturnCode) (payload : List ℕ) → Due i (client_endpoint config) peer exchange code payload a.made a.call.payload
+      safe : (i : ℕ) → i < n → (code : ReturnCode) (payload : List ℕ) → does.done.outputs ≡ Answered key.message key.session code payload ∷ [] → Due i (client_endpoint config) peer exchange code payload a.made a.call.payload
           → IsSafeAnswer nodes configs steps n key.message key.session code payload
-      safe i before code payload due = record {
+      safe i before code payload alone due = record {
         does = does;
+        alone = alone;
         peer = peer;
         call = a;
         exchange = exchange;
         is = is;
-        newest = record { opened_in = opened; before = omega arith; last = λ k later until o. absurd (omega (arith, later, until)) };
+        opened = opened;
         produced = i;
         before = before;
         how = due;
@@ -164,7 +168,7 @@ module _ (nodes : List SetupNode) (configs : List Config) (steps : List Step) wh
       subst (λ x. IsSafeAnswer nodes configs steps n x session code payload) (sym e.taken.named)
       (subst (λ x. IsSafeAnswer nodes configs steps n key.message x code payload) (sym e.taken.numbered)
       (subst (λ x. IsSafeAnswer nodes configs steps n key.message key.session x payload) (sym e.taken.told)
-      (safe own n clean does key e.packet.from a w.exchange named given.sent sent.0 e.header.code payload
+      (safe own n clean does key e.packet.from a w.exchange named given.sent sent.0 e.header.code payload alone
       (due_for_it own n clean does key e.packet.from a w.exchange named given.sent given.datagram e.header.code payload w.made w.asked given.delivers w.belongs made_before w.how))))
     where
       e : AnswerCame does.turn.history does.input message session code payload
@@ -201,3 +205,12 @@ module _ (nodes : List SetupNode) (configs : List Config) (steps : List Step) wh
 
       made_before : w.made < n
       made_before = let one = w.before in let two = sent.0 in omega (arith, one, two)
+
+      one : HoldsOne e.packet.bytes
+      one = taken_holds_one nodes configs steps fits n does e.packet e.is
+
+      alone : does.done.outputs ≡ Answered key.message key.session e.header.code payload ∷ []
+      alone =
+          given_alone message session code payload does.turn.history e.packet.from e.packet.to e.packet.bytes one.0 one.1 e.arrived does.done
+          (subst (λ x. step does.turn.history x ≡ Ok does.done) e.is does.happened) handed
+          ∙ (λ i. Answered (e.taken.named i) (e.taken.numbered i) (e.taken.told i) payload ∷ [])

@@ -64,6 +64,8 @@ module _ (nodes : List SetupNode) (configs : List Config) (steps : List Step) wh
         endpoint = p.from;
         header = e.header;
         takes = e.takes;
+        of_service = sym of.service;
+        named = sym taken.named;
         known = of.known;
         want = taken.want;
         wanted = taken.wanted;

@@ -209,6 +209,7 @@ module _ (nodes : List SetupNode) (configs : List Config) (ss : List Step) where
           begun = b.begun;
           before = b.before;
           lives = b.lives;
+          last = b.last;
           since = a.since;
           newest = record {
             opened_in = b.opened;

@@ -1,5 +1,5 @@
 -- Which answers that a client hands up are safe: those that the server of the call produced for it.
-use Rattle.std.specs.Prelude.{◌≡◌, ◌<◌, ◌⊎◌, ℕ, List, [], Some}
+use Rattle.std.specs.Prelude.{◌≡◌, ◌<◌, ◌⊎◌, ℕ, List, [], ◌∷◌, Some}
 use Rattle.std.specs.List.{Contains}
 use Rattle.std.specs.declared.net.socket_addr.SocketAddrV4.{SocketAddrV4}
 use Rattle.someip_wire.specs.declared.header.Header.{Header}
@@ -13,6 +13,7 @@ use Rattle.someip_rpc.specs.Requests.{fault_code, request_fault}
 use Rattle.someip_rpc.specs.Servers.{code_of_reply}
 use Rattle.someip_node_rules.specs.declared.config.Config.{Config}
 use Rattle.someip_node_rules.specs.declared.config.OfferedService.{OfferedService}
+use Rattle.someip_node_rules.specs.declared.output.Output.TheVariants.{Answered}
 use Rattle.someip_node_rules.specs.History.{answers_of}
 use Rattle.someip_node_rules.specs.Inputs as inputs
 use Rattle.someip_node_rules.specs.Plans.{TakesRequest}
@@ -23,8 +24,9 @@ use Rattle.someip_world_schedule.specs.declared.step.Step.{Step}
 use Rattle.someip_world_setup.specs.declared.setup_node.SetupNode.{SetupNode}
 use Rattle.someip_world_rules.specs.Deliveries.{Does, LivesOn}
 use Rattle.someip_world_exchanges.specs.declared.exchange_key.ExchangeKey.{ExchangeKey}
-use Rattle.someip_world_exchanges.specs.Belonging.{Belongs, HandsUp, IsNewest}
+use Rattle.someip_world_exchanges.specs.Belonging.{Belongs, HandsUp}
 use Rattle.someip_world_exchanges.specs.Namings.{of_call}
+use Rattle.someip_world_exchanges.specs.Openings.{Opened}
 use Rattle.someip_world_safety.specs.AwaitedCalls.{IsAwaited}
 use Rattle.someip_world_safety.specs.GivenMessages.{WasGiven}
 
@@ -71,16 +73,17 @@ module _ (nodes : List SetupNode) (configs : List Config) (steps : List Step) wh
     pub says : fault_code fault ≡ code.0
     pub empty : payload ≡ []
 
-  -- An answer that a step hands up at a client is safe: it is for a call of the client's present life, which waits for it, and so
-  -- has got no answer before. The call opened its exchange, the newest of its key. In an earlier step the server at the call's peer
-  -- endpoint produced this code and payload for a request that belongs to that exchange and has exactly the call's payload
+  -- An answer that a step hands up at a client is safe: it is all that the step gives, and is for a call of the client's present
+  -- life, which got no answer before. The call opened its exchange. In an earlier step the server at the call's peer endpoint
+  -- produced this code and payload for a request that belongs to that exchange and has exactly the call's payload
   pub record IsSafeAnswer (n : ℕ) (message : MessageId) (session : ℕ) (code : ReturnCode) (payload : List ℕ) : Type 0 where
     pub does : Does nodes configs steps n
+    pub alone : does.done.outputs ≡ Answered message session code payload ∷ []
     pub peer : SocketAddrV4
     pub call : IsAwaited nodes configs steps n does.turn.place (record { message = message; session = session }) peer
     pub exchange : ExchangeKey
     pub is : exchange ≡ of_call (client_endpoint does.turn.history.config) peer message.service message.method does.turn.history.config.client_id session
-    pub newest : IsNewest nodes configs steps exchange call.made call.made
+    pub opened : Opened nodes configs steps call.made exchange
     pub produced : ℕ
     pub before : produced < n
     pub how :

@@ -53,6 +53,8 @@ module _ (nodes : List SetupNode) (configs : List Config) (steps : List Step) wh
     pub endpoint : SocketAddrV4
     pub header : Header
     pub takes : done.by ≡ TakesEvent endpoint header payload
+    pub of_service : header.service ≡ instance.service
+    pub named : header.method ≡ event
     pub known : known_endpoint (answers_of done.before.state) instance ≡ Some endpoint
     pub want : WantedService
     pub wanted : Contains (answers_of done.before.state).config.wants.entries (instance, want)

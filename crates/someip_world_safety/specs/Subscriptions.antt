@@ -23,6 +23,7 @@ use Rattle.someip_world_rules.specs.Runs.{World}
 use Rattle.someip_world_rules.specs.Deliveries.{Delivers, Does, LivesOn}
 use Rattle.someip_world_exchanges.specs.Belonging.{Belongs, IsNewest}
 use Rattle.someip_world_exchanges.specs.Namings.{of_subscription}
+use Rattle.someip_world_exchanges.specs.Openings.{Opened}
 
 module _ (nodes : List SetupNode) (configs : List Config) (steps : List Step) where
   -- A rule of a step takes a Subscribe, about an eventgroup and with a counter, that came from a client, and accepts it: the
@@ -53,12 +54,13 @@ module _ (nodes : List SetupNode) (configs : List Config) (steps : List Step) wh
     pub belongs : Belongs nodes configs steps sent datagram (of_subscription client server eventgroup counter) since
 
   -- A subscription of a node, begun at a peer with a counter, is safe before a step: the node began it in a step of its present
-  -- life, as the newest exchange of its key as of some step, and the server at the peer's address accepted a Subscribe that
-  -- belongs to that exchange
+  -- life, no exchange of its key was opened since, and the server at the peer's address accepted a Subscribe that belongs to that
+  -- exchange, the newest of its key as of some step
   pub record IsSafeSubscription (n place : ℕ) (h : History) (eventgroup : Eventgroup) (peer : Ipv4Addr) (counter : ℕ) : Type 0 where
     pub begun : ℕ
     pub before : begun < n
     pub lives : LivesOn nodes configs steps place begun n
+    pub last : (i : ℕ) → begun < i → i < n → Opened nodes configs steps i (of_subscription h.config.address peer eventgroup counter) → ⊥
     pub since : ℕ
     pub newest : IsNewest nodes configs steps (of_subscription h.config.address peer eventgroup counter) since begun
     pub own : newest.opened_in.does.turn.place ≡ place

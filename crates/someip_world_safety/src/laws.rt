@@ -19,7 +19,8 @@ ghost use Rattle.someip_world_safety.specs.Safety.{AnswersAreSafe, EventsAreSafe
 ghost use Rattle.someip_world_safety.specs.Subscriptions.{SubscriptionsAreSafe};
 
 /// A client counts itself subscribed, before each step up to which keys are reused cleanly, only where the
-/// server at which the subscription was begun accepted a Subscribe that belongs to this beginning. All that
+/// server at which the subscription was begun accepted a Subscribe that belongs to this beginning, and no
+/// exchange of its key was begun since. All that
 /// is given fits its fields, nodes have addresses of their own, and none has that of the group.
 pub fn subscriptions_were_accepted()
     ensures { (nodes : List SetupNode) (configs : List Config) (steps : List Step)
@@ -67,8 +68,8 @@ pub fn publications_go_to_subscribers()
         → OffersAreConfigured nodes configs steps n }
 {}
 
-/// An answer that a step hands up, up to which and with which keys are reused cleanly, is for a call of the
-/// client's present life, which waits for it and got none before; and in an earlier step the server at the call's
+/// An answer that a step hands up, up to which and with which keys are reused cleanly, is all that the step
+/// gives, and is for a call of the client's present life which got none before; and in an earlier step the server at the call's
 /// peer endpoint produced just this code and payload, for a request that belongs to that call and has exactly its
 /// payload: its application answered, or the request failed a check. All that is given fits its fields, nodes
 /// have addresses of their own, and offers are at them.

@@ -13,8 +13,8 @@ use someip_world_setup::Setup;
 
 /// Runs are safe, whatever the setup and the steps.
 ///
-/// Of each step up to which, and with which, keys are reused cleanly: an answer that is handed up is for a call of
-/// the client's present life, which got no answer before, and its code and payload are those that the server at
+/// Of each step up to which, and with which, keys are reused cleanly: an answer that is handed up is all that
+/// the step gives, and is for a call of the client's present life which got no answer before; and its code and payload are those that the server at
 /// the call's peer endpoint earlier produced, the application or a failed check, for a request that belongs to
 /// that call and has exactly its payload. An event that is handed up has the payload of an earlier publication of that event from the endpoint of the known offer, which was sent to this client's
 /// endpoint while that was live there for an eventgroup of the event; and the client is subscribed to an
