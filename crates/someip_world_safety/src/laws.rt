@@ -20,8 +20,8 @@ ghost use Rattle.someip_world_safety.specs.Subscriptions.{SubscriptionsAreSafe};
 
 /// A client counts itself subscribed, before each step up to which keys are reused cleanly, only where the
 /// server at which the subscription was begun accepted a Subscribe that belongs to this beginning, and no
-/// exchange of its key was begun since. All that
-/// is given fits its fields, nodes have addresses of their own, and none has that of the group.
+/// exchange of its key was begun since. All that is given fits its fields, nodes have addresses of their own,
+/// and none has that of the group.
 pub fn subscriptions_were_accepted()
     ensures { (nodes : List SetupNode) (configs : List Config) (steps : List Step)
         → AllFits nodes configs steps → HaveOwnAddresses configs → AreOffGroup configs
@@ -36,17 +36,17 @@ pub fn addresses_are_apart()
 {}
 
 /// A call waits for its answer at a client, before each step, only where the client made it in a step of its
-/// present life, at the endpoint that it awaits the answer of. Since then it took no answer to it, and made no
-/// other call of its Message ID and session.
+/// present life, at the endpoint that it awaits the answer of. Since then it took no answer to it, and made
+/// no other call of its Message ID and session.
 pub fn calls_that_wait_were_made()
     ensures { (nodes : List SetupNode) (configs : List Config) (steps : List Step) (n : ℕ) (w : World)
         → n ≤ length steps → LeadTo nodes configs (take n steps) w
         → CallsAreAwaited nodes configs steps n w }
 {}
 
-/// A request is open at a server under a token, before each step, only where the server handed it up under this
-/// token in a step of its present life: as it took the REQUEST from an endpoint to an instance that it offers.
-/// Since then it handed up no other of that token.
+/// A request is open at a server under a token, before each step, only where the server handed it up under
+/// this token in a step of its present life: as it took the REQUEST from an endpoint to an instance that it
+/// offers. Since then it handed up no other of that token.
 pub fn open_requests_were_handed_up()
     ensures { (nodes : List SetupNode) (configs : List Config) (steps : List Step) (n : ℕ) (w : World)
         → n ≤ length steps → LeadTo nodes configs (take n steps) w
@@ -55,9 +55,9 @@ pub fn open_requests_were_handed_up()
 
 /// An event that is published in a step goes once to each endpoint that is live at its node in that moment
 /// for one of the event's eventgroups, and to no other; one that is published to one endpoint once to that,
-/// which is live for the named eventgroup of the event. The endpoint of each offer that a node knows before
-/// a step is one that a node is configured with for the instance, in the major version in which it is
-/// wanted, where the numbers of the configurations and of the steps fit their fields.
+/// which is live for the named eventgroup of the event. The endpoint of each offer that a node knows before a
+/// step is one that a node is configured with for the instance, in the major version in which it is wanted,
+/// where the numbers of the configurations and of the steps fit their fields.
 pub fn publications_go_to_subscribers()
     ensures to_all { (nodes : List SetupNode) (configs : List Config) (steps : List Step) (i : ℕ)
         → PublishesToAll nodes configs steps i }
@@ -69,20 +69,20 @@ pub fn publications_go_to_subscribers()
 {}
 
 /// An answer that a step hands up, up to which and with which keys are reused cleanly, is all that the step
-/// gives, and is for a call of the client's present life which got none before; and in an earlier step the server at the call's
-/// peer endpoint produced just this code and payload, for a request that belongs to that call and has exactly its
-/// payload: its application answered, or the request failed a check. All that is given fits its fields, nodes
-/// have addresses of their own, and offers are at them.
+/// gives, and is for a call of the client's present life which got none before; and in an earlier step the
+/// server at the call's peer endpoint produced just this code and payload, for a request that belongs to that
+/// call and has exactly its payload: its application answered, or the request failed a check. All that is
+/// given fits its fields, nodes have addresses of their own, and offers are at them.
 pub fn answers_are_the_servers()
     ensures { (nodes : List SetupNode) (configs : List Config) (steps : List Step)
         → AllFits nodes configs steps → HaveOwnAddresses configs → HaveOwnOffers configs → (n : ℕ)
         → IsCleanBefore nodes configs steps (suc n) → AnswersAreSafe nodes configs steps n }
 {}
 
-/// An event that a step hands up, up to which and with which keys are reused cleanly, has the payload of an earlier
-/// publication of that event from the endpoint of the known offer, which was sent to this client's endpoint
-/// while that was live there for one of the event's eventgroups; and the client is subscribed to an eventgroup
-/// to which its own set-up gives the event. All that is given fits its fields.
+/// An event that a step hands up, up to which and with which keys are reused cleanly, has the payload of an
+/// earlier publication of that event from the endpoint of the known offer, which was sent to this client's
+/// endpoint while that was live there for one of the event's eventgroups; and the client is subscribed to an
+/// eventgroup to which its own set-up gives the event. All that is given fits its fields.
 pub fn events_that_are_handed_up_were_published()
     ensures { (nodes : List SetupNode) (configs : List Config) (steps : List Step)
         → AllFits nodes configs steps → (n : ℕ) → IsCleanBefore nodes configs steps (suc n)
