@@ -4,10 +4,12 @@ use Rattle.someip_node_rules.specs.declared.config.Config.{Config}
 use Rattle.someip_world_schedule.specs.declared.step.Step.{Step}
 use Rattle.someip_world_setup.specs.declared.setup_node.SetupNode.{SetupNode}
 use Rattle.someip_world_rules.specs.Announced.{AllFits}
-use Rattle.someip_world_exchanges.specs.CleanReuse.{IsCleanBefore}
+use Rattle.someip_world_rules.specs.declared.reuse.Reuse.{Reuse}
+use Rattle.someip_world_rules.specs.declared.reuse.Reuse.TheVariants.{Broken, Clean}
+use Rattle.someip_world_exchanges.specs.CleanReuse.{IsCleanBefore, IsVerdict}
 use Rattle.someip_world_safety.specs.Addresses.{HaveOwnAddresses}
 use Rattle.someip_world_safety.specs.OwnOffers.{HaveOwnOffers}
-use Rattle.someip_world_safety.specs.Safety.{AnswersAreSafe, EventsAreSafe}
+use Rattle.someip_world_safety.specs.Safety.{AnswersAreSafe, EventsAreSafe, IsCleanUpTo}
 use Rattle.someip_world_safety.proofs.CameGiven.{came_was_given}
 use Rattle.someip_world_safety.proofs.ProducedAnswers.{answer_was_produced}
 use Rattle.someip_world_safety.proofs.SafeAnswers.{answer_is_safe}
@@ -25,3 +27,9 @@ module _ (nodes : List SetupNode) (configs : List Config) (steps : List Step) (f
   events_are_safe does instance event payload stands =
       event_is_safe nodes configs steps fits n does instance event payload stands
       (λ p header done earlier later input trail goal came. came_was_given nodes configs steps fits n does p header payload done earlier later input trail goal came clean)
+
+-- where a verdict says that keys are reused cleanly up to a step, they are
+pub clean_up_to : (nodes : List SetupNode) (configs : List Config) (steps : List Step) (verdict : Reuse) (n : ℕ) → IsVerdict nodes configs steps verdict → IsCleanUpTo nodes configs steps verdict n
+    → IsCleanBefore nodes configs steps n
+clean_up_to nodes configs steps Clean n is up i less = is i (omega (arith, up, less))
+clean_up_to nodes configs steps (Broken at) n is up i less = let index = is.1 in is.3 i (omega (arith, up, less, index))

@@ -1,5 +1,5 @@
 -- What is safe in a run: what is handed up in a step, what is published, and the offers that nodes know.
-use Rattle.std.specs.Prelude.{◌≡◌, ◌≤◌, ℕ, List, length, take}
+use Rattle.std.specs.Prelude.{◌≡◌, ◌<◌, ◌≤◌, ℕ, suc, List, length, take, Ok}
 use Rattle.std.specs.List.{Contains}
 use Rattle.std.specs.declared.net.socket_addr.SocketAddrV4.{SocketAddrV4}
 use Rattle.someip_wire.specs.declared.header.ReturnCode.{ReturnCode}
@@ -13,10 +13,14 @@ use Rattle.someip_world_schedule.specs.declared.step.Step.{Step}
 use Rattle.someip_world_setup.specs.declared.setup_node.SetupNode.{SetupNode}
 use Rattle.someip_world_rules.specs.Announced.{KnowsAsConfigured}
 use Rattle.someip_world_rules.specs.Deliveries.{Does}
-use Rattle.someip_world_rules.specs.Runs.{World}
+use Rattle.someip_world_rules.specs.Runs.{AreCopies, World, run_of}
+use Rattle.someip_world_rules.specs.declared.line.Line.{Line}
+use Rattle.someip_world_rules.specs.declared.reuse.Reuse.{Reuse}
+use Rattle.someip_world_rules.specs.declared.reuse.Reuse.TheVariants.{Broken, Clean}
 use Rattle.someip_world_rules.specs.Turns.{LeadTo}
 use Rattle.someip_world_safety.specs.Answers.{IsSafeAnswer}
 use Rattle.someip_world_safety.specs.Events.{IsSafeEvent}
+use Rattle.someip_world_safety.specs.Subscriptions.{SubscriptionsAreSafe}
 
 module _ (nodes : List SetupNode) (configs : List Config) (steps : List Step) where
   -- each answer that a step hands up is safe
@@ -46,3 +50,24 @@ module _ (nodes : List SetupNode) (configs : List Config) (steps : List Step) wh
   -- each offer that a node knows after some of the steps is one that a node is configured to make
   abbrev pub OffersAreConfigured : ℕ → Type 0
   OffersAreConfigured n = (w : World) → n ≤ length steps → LeadTo nodes configs (take n steps) w → KnowsAsConfigured configs w
+
+  -- keys are reused cleanly in all steps before one, by the verdict: the run is clean, or a later step is the first that breaks it
+  abbrev pub IsCleanUpTo : Reuse → ℕ → Type 0
+  IsCleanUpTo Clean n = n ≤ length steps
+  IsCleanUpTo (Broken at) n = n < at
+
+  -- A run with a verdict is safe. Up to the step that it names, or in all steps, each answer and each event that is handed up is
+  -- safe, and each subscription that a client counts on. In all steps, events go to those who are subscribed, and the offers that
+  -- nodes know are configured
+  pub record IsSafe (verdict : Reuse) : Type 0 where
+    pub answers : (n : ℕ) → IsCleanUpTo verdict (suc n) → AnswersAreSafe n
+    pub events : (n : ℕ) → IsCleanUpTo verdict (suc n) → EventsAreSafe n
+    pub subscriptions : (n : ℕ) (w : World) → n ≤ length steps → LeadTo nodes configs (take n steps) w → IsCleanUpTo verdict n → SubscriptionsAreSafe nodes configs steps n w
+    pub publications : (n : ℕ) → PublishesToAll n
+    pub publications_to_one : (n : ℕ) → PublishesToOne n
+    pub offers : (n : ℕ) → OffersAreConfigured n
+
+-- the run that a trace tells is safe, over copies of the configurations of the nodes
+abbrev pub IsSafeOn : List SetupNode → List Step → List Line → Reuse → Type 0
+IsSafeOn nodes steps lines verdict =
+    (configs : List Config) → AreCopies nodes configs → run_of nodes configs steps ≡ Ok lines → IsSafe nodes configs steps verdict

@@ -3,8 +3,10 @@ ghost use Rattle.std.specs.Prelude.{◌≤◌, ℕ, suc, List, length, take};
 ghost use Rattle.someip_node_rules.specs.declared.config.Config.{Config};
 ghost use Rattle.someip_world_rules.specs.Runs.{AreCopies, World};
 ghost use Rattle.someip_world_rules.specs.Turns.{LeadTo};
-ghost use Rattle.someip_world_exchanges.specs.CleanReuse.{IsCleanBefore};
-ghost use Rattle.someip_world_safety.specs.Safety.{AnswersAreSafe, EventsAreSafe, OffersAreConfigured, PublishesToAll, PublishesToOne};
+ghost use Rattle.someip_world_rules.specs.declared.line.Line.{Line};
+ghost use Rattle.someip_world_rules.specs.declared.reuse.Reuse.{Reuse};
+ghost use Rattle.someip_world_exchanges.specs.CleanReuse.{IsCleanBefore, IsVerdictOn};
+ghost use Rattle.someip_world_safety.specs.Safety.{AnswersAreSafe, EventsAreSafe, IsSafeOn, OffersAreConfigured, PublishesToAll, PublishesToOne};
 ghost use Rattle.someip_world_safety.specs.Subscriptions.{SubscriptionsAreSafe};
 
 use someip_world_rules::run_laws::{all_that_a_setup_gives_fits, known_offers_are_of_the_setup};
@@ -48,4 +50,14 @@ pub fn runs_are_safe(setup: &Setup, steps: &[Step])
     all_that_a_setup_gives_fits(setup, steps);
     known_offers_are_of_the_setup(setup, steps);
     setup.nodes();
+}
+
+/// The run that a trace tells is safe, up to the step that its verdict names or, where that is `Clean`, in all
+/// steps: as `runs_are_safe` says it.
+pub fn runs_are_safe_by_their_verdict(setup: &Setup, steps: &[Step])
+    ensures { (lines : List Line) (verdict : Reuse)
+        → IsVerdictOn setup.now.nodes steps.now lines verdict
+        → IsSafeOn setup.now.nodes steps.now lines verdict }
+{
+    runs_are_safe(setup, steps);
 }

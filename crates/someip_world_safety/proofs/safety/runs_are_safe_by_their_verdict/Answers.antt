@@ -1,0 +1,18 @@
+use Rattle.std.proofs.Common.{suc}
+use Rattle.someip_world_safety.proofs.SafeRuns.{clean_up_to}
+use Rattle.someip_world_safety.proofs.safety.runs_are_safe_by_their_verdict.Goals as goal
+
+pub returns : goal.returns
+returns c lines verdict judged configs are comes =
+    let nodes = c.args.setup.now.nodes in
+    let steps = c.args.steps.now in
+    let safe = c.runs_are_safe.ensures in
+    let is = judged configs are comes in
+    record {
+      answers = λ n up. safe.answers configs n are (clean_up_to nodes configs steps verdict (suc n) is up);
+      events = λ n up. safe.events configs n are (clean_up_to nodes configs steps verdict (suc n) is up);
+      subscriptions = λ n w le led up. safe.subscriptions configs n w are le led (clean_up_to nodes configs steps verdict n is up);
+      publications = λ n. safe.publications configs n;
+      publications_to_one = λ n. safe.publications_to_one configs n;
+      offers = λ n. safe.offers configs n are;
+    }
