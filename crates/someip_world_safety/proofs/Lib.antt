@@ -28,3 +28,6 @@ pub mod EventTests
 pub mod SentEvents
 pub mod SafeEvents
 pub mod PublicationLemmas
+pub mod StandingOpenings
+pub mod SentCounters
+pub mod SubscribeOpenings

@@ -6,3 +6,4 @@ pub mod Answers
 pub mod Events
 pub mod Subscriptions
 pub mod Safety
+pub mod CleanRuns
