@@ -31,3 +31,4 @@ pub mod PublicationLemmas
 pub mod StandingOpenings
 pub mod SentCounters
 pub mod SubscribeOpenings
+pub mod EntryOpenings

@@ -49,7 +49,7 @@ use Rattle.someip_world_safety.proofs.StandingOpenings.{AllOpened, OpenedAround,
 -- ---- what the entries say
 
 -- the part about an eventgroup
-abbrev group_of : EntryHead → EventgroupEntry → EventgroupEntry
+abbrev pub group_of : EntryHead → EventgroupEntry → EventgroupEntry
 group_of (heads.Eventgroup head) other = head
 group_of (heads.Service head) other = other
 
