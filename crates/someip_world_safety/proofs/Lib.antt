@@ -32,3 +32,6 @@ pub mod StandingOpenings
 pub mod SentCounters
 pub mod SubscribeOpenings
 pub mod EntryOpenings
+pub mod InstanceEndpoint
+pub mod AnswerOpenings
+pub mod CleanLemmas
