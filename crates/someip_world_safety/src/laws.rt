@@ -13,6 +13,7 @@ ghost use Rattle.someip_world_rules.specs.Turns.{LeadTo};
 ghost use Rattle.someip_world_exchanges.specs.CleanReuse.{IsCleanBefore};
 ghost use Rattle.someip_world_safety.specs.Addresses.{AreOffGroup, HaveOwnAddresses};
 ghost use Rattle.someip_world_safety.specs.AwaitedCalls.{CallsAreAwaited};
+ghost use Rattle.someip_world_safety.specs.CleanRuns.{AreShort, HaveOwnEndpoints, OpensOnce};
 ghost use Rattle.someip_world_safety.specs.OpenRequests.{RequestsAreOpen};
 ghost use Rattle.someip_world_safety.specs.Safety.{OffersAreConfigured, PublishesToAll, PublishesToOne};
 ghost use Rattle.someip_world_safety.specs.Subscriptions.{SubscriptionsAreSafe};
@@ -64,4 +65,14 @@ pub fn publications_go_to_subscribers()
     ensures offers { (nodes : List SetupNode) (configs : List Config) (steps : List Step) (n : ℕ)
         → AllByRecursion FitsConfig configs → AllByRecursion FitsStep steps
         → OffersAreConfigured nodes configs steps n }
+{}
+
+/// A run in which no key is opened in two steps, and no message that is sent goes in segments, reuses its keys
+/// cleanly. All that is given fits its fields, no node has the address of the group, and what a node takes at
+/// a port is for an instance whose endpoint that is.
+pub fn runs_that_open_each_key_once_are_clean()
+    ensures { (nodes : List SetupNode) (configs : List Config) (steps : List Step)
+        → AllFits nodes configs steps → AreOffGroup configs → HaveOwnEndpoints configs
+        → OpensOnce nodes configs steps → AreShort nodes configs steps
+        → (n : ℕ) → IsCleanBefore nodes configs steps n }
 {}
