@@ -127,7 +127,7 @@ module _ (nodes : List SetupNode) (configs : List Config) (ss : List Step) where
         let goes = goes_to_peer i one s p.from p.to w.stamp w.entries w.is w.value w.among asked about in
         (
           subscribe_opened i one s p.from p.to w.stamp w.entries w.is w.value w.among asked about (is_subscribe_kind asked subscribes),
-          subst (IsOfNode configs) (sym goes.goal) (replies_go_to_nodes nodes configs ss fits i s.does s.by.done goes.peer w.entries w.value w.among s.by.brought goes.by),
+          subst (IsOfNode configs) {x = goes.peer} (sym goes.goal) (replies_go_to_nodes nodes configs ss fits i s.does s.by.done goes.peer w.entries w.value w.among s.by.brought goes.by),
         )
     came_opened p asked endpoint i s (inr has) subscribes =
         let fit = fits i s.does.step s.does.turn s.does.input s.given s.does.takes s.by in

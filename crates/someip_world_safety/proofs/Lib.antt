@@ -35,3 +35,4 @@ pub mod EntryOpenings
 pub mod InstanceEndpoint
 pub mod AnswerOpenings
 pub mod CleanLemmas
+pub mod EndpointLemmas
