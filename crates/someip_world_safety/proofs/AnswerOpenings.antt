@@ -1,5 +1,5 @@
 -- An answer that is sent belongs to the exchange of the request that it answers, which was opened.
-use Rattle.std.proofs.Common.{◌≡◌, ◌⊎◌, inl, inr, ℕ, ◌<◌, ◌≤◌, Bool, true, false, ltb, List, [], ◌∷◌, Option, None, Some, arith, refl, sym, ap, subst, ◌∙◌}
+use Rattle.std.proofs.Common.{◌≡◌, ◌⊎◌, inl, inr, ℕ, Bool, true, false, ltb, List, Some, arith, refl, sym, ap, subst, ◌∙◌}
 use Rattle.std.proofs.lemmas.Bool.{ltb-true, ltb-false}
 use Rattle.std.specs.List.{Contains}
 use Rattle.std.specs.FinMap as finite
@@ -12,8 +12,7 @@ use Rattle.someip_wire.specs.Spelling.{MessageValue}
 use Rattle.someip_tp.specs.Sent.{is_long}
 use Rattle.sd_core.specs.declared.keys.InstanceId.{InstanceId}
 use Rattle.someip_rpc.specs.Calls.{kind_of_call}
-use Rattle.someip_rpc.specs.Requests.{answer_header, asked}
-use Rattle.someip_rpc.specs.Servers.{code_of_reply, kind_of_reply}
+use Rattle.someip_rpc.specs.Servers.{kind_of_reply}
 use Rattle.someip_rpc.specs.declared.call.CallKind.{CallKind}
 use Rattle.someip_rpc.specs.declared.call.CallKind.TheVariants as calls
 use Rattle.someip_rpc.specs.declared.request.Asked.{Asked}
@@ -30,7 +29,7 @@ use Rattle.someip_node_rules.specs.Inputs as inputs
 use Rattle.someip_node_rules.specs.Inputs.{Input}
 use Rattle.someip_node_rules.specs.Meanings.{IsTokenFor, Means}
 use Rattle.someip_node_rules.specs.Outputs as outputs
-use Rattle.someip_node_rules.specs.Packets.{Came, Completes, HasWhole, Packet}
+use Rattle.someip_node_rules.specs.Packets.{Came, Packet}
 use Rattle.someip_node_rules.specs.Plans as plans
 use Rattle.someip_node_rules.specs.Plans.{Rule, TakesRequest}
 use Rattle.someip_node_rules.specs.Sending.{IsSent}
@@ -59,7 +58,6 @@ use Rattle.someip_world_exchanges.proofs.OpeningLemmas.{opens_its_own}
 use Rattle.someip_world_exchanges.proofs.RuleInputs.{answers_answer}
 use Rattle.someip_world_exchanges.proofs.WholeLemmas.{IsForApplication, given_in_segments}
 use Rattle.someip_world_safety.specs.CleanRuns.{AreShort, HaveOwnEndpoints}
-use Rattle.someip_world_safety.specs.GivenMessages.{WasGiven}
 use Rattle.someip_world_safety.specs.OpenRequests.{IsOpenRequest}
 use Rattle.someip_world_safety.proofs.EntryOpenings.{one_sender}
 use Rattle.someip_world_safety.proofs.InstanceEndpoint.{came_to_instance}

@@ -1,5 +1,5 @@
 -- A run that opens no key twice, and sends nothing in segments, reuses its keys cleanly.
-use Rattle.std.proofs.Common.{◌≡◌, ◌⊎◌, inl, inr, ℕ, ◌<◌, ◌≤◌, Bool, true, false, List, [], ◌∷◌, Some, arith, refl, sym, ap, subst, ◌∙◌}
+use Rattle.std.proofs.Common.{◌≡◌, ℕ, true, false, List, [], arith, refl, sym, ap, subst}
 use Rattle.std.specs.List.{Contains}
 use Rattle.std.specs.Net.Socket.{v4_ip}
 use Rattle.std.specs.declared.net.ipv4_addr.Ipv4Addr.{Ipv4Addr}
@@ -15,16 +15,15 @@ use Rattle.sd_wire.specs.Values.{EntryValue}
 use Rattle.sd_session.specs.declared.stamp.Stamp.{Stamp}
 use Rattle.someip_node_rules.specs.declared.config.Config.{Config}
 use Rattle.someip_node_rules.specs.Learning.{eventgroup_in}
-use Rattle.someip_node_rules.specs.Meanings.{Means}
 use Rattle.someip_node_rules.specs.Outputs as outputs
 use Rattle.someip_node_rules.specs.Outputs.{Given}
-use Rattle.someip_node_rules.specs.Plans.{Rule, RepliesTo}
+use Rattle.someip_node_rules.specs.Plans.{RepliesTo}
 use Rattle.someip_node_rules.proofs.MemberLemmas.{at_member, only_one}
 use Rattle.someip_world_schedule.specs.declared.step.Step.{Step}
 use Rattle.someip_world_setup.specs.declared.setup_node.SetupNode.{SetupNode}
 use Rattle.someip_world_rules.specs.Announced.{AllFits}
 use Rattle.someip_world_rules.specs.Datagrams.{SentDatagram}
-use Rattle.someip_world_rules.specs.Deliveries.{Delivers, Sends}
+use Rattle.someip_world_rules.specs.Deliveries.{Sends}
 use Rattle.someip_world_exchanges.specs.Belonging.{Answered, Belongs, IsMeant}
 use Rattle.someip_world_exchanges.specs.CleanReuse.{Breaks, DeliversMixed, DeliversOld, Mixed, Old}
 use Rattle.someip_world_exchanges.specs.Namings.{named_by_entries, named_by_head, named_by_kind, named_by_type, named_in, of_subscription}
@@ -37,7 +36,7 @@ use Rattle.someip_world_exchanges.proofs.OpeningLemmas.{opens_its_own}
 use Rattle.someip_world_safety.specs.Addresses.{AreOffGroup}
 use Rattle.someip_world_safety.specs.CleanRuns.{AreShort, HaveOwnEndpoints, OpensOnce}
 use Rattle.someip_world_safety.proofs.AnswerOpenings.{answer_opened}
-use Rattle.someip_world_safety.proofs.EntryOpenings.{GoesToPeer, ack_opened, goes_to_peer, subscribe_opened}
+use Rattle.someip_world_safety.proofs.EntryOpenings.{ack_opened, goes_to_peer, subscribe_opened}
 use Rattle.someip_world_safety.proofs.SentEntries.{IsGroupEntry}
 use Rattle.someip_world_safety.proofs.StandingOpenings.{WasOpened}
 

@@ -12,7 +12,6 @@ use Rattle.std.proofs.lemmas.Bool.{and_parts}
 use Rattle.std.proofs.lemmas.List.Elements.{recursion_from_All}
 use Rattle.std.proofs.lemmas.Map.Lookups.{exact_unsigned}
 use Rattle.std.proofs.lemmas.Map.Views.{IfSome-get}
-use Rattle.std.specs.declared.net.ipv4_addr.Ipv4Addr.{Ipv4Addr}
 use Rattle.std.specs.declared.net.socket_addr.SocketAddrV4.{SocketAddrV4}
 use Rattle.someip_tables.specs.EndpointOrder.{exact_addresses}
 use Rattle.someip_tables.proofs.Entries.{own_test, same_by_test}
@@ -25,7 +24,7 @@ use Rattle.someip_node_rules.specs.declared.config.Config.{Config}
 use Rattle.someip_node_rules.specs.declared.config.OfferedService.{OfferedService}
 use Rattle.someip_node_rules.specs.GoodConfigs.{are_good_methods, has_good_eventgroups, has_own_ports, is_good, is_good_common, is_good_instance, is_good_offer, is_good_port, is_good_want, is_within}
 use Rattle.someip_node_rules.specs.Handling.{same_address}
-use Rattle.someip_node_rules.specs.Setups.{offered_as, own_endpoint}
+use Rattle.someip_node_rules.specs.Setups.{offered_as}
 use Rattle.someip_node_rules.proofs.MemberLemmas.{at_member}
 use Rattle.someip_world_setup.specs.Clashes.{has_repeat, same_instance}
 use Rattle.someip_world_setup.specs.GoodSetups.{IsGoodNetwork, IsGoodNode, Network, instances_of}

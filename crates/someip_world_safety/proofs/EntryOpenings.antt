@@ -1,5 +1,5 @@
 -- An entry about an eventgroup that is sent belongs to an exchange that was opened: a Subscribe to its own, and an Ack or a Nack to that of the Subscribe which it answers.
-use Rattle.std.proofs.Common.{◌≡◌, ◌⊎◌, inl, inr, ℕ, ◌+◌, Bool, true, false, ◌||◌, List, [], ◌∷◌, Option, None, Some, arith, refl, sym, ap, subst, ◌∙◌}
+use Rattle.std.proofs.Common.{◌≡◌, ◌⊎◌, inl, inr, ℕ, ◌+◌, Bool, true, false, ◌||◌, List, ◌∷◌, Option, Some, arith, refl, sym, ap, subst, ◌∙◌}
 use Rattle.std.specs.List.{Contains}
 use Rattle.std.proofs.lemmas.List.Elements.{Contains-append_left}
 use Rattle.std.specs.Net.Socket.{v4_ip}
@@ -15,10 +15,9 @@ use Rattle.sd_wire.specs.Values.{EntryValue, bad_run, good}
 use Rattle.sd_session.specs.declared.stamp.Stamp.{Stamp}
 use Rattle.someip_node_rules.specs.declared.config.Config.{Config}
 use Rattle.someip_node_rules.specs.Answerings.{AnswersSubscribe}
-use Rattle.someip_node_rules.specs.Bringing.{Brings, RepliesToEntry}
+use Rattle.someip_node_rules.specs.Bringing.{Brings}
 use Rattle.someip_node_rules.specs.Handling.{same_address}
-use Rattle.someip_node_rules.specs.History.{History, answers_of}
-use Rattle.someip_node_rules.specs.Inputs.{Datagram}
+use Rattle.someip_node_rules.specs.History.{answers_of}
 use Rattle.someip_node_rules.specs.Learning.{eventgroup_in}
 use Rattle.someip_node_rules.specs.Meanings.{Means}
 use Rattle.someip_node_rules.specs.Outputs as outputs
@@ -35,7 +34,7 @@ use Rattle.someip_world_rules.specs.Announced.{AllFits}
 use Rattle.someip_world_rules.specs.Datagrams.{SentDatagram}
 use Rattle.someip_world_rules.specs.Deeds as deeds
 use Rattle.someip_world_rules.specs.Deeds.{is_addressed}
-use Rattle.someip_world_rules.specs.Deliveries.{Delivers, Dispatch, Does, Sends, dispatch_at}
+use Rattle.someip_world_rules.specs.Deliveries.{Delivers, Dispatch, Sends, dispatch_at}
 use Rattle.someip_world_rules.specs.Turns.{Turn}
 use Rattle.someip_world_rules.proofs.Deliverings.{delivered_in, one_turn}
 use Rattle.someip_world_rules.proofs.OriginLemmas.{turn_configured}
@@ -124,8 +123,7 @@ module _ (nodes : List SetupNode) (configs : List Config) (ss : List Step) where
         let same : good has.entry ≡ good w.value = w.same in
         let entry : has.entry ≡ w.value = cc in
         let about = ap (λ x. x.head) (sym entry) ∙ has.is in
-        let goes = goes_to_peer i one s p.from p.to w.stamp w.entries w.is w.value w.among asked about in
-        (
+        let goes = goes_to_peer i one s p.from p.to w.stamp w.entries w.is w.value w.among asked about in (
           subscribe_opened i one s p.from p.to w.stamp w.entries w.is w.value w.among asked about (is_subscribe_kind asked subscribes),
           subst (IsOfNode configs) {x = goes.peer} (sym goes.goal) (replies_go_to_nodes nodes configs ss fits i s.does s.by.done goes.peer w.entries w.value w.among s.by.brought goes.by),
         )

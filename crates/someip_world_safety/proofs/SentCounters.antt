@@ -1,9 +1,9 @@
 -- The counter of a Subscribe that goes out is that of the subscription which stands then.
 use Rattle.std.proofs.Common.{◌≡◌, ℕ, ◌%◌, Bool, true, false, ◌&&◌, if◌then◌else◌, List, [], ◌∷◌, Option, None, Some, refl, sym, ap, subst, ◌∙◌}
-use Rattle.std.specs.List.{AllByRecursion, Contains, cons_option, filter_map, flat_map}
+use Rattle.std.specs.List.{AllByRecursion, Contains, cons_option, filter_map}
 use Rattle.std.specs.Option.{option_map, option_map_or}
 use Rattle.std.specs.Ordering.{eq_by_cmp}
-use Rattle.std.specs.FinMap.{IsAntisymmetric, entries, find, get, get-entries}
+use Rattle.std.specs.FinMap.{IsAntisymmetric, entries, find, get-entries}
 use Rattle.std.specs.Cmp.{IsTotalOrder}
 use Rattle.std.specs.declared.cmp.Ordering.{Ordering}
 use Rattle.std.specs.declared.net.ipv4_addr.Ipv4Addr.{Ipv4Addr}
@@ -32,7 +32,7 @@ use Rattle.someip_node_rules.specs.Learning.{offer, offer_by, offer_counts}
 use Rattle.someip_node_rules.specs.Outcomes.{nothing}
 use Rattle.someip_node_rules.specs.Questions.{clock_at}
 use Rattle.someip_node_rules.specs.Tables.{Tables, known_peer}
-use Rattle.someip_node_rules.specs.WishQuestions.{Course, begins_at, course_at, goes_on, is_wished_at, known_peer_at, same_eventgroup, stage_of, subscribes_at, subscribes_if_known, wish_at, wishes_in}
+use Rattle.someip_node_rules.specs.WishQuestions.{Course, begins_at, course_at, goes_on, is_wished_at, known_peer_at, stage_of, subscribes_at, subscribes_if_known, wish_at, wishes_in}
 use Rattle.someip_node_rules.proofs.MemberLemmas.{all_weaker, at_member}
 use Rattle.someip_node_rules.proofs.WishLives.{get-wish}
 use Rattle.someip_world_exchanges.proofs.RuleBeginnings.{peer_known}
@@ -77,8 +77,7 @@ stands_counted xs q now peer counter is =
 found_own : {K X : Type 0} {R : K → K → Ordering} → IsTotalOrder R → IsAntisymmetric R → (es : List (K × X)) → are_distinct R es ≡ true → AllByRecursion (λ e. find R e.0 es ≡ Some e.1) es
 found_own o exact [] d = tt
 found_own {K = K} {X = X} {R = R} o exact (e ∷ es) d =
-    let parts = and_parts _ _ d in
-    (
+    let parts = and_parts _ _ d in (
       ap (λ b. if b then Some e.1 else find R e.0 es) (own_test o e.0),
       all_weaker (λ x. find R x.0 es ≡ Some x.1) (λ x. find R x.0 (e ∷ es) ≡ Some x.1) (further (none_found _ parts.0)) es (found_own o exact es parts.1),
     )

@@ -1,5 +1,5 @@
 -- Each subscription that stands at a client was opened in a step: before it, and within it.
-use Rattle.std.proofs.Common.{◌≡◌, ◌≢◌, ◌⊎◌, inl, inr, ℕ, suc, ◌<◌, ◌≤◌, ◌%◌, true, List, [], ◌∷◌, ◌++◌, length, take, slice_get, Option, None, Some, Result, Ok, Err, arith, refl, sym, ap, subst, append_assoc, ◌∙◌}
+use Rattle.std.proofs.Common.{◌≡◌, ◌⊎◌, inl, inr, ℕ, suc, ◌<◌, ◌≤◌, ◌%◌, true, List, [], ◌∷◌, ◌++◌, length, take, slice_get, None, Some, Result, Ok, Err, arith, refl, sym, ap, subst, append_assoc, ◌∙◌}
 use Rattle.std.specs.List.{AllByRecursion, Contains}
 use Rattle.std.proofs.lemmas.List.Elements.{Contains-append_right}
 use Rattle.std.proofs.lemmas.List.{append-nil}
@@ -76,8 +76,7 @@ module _ (nodes : List SetupNode) (configs : List Config) (ss : List Step) where
       begins_so x q peer counter b one opens begins is =
           let same : record { peer = peer; counter = counter; until = None } ≡ b = let stands = begins.stands in cc in
           let key_is : of_subscription at.config.address peer q counter ≡ of_subscription address b.peer q b.counter =
-          (λ i. of_subscription (own i) (same i).peer q (same i).counter) in
-          (
+          (λ i. of_subscription (own i) (same i).peer q (same i).counter) in (
             n,
             omega arith,
             subst (Opened nodes configs ss n) key_is (record {

@@ -2,7 +2,6 @@
 use Rattle.std.proofs.Common.{◌≡◌, inl, inr, ℕ, List, [], ◌∷◌, Option, None, Some, arith, refl, sym, ap, subst, ◌∙◌}
 use Rattle.std.specs.List.{AllByRecursion, Contains}
 use Rattle.std.specs.Option.{option_map_or}
-use Rattle.std.proofs.lemmas.List.Elements.{Contains-append_left}
 use Rattle.std.specs.Net.Socket.{v4_ip}
 use Rattle.std.specs.FinMap as finite
 use Rattle.std.specs.declared.net.ipv4_addr.Ipv4Addr.{Ipv4Addr}
@@ -12,14 +11,13 @@ use Rattle.sd_wire.specs.declared.entry.EntryHead.TheVariants as heads
 use Rattle.sd_wire.specs.declared.entry.EventgroupEntry.{EventgroupEntry}
 use Rattle.sd_wire.specs.declared.entry.EventgroupKind.TheVariants as group_kinds
 use Rattle.sd_wire.specs.Values.{EntryValue}
-use Rattle.sd_session.specs.declared.stamp.Stamp.{Stamp}
 use Rattle.sd_core.specs.declared.eventgroup.Eventgroup.{Eventgroup}
 use Rattle.sd_core.specs.declared.wish.OutgoingSubscribe.{OutgoingSubscribe}
 use Rattle.sd_core.specs.Wishes.{counter_in, sent_at_once, subscribing, wish_of}
 use Rattle.someip_node_rules.specs.declared.config.Config.{Config}
 use Rattle.someip_node_rules.specs.declared.config.WantedService.{WantedService}
-use Rattle.someip_node_rules.specs.Bringing.{Brings, OfEntry, RepliesToEntry, WasBrought}
-use Rattle.someip_node_rules.specs.Calls.{standing_of, stop_subscribe_of, wish_entries, wish_entries_by}
+use Rattle.someip_node_rules.specs.Bringing.{Brings, OfEntry, RepliesToEntry}
+use Rattle.someip_node_rules.specs.Calls.{stop_subscribe_of, wish_entries, wish_entries_by}
 use Rattle.someip_node_rules.specs.Entries.{subscribe_entry}
 use Rattle.someip_node_rules.specs.History.{History, answers_of, met}
 use Rattle.someip_node_rules.specs.Items as items
@@ -33,7 +31,7 @@ use Rattle.someip_node_rules.specs.Replies.{IsReply}
 use Rattle.someip_node_rules.specs.Setups.{client_endpoint, wanted_as}
 use Rattle.someip_node_rules.specs.Steps.{work_on}
 use Rattle.someip_node_rules.specs.Tables.{Tables, known_peer}
-use Rattle.someip_node_rules.specs.Trails.{Done, after, outcome_of, trail_of}
+use Rattle.someip_node_rules.specs.Trails.{Done, after, trail_of}
 use Rattle.someip_node_rules.specs.WishQuestions.{course_at, wish_at}
 use Rattle.someip_node_rules.proofs.MemberLemmas.{at_member}
 use Rattle.someip_node_rules.proofs.WishLives.{get-wish}

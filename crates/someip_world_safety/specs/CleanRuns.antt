@@ -1,4 +1,4 @@
--- When a run surely reuses its keys cleanly: where it gives no number twice, and sends nothing in segments.
+-- When a run surely reuses its keys cleanly: where it opens no key twice, and sends nothing in segments.
 use Rattle.std.specs.Prelude.{false, ◌≡◌, ℕ, List, Some, slice_get}
 use Rattle.someip_wire.specs.Spelling.{MessageValue}
 use Rattle.someip_tp.specs.Sent.{is_long}
@@ -10,7 +10,7 @@ use Rattle.someip_node_rules.specs.declared.config.OfferedService.{OfferedServic
 use Rattle.someip_world_schedule.specs.declared.step.Step.{Step}
 use Rattle.someip_world_setup.specs.declared.setup_node.SetupNode.{SetupNode}
 use Rattle.someip_world_rules.specs.Datagrams.{SentDatagram}
-use Rattle.someip_world_rules.specs.Deliveries.{Restarted, Sends}
+use Rattle.someip_world_rules.specs.Deliveries.{Sends}
 use Rattle.someip_world_exchanges.specs.declared.exchange_key.ExchangeKey.{ExchangeKey}
 use Rattle.someip_world_exchanges.specs.Openings.{Opened}
 
@@ -24,10 +24,6 @@ module _ (nodes : List SetupNode) (configs : List Config) (steps : List Step) wh
   -- no exchange of a key is opened in two steps
   abbrev pub OpensOnce : Type 0
   OpensOnce = (i j : ℕ) (key : ExchangeKey) → Opened nodes configs steps i key → Opened nodes configs steps j key → i ≡ j
-
-  -- no node is started again
-  abbrev pub StartsOnce : Type 0
-  StartsOnce = (i place : ℕ) → Restarted nodes configs steps i place → ⊥
 
   -- no message that is sent is so long that it goes in segments
   abbrev pub AreShort : Type 0

@@ -76,3 +76,9 @@ pub fn runs_that_open_each_key_once_are_clean()
         → OpensOnce nodes configs steps → AreShort nodes configs steps
         → (n : ℕ) → IsCleanBefore nodes configs steps n }
 {}
+
+/// In a network that was read, what a node takes at a port is for an instance whose endpoint that is.
+pub fn endpoints_are_own()
+    ensures { (network : Network) (configs : List Config) → IsGoodNetwork network
+        → AreCopies network.nodes configs → HaveOwnEndpoints configs }
+{}
