@@ -3,7 +3,6 @@ use Rattle.std.proofs.Common.{◌≡◌, ◌⊎◌, inl, inr, ℕ, Bool, true, f
 use Rattle.std.proofs.lemmas.Bool.{ltb-true, ltb-false}
 use Rattle.std.specs.List.{Contains}
 use Rattle.std.specs.FinMap as finite
-use Rattle.std.specs.Net.Socket.{v4_port}
 use Rattle.std.specs.declared.net.socket_addr.SocketAddrV4.{SocketAddrV4}
 use Rattle.someip_wire.specs.declared.header.Header.{Header}
 use Rattle.someip_wire.specs.declared.header.MessageType.{MessageType}
@@ -57,7 +56,8 @@ use Rattle.someip_world_exchanges.proofs.Among.{is_among}
 use Rattle.someip_world_exchanges.proofs.OpeningLemmas.{opens_its_own}
 use Rattle.someip_world_exchanges.proofs.RuleInputs.{answers_answer}
 use Rattle.someip_world_exchanges.proofs.WholeLemmas.{IsForApplication, given_in_segments}
-use Rattle.someip_world_safety.specs.CleanRuns.{AreShort, HaveOwnEndpoints}
+use Rattle.someip_world_safety.specs.CleanRuns.{AreShort}
+use Rattle.someip_world_safety.specs.OwnOffers.{HaveOwnOffers}
 use Rattle.someip_world_safety.specs.OpenRequests.{IsOpenRequest}
 use Rattle.someip_world_safety.proofs.EntryOpenings.{one_sender}
 use Rattle.someip_world_safety.proofs.InstanceEndpoint.{came_to_instance}
@@ -134,7 +134,7 @@ token_kind header next token (inr is) = let none = is.1 in absurd cc
 same_header : (instance : InstanceId) (from other : SocketAddrV4) (header second : Header) (payload : List ℕ) → TakesRequest instance from header payload ≡ TakesRequest instance other second payload → header ≡ second
 same_header instance from other header second payload is = cc
 
-module _ (nodes : List SetupNode) (configs : List Config) (ss : List Step) (fits : AllFits nodes configs ss) (short : AreShort nodes configs ss) (own : HaveOwnEndpoints configs) where
+module _ (nodes : List SetupNode) (configs : List Config) (ss : List Step) (fits : AllFits nodes configs ss) (short : AreShort nodes configs ss) (own : HaveOwnOffers configs) where
   -- ---- the request of a call was opened
 
   module _ (n : ℕ) (does : Does nodes configs ss n) (header : Header) (payload : List ℕ) (kind : header.kind ≡ kinds.Request) (since : ℕ) (d : SentDatagram) (delivers : Delivers nodes configs ss n since d) where
@@ -170,10 +170,9 @@ module _ (nodes : List SetupNode) (configs : List Config) (ss : List Step) (fits
     request_opened done was instance from takes service offered =
         let c = request_came h does.input was.earlier instance from header payload (subst (λ r. Brings h does.input r was.earlier) takes was.brings) in
         let opened = came_opened c.packet was.earlier c.is (subst IsForApplication (sym c.goal) tt) c.came in
-        let port = came_to_instance h.config c.packet.to instance c.goal in
-        let endpoint : service.rules.endpoint ≡ c.packet.to =
-        own does.turn.place (v4_port c.packet.to) h.config instance service (turn_configured nodes configs ss n does.step does.turn) port.1 offered ∙ sym port.0 in
-        subst (WasOpened nodes configs ss since) (λ i. of_call (sym c.source i) (sym endpoint i) header.service header.method header.client header.session) opened
+        let endpoint : c.packet.to ≡ service.rules.endpoint =
+        came_to_instance h.config c.packet.to instance (own does.turn.place h.config (turn_configured nodes configs ss n does.step does.turn)) service c.goal offered in
+        subst (WasOpened nodes configs ss since) (λ i. of_call (sym c.source i) (endpoint i) header.service header.method header.client header.session) opened
 
   -- ---- answers
 

@@ -34,7 +34,8 @@ use Rattle.someip_world_exchanges.specs.declared.naming.Side.TheVariants.{Answer
 use Rattle.someip_world_exchanges.proofs.Among.{one_among}
 use Rattle.someip_world_exchanges.proofs.OpeningLemmas.{opens_its_own}
 use Rattle.someip_world_safety.specs.Addresses.{AreOffGroup}
-use Rattle.someip_world_safety.specs.CleanRuns.{AreShort, HaveOwnEndpoints, OpensOnce}
+use Rattle.someip_world_safety.specs.CleanRuns.{AreShort, OpensOnce}
+use Rattle.someip_world_safety.specs.OwnOffers.{HaveOwnOffers}
 use Rattle.someip_world_safety.proofs.AnswerOpenings.{answer_opened}
 use Rattle.someip_world_safety.proofs.EntryOpenings.{ack_opened, goes_to_peer, subscribe_opened}
 use Rattle.someip_world_safety.proofs.SentEntries.{IsGroupEntry}
@@ -72,7 +73,7 @@ says_side group_kinds.Subscribe Answerer from to head key is = let clash = ap (�
 says_side group_kinds.Ack Opener from to head key is = let clash = ap (λ (n : Naming). n.side) is in absurd cc
 says_side group_kinds.Ack Answerer from to head key is = (refl, sym (ap (λ (n : Naming). n.key) is))
 
-module _ (nodes : List SetupNode) (configs : List Config) (ss : List Step) (fits : AllFits nodes configs ss) (off_group : AreOffGroup configs) (own : HaveOwnEndpoints configs) (short : AreShort nodes configs ss) where
+module _ (nodes : List SetupNode) (configs : List Config) (ss : List Step) (fits : AllFits nodes configs ss) (off_group : AreOffGroup configs) (own : HaveOwnOffers configs) (short : AreShort nodes configs ss) where
   -- ---- what belongs to an exchange
 
   module _ (i : ℕ) (d : SentDatagram) (s : Sends nodes configs ss i d) (key : ExchangeKey) (since : ℕ) where

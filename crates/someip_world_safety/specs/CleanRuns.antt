@@ -1,24 +1,15 @@
 -- When a run surely reuses its keys cleanly: where it opens no key twice, and sends nothing in segments.
-use Rattle.std.specs.Prelude.{false, ◌≡◌, ℕ, List, Some, slice_get}
+use Rattle.std.specs.Prelude.{false, ◌≡◌, ℕ, List}
 use Rattle.someip_wire.specs.Spelling.{MessageValue}
 use Rattle.someip_tp.specs.Sent.{is_long}
-use Rattle.sd_core.specs.declared.keys.InstanceId.{InstanceId}
 use Rattle.someip_node_rules.specs.Outputs as outputs
-use Rattle.someip_node_rules.specs.Setups.{instance_at, offered_as, own_endpoint}
 use Rattle.someip_node_rules.specs.declared.config.Config.{Config}
-use Rattle.someip_node_rules.specs.declared.config.OfferedService.{OfferedService}
 use Rattle.someip_world_schedule.specs.declared.step.Step.{Step}
 use Rattle.someip_world_setup.specs.declared.setup_node.SetupNode.{SetupNode}
 use Rattle.someip_world_rules.specs.Datagrams.{SentDatagram}
 use Rattle.someip_world_rules.specs.Deliveries.{Sends}
 use Rattle.someip_world_exchanges.specs.declared.exchange_key.ExchangeKey.{ExchangeKey}
 use Rattle.someip_world_exchanges.specs.Openings.{Opened}
-
--- what a node takes at a port is for an instance whose endpoint that is
-abbrev pub HaveOwnEndpoints : List Config → Type 0
-HaveOwnEndpoints configs =
-    (place port : ℕ) (config : Config) (instance : InstanceId) (service : OfferedService) → slice_get configs place ≡ Some config
-    → instance_at config port ≡ Some instance → offered_as config instance ≡ Some service → service.rules.endpoint ≡ own_endpoint config port
 
 module _ (nodes : List SetupNode) (configs : List Config) (steps : List Step) where
   -- no exchange of a key is opened in two steps

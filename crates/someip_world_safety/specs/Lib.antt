@@ -3,6 +3,7 @@ pub mod AwaitedCalls
 pub mod GivenMessages
 pub mod OpenRequests
 pub mod Answers
+pub mod OwnOffers
 pub mod Events
 pub mod Subscriptions
 pub mod Safety

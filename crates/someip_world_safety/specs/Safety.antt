@@ -1,8 +1,12 @@
--- What is safe in each run, however its keys are reused: what is published, and the offers that nodes know.
+-- What is safe in a run: what is handed up in a step, what is published, and the offers that nodes know.
 use Rattle.std.specs.Prelude.{◌≡◌, ◌≤◌, ℕ, List, length, take}
+use Rattle.std.specs.List.{Contains}
 use Rattle.std.specs.declared.net.socket_addr.SocketAddrV4.{SocketAddrV4}
+use Rattle.someip_wire.specs.declared.header.ReturnCode.{ReturnCode}
 use Rattle.sd_core.specs.declared.keys.InstanceId.{InstanceId}
+use Rattle.someip_rpc.specs.declared.ids.MessageId.{MessageId}
 use Rattle.someip_node_rules.specs.declared.config.Config.{Config}
+use Rattle.someip_node_rules.specs.declared.output.Output.TheVariants.{Answered, Event}
 use Rattle.someip_node_rules.specs.Inputs.{Publish, PublishTo}
 use Rattle.someip_node_rules.specs.Published.{IsPublished, IsPublishedTo}
 use Rattle.someip_world_schedule.specs.declared.step.Step.{Step}
@@ -11,8 +15,22 @@ use Rattle.someip_world_rules.specs.Announced.{KnowsAsConfigured}
 use Rattle.someip_world_rules.specs.Deliveries.{Does}
 use Rattle.someip_world_rules.specs.Runs.{World}
 use Rattle.someip_world_rules.specs.Turns.{LeadTo}
+use Rattle.someip_world_safety.specs.Answers.{IsSafeAnswer}
+use Rattle.someip_world_safety.specs.Events.{IsSafeEvent}
 
 module _ (nodes : List SetupNode) (configs : List Config) (steps : List Step) where
+  -- each answer that a step hands up is safe
+  abbrev pub AnswersAreSafe : ℕ → Type 0
+  AnswersAreSafe n =
+      (does : Does nodes configs steps n) (message : MessageId) (session : ℕ) (code : ReturnCode) (payload : List ℕ)
+      → Contains does.done.outputs (Answered message session code payload) → IsSafeAnswer nodes configs steps n message session code payload
+
+  -- each event that a step hands up is safe
+  abbrev pub EventsAreSafe : ℕ → Type 0
+  EventsAreSafe n =
+      (does : Does nodes configs steps n) (instance : InstanceId) (event : ℕ) (payload : List ℕ)
+      → Contains does.done.outputs (Event instance event payload) → IsSafeEvent nodes configs steps n instance event payload
+
   -- an event that a step publishes goes once to each endpoint that is then live for one of its eventgroups, and to no other
   abbrev pub PublishesToAll : ℕ → Type 0
   PublishesToAll i =

@@ -1,6 +1,6 @@
 //! Laws of safety, of every run, or of every one in which keys are reused cleanly. Each is the contract of a
 //! function that does nothing.
-ghost use Rattle.std.specs.Prelude.{◌≤◌, ℕ, List, length, take};
+ghost use Rattle.std.specs.Prelude.{◌≤◌, ℕ, suc, List, length, take};
 ghost use Rattle.std.specs.List.{AllByRecursion};
 ghost use Rattle.someip_node_rules.specs.declared.config.Config.{Config};
 ghost use Rattle.someip_node_rules.specs.Fitting.{FitsConfig};
@@ -13,9 +13,10 @@ ghost use Rattle.someip_world_rules.specs.Turns.{LeadTo};
 ghost use Rattle.someip_world_exchanges.specs.CleanReuse.{IsCleanBefore};
 ghost use Rattle.someip_world_safety.specs.Addresses.{AreOffGroup, HaveOwnAddresses};
 ghost use Rattle.someip_world_safety.specs.AwaitedCalls.{CallsAreAwaited};
-ghost use Rattle.someip_world_safety.specs.CleanRuns.{AreShort, HaveOwnEndpoints, OpensOnce};
+ghost use Rattle.someip_world_safety.specs.CleanRuns.{AreShort, OpensOnce};
 ghost use Rattle.someip_world_safety.specs.OpenRequests.{RequestsAreOpen};
-ghost use Rattle.someip_world_safety.specs.Safety.{OffersAreConfigured, PublishesToAll, PublishesToOne};
+ghost use Rattle.someip_world_safety.specs.OwnOffers.{HaveOwnOffers};
+ghost use Rattle.someip_world_safety.specs.Safety.{AnswersAreSafe, EventsAreSafe, OffersAreConfigured, PublishesToAll, PublishesToOne};
 ghost use Rattle.someip_world_safety.specs.Subscriptions.{SubscriptionsAreSafe};
 
 /// A client counts itself subscribed, before each step up to which keys are reused cleanly, only where the
@@ -67,18 +68,40 @@ pub fn publications_go_to_subscribers()
         → OffersAreConfigured nodes configs steps n }
 {}
 
-/// A run in which no key is opened in two steps, and no message that is sent goes in segments, reuses its keys
-/// cleanly. All that is given fits its fields, no node has the address of the group, and what a node takes at
-/// a port is for an instance whose endpoint that is.
-pub fn runs_that_open_each_key_once_are_clean()
+/// An answer that a step hands up, up to which and with which keys are reused cleanly, is for a call of the
+/// client's present life, which waits for it and got none before; and in an earlier step the server at the call's
+/// peer endpoint produced just this code and payload, for a request that belongs to that call and has exactly its
+/// payload: its application answered, or the request failed a check. All that is given fits its fields, nodes
+/// have addresses of their own, and offers are at them.
+pub fn answers_are_the_servers()
     ensures { (nodes : List SetupNode) (configs : List Config) (steps : List Step)
-        → AllFits nodes configs steps → AreOffGroup configs → HaveOwnEndpoints configs
-        → OpensOnce nodes configs steps → AreShort nodes configs steps
-        → (n : ℕ) → IsCleanBefore nodes configs steps n }
+        → AllFits nodes configs steps → HaveOwnAddresses configs → HaveOwnOffers configs → (n : ℕ)
+        → IsCleanBefore nodes configs steps (suc n) → AnswersAreSafe nodes configs steps n }
 {}
 
-/// In a network that was read, what a node takes at a port is for an instance whose endpoint that is.
-pub fn endpoints_are_own()
+/// An event that a step hands up, up to which and with which keys are reused cleanly, has the payload of an earlier
+/// publication of that event from the endpoint of the known offer, which was sent to this client's endpoint
+/// while that was live there for one of the event's eventgroups; and the client is subscribed to an eventgroup
+/// to which its own set-up gives the event. All that is given fits its fields.
+pub fn events_that_are_handed_up_were_published()
+    ensures { (nodes : List SetupNode) (configs : List Config) (steps : List Step)
+        → AllFits nodes configs steps → (n : ℕ) → IsCleanBefore nodes configs steps (suc n)
+        → EventsAreSafe nodes configs steps n }
+{}
+
+/// In a network that was read, each offer of a node is at the node's address, and is the only one of its
+/// instance there.
+pub fn offers_are_at_their_nodes()
     ensures { (network : Network) (configs : List Config) → IsGoodNetwork network
-        → AreCopies network.nodes configs → HaveOwnEndpoints configs }
+        → AreCopies network.nodes configs → HaveOwnOffers configs }
+{}
+
+/// A run in which no key is opened in two steps, and no message that is sent goes in segments, reuses its keys
+/// cleanly. All that is given fits its fields, no node has the address of the group, and offers are at their
+/// nodes' addresses.
+pub fn runs_that_open_each_key_once_are_clean()
+    ensures { (nodes : List SetupNode) (configs : List Config) (steps : List Step)
+        → AllFits nodes configs steps → AreOffGroup configs → HaveOwnOffers configs
+        → OpensOnce nodes configs steps → AreShort nodes configs steps
+        → (n : ℕ) → IsCleanBefore nodes configs steps n }
 {}
