@@ -41,3 +41,9 @@ pub mod SafeAnswers
 pub mod SafeRuns
 pub mod AnswerAlone
 pub mod OneMessage
+pub mod StandingOpenings
+pub mod SentCounters
+pub mod SubscribeOpenings
+pub mod EntryOpenings
+pub mod AnswerOpenings
+pub mod CleanLemmas

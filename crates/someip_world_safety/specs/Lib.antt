@@ -7,3 +7,4 @@ pub mod OwnOffers
 pub mod Events
 pub mod Subscriptions
 pub mod Safety
+pub mod CleanRuns

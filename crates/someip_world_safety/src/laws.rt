@@ -13,6 +13,7 @@ ghost use Rattle.someip_world_rules.specs.Turns.{LeadTo};
 ghost use Rattle.someip_world_exchanges.specs.CleanReuse.{IsCleanBefore};
 ghost use Rattle.someip_world_safety.specs.Addresses.{AreOffGroup, HaveOwnAddresses};
 ghost use Rattle.someip_world_safety.specs.AwaitedCalls.{CallsAreAwaited};
+ghost use Rattle.someip_world_safety.specs.CleanRuns.{AreShort, OpensOnce};
 ghost use Rattle.someip_world_safety.specs.OpenRequests.{RequestsAreOpen};
 ghost use Rattle.someip_world_safety.specs.OwnOffers.{HaveOwnOffers};
 ghost use Rattle.someip_world_safety.specs.Safety.{AnswersAreSafe, EventsAreSafe, OffersAreConfigured, PublishesToAll, PublishesToOne};
@@ -94,4 +95,14 @@ pub fn events_that_are_handed_up_were_published()
 pub fn offers_are_at_their_nodes()
     ensures { (network : Network) (configs : List Config) → IsGoodNetwork network
         → AreCopies network.nodes configs → HaveOwnOffers configs }
+{}
+
+/// A run in which no key is opened in two steps, and no message that is sent goes in segments, reuses its keys
+/// cleanly. All that is given fits its fields, no node has the address of the group, and offers are at their
+/// nodes' addresses.
+pub fn runs_that_open_each_key_once_are_clean()
+    ensures { (nodes : List SetupNode) (configs : List Config) (steps : List Step)
+        → AllFits nodes configs steps → AreOffGroup configs → HaveOwnOffers configs
+        → OpensOnce nodes configs steps → AreShort nodes configs steps
+        → (n : ℕ) → IsCleanBefore nodes configs steps n }
 {}
