@@ -2,6 +2,7 @@
 ghost use Rattle.std.specs.Prelude.{◌≡◌, IfOk, IfErr};
 ghost use Rattle.someip_world_exchanges.specs.CleanReuse.{IsVerdictOn};
 ghost use Rattle.someip_world_rules.specs.Runs.{IsRun};
+ghost use Rattle.someip_world_safety.specs.Safety.{IsSafeOn};
 ghost use Rattle.someip_world.specs.Running.{AreStarted, Happens, IsTold, RunsOn};
 ghost use Rattle.someip_world_rules.specs.declared.error.RunError.TheVariants as fault;
 
@@ -12,6 +13,7 @@ use someip_node::Node;
 use someip_tp::Reassembly;
 use someip_world_ledger::verdict_on;
 use someip_world_rules::{Line, RunError, StepFault, Trace, place_of};
+use someip_world_safety::safety::runs_are_safe_by_their_verdict;
 use someip_world_schedule::Step;
 use someip_world_setup::{Setup, SetupNode};
 use std::alloc::Global;
@@ -96,8 +98,13 @@ pub fn run<R: Reassembly>(alloc: Global, setup: &Setup, steps: &[Step]) -> Resul
     // The verdict is that on this run: the first step that breaks clean reuse is named, if one does.
     ensures verdict { IfOk result
         (λ trace. IsVerdictOn setup.now.nodes steps.now trace.lines.items trace.verdict) }
+    // Up to that step, or in all steps, answers, events and subscriptions are safe; in all, publications
+    // go to those who are subscribed, and known offers are configured.
+    ensures safe { IfOk result
+        (λ trace. IsSafeOn setup.now.nodes steps.now trace.lines.items trace.verdict) }
 {
     let lines = run_nodes::<R>(alloc, setup.nodes(), steps)?;
     let verdict = verdict_on(alloc, setup, steps, &lines)?;
+    runs_are_safe_by_their_verdict(setup, steps);
     Ok(Trace { lines, verdict })
 }
