@@ -25,7 +25,7 @@ use Rattle.someip_world_rules.specs.declared.step_fault.StepFault.TheVariants.{U
 use Rattle.someip_world_rules.specs.Deeds.{Deed, deed_of, done_with}
 use Rattle.someip_world.specs.Performing.{Does, Performs, Puts}
 use Rattle.someip_world.specs.Running.{AreStarted, Comes, Ends, IsStarted, IsTold, AreOfWorld, view_of}
-use Rattle.someip_world_rules.specs.Runs.{AreCopies, IsRun, World, happens, happens_at, told_lines, place_of, run_from, run_of, started_nodes, then_on, run_lines, unless_bad, world_after, world_of}
+use Rattle.someip_world_rules.specs.Runs.{AreCopies, World, happens, happens_at, told_lines, place_of, run_from, run_of, started_nodes, then_on, run_lines, unless_bad, world_after, world_of}
 
 -- ---- the start
 
