@@ -12,3 +12,5 @@ pub mod SegmentTexts
 pub mod SentLemmas
 pub mod AcceptedLemmas
 pub mod ArrivalLemmas
+pub mod Intervals
+pub mod BlockLemmas

@@ -13,3 +13,4 @@ pub mod Wholes
 pub mod Moments
 pub mod Accepted
 pub mod Arrivals
+pub mod Blocks

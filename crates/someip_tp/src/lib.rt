@@ -22,6 +22,7 @@ mod moments;
 mod partial;
 mod partials;
 mod pieces;
+mod pool;
 mod reassembly;
 mod segment;
 mod segment_list;

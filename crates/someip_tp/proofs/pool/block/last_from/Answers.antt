@@ -1,0 +1,6 @@
+use Rattle.std.proofs.Common.{sym, ◌∙◌}
+use Rattle.someip_tp.proofs.BlockLemmas.{last_found}
+use Rattle.someip_tp.proofs.pool.block.last_from.Goals as goal
+
+pub returns-then-is_held : goal.returns-then-is_held
+returns-then-is_held c = last_found c.args.message c.args.blocks.now c.args.k _ c.requires.tied c.requires.new (sym c.is_held.ensures ∙ c.if-is_held.true)

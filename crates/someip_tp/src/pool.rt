@@ -1,0 +1,3 @@
+//! Reassembly in memory that is reserved once.
+
+mod block;
