@@ -1,13 +1,14 @@
 -- Blocks that are written.
-use Rattle.std.proofs.Common.{◌≡◌, ◌≢◌, ℕ, zero, suc, ◌+◌, ◌-◌, ◌<◌, ◌≤◌, ◌==◌, Bool, true, false, ◌||◌, ◌&&◌, nat_lt, nat_le, List, [], ◌∷◌, length, set, get_or, Option, None, Some, refl, sym, ap, subst, ◌∙◌, arith}
+use Rattle.std.proofs.Common.{◌≡◌, ◌≢◌, ℕ, zero, suc, ◌+◌, ◌-◌, ◌<◌, ◌≤◌, ◌==◌, Bool, true, false, ◌||◌, ◌&&◌, nat_lt, nat_le, List, [], ◌∷◌, ◌++◌, length, take, drop, replicate, set, get_or, Option, None, Some, refl, sym, ap, subst, ◌∙◌, arith}
 use Rattle.std.specs.List.{slice_get}
 use Rattle.std.specs.Option.{option_map_or}
 use Rattle.std.proofs.lemmas.Bool.{eqb-true, eq-eqb}
 use Rattle.std.proofs.lemmas.Bool.Decides.{nat_tests}
-use Rattle.std.proofs.lemmas.List.{length-set}
+use Rattle.std.proofs.Math.ListN.{drop_of_length-le}
+use Rattle.std.proofs.lemmas.List.{length-set, append-nil, take_all}
 use Rattle.std.proofs.lemmas.Option.{slice_get_within, slice_get-get_or, same_Some}
 use Rattle.someip_tp.specs.declared.pool.block.Block.{Block}
-use Rattle.someip_tp.specs.Blocks.{is_held, other_end, AreTied, AreUpTo, IsFirstTo, IsLastFrom}
+use Rattle.someip_tp.specs.Blocks.{is_held, other_end, AreTied, AreUpTo, IsInterval, IsFirstTo, IsLastFrom}
 use Rattle.someip_tp.proofs.Intervals.{first_alone, first_is, last_alone, last_is, IsJoined, tied_once_joined}
 
 -- ---- an element that is set
@@ -39,7 +40,7 @@ held_within message blocks j is =
 held_as : (message : ℕ) (blocks : List Block) (j : ℕ) (b : Block) → slice_get blocks j ≡ Some b → is_held message blocks j ≡ (b.message == message)
 held_as message blocks j b is = ap (λ p. option_map_or (λ (x : Block). x.message == message) p false) is
 
-told_as : (blocks : List Block) (j : ℕ) (d : Block) → j < length blocks → other_end blocks j ≡ (get_or blocks j d).other
+pub told_as : (blocks : List Block) (j : ℕ) (d : Block) → j < length blocks → other_end blocks j ≡ (get_or blocks j d).other
 told_as blocks j d lt = ap (λ p. option_map_or (λ (x : Block). x.other) p 0) (slice_get-get_or blocks j d lt)
 
 pub first_found : (message : ℕ) (blocks : List Block) (k : ℕ) (d : Block) → AreTied (is_held message blocks) (other_end blocks) → is_held message blocks k ≡ false → 0 < k
@@ -203,3 +204,48 @@ all_done from to k j b low high end none = ap (λ t. t || b) (cases (nat_le from
         let less : to < from = grind (arith, nat_tests, some) in
         let still : k ≤ from = none less in
         grind (arith, nat_tests, test, less, still)
+
+-- ---- blocks that are not held yet
+
+
+pub blank_held : (message n : ℕ) (blocks : List Block) (j : ℕ) → 0 < message → is_held message (blocks ++ replicate n (record { message = 0; other = 0 })) j ≡ is_held message blocks j
+blank_held message zero [] j some = refl
+blank_held message (suc n) [] zero some = cases (0 == message) refl
+  where
+    cases : (b : Bool) → (0 == message) ≡ b → (0 == message) ≡ false
+    cases false test = test
+    cases true test = absurd (let is : 0 ≡ message = eqb-true 0 message test in omega (arith, is, some))
+blank_held message (suc n) [] (suc j) some = blank_held message n [] j some
+blank_held message n (b ∷ blocks) zero some = refl
+blank_held message n (b ∷ blocks) (suc j) some = blank_held message n blocks j some
+
+pub blank_other : (n : ℕ) (blocks : List Block) (j : ℕ) → other_end (blocks ++ replicate n (record { message = 0; other = 0 })) j ≡ other_end blocks j
+blank_other zero [] j = refl
+blank_other (suc n) [] zero = refl
+blank_other (suc n) [] (suc j) = blank_other n [] j
+blank_other n (b ∷ blocks) zero = refl
+blank_other n (b ∷ blocks) (suc j) = blank_other n blocks j
+
+pub blank_up_to : (top n : ℕ) (blocks : List Block) → AreUpTo top blocks → AreUpTo top (blocks ++ replicate n (record { message = 0; other = 0 }))
+blank_up_to top zero [] all j b is = cc
+blank_up_to top (suc n) [] all zero b is = let same = same_Some (record { message = 0; other = 0 }) b is in subst (λ (x : Block). x.message ≤ top) same (omega arith)
+blank_up_to top (suc n) [] all (suc j) b is = blank_up_to top n [] (λ k x at. all k x at) j b is
+blank_up_to top n (c ∷ blocks) all zero b is = all 0 b is
+blank_up_to top n (c ∷ blocks) all (suc j) b is = blank_up_to top n blocks (λ k x at. all (suc k) x at) j b is
+
+pub tied_alike : (held held' : ℕ → Bool) (other other' : ℕ → ℕ) → ((j : ℕ) → held' j ≡ held j) → ((j : ℕ) → other' j ≡ other j) → AreTied held other → AreTied held' other'
+tied_alike held held' other other' same told tied first last this =
+    let was : IsInterval held first last = record {
+      order = this.order;
+      within = λ k le at. sym (same k) ∙ this.within k le at;
+      before = λ k at. sym (same k) ∙ this.before k at;
+      after = sym (same (last + 1)) ∙ this.after;
+    } in
+    let ends = tied first last was in (told first ∙ ends.0, told last ∙ ends.1)
+
+-- ---- a list that was lent whole
+
+pub whole_again : {X : Type 0} (n : ℕ) (xs ys : List X) → length xs ≡ length ys → n ≡ length ys → take n (xs ++ drop (length xs) ys) ≡ xs
+whole_again n xs ys same is =
+    let none : drop (length xs) ys ≡ [] = drop_of_length-le ys (omega (arith, same)) in
+    ap (λ zs. take n (xs ++ zs)) none ∙ (ap (take n) (append-nil xs) ∙ take_all n xs (omega (arith, same, is)))

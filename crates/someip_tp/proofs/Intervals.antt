@@ -221,3 +221,23 @@ tied_once_joined held held' other other' k first last tied begin finish joined a
         let high : k ≤ l = grind (arith, nat_tests, behind) in
         let b = begins_so low high in
         let e = ends_so low high in (ap other' b ∙ (at_first ∙ sym e), ap other' e ∙ (at_last ∙ sym b))
+
+-- the interval that begins with the first block
+pub from_start : (held : ℕ → Bool) (other : ℕ → ℕ) (n : ℕ) → ((j : ℕ) → held j ≡ true → j < n) → AreTied held other → held 0 ≡ true → IsInterval held 0 (other 0)
+from_start held other n below tied first =
+    let found = ends held n below n 0 (omega arith) in
+    let this : IsInterval held 0 found.0 = record {
+      order = omega arith;
+      within = λ k le at. inside found.0 found.1 k at;
+      before = λ k at. absurd (omega (arith, at));
+      after = found.1.after;
+    } in
+    subst (IsInterval held 0) (sym (tied 0 found.0 this).0) this
+  where
+    inside : (last : ℕ) → IsLastFrom held 0 last → (k : ℕ) → k ≤ last → held k ≡ true
+    inside last is zero at = first
+    inside last is (suc k) at = is.within (suc k) (omega arith) at
+
+-- where none is held, there is no interval
+pub none_tied : (held : ℕ → Bool) (other : ℕ → ℕ) → ((j : ℕ) → held j ≡ false) → AreTied held other
+none_tied held other none first last this = absurd (let on = this.within first (omega arith) this.order in let off = none first in cc)

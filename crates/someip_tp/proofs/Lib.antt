@@ -14,3 +14,4 @@ pub mod AcceptedLemmas
 pub mod ArrivalLemmas
 pub mod Intervals
 pub mod BlockLemmas
+pub mod RoomLemmas

@@ -14,3 +14,4 @@ pub mod Moments
 pub mod Accepted
 pub mod Arrivals
 pub mod Blocks
+pub mod Rooms

@@ -32,7 +32,7 @@ impl Piece {
 }
 
 /// Whether two slices are the same as far as both go.
-fn begin_alike(a: &[u8], b: &[u8]) -> bool
+pub(crate) fn begin_alike(a: &[u8], b: &[u8]) -> bool
     ensures { (result ≡ true) ↔ Agree (slice_get a.now) (slice_get b.now) }
 {
     let len = a.len().min(b.len());

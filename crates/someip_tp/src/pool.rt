@@ -1,3 +1,4 @@
 //! Reassembly in memory that is reserved once.
 
 mod block;
+mod room;
