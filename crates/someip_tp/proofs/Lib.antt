@@ -15,3 +15,4 @@ pub mod ArrivalLemmas
 pub mod Intervals
 pub mod BlockLemmas
 pub mod RoomLemmas
+pub mod PoolLemmas

@@ -5,7 +5,7 @@ use Rattle.std.specs.Option.{is_some, IsSome}
 use Rattle.std.specs.Result.{is_ok, OnOk}
 use Rattle.std.specs.Cmp.{nat_cmp_total}
 use Rattle.std.specs.Ordering.{nat_cmp}
-use Rattle.std.specs.FinMap.{FinMap, get, empty, get-empty, get-retain_keys, same_map, nat_cmp-IsAntisymmetric}
+use Rattle.std.specs.FinMap.{FinMap, get, keys, empty, get-empty, get-retain_keys, same_map, nat_cmp-IsAntisymmetric}
 use Rattle.std.proofs.lemmas.Bool.{eqb-true, eq-eqb, and_parts}
 use Rattle.std.proofs.lemmas.Bool.Decides.{nat_tests}
 use Rattle.std.proofs.lemmas.List.{length-take-le}
@@ -18,6 +18,7 @@ use Rattle.someip_tp.specs.Blocks.{is_held, other_end, AreTied, AreUpTo, IsInter
 use Rattle.someip_tp.specs.Rooms.{held_bytes, Continues, IsConsistent}
 use Rattle.someip_tp.proofs.Placed.{over, get-added, none_differs, agree_where_none_differs}
 use Rattle.someip_tp.proofs.PieceLemmas.{byte_within, byte_from, byte_past, byte_before, byte_inside}
+use Rattle.someip_tp.proofs.PartialLemmas.{a_place_passes, no_place_passes}
 use Rattle.someip_tp.proofs.Intervals.{from_start}
 use Rattle.someip_tp.proofs.BlockLemmas.{held_within}
 
@@ -354,3 +355,22 @@ part_some n o xs i x is = cases (nat_lt i n) refl
 pub on_ok_appended : {E : Type 0} (P : List ℕ → Type 0) (r : Result (Unit {0}) E) (old more new : List ℕ) → new ≡ (if is_ok r then old ++ more else old) → P (old ++ more) → OnOk r (P new)
 on_ok_appended P (Ok u) old more new is holds = subst P (sym is) holds
 on_ok_appended P (Err e) old more new is holds = tt
+
+-- ---- a total at or below a held place
+
+pub reaches_as : (room : Room) (total : ℕ) → IsConsistent room → nat_lt total room.end ≡ list_any (nat_le total) (keys (held_bytes room))
+reaches_as room total ok = cases (nat_lt total room.end) refl
+  where
+    cases : (b : Bool) → nat_lt total room.end ≡ b → b ≡ list_any (nat_le total) (keys (held_bytes room))
+    cases true test =
+        let past : total < room.end = grind (arith, nat_tests, test) in
+        let place : ℕ = room.end - 1 in
+        let at : place + 1 ≡ room.end = omega (arith, past) in
+        sym (a_place_passes (nat_le total) (held_bytes room) place (inside_is room place ok (ok.top place at) (omega (arith, past))) (grind (arith, nat_tests, past)))
+    cases false test =
+        let short : room.end ≤ total = grind (arith, nat_tests, test) in
+        sym (no_place_passes (nat_le total) (held_bytes room) (λ place held. beyond place (nat_le total place) refl held short))
+      where
+        beyond : (place : ℕ) (b : Bool) → nat_le total place ≡ b → is_some (get (held_bytes room) place) ≡ true → room.end ≤ total → nat_le total place ≡ false
+        beyond place false is held short = is
+        beyond place true is held short = absurd (let none = past_end room place (let le : total ≤ place = grind (arith, nat_tests, is) in omega (arith, le, short)) in let no = ap is_some none in cc)

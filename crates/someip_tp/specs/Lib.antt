@@ -15,3 +15,4 @@ pub mod Accepted
 pub mod Arrivals
 pub mod Blocks
 pub mod Rooms
+pub mod Pools

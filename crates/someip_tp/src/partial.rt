@@ -116,7 +116,7 @@ impl Partial {
 }
 
 /// The total that a segment tells, which only the last one does.
-fn total_of(offset: u32, more: bool, bytes: &[u8]) -> Option<usize>
+pub(crate) fn total_of(offset: u32, more: bool, bytes: &[u8]) -> Option<usize>
     ensures { result ≡ (if more then None else Some (offset + length bytes.now)) }
 {
     if more {
@@ -127,7 +127,7 @@ fn total_of(offset: u32, more: bool, bytes: &[u8]) -> Option<usize>
 }
 
 /// The total once a segment was accepted: the one that it tells, or else the one before.
-fn total_with(known: Option<usize>, offset: u32, more: bool, bytes: &[u8]) -> Option<usize>
+pub(crate) fn total_with(known: Option<usize>, offset: u32, more: bool, bytes: &[u8]) -> Option<usize>
     ensures { result ≡ (if more then known else Some (offset + length bytes.now)) }
 {
     if more {
@@ -138,7 +138,7 @@ fn total_with(known: Option<usize>, offset: u32, more: bool, bytes: &[u8]) -> Op
 }
 
 /// Whether a byte of the slice lies at or past the known total.
-fn passes(total: Option<usize>, offset: u32, bytes: &[u8]) -> bool
+pub(crate) fn passes(total: Option<usize>, offset: u32, bytes: &[u8]) -> bool
     ensures { result ≡ passes total (map (λ e. e.0) (placed offset bytes.now)) }
 {
     match total {
@@ -148,7 +148,7 @@ fn passes(total: Option<usize>, offset: u32, bytes: &[u8]) -> bool
 }
 
 /// Whether both totals are known, and differ.
-fn differ(known: Option<usize>, told: Option<usize>) -> bool
+pub(crate) fn differ(known: Option<usize>, told: Option<usize>) -> bool
     ensures { result ≡ differ known told }
 {
     match (known, told) {

@@ -1,4 +1,5 @@
 //! Reassembly in memory that is reserved once.
 
 mod block;
+mod part;
 mod room;

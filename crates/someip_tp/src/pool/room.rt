@@ -2,8 +2,8 @@
 ghost use Rattle.std.specs.Prelude.{◌≡◌, ◌≢◌, ◌↔◌, ◌+◌, ◌≤◌, ◌<◌, ◌%◌, ◌/◌, ◌-◌, ◌++◌, ℕ, true, Some, List, length, replicate, vec_len, vec_capacity, OnOk, OnErr, IfOk, slice_get, nat_le, nat_lt, ◌&&◌, ◌||◌};
 ghost use Rattle.std.specs.List.{list_any};
 ghost use Rattle.std.specs.FinMap as map;
-ghost use Rattle.std.specs.FinMap.{get};
-ghost use Rattle.someip_tp.specs.Offers.{differ, placed, added};
+ghost use Rattle.std.specs.FinMap.{get, keys};
+ghost use Rattle.someip_tp.specs.Offers.{differ, passes, placed, added};
 ghost use Rattle.someip_tp.specs.Pieces.{byte_at, Agree, IsFront, AppendsFront};
 ghost use Rattle.someip_tp.specs.Blocks.{is_held, other_end, AreTied, AreUpTo};
 ghost use Rattle.someip_tp.specs.Rooms.{IsConsistent, held_bytes, Continues};
@@ -101,6 +101,17 @@ impl Room {
         begin_alike(&self.bytes[start..self.end], bytes)
     }
 
+    /// Whether some byte is held at or past a total, if that is told.
+    pub(crate) fn reaches(&self, total: Option<usize>) -> bool
+        requires { IsConsistent self.now }
+        ensures { result ≡ passes total (keys (held_bytes self.now)) }
+    {
+        match total {
+            Some(total) => total < self.end,
+            None => false,
+        }
+    }
+
     /// Holds a slice at its place, that clashes with nothing. Nothing is held after one that ends
     /// within a block, nor does one go past such an end.
     pub(crate) fn hold(&mut self, offset: u32, bytes: &[u8])
@@ -109,7 +120,8 @@ impl Room {
         requires fits { offset + length bytes.now ≤ self.old.limit }
         requires agrees { Agree (get (held_bytes self.old)) (byte_at offset bytes.now) }
         requires last { length bytes.now % 16 ≢ 0 → self.old.end ≤ offset + length bytes.now }
-        requires before { self.old.end % 16 ≢ 0 → offset + length bytes.now ≤ self.old.end }
+        requires before { 0 < length bytes.now → self.old.end % 16 ≢ 0
+            → offset + length bytes.now ≤ self.old.end }
         ensures consistent { IsConsistent self.new }
         ensures held { held_bytes self.new ≡ added (held_bytes self.old) (placed offset bytes.now) }
         ensures end { Continues self.old.end self.new.end offset (length bytes.now) }
