@@ -16,3 +16,4 @@ pub mod Intervals
 pub mod BlockLemmas
 pub mod RoomLemmas
 pub mod PoolLemmas
+pub mod SlotLemmas

@@ -11,7 +11,7 @@ use Rattle.someip_tp.specs.Offers.{Offer, placed, conflicts, passes, differ, tot
 use Rattle.someip_tp.specs.declared.pool.room.Room.{Room}
 use Rattle.someip_tp.specs.declared.pool.part.RoomPart.TheInside.{Inside}
 use Rattle.someip_tp.specs.Rooms.{held_bytes, Continues, IsConsistent}
-use Rattle.someip_tp.specs.Pools.{view_part, IsSoundIn}
+use Rattle.someip_tp.specs.RoomParts.{view_part, IsSoundIn}
 use Rattle.someip_tp.proofs.PartialLemmas.{no_conflict, any_place}
 use Rattle.someip_tp.proofs.RoomLemmas.{reaches_as, held_byte}
 

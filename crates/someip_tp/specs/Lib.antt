@@ -15,4 +15,5 @@ pub mod Accepted
 pub mod Arrivals
 pub mod Blocks
 pub mod Rooms
+pub mod RoomParts
 pub mod Pools

@@ -1,28 +1,37 @@
--- A pool of rooms, and what contracts see of it.
-use Rattle.std.specs.Prelude.{◌≡◌, ◌≢◌, ◌%◌, ◌≤◌, ℕ, Some, refl}
-use Rattle.std.specs.Coded.{Coded, code_by, coded×, coded_ℕ}
-use Rattle.someip_tp.specs.Partials.{Entry, coded_entry}
-use Rattle.someip_tp.specs.Rooms.{held_bytes, IsConsistent}
-use Rattle.someip_tp.specs.declared.pool.part.RoomPart.TheInside.{Inside}
+-- The slots of a pool.
+use Rattle.std.specs.Prelude.{◌≡◌, ◌+◌, ◌≤◌, ℕ, true, List, map, length, vec_capacity}
+use Rattle.std.specs.List.{All}
+use Rattle.someip_tables.specs.Distinct.{are_distinct}
+use Rattle.someip_tp.specs.Keys.{key_cmp}
+use Rattle.someip_tp.specs.Partials.{Entry}
+use Rattle.someip_tp.specs.Rooms.{IsConsistent}
+use Rattle.someip_tp.specs.RoomParts.{PartInRoom}
+use Rattle.someip_tp.specs.declared.pool.room.Room.{Room}
+use Rattle.someip_tp.specs.declared.pool.slots.Slots.{Slots}
 
--- a part under its key, and how many places its room has
-pub record PartInRoom : Type 0 where
-  pub entry : Entry
-  pub limit : ℕ
+-- the parts under their keys
+abbrev pub entries_of : List PartInRoom → List Entry
+entries_of parts = map (λ p. p.entry) parts
 
-abbrev pub coded_part_in_room : Coded PartInRoom
-coded_part_in_room = code_by (Entry × ℕ) (coded× coded_entry coded_ℕ) (λ p. (p.entry, p.limit)) (λ c. record { entry = c.0; limit = c.1 }) (λ _. refl)
+abbrev pub entries_in : Slots → List Entry
+entries_in slots = entries_of slots.taken.items
 
--- what contracts see of a part in its room
-abbrev pub view_part : Inside → PartInRoom
-view_part p = record {
-  entry = (p.key, record { bytes = held_bytes p.room; total = p.total; last = p.last });
-  limit = p.room.limit;
-}
+-- as many slots, and as long messages
+abbrev pub SameBounds : Slots → Slots → Type 0
+SameBounds old new = (new.count ≡ old.count) × (new.limit ≡ old.limit)
 
--- what is true of every part in its room: nothing is held past its total, and where its end is within a block, that is
--- its total
-pub record IsSoundIn (p : Inside) : Type 0 where
-  pub room : IsConsistent p.room
-  pub below : (total : ℕ) → p.total ≡ Some total → p.room.end ≤ total
-  pub cut : p.room.end % 16 ≢ 0 → p.total ≡ Some p.room.end
+-- a room that is ready for a message of so many places
+pub record IsFree (places : ℕ) (room : Room) : Type 0 where
+  pub consistent : IsConsistent room
+  pub empty : room.end ≡ 0
+  pub limit : room.limit ≡ places
+
+-- what is true of the slots of a pool: no two parts are of one key, all rooms have the places that a message may have,
+-- the parts and the free rooms are as many as there are slots, and for each of both there is a place in its list
+pub record ArePooled (slots : Slots) : Type 0 where
+  pub distinct : are_distinct key_cmp (entries_in slots) ≡ true
+  pub rooms : All (λ (p : PartInRoom). p.limit ≡ slots.limit) slots.taken.items
+  pub free : All (IsFree slots.limit) slots.free.items
+  pub count : length slots.taken.items + length slots.free.items ≡ slots.count
+  pub room_of_taken : slots.count ≤ vec_capacity slots.taken
+  pub room_of_free : slots.count ≤ vec_capacity slots.free

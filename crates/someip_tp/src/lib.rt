@@ -34,6 +34,7 @@ pub use calls::{TpAnswer, TpCall, run_calls};
 pub use error::TpError;
 pub use key::ReassemblyKey;
 pub use moments::{are_in_time, calls_in_time_may_be_made, no_part_is_ahead_of_its_caller};
+pub use pool::IntervalPool;
 pub use reassembly::{Offered, Reassembly};
 pub use segment::{Segment, read_segment};
 pub use segment_list::SegmentList;

@@ -23,7 +23,7 @@ pub(crate) struct RoomPart {
 }
 
 impl Model for RoomPart {
-    ghost use Rattle.someip_tp.specs.Pools.{PartInRoom, coded_part_in_room, view_part, IsSoundIn};
+    ghost use Rattle.someip_tp.specs.RoomParts.{PartInRoom, coded_part_in_room, view_part, IsSoundIn};
 
     ghost Value = { PartInRoom };
 

@@ -2,7 +2,7 @@ use Rattle.std.proofs.Common.{◌≡◌, true, ap, ◌∙◌, refl, [], ◌++◌
 use Rattle.std.specs.Option.{is_some}
 use Rattle.std.proofs.lemmas.Result.{on_ok_weaker}
 use Rattle.someip_tp.specs.Offers.{message_of}
-use Rattle.someip_tp.specs.Pools.{view_part}
+use Rattle.someip_tp.specs.RoomParts.{view_part}
 use Rattle.someip_tp.proofs.PartialLemmas.{message_appended}
 use Rattle.someip_tp.proofs.PoolLemmas.{held_below}
 use Rattle.someip_tp.proofs.pool.part.RoomPart.append_message.Goals as goal
