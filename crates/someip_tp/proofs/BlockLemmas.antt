@@ -73,7 +73,6 @@ last_none message blocks k none = last_alone (is_held message blocks) k none
 
 -- ---- a block is held, and the ends of its interval tell one another
 
-
 -- the blocks once one is held, whose interval is from the first to the last
 abbrev pub tied_at : ℕ → List Block → ℕ → ℕ → ℕ → List Block
 tied_at message blocks k first last =
@@ -146,8 +145,8 @@ tied_so message blocks k first last lt tied begin finish =
     (at_first one two low high wide_one wide_two (first == last) refl)
     (other_set two last (record { message = message; other = first }) (omega (arith, high, wide_one, wide_two)))
     (λ j apart other_first other_last.
-        other_kept two last j (record { message = message; other = first }) other_last
-        ∙ (other_kept one first j (record { message = message; other = last }) other_first ∙ other_kept blocks k j (record { message = message; other = k }) apart))
+    other_kept two last j (record { message = message; other = first }) other_last
+    ∙ (other_kept one first j (record { message = message; other = last }) other_first ∙ other_kept blocks k j (record { message = message; other = k }) apart))
   where
     at_first : (one two : List Block) → first < length blocks → last < length blocks → length one ≡ length blocks → length two ≡ length one → (b : Bool) → (first == last) ≡ b
         → other_end (set (set one first (record { message = message; other = last })) last (record { message = message; other = first })) first ≡ last
@@ -206,7 +205,6 @@ all_done from to k j b low high end none = ap (λ t. t || b) (cases (nat_le from
         grind (arith, nat_tests, test, less, still)
 
 -- ---- blocks that are not held yet
-
 
 pub blank_held : (message n : ℕ) (blocks : List Block) (j : ℕ) → 0 < message → is_held message (blocks ++ replicate n (record { message = 0; other = 0 })) j ≡ is_held message blocks j
 blank_held message zero [] j some = refl

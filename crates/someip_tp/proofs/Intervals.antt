@@ -2,7 +2,6 @@
 use Rattle.std.proofs.Common.{◌≡◌, ◌≢◌, ℕ, zero, suc, ◌+◌, ◌<◌, ◌≤◌, ◌-◌, ◌==◌, Bool, true, false, ◌||◌, nat_lt, nat_le, refl, sym, ap, subst, ◌∙◌, arith}
 use Rattle.std.proofs.lemmas.Bool.{eqb-true, eq-eqb}
 use Rattle.std.proofs.lemmas.Bool.Decides.{nat_tests}
-use Rattle.std.proofs.lemmas.Grind.{common_steps}
 use Rattle.someip_tp.specs.Blocks.{IsInterval, AreTied, IsFirstTo, IsLastFrom}
 
 -- ---- the interval that ends before a block
@@ -20,11 +19,14 @@ begins held (suc k) = cases (held k) refl (begins held k)
   where
     cases : (b : Bool) → held k ≡ b → (first : ℕ) × IsFirstTo held k first → (first : ℕ) × IsFirstTo held (suc k) first
     cases false test rest = (suc k, first_alone held (suc k) (λ j at. (let same : j ≡ k = omega (arith, at) in ap held same ∙ test)))
-    cases true test rest = (rest.0, record {
-      order = omega (arith, rest.1.order);
-      within = λ j le lt. inside j le lt (nat_lt j k) refl;
-      before = rest.1.before;
-    })
+    cases true test rest = (
+      rest.0,
+      record {
+        order = omega (arith, rest.1.order);
+        within = λ j le lt. inside j le lt (nat_lt j k) refl;
+        before = rest.1.before;
+      },
+    )
       where
         inside : (j : ℕ) → rest.0 ≤ j → j < suc k → (b : Bool) → nat_lt j k ≡ b → held j ≡ true
         inside j le lt true below = rest.1.within j le (grind (arith, nat_tests, below))
@@ -68,11 +70,14 @@ ends held n below (suc steps) k near = cases (held (k + 1)) refl (ends held n be
   where
     cases : (b : Bool) → held (k + 1) ≡ b → (last : ℕ) × IsLastFrom held (k + 1) last → (last : ℕ) × IsLastFrom held k last
     cases false test rest = (k, last_alone held k test)
-    cases true test rest = (rest.0, record {
-      order = omega (arith, rest.1.order);
-      within = λ j lt le. inside j lt le (nat_lt (k + 1) j) refl;
-      after = rest.1.after;
-    })
+    cases true test rest = (
+      rest.0,
+      record {
+        order = omega (arith, rest.1.order);
+        within = λ j lt le. inside j lt le (nat_lt (k + 1) j) refl;
+        after = rest.1.after;
+      },
+    )
       where
         inside : (j : ℕ) → k < j → j ≤ rest.0 → (b : Bool) → nat_lt (k + 1) j ≡ b → held j ≡ true
         inside j lt le true past = rest.1.within j (grind (arith, nat_tests, past)) le

@@ -1,10 +1,10 @@
 -- The order of reassembly keys is total, and tells all apart.
 use Rattle.std.proofs.Common.{rules, ◌≡◌, ℕ, Bool, true, false, List, ap, sym, ◌∙◌, refl}
 use Rattle.std.specs.Ordering.{nat_cmp, ordering_then, is_eq}
-use Rattle.std.specs.Cmp.{IsTotalOrder, nat_cmp_total, Equal-is, tied_itself}
+use Rattle.std.specs.Cmp.{IsTotalOrder, Equal-is, tied_itself}
 use Rattle.std.specs.Cmp.Lexicographic.{slice_cmp}
 use Rattle.std.proofs.lemmas.Cmp.{on_total, then_total, nat_list_cmp_total}
-use Rattle.std.proofs.lemmas.Map.Lookups.{CmpEqualImpliesEq, exact_pairs, exact_unsigned, exact_bytes}
+use Rattle.std.proofs.lemmas.Map.Lookups.{CmpEqualImpliesEq, exact_pairs, exact_bytes}
 use Rattle.std.specs.declared.net.socket_addr.SocketAddrV4.{SocketAddrV4}
 use Rattle.someip_tables.specs.Endpoints.{endpoint_cmp}
 use Rattle.someip_tables.specs.EndpointOrder.{endpoints_total, exact_endpoints}

@@ -1,12 +1,11 @@
 -- A part in its room, once a segment was accepted.
-use Rattle.std.proofs.Common.{◌≡◌, ◌≢◌, ℕ, ◌+◌, ◌%◌, ◌<◌, ◌≤◌, ◌==◌, Bool, true, false, ◌&&◌, not, map, nat_lt, nat_le, if◌then◌else◌, length, Option, None, Some, refl, sym, ap, subst, ◌∙◌, arith}
+use Rattle.std.proofs.Common.{◌≡◌, ◌≢◌, ℕ, ◌+◌, ◌%◌, ◌<◌, ◌≤◌, ◌==◌, Bool, true, false, ◌&&◌, not, map, nat_lt, nat_le, if◌then◌else◌, length, Option, None, Some, refl, sym, ap, ◌∙◌, arith}
 use Rattle.std.specs.FinMap.{get, keys}
 use Rattle.std.specs.Option.{is_some}
 use Rattle.std.specs.List.{list_any}
 use Rattle.std.proofs.lemmas.Bool.Decides.{nat_tests}
-use Rattle.std.proofs.lemmas.Bool.{eqb-true, eq-eqb}
+use Rattle.std.proofs.lemmas.Bool.{eqb-true}
 use Rattle.std.proofs.lemmas.Option.{same_Some}
-use Rattle.someip_tp.specs.Parts.{Part}
 use Rattle.someip_tp.specs.Offers.{Offer, placed, conflicts, passes, differ, total_of}
 use Rattle.someip_tp.specs.declared.pool.room.Room.{Room}
 use Rattle.someip_tp.specs.declared.pool.part.RoomPart.TheInside.{Inside}

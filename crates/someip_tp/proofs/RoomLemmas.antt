@@ -5,19 +5,19 @@ use Rattle.std.specs.Option.{is_some, IsSome}
 use Rattle.std.specs.Result.{is_ok, OnOk}
 use Rattle.std.specs.Cmp.{nat_cmp_total}
 use Rattle.std.specs.Ordering.{nat_cmp}
-use Rattle.std.specs.FinMap.{FinMap, get, keys, empty, get-empty, get-retain_keys, same_map, nat_cmp-IsAntisymmetric}
+use Rattle.std.specs.FinMap.{get, keys, empty, get-empty, get-retain_keys, same_map, nat_cmp-IsAntisymmetric}
 use Rattle.std.proofs.lemmas.Bool.{eqb-true, eq-eqb, and_parts}
 use Rattle.std.proofs.lemmas.Bool.Decides.{nat_tests}
 use Rattle.std.proofs.lemmas.List.{length-take-le}
-use Rattle.std.proofs.lemmas.Option.{slice_get_within, slice_get_past, slice_get-get_or}
+use Rattle.std.proofs.lemmas.Option.{slice_get_within, slice_get-get_or}
 use Rattle.someip_tp.specs.Offers.{differ, placed, added}
-use Rattle.someip_tp.specs.Pieces.{byte_at, Agree, IsFront, AreFront, AppendsFront}
+use Rattle.someip_tp.specs.Pieces.{byte_at, Agree, IsFront, AppendsFront}
 use Rattle.someip_tp.specs.declared.pool.block.Block.{Block}
 use Rattle.someip_tp.specs.declared.pool.room.Room.{Room}
-use Rattle.someip_tp.specs.Blocks.{is_held, other_end, AreTied, AreUpTo, IsInterval}
+use Rattle.someip_tp.specs.Blocks.{is_held, other_end, IsInterval}
 use Rattle.someip_tp.specs.Rooms.{held_bytes, Continues, IsConsistent}
-use Rattle.someip_tp.proofs.Placed.{over, get-added, none_differs, agree_where_none_differs}
-use Rattle.someip_tp.proofs.PieceLemmas.{byte_within, byte_from, byte_past, byte_before, byte_inside}
+use Rattle.someip_tp.proofs.Placed.{over, get-added, agree_where_none_differs}
+use Rattle.someip_tp.proofs.PieceLemmas.{byte_within, byte_from, byte_past, byte_before}
 use Rattle.someip_tp.proofs.PartialLemmas.{a_place_passes, no_place_passes}
 use Rattle.someip_tp.proofs.Intervals.{from_start}
 use Rattle.someip_tp.proofs.BlockLemmas.{held_within}
@@ -227,10 +227,10 @@ part_clashes room offset i bytes part is apart = cases (list_any (λ e. differ (
     cases false test =
         let agree = agree_where_none_differs (get (held_bytes room)) offset bytes test in
         absurd (apart (λ place a b held this.
-            let at = byte_within (offset + 16 * i) part place b this in
-            let mine : byte_at offset bytes place ≡ Some b =
-            byte_from offset bytes place b (omega (arith, at.0)) (ap (slice_get bytes) (omega (arith, at.0)) ∙ is (place - (offset + 16 * i)) b at.1) in
-            agree place a b held mine))
+        let at = byte_within (offset + 16 * i) part place b this in
+        let mine : byte_at offset bytes place ≡ Some b =
+        byte_from offset bytes place b (omega (arith, at.0)) (ap (slice_get bytes) (omega (arith, at.0)) ∙ is (place - (offset + 16 * i)) b at.1) in
+        agree place a b held mine))
 
 -- ---- a slice is held
 

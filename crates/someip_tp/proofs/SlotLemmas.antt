@@ -1,12 +1,13 @@
 -- Parts that are taken out of their list, and what it shows of them.
-use Rattle.std.proofs.Common.{◌≡◌, ℕ, zero, suc, ◌+◌, ◌<◌, ◌≤◌, Bool, true, false, cond, not, ◌&&◌, List, [], ◌∷◌, ◌++◌, map, filter, take, drop, length, set, get_or, Option, None, Some, refl, sym, ap, subst, ◌∙◌, arith}
+use Rattle.std.proofs.Common.{◌≡◌, ℕ, zero, suc, ◌+◌, ◌<◌, ◌≤◌, Bool, true, false, cond, not, List, [], ◌∷◌, ◌++◌, filter, take, drop, length, set, get_or, None, Some, refl, sym, ap, subst, ◌∙◌, arith}
 use Rattle.std.specs.Option.{is_none, is_some}
 use Rattle.std.specs.Ordering.{eq_by_cmp}
 use Rattle.std.specs.List.{All}
-use Rattle.std.specs.FinMap.{find}
+use Rattle.std.specs.FinMap.{find, insert, len}
 use Rattle.std.proofs.lemmas.Bool.{and_parts, and_from}
-use Rattle.std.proofs.lemmas.List.{take-map, drop-map, map-append, get_or-map, length-map, take_all, drop_all, append-nil}
+use Rattle.std.proofs.lemmas.List.{take-map, drop-map, map-append, map-set, get_or-map, length-map, take_all, drop_all, append-nil}
 use Rattle.std.proofs.lemmas.List.Elements.{All-append, All-take, All-drop, All-cons, All-nil}
+use Rattle.std.proofs.lemmas.Option.{same_Some}
 use Rattle.someip_tables.specs.Distinct.{are_distinct}
 use Rattle.someip_tables.proofs.Entries as entries
 use Rattle.someip_tp.specs.declared.key.ReassemblyKey.{ReassemblyKey}
@@ -15,9 +16,10 @@ use Rattle.someip_tp.specs.Partials.{Entry}
 use Rattle.someip_tp.specs.RoomParts.{PartInRoom}
 use Rattle.someip_tp.specs.Pools.{entries_of}
 use Rattle.someip_tp.specs.Stores.{StandsAt, parts_of_entries}
-use Rattle.someip_tp.specs.Offers.{message_of, message_at, parts_less, part_under}
-use Rattle.someip_tp.proofs.KeyOrder.{keys_total, exact_keys, same_from_test, test_from_same}
-use Rattle.someip_tp.proofs.StoreLemmas.{stands, message_there, entry_under, parts_less_whole}
+use Rattle.someip_tp.specs.Parts.{Part}
+use Rattle.someip_tp.specs.Offers.{Offer, with_offer, message_of, message_at, parts_less, part_under}
+use Rattle.someip_tp.proofs.KeyOrder.{same_from_test}
+use Rattle.someip_tp.proofs.StoreLemmas.{stands, message_there, entry_under, parts_less_whole, changed_distinct, changed_parts, pushed_distinct, pushed_parts, count_is}
 
 -- ---- all but one
 
@@ -184,3 +186,42 @@ freed key es new i distinct at is = is ∙ (as_without i es ∙ without_key key 
 pub freed_parts : (key : ReassemblyKey) (es new : List Entry) (i : ℕ) → are_distinct key_cmp es ≡ true → StandsAt key es (Some i) → new ≡ take i es ++ drop (i + 1) es
     → is_some (message_at (parts_of_entries es) key) ≡ true → parts_of_entries new ≡ parts_less (parts_of_entries es) key
 freed_parts key es new i distinct at is whole = ap parts_of_entries (freed key es new i distinct at is) ∙ parts_less_whole key es distinct whole
+
+-- ---- a part is changed in its place
+
+pub changed_entries : (ps : List PartInRoom) (i : ℕ) (n : PartInRoom) → entries_of (set ps i n) ≡ set (entries_of ps) i n.entry
+changed_entries ps i n = map-set (λ (p : PartInRoom). p.entry) ps i n
+
+pub distinct_once_changed : (key : ReassemblyKey) (ps : List PartInRoom) (i : ℕ) (p n : PartInRoom) → are_distinct key_cmp (entries_of ps) ≡ true → StandsAt key (entries_of ps) (Some i) → p ≡ get_or ps i p → n.entry.0 ≡ p.entry.0
+    → are_distinct key_cmp (entries_of (set ps i n)) ≡ true
+distinct_once_changed key ps i p n distinct at is same =
+    ap (are_distinct key_cmp) (changed_entries ps i n) ∙ changed_distinct (entries_of ps) i p.entry n.entry distinct at.0 (own_entry key ps i p at is) same
+
+pub parts_once_changed : (key : ReassemblyKey) (now : ℕ) (o : Offer) (ps : List PartInRoom) (i : ℕ) (p n : PartInRoom) → are_distinct key_cmp (entries_of ps) ≡ true → StandsAt key (entries_of ps) (Some i) → p ≡ get_or ps i p
+    → n.entry ≡ (p.entry.0, with_offer p.entry.1 now o)
+    → parts_of_entries (entries_of (set ps i n)) ≡ insert (parts_of_entries (entries_of ps)) key (with_offer (part_under (parts_of_entries (entries_of ps)) key) now o)
+parts_once_changed key now o ps i p n distinct at is new =
+    ap parts_of_entries (changed_entries ps i n) ∙ changed_parts key now o (entries_of ps) i p.entry n.entry distinct at (own_entry key ps i p at is) new
+
+-- ---- a part of a new key
+
+pub pushed_entries : (ps : List PartInRoom) (n : PartInRoom) → entries_of (ps ++ n ∷ []) ≡ entries_of ps ++ n.entry ∷ []
+pushed_entries ps n = map-append (λ (p : PartInRoom). p.entry) ps (n ∷ [])
+
+pub distinct_once_pushed : (key : ReassemblyKey) (ps new : List PartInRoom) (n : PartInRoom) → new ≡ ps ++ n ∷ [] → are_distinct key_cmp (entries_of ps) ≡ true → StandsAt key (entries_of ps) None → n.entry.0 ≡ key
+    → are_distinct key_cmp (entries_of new) ≡ true
+distinct_once_pushed key ps new n is distinct none own =
+    ap (λ xs. are_distinct key_cmp (entries_of xs)) is ∙ (ap (are_distinct key_cmp) (pushed_entries ps n) ∙ pushed_distinct key (entries_of ps) n.entry distinct none own)
+
+pub parts_once_pushed : (key : ReassemblyKey) (part : Part) (ps new : List PartInRoom) (n : PartInRoom) → new ≡ ps ++ n ∷ [] → StandsAt key (entries_of ps) None → n.entry ≡ (key, part)
+    → parts_of_entries (entries_of new) ≡ insert (parts_of_entries (entries_of ps)) key part
+parts_once_pushed key part ps new n is none own =
+    ap (λ xs. parts_of_entries (entries_of xs)) is ∙ (ap parts_of_entries (pushed_entries ps n) ∙ pushed_parts key part (entries_of ps) n.entry none own)
+
+-- ---- how many parts there are
+
+pub part_count : (ps : List PartInRoom) → are_distinct key_cmp (entries_of ps) ≡ true → len (parts_of_entries (entries_of ps)) ≡ length ps
+part_count ps distinct = count_is (entries_of ps) distinct ∙ as_many ps
+
+pub one_of_all : {X : Type 0} (P : X → Type 0) (xs : List X) (n : ℕ) (x : X) → All P xs → n < length xs → Some x ≡ Some (get_or xs n x) → P x
+one_of_all P xs n x all lt is = subst P (sym (same_Some x (get_or xs n x) is)) (all n x lt)

@@ -127,7 +127,12 @@ pub(crate) fn total_of(offset: u32, more: bool, bytes: &[u8]) -> Option<usize>
 }
 
 /// The total once a segment was accepted: the one that it tells, or else the one before.
-pub(crate) fn total_with(known: Option<usize>, offset: u32, more: bool, bytes: &[u8]) -> Option<usize>
+pub(crate) fn total_with(
+    known: Option<usize>,
+    offset: u32,
+    more: bool,
+    bytes: &[u8],
+) -> Option<usize>
     ensures { result ≡ (if more then known else Some (offset + length bytes.now)) }
 {
     if more {

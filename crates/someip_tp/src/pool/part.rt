@@ -96,8 +96,10 @@ impl RoomPart {
         requires whole_blocks { more ≡ true → length bytes.now % 16 ≡ 0 }
         requires within { offset + length bytes.now ≤ self.old.limit }
         requires fits { conflicts self.old.entry.1 (offer self.old.entry.0 offset more bytes.now) ≡ false }
-        ensures entry { self.new.entry ≡ (self.old.entry.0,
-            with_offer self.old.entry.1 now (offer self.old.entry.0 offset more bytes.now)) }
+        ensures entry { self.new.entry ≡ (
+          self.old.entry.0,
+          with_offer self.old.entry.1 now (offer self.old.entry.0 offset more bytes.now),
+        ) }
         ensures limit { self.new.limit ≡ self.old.limit }
     {
         self.room.hold(offset, bytes);

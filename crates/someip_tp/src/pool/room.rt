@@ -39,6 +39,7 @@ impl Room {
     pub(crate) fn reserve(alloc: Global, limit: usize) -> Result<Room, AllocError>
         ensures consistent { IfOk result IsConsistent }
         ensures empty { IfOk result (λ room. held_bytes room ≡ map.empty) }
+        ensures end { IfOk result (λ room. room.end ≡ 0) }
         ensures limit { IfOk result (λ room. room.limit ≡ limit) }
     {
         let blocks = limit.div_ceil(32) * 2;
@@ -132,7 +133,12 @@ impl Room {
         }
         let to = offset as usize + bytes.len();
         write_at(&mut self.bytes, offset as usize, bytes);
-        hold_blocks(&mut self.blocks, self.message, offset / 16, to.div_ceil(16) as u32);
+        hold_blocks(
+            &mut self.blocks,
+            self.message,
+            offset / 16,
+            to.div_ceil(16) as u32,
+        );
         self.end = self.end.max(to);
     }
 

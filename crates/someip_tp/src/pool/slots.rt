@@ -159,7 +159,11 @@ impl Slots {
     }
 
     /// Takes the message of a key out, if it is whole.
-    pub(crate) fn take(&mut self, key: &ReassemblyKey, bytes: &mut Vec<u8>) -> Result<bool, AllocError>
+    pub(crate) fn take(
+        &mut self,
+        key: &ReassemblyKey,
+        bytes: &mut Vec<u8>,
+    ) -> Result<bool, AllocError>
         requires { ArePooled self.old }
         ensures pooled { ArePooled self.new }
         ensures taken { IfOk result (λ taken.
@@ -204,8 +208,10 @@ fn accept(part: &mut RoomPart, arrived: Arrived<'_>) -> Offered
     requires whole_blocks { is_unaligned (segment_arrived arrived) ≡ false }
     requires within { is_too_long part.old.limit (segment_arrived arrived) ≡ false }
     requires fits { conflicts part.old.entry.1 (segment_arrived arrived) ≡ false }
-    ensures entry { part.new.entry ≡ (part.old.entry.0,
-        with_offer part.old.entry.1 arrived.entry.now (segment_arrived arrived.entry)) }
+    ensures entry { part.new.entry ≡ (
+      part.old.entry.0,
+      with_offer part.old.entry.1 arrived.entry.now (segment_arrived arrived.entry),
+    ) }
     ensures limit { part.new.limit ≡ part.old.limit }
     ensures offered { result ≡ part_or_whole (with_offer part.old.entry.1 arrived.entry.now
         (segment_arrived arrived.entry)) }

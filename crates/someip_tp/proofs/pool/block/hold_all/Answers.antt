@@ -1,4 +1,4 @@
-use Rattle.std.proofs.Common.{sym, ap, ◌∙◌, ◌||◌, ◌==◌, arith}
+use Rattle.std.proofs.Common.{ap, ◌∙◌, ◌||◌, ◌==◌, arith}
 use Rattle.someip_tp.proofs.BlockLemmas.{one_more, all_done}
 use Rattle.someip_tp.proofs.pool.block.hold_all.Goals as goal
 

@@ -1,4 +1,4 @@
-use Rattle.std.proofs.Common.{◌≡◌, sym, ap, subst, ◌∙◌, ◌++◌, ◌-◌, ◌||◌, ◌&&◌, nat_le, nat_lt, length, List, replicate, arith}
+use Rattle.std.proofs.Common.{sym, ap, subst, ◌∙◌, ◌||◌, ◌&&◌, nat_le, nat_lt, length, arith}
 use Rattle.someip_tp.specs.Blocks.{is_held, other_end, AreTied, AreUpTo}
 use Rattle.someip_tp.proofs.BlockLemmas.{blank_held, blank_other, blank_up_to, tied_alike, whole_again}
 use Rattle.someip_tp.proofs.pool.room.hold_blocks.Goals as goal

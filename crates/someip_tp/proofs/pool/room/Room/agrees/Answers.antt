@@ -7,12 +7,12 @@ use Rattle.someip_tp.proofs.pool.room.Room.agrees.Goals.{then-start-self-via-the
 
 pub returns-then-start-self : goal.returns-then-start-self
 returns-then-start-self c = elim c.then-start-self.branch [
-  then-start-self-via-then-start-self w ↦ (λ _. agrees_with_none c.args.self.now c.args.start c.args.bytes.now c.requires.aligned c.requires.short (λ _. w.if-start-self.true), λ _. refl)
+  | then-start-self-via-then-start-self w ↦ (λ _. agrees_with_none c.args.self.now c.args.start c.args.bytes.now c.requires.aligned c.requires.short (λ _. w.if-start-self.true), λ _. refl)
   | then-start-self-via-else-start-self+then-not-is_held w ↦ (
     λ _. agrees_with_none c.args.self.now c.args.start c.args.bytes.now c.requires.aligned c.requires.short (λ block. absurd (
-      let off = ap (λ bs. is_held c.args.self.now.message bs (c.args.start / 16)) w.deref.ensures.value in
-      let found = w.is_held.ensures in
-      let none = w.if-not-is_held.true in cc)),
+        let off = ap (λ bs. is_held c.args.self.now.message bs (c.args.start / 16)) w.deref.ensures.value in
+        let found = w.is_held.ensures in
+        let none = w.if-not-is_held.true in cc)),
     λ _. refl,
   )
 ]

@@ -1,4 +1,4 @@
-use Rattle.std.proofs.Common.{◌≡◌, sym, ap, ◌∙◌, ◌++◌, take, arith}
+use Rattle.std.proofs.Common.{sym, take, arith}
 use Rattle.std.proofs.lemmas.List.{length-take-le}
 use Rattle.someip_tp.specs.Pieces.{AppendsFront}
 use Rattle.someip_tp.specs.Rooms.{held_bytes}

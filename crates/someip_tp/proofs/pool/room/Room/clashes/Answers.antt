@@ -1,4 +1,4 @@
-use Rattle.std.proofs.Common.{sym, ◌∙◌, ◌*◌, ◌-◌, refl, arith}
+use Rattle.std.proofs.Common.{sym, ◌*◌, ◌-◌, arith}
 use Rattle.std.specs.FinMap.{get}
 use Rattle.someip_tp.specs.Rooms.{held_bytes}
 use Rattle.someip_tp.proofs.Placed.{none_differs}

@@ -1,4 +1,4 @@
-use Rattle.std.proofs.Common.{◌≡◌, true, sym, ap, ◌∙◌, ◌+◌, ◌*◌, arith}
+use Rattle.std.proofs.Common.{◌≡◌, true, sym, ap, ◌∙◌, arith}
 use Rattle.someip_tp.specs.Blocks.{is_held, other_end}
 use Rattle.someip_tp.proofs.BlockLemmas.{told_as, held_within}
 use Rattle.someip_tp.proofs.RoomLemmas.{front_is, no_front}

@@ -1,4 +1,4 @@
-use Rattle.std.proofs.Common.{◌≡◌, sym, ap, ◌∙◌, ◌+◌, ◌<◌, ◌/◌, ◌&&◌, ◌||◌, nat_le, nat_lt, length, ℕ, arith}
+use Rattle.std.proofs.Common.{◌≡◌, ap, ◌∙◌, ◌+◌, ◌<◌, ◌/◌, ◌&&◌, ◌||◌, nat_le, nat_lt, length, ℕ, arith}
 use Rattle.someip_tp.specs.Blocks.{is_held}
 use Rattle.someip_tp.proofs.RoomLemmas.{holds}
 use Rattle.someip_tp.proofs.pool.room.Room.hold.Goals as goal

@@ -3,7 +3,7 @@ use Rattle.std.specs.List.{All}
 use Rattle.someip_tables.specs.Distinct.{are_distinct}
 use Rattle.someip_tp.specs.Keys.{key_cmp}
 use Rattle.someip_tp.specs.RoomParts.{PartInRoom}
-use Rattle.someip_tp.specs.Pools.{IsFree, ArePooled, entries_in}
+use Rattle.someip_tp.specs.Pools.{IsFree, entries_in}
 use Rattle.someip_tp.proofs.SlotLemmas.{as_without, entries_left, distinct_without, all_without, all_pushed}
 use Rattle.someip_tp.proofs.pool.slots.Slots.free_at.Goals as goal
 

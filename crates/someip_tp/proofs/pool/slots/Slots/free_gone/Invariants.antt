@@ -1,4 +1,4 @@
-use Rattle.std.proofs.Common.{◌≡◌, ◌≤◌, ℕ, not, length}
+use Rattle.std.proofs.Common.{◌≡◌, ◌≤◌, not, length}
 use Rattle.someip_tp.specs.Parts.{is_gone}
 use Rattle.someip_tp.specs.Pools.{ArePooled, SameBounds, entries_in}
 use Rattle.someip_tp.proofs.SlotLemmas.{kept_from}

@@ -1,4 +1,4 @@
-use Rattle.std.proofs.Common.{◌≡◌, sym, ap, subst, ◌∙◌, ◌++◌, [], unwrap_or, true, false, None, Some}
+use Rattle.std.proofs.Common.{◌≡◌, sym, ap, subst, ◌∙◌, ◌++◌, [], unwrap_or, true, None, Some}
 use Rattle.std.specs.Option.{is_some}
 use Rattle.someip_tp.specs.Offers.{message_at}
 use Rattle.someip_tp.specs.Stores.{StandsAt, parts_of_entries}

@@ -1,0 +1,8 @@
+use Rattle.std.proofs.Common.{sym, subst}
+use Rattle.someip_tp.specs.Parts.{NoneAfter}
+use Rattle.someip_tp.specs.Stores.{parts_of_entries}
+use Rattle.someip_tp.proofs.MomentLemmas.{none_in_empty}
+use Rattle.someip_tp.proofs.pool.interval_pool.IntervalPoolReassembly.make.Goals as goal
+
+pub returns-clause-moments : goal.returns-clause-moments
+returns-clause-moments c = λ at. subst (λ items. NoneAfter at (parts_of_entries items)) (sym c.in_ok-reserve.ensures.empty) (none_in_empty at)

@@ -1,0 +1,48 @@
+use Rattle.std.proofs.Common.{◌≡◌, sym, ap, ◌∙◌, Ok, false, true, arith}
+use Rattle.std.proofs.lemmas.List.{length-set}
+use Rattle.std.proofs.lemmas.List.Elements.{All-set}
+use Rattle.someip_tp.specs.RoomParts.{PartInRoom}
+use Rattle.someip_tp.specs.Stores.{segment_arrived, parts_of_entries}
+use Rattle.someip_tp.specs.Offers.{conflicts, part_or_whole, with_offer, part_under}
+use Rattle.someip_tp.specs.Pools.{entries_of}
+use Rattle.someip_tp.proofs.StoreLemmas.{judged_conflict, judged_fit, part_there, removed_parts}
+use Rattle.someip_tp.proofs.SlotLemmas.{as_many, part_in, freed, distinct_once_changed, parts_once_changed}
+use Rattle.someip_tp.proofs.pool.slots.Slots.offer_at.Goals as goal
+
+pub returns-then-contradicts-clause-offers : goal.returns-then-contradicts-clause-offers
+returns-then-contradicts-clause-offers c =
+    let a = c.args.arrived in
+    let ps = c.args.self.now.taken.items in
+    let es = entries_of ps in
+    let clash : conflicts (part_under (parts_of_entries es) a.key) (segment_arrived a) ≡ true =
+    ap (λ p. conflicts p (segment_arrived a)) (part_in a.key ps c.args.i c.index.result.now c.requires.pooled.distinct c.requires.there c.index.ensures) ∙ (sym c.contradicts.ensures ∙ c.if-contradicts.true) in (
+      judged_conflict c.args.self.now.count a.now (segment_arrived a) (parts_of_entries es) _ (part_there a.key es c.args.i c.index.result.now.entry c.requires.pooled.distinct c.requires.there) clash,
+      ap parts_of_entries (freed a.key es _ c.args.i c.requires.pooled.distinct c.requires.there c.free_at.ensures.entries) ∙ removed_parts a.key es c.requires.pooled.distinct,
+    )
+
+pub returns-clause-pooled : goal.returns-clause-pooled
+returns-clause-pooled c =
+    let old = c.args.self.now in
+    let n = c.accept-offered.new.part in
+    record {
+      distinct = distinct_once_changed c.args.arrived.key old.taken.items c.args.i c.index_mut.result.now n c.requires.pooled.distinct c.requires.there c.index_mut.ensures.value (ap (λ e. e.0) c.accept-offered.ensures.entry);
+      rooms = All-set (λ (p : PartInRoom). p.limit ≡ old.limit) old.taken.items c.args.i n
+          (c.accept-offered.ensures.limit ∙ (ap (λ (p : PartInRoom). p.limit) c.index_mut.ensures.value ∙ c.requires.pooled.rooms c.args.i c.index_mut.result.now (omega (arith, c.requires.there.0, as_many old.taken.items)))) c.requires.pooled.rooms;
+      free = c.requires.pooled.free;
+      count = omega (arith, length-set old.taken.items c.args.i n, c.requires.pooled.count);
+      room_of_taken = c.requires.pooled.room_of_taken;
+      room_of_free = c.requires.pooled.room_of_free;
+    }
+
+pub returns-clause-offers : goal.returns-clause-offers
+returns-clause-offers c =
+    let a = c.args.arrived in
+    let ps = c.args.self.now.taken.items in
+    let es = entries_of ps in
+    let under = part_in a.key ps c.args.i c.index_mut.result.now c.requires.pooled.distinct c.requires.there c.index_mut.ensures.value in
+    let fits : conflicts (part_under (parts_of_entries es) a.key) (segment_arrived a) ≡ false =
+    ap (λ p. conflicts p (segment_arrived a)) (part_in a.key ps c.args.i c.index.result.now c.requires.pooled.distinct c.requires.there c.index.ensures) ∙ (sym c.contradicts.ensures ∙ c.if-contradicts.false) in (
+      ap Ok (c.accept-offered.ensures.offered ∙ ap (λ p. part_or_whole (with_offer p a.now (segment_arrived a))) (sym under))
+          ∙ judged_fit c.args.self.now.count a.now (segment_arrived a) (parts_of_entries es) _ (part_there a.key es c.args.i c.index.result.now.entry c.requires.pooled.distinct c.requires.there) fits,
+      parts_once_changed a.key a.now (segment_arrived a) ps c.args.i c.index_mut.result.now c.accept-offered.new.part c.requires.pooled.distinct c.requires.there c.index_mut.ensures.value c.accept-offered.ensures.entry,
+    )
