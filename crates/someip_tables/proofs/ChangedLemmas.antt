@@ -1,13 +1,15 @@
 -- Maps with their values changed.
-use Rattle.std.proofs.Common.{◌≡◌, Bool, true, false, cond, List, [], ◌∷◌, map, Option, None, Some, refl, ap, sym, subst, ◌∙◌}
+use Rattle.std.proofs.Common.{◌≡◌, ℕ, zero, suc, ◌+◌, ◌<◌, length, get_or, take, arith, Bool, true, false, cond, ◌||◌, List, [], ◌∷◌, map, Option, None, Some, refl, ap, sym, subst, ◌∙◌}
 use Rattle.std.specs.Option.{is_some, option_map}
-use Rattle.std.specs.List.{list_any}
+use Rattle.std.specs.List.{list_any, IsDistinct}
 use Rattle.std.specs.declared.cmp.Ordering.{Ordering}
 use Rattle.std.specs.Ordering.{eq_by_cmp}
-use Rattle.std.specs.Cmp.{IsTotalOrder}
+use Rattle.std.specs.Cmp.{IsTotalOrder, eq_by_cmp_equiv}
 use Rattle.std.specs.Map.Calls.{RetainsPairs}
-use Rattle.std.specs.FinMap.{FinMap, IsAntisymmetric, find, get, keys, entries, get-entries, get-from_entries, same_map, contains_key-keys}
-use Rattle.someip_tables.specs.Changed.{each_changed}
+use Rattle.std.specs.FinMap.{FinMap, IsAntisymmetric, find, get, insert, keys, entries, get-entries, get-from_entries, get-insert, same_map, contains_key-keys}
+use Rattle.std.proofs.lemmas.List.Folds.{list_any_more}
+use Rattle.std.proofs.lemmas.Map.Keys.{IsDistinct-tail, apart_from_distinct}
+use Rattle.someip_tables.specs.Changed.{each_changed, changed_at}
 use Rattle.someip_tables.specs.Retained.{kept_if, retain}
 use Rattle.someip_tables.specs.Tables.{map_of}
 use Rattle.someip_tables.proofs.Entries.{same_by_test, get-retain}
@@ -68,3 +70,68 @@ module _ {K X : Type 0} {R : K → K → Ordering} (o : IsTotalOrder R) (exact :
           ap (list_any (eq_by_cmp R q)) is ∙ sym (contains_key-keys (retain m test) q)
           ∙ ap is_some (get-retain o exact m test q ∙ ap (kept_if (test q)) found)
           ∙ told (test q x) x
+
+  -- ---- of one key
+
+  plain : (v : Option X) → v ≡ option_map (λ y. y) v
+  plain None = refl
+  plain (Some y) = refl
+
+  -- a value is put in place of one that it is made of
+  pub insert-changed : (f : X → X) (m : FinMap R X) (k : K) (x : X) → get m k ≡ Some x → insert m k (f x) ≡ changed_at k f m
+  insert-changed f m k x some =
+      same_map o exact _ _ (λ q. get-insert o m k (f x) q ∙ cases q (eq_by_cmp R q k) refl ∙ sym (get-changed (λ q y. cond (eq_by_cmp R q k) (f y) y) m q))
+    where
+      cases : (q : K) (t : Bool) → eq_by_cmp R q k ≡ t → cond t (Some (f x)) (get m q) ≡ option_map (λ y. cond t (f y) y) (get m q)
+      cases q true t = sym (ap (option_map f) (ap (get m) (same_by_test exact q k t) ∙ some))
+      cases q false t = plain (get m q)
+
+  -- a key without a value
+  pub absent-changed : (f : X → X) (m : FinMap R X) (k : K) → get m k ≡ None → m ≡ changed_at k f m
+  absent-changed f m k none =
+      same_map o exact _ _ (λ q. cases q (eq_by_cmp R q k) refl ∙ sym (get-changed (λ q y. cond (eq_by_cmp R q k) (f y) y) m q))
+    where
+      cases : (q : K) (t : Bool) → eq_by_cmp R q k ≡ t → get m q ≡ option_map (λ y. cond t (f y) y) (get m q)
+      cases q true t =
+          let gone : get m q ≡ None = ap (get m) (same_by_test exact q k t) ∙ none in
+          gone ∙ sym (ap (option_map f) gone)
+      cases q false t = plain (get m q)
+
+  -- one key after others
+  pub changed_more : (f : K → X → X) (m : FinMap R X) (ks : List K) (k : K) → list_any (eq_by_cmp R k) ks ≡ false
+      → changed_at k (f k) (each_changed (λ q x. cond (list_any (eq_by_cmp R q) ks) (f q x) x) m) ≡ each_changed (λ q x. cond (list_any (eq_by_cmp R q) ks || eq_by_cmp R q k) (f q x) x) m
+  changed_more f m ks k new =
+      same_map o exact _ _ (λ q.
+      get-changed (λ q y. cond (eq_by_cmp R q k) (f k y) y) (each_changed (λ q x. cond (list_any (eq_by_cmp R q) ks) (f q x) x) m) q
+      ∙ ap (option_map (λ y. cond (eq_by_cmp R q k) (f k y) y)) (get-changed (λ q x. cond (list_any (eq_by_cmp R q) ks) (f q x) x) m q)
+      ∙ cases q (eq_by_cmp R q k) (get m q) refl
+      ∙ sym (get-changed (λ q x. cond (list_any (eq_by_cmp R q) ks || eq_by_cmp R q k) (f q x) x) m q))
+    where
+      or_none : (b : Bool) → b ≡ (b || false)
+      or_none true = refl
+      or_none false = refl
+
+      cases : (q : K) (t : Bool) (v : Option X) → eq_by_cmp R q k ≡ t → option_map (λ y. cond t (f k y) y) (option_map (λ x. cond (list_any (eq_by_cmp R q) ks) (f q x) x) v) ≡ option_map (λ x. cond (list_any (eq_by_cmp R q) ks || t) (f q x) x) v
+      cases q t None is = refl
+      cases q true (Some x) is =
+          let same : q ≡ k = same_by_test exact q k is in
+          let other : list_any (eq_by_cmp R q) ks ≡ false = ap (λ p. list_any (eq_by_cmp R p) ks) same ∙ new in
+          rw other (ap (λ p. Some (f p x)) (sym same))
+      cases q false (Some x) is = ap (λ b. Some (cond b (f q x) x)) (or_none (list_any (eq_by_cmp R q) ks))
+
+  pub changed_none : (f : K → X → X) (m : FinMap R X) → m ≡ each_changed (λ q x. cond (list_any (eq_by_cmp R q) []) (f q x) x) m
+  changed_none f m = same_map o exact _ _ (λ q. plain (get m q) ∙ sym (get-changed (λ q x. cond (list_any (eq_by_cmp R q) []) (f q x) x) m q))
+
+  -- a loop's step over keys that differ
+  pub change_next : (f : K → X → X) (m : FinMap R X) (ks : List K) (i : ℕ) (k : K) → IsDistinct (eq_by_cmp R) ks → i < length ks → k ≡ get_or ks i k
+      → changed_at k (f k) (each_changed (λ q x. cond (list_any (eq_by_cmp R q) (take i ks)) (f q x) x) m) ≡ each_changed (λ q x. cond (list_any (eq_by_cmp R q) (take (i + 1) ks)) (f q x) x) m
+  change_next f m ks i k apart lt is =
+      changed_more f m (take i ks) k (ap (λ d. list_any (eq_by_cmp R d) (take i ks)) is ∙ not_before ks i k apart lt)
+      ∙ changed_alike _ _ m (λ q x found. ap (λ b. cond b (f q x) x) (ap (λ d. list_any (eq_by_cmp R q) (take i ks) || eq_by_cmp R q d) is ∙ sym (list_any_more (eq_by_cmp R q) ks i k lt)))
+    where
+      not_before : (ls : List K) (i : ℕ) (d : K) → IsDistinct (eq_by_cmp R) ls → i < length ls → list_any (eq_by_cmp R (get_or ls i d)) (take i ls) ≡ false
+      not_before [] i d apart lt = absurd (omega (arith, lt))
+      not_before (l ∷ ls) zero d apart lt = refl
+      not_before (l ∷ ls) (suc i) d apart lt =
+          ap (λ b. b || list_any (eq_by_cmp R (get_or ls i d)) (take i ls)) ((eq_by_cmp_equiv o).symm (get_or ls i d) l ∙ apart_from_distinct (eq_by_cmp R) (l ∷ ls) 0 (suc i) d apart (omega arith) lt)
+          ∙ not_before ls i d (IsDistinct-tail (eq_by_cmp R) l ls apart) (omega (arith, lt))

@@ -10,3 +10,7 @@ pub mod ExpiredKeys
 pub mod SortedEntries
 pub mod ChangedLemmas
 pub mod WaitLemmas
+pub mod Ranked
+pub mod AgendaLemmas
+pub mod AgendaKeys
+pub mod AgendaFills

@@ -9,4 +9,5 @@ pub mod EndpointOrder
 pub mod Tables
 pub mod Lastings
 pub mod Dues
+pub mod Agendas
 pub mod Examples

@@ -8,6 +8,8 @@
 //! - [`laws`]: what the definitions behind the contracts promise, whatever body keeps them.
 #![tactic(auto)]
 
+mod agenda;
+mod awaited;
 mod deadline;
 mod deadline_map;
 mod due;

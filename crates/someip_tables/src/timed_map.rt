@@ -10,7 +10,10 @@ ghost use Rattle.someip_tables.specs.Retained.{retain};
 ghost use Rattle.someip_tables.specs.Tables.{map_of, AnswersPairAs};
 ghost use Rattle.someip_tables.specs.Waits.{due_by, is_due_by};
 
-use crate::key::{Key, is_same_key};
+use crate::agenda::{due_keys, has_come};
+use crate::awaited::{change_all, change_those, has, put, renew};
+use crate::due::Due;
+use crate::key::Key;
 use crate::moment::Moment;
 use crate::waits::Waits;
 use std::alloc::{AllocError, Global};
@@ -23,14 +26,22 @@ use std::marker::Model;
 #[derive(Drop)]
 pub struct TimedMap<K: Key, V: Waits> {
     held: BTreeMap<K, V>,
+    dues: Vec<Due<K>>,
 }
 
 impl<K: Key, V: Waits> Model for TimedMap<K, V> {
-    ghost use Rattle.std.specs.Prelude.{List};
+    ghost use Rattle.std.specs.Prelude.{List, ◌≤◌};
+    ghost use Rattle.std.specs.BTreeMap.{btree_map_len};
+    ghost use Rattle.std.specs.Vec.{vec_capacity};
+    ghost use Rattle.someip_tables.specs.Agendas.{IsAgenda};
+    ghost use Rattle.someip_tables.specs.Tables.{map_of};
 
     ghost Value = { List (K × V) };
 
     ghost view = { λ m. m.held.entries };
+
+    ghost invariant = { λ m. IsAgenda V.moment m.dues.items (map_of K.cmp m.held.entries)
+        × (btree_map_len m.held ≤ vec_capacity m.dues) };
 }
 
 impl<K: Key, V: Waits> TimedMap<K, V> {
@@ -40,6 +51,7 @@ impl<K: Key, V: Waits> TimedMap<K, V> {
     {
         TimedMap {
             held: BTreeMap::new(alloc),
+            dues: Vec::new(alloc),
         }
     }
 
@@ -48,6 +60,7 @@ impl<K: Key, V: Waits> TimedMap<K, V> {
         ensures { map_of K.cmp self.new ≡ finite.empty }
     {
         self.held.clear();
+        self.dues.clear();
     }
 
     /// The entries, for reading.
@@ -72,10 +85,7 @@ impl<K: Key, V: Waits> TimedMap<K, V> {
         ensures err { OnErr result (map_of K.cmp self.new ≡ map_of K.cmp self.old) }
         ensures grows { OnErr result (finite.get (map_of K.cmp self.old) key ≡ None) }
     {
-        match self.held.insert(key, value) {
-            Ok(_) => Ok(()),
-            Err(_) => Err(AllocError),
-        }
+        put(&mut self.held, &mut self.dues, key, value)
     }
 
     /// Puts a value in place of that of its key; a key that has none is passed over. Says whether it had
@@ -86,10 +96,10 @@ impl<K: Key, V: Waits> TimedMap<K, V> {
             then finite.insert (map_of K.cmp self.old) key value
             else map_of K.cmp self.old) }
     {
-        if !self.held.contains_key(&key) {
+        if !has(&self.held, &key) {
             return false;
         }
-        let _ = self.held.insert(key, value);
+        renew(&mut self.held, &mut self.dues, key, value);
         true
     }
 
@@ -97,7 +107,7 @@ impl<K: Key, V: Waits> TimedMap<K, V> {
     pub fn is_due(&self, now: Moment) -> bool
         ensures { IsTrue result ↔ (due_by V.moment now (map_of K.cmp self.now) ≢ finite.empty) }
     {
-        self.held.iter().any(|(_, value)| is_due(value, now))
+        has_come(&self.dues, now)
     }
 
     /// The keys of the values whose moment has come, by rising key. It looks at these alone, and takes
@@ -107,7 +117,7 @@ impl<K: Key, V: Waits> TimedMap<K, V> {
             (λ keys. keys.items ≡ finite.keys (due_by V.moment now (map_of K.cmp self.now))) }
         ensures grows { OnErr result (due_by V.moment now (map_of K.cmp self.now) ≢ finite.empty) }
     {
-        due_keys(&self.held, alloc, now)
+        due_keys(&self.dues, alloc, now)
     }
 
     /// Changes each value by its key and itself. It takes no memory.
@@ -116,7 +126,7 @@ impl<K: Key, V: Waits> TimedMap<K, V> {
         ensures { (f : K → V → V) → AnswersPairAs F.Fn change f
             → map_of K.cmp self.new ≡ each_changed f (map_of K.cmp self.old) }
     {
-        change_each(&mut self.held, change);
+        change_all(&mut self.held, &mut self.dues, change);
     }
 
     /// Changes the values of these keys by their key and themselves. It looks at these alone, and takes
@@ -128,61 +138,6 @@ impl<K: Key, V: Waits> TimedMap<K, V> {
             → map_of K.cmp self.new
             ≡ each_changed (λ k v. if test k v then f k v else v) (map_of K.cmp self.old) }
     {
-        change_each(&mut self.held, |key, value| {
-            if is_among(keys, key) {
-                change(key, value)
-            } else {
-                *value
-            }
-        });
+        change_those(&mut self.held, &mut self.dues, keys, change);
     }
-}
-
-/// Whether a value's moment has come.
-fn is_due<V: Waits>(value: &V, now: Moment) -> bool
-    ensures { result ≡ is_due_by now (V.moment value.now) }
-{
-    match value.waits_for() {
-        Some(at) => at <= now.as_millis(),
-        None => false,
-    }
-}
-
-/// Whether a key is among some.
-fn is_among<K: Key>(keys: &[K], key: &K) -> bool
-    ensures { result ≡ list_any (eq_by_cmp K.cmp key.now) keys.now }
-{
-    keys.iter().any(|other| is_same_key(key, other))
-}
-
-/// The keys of the values whose moment has come.
-fn due_keys<K: Key, V: Waits>(
-    held: &BTreeMap<K, V>,
-    alloc: Global,
-    now: Moment,
-) -> Result<Vec<K>, AllocError>
-    ensures due { IfOk result
-        (λ keys. keys.items ≡ finite.keys (due_by V.moment now (map_of K.cmp held.now.entries))) }
-    ensures grows { OnErr result
-        (due_by V.moment now (map_of K.cmp held.now.entries) ≢ finite.empty) }
-{
-    if !held.iter().any(|(_, value)| is_due(value, now)) {
-        return Ok(Vec::new(alloc));
-    }
-    held.iter()
-        .filter(|(_, value)| is_due(*value, now))
-        .map(|(key, _)| *key)
-        .collect(alloc)
-}
-
-/// Changes each value by its key and itself.
-fn change_each<K: Key, V: Waits, F: Fn(&K, &V) -> V + Drop>(held: &mut BTreeMap<K, V>, change: F)
-    requires { F.IsAlwaysCallable change }
-    ensures { (f : K → V → V) → AnswersPairAs F.Fn change f
-        → map_of K.cmp held.new.entries ≡ each_changed f (map_of K.cmp held.old.entries) }
-{
-    held.retain(|key, value| {
-        *value = change(key, value);
-        true
-    });
 }
