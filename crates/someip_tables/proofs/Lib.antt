@@ -7,3 +7,10 @@ pub mod DueLemmas
 pub mod Expiry
 pub mod RetainLemmas
 pub mod ExpiredKeys
+pub mod SortedEntries
+pub mod ChangedLemmas
+pub mod WaitLemmas
+pub mod Ranked
+pub mod AgendaLemmas
+pub mod AgendaKeys
+pub mod AgendaFills

@@ -59,10 +59,14 @@ module _ {X : Type 0} {R : X → X → Ordering} (o : IsTotalOrder R) (exact : I
       get-from_sorted R (marked xs) q left ∙ find-marked R q xs ∙ ap (λ b. cond b (Some tt) None) (same q) ∙ sym (get-from_sorted R (marked ys) q right ∙ find-marked R q ys)) in
       sym (keys-marked xs) ∙ ap (map (λ e. e.0)) (sym (entries-from_sorted R (marked xs) left)) ∙ ap keys maps ∙ ap (map (λ e. e.0)) (entries-from_sorted R (marked ys) right) ∙ keys-marked ys
 
-  -- a set with the keys of a map lists them as the map does
+  -- a rising list with the keys of a map lists them as the map does
+  pub keys_of_list : {V : Type 0} (m : FinMap R V) (ks : List X) → IsStrictlySortedBy R ks → ((q : X) → list_any (eq_by_cmp R q) ks ≡ is_some (get m q)) → ks ≡ keys m
+  keys_of_list m ks rises same =
+      rising_same ks (keys m) (sorted-marked R ks rises) (sorted-keys R (entries m) (true_from (entries_sorted m))) (λ q. same q ∙ contains_key-keys m q)
+
+  -- and so does a set
   pub keys_of_set : {V : Type 0} (m : FinMap R V) (n : BTreeSet X) → IsStrictlySortedBy R n.keys → ((q : X) → list_any (eq_by_cmp R q) n.keys ≡ is_some (get m q)) → n.keys ≡ keys m
-  keys_of_set m n rises same =
-      rising_same n.keys (keys m) (sorted-marked R n.keys rises) (sorted-keys R (entries m) (true_from (entries_sorted m))) (λ q. same q ∙ contains_key-keys m q)
+  keys_of_set m n rises same = keys_of_list m n.keys rises same
 
   -- what is collected into an ordered set
   pub collected : (xs : List X) (n : BTreeSet X) → IsFromIterResult R xs n → n.keys ≡ sorted_set R xs
@@ -99,6 +103,10 @@ module _ {X : Type 0} {R : X → X → Ordering} (o : IsTotalOrder R) (exact : I
   -- and rises
   pub sorted_set-rises : (xs : List X) → IsStrictlySortedBy R (sorted_set R xs)
   sorted_set-rises xs = rising-keys (entries (from_entries {R = R} (marked xs))) (true_from (entries_sorted (from_entries {R = R} (marked xs))))
+
+  -- the keys of a map rise
+  pub keys_rise : {V : Type 0} (m : FinMap R V) → IsStrictlySortedBy R (keys m)
+  keys_rise m = rising-keys (entries m) (true_from (entries_sorted m))
 
   -- no other list does
   pub sorted_set-only : (xs ys : List X) → IsStrictlySortedBy R ys → ((q : X) → list_any (eq_by_cmp R q) ys ≡ list_any (eq_by_cmp R q) xs) → ys ≡ sorted_set R xs

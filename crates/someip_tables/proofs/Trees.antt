@@ -20,7 +20,7 @@ use lib.Dec.{T}
 use Rattle.someip_tables.specs.Tables.{map_of}
 use Rattle.someip_tables.proofs.Entries.{same_by_test, own_test}
 
-find-lookup : {K X : Type 0} (R : K → K → Ordering) (q : K) (es : List (K × X)) → find R q es ≡ lookup (is_at (R q)) es
+pub find-lookup : {K X : Type 0} (R : K → K → Ordering) (q : K) (es : List (K × X)) → find R q es ≡ lookup (is_at (R q)) es
 find-lookup R q [] = refl
 find-lookup R q (e ∷ es) = ap (λ v. cond (eq_by_cmp R q e.0) (Some e.1) v) (find-lookup R q es)
 

@@ -1,5 +1,7 @@
 pub mod Deadlines
 pub mod Retained
+pub mod Changed
+pub mod Waits
 pub mod Distinct
 pub mod SortedSet
 pub mod Endpoints
@@ -7,4 +9,5 @@ pub mod EndpointOrder
 pub mod Tables
 pub mod Lastings
 pub mod Dues
+pub mod Agendas
 pub mod Examples

@@ -1,4 +1,4 @@
-use Rattle.std.proofs.Common.{◌≡◌, true, ap, sym, ◌∙◌}
+use Rattle.std.proofs.Common.{◌≡◌, ap, sym, ◌∙◌}
 use Rattle.someip_tables.proofs.Entries.{same_by_test, own_test}
 use Rattle.someip_tables.proofs.DueLemmas.{test_is_true, true_is_test}
 use Rattle.std.specs.Ordering.{eq_by_cmp}
