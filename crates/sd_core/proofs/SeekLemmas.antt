@@ -74,6 +74,10 @@ kept_each : {X : Type 0} (p : X → Bool) (v : Option X) → kept_if p v ≡ opt
 kept_each p None = refl
 kept_each p (Some x) = refl
 
+kept_all : {X : Type 0} (p : X → Bool) (v : Option X) → option_map_or p v false ≡ false → kept_if (λ x. not (p x)) v ≡ v
+kept_all p None none = refl
+kept_all p (Some x) none = ap (λ b. if not b then Some x else None) none
+
 -- ---- a moment comes
 
 -- what a want is after it
@@ -121,16 +125,12 @@ finds : (now : ℕ) (v : Option Sending) → is_due_by now (option_map (λ s. s.
 finds now None = refl
 finds now (Some s) = refl
 
-pub due_is : (now : ℕ) (w : Want) → is_due_by now (want_moment w) ≡ (option_map_or (λ l. has_passed now l.until) w.known false || option_map_or (goes_out now) w.finding false)
+due_is : (now : ℕ) (w : Want) → is_due_by now (want_moment w) ≡ (option_map_or (λ l. has_passed now l.until) w.known false || option_map_or (goes_out now) w.finding false)
 due_is now w =
     earlier_due now (option_and_then (λ l. millis_of l.until) w.known) (option_map (λ s. s.due) w.finding)
     ∙ (λ i. passes now w.known i || finds now w.finding i)
 
 -- what is not due stays
-known_stays : (now : ℕ) (v : Option (Lasting KnownOffer)) → option_map_or (λ l. has_passed now l.until) v false ≡ false → unless_passed now v ≡ v
-known_stays now None stands = refl
-known_stays now (Some l) stands = ap (λ b. if not b then Some l else None) stands
-
 finding_stays : (phases : Phases) (now : ℕ) (v : Option Sending) → option_map_or (goes_out now) v false ≡ false → option_and_then (after_find phases now) v ≡ v
 finding_stays phases now None stands = refl
 finding_stays phases now (Some s) stands =
@@ -139,7 +139,7 @@ finding_stays phases now (Some s) stands =
 stays : (phases : Phases) (now : ℕ) (w : Want) → is_due_by now (want_moment w) ≡ false → w ≡ ticked_want phases now w
 stays phases now w stands =
     let none = or_parts _ _ (sym (due_is now w) ∙ stands) in
-    (λ i. record { major = w.major; known = sym (known_stays now w.known none.0) i; finding = sym (finding_stays phases now w.finding none.1) i })
+    (λ i. record { major = w.major; known = sym (kept_all (λ l. has_passed now l.until) w.known none.0) i; finding = sym (finding_stays phases now w.finding none.1) i })
 
 pub due_ticked : (phases : Phases) (now : ℕ) (wants : WantMap)
     → seek_of (each_changed (λ q w. if want_is_due now q w then ticked_want phases now w else w) wants) ≡ seek_after_tick phases now (seek_of wants)
@@ -169,17 +169,13 @@ all_forgotten peer now wants =
       finding = shown-changed_same instances_total exact_instances (λ _ w. forgetful_want peer now w) finding_in wants (λ q w. refl) i;
     })
 
-peer_forgotten_one : (peer : Ipv4Addr) (now : ℕ) (w : Want) (b : Bool) → option_map_or (stands_by peer now) w.known false ≡ b → (if b then forgetful_want peer now w else w) ≡ forgetful_want peer now w
-peer_forgotten_one peer now w true is = refl
-peer_forgotten_one peer now w false is = λ i. record { major = w.major; known = sym (known w.known is) i; finding = w.finding }
-  where
-    known : (v : Option (Lasting KnownOffer)) → option_map_or (stands_by peer now) v false ≡ false → kept_if (λ lasting. not (stands_by peer now lasting)) v ≡ v
-    known None other = refl
-    known (Some l) other = ap (λ b. if not b then Some l else None) other
-
 pub peer_forgotten : (peer : Ipv4Addr) (now : ℕ) (wants : WantMap)
     → seek_of (each_changed (λ q w. if is_of peer now q w then forgetful_want peer now w else w) wants) ≡ forgetting peer now (seek_of wants)
-peer_forgotten peer now wants = ap seek_of (changed_alike instances_total exact_instances _ _ wants (λ q w found. peer_forgotten_one peer now w (is_of peer now q w) refl)) ∙ all_forgotten peer now wants
+peer_forgotten peer now wants = ap seek_of (changed_alike instances_total exact_instances _ _ wants (λ q w found. cases w (is_of peer now q w) refl)) ∙ all_forgotten peer now wants
+  where
+    cases : (w : Want) (b : Bool) → option_map_or (stands_by peer now) w.known false ≡ b → (if b then forgetful_want peer now w else w) ≡ forgetful_want peer now w
+    cases w true is = refl
+    cases w false is = λ i. record { major = w.major; known = sym (kept_all (stands_by peer now) w.known is) i; finding = w.finding }
 
 -- ---- the keys of wants that pass a test
 
@@ -189,7 +185,7 @@ has_ended now _ w = option_map_or (λ l. has_passed now l.until) w.known false
 pub ended_keys : (now : ℕ) (wants : WantMap) → finite.keys (retain wants (has_ended now)) ≡ finite.keys (expired now (seek_of wants).known)
 ended_keys now wants = keys-shown instances_total exact_instances known_in wants (has_ended now) (λ _ l. has_passed now l.until) (λ q w is. refl)
 
-pub none_ended : (now : ℕ) (wants : WantMap) → expired now (seek_of wants).known ≡ finite.empty → retain wants (has_ended now) ≡ finite.empty
+none_ended : (now : ℕ) (wants : WantMap) → expired now (seek_of wants).known ≡ finite.empty → retain wants (has_ended now) ≡ finite.empty
 none_ended now wants = none-shown instances_total exact_instances known_in wants (has_ended now) (λ _ l. has_passed now l.until) (λ q w is. refl)
 
 pub due_if_ended : (now : ℕ) (q : InstanceId) (w : Want) → has_ended now q w ≡ true → want_is_due now q w ≡ true
@@ -201,7 +197,7 @@ find_is_due now _ w = option_map_or (goes_out now) w.finding false
 pub find_keys : (now : ℕ) (wants : WantMap) → finite.keys (retain wants (find_is_due now)) ≡ finite.keys (due_at now (seek_of wants).finding)
 find_keys now wants = keys-shown instances_total exact_instances finding_in wants (find_is_due now) (λ _ s. goes_out now s) (λ q w is. refl)
 
-pub no_find : (now : ℕ) (wants : WantMap) → due_at now (seek_of wants).finding ≡ finite.empty → retain wants (find_is_due now) ≡ finite.empty
+no_find : (now : ℕ) (wants : WantMap) → due_at now (seek_of wants).finding ≡ finite.empty → retain wants (find_is_due now) ≡ finite.empty
 no_find now wants = none-shown instances_total exact_instances finding_in wants (find_is_due now) (λ _ s. goes_out now s) (λ q w is. refl)
 
 pub due_if_find : (now : ℕ) (q : InstanceId) (w : Want) → find_is_due now q w ≡ true → want_is_due now q w ≡ true
