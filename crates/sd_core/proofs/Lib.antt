@@ -1,7 +1,9 @@
 pub mod Memory
 pub mod ShownLemmas
-pub mod OfferLemmas
 pub mod ChangedLemmas
+pub mod ShownChanges
+pub mod AmongLemmas
+pub mod OfferLemmas
 pub mod SeekLemmas
 pub mod MomentLemmas
 pub mod OfferLawLemmas

@@ -1,15 +1,12 @@
 -- Offers as maps: what each change of their places shows.
-use Rattle.std.proofs.Common.{◌≡◌, ℕ, Bool, true, false, cond, ◌&&◌, List, [], map, Option, None, Some, refl, ap, sym, ◌∙◌}
+use Rattle.std.proofs.Common.{◌≡◌, ℕ, Bool, true, false, if◌then◌else◌, ◌&&◌, Option, None, Some, refl, ap, sym, ◌∙◌}
 use Rattle.std.specs.Option.{option_and_then, option_map, option_map_or}
-use Rattle.std.specs.BTreeMap as tree
-use Rattle.std.specs.BTreeMap.{BTreeMap, is_at}
-use Rattle.std.specs.Map.{lookup}
 use Rattle.std.specs.FinMap as finite
-use Rattle.std.specs.Ordering.{eq_by_cmp}
-use Rattle.someip_tables.proofs.Entries.{same_by_test}
+use Rattle.std.specs.FinMap.{FinMap}
+use Rattle.someip_tables.specs.Changed.{each_changed}
 use Rattle.someip_tables.specs.Retained.{retain}
-use Rattle.someip_tables.specs.Tables.{map_of}
-use Rattle.someip_tables.proofs.Trees.{get-map_of, map_of-insert}
+use Rattle.someip_tables.specs.Waits.{is_due_by, due_by}
+use Rattle.someip_tables.proofs.MapLaws.{remove_absent, insert_present}
 use Rattle.sd_core.specs.declared.keys.InstanceId.{InstanceId}
 use Rattle.sd_core.specs.declared.version.Version.{Version}
 use Rattle.sd_core.specs.declared.version.Sought.{Sought}
@@ -18,120 +15,117 @@ use Rattle.sd_core.specs.declared.sending.Sending.{Sending}
 use Rattle.sd_core.specs.declared.offers.Place.{Place}
 use Rattle.sd_core.specs.Keys.{instance_cmp}
 use Rattle.sd_core.specs.KeyOrder.{instances_total, exact_instances}
-use Rattle.sd_core.specs.Shown.{shown, map_values}
-use Rattle.sd_core.specs.Sendings.{goes_out, has_sent, sent_if_due, due_at}
+use Rattle.sd_core.specs.Sendings.{goes_out, has_sent, after_sending, sent_if_due, due_at}
 use Rattle.sd_core.specs.OfferTables.{offers_of, started_at, after_tick, without, answering, is_sought}
-use Rattle.sd_core.proofs.ShownLemmas.{get-shown, shown-mapped, shown-mapped_same, shown-insert, shown-insert_none, shown-empty, keys-shown, none-shown}
+use Rattle.sd_core.specs.Waiting.{place_moment}
+use Rattle.sd_core.proofs.ShownChanges.{shown-changed, shown-changed_same}
+use Rattle.sd_core.proofs.ShownLemmas.{get-shown, shown-insert, shown-insert_none, shown-empty, keys-shown, none-shown}
 
 abbrev Places : Type 0
-Places = List (InstanceId × Place)
+Places = FinMap instance_cmp Place
 
 -- no place
-pub no_places : (es : Places) → es ≡ [] → offers_of (map_of instance_cmp es) ≡ record { versions = finite.empty; up = finite.empty }
-no_places es is =
-    ap (λ x. offers_of (map_of instance_cmp x)) is
+pub no_places : (places : Places) → places ≡ finite.empty → offers_of places ≡ record { versions = finite.empty; up = finite.empty }
+no_places places is =
+    ap offers_of is
     ∙ (λ i. record { versions = shown-empty instances_total exact_instances (λ (p : Place). Some p.version) i; up = shown-empty instances_total exact_instances (λ (p : Place). p.sending) i })
 
 -- every place sends first at this
-pub all_started : (first : Sending) (old new : Places) → new ≡ map (λ e. (e.0, record { version = e.1.version; sending = Some first })) old
-    → offers_of (map_of instance_cmp new) ≡ started_at first (offers_of (map_of instance_cmp old))
-all_started first old new is =
-    ap (λ x. offers_of (map_of instance_cmp x)) is
-    ∙ (λ i. record {
-      versions = shown-mapped_same instances_total exact_instances (λ _ p. record { version = p.version; sending = Some first }) (λ (p : Place). Some p.version) old (λ q p. refl) i;
-      up = shown-mapped instances_total exact_instances (λ _ p. record { version = p.version; sending = Some first }) (λ (p : Place). p.sending) (λ (_ : Version). Some first) (λ (p : Place). Some p.version) old (λ q p. refl) i;
-    })
-
-mapped : (f : Sending → Sending) (v : Option Sending) → option_map f v ≡ option_and_then (λ s. Some (f s)) v
-mapped f None = refl
-mapped f (Some s) = refl
-
--- those that are due sent
-pub all_advanced : (phases : Phases) (now : ℕ) (old new : Places)
-    → new ≡ map (λ e. (e.0, record { version = e.1.version; sending = option_map (sent_if_due phases now) e.1.sending })) old
-    → offers_of (map_of instance_cmp new) ≡ after_tick phases now (offers_of (map_of instance_cmp old))
-all_advanced phases now old new is =
-    ap (λ x. offers_of (map_of instance_cmp x)) is
-    ∙ (λ i. record {
-      versions = shown-mapped_same instances_total exact_instances (λ _ p. record { version = p.version; sending = option_map (sent_if_due phases now) p.sending }) (λ (p : Place). Some p.version) old (λ q p. refl) i;
-      up = shown-mapped instances_total exact_instances (λ _ p. record { version = p.version; sending = option_map (sent_if_due phases now) p.sending }) (λ (p : Place). p.sending)
-          (λ s. Some (sent_if_due phases now s)) (λ (p : Place). p.sending) old (λ q p. mapped (sent_if_due phases now) p.sending) i;
-    })
-
--- a place is put in that is down
-pub put_down : (old new : Places) (k : InstanceId) (version : Version)
-    → ((q : InstanceId) → lookup (is_at (instance_cmp q)) new ≡ cond (is_at (instance_cmp k) q) (Some (record { version = version; sending = None })) (lookup (is_at (instance_cmp q)) old))
-    → offers_of (map_of instance_cmp new) ≡ record {
-      versions = finite.insert (offers_of (map_of instance_cmp old)).versions k version;
-      up = finite.remove (offers_of (map_of instance_cmp old)).up k;
-    }
-put_down old new k version is =
-    ap offers_of (map_of-insert instances_total exact_instances old new k (record { version = version; sending = None }) is)
-    ∙ (λ i. record {
-      versions = shown-insert instances_total exact_instances (λ (p : Place). Some p.version) (map_of instance_cmp old) k (record { version = version; sending = None }) version refl i;
-      up = shown-insert_none instances_total exact_instances (λ (p : Place). p.sending) (map_of instance_cmp old) k (record { version = version; sending = None }) refl i;
-    })
-
--- the version and the next Offer of an instance
-pub version_is : (held : BTreeMap InstanceId Place) (q : InstanceId) (v : Option Place) → v ≡ tree.get instance_cmp held q
-    → finite.get (offers_of (map_of instance_cmp held.entries)).versions q ≡ option_and_then (λ p. Some p.version) v
-version_is held q v is =
-    get-shown instances_total exact_instances (λ (p : Place). Some p.version) (map_of instance_cmp held.entries) q
-    ∙ ap (option_and_then (λ p. Some p.version)) (get-map_of instances_total held.entries q ∙ sym is)
-
-pub sending_is : (held : BTreeMap InstanceId Place) (q : InstanceId) (v : Option Place) → v ≡ tree.get instance_cmp held q
-    → finite.get (offers_of (map_of instance_cmp held.entries)).up q ≡ option_and_then (λ p. p.sending) v
-sending_is held q v is =
-    get-shown instances_total exact_instances (λ (p : Place). p.sending) (map_of instance_cmp held.entries) q
-    ∙ ap (option_and_then (λ p. p.sending)) (get-map_of instances_total held.entries q ∙ sym is)
-
--- what is not up may be taken down, and a version may be put in again
-remove_absent : {X : Type 0} (m : finite.FinMap instance_cmp X) (k : InstanceId) → finite.get m k ≡ None → m ≡ finite.remove m k
-remove_absent {X = X} m k none = finite.same_map instances_total exact_instances _ _ (λ q. cases q (eq_by_cmp instance_cmp q k) refl ∙ sym (finite.get-remove instances_total m k q))
-  where
-    cases : (q : InstanceId) (t : Bool) → eq_by_cmp instance_cmp q k ≡ t → finite.get m q ≡ cond t None (finite.get m q)
-    cases q true t = ap (finite.get m) (same_by_test exact_instances q k t) ∙ none
-    cases q false t = refl
-
-insert_same : {X : Type 0} (m : finite.FinMap instance_cmp X) (k : InstanceId) (x : X) → finite.get m k ≡ Some x → finite.insert m k x ≡ m
-insert_same {X = X} m k x some = finite.same_map instances_total exact_instances _ _ (λ q. finite.get-insert instances_total m k x q ∙ cases q (eq_by_cmp instance_cmp q k) refl)
-  where
-    cases : (q : InstanceId) (t : Bool) → eq_by_cmp instance_cmp q k ≡ t → cond t (Some x) (finite.get m q) ≡ finite.get m q
-    cases q true t = sym (ap (finite.get m) (same_by_test exact_instances q k t) ∙ some)
-    cases q false t = refl
-
-pub absent_without : (held : BTreeMap InstanceId Place) (k : InstanceId) → tree.get instance_cmp held k ≡ None
-    → offers_of (map_of instance_cmp held.entries) ≡ without k (offers_of (map_of instance_cmp held.entries))
-absent_without held k none = λ i. record {
-  versions = map_values (λ p. p.version) (map_of instance_cmp held.entries);
-  up = remove_absent (shown (λ p. p.sending) (map_of instance_cmp held.entries)) k (sending_is held k None (sym none)) i;
+pub all_started : (first : Sending) (places : Places)
+    → offers_of (each_changed (λ _ p. record { version = p.version; sending = Some first }) places) ≡ started_at first (offers_of places)
+all_started first places = λ i. record {
+  versions = shown-changed_same instances_total exact_instances (λ _ p. record { version = p.version; sending = Some first }) (λ (p : Place). Some p.version) places (λ q p. refl) i;
+  up = shown-changed instances_total exact_instances (λ _ p. record { version = p.version; sending = Some first }) (λ (p : Place). p.sending) (λ (_ : Version). Some first) (λ (p : Place). Some p.version) places (λ q p. refl) i;
 }
 
-pub taken_down : (old new : BTreeMap InstanceId Place) (k : InstanceId) (place : Place) → Some place ≡ tree.get instance_cmp old k
-    → ((q : InstanceId) → tree.get instance_cmp new q ≡ cond (is_at (instance_cmp k) q) (Some (record { version = place.version; sending = None })) (tree.get instance_cmp old q))
-    → offers_of (map_of instance_cmp new.entries) ≡ without k (offers_of (map_of instance_cmp old.entries))
-taken_down old new k place found is =
-    put_down old.entries new.entries k place.version is
-    ∙ (λ i. record {
-      versions = insert_same (map_values (λ p. p.version) (map_of instance_cmp old.entries)) k place.version (version_is old k (Some place) found) i;
-      up = finite.remove (offers_of (map_of instance_cmp old.entries)).up k;
-    })
+-- ---- a moment comes
 
--- the instances that are due
 abbrev pub place_is_due : ℕ → InstanceId → Place → Bool
-place_is_due now _ p = option_map_or (goes_out now) p.sending false
+place_is_due now _ p = is_due_by now (place_moment p)
 
-pub due_keys : (now : ℕ) (places : finite.FinMap instance_cmp Place) → finite.keys (retain places (place_is_due now)) ≡ finite.keys (due_at now (offers_of places).up)
-due_keys now places = keys-shown instances_total exact_instances (λ (p : Place). p.sending) places (place_is_due now) (λ _ s. goes_out now s) (λ q p is. refl)
+-- its Offer went out
+abbrev pub sent_place : Phases → ℕ → Place → Place
+sent_place phases now p = record { version = p.version; sending = option_map (after_sending phases now) p.sending }
 
-pub none_due : (now : ℕ) (places : finite.FinMap instance_cmp Place) → due_at now (offers_of places).up ≡ finite.empty → retain places (place_is_due now) ≡ finite.empty
-none_due now places = none-shown instances_total exact_instances (λ (p : Place). p.sending) places (place_is_due now) (λ _ s. goes_out now s) (λ q p is. refl)
+-- a place is due where its Offer is
+is_due : (now : ℕ) (p : Place) → is_due_by now (place_moment p) ≡ option_map_or (goes_out now) p.sending false
+is_due now p = cases p.sending
+  where
+    cases : (v : Option Sending) → is_due_by now (option_map (λ s. s.due) v) ≡ option_map_or (goes_out now) v false
+    cases None = refl
+    cases (Some s) = refl
+
+pub due_keys : (now : ℕ) (places : Places) → finite.keys (due_by place_moment now places) ≡ finite.keys (due_at now (offers_of places).up)
+due_keys now places = keys-shown instances_total exact_instances (λ (p : Place). p.sending) places (place_is_due now) (λ _ s. goes_out now s) (λ q p is. is_due now p)
+
+pub none_due : (now : ℕ) (places : Places) → due_at now (offers_of places).up ≡ finite.empty → due_by place_moment now places ≡ finite.empty
+none_due now places = none-shown instances_total exact_instances (λ (p : Place). p.sending) places (place_is_due now) (λ _ s. goes_out now s) (λ q p is. is_due now p)
+
+-- those that are due sent
+pub all_advanced : (phases : Phases) (now : ℕ) (places : Places)
+    → offers_of (each_changed (λ q p. if place_is_due now q p then sent_place phases now p else p) places) ≡ after_tick phases now (offers_of places)
+all_advanced phases now places = λ i. record {
+  versions = shown-changed_same instances_total exact_instances changed (λ (p : Place). Some p.version) places stays i;
+  up = shown-changed instances_total exact_instances changed (λ (p : Place). p.sending) (λ s. Some (sent_if_due phases now s)) (λ (p : Place). p.sending) places sends i;
+}
+  where
+    changed : InstanceId → Place → Place
+    changed q p = if place_is_due now q p then sent_place phases now p else p
+
+    stays : (q : InstanceId) (p : Place) → Some (changed q p).version ≡ Some p.version
+    stays q p = elim (place_is_due now q p) as (λ b. Some (if b then sent_place phases now p else p).version ≡ Some p.version) [ true ↦ refl | false ↦ refl ]
+
+    sends : (q : InstanceId) (p : Place) → (changed q p).sending ≡ option_and_then (λ s. Some (sent_if_due phases now s)) p.sending
+    sends q p = shown_if (place_is_due now q p) ∙ ap (λ (b : Bool). if b then option_map (after_sending phases now) p.sending else p.sending) (is_due now p) ∙ cases p.sending
+      where
+        shown_if : (b : Bool) → (if b then sent_place phases now p else p).sending ≡ (if b then option_map (after_sending phases now) p.sending else p.sending)
+        shown_if true = refl
+        shown_if false = refl
+
+        cases : (v : Option Sending) → (if option_map_or (goes_out now) v false then option_map (after_sending phases now) v else v) ≡ option_and_then (λ s. Some (sent_if_due phases now s)) v
+        cases None = refl
+        cases (Some s) = elim (goes_out now s) as (λ b. (if b then Some (after_sending phases now s) else Some s) ≡ Some (if b then after_sending phases now s else s)) [ true ↦ refl | false ↦ refl ]
+
+-- ---- at one instance
+
+-- a place is put in that is down
+pub put_down : (places : Places) (k : InstanceId) (version : Version) → offers_of (finite.insert places k (record { version = version; sending = None })) ≡ record {
+  versions = finite.insert (offers_of places).versions k version;
+  up = finite.remove (offers_of places).up k;
+}
+put_down places k version = λ i. record {
+  versions = shown-insert instances_total exact_instances (λ (p : Place). Some p.version) places k (record { version = version; sending = None }) version refl i;
+  up = shown-insert_none instances_total exact_instances (λ (p : Place). p.sending) places k (record { version = version; sending = None }) refl i;
+}
+
+-- the version and the next Offer of an instance
+pub version_is : (places : Places) (q : InstanceId) (v : Option Place) → finite.get places q ≡ v → finite.get (offers_of places).versions q ≡ option_and_then (λ p. Some p.version) v
+version_is places q v is = get-shown instances_total exact_instances (λ (p : Place). Some p.version) places q ∙ ap (option_and_then (λ p. Some p.version)) is
+
+pub sending_is : (places : Places) (q : InstanceId) (v : Option Place) → finite.get places q ≡ v → finite.get (offers_of places).up q ≡ option_and_then (λ p. p.sending) v
+sending_is places q v is = get-shown instances_total exact_instances (λ (p : Place). p.sending) places q ∙ ap (option_and_then (λ p. p.sending)) is
+
+-- an instance is taken down
+pub absent_without : (places : Places) (k : InstanceId) → finite.get places k ≡ None → offers_of places ≡ without k (offers_of places)
+absent_without places k none = λ i. record {
+  versions = (offers_of places).versions;
+  up = sym (remove_absent instances_total exact_instances (offers_of places).up k (sending_is places k None none)) i;
+}
+
+pub taken_down : (places : Places) (k : InstanceId) (place : Place) → finite.get places k ≡ Some place
+    → offers_of (finite.insert places k (record { version = place.version; sending = None })) ≡ without k (offers_of places)
+taken_down places k place found =
+    put_down places k place.version
+    ∙ (λ i. record {
+      versions = insert_present instances_total exact_instances (offers_of places).versions k place.version (version_is places k (Some place) found) i;
+      up = finite.remove (offers_of places).up k;
+    })
 
 -- the instances that answer a Find
 abbrev pub place_answers : Sought → InstanceId → Place → Bool
 place_answers sought instance p = is_sought sought instance p.version && option_map_or has_sent p.sending false
 
-answers : (sought : Sought) (places : finite.FinMap instance_cmp Place) (q : InstanceId) (p : Place) → finite.get places q ≡ Some p
+answers : (sought : Sought) (places : Places) (q : InstanceId) (p : Place) → finite.get places q ≡ Some p
     → place_answers sought q p ≡ option_map_or (λ s. option_map_or (is_sought sought q) (finite.get (offers_of places).versions q) false && has_sent s) p.sending false
 answers sought places q p is =
     cases p.sending
@@ -146,8 +140,8 @@ answers sought places q p is =
     cases None = no (is_sought sought q p.version)
     cases (Some s) = refl
 
-pub answering_keys : (sought : Sought) (places : finite.FinMap instance_cmp Place) → finite.keys (retain places (place_answers sought)) ≡ finite.keys (answering sought (offers_of places))
+pub answering_keys : (sought : Sought) (places : Places) → finite.keys (retain places (place_answers sought)) ≡ finite.keys (answering sought (offers_of places))
 answering_keys sought places = keys-shown instances_total exact_instances (λ (p : Place). p.sending) places (place_answers sought) _ (answers sought places)
 
-pub none_answers : (sought : Sought) (places : finite.FinMap instance_cmp Place) → answering sought (offers_of places) ≡ finite.empty → retain places (place_answers sought) ≡ finite.empty
+pub none_answers : (sought : Sought) (places : Places) → answering sought (offers_of places) ≡ finite.empty → retain places (place_answers sought) ≡ finite.empty
 none_answers sought places = none-shown instances_total exact_instances (λ (p : Place). p.sending) places (place_answers sought) _ (answers sought places)

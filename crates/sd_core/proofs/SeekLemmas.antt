@@ -1,17 +1,23 @@
 -- Wanted instances as maps: what each change of their places shows.
-use Rattle.std.proofs.Common.{◌≡◌, ℕ, Bool, false, not, ◌&&◌, List, [], map, Option, None, Some, refl, ap, sym, ◌∙◌}
-use Rattle.std.specs.Option.{option_and_then, option_map_or}
-use Rattle.std.specs.BTreeMap as tree
-use Rattle.std.specs.BTreeMap.{BTreeMap}
+use Rattle.std.proofs.Common.{◌≡◌, ℕ, nat_le, nat_lt, Bool, true, false, not, if◌then◌else◌, ◌&&◌, ◌||◌, ◌==◌, List, [], filter, length, Option, None, Some, refl, ap, sym, ◌∙◌, arith}
+use Rattle.std.proofs.Math.Bool.{or-false, or-true}
+use Rattle.std.proofs.lemmas.Bool.{or_from, or_parts, leb-true, leb-false}
+use Rattle.std.specs.Option.{option_and_then, option_map, option_map_or}
 use Rattle.std.specs.FinMap as finite
 use Rattle.std.specs.FinMap.{FinMap}
 use Rattle.std.specs.declared.net.ipv4_addr.Ipv4Addr.{Ipv4Addr}
 use Rattle.someip_tables.specs.declared.lasting.Lasting.{Lasting}
-use Rattle.someip_tables.specs.Deadlines.{has_passed}
+use Rattle.someip_tables.specs.declared.deadline.Deadline.{Deadline}
+use Rattle.someip_tables.specs.declared.deadline.Deadline.TheVariants.{At, Never}
+use Rattle.someip_tables.specs.Changed.{each_changed}
+use Rattle.someip_tables.specs.Deadlines.{has_passed, millis_of}
 use Rattle.someip_tables.specs.Lastings.{unless_passed, expired, unexpired}
 use Rattle.someip_tables.specs.Retained.{kept_if, retain}
-use Rattle.someip_tables.specs.Tables.{map_of}
-use Rattle.someip_tables.proofs.Trees.{get-map_of}
+use Rattle.someip_tables.specs.Waits.{is_due_by, due_by}
+use Rattle.someip_tables.proofs.ChangedLemmas.{changed_alike}
+use Rattle.someip_tables.proofs.Entries.{get-retain}
+use Rattle.someip_tables.proofs.MapLaws.{retain_none}
+use Rattle.someip_tables.proofs.SortedEntries.{keys-empty}
 use Rattle.sd_core.specs.declared.keys.InstanceId.{InstanceId}
 use Rattle.sd_core.specs.declared.phases.Phases.{Phases}
 use Rattle.sd_core.specs.declared.received.ReceivedOffer.{ReceivedOffer}
@@ -22,12 +28,12 @@ use Rattle.sd_core.specs.declared.want.Want.{Want}
 use Rattle.sd_core.specs.Keys.{instance_cmp}
 use Rattle.sd_core.specs.KeyOrder.{instances_total, exact_instances}
 use Rattle.sd_core.specs.Shown.{shown}
-use Rattle.sd_core.specs.Sendings.{goes_out, after_find, due_at}
-use Rattle.sd_core.specs.SeekTables.{KnowsWanted, seek_of, searching_from, seek_after_tick, known_at, offer_refusal, uncounted, stands_by, known_of, forgetting, is_wanted, is_stopped}
-use Rattle.sd_core.proofs.ShownLemmas.{get-shown, shown-mapped, shown-mapped_same, shown-mapped_none, shown-kept, shown-insert, shown-insert_none, shown-insert_same, shown-empty, keys-shown, none-shown}
-
-abbrev Wants : Type 0
-Wants = List (InstanceId × Want)
+use Rattle.sd_core.specs.Sendings.{goes_out, after_sending, after_find, due_at}
+use Rattle.sd_core.specs.SeekTables.{IsQuiet, KnowsWanted, seek_of, searching_from, seek_after_tick, known_at, offer_refusal, uncounted, stands_by, known_of, forgetting, is_wanted, is_stopped}
+use Rattle.sd_core.specs.Waiting.{earlier, want_moment}
+use Rattle.sd_core.proofs.AmongLemmas.{keys-among}
+use Rattle.sd_core.proofs.ShownChanges.{shown-changed, shown-changed_same, shown-changed_none}
+use Rattle.sd_core.proofs.ShownLemmas.{get-shown, shown-kept, shown-insert, shown-insert_none, shown-insert_same, shown-empty, keys-shown, none-shown}
 
 abbrev WantMap : Type 0
 WantMap = FinMap instance_cmp Want
@@ -42,9 +48,9 @@ abbrev finding_in : Want → Option Sending
 finding_in w = w.finding
 
 -- no want
-pub no_wants : (es : Wants) → es ≡ [] → seek_of (map_of instance_cmp es) ≡ record { wanted = finite.empty; known = finite.empty; finding = finite.empty }
-no_wants es is =
-    ap (λ x. seek_of (map_of instance_cmp x)) is
+pub no_wants : (wants : WantMap) → wants ≡ finite.empty → seek_of wants ≡ record { wanted = finite.empty; known = finite.empty; finding = finite.empty }
+no_wants wants is =
+    ap seek_of is
     ∙ (λ i. record {
       wanted = shown-empty instances_total exact_instances major_of i;
       known = shown-empty instances_total exact_instances known_in i;
@@ -52,15 +58,13 @@ no_wants es is =
     })
 
 -- every want is searched for
-pub all_searched : (first : Sending) (old new : Wants) → new ≡ map (λ e. (e.0, record { major = e.1.major; known = None; finding = Some first })) old
-    → seek_of (map_of instance_cmp new) ≡ searching_from first (seek_of (map_of instance_cmp old))
-all_searched first old new is =
-    ap (λ x. seek_of (map_of instance_cmp x)) is
-    ∙ (λ i. record {
-      wanted = shown-mapped_same instances_total exact_instances (λ _ w. record { major = w.major; known = None; finding = Some first }) major_of old (λ q w. refl) i;
-      known = shown-mapped_none instances_total exact_instances (λ _ w. record { major = w.major; known = None; finding = Some first }) known_in old (λ q w. refl) i;
-      finding = shown-mapped instances_total exact_instances (λ _ w. record { major = w.major; known = None; finding = Some first }) finding_in (λ (_ : ℕ). Some first) major_of old (λ q w. refl) i;
-    })
+pub all_searched : (first : Sending) (wants : WantMap)
+    → seek_of (each_changed (λ _ w. record { major = w.major; known = None; finding = Some first }) wants) ≡ searching_from first (seek_of wants)
+all_searched first wants = λ i. record {
+  wanted = shown-changed_same instances_total exact_instances (λ _ w. record { major = w.major; known = None; finding = Some first }) major_of wants (λ q w. refl) i;
+  known = shown-changed_none instances_total exact_instances (λ _ w. record { major = w.major; known = None; finding = Some first }) known_in wants (λ q w. refl) i;
+  finding = shown-changed instances_total exact_instances (λ _ w. record { major = w.major; known = None; finding = Some first }) finding_in (λ (_ : ℕ). Some first) major_of wants (λ q w. refl) i;
+}
 
 -- a value is one
 pub same_value : {X : Type 0} (v : Option X) (a b : X) → v ≡ Some a → v ≡ Some b → a ≡ b
@@ -70,41 +74,108 @@ kept_each : {X : Type 0} (p : X → Bool) (v : Option X) → kept_if p v ≡ opt
 kept_each p None = refl
 kept_each p (Some x) = refl
 
--- a moment came
+kept_all : {X : Type 0} (p : X → Bool) (v : Option X) → option_map_or p v false ≡ false → kept_if (λ x. not (p x)) v ≡ v
+kept_all p None none = refl
+kept_all p (Some x) none = ap (λ b. if not b then Some x else None) none
+
+-- ---- a moment comes
+
+-- what a want is after it
 abbrev pub ticked_want : Phases → ℕ → Want → Want
 ticked_want phases now w = record { major = w.major; known = unless_passed now w.known; finding = option_and_then (after_find phases now) w.finding }
 
-pub all_ticked : (phases : Phases) (now : ℕ) (old new : Wants) → new ≡ map (λ e. (e.0, ticked_want phases now e.1)) old
-    → seek_of (map_of instance_cmp new) ≡ seek_after_tick phases now (seek_of (map_of instance_cmp old))
-all_ticked phases now old new is =
+all_ticked : (phases : Phases) (now : ℕ) (wants : WantMap) → seek_of (each_changed (λ _ w. ticked_want phases now w) wants) ≡ seek_after_tick phases now (seek_of wants)
+all_ticked phases now wants =
     let stays : Lasting KnownOffer → Bool = λ l. not (has_passed now l.until) in
-    let known : shown known_in (map_of instance_cmp (map (λ e. (e.0, ticked_want phases now e.1)) old)) ≡ unexpired now (shown known_in (map_of instance_cmp old)) =
-    shown-mapped instances_total exact_instances (λ _ w. ticked_want phases now w) known_in (λ l. kept_if stays (Some l)) known_in old (λ q w. kept_each stays w.known)
-    ∙ shown-kept instances_total exact_instances stays (shown known_in (map_of instance_cmp old)) in
-    ap (λ x. seek_of (map_of instance_cmp x)) is
-    ∙ (λ i. record {
-      wanted = shown-mapped_same instances_total exact_instances (λ _ w. ticked_want phases now w) major_of old (λ q w. refl) i;
+    let known : shown known_in (each_changed (λ _ w. ticked_want phases now w) wants) ≡ unexpired now (shown known_in wants) =
+    shown-changed instances_total exact_instances (λ _ w. ticked_want phases now w) known_in (λ l. kept_if stays (Some l)) known_in wants (λ q w. kept_each stays w.known)
+    ∙ shown-kept instances_total exact_instances stays (shown known_in wants) in
+    (λ i. record {
+      wanted = shown-changed_same instances_total exact_instances (λ _ w. ticked_want phases now w) major_of wants (λ q w. refl) i;
       known = known i;
-      finding = shown-mapped instances_total exact_instances (λ _ w. ticked_want phases now w) finding_in (after_find phases now) finding_in old (λ q w. refl) i;
+      finding = shown-changed instances_total exact_instances (λ _ w. ticked_want phases now w) finding_in (after_find phases now) finding_in wants (λ q w. refl) i;
     })
 
--- the offers of a peer are forgotten
+abbrev pub want_is_due : ℕ → InstanceId → Want → Bool
+want_is_due now _ w = is_due_by now (want_moment w)
+
+-- a want is due where its offer has passed, or its Find goes out
+earlier_due : (now : ℕ) (a b : Option ℕ) → is_due_by now (earlier a b) ≡ (is_due_by now a || is_due_by now b)
+earlier_due now None b = refl
+earlier_due now (Some a) None = sym (or-false (nat_le a now))
+earlier_due now (Some a) (Some b) = cases (nat_le a b) (nat_le a now) (nat_le b now) refl refl refl
+  where
+    cases : (c d e : Bool) → nat_le a b ≡ c → nat_le a now ≡ d → nat_le b now ≡ e → is_due_by now (if c then Some a else Some b) ≡ (d || e)
+    cases true true e c d is = d
+    cases true false true c d is = absurd (omega (arith, leb-true a b c, leb-false a now d, leb-true b now is))
+    cases true false false c d is = d
+    cases false true true c d is = is
+    cases false true false c d is = absurd (omega (arith, leb-false a b c, leb-true a now d, leb-false b now is))
+    cases false false e c d is = is
+
+passes : (now : ℕ) (v : Option (Lasting KnownOffer)) → is_due_by now (option_and_then (λ l. millis_of l.until) v) ≡ option_map_or (λ l. has_passed now l.until) v false
+passes now None = refl
+passes now (Some l) = cases l.until
+  where
+    cases : (d : Deadline) → is_due_by now (millis_of d) ≡ has_passed now d
+    cases (At moment) = refl
+    cases Never = refl
+
+finds : (now : ℕ) (v : Option Sending) → is_due_by now (option_map (λ s. s.due) v) ≡ option_map_or (goes_out now) v false
+finds now None = refl
+finds now (Some s) = refl
+
+due_is : (now : ℕ) (w : Want) → is_due_by now (want_moment w) ≡ (option_map_or (λ l. has_passed now l.until) w.known false || option_map_or (goes_out now) w.finding false)
+due_is now w =
+    earlier_due now (option_and_then (λ l. millis_of l.until) w.known) (option_map (λ s. s.due) w.finding)
+    ∙ (λ i. passes now w.known i || finds now w.finding i)
+
+-- what is not due stays
+finding_stays : (phases : Phases) (now : ℕ) (v : Option Sending) → option_map_or (goes_out now) v false ≡ false → option_and_then (after_find phases now) v ≡ v
+finding_stays phases now None stands = refl
+finding_stays phases now (Some s) stands =
+    ap (λ b. if b then (if nat_lt s.sent phases.repetitions then Some (after_sending phases now s) else None) else Some s) stands
+
+stays : (phases : Phases) (now : ℕ) (w : Want) → is_due_by now (want_moment w) ≡ false → w ≡ ticked_want phases now w
+stays phases now w stands =
+    let none = or_parts _ _ (sym (due_is now w) ∙ stands) in
+    (λ i. record { major = w.major; known = sym (kept_all (λ l. has_passed now l.until) w.known none.0) i; finding = sym (finding_stays phases now w.finding none.1) i })
+
+pub due_ticked : (phases : Phases) (now : ℕ) (wants : WantMap)
+    → seek_of (each_changed (λ q w. if want_is_due now q w then ticked_want phases now w else w) wants) ≡ seek_after_tick phases now (seek_of wants)
+due_ticked phases now wants = ap seek_of (changed_alike instances_total exact_instances _ _ wants (λ q w found. cases w (is_due_by now (want_moment w)) refl)) ∙ all_ticked phases now wants
+  where
+    cases : (w : Want) (b : Bool) → is_due_by now (want_moment w) ≡ b → (if b then ticked_want phases now w else w) ≡ ticked_want phases now w
+    cases w true is = refl
+    cases w false is = stays phases now w is
+
+-- ---- the offers of a peer are forgotten
+
+abbrev pub is_of : Ipv4Addr → ℕ → InstanceId → Want → Bool
+is_of peer now _ w = option_map_or (stands_by peer now) w.known false
+
 abbrev pub forgetful_want : Ipv4Addr → ℕ → Want → Want
 forgetful_want peer now w = record { major = w.major; known = kept_if (λ lasting. not (stands_by peer now lasting)) w.known; finding = w.finding }
 
-pub all_forgotten : (peer : Ipv4Addr) (now : ℕ) (old new : Wants) → new ≡ map (λ e. (e.0, forgetful_want peer now e.1)) old
-    → seek_of (map_of instance_cmp new) ≡ forgetting peer now (seek_of (map_of instance_cmp old))
-all_forgotten peer now old new is =
+all_forgotten : (peer : Ipv4Addr) (now : ℕ) (wants : WantMap) → seek_of (each_changed (λ _ w. forgetful_want peer now w) wants) ≡ forgetting peer now (seek_of wants)
+all_forgotten peer now wants =
     let stays : Lasting KnownOffer → Bool = λ l. not (stands_by peer now l) in
-    let known : shown known_in (map_of instance_cmp (map (λ e. (e.0, forgetful_want peer now e.1)) old)) ≡ retain (shown known_in (map_of instance_cmp old)) (λ _ l. stays l) =
-    shown-mapped instances_total exact_instances (λ _ w. forgetful_want peer now w) known_in (λ l. kept_if stays (Some l)) known_in old (λ q w. kept_each stays w.known)
-    ∙ shown-kept instances_total exact_instances stays (shown known_in (map_of instance_cmp old)) in
-    ap (λ x. seek_of (map_of instance_cmp x)) is
-    ∙ (λ i. record {
-      wanted = shown-mapped_same instances_total exact_instances (λ _ w. forgetful_want peer now w) major_of old (λ q w. refl) i;
+    let known : shown known_in (each_changed (λ _ w. forgetful_want peer now w) wants) ≡ retain (shown known_in wants) (λ _ l. stays l) =
+    shown-changed instances_total exact_instances (λ _ w. forgetful_want peer now w) known_in (λ l. kept_if stays (Some l)) known_in wants (λ q w. kept_each stays w.known)
+    ∙ shown-kept instances_total exact_instances stays (shown known_in wants) in
+    (λ i. record {
+      wanted = shown-changed_same instances_total exact_instances (λ _ w. forgetful_want peer now w) major_of wants (λ q w. refl) i;
       known = known i;
-      finding = shown-mapped_same instances_total exact_instances (λ _ w. forgetful_want peer now w) finding_in old (λ q w. refl) i;
+      finding = shown-changed_same instances_total exact_instances (λ _ w. forgetful_want peer now w) finding_in wants (λ q w. refl) i;
     })
+
+pub peer_forgotten : (peer : Ipv4Addr) (now : ℕ) (wants : WantMap)
+    → seek_of (each_changed (λ q w. if is_of peer now q w then forgetful_want peer now w else w) wants) ≡ forgetting peer now (seek_of wants)
+peer_forgotten peer now wants = ap seek_of (changed_alike instances_total exact_instances _ _ wants (λ q w found. cases w (is_of peer now q w) refl)) ∙ all_forgotten peer now wants
+  where
+    cases : (w : Want) (b : Bool) → option_map_or (stands_by peer now) w.known false ≡ b → (if b then forgetful_want peer now w else w) ≡ forgetful_want peer now w
+    cases w true is = refl
+    cases w false is = λ i. record { major = w.major; known = sym (kept_all (stands_by peer now) w.known is) i; finding = w.finding }
 
 -- ---- the keys of wants that pass a test
 
@@ -114,8 +185,11 @@ has_ended now _ w = option_map_or (λ l. has_passed now l.until) w.known false
 pub ended_keys : (now : ℕ) (wants : WantMap) → finite.keys (retain wants (has_ended now)) ≡ finite.keys (expired now (seek_of wants).known)
 ended_keys now wants = keys-shown instances_total exact_instances known_in wants (has_ended now) (λ _ l. has_passed now l.until) (λ q w is. refl)
 
-pub none_ended : (now : ℕ) (wants : WantMap) → expired now (seek_of wants).known ≡ finite.empty → retain wants (has_ended now) ≡ finite.empty
+none_ended : (now : ℕ) (wants : WantMap) → expired now (seek_of wants).known ≡ finite.empty → retain wants (has_ended now) ≡ finite.empty
 none_ended now wants = none-shown instances_total exact_instances known_in wants (has_ended now) (λ _ l. has_passed now l.until) (λ q w is. refl)
+
+pub due_if_ended : (now : ℕ) (q : InstanceId) (w : Want) → has_ended now q w ≡ true → want_is_due now q w ≡ true
+due_if_ended now q w ended = due_is now w ∙ rw ended refl
 
 abbrev pub find_is_due : ℕ → InstanceId → Want → Bool
 find_is_due now _ w = option_map_or (goes_out now) w.finding false
@@ -123,11 +197,43 @@ find_is_due now _ w = option_map_or (goes_out now) w.finding false
 pub find_keys : (now : ℕ) (wants : WantMap) → finite.keys (retain wants (find_is_due now)) ≡ finite.keys (due_at now (seek_of wants).finding)
 find_keys now wants = keys-shown instances_total exact_instances finding_in wants (find_is_due now) (λ _ s. goes_out now s) (λ q w is. refl)
 
-pub no_find : (now : ℕ) (wants : WantMap) → due_at now (seek_of wants).finding ≡ finite.empty → retain wants (find_is_due now) ≡ finite.empty
+no_find : (now : ℕ) (wants : WantMap) → due_at now (seek_of wants).finding ≡ finite.empty → retain wants (find_is_due now) ≡ finite.empty
 no_find now wants = none-shown instances_total exact_instances finding_in wants (find_is_due now) (λ _ s. goes_out now s) (λ q w is. refl)
 
-abbrev pub is_of : Ipv4Addr → ℕ → InstanceId → Want → Bool
-is_of peer now _ w = option_map_or (stands_by peer now) w.known false
+pub due_if_find : (now : ℕ) (q : InstanceId) (w : Want) → find_is_due now q w ≡ true → want_is_due now q w ≡ true
+due_if_find now q w due = due_is now w ∙ rw due (or-true (has_ended now q w))
+
+-- where none is due, no offer ends and no Find goes out
+pub none_ends : (now : ℕ) (wants : WantMap) → finite.keys (due_by want_moment now wants) ≡ [] → finite.keys (expired now (seek_of wants).known) ≡ []
+none_ends now wants none =
+    sym (keys-among instances_total exact_instances wants (has_ended now) (want_is_due now) (due_if_ended now) ∙ ended_keys now wants) ∙ ap (filter _) none
+
+pub none_finds : (now : ℕ) (wants : WantMap) → finite.keys (due_by want_moment now wants) ≡ [] → finite.keys (due_at now (seek_of wants).finding) ≡ []
+none_finds now wants none =
+    sym (keys-among instances_total exact_instances wants (find_is_due now) (want_is_due now) (due_if_find now) ∙ find_keys now wants) ∙ ap (filter _) none
+
+-- at a quiet moment none is due
+pub quiet : (now : ℕ) (wants : WantMap) → IsQuiet now (seek_of wants) → due_by want_moment now wants ≡ finite.empty
+quiet now wants is = retain_none instances_total exact_instances wants (want_is_due now) (λ q w some. due_is now w ∙ none q w some)
+  where
+    told : (w : Want) (b : Bool) → kept_if (λ _. b) (Some w) ≡ None → b ≡ false
+    told w true nothing = absurd (cc)
+    told w false nothing = refl
+
+    fails : (p : InstanceId → Want → Bool) → retain wants p ≡ finite.empty → (q : InstanceId) (w : Want) → finite.get wants q ≡ Some w → p q w ≡ false
+    fails p nothing q w some =
+        told w (p q w)
+        (sym (get-retain instances_total exact_instances wants p q ∙ ap (kept_if (p q)) some) ∙ ap (λ m. finite.get m q) nothing ∙ finite.get-empty instance_cmp q)
+
+    none : (q : InstanceId) (w : Want) → finite.get wants q ≡ Some w → (has_ended now q w || find_is_due now q w) ≡ false
+    none q w some = or_from _ _ (fails (has_ended now) (none_ended now wants is.0) q w some) (fails (find_is_due now) (no_find now wants is.1) q w some)
+
+-- where some are due, it is not quiet
+pub not_quiet : (now : ℕ) (wants : WantMap) (due : List InstanceId) → due ≡ finite.keys (due_by want_moment now wants) → (length due == 0) ≡ false → IsQuiet now (seek_of wants) → ⊥
+not_quiet now wants due is some nothing =
+    let none : due ≡ [] = is ∙ ap finite.keys (quiet now wants nothing) ∙ keys-empty Want instance_cmp in
+    let never : true ≡ false = sym (ap (λ ks. length ks == 0) none) ∙ some in
+    absurd (cc)
 
 pub peer_keys : (peer : Ipv4Addr) (now : ℕ) (wants : WantMap) → finite.keys (retain wants (is_of peer now)) ≡ finite.keys (known_of peer now (seek_of wants))
 peer_keys peer now wants = keys-shown instances_total exact_instances known_in wants (is_of peer now) (λ _ l. stands_by peer now l) (λ q w is. refl)
@@ -136,10 +242,6 @@ pub none_of_peer : (peer : Ipv4Addr) (now : ℕ) (wants : WantMap) → known_of 
 none_of_peer peer now wants = none-shown instances_total exact_instances known_in wants (is_of peer now) (λ _ l. stands_by peer now l) (λ q w is. refl)
 
 -- ---- at one instance
-
--- what an ordered map holds
-pub held_is : (held : BTreeMap InstanceId Want) (q : InstanceId) (v : Option Want) → v ≡ tree.get instance_cmp held q → finite.get (map_of instance_cmp held.entries) q ≡ v
-held_is held q v is = get-map_of instances_total held.entries q ∙ sym is
 
 pub wanted_is : (wants : WantMap) (q : InstanceId) (v : Option Want) → finite.get wants q ≡ v → finite.get (seek_of wants).wanted q ≡ option_and_then major_of v
 wanted_is wants q v is = get-shown instances_total exact_instances major_of wants q ∙ ap (option_and_then major_of) is

@@ -1,6 +1,6 @@
 -- What a map shows of its values, at a key and after a change.
-use Rattle.std.proofs.Common.{◌≡◌, Bool, true, false, cond, List, [], ◌∷◌, map, Option, None, Some, refl, ap, sym, ◌∙◌}
-use Rattle.std.specs.Option.{option_and_then, option_map, option_map_or, is_some}
+use Rattle.std.proofs.Common.{◌≡◌, Bool, true, false, cond, List, [], ◌∷◌, Option, None, Some, refl, ap, sym, ◌∙◌}
+use Rattle.std.specs.Option.{option_and_then, option_map_or, is_some}
 use Rattle.std.specs.declared.cmp.Ordering.{Ordering}
 use Rattle.std.specs.Ordering.{eq_by_cmp}
 use Rattle.std.specs.Cmp.{IsTotalOrder}
@@ -8,11 +8,9 @@ use Rattle.std.specs.FinMap.{FinMap, IsAntisymmetric, find, get, insert, remove,
 use Rattle.std.proofs.lemmas.Bool.{and_parts}
 use Rattle.someip_tables.specs.Distinct.{are_distinct}
 use Rattle.someip_tables.specs.Retained.{kept_if, retain}
-use Rattle.someip_tables.specs.Tables.{map_of}
 use Rattle.someip_tables.proofs.Entries.{same_by_test, none_found, entries_distinct, get-retain}
 use Rattle.sd_core.specs.Shown.{with_entry, shown_of, shown}
 use Rattle.someip_tables.proofs.SortedEntries.{same_keys}
-use Rattle.someip_tables.proofs.ChangedLemmas.{get-mapped}
 
 module _ {K X Y : Type 0} {R : K → K → Ordering} (o : IsTotalOrder R) (exact : IsAntisymmetric R) where
   find-shown_of : (f : X → Option Y) (q : K) (es : List (K × X)) → are_distinct R es ≡ true → find R q (shown_of f es) ≡ option_and_then f (find R q es)
@@ -34,30 +32,6 @@ module _ {K X Y : Type 0} {R : K → K → Ordering} (o : IsTotalOrder R) (exact
   get-shown f m q = get-from_entries o (shown_of f (entries m)) q ∙ find-shown_of f q (entries m) (entries_distinct o exact m) ∙ ap (option_and_then f) (sym (get-entries m q))
 
 module _ {K X : Type 0} {R : K → K → Ordering} (o : IsTotalOrder R) (exact : IsAntisymmetric R) where
-  -- what is shown of changed values is what h shows of the old
-  pub shown-mapped : {Y Z : Type 0} (g : K → X → X) (f : X → Option Z) (at : Y → Option Z) (h : X → Option Y) (es : List (K × X)) → ((q : K) (x : X) → f (g q x) ≡ option_and_then at (h x))
-      → shown f (map_of R (map (λ e. (e.0, g e.0 e.1)) es)) ≡ shown at (shown h (map_of R es))
-  shown-mapped g f at h es same =
-      same_map o exact _ _ (λ q.
-      get-shown o exact f (map_of R (map (λ e. (e.0, g e.0 e.1)) es)) q ∙ ap (option_and_then f) (get-mapped o exact g es q) ∙ cases q (get (map_of R es) q)
-      ∙ sym (get-shown o exact at (shown h (map_of R es)) q ∙ ap (option_and_then at) (get-shown o exact h (map_of R es) q)))
-    where
-      cases : (q : K) (v : Option X) → option_and_then f (option_map (g q) v) ≡ option_and_then at (option_and_then h v)
-      cases q None = refl
-      cases q (Some x) = same q x
-
-  -- the same, where what is shown stays
-  pub shown-mapped_same : {Y : Type 0} (g : K → X → X) (f : X → Option Y) (es : List (K × X)) → ((q : K) (x : X) → f (g q x) ≡ f x)
-      → shown f (map_of R (map (λ e. (e.0, g e.0 e.1)) es)) ≡ shown f (map_of R es)
-  shown-mapped_same g f es same =
-      same_map o exact _ _ (λ q.
-      get-shown o exact f (map_of R (map (λ e. (e.0, g e.0 e.1)) es)) q ∙ ap (option_and_then f) (get-mapped o exact g es q) ∙ cases q (get (map_of R es) q)
-      ∙ sym (get-shown o exact f (map_of R es) q))
-    where
-      cases : (q : K) (v : Option X) → option_and_then f (option_map (g q) v) ≡ option_and_then f v
-      cases q None = refl
-      cases q (Some x) = same q x
-
   -- a value is put in that shows y, and one that shows nothing
   pub shown-insert : {Y : Type 0} (f : X → Option Y) (m : FinMap R X) (k : K) (x : X) (y : Y) → f x ≡ Some y → shown f (insert m k x) ≡ insert (shown f m) k y
   shown-insert f m k x y is =
@@ -89,17 +63,6 @@ module _ {K X : Type 0} {R : K → K → Ordering} (o : IsTotalOrder R) (exact :
       cases q true t = same ∙ sym (ap (option_and_then f) (ap (get m) (same_by_test exact q k t) ∙ found))
       cases q false t = refl
 
-  -- values change so that none shows anything
-  pub shown-mapped_none : {Y : Type 0} (g : K → X → X) (f : X → Option Y) (es : List (K × X)) → ((q : K) (x : X) → f (g q x) ≡ None)
-      → shown f (map_of R (map (λ e. (e.0, g e.0 e.1)) es)) ≡ empty
-  shown-mapped_none g f es none =
-      same_map o exact _ _ (λ q.
-      get-shown o exact f (map_of R (map (λ e. (e.0, g e.0 e.1)) es)) q ∙ ap (option_and_then f) (get-mapped o exact g es q) ∙ cases q (get (map_of R es) q) ∙ sym (get-empty R q))
-    where
-      cases : (q : K) (v : Option X) → option_and_then f (option_map (g q) v) ≡ None
-      cases q None = refl
-      cases q (Some x) = none q x
-
   -- what is shown where a test passes is what the test leaves
   pub shown-kept : (p : X → Bool) (m : FinMap R X) → shown (λ x. kept_if p (Some x)) m ≡ retain m (λ _ x. p x)
   shown-kept p m = same_map o exact _ _ (λ q. get-shown o exact (λ x. kept_if p (Some x)) m q ∙ cases (get m q) ∙ sym (get-retain o exact m (λ _ x. p x) q))
@@ -107,19 +70,6 @@ module _ {K X : Type 0} {R : K → K → Ordering} (o : IsTotalOrder R) (exact :
       cases : (v : Option X) → option_and_then (λ x. kept_if p (Some x)) v ≡ kept_if p v
       cases None = refl
       cases (Some x) = refl
-
-  -- values change so that one key shows nothing
-  pub shown-removed : {Y : Type 0} (g : K → X → X) (f : X → Option Y) (k : K) (es : List (K × X)) → ((q : K) (x : X) → f (g q x) ≡ cond (eq_by_cmp R q k) None (f x))
-      → shown f (map_of R (map (λ e. (e.0, g e.0 e.1)) es)) ≡ remove (shown f (map_of R es)) k
-  shown-removed g f k es same =
-      same_map o exact _ _ (λ q.
-      get-shown o exact f (map_of R (map (λ e. (e.0, g e.0 e.1)) es)) q ∙ ap (option_and_then f) (get-mapped o exact g es q) ∙ cases q (get (map_of R es) q) (eq_by_cmp R q k) refl
-      ∙ sym (get-remove o (shown f (map_of R es)) k q ∙ ap (cond (eq_by_cmp R q k) None) (get-shown o exact f (map_of R es) q)))
-    where
-      cases : (q : K) (v : Option X) (t : Bool) → eq_by_cmp R q k ≡ t → option_and_then f (option_map (g q) v) ≡ cond t None (option_and_then f v)
-      cases q None true t = refl
-      cases q None false t = refl
-      cases q (Some x) b t = same q x ∙ ap (λ s. cond s None (f x)) t
 
   pub shown-empty : {Y : Type 0} (f : X → Option Y) → shown f (empty {R = R}) ≡ empty
   shown-empty f = same_map o exact _ _ (λ q. get-shown o exact f empty q ∙ ap (option_and_then f) (get-empty R q) ∙ sym (get-empty R q))

@@ -8,6 +8,7 @@ pub mod EventgroupOrder
 pub mod Wishes
 pub mod Endings
 pub mod SeekTables
+pub mod Waiting
 pub mod OfferMoments
 pub mod OfferExamples
 pub mod SubscriptionKeys

@@ -17,6 +17,7 @@
 //!   Finds go out.
 #![tactic(auto)]
 
+mod among;
 mod chosen;
 mod ending;
 mod error;

@@ -4,18 +4,18 @@ ghost use Rattle.std.specs.FinMap as finite;
 ghost use Rattle.someip_tables.specs.Tables.{map_of};
 ghost use Rattle.sd_core.specs.Keys.{instance_cmp};
 ghost use Rattle.std.specs.Option.{option_map, option_map_or};
-ghost use Rattle.sd_core.specs.Sendings.{goes_out, has_sent, due_at, sent_if_due};
+ghost use Rattle.sd_core.specs.Sendings.{has_sent, after_sending, due_at};
 ghost use Rattle.sd_core.specs.OfferTables.{offers_of, started, started_at, after_tick};
 ghost use Rattle.sd_core.specs.OfferTables.{answering, without};
+ghost use Rattle.sd_core.specs.Waiting.{place_moment};
 
 use crate::chosen::keys_where;
 use crate::keys::InstanceId;
 use crate::phases::Phases;
 use crate::sending::Sending;
 use crate::version::{Sought, Version};
-use someip_tables::Moment;
+use someip_tables::{Moment, TimedMap, Waits};
 use std::alloc::{AllocError, Global};
-use std::collections::BTreeMap;
 use std::marker::Model;
 
 /// An instance that the node may offer: its version, and when it sends its next Offer while it is up.
@@ -25,15 +25,48 @@ struct Place {
     sending: Option<Sending>,
 }
 
+impl Place {
+    /// The place once its Offer went out.
+    fn after_sending(&self, phases: Phases, now: Moment) -> Place
+        ensures { result ≡ record {
+          version = self.now.version;
+          sending = option_map (after_sending phases now) self.now.sending;
+        } }
+    {
+        let sending = match self.sending {
+            Some(sending) => Some(sending.after_sending(phases, now)),
+            None => None,
+        };
+        Place {
+            version: self.version,
+            sending,
+        }
+    }
+}
+
+/// While it is up, it waits for its next Offer.
+impl Waits for Place {
+    ghost moment = { place_moment };
+
+    fn waits_for(&self) -> Option<u64> {
+        match self.sending {
+            Some(sending) => Some(sending.due),
+            None => None,
+        }
+    }
+}
+
 /// The instances that a node offers, and when each that is up sends its next Offer (SOME/IP Service
 /// Discovery Protocol, "Startup behavior"). A contract sees the versions of the instances, and the
 /// map of those that are up.
 ///
-/// An instance keeps its place while it is down, so that [`Offers::start`] takes no memory.
+/// An instance keeps its place while it is down, so that [`Offers::start`] takes no memory. The moments
+/// of the Offers stand in order beside the places, so that [`Offers::tick`] looks only at those that
+/// are due.
 #[derive(Drop)]
 pub struct Offers {
     alloc: Global,
-    places: BTreeMap<InstanceId, Place>,
+    places: TimedMap<InstanceId, Place>,
 }
 
 impl Model for Offers {
@@ -45,7 +78,7 @@ impl Model for Offers {
 
     ghost coded = { coded_offers };
 
-    ghost view = { λ o. offers_of (map_of instance_cmp o.places.entries) };
+    ghost view = { λ o. offers_of (map_of instance_cmp o.places) };
 }
 
 impl Offers {
@@ -55,7 +88,7 @@ impl Offers {
     {
         Offers {
             alloc,
-            places: BTreeMap::new(alloc),
+            places: TimedMap::new(alloc),
         }
     }
 
@@ -73,8 +106,7 @@ impl Offers {
             version,
             sending: None,
         };
-        self.places.insert(instance, place)?;
-        Ok(())
+        self.places.insert(instance, place)
     }
 
     /// Starts every instance, as if none had sent an Offer: the first goes out at this many
@@ -95,8 +127,9 @@ impl Offers {
         ensures err { OnErr result (self.new ≡ self.old) }
         ensures grows { OnErr result (due_at now self.old.up ≢ finite.empty) }
     {
-        let due = due_now(&self.places, self.alloc, now)?;
-        advance(&mut self.places, now, phases);
+        let due = self.places.due_keys(self.alloc, now)?;
+        self.places
+            .change_those(&due, |_, place| place.after_sending(phases, now));
         Ok(due)
     }
 
@@ -107,7 +140,7 @@ impl Offers {
         ensures found { IfOk result (λ found. found.items ≡ finite.keys (answering sought self.now)) }
         ensures grows { OnErr result (answering sought self.now ≢ finite.empty) }
     {
-        keys_where(&self.places, self.alloc, |instance, place| {
+        keys_where(self.places.held(), self.alloc, |instance, place| {
             sought.fits(instance, &place.version) && has_sent(&place.sending)
         })
     }
@@ -132,63 +165,14 @@ impl Offers {
 }
 
 /// Gives every instance this next Offer.
-fn start_all(places: &mut BTreeMap<InstanceId, Place>, first: Sending)
-    ensures { offers_of (map_of instance_cmp places.new.entries)
-        ≡ started_at first (offers_of (map_of instance_cmp places.old.entries)) }
+fn start_all(places: &mut TimedMap<InstanceId, Place>, first: Sending)
+    ensures { offers_of (map_of instance_cmp places.new)
+        ≡ started_at first (offers_of (map_of instance_cmp places.old)) }
 {
-    places.retain(|_, place| {
-        *place = Place {
-            version: place.version,
-            sending: Some(first),
-        };
-        true
+    places.change_all(|_, place| Place {
+        version: place.version,
+        sending: Some(first),
     });
-}
-
-/// The instances whose Offer is due.
-fn due_now(
-    places: &BTreeMap<InstanceId, Place>,
-    alloc: Global,
-    now: Moment,
-) -> Result<Vec<InstanceId>, AllocError>
-    ensures due { IfOk result (λ due. due.items
-        ≡ finite.keys (due_at now (offers_of (map_of instance_cmp places.now.entries)).up)) }
-    ensures grows { OnErr result
-        (due_at now (offers_of (map_of instance_cmp places.now.entries)).up ≢ finite.empty) }
-{
-    keys_where(places, alloc, |_, place| is_due(&place.sending, now))
-}
-
-/// Counts the Offers that are due as sent.
-fn advance(places: &mut BTreeMap<InstanceId, Place>, now: Moment, phases: Phases)
-    ensures { offers_of (map_of instance_cmp places.new.entries)
-        ≡ after_tick phases now (offers_of (map_of instance_cmp places.old.entries)) }
-{
-    places.retain(|_, place| {
-        *place = Place {
-            version: place.version,
-            sending: next(place.sending, phases, now),
-        };
-        true
-    });
-}
-
-fn next(sending: Option<Sending>, phases: Phases, now: Moment) -> Option<Sending>
-    ensures { result ≡ option_map (sent_if_due phases now) sending }
-{
-    match sending {
-        Some(sending) if sending.is_due(now) => Some(sending.after_sending(phases, now)),
-        _ => sending,
-    }
-}
-
-fn is_due(sending: &Option<Sending>, now: Moment) -> bool
-    ensures { result ≡ option_map_or (goes_out now) sending.now false }
-{
-    match sending {
-        Some(sending) => sending.is_due(now),
-        None => false,
-    }
 }
 
 fn has_sent(sending: &Option<Sending>) -> bool
@@ -201,11 +185,11 @@ fn has_sent(sending: &Option<Sending>) -> bool
 }
 
 /// Takes an instance down, if there is such an instance, and says whether it was up.
-fn take_down(places: &mut BTreeMap<InstanceId, Place>, instance: InstanceId) -> bool
+fn take_down(places: &mut TimedMap<InstanceId, Place>, instance: InstanceId) -> bool
     ensures was_up { result
-        ≡ is_some (finite.get (offers_of (map_of instance_cmp places.old.entries)).up instance) }
-    ensures down { offers_of (map_of instance_cmp places.new.entries)
-        ≡ without instance (offers_of (map_of instance_cmp places.old.entries)) }
+        ≡ is_some (finite.get (offers_of (map_of instance_cmp places.old)).up instance) }
+    ensures down { offers_of (map_of instance_cmp places.new)
+        ≡ without instance (offers_of (map_of instance_cmp places.old)) }
 {
     let Some(place) = places.get(&instance).copied() else {
         return false;
@@ -214,8 +198,6 @@ fn take_down(places: &mut BTreeMap<InstanceId, Place>, instance: InstanceId) -> 
         version: place.version,
         sending: None,
     };
-    match places.insert(instance, down) {
-        Ok(_) => place.sending.is_some(),
-        Err(_) => unreachable!(),
-    }
+    places.replace(instance, down);
+    place.sending.is_some()
 }

@@ -6,20 +6,22 @@ ghost use Rattle.std.specs.declared.net.socket_addr.SocketAddrV4.{SocketAddrV4};
 ghost use Rattle.someip_tables.specs.Lastings.{expired};
 ghost use Rattle.someip_tables.specs.Tables.{map_of};
 ghost use Rattle.sd_core.specs.Keys.{instance_cmp};
+ghost use Rattle.someip_tables.specs.Waits.{due_by};
 ghost use Rattle.sd_core.specs.Sendings.{due_at};
 ghost use Rattle.sd_core.specs.SeekTables.{seek_of, searching, searching_from, seek_after_tick};
 ghost use Rattle.sd_core.specs.SeekTables.{IsQuiet, KnowsWanted, uncounted, counted_as, known_at, learned};
 ghost use Rattle.sd_core.specs.SeekTables.{is_stopped, known_of, forgetting};
+ghost use Rattle.sd_core.specs.Waiting.{want_moment};
 
+use crate::among::keys_among;
 use crate::chosen::keys_where;
 use crate::keys::InstanceId;
 use crate::phases::Phases;
 use crate::received::{Counted, KnownOffer, ReceivedOffer, Uncounted};
 use crate::sending::Sending;
 use crate::want::{Want, admit, counted_as};
-use someip_tables::{Deadline, Lasting, Moment};
+use someip_tables::{Deadline, Lasting, Moment, TimedMap};
 use std::alloc::{AllocError, Global};
-use std::collections::BTreeMap;
 use std::marker::Model;
 use std::net::Ipv4Addr;
 
@@ -38,11 +40,13 @@ pub struct Ticked {
 ///
 /// Whoever moves the clock calls [`Seeker::tick`] with it, which tells the offers whose time has
 /// passed: until then they are kept, and count for nothing. An instance keeps its place while nothing
-/// is known of it, so that [`Seeker::start`] and [`Seeker::offer`] take no memory.
+/// is known of it, so that [`Seeker::start`] and [`Seeker::offer`] take no memory. The moments at which
+/// an offer passes or a Find goes out stand in order beside the places, so that `tick` looks only at
+/// those that have come.
 #[derive(Drop)]
 pub struct Seeker {
     alloc: Global,
-    wants: BTreeMap<InstanceId, Want>,
+    wants: TimedMap<InstanceId, Want>,
 }
 
 impl Model for Seeker {
@@ -54,7 +58,7 @@ impl Model for Seeker {
 
     ghost coded = { coded_seek };
 
-    ghost view = { λ s. seek_of (map_of instance_cmp s.wants.entries) };
+    ghost view = { λ s. seek_of (map_of instance_cmp s.wants) };
 }
 
 impl Seeker {
@@ -68,7 +72,7 @@ impl Seeker {
     {
         Seeker {
             alloc,
-            wants: BTreeMap::new(alloc),
+            wants: TimedMap::new(alloc),
         }
     }
 
@@ -89,8 +93,7 @@ impl Seeker {
             known: None,
             finding: None,
         };
-        self.wants.insert(instance, want)?;
-        Ok(())
+        self.wants.insert(instance, want)
     }
 
     /// Searches for every instance, as if nothing had been known and no Find sent: the first goes out
@@ -116,10 +119,10 @@ impl Seeker {
         ensures grows { OnErr result (¬ (IsQuiet now self.old)) }
         ensures wanted { KnowsWanted self.old }
     {
-        let ended = passed_now(&self.wants, self.alloc, now)?;
-        let finds = due_now(&self.wants, self.alloc, now)?;
-        advance(&mut self.wants, now, phases);
-        Ok(Ticked { ended, finds })
+        let due = self.wants.due_keys(self.alloc, now)?;
+        let ticked = brought(&self.wants, self.alloc, &due, now)?;
+        advance(&mut self.wants, &due, now, phases);
+        Ok(ticked)
     }
 
     /// Learns from an Offer, if it counts: its instance is wanted in its major version, it has an
@@ -167,7 +170,7 @@ impl Seeker {
         ensures grows { OnErr result (known_of peer now self.old ≢ finite.empty) }
     {
         let ended = known_now(&self.wants, self.alloc, peer, now)?;
-        forget(&mut self.wants, peer, now);
+        forget(&mut self.wants, &ended, peer, now);
         Ok(ended)
     }
 
@@ -183,103 +186,96 @@ impl Seeker {
 }
 
 /// Forgets what is known of every instance, and gives each this first Find.
-fn search_for_all(wants: &mut BTreeMap<InstanceId, Want>, first: Sending)
-    ensures { seek_of (map_of instance_cmp wants.new.entries)
-        ≡ searching_from first (seek_of (map_of instance_cmp wants.old.entries)) }
+fn search_for_all(wants: &mut TimedMap<InstanceId, Want>, first: Sending)
+    ensures { seek_of (map_of instance_cmp wants.new)
+        ≡ searching_from first (seek_of (map_of instance_cmp wants.old)) }
 {
-    wants.retain(|_, want| {
-        *want = Want {
-            major: want.major,
-            known: None,
-            finding: Some(first),
-        };
-        true
+    wants.change_all(|_, want| Want {
+        major: want.major,
+        known: None,
+        finding: Some(first),
     });
 }
 
-/// The instances whose offer has passed.
-fn passed_now(
-    wants: &BTreeMap<InstanceId, Want>,
+/// What a moment brings to the instances whose own moment has come, which are these: those whose offer
+/// has passed, and those whose Find is due. Memory runs out only where there are any.
+fn brought(
+    wants: &TimedMap<InstanceId, Want>,
     alloc: Global,
+    due: &[InstanceId],
     now: Moment,
-) -> Result<Vec<InstanceId>, AllocError>
-    ensures ended { IfOk result (λ ended. ended.items
-        ≡ finite.keys (expired now (seek_of (map_of instance_cmp wants.now.entries)).known)) }
-    ensures grows { OnErr result
-        (expired now (seek_of (map_of instance_cmp wants.now.entries)).known ≢ finite.empty) }
+) -> Result<Ticked, AllocError>
+    requires { due.now ≡ finite.keys (due_by want_moment now (map_of instance_cmp wants.now)) }
+    ensures ended { IfOk result (λ ticked. ticked.ended.items
+        ≡ finite.keys (expired now (seek_of (map_of instance_cmp wants.now)).known)) }
+    ensures finds { IfOk result (λ ticked. ticked.finds.items
+        ≡ finite.keys (due_at now (seek_of (map_of instance_cmp wants.now)).finding)) }
+    ensures grows { OnErr result (¬ (IsQuiet now (seek_of (map_of instance_cmp wants.now)))) }
 {
-    keys_where(wants, alloc, |_, want| want.has_passed(now))
-}
-
-/// The instances whose Find is due.
-fn due_now(
-    wants: &BTreeMap<InstanceId, Want>,
-    alloc: Global,
-    now: Moment,
-) -> Result<Vec<InstanceId>, AllocError>
-    ensures due { IfOk result (λ due. due.items
-        ≡ finite.keys (due_at now (seek_of (map_of instance_cmp wants.now.entries)).finding)) }
-    ensures grows { OnErr result
-        (due_at now (seek_of (map_of instance_cmp wants.now.entries)).finding ≢ finite.empty) }
-{
-    keys_where(wants, alloc, |_, want| want.is_due(now))
+    if due.is_empty() {
+        return Ok(Ticked {
+            ended: Vec::new(alloc),
+            finds: Vec::new(alloc),
+        });
+    }
+    let held = wants.held();
+    let ended = keys_among(held, alloc, due, |_, want| want.has_passed(now))?;
+    let finds = keys_among(held, alloc, due, |_, want| want.is_due(now))?;
+    Ok(Ticked { ended, finds })
 }
 
 /// The instances whose offer is known of a peer.
 fn known_now(
-    wants: &BTreeMap<InstanceId, Want>,
+    wants: &TimedMap<InstanceId, Want>,
     alloc: Global,
     peer: Ipv4Addr,
     now: Moment,
 ) -> Result<Vec<InstanceId>, AllocError>
     ensures known { IfOk result (λ known. known.items
-        ≡ finite.keys (known_of peer now (seek_of (map_of instance_cmp wants.now.entries)))) }
+        ≡ finite.keys (known_of peer now (seek_of (map_of instance_cmp wants.now)))) }
     ensures grows { OnErr result
-        (known_of peer now (seek_of (map_of instance_cmp wants.now.entries)) ≢ finite.empty) }
+        (known_of peer now (seek_of (map_of instance_cmp wants.now)) ≢ finite.empty) }
 {
-    keys_where(wants, alloc, |_, want| want.stands_by(peer, now))
+    keys_where(wants.held(), alloc, |_, want| want.stands_by(peer, now))
 }
 
-/// Drops the offers that have passed, and counts the Finds that are due as sent.
-fn advance(wants: &mut BTreeMap<InstanceId, Want>, now: Moment, phases: Phases)
-    ensures { seek_of (map_of instance_cmp wants.new.entries)
-        ≡ seek_after_tick phases now (seek_of (map_of instance_cmp wants.old.entries)) }
+/// Drops the offers that have passed, and counts the Finds that are due as sent, of these instances.
+fn advance(wants: &mut TimedMap<InstanceId, Want>, due: &[InstanceId], now: Moment, phases: Phases)
+    requires { due.now ≡ finite.keys (due_by want_moment now (map_of instance_cmp wants.old)) }
+    ensures { seek_of (map_of instance_cmp wants.new)
+        ≡ seek_after_tick phases now (seek_of (map_of instance_cmp wants.old)) }
 {
-    wants.retain(|_, want| {
-        *want = want.after_tick(phases, now);
-        true
-    });
+    wants.change_those(due, |_, want| want.after_tick(phases, now));
 }
 
-/// Drops the offers that are known of a peer.
-fn forget(wants: &mut BTreeMap<InstanceId, Want>, peer: Ipv4Addr, now: Moment)
-    ensures { seek_of (map_of instance_cmp wants.new.entries)
-        ≡ forgetting peer now (seek_of (map_of instance_cmp wants.old.entries)) }
+/// Drops the offers of these instances, those that are known of a peer.
+fn forget(wants: &mut TimedMap<InstanceId, Want>, known: &[InstanceId], peer: Ipv4Addr, now: Moment)
+    requires { known.now
+        ≡ finite.keys (known_of peer now (seek_of (map_of instance_cmp wants.old))) }
+    ensures { seek_of (map_of instance_cmp wants.new)
+        ≡ forgetting peer now (seek_of (map_of instance_cmp wants.old)) }
 {
-    wants.retain(|_, want| {
-        *want = want.without_offer_by(peer, now);
-        true
-    });
+    wants.change_those(known, |_, want| want.without_offer_by(peer, now));
 }
 
 /// Learns from an Offer, if it counts.
 fn learn(
-    wants: &mut BTreeMap<InstanceId, Want>,
+    wants: &mut TimedMap<InstanceId, Want>,
     offer: &ReceivedOffer,
     now: Moment,
 ) -> Result<Counted, Uncounted>
     ensures counts { OnOk result
-        (uncounted offer.now now (seek_of (map_of instance_cmp wants.old.entries)) ≡ None) }
+        (uncounted offer.now now (seek_of (map_of instance_cmp wants.old)) ≡ None) }
     ensures counted { IfOk result (λ counted. (endpoint : SocketAddrV4)
         → offer.now.endpoint ≡ Some endpoint → counted ≡ counted_as endpoint (known_at now
-        (finite.get (seek_of (map_of instance_cmp wants.old.entries)).known offer.now.instance))) }
+        (finite.get (seek_of (map_of instance_cmp wants.old)).known offer.now.instance))) }
     ensures learned { OnOk result ((endpoint : SocketAddrV4) → offer.now.endpoint ≡ Some endpoint
-        → seek_of (map_of instance_cmp wants.new.entries)
-        ≡ learned offer.now endpoint now (seek_of (map_of instance_cmp wants.old.entries))) }
+        → seek_of (map_of instance_cmp wants.new)
+        ≡ learned offer.now endpoint now (seek_of (map_of instance_cmp wants.old))) }
     ensures refused { IfErr result (λ cause.
-        uncounted offer.now now (seek_of (map_of instance_cmp wants.old.entries)) ≡ Some cause) }
-    ensures unchanged { OnErr result (seek_of (map_of instance_cmp wants.new.entries)
-        ≡ seek_of (map_of instance_cmp wants.old.entries)) }
+        uncounted offer.now now (seek_of (map_of instance_cmp wants.old)) ≡ Some cause) }
+    ensures unchanged { OnErr result (seek_of (map_of instance_cmp wants.new)
+        ≡ seek_of (map_of instance_cmp wants.old)) }
 {
     let Some(want) = wants.get(&offer.instance).copied() else {
         return Err(Uncounted::Unwanted);
@@ -296,26 +292,26 @@ fn learn(
         known: Some(Lasting { value, until }),
         finding: None,
     };
-    replace(wants, offer.instance, found);
+    wants.replace(offer.instance, found);
     Ok(counted_as(endpoint, known))
 }
 
 /// Ends the offer of an instance, if it is by this peer and the instance is wanted in this version.
 fn end_offer(
-    wants: &mut BTreeMap<InstanceId, Want>,
+    wants: &mut TimedMap<InstanceId, Want>,
     instance: InstanceId,
     major: u8,
     peer: Ipv4Addr,
     now: Moment,
 ) -> bool
     ensures ended { result ≡ is_stopped instance major peer now
-        (seek_of (map_of instance_cmp wants.old.entries)) }
-    ensures gone { OnTrue result (seek_of (map_of instance_cmp wants.new.entries)
-        ≡ record (seek_of (map_of instance_cmp wants.old.entries)) {
-          known = finite.remove (seek_of (map_of instance_cmp wants.old.entries)).known instance;
+        (seek_of (map_of instance_cmp wants.old)) }
+    ensures gone { OnTrue result (seek_of (map_of instance_cmp wants.new)
+        ≡ record (seek_of (map_of instance_cmp wants.old)) {
+          known = finite.remove (seek_of (map_of instance_cmp wants.old)).known instance;
         }) }
-    ensures unchanged { OnFalse result (seek_of (map_of instance_cmp wants.new.entries)
-        ≡ seek_of (map_of instance_cmp wants.old.entries)) }
+    ensures unchanged { OnFalse result (seek_of (map_of instance_cmp wants.new)
+        ≡ seek_of (map_of instance_cmp wants.old)) }
 {
     let Some(want) = wants.get(&instance).copied() else {
         return false;
@@ -328,18 +324,6 @@ fn end_offer(
         known: None,
         finding: want.finding,
     };
-    replace(wants, instance, left);
+    wants.replace(instance, left);
     true
-}
-
-/// Puts a want in place of the one of its instance. It takes no memory.
-fn replace(wants: &mut BTreeMap<InstanceId, Want>, instance: InstanceId, want: Want)
-    requires { finite.get (map_of instance_cmp wants.old.entries) instance ≢ None }
-    ensures { map_of instance_cmp wants.new.entries
-        ≡ finite.insert (map_of instance_cmp wants.old.entries) instance want }
-{
-    match wants.insert(instance, want) {
-        Ok(_) => {}
-        Err(_) => unreachable!(),
-    }
 }

@@ -7,11 +7,12 @@ ghost use Rattle.someip_tables.specs.Retained.{kept_if};
 ghost use Rattle.sd_core.specs.Sendings.{goes_out, after_find};
 ghost use Rattle.sd_core.specs.SeekTables.{known_at, is_wanted, stands_by};
 ghost use Rattle.sd_core.specs.SeekTables.{offer_refusal, counted_as};
+ghost use Rattle.sd_core.specs.Waiting.{earlier, want_moment};
 
 use crate::phases::Phases;
 use crate::received::{Counted, KnownOffer, ReceivedOffer, Uncounted};
 use crate::sending::Sending;
-use someip_tables::{Lasting, Moment, is_same_key};
+use someip_tables::{Deadline, Lasting, Moment, Waits, is_same_key};
 use std::net::{Ipv4Addr, SocketAddrV4};
 
 /// A wanted instance.
@@ -116,6 +117,39 @@ impl Want {
             },
             finding: self.finding,
         }
+    }
+}
+
+/// It waits for what comes first: that its offer passes, or its next Find.
+impl Waits for Want {
+    ghost moment = { want_moment };
+
+    fn waits_for(&self) -> Option<u64> {
+        let passes = match self.known {
+            Some(
+                Lasting {
+                    until: Deadline::At(at),
+                    ..
+                },
+            ) => Some(at),
+            _ => None,
+        };
+        let finds = match self.finding {
+            Some(finding) => Some(finding.due),
+            None => None,
+        };
+        earlier(passes, finds)
+    }
+}
+
+/// The earlier of two moments, or the one that there is.
+fn earlier(a: Option<u64>, b: Option<u64>) -> Option<u64>
+    ensures { result ≡ earlier a b }
+{
+    match (a, b) {
+        (Some(x), Some(y)) => Some(x.min(y)),
+        (Some(x), None) => Some(x),
+        (None, _) => b,
     }
 }
 

@@ -1,14 +1,18 @@
-use Rattle.std.proofs.Common.{◌≡◌, None, sym}
-use Rattle.std.specs.BTreeMap as tree
+use Rattle.std.proofs.Common.{None, ap, ◌∙◌}
+use Rattle.std.proofs.lemmas.Result.{on_ok_weaker, on_err_weaker}
+use Rattle.someip_tables.specs.Tables.{map_of}
 use Rattle.sd_core.specs.Keys.{instance_cmp}
+use Rattle.sd_core.specs.OfferTables.{offers_of}
 use Rattle.sd_core.proofs.OfferLemmas.{put_down, version_is}
-use Rattle.sd_core.proofs.Memory.{on_err}
 use Rattle.sd_core.proofs.offers.Offers.add.Goals as goal
 
-pub returns-in_err-insert-clause-grows : goal.returns-in_err-insert-clause-grows
-returns-in_err-insert-clause-grows c =
-    let none : tree.get instance_cmp c.self.inside.places c.args.instance ≡ None = c.in_err-insert.ensures.absent in
-    on_err c.from_residual.result (rw (← c.self.view_is) (version_is c.self.inside.places c.args.instance None (sym none)))
-
 pub returns-clause-ok : goal.returns-clause-ok
-returns-clause-ok c = rw (← c.self.view_is) (put_down c.self.inside.places.entries c.insert.new.self.entries c.args.instance c.args.version c.in_ok-insert.ensures.updates.0)
+returns-clause-ok c =
+    rw (← c.self.view_is) (on_ok_weaker c.insert.result (λ is. ap offers_of is ∙ put_down (map_of instance_cmp c.self.inside.places) c.args.instance c.args.version) c.insert.ensures.ok)
+
+pub returns-clause-err : goal.returns-clause-err
+returns-clause-err c = rw (← c.self.view_is) (on_err_weaker c.insert.result (λ is. ap offers_of is) c.insert.ensures.err)
+
+pub returns-clause-grows : goal.returns-clause-grows
+returns-clause-grows c =
+    rw (← c.self.view_is) (on_err_weaker c.insert.result (λ none. version_is (map_of instance_cmp c.self.inside.places) c.args.instance None none) c.insert.ensures.grows)
