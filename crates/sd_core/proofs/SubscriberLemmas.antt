@@ -119,7 +119,7 @@ any_endpoint instance eventgroups endpoint live =
     ∙ any_map (eq_by_cmp endpoint_cmp endpoint) (λ (s : Subscription). s.endpoint) to
     ∙ any_filter (λ (s : Subscription). eq_by_cmp endpoint_cmp endpoint s.endpoint) (is_to_any instance eventgroups) (keys live))
 
-none_passes : {X : Type 0} (p : X → Bool) (xs : List X) → list_any p xs ≡ false → filter p xs ≡ []
+pub none_passes : {X : Type 0} (p : X → Bool) (xs : List X) → list_any p xs ≡ false → filter p xs ≡ []
 none_passes p [] none = refl
 none_passes p (x ∷ xs) none = cases (p x) none (none_passes p xs)
   where
@@ -127,7 +127,7 @@ none_passes p (x ∷ xs) none = cases (p x) none (none_passes p xs)
     cases true none rest = cc
     cases false none rest = rest none
 
-some_passes : {X Y : Type 0} (p : X → Bool) (f : X → Y) (xs : List X) → list_any p xs ≡ true → map f (filter p xs) ≢ []
+pub some_passes : {X Y : Type 0} (p : X → Bool) (f : X → Y) (xs : List X) → list_any p xs ≡ true → map f (filter p xs) ≢ []
 some_passes p f [] some = λ is. cc
 some_passes p f (x ∷ xs) some = cases (p x) some (some_passes p f xs)
   where

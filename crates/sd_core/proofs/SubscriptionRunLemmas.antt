@@ -92,7 +92,7 @@ squeezed Equal Less r t le lt = absurd (cc)
 squeezed Equal Greater r t le lt = absurd (cc)
 squeezed Equal Equal r t le lt = (refl, refl)
 
-turned : {K : Type 0} {R : K → K → Ordering} → IsTotalOrder R → (a b x : K) → b ≡ x → R a b ≡ ordering_reverse (R x a)
+pub turned : {K : Type 0} {R : K → K → Ordering} → IsTotalOrder R → (a b x : K) → b ≡ x → R a b ≡ ordering_reverse (R x a)
 turned {R = R} o a b x is = o.antisymm a b ∙ ap (λ y. ordering_reverse (R y a)) is
 
 pub eventgroup_whole : (instance : InstanceId) (eventgroup : ℕ) (a b : Subscription) → is_le (subscription_cmp (least_to instance eventgroup) a) ≡ true → subscription_cmp a b ≡ Less → is_to instance eventgroup b ≡ true
@@ -177,11 +177,11 @@ live_in_run instance eventgroup now m octets =
     ∙ any_same (λ e. to e.0 && is_live_at now e) (λ e. is_live_at now e && to e.0) (entries m) (λ e. both_swapped (to e.0) (is_live_at now e))
     ∙ any_unexpired subscriptions_total exact_subscriptions to now m
 
-any_none : {X : Type 0} (xs : List X) → list_any (λ _. false) xs ≡ false
+pub any_none : {X : Type 0} (xs : List X) → list_any (λ _. false) xs ≡ false
 any_none [] = refl
 any_none (x ∷ xs) = any_none xs
 
-any_either : {X : Type 0} (p q : X → Bool) (xs : List X) → (list_any p xs || list_any q xs) ≡ list_any (λ x. p x || q x) xs
+pub any_either : {X : Type 0} (p q : X → Bool) (xs : List X) → (list_any p xs || list_any q xs) ≡ list_any (λ x. p x || q x) xs
 any_either p q [] = refl
 any_either p q (x ∷ xs) = turned_about (p x) (q x) (list_any p xs) (list_any q xs) ∙ ap (λ b. (p x || q x) || b) (any_either p q xs)
   where

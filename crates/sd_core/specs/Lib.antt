@@ -7,6 +7,7 @@ pub mod Changed
 pub mod Eventgroups
 pub mod EventgroupOrder
 pub mod Wishes
+pub mod WishTables
 pub mod Endings
 pub mod SeekTables
 pub mod OfferMoments
