@@ -1,5 +1,5 @@
 -- Maps with their values changed.
-use Rattle.std.proofs.Common.{◌≡◌, Bool, true, false, cond, List, [], ◌∷◌, map, Option, None, Some, refl, ap, sym, subst, ◌∙◌}
+use Rattle.std.proofs.Common.{◌≡◌, Bool, true, false, cond, List, [], ◌∷◌, Option, None, Some, refl, ap, sym, ◌∙◌}
 use Rattle.std.specs.Option.{is_some, option_map}
 use Rattle.std.specs.List.{filter_map, list_any}
 use Rattle.std.specs.declared.cmp.Ordering.{Ordering}
@@ -7,38 +7,18 @@ use Rattle.std.specs.Ordering.{eq_by_cmp}
 use Rattle.std.specs.Cmp.{IsTotalOrder}
 use Rattle.std.specs.BTreeMap.{is_at}
 use Rattle.std.specs.Map.{lookup}
-use Rattle.std.specs.Map.Calls.{RetainsPairs}
-use Rattle.std.specs.FinMap.{FinMap, IsAntisymmetric, get, insert, entries, get-entries, get-from_entries, get-insert, same_map}
+use Rattle.std.specs.FinMap.{FinMap, IsAntisymmetric, get, insert, get-insert, same_map}
 use Rattle.someip_tables.specs.Tables.{map_of}
 use Rattle.someip_tables.proofs.Entries.{same_by_test}
 use Rattle.someip_tables.proofs.Trees.{map_of-insert}
-use Rattle.sd_core.specs.Changed.{each_changed, changed_at}
-use Rattle.sd_core.proofs.ShownLemmas.{get-mapped}
-
--- a closure that always answers true and writes g of each key and value, and stays as it was
-pub map_keyed_pairs : {F K X : Type 0} (T : F → K → X → Bool → X → F → Type 0) (g : K → X → X) (f : F)
-    → ((k : K) (v : X) (b : Bool) (w : X) (f' : F) → T f k v b w f' → (b ≡ true) × (w ≡ g k v) × (f' ≡ f))
-    → (es kept : List (K × X)) → RetainsPairs T f es kept → kept ≡ map (λ e. (e.0, g e.0 e.1)) es
-map_keyed_pairs T g f h [] kept r = r
-map_keyed_pairs T g f h (e ∷ es) kept r =
-    let a = h e.0 e.1 r.0 r.1 r.2 r.4 in
-    let rest = map_keyed_pairs T g f h es r.3 (subst (λ u. RetainsPairs T u es r.3) a.2 r.5) in
-    r.6 ∙ ap (λ b. cond b ((e.0, r.1) ∷ r.3) r.3) a.0 ∙ (λ i. (e.0, a.1 i) ∷ rest i)
+use Rattle.someip_tables.specs.Changed.{changed_at}
+use Rattle.someip_tables.proofs.ChangedLemmas.{get-changed}
 
 module _ {K X : Type 0} {R : K → K → Ordering} (o : IsTotalOrder R) (exact : IsAntisymmetric R) where
-  pub get-changed : (g : K → X → X) (m : FinMap R X) (q : K) → get (each_changed g m) q ≡ option_map (g q) (get m q)
-  get-changed g m q = get-mapped o exact g (entries m) q ∙ ap (option_map (g q)) (get-from_entries o (entries m) q ∙ sym (get-entries m q))
-
-  -- a list of entries is changed
-  pub changed-entries : (g : K → X → X) (old new : List (K × X)) → new ≡ map (λ e. (e.0, g e.0 e.1)) old → map_of R new ≡ each_changed g (map_of R old)
-  changed-entries g old new is =
-      ap (map_of R) is
-      ∙ same_map o exact _ _ (λ q. get-mapped o exact g old q ∙ sym (get-changed g (map_of R old) q))
-
   -- a value is put in place of one that it is made of
   insert-changed : (f : X → X) (m : FinMap R X) (k : K) (x : X) → get m k ≡ Some x → insert m k (f x) ≡ changed_at k f m
   insert-changed f m k x some =
-      same_map o exact _ _ (λ q. get-insert o m k (f x) q ∙ cases q (eq_by_cmp R q k) refl ∙ sym (get-changed (λ q y. cond (eq_by_cmp R q k) (f y) y) m q))
+      same_map o exact _ _ (λ q. get-insert o m k (f x) q ∙ cases q (eq_by_cmp R q k) refl ∙ sym (get-changed o exact (λ q y. cond (eq_by_cmp R q k) (f y) y) m q))
     where
       plain : (v : Option X) → v ≡ option_map (λ y. y) v
       plain None = refl
@@ -56,7 +36,7 @@ module _ {K X : Type 0} {R : K → K → Ordering} (o : IsTotalOrder R) (exact :
   -- a key without a value
   pub absent-changed : (f : X → X) (m : FinMap R X) (k : K) → get m k ≡ None → m ≡ changed_at k f m
   absent-changed f m k none =
-      same_map o exact _ _ (λ q. cases q (eq_by_cmp R q k) refl ∙ sym (get-changed (λ q y. cond (eq_by_cmp R q k) (f y) y) m q))
+      same_map o exact _ _ (λ q. cases q (eq_by_cmp R q k) refl ∙ sym (get-changed o exact (λ q y. cond (eq_by_cmp R q k) (f y) y) m q))
     where
       plain : (v : Option X) → v ≡ option_map (λ y. y) v
       plain None = refl

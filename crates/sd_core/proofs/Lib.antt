@@ -1,5 +1,4 @@
 pub mod Memory
-pub mod SortedEntries
 pub mod ShownLemmas
 pub mod OfferLemmas
 pub mod ChangedLemmas

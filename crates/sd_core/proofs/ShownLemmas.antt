@@ -11,7 +11,8 @@ use Rattle.someip_tables.specs.Retained.{kept_if, retain}
 use Rattle.someip_tables.specs.Tables.{map_of}
 use Rattle.someip_tables.proofs.Entries.{same_by_test, none_found, entries_distinct, get-retain}
 use Rattle.sd_core.specs.Shown.{with_entry, shown_of, shown}
-use Rattle.sd_core.proofs.SortedEntries.{same_keys}
+use Rattle.someip_tables.proofs.SortedEntries.{same_keys}
+use Rattle.someip_tables.proofs.ChangedLemmas.{get-mapped}
 
 module _ {K X Y : Type 0} {R : K → K → Ordering} (o : IsTotalOrder R) (exact : IsAntisymmetric R) where
   find-shown_of : (f : X → Option Y) (q : K) (es : List (K × X)) → are_distinct R es ≡ true → find R q (shown_of f es) ≡ option_and_then f (find R q es)
@@ -33,25 +34,12 @@ module _ {K X Y : Type 0} {R : K → K → Ordering} (o : IsTotalOrder R) (exact
   get-shown f m q = get-from_entries o (shown_of f (entries m)) q ∙ find-shown_of f q (entries m) (entries_distinct o exact m) ∙ ap (option_and_then f) (sym (get-entries m q))
 
 module _ {K X : Type 0} {R : K → K → Ordering} (o : IsTotalOrder R) (exact : IsAntisymmetric R) where
-  find-mapped : (g : K → X → X) (q : K) (es : List (K × X)) → find R q (map (λ e. (e.0, g e.0 e.1)) es) ≡ option_map (g q) (find R q es)
-  find-mapped g q [] = refl
-  find-mapped g q (e ∷ es) = cases (eq_by_cmp R q e.0) refl (find-mapped g q es)
-    where
-      cases : (t : Bool) → eq_by_cmp R q e.0 ≡ t → find R q (map (λ e. (e.0, g e.0 e.1)) es) ≡ option_map (g q) (find R q es)
-          → cond t (Some (g e.0 e.1)) (find R q (map (λ e. (e.0, g e.0 e.1)) es)) ≡ option_map (g q) (cond t (Some e.1) (find R q es))
-      cases true t rest = ap (λ k. Some (g k e.1)) (sym (same_by_test exact q e.0 t))
-      cases false t rest = rest
-
-  -- the value of a key, once each value was changed
-  pub get-mapped : (g : K → X → X) (es : List (K × X)) (q : K) → get (map_of R (map (λ e. (e.0, g e.0 e.1)) es)) q ≡ option_map (g q) (get (map_of R es) q)
-  get-mapped g es q = get-from_entries o _ q ∙ find-mapped g q es ∙ ap (option_map (g q)) (sym (get-from_entries o es q))
-
   -- what is shown of changed values is what h shows of the old
   pub shown-mapped : {Y Z : Type 0} (g : K → X → X) (f : X → Option Z) (at : Y → Option Z) (h : X → Option Y) (es : List (K × X)) → ((q : K) (x : X) → f (g q x) ≡ option_and_then at (h x))
       → shown f (map_of R (map (λ e. (e.0, g e.0 e.1)) es)) ≡ shown at (shown h (map_of R es))
   shown-mapped g f at h es same =
       same_map o exact _ _ (λ q.
-      get-shown o exact f (map_of R (map (λ e. (e.0, g e.0 e.1)) es)) q ∙ ap (option_and_then f) (get-mapped g es q) ∙ cases q (get (map_of R es) q)
+      get-shown o exact f (map_of R (map (λ e. (e.0, g e.0 e.1)) es)) q ∙ ap (option_and_then f) (get-mapped o exact g es q) ∙ cases q (get (map_of R es) q)
       ∙ sym (get-shown o exact at (shown h (map_of R es)) q ∙ ap (option_and_then at) (get-shown o exact h (map_of R es) q)))
     where
       cases : (q : K) (v : Option X) → option_and_then f (option_map (g q) v) ≡ option_and_then at (option_and_then h v)
@@ -63,7 +51,7 @@ module _ {K X : Type 0} {R : K → K → Ordering} (o : IsTotalOrder R) (exact :
       → shown f (map_of R (map (λ e. (e.0, g e.0 e.1)) es)) ≡ shown f (map_of R es)
   shown-mapped_same g f es same =
       same_map o exact _ _ (λ q.
-      get-shown o exact f (map_of R (map (λ e. (e.0, g e.0 e.1)) es)) q ∙ ap (option_and_then f) (get-mapped g es q) ∙ cases q (get (map_of R es) q)
+      get-shown o exact f (map_of R (map (λ e. (e.0, g e.0 e.1)) es)) q ∙ ap (option_and_then f) (get-mapped o exact g es q) ∙ cases q (get (map_of R es) q)
       ∙ sym (get-shown o exact f (map_of R es) q))
     where
       cases : (q : K) (v : Option X) → option_and_then f (option_map (g q) v) ≡ option_and_then f v
@@ -106,7 +94,7 @@ module _ {K X : Type 0} {R : K → K → Ordering} (o : IsTotalOrder R) (exact :
       → shown f (map_of R (map (λ e. (e.0, g e.0 e.1)) es)) ≡ empty
   shown-mapped_none g f es none =
       same_map o exact _ _ (λ q.
-      get-shown o exact f (map_of R (map (λ e. (e.0, g e.0 e.1)) es)) q ∙ ap (option_and_then f) (get-mapped g es q) ∙ cases q (get (map_of R es) q) ∙ sym (get-empty R q))
+      get-shown o exact f (map_of R (map (λ e. (e.0, g e.0 e.1)) es)) q ∙ ap (option_and_then f) (get-mapped o exact g es q) ∙ cases q (get (map_of R es) q) ∙ sym (get-empty R q))
     where
       cases : (q : K) (v : Option X) → option_and_then f (option_map (g q) v) ≡ None
       cases q None = refl
@@ -125,7 +113,7 @@ module _ {K X : Type 0} {R : K → K → Ordering} (o : IsTotalOrder R) (exact :
       → shown f (map_of R (map (λ e. (e.0, g e.0 e.1)) es)) ≡ remove (shown f (map_of R es)) k
   shown-removed g f k es same =
       same_map o exact _ _ (λ q.
-      get-shown o exact f (map_of R (map (λ e. (e.0, g e.0 e.1)) es)) q ∙ ap (option_and_then f) (get-mapped g es q) ∙ cases q (get (map_of R es) q) (eq_by_cmp R q k) refl
+      get-shown o exact f (map_of R (map (λ e. (e.0, g e.0 e.1)) es)) q ∙ ap (option_and_then f) (get-mapped o exact g es q) ∙ cases q (get (map_of R es) q) (eq_by_cmp R q k) refl
       ∙ sym (get-remove o (shown f (map_of R es)) k q ∙ ap (cond (eq_by_cmp R q k) None) (get-shown o exact f (map_of R es) q)))
     where
       cases : (q : K) (v : Option X) (t : Bool) → eq_by_cmp R q k ≡ t → option_and_then f (option_map (g q) v) ≡ cond t None (option_and_then f v)

@@ -25,7 +25,7 @@ use Rattle.sd_core.specs.declared.subscription.Subscription.{Subscription}
 use Rattle.sd_core.specs.SubscriptionKeys.{subscription_cmp}
 use Rattle.sd_core.specs.SubscriptionOrder.{subscriptions_total, exact_subscriptions}
 use Rattle.sd_core.specs.SubscriberTables.{SubscriberMap, count_beside, endpoints_of, is_to, is_to_any, subscribed_until, subscriber_count}
-use Rattle.sd_core.proofs.SortedEntries.{keys-empty}
+use Rattle.someip_tables.proofs.SortedEntries.{keys-empty}
 
 -- a reference is there where what it points to is
 pub some_copied : {X : Type 0} (v : Option (Bor X)) → is_some v ≡ is_some (option_copied v)

@@ -3,7 +3,6 @@ pub mod KeyOrder
 pub mod Shown
 pub mod Sendings
 pub mod OfferTables
-pub mod Changed
 pub mod Eventgroups
 pub mod EventgroupOrder
 pub mod Wishes

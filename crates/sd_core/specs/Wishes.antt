@@ -23,7 +23,7 @@ use Rattle.sd_core.specs.declared.wish.Acked.{Acked}
 use Rattle.sd_core.specs.declared.wish.Acked.TheVariants.{Subscribed, Renewed, NotPending}
 use Rattle.sd_core.specs.Keys.{instance_cmp}
 use Rattle.sd_core.specs.Eventgroups.{eventgroup_cmp, coded_eventgroup}
-use Rattle.sd_core.specs.Changed.{each_changed}
+use Rattle.someip_tables.specs.Changed.{each_changed}
 
 -- the eventgroups that were wished, and how far each wish is
 abbrev pub Wishes : Type 0

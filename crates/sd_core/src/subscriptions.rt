@@ -6,7 +6,7 @@ ghost use Rattle.std.specs.Ordering.{eq_by_cmp};
 ghost use Rattle.someip_tables.specs.Tables.{map_of};
 ghost use Rattle.sd_core.specs.Keys.{instance_cmp};
 ghost use Rattle.sd_core.specs.Eventgroups.{eventgroup_cmp};
-ghost use Rattle.sd_core.specs.Changed.{changed_at};
+ghost use Rattle.someip_tables.specs.Changed.{changed_at};
 ghost use Rattle.sd_core.specs.Wishes.{wish_of, wished_with, sent_at_once, standing, unwished};
 ghost use Rattle.sd_core.specs.Wishes.{offered, subscribes, acked_wish, nacked_wish, told_by_ack};
 ghost use Rattle.sd_core.specs.Wishes.{is_answered, is_subscribed, begun_where, ended_where};

@@ -22,7 +22,7 @@ use Rattle.sd_core.specs.KeyOrder.{instances_total, exact_instances}
 use Rattle.sd_core.specs.Keys.{instance_cmp}
 use Rattle.sd_core.specs.Sendings.{due_at, goes_out}
 use Rattle.sd_core.specs.Wishes.{begun_where}
-use Rattle.sd_core.proofs.SortedEntries.{keys-empty}
+use Rattle.someip_tables.proofs.SortedEntries.{keys-empty}
 use Rattle.someip_rpc.specs.declared.call.Awaited.{Awaited}
 use Rattle.someip_rpc.specs.declared.error.DropCause.TheVariants.{NotPending}
 use Rattle.someip_rpc.specs.declared.ids.CallKey.{CallKey}

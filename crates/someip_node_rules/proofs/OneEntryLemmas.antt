@@ -7,7 +7,7 @@ use Rattle.std.specs.FinMap.{IsAntisymmetric, empty, entries, from_entries, keys
 use Rattle.someip_tables.specs.Retained.{retain}
 use Rattle.someip_tables.proofs.Entries.{from_entries-filter}
 use Rattle.someip_tables.proofs.Trees.{entries-map_of}
-use Rattle.sd_core.proofs.SortedEntries.{keys-empty}
+use Rattle.someip_tables.proofs.SortedEntries.{keys-empty}
 
 module _ {K X : Type 0} {R : K → K → Ordering} (o : IsTotalOrder R) (exact : IsAntisymmetric R) where
   pub entries_of_none : entries (empty {X = X} {R = R}) ≡ []

@@ -12,9 +12,9 @@ use Rattle.someip_tables.specs.Lastings.{unless_passed, unexpired}
 use Rattle.someip_tables.specs.Retained.{kept_if, retain}
 use Rattle.someip_tables.proofs.Entries.{same_by_test, get-retain}
 use Rattle.someip_tables.proofs.Expiry.{get-unexpired, passed_later}
-use Rattle.sd_core.specs.Changed.{each_changed}
+use Rattle.someip_tables.specs.Changed.{each_changed}
 use Rattle.sd_core.specs.Shown.{shown}
-use Rattle.sd_core.proofs.ChangedLemmas.{get-changed}
+use Rattle.someip_tables.proofs.ChangedLemmas.{get-changed}
 use Rattle.sd_core.proofs.ShownLemmas.{get-shown}
 use Rattle.someip_node_rules.specs.Questions.{table_of}
 

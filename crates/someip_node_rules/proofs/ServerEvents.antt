@@ -32,7 +32,7 @@ use Rattle.sd_core.specs.declared.subscription.Subscription.{Subscription}
 use Rattle.sd_core.specs.SubscriberTables.{SubscriberMap, count_beside, endpoints_of, is_to, is_to_any, nack_cause}
 use Rattle.sd_core.specs.SubscriptionKeys.{subscription_cmp}
 use Rattle.sd_core.specs.SubscriptionOrder.{subscriptions_total, exact_subscriptions}
-use Rattle.sd_core.proofs.SortedEntries.{keys-empty}
+use Rattle.someip_tables.proofs.SortedEntries.{keys-empty}
 use Rattle.someip_rpc.specs.Events.{event_header, event_of, next_session_of, publish_refusal}
 use Rattle.someip_rpc.specs.declared.request.Reply.TheVariants.{Response}
 use Rattle.someip_rpc.specs.declared.error.RpcError.TheVariants as rpc_error

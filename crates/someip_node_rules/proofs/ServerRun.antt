@@ -11,7 +11,7 @@ use Rattle.sd_core.specs.KeyOrder.{instances_total, exact_instances}
 use Rattle.sd_core.specs.Keys.{instance_cmp}
 use Rattle.sd_core.specs.Sendings.{due_at, first_at, goes_out}
 use Rattle.sd_core.specs.Wishes.{begun_where}
-use Rattle.sd_core.proofs.SortedEntries.{keys-empty}
+use Rattle.someip_tables.proofs.SortedEntries.{keys-empty}
 use Rattle.someip_tables.proofs.MapLaws.{retain-empty}
 use Rattle.someip_tables.specs.declared.lasting.Lasting.{Lasting}
 use Rattle.someip_tables.specs.Lastings.{expired}

@@ -23,7 +23,7 @@ use Rattle.sd_core.specs.declared.wish.Beginning.{Beginning}
 use Rattle.sd_core.specs.declared.wish.Stage.TheVariants.{Begun, Waiting}
 use Rattle.sd_core.specs.declared.wish.SubscribeAnswer.{SubscribeAnswer}
 use Rattle.sd_core.specs.declared.wish.Wish.{Wish}
-use Rattle.sd_core.specs.Changed.{each_changed, changed_at}
+use Rattle.someip_tables.specs.Changed.{each_changed, changed_at}
 use Rattle.sd_core.specs.Endings.{ends_at}
 use Rattle.sd_core.specs.EventgroupOrder.{eventgroups_total, exact_eventgroups}
 use Rattle.sd_core.specs.KeyOrder.{instances_total, exact_instances}

@@ -19,7 +19,7 @@ use Rattle.sd_core.specs.declared.keys.InstanceId.{InstanceId}
 use Rattle.sd_core.specs.declared.received.ReceivedOffer.{ReceivedOffer}
 use Rattle.sd_core.specs.declared.subscription.Subscription.{Subscription}
 use Rattle.sd_core.specs.declared.wish.SubscribeAnswer.{SubscribeAnswer}
-use Rattle.sd_core.specs.Changed.{changed_at}
+use Rattle.someip_tables.specs.Changed.{changed_at}
 use Rattle.sd_core.specs.Endings.{ends_at}
 use Rattle.sd_core.specs.OfferTables.{after_tick, without}
 use Rattle.sd_core.specs.SeekTables.{seek_after_tick, learned, forgetting}

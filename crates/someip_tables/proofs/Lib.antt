@@ -7,3 +7,6 @@ pub mod DueLemmas
 pub mod Expiry
 pub mod RetainLemmas
 pub mod ExpiredKeys
+pub mod SortedEntries
+pub mod ChangedLemmas
+pub mod WaitLemmas

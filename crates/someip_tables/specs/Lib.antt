@@ -1,5 +1,7 @@
 pub mod Deadlines
 pub mod Retained
+pub mod Changed
+pub mod Waits
 pub mod Distinct
 pub mod SortedSet
 pub mod Endpoints

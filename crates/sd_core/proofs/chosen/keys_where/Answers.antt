@@ -5,7 +5,7 @@ use Rattle.std.proofs.lemmas.Iterator.{items_from_collect, YieldsList-from_map}
 use Rattle.std.proofs.lemmas.Iterator.Consumers.{YieldsList-at, YieldsList-from_rest, YieldsList-from_filter}
 use Rattle.std.proofs.lemmas.Iterator.Search.{any_from_yields_List}
 use Rattle.std.proofs.lemmas.Result.{IfOk-weaker}
-use Rattle.sd_core.proofs.SortedEntries.{keys_chosen, none_chosen, some_chosen, keys-empty}
+use Rattle.someip_tables.proofs.SortedEntries.{keys_chosen, none_chosen, some_chosen, keys-empty}
 use Rattle.sd_core.proofs.chosen.keys_where.Goals as goal
 
 pub returns-then-not-any-clause-chosen : goal.returns-then-not-any-clause-chosen

@@ -2,7 +2,7 @@ use Rattle.std.proofs.Common.{rules}
 use Rattle.sd_core.specs.EventgroupOrder.{eventgroups_total, exact_eventgroups}
 use Rattle.sd_core.specs.Endings.{ends_by}
 use Rattle.sd_core.specs.Wishes.{ended_wish}
-use Rattle.sd_core.proofs.ChangedLemmas.{map_keyed_pairs, changed-entries}
+use Rattle.someip_tables.proofs.ChangedLemmas.{map_keyed_pairs, changed-entries}
 use Rattle.sd_core.proofs.ending.wait_again.Goals as goal
 
 pub returns : goal.returns

@@ -1,7 +1,7 @@
 use Rattle.std.proofs.Common.{rules}
 use Rattle.sd_core.specs.EventgroupOrder.{eventgroups_total, exact_eventgroups}
 use Rattle.sd_core.specs.Wishes.{offered_wish}
-use Rattle.sd_core.proofs.ChangedLemmas.{map_keyed_pairs, changed-entries}
+use Rattle.someip_tables.proofs.ChangedLemmas.{map_keyed_pairs, changed-entries}
 use Rattle.sd_core.proofs.subscriptions.renew.Goals as goal
 
 pub returns : goal.returns
