@@ -33,6 +33,12 @@ module _ {K X : Type 0} {R : K → K → Ordering} (o : IsTotalOrder R) (exact :
       → map_of R new ≡ changed_at k f (map_of R old)
   updated f old new k x y some is at = map_of-insert o exact old new k y at ∙ ap (insert (map_of R old) k) is ∙ insert-changed f (map_of R old) k x some
 
+  -- a value is replaced by one that is made of it
+  pub replaced : (f : X → X) (old new : FinMap R X) (k : K) (x y : X) (held : Bool) → get old k ≡ Some x → y ≡ f x → held ≡ is_some (get old k) → new ≡ cond held (insert old k y) old
+      → new ≡ changed_at k f old
+  replaced f old new k x y held some is there at =
+      at ∙ ap (λ b. cond b (insert old k y) old) (there ∙ ap is_some some) ∙ ap (insert old k) is ∙ insert-changed f old k x some
+
   -- a key without a value
   pub absent-changed : (f : X → X) (m : FinMap R X) (k : K) → get m k ≡ None → m ≡ changed_at k f m
   absent-changed f m k none =

@@ -143,7 +143,7 @@ counted_beside s now m octets =
     ∙ ap (λ n. len (retain_keys (retain n (λ _ lasting. not (has_passed now lasting.until))) (λ k. to k && other k))) (from_entries-entries subscriptions_total exact_subscriptions m)
     ∙ others_counted s (unexpired now m)
 
-or_false : (b : Bool) → b ≡ (b || false)
+pub or_false : (b : Bool) → b ≡ (b || false)
 or_false true = refl
 or_false false = refl
 
@@ -233,7 +233,7 @@ IsCollected instance all rest live n =
     IsOrdered endpoint_cmp n
     × ((q : SocketAddrV4) → (list_any (eq_by_cmp endpoint_cmp q) n.keys || list_any (eq_by_cmp endpoint_cmp q) (endpoints_of instance rest live)) ≡ list_any (eq_by_cmp endpoint_cmp q) (endpoints_of instance all live))
 
-or_moved : (a b c d e : Bool) → c ≡ (a || d) → (d || b) ≡ e → (c || b) ≡ (a || e)
+pub or_moved : (a b c d e : Bool) → c ≡ (a || d) → (d || b) ≡ e → (c || b) ≡ (a || e)
 or_moved true b c d e is so = ap (λ x. x || b) is
 or_moved false b c d e is so = ap (λ x. x || b) is ∙ so
 
@@ -254,10 +254,10 @@ collected_all instance all live n is =
         ∙ any_none (keys live)
 
 -- nothing is left past the end
-pub past_all : (xs : List ℕ) (i : ℕ) → length xs ≤ i → drop i xs ≡ []
-past_all xs i end = let left = length-drop i xs in none_left (drop i xs) (omega (arith, left, end))
+pub past_all : {X : Type 0} (xs : List X) (i : ℕ) → length xs ≤ i → drop i xs ≡ []
+past_all {X = X} xs i end = let left = length-drop i xs in none_left (drop i xs) (omega (arith, left, end))
   where
-    none_left : (ys : List ℕ) → length ys ≡ 0 → ys ≡ []
+    none_left : (ys : List X) → length ys ≡ 0 → ys ≡ []
     none_left [] none = refl
     none_left (y ∷ ys) none = absurd (omega arith)
 
