@@ -119,7 +119,7 @@ any_endpoint instance eventgroups endpoint live =
     ∙ any_map (eq_by_cmp endpoint_cmp endpoint) (λ (s : Subscription). s.endpoint) to
     ∙ any_filter (λ (s : Subscription). eq_by_cmp endpoint_cmp endpoint s.endpoint) (is_to_any instance eventgroups) (keys live))
 
-pub none_passes : {X : Type 0} (p : X → Bool) (xs : List X) → list_any p xs ≡ false → filter p xs ≡ []
+none_passes : {X : Type 0} (p : X → Bool) (xs : List X) → list_any p xs ≡ false → filter p xs ≡ []
 none_passes p [] none = refl
 none_passes p (x ∷ xs) none = cases (p x) none (none_passes p xs)
   where

@@ -292,10 +292,12 @@ gathered_none due all m n is = (is.1, λ q. ap (λ b. b || is_some (get (begun_o
 
 pub gathered_more : (due : List Eventgroup) (all : List InstanceId) (instance : InstanceId) (rest : List InstanceId) (m : Wishes) (old new : BTreeSet Eventgroup)
     → IsGathered due all (instance ∷ rest) m old → InsertsAll eventgroup_cmp old (keys (begun_of instance m)) new → IsGathered due all rest m new
-gathered_more due all instance rest m old new is more =
-    (more.1, λ q. or_moved _ _ _ _ _ (more.0 q)
-    (ap (λ b. b || is_some (get (begun_of_any rest m) q)) (sym (contains_key-keys (begun_of instance m) q)) ∙ sym (either_where (λ eventgroup _. is_of instance eventgroup) (λ eventgroup _. is_of_any rest eventgroup) m q))
-    ∙ is.1 q)
+gathered_more due all instance rest m old new is more = (
+  more.1,
+  λ q. or_moved _ _ _ _ _ (more.0 q)
+      (ap (λ b. b || is_some (get (begun_of_any rest m) q)) (sym (contains_key-keys (begun_of instance m) q)) ∙ sym (either_where (λ eventgroup _. is_of instance eventgroup) (λ eventgroup _. is_of_any rest eventgroup) m q))
+      ∙ is.1 q,
+)
 
 none_of_none : (m : Wishes) (q : Eventgroup) → is_some (get (begun_of_any [] m) q) ≡ false
 none_of_none m q = ap is_some (get-retain eventgroups_total exact_eventgroups m (λ eventgroup wish. has_begun (λ _. is_of_any [] eventgroup) wish.stage) q) ∙ at (get m q)

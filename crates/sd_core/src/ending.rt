@@ -84,7 +84,11 @@ fn begun_with(
         (begun_where (λ eventgroup beginning. is_with peer beginning) (map_of eventgroup_cmp table.now)
         ≢ finite.empty) }
 {
-    keys_where(table.held(), alloc, |_, wish| wish.stage.is_begun_with(peer))
+    keys_where(
+        table.held(),
+        alloc,
+        |_, wish| wish.stage.is_begun_with(peer),
+    )
 }
 
 /// The eventgroups whose subscriptions end as a moment comes. It looks at those whose Ack's time has
@@ -113,9 +117,7 @@ fn has_any_begun(table: &WishTable, instances: &[InstanceId]) -> bool
     ensures { result ≡ any_begun (λ eventgroup beginning. is_of_any instances.now eventgroup)
         (map_of eventgroup_cmp table.now) }
 {
-    instances
-        .iter()
-        .any(|instance| has_begun(table, *instance))
+    instances.iter().any(|instance| has_begun(table, *instance))
 }
 
 /// Some eventgroups, and beside them those of these instances whose subscriptions were begun.

@@ -34,6 +34,10 @@ use std::net::Ipv4Addr;
 /// yet told is no subscription to an Ack, a Nack or an Offer.
 ///
 /// An eventgroup that is wished no more keeps its place, since its counter goes on.
+///
+/// Beside the wishes stand the moments at which the times of their Acks pass, in order, and the wishes of
+/// an instance stand together. So a call looks at the wishes that it concerns; only
+/// [`Subscriptions::peer_reboot`] goes over all.
 #[derive(Drop)]
 pub struct Subscriptions {
     alloc: Global,
@@ -188,7 +192,7 @@ impl Subscriptions {
 
     /// A moment came: the subscriptions end whose Ack's time has passed, and those of these instances,
     /// whose known offers passed with it. They are told by rising service, instance and Eventgroup ID.
-    /// The wishes stand.
+    /// The wishes stand. It looks at these and at the other wishes of these instances alone.
     ///
     /// What is refused because memory ran out leaves all as it was; memory is taken only where one ends.
     pub fn tick(
@@ -237,10 +241,9 @@ fn take_ack(table: &mut WishTable, answer: &SubscribeAnswer, ttl: Ttl, now: Mome
         ≡ changed_at answer.now.eventgroup (acked_wish now answer.now ttl)
         (map_of eventgroup_cmp table.old) }
 {
-    let Some(wish) = table.get(&answer.eventgroup) else {
+    let Some(&wish) = table.get(&answer.eventgroup) else {
         return Acked::NotPending;
     };
-    let wish = *wish;
     table.replace(answer.eventgroup, wish.acked(now, answer, ttl));
     wish.stage.told_by_ack(now, answer)
 }
@@ -253,10 +256,9 @@ fn take_nack(table: &mut WishTable, answer: &SubscribeAnswer, now: Moment) -> bo
         ≡ changed_at answer.now.eventgroup (nacked_wish now answer.now)
         (map_of eventgroup_cmp table.old) }
 {
-    let Some(wish) = table.get(&answer.eventgroup) else {
+    let Some(&wish) = table.get(&answer.eventgroup) else {
         return false;
     };
-    let wish = *wish;
     table.replace(answer.eventgroup, wish.nacked(now, answer));
     wish.stage.is_answered(now, answer)
 }

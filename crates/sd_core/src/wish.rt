@@ -118,10 +118,12 @@ impl Stage {
         ensures { result ≡ moment_in self.now }
     {
         match *self {
-            Stage::Begun(Beginning {
-                until: Some(Deadline::At(at)),
-                ..
-            }) => Some(at),
+            Stage::Begun(
+                Beginning {
+                    until: Some(Deadline::At(at)),
+                    ..
+                },
+            ) => Some(at),
             _ => None,
         }
     }
@@ -235,7 +237,7 @@ impl Stage {
 impl Wish {
     ghost use Rattle.std.specs.Prelude.{◌≡◌};
     ghost use Rattle.sd_core.specs.Wishes.{acked_wish, begun_at, first_wish, nacked_wish};
-    ghost use Rattle.sd_core.specs.Wishes.{is_renewed_by, offered_wish, subscribe_of, subscribing};
+    ghost use Rattle.sd_core.specs.Wishes.{is_renewed_by, subscribe_of, subscribing};
     ghost use Rattle.sd_core.specs.Wishes.{unwished, wished_with, wished};
 
     /// The eventgroup was never wished.
@@ -291,23 +293,6 @@ impl Wish {
                 until: None,
             }),
             next_counter: counter_after(counter),
-        }
-    }
-
-    /// An Offer came of an instance, from a peer.
-    pub(crate) fn offered(
-        &self,
-        now: Moment,
-        instance: InstanceId,
-        peer: Ipv4Addr,
-        eventgroup: &Eventgroup,
-    ) -> Wish
-        ensures { result ≡ offered_wish now instance peer eventgroup.now self.now }
-    {
-        if self.is_renewed_by(instance, eventgroup) {
-            self.subscribing(now, peer)
-        } else {
-            *self
         }
     }
 

@@ -15,6 +15,6 @@ returns-in_default-clause-acked c =
 
 pub returns-clause-acked : goal.returns-clause-acked
 returns-clause-acked c =
-    let found : finite.get (map_of eventgroup_cmp c.args.table.now) c.args.answer.now.eventgroup ≡ Some c.in-Some.wish.now = sym c.get.ensures ∙ ap option_copied c.in-Some.is in
-    replaced eventgroups_total exact_eventgroups (acked_wish c.args.now c.args.answer.now c.args.ttl) (map_of eventgroup_cmp c.args.table.now) (map_of eventgroup_cmp c.replace.new.self) c.args.answer.now.eventgroup c.in-Some.wish.now c.acked.result c.replace.result
+    let found : finite.get (map_of eventgroup_cmp c.args.table.now) c.args.answer.now.eventgroup ≡ Some c.in-Some.field-0.now = sym c.get.ensures ∙ ap option_copied c.in-Some.is in
+    replaced eventgroups_total exact_eventgroups (acked_wish c.args.now c.args.answer.now c.args.ttl) (map_of eventgroup_cmp c.args.table.now) (map_of eventgroup_cmp c.replace.new.self) c.args.answer.now.eventgroup c.in-Some.field-0.now c.acked.result c.replace.result
     found c.acked.ensures c.replace.ensures.held c.replace.ensures.changed

@@ -15,6 +15,6 @@ returns-in_default-clause-nacked c =
 
 pub returns-clause-nacked : goal.returns-clause-nacked
 returns-clause-nacked c =
-    let found : finite.get (map_of eventgroup_cmp c.args.table.now) c.args.answer.now.eventgroup ≡ Some c.in-Some.wish.now = sym c.get.ensures ∙ ap option_copied c.in-Some.is in
-    replaced eventgroups_total exact_eventgroups (nacked_wish c.args.now c.args.answer.now) (map_of eventgroup_cmp c.args.table.now) (map_of eventgroup_cmp c.replace.new.self) c.args.answer.now.eventgroup c.in-Some.wish.now c.nacked.result c.replace.result
+    let found : finite.get (map_of eventgroup_cmp c.args.table.now) c.args.answer.now.eventgroup ≡ Some c.in-Some.field-0.now = sym c.get.ensures ∙ ap option_copied c.in-Some.is in
+    replaced eventgroups_total exact_eventgroups (nacked_wish c.args.now c.args.answer.now) (map_of eventgroup_cmp c.args.table.now) (map_of eventgroup_cmp c.replace.new.self) c.args.answer.now.eventgroup c.in-Some.field-0.now c.nacked.result c.replace.result
     found c.nacked.ensures c.replace.ensures.held c.replace.ensures.changed
