@@ -15,7 +15,7 @@ use Rattle.someip_tables.specs.declared.deadline.Deadline.TheVariants.{At, Never
 use Rattle.someip_tables.specs.Deadlines.{millis_of}
 use Rattle.someip_tables.specs.Retained.{kept_if, retain}
 use Rattle.someip_tables.specs.Waits.{due_by, is_due_by}
-use Rattle.someip_tables.proofs.Entries.{filter_alike, from_entries-entries, get-retain, own_test, same_by_test, true_from}
+use Rattle.someip_tables.proofs.Entries.{from_entries-entries, get-retain, own_test, same_by_test, true_from}
 use Rattle.someip_tables.proofs.Members.{any_filter, any_same}
 use Rattle.someip_tables.proofs.Sorted.{keys_of_set}
 use Rattle.sd_core.specs.declared.keys.InstanceId.{InstanceId}

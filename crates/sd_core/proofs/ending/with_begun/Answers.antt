@@ -5,10 +5,8 @@ use Rattle.std.proofs.lemmas.Iterator.Adapters.{fact_from_collect, fact_from_ext
 use Rattle.std.proofs.lemmas.Iterator.Consumers.{YieldsList-at, YieldsList-from_copied}
 use Rattle.std.specs.BTreeSet.{InsertsAll, IsFromIterResult}
 use Rattle.std.specs.declared.alloc.AllocError.{AllocError}
-use Rattle.std.specs.FinMap.{keys}
 use Rattle.someip_tables.specs.Tables.{map_of}
 use Rattle.sd_core.specs.Eventgroups.{eventgroup_cmp}
-use Rattle.sd_core.specs.WishTables.{begun_of}
 use Rattle.sd_core.proofs.SubscriptionRunLemmas.{past_all}
 use Rattle.sd_core.proofs.WishLemmas.{IsGathered, gathered_none, gathered_more, gathered_all}
 use Rattle.sd_core.proofs.ending.with_begun.Goals as goal

@@ -1,6 +1,5 @@
 use Rattle.std.proofs.Common.{◌∙◌, rules}
 use Rattle.someip_tables.specs.Tables.{map_of}
-use Rattle.sd_core.specs.declared.wish.Wish.{Wish}
 use Rattle.sd_core.specs.Eventgroups.{eventgroup_cmp}
 use Rattle.sd_core.specs.Wishes.{is_renewed_by, subscribing}
 use Rattle.sd_core.proofs.Memory.{on_err}
