@@ -5,12 +5,8 @@ use Rattle.std.specs.List.{filter_map, list_any}
 use Rattle.std.specs.declared.cmp.Ordering.{Ordering}
 use Rattle.std.specs.Ordering.{eq_by_cmp}
 use Rattle.std.specs.Cmp.{IsTotalOrder}
-use Rattle.std.specs.BTreeMap.{is_at}
-use Rattle.std.specs.Map.{lookup}
 use Rattle.std.specs.FinMap.{FinMap, IsAntisymmetric, get, insert, get-insert, same_map}
-use Rattle.someip_tables.specs.Tables.{map_of}
 use Rattle.someip_tables.proofs.Entries.{same_by_test}
-use Rattle.someip_tables.proofs.Trees.{map_of-insert}
 use Rattle.someip_tables.specs.Changed.{changed_at}
 use Rattle.someip_tables.proofs.ChangedLemmas.{get-changed}
 
@@ -28,10 +24,11 @@ module _ {K X : Type 0} {R : K → K → Ordering} (o : IsTotalOrder R) (exact :
       cases q true t = sym (ap (option_map f) (ap (get m) (same_by_test exact q k t) ∙ some))
       cases q false t = plain (get m q)
 
-  pub updated : (f : X → X) (old new : List (K × X)) (k : K) (x y : X) → get (map_of R old) k ≡ Some x → y ≡ f x
-      → ((q : K) → lookup (is_at (R q)) new ≡ cond (is_at (R k) q) (Some y) (lookup (is_at (R q)) old))
-      → map_of R new ≡ changed_at k f (map_of R old)
-  updated f old new k x y some is at = map_of-insert o exact old new k y at ∙ ap (insert (map_of R old) k) is ∙ insert-changed f (map_of R old) k x some
+  -- a value is replaced by one that is made of it
+  pub replaced : (f : X → X) (old new : FinMap R X) (k : K) (x y : X) (held : Bool) → get old k ≡ Some x → y ≡ f x → held ≡ is_some (get old k) → new ≡ cond held (insert old k y) old
+      → new ≡ changed_at k f old
+  replaced f old new k x y held some is there at =
+      at ∙ ap (λ b. cond b (insert old k y) old) (there ∙ ap is_some some) ∙ ap (insert old k) is ∙ insert-changed f old k x some
 
   -- a key without a value
   pub absent-changed : (f : X → X) (m : FinMap R X) (k : K) → get m k ≡ None → m ≡ changed_at k f m

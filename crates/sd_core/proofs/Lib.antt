@@ -11,5 +11,6 @@ pub mod FindLawLemmas
 pub mod RunLemmas
 pub mod SubscriberLemmas
 pub mod SubscriptionRunLemmas
+pub mod WishLemmas
 pub mod OctetLemmas
 pub mod PeerLemmas

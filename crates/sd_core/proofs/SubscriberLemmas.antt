@@ -127,7 +127,7 @@ none_passes p (x ∷ xs) none = cases (p x) none (none_passes p xs)
     cases true none rest = cc
     cases false none rest = rest none
 
-some_passes : {X Y : Type 0} (p : X → Bool) (f : X → Y) (xs : List X) → list_any p xs ≡ true → map f (filter p xs) ≢ []
+pub some_passes : {X Y : Type 0} (p : X → Bool) (f : X → Y) (xs : List X) → list_any p xs ≡ true → map f (filter p xs) ≢ []
 some_passes p f [] some = λ is. cc
 some_passes p f (x ∷ xs) some = cases (p x) some (some_passes p f xs)
   where

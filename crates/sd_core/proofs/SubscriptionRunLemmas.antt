@@ -92,7 +92,7 @@ squeezed Equal Less r t le lt = absurd (cc)
 squeezed Equal Greater r t le lt = absurd (cc)
 squeezed Equal Equal r t le lt = (refl, refl)
 
-turned : {K : Type 0} {R : K → K → Ordering} → IsTotalOrder R → (a b x : K) → b ≡ x → R a b ≡ ordering_reverse (R x a)
+pub turned : {K : Type 0} {R : K → K → Ordering} → IsTotalOrder R → (a b x : K) → b ≡ x → R a b ≡ ordering_reverse (R x a)
 turned {R = R} o a b x is = o.antisymm a b ∙ ap (λ y. ordering_reverse (R y a)) is
 
 pub eventgroup_whole : (instance : InstanceId) (eventgroup : ℕ) (a b : Subscription) → is_le (subscription_cmp (least_to instance eventgroup) a) ≡ true → subscription_cmp a b ≡ Less → is_to instance eventgroup b ≡ true
@@ -143,7 +143,7 @@ counted_beside s now m octets =
     ∙ ap (λ n. len (retain_keys (retain n (λ _ lasting. not (has_passed now lasting.until))) (λ k. to k && other k))) (from_entries-entries subscriptions_total exact_subscriptions m)
     ∙ others_counted s (unexpired now m)
 
-or_false : (b : Bool) → b ≡ (b || false)
+pub or_false : (b : Bool) → b ≡ (b || false)
 or_false true = refl
 or_false false = refl
 
@@ -177,11 +177,11 @@ live_in_run instance eventgroup now m octets =
     ∙ any_same (λ e. to e.0 && is_live_at now e) (λ e. is_live_at now e && to e.0) (entries m) (λ e. both_swapped (to e.0) (is_live_at now e))
     ∙ any_unexpired subscriptions_total exact_subscriptions to now m
 
-any_none : {X : Type 0} (xs : List X) → list_any (λ _. false) xs ≡ false
+pub any_none : {X : Type 0} (xs : List X) → list_any (λ _. false) xs ≡ false
 any_none [] = refl
 any_none (x ∷ xs) = any_none xs
 
-any_either : {X : Type 0} (p q : X → Bool) (xs : List X) → (list_any p xs || list_any q xs) ≡ list_any (λ x. p x || q x) xs
+pub any_either : {X : Type 0} (p q : X → Bool) (xs : List X) → (list_any p xs || list_any q xs) ≡ list_any (λ x. p x || q x) xs
 any_either p q [] = refl
 any_either p q (x ∷ xs) = turned_about (p x) (q x) (list_any p xs) (list_any q xs) ∙ ap (λ b. (p x || q x) || b) (any_either p q xs)
   where
@@ -233,7 +233,7 @@ IsCollected instance all rest live n =
     IsOrdered endpoint_cmp n
     × ((q : SocketAddrV4) → (list_any (eq_by_cmp endpoint_cmp q) n.keys || list_any (eq_by_cmp endpoint_cmp q) (endpoints_of instance rest live)) ≡ list_any (eq_by_cmp endpoint_cmp q) (endpoints_of instance all live))
 
-or_moved : (a b c d e : Bool) → c ≡ (a || d) → (d || b) ≡ e → (c || b) ≡ (a || e)
+pub or_moved : (a b c d e : Bool) → c ≡ (a || d) → (d || b) ≡ e → (c || b) ≡ (a || e)
 or_moved true b c d e is so = ap (λ x. x || b) is
 or_moved false b c d e is so = ap (λ x. x || b) is ∙ so
 
@@ -254,10 +254,10 @@ collected_all instance all live n is =
         ∙ any_none (keys live)
 
 -- nothing is left past the end
-pub past_all : (xs : List ℕ) (i : ℕ) → length xs ≤ i → drop i xs ≡ []
-past_all xs i end = let left = length-drop i xs in none_left (drop i xs) (omega (arith, left, end))
+pub past_all : {X : Type 0} (xs : List X) (i : ℕ) → length xs ≤ i → drop i xs ≡ []
+past_all {X = X} xs i end = let left = length-drop i xs in none_left (drop i xs) (omega (arith, left, end))
   where
-    none_left : (ys : List ℕ) → length ys ≡ 0 → ys ≡ []
+    none_left : (ys : List X) → length ys ≡ 0 → ys ≡ []
     none_left [] none = refl
     none_left (y ∷ ys) none = absurd (omega arith)
 

@@ -6,6 +6,7 @@ pub mod OfferTables
 pub mod Eventgroups
 pub mod EventgroupOrder
 pub mod Wishes
+pub mod WishTables
 pub mod Endings
 pub mod SeekTables
 pub mod Waiting

@@ -1,21 +1,24 @@
 //! Why subscriptions end, and their end.
-ghost use Rattle.std.specs.Prelude.{◌≡◌, ◌≢◌, IfOk, OnOk, OnErr};
+ghost use Rattle.std.specs.Prelude.{◌≡◌, ◌≢◌, ◌||◌, IfOk, OnOk, OnErr, is_some};
+ghost use Rattle.std.specs.BTreeSet.{IsOrdered};
 ghost use Rattle.std.specs.FinMap as finite;
 ghost use Rattle.std.specs.List.{list_any};
 ghost use Rattle.std.specs.Ordering.{eq_by_cmp};
 ghost use Rattle.someip_tables.specs.Tables.{map_of};
+ghost use Rattle.sd_core.specs.declared.eventgroup.Eventgroup.{Eventgroup};
 ghost use Rattle.sd_core.specs.Eventgroups.{eventgroup_cmp};
-ghost use Rattle.sd_core.specs.Keys.{instance_cmp};
-ghost use Rattle.sd_core.specs.Endings.{ends_by};
-ghost use Rattle.sd_core.specs.Wishes.{begun_where, ended_where, ended_wish, has_begun};
+ghost use Rattle.sd_core.specs.Endings.{ends_at, ends_by};
+ghost use Rattle.sd_core.specs.Wishes.{begun_where, ended_where, is_with};
+ghost use Rattle.sd_core.specs.WishTables.{any_begun, begun_of_any, is_of_any};
 
 use crate::chosen::keys_where;
 use crate::eventgroup::Eventgroup;
 use crate::keys::InstanceId;
-use crate::wish::{Stage, Wish};
-use someip_tables::{Moment, is_same_key};
+use crate::wish::Stage;
+use crate::wish_table::{WishTable, begun_of, has_begun};
+use someip_tables::Moment;
 use std::alloc::{AllocError, Global};
-use std::collections::BTreeMap;
+use std::collections::BTreeSet;
 use std::net::Ipv4Addr;
 
 /// Why subscriptions that were begun end.
@@ -30,71 +33,109 @@ pub(crate) enum Ending {
     Time(Moment),
 }
 
-impl Ending {
-    /// Whether the subscription of an eventgroup was begun and ends.
-    fn ends(&self, passed: &[InstanceId], eventgroup: &Eventgroup, wish: &Wish) -> bool
-        ensures { result ≡ has_begun (ends_by self.now passed.now eventgroup.now) wish.now.stage }
-    {
-        let Stage::Begun(beginning) = wish.stage else {
-            return false;
-        };
-        match self {
-            Ending::Offer(instance) => is_same_key(&eventgroup.instance, instance),
-            Ending::Reboot(peer) => beginning.is_with(*peer),
-            Ending::Time(now) => {
-                beginning.is_over(*now) || is_among(passed, &eventgroup.instance)
-            }
-        }
-    }
-
-    /// What the wish of an eventgroup is after it.
-    fn after(&self, passed: &[InstanceId], eventgroup: &Eventgroup, wish: &Wish) -> Wish
-        ensures { result ≡ ended_wish (ends_by self.now passed.now eventgroup.now) wish.now }
-    {
-        if self.ends(passed, eventgroup, wish) {
-            wish.at(Stage::Waiting)
-        } else {
-            *wish
-        }
-    }
-}
-
 /// Ends the subscriptions that end so, and tells them.
 pub(crate) fn end(
-    places: &mut BTreeMap<Eventgroup, Wish>,
+    table: &mut WishTable,
     alloc: Global,
     ending: Ending,
     passed: &[InstanceId],
 ) -> Result<Vec<Eventgroup>, AllocError>
     ensures ended { IfOk result (λ ended. ended.items
-        ≡ finite.keys (begun_where (ends_by ending passed.now) (map_of eventgroup_cmp places.old.entries))) }
-    ensures after { OnOk result (map_of eventgroup_cmp places.new.entries
-        ≡ ended_where (ends_by ending passed.now) (map_of eventgroup_cmp places.old.entries)) }
-    ensures err { OnErr result (places.new ≡ places.old) }
+        ≡ finite.keys (begun_where (ends_by ending passed.now) (map_of eventgroup_cmp table.old))) }
+    ensures after { OnOk result (map_of eventgroup_cmp table.new
+        ≡ ended_where (ends_by ending passed.now) (map_of eventgroup_cmp table.old)) }
+    ensures err { OnErr result (table.new ≡ table.old) }
     ensures grows { OnErr result
-        (begun_where (ends_by ending passed.now) (map_of eventgroup_cmp places.old.entries) ≢ finite.empty) }
+        (begun_where (ends_by ending passed.now) (map_of eventgroup_cmp table.old) ≢ finite.empty) }
 {
-    let ended = keys_where(places, alloc, |eventgroup, wish| {
-        ending.ends(passed, eventgroup, wish)
-    })?;
-    wait_again(places, ending, passed);
+    let ended = ended_by(table, alloc, ending, passed)?;
+    table.change_those(&ended, |_, wish| wish.at(Stage::Waiting));
     Ok(ended)
 }
 
-/// Lets the wishes wait whose subscriptions end so.
-fn wait_again(places: &mut BTreeMap<Eventgroup, Wish>, ending: Ending, passed: &[InstanceId])
-    ensures { map_of eventgroup_cmp places.new.entries
-        ≡ ended_where (ends_by ending passed.now) (map_of eventgroup_cmp places.old.entries) }
+/// The eventgroups whose subscriptions end so. Only a reboot has it look at all.
+fn ended_by(
+    table: &WishTable,
+    alloc: Global,
+    ending: Ending,
+    passed: &[InstanceId],
+) -> Result<Vec<Eventgroup>, AllocError>
+    ensures ended { IfOk result (λ ended. ended.items
+        ≡ finite.keys (begun_where (ends_by ending passed.now) (map_of eventgroup_cmp table.now))) }
+    ensures grows { OnErr result
+        (begun_where (ends_by ending passed.now) (map_of eventgroup_cmp table.now) ≢ finite.empty) }
 {
-    places.retain(|eventgroup, wish| {
-        *wish = ending.after(passed, eventgroup, wish);
-        true
-    });
+    match ending {
+        Ending::Offer(instance) => begun_of(table, alloc, instance),
+        Ending::Reboot(peer) => begun_with(table, alloc, peer),
+        Ending::Time(now) => ended_at(table, alloc, now, passed),
+    }
 }
 
-/// Whether an instance is among some.
-fn is_among(instances: &[InstanceId], instance: &InstanceId) -> bool
-    ensures { result ≡ list_any (eq_by_cmp instance_cmp instance.now) instances.now }
+/// The eventgroups whose subscriptions were begun at a peer.
+fn begun_with(
+    table: &WishTable,
+    alloc: Global,
+    peer: Ipv4Addr,
+) -> Result<Vec<Eventgroup>, AllocError>
+    ensures ended { IfOk result (λ ended. ended.items ≡ finite.keys
+        (begun_where (λ eventgroup beginning. is_with peer beginning) (map_of eventgroup_cmp table.now))) }
+    ensures grows { OnErr result
+        (begun_where (λ eventgroup beginning. is_with peer beginning) (map_of eventgroup_cmp table.now)
+        ≢ finite.empty) }
 {
-    instances.iter().any(|other| is_same_key(instance, other))
+    keys_where(
+        table.held(),
+        alloc,
+        |_, wish| wish.stage.is_begun_with(peer),
+    )
+}
+
+/// The eventgroups whose subscriptions end as a moment comes. It looks at those whose Ack's time has
+/// passed, and at those of these instances.
+fn ended_at(
+    table: &WishTable,
+    alloc: Global,
+    now: Moment,
+    passed: &[InstanceId],
+) -> Result<Vec<Eventgroup>, AllocError>
+    ensures ended { IfOk result (λ ended. ended.items
+        ≡ finite.keys (begun_where (ends_at now passed.now) (map_of eventgroup_cmp table.now))) }
+    ensures grows { OnErr result
+        (begun_where (ends_at now passed.now) (map_of eventgroup_cmp table.now) ≢ finite.empty) }
+{
+    let due = table.due_keys(alloc, now)?;
+    if !has_any_begun(table, passed) {
+        return Ok(due);
+    }
+    let ended = with_begun(table, alloc, &due, passed)?;
+    ended.into_iter().collect(alloc)
+}
+
+/// Whether a subscription of one of these instances was begun.
+fn has_any_begun(table: &WishTable, instances: &[InstanceId]) -> bool
+    ensures { result ≡ any_begun (λ eventgroup beginning. is_of_any instances.now eventgroup)
+        (map_of eventgroup_cmp table.now) }
+{
+    instances.iter().any(|instance| has_begun(table, *instance))
+}
+
+/// Some eventgroups, and beside them those of these instances whose subscriptions were begun.
+fn with_begun(
+    table: &WishTable,
+    alloc: Global,
+    others: &[Eventgroup],
+    instances: &[InstanceId],
+) -> Result<BTreeSet<Eventgroup>, AllocError>
+    ensures ordered { IfOk result (λ all. IsOrdered eventgroup_cmp all) }
+    ensures gathered { IfOk result (λ all. (q : Eventgroup)
+        → list_any (eq_by_cmp eventgroup_cmp q) all.keys
+        ≡ (list_any (eq_by_cmp eventgroup_cmp q) others.now || is_some
+        (finite.get (begun_of_any instances.now (map_of eventgroup_cmp table.now)) q))) }
+{
+    let mut all: BTreeSet<Eventgroup> = others.iter().copied().collect(alloc)?;
+    for instance in instances {
+        all.extend(begun_of(table, alloc, *instance)?)?;
+    }
+    Ok(all)
 }

@@ -37,6 +37,7 @@ mod subscriptions;
 mod version;
 mod want;
 mod wish;
+mod wish_table;
 
 pub use error::{Cause, SubscribeError};
 pub use eventgroup::Eventgroup;

@@ -16,11 +16,11 @@ ghost use Rattle.sd_core.specs.Wishes.{is_with};
 use crate::ending::{Ending, end};
 use crate::eventgroup::Eventgroup;
 use crate::keys::InstanceId;
-use crate::wish::{Acked, Beginning, OutgoingSubscribe, SubscribeAnswer, Wish};
+use crate::wish::{Acked, Beginning, OutgoingSubscribe, SubscribeAnswer};
+use crate::wish_table::{WishTable, subscribes, wish_in, wished_of};
 use sd_wire::{SubscriptionCounter, Ttl};
-use someip_tables::Moment;
+use someip_tables::{Moment, TimedMap};
 use std::alloc::{AllocError, Global};
-use std::collections::BTreeMap;
 use std::marker::Model;
 use std::net::Ipv4Addr;
 
@@ -34,10 +34,14 @@ use std::net::Ipv4Addr;
 /// yet told is no subscription to an Ack, a Nack or an Offer.
 ///
 /// An eventgroup that is wished no more keeps its place, since its counter goes on.
+///
+/// Beside the wishes stand the moments at which the times of their Acks pass, in order, and the wishes of
+/// an instance stand together. So a call looks at the wishes that it concerns; only
+/// [`Subscriptions::peer_reboot`] goes over all.
 #[derive(Drop)]
 pub struct Subscriptions {
     alloc: Global,
-    places: BTreeMap<Eventgroup, Wish>,
+    places: WishTable,
 }
 
 impl Model for Subscriptions {
@@ -49,7 +53,7 @@ impl Model for Subscriptions {
 
     ghost coded = { coded_wishes };
 
-    ghost view = { λ s. map_of eventgroup_cmp s.places.entries };
+    ghost view = { λ s. map_of eventgroup_cmp s.places };
 }
 
 impl Subscriptions {
@@ -59,7 +63,7 @@ impl Subscriptions {
     {
         Subscriptions {
             alloc,
-            places: BTreeMap::new(alloc),
+            places: TimedMap::new(alloc),
         }
     }
 
@@ -124,8 +128,10 @@ impl Subscriptions {
         ensures err { OnErr result (self.new ≡ self.old) }
         ensures grows { OnErr result (subscribes now instance peer self.old ≢ []) }
     {
+        let wished = wished_of(&self.places, self.alloc, instance)?;
         let sent = subscribes(&self.places, self.alloc, instance, peer, now)?;
-        renew(&mut self.places, instance, peer, now);
+        self.places
+            .change_those(&wished, |_, wish| wish.subscribing(now, peer));
         Ok(sent)
     }
 
@@ -186,7 +192,7 @@ impl Subscriptions {
 
     /// A moment came: the subscriptions end whose Ack's time has passed, and those of these instances,
     /// whose known offers passed with it. They are told by rising service, instance and Eventgroup ID.
-    /// The wishes stand.
+    /// The wishes stand. It looks at these and at the other wishes of these instances alone.
     ///
     /// What is refused because memory ran out leaves all as it was; memory is taken only where one ends.
     pub fn tick(
@@ -215,103 +221,44 @@ impl Subscriptions {
     }
 }
 
-/// What is kept of an eventgroup.
-fn wish_in(places: &BTreeMap<Eventgroup, Wish>, eventgroup: &Eventgroup) -> Wish
-    ensures { result
-        ≡ wish_of (finite.get (map_of eventgroup_cmp places.now.entries) eventgroup.now) }
-{
-    match places.get(eventgroup) {
-        Some(wish) => *wish,
-        None => Wish::first(),
-    }
-}
-
 /// Takes a wish back.
-fn take_back(
-    places: &mut BTreeMap<Eventgroup, Wish>,
-    eventgroup: Eventgroup,
-    now: Moment,
-) -> Option<Beginning>
+fn take_back(table: &mut WishTable, eventgroup: Eventgroup, now: Moment) -> Option<Beginning>
     ensures ended { result ≡ option_and_then (λ wish. standing now wish.stage)
-        (finite.get (map_of eventgroup_cmp places.old.entries) eventgroup) }
-    ensures unwished { map_of eventgroup_cmp places.new.entries
-        ≡ changed_at eventgroup unwished (map_of eventgroup_cmp places.old.entries) }
+        (finite.get (map_of eventgroup_cmp table.old) eventgroup) }
+    ensures unwished { map_of eventgroup_cmp table.new
+        ≡ changed_at eventgroup unwished (map_of eventgroup_cmp table.old) }
 {
-    let wish = places.get_mut(&eventgroup)?;
-    let standing = wish.stage.standing(now);
-    *wish = wish.unwished();
-    standing
+    let wish = *table.get(&eventgroup)?;
+    table.replace(eventgroup, wish.unwished());
+    wish.stage.standing(now)
 }
 
 /// Takes an Ack.
-fn take_ack(
-    places: &mut BTreeMap<Eventgroup, Wish>,
-    answer: &SubscribeAnswer,
-    ttl: Ttl,
-    now: Moment,
-) -> Acked
+fn take_ack(table: &mut WishTable, answer: &SubscribeAnswer, ttl: Ttl, now: Moment) -> Acked
     ensures told { result ≡ told_by_ack now answer.now (wish_of
-        (finite.get (map_of eventgroup_cmp places.old.entries) answer.now.eventgroup)).stage }
-    ensures acked { map_of eventgroup_cmp places.new.entries
+        (finite.get (map_of eventgroup_cmp table.old) answer.now.eventgroup)).stage }
+    ensures acked { map_of eventgroup_cmp table.new
         ≡ changed_at answer.now.eventgroup (acked_wish now answer.now ttl)
-        (map_of eventgroup_cmp places.old.entries) }
+        (map_of eventgroup_cmp table.old) }
 {
-    let Some(wish) = places.get_mut(&answer.eventgroup) else {
+    let Some(&wish) = table.get(&answer.eventgroup) else {
         return Acked::NotPending;
     };
-    let told = wish.stage.told_by_ack(now, answer);
-    *wish = wish.acked(now, answer, ttl);
-    told
+    table.replace(answer.eventgroup, wish.acked(now, answer, ttl));
+    wish.stage.told_by_ack(now, answer)
 }
 
 /// Takes a Nack.
-fn take_nack(places: &mut BTreeMap<Eventgroup, Wish>, answer: &SubscribeAnswer, now: Moment) -> bool
+fn take_nack(table: &mut WishTable, answer: &SubscribeAnswer, now: Moment) -> bool
     ensures ended { result ≡ is_answered now answer.now (wish_of
-        (finite.get (map_of eventgroup_cmp places.old.entries) answer.now.eventgroup)).stage }
-    ensures nacked { map_of eventgroup_cmp places.new.entries
+        (finite.get (map_of eventgroup_cmp table.old) answer.now.eventgroup)).stage }
+    ensures nacked { map_of eventgroup_cmp table.new
         ≡ changed_at answer.now.eventgroup (nacked_wish now answer.now)
-        (map_of eventgroup_cmp places.old.entries) }
+        (map_of eventgroup_cmp table.old) }
 {
-    let Some(wish) = places.get_mut(&answer.eventgroup) else {
+    let Some(&wish) = table.get(&answer.eventgroup) else {
         return false;
     };
-    let ended = wish.stage.is_answered(now, answer);
-    *wish = wish.nacked(now, answer);
-    ended
-}
-
-/// The Subscribes that go out to a peer that offers an instance.
-fn subscribes(
-    places: &BTreeMap<Eventgroup, Wish>,
-    alloc: Global,
-    instance: InstanceId,
-    peer: Ipv4Addr,
-    now: Moment,
-) -> Result<Vec<OutgoingSubscribe>, AllocError>
-    ensures sent { IfOk result (λ sent. sent.items
-        ≡ subscribes now instance peer (map_of eventgroup_cmp places.now.entries)) }
-    ensures grows { OnErr result
-        (subscribes now instance peer (map_of eventgroup_cmp places.now.entries) ≢ []) }
-{
-    if !places.iter().any(|(eventgroup, wish)| wish
-        .subscribe(now, instance, peer, eventgroup)
-        .is_some())
-    {
-        return Ok(Vec::new(alloc));
-    }
-    places
-        .iter()
-        .filter_map(|(eventgroup, wish)| wish.subscribe(now, instance, peer, eventgroup))
-        .collect(alloc)
-}
-
-/// Lets each wished eventgroup of an instance send a Subscribe to a peer.
-fn renew(places: &mut BTreeMap<Eventgroup, Wish>, instance: InstanceId, peer: Ipv4Addr, now: Moment)
-    ensures { map_of eventgroup_cmp places.new.entries
-        ≡ offered now instance peer (map_of eventgroup_cmp places.old.entries) }
-{
-    places.retain(|eventgroup, wish| {
-        *wish = wish.offered(now, instance, peer, eventgroup);
-        true
-    });
+    table.replace(answer.eventgroup, wish.nacked(now, answer));
+    wish.stage.is_answered(now, answer)
 }

@@ -4,7 +4,7 @@ ghost use Rattle.std.specs.Prelude.{◌≡◌, ◌+◌, ◌%◌};
 use crate::eventgroup::Eventgroup;
 use crate::keys::InstanceId;
 use sd_wire::{SubscriptionCounter, Ttl};
-use someip_tables::{Deadline, Moment, is_same_key};
+use someip_tables::{Deadline, Moment, Waits, is_same_key};
 use std::net::Ipv4Addr;
 
 /// A subscription that was begun: a Subscribe went out to a server, with a counter.
@@ -72,6 +72,17 @@ pub enum Acked {
     NotPending,
 }
 
+/// A wish waits for the moment at which the time of the Ack of its subscription passes.
+impl Waits for Wish {
+    ghost use Rattle.sd_core.specs.WishTables.{moment_of};
+
+    ghost moment = { moment_of };
+
+    fn waits_for(&self) -> Option<u64> {
+        self.stage.passes_at()
+    }
+}
+
 impl Beginning {
     ghost use Rattle.std.specs.Prelude.{◌≡◌};
     ghost use Rattle.sd_core.specs.Wishes.{is_over, is_with};
@@ -95,9 +106,44 @@ impl Beginning {
 }
 
 impl Stage {
-    ghost use Rattle.std.specs.Prelude.{◌≡◌};
-    ghost use Rattle.sd_core.specs.Wishes.{counter_in, is_answered, is_subscribed, is_wished};
-    ghost use Rattle.sd_core.specs.Wishes.{stage_acked, standing, stands_with, told_by_ack};
+    ghost use Rattle.std.specs.Prelude.{◌≡◌, true};
+    ghost use Rattle.sd_core.specs.Wishes.{counter_in, has_begun, is_answered, is_subscribed};
+    ghost use Rattle.sd_core.specs.Wishes.{is_wished, is_with, stage_acked, standing, stands_with};
+    ghost use Rattle.sd_core.specs.Wishes.{told_by_ack};
+    ghost use Rattle.sd_core.specs.WishTables.{moment_in};
+
+    /// The moment at which the time of the Ack passes, if there is one, in milliseconds since the
+    /// node's start.
+    fn passes_at(&self) -> Option<u64>
+        ensures { result ≡ moment_in self.now }
+    {
+        match *self {
+            Stage::Begun(
+                Beginning {
+                    until: Some(Deadline::At(at)),
+                    ..
+                },
+            ) => Some(at),
+            _ => None,
+        }
+    }
+
+    /// Whether a subscription was begun.
+    pub(crate) fn is_begun(&self) -> bool
+        ensures { result ≡ has_begun (λ beginning. true) self.now }
+    {
+        matches!(*self, Stage::Begun(_))
+    }
+
+    /// Whether a subscription was begun at this peer.
+    pub(crate) fn is_begun_with(&self, peer: Ipv4Addr) -> bool
+        ensures { result ≡ has_begun (λ beginning. is_with peer beginning) self.now }
+    {
+        match *self {
+            Stage::Begun(beginning) => beginning.is_with(peer),
+            _ => false,
+        }
+    }
 
     /// The subscription that stands.
     pub(crate) fn standing(&self, now: Moment) -> Option<Beginning>
@@ -191,7 +237,7 @@ impl Stage {
 impl Wish {
     ghost use Rattle.std.specs.Prelude.{◌≡◌};
     ghost use Rattle.sd_core.specs.Wishes.{acked_wish, begun_at, first_wish, nacked_wish};
-    ghost use Rattle.sd_core.specs.Wishes.{is_renewed_by, offered_wish, subscribe_of, subscribing};
+    ghost use Rattle.sd_core.specs.Wishes.{is_renewed_by, subscribe_of, subscribing};
     ghost use Rattle.sd_core.specs.Wishes.{unwished, wished_with, wished};
 
     /// The eventgroup was never wished.
@@ -247,23 +293,6 @@ impl Wish {
                 until: None,
             }),
             next_counter: counter_after(counter),
-        }
-    }
-
-    /// An Offer came of an instance, from a peer.
-    pub(crate) fn offered(
-        &self,
-        now: Moment,
-        instance: InstanceId,
-        peer: Ipv4Addr,
-        eventgroup: &Eventgroup,
-    ) -> Wish
-        ensures { result ≡ offered_wish now instance peer eventgroup.now self.now }
-    {
-        if self.is_renewed_by(instance, eventgroup) {
-            self.subscribing(now, peer)
-        } else {
-            *self
         }
     }
 

@@ -1,0 +1,139 @@
+//! The table of the wishes of a client. Those of an instance stand one after the other in it: what asks
+//! for these looks at no other.
+ghost use Rattle.std.specs.Prelude.{◌≡◌, ◌≢◌, ◌<◌, ◌^◌, [], IfOk, OnErr, filter, length};
+ghost use Rattle.std.specs.FinMap as finite;
+ghost use Rattle.std.specs.Map.Iter.{ShowsInOrder, deref_pair};
+ghost use Rattle.std.specs.Ordering.{is_le};
+ghost use Rattle.someip_tables.specs.Tables.{map_of};
+ghost use Rattle.sd_core.specs.declared.wish.Wish.{Wish};
+ghost use Rattle.sd_core.specs.declared.eventgroup.Eventgroup.{Eventgroup};
+ghost use Rattle.sd_core.specs.Eventgroups.{eventgroup_cmp};
+ghost use Rattle.sd_core.specs.Wishes.{subscribes, wish_of};
+ghost use Rattle.sd_core.specs.WishTables.{any_begun, any_wished, begun_of, is_of};
+ghost use Rattle.sd_core.specs.WishTables.{least_of, wished_of};
+
+use crate::eventgroup::Eventgroup;
+use crate::keys::InstanceId;
+use crate::wish::{OutgoingSubscribe, Wish};
+use someip_tables::{Moment, TimedMap, is_same_key};
+use std::alloc::{AllocError, Global};
+use std::collections::btree_map;
+use std::net::Ipv4Addr;
+
+/// The table of the wishes of a client.
+pub(crate) type WishTable = TimedMap<Eventgroup, Wish>;
+
+/// What is kept of an eventgroup.
+pub(crate) fn wish_in(table: &WishTable, eventgroup: &Eventgroup) -> Wish
+    ensures { result ≡ wish_of (finite.get (map_of eventgroup_cmp table.now) eventgroup.now) }
+{
+    match table.get(eventgroup) {
+        Some(wish) => *wish,
+        None => Wish::first(),
+    }
+}
+
+/// The Subscribes that go out to a peer that offers an instance.
+pub(crate) fn subscribes(
+    table: &WishTable,
+    alloc: Global,
+    instance: InstanceId,
+    peer: Ipv4Addr,
+    now: Moment,
+) -> Result<Vec<OutgoingSubscribe>, AllocError>
+    ensures sent { IfOk result
+        (λ sent. sent.items ≡ subscribes now instance peer (map_of eventgroup_cmp table.now)) }
+    ensures grows { OnErr result
+        (subscribes now instance peer (map_of eventgroup_cmp table.now) ≢ []) }
+{
+    if !has_wish(table, instance) {
+        return Ok(Vec::new(alloc));
+    }
+    wishes_from(table, instance)
+        .take_while(|(eventgroup, _)| is_of(eventgroup, instance))
+        .filter_map(|(eventgroup, wish)| wish.subscribe(now, instance, peer, eventgroup))
+        .collect(alloc)
+}
+
+/// The wished eventgroups of an instance, by rising Eventgroup ID.
+pub(crate) fn wished_of(
+    table: &WishTable,
+    alloc: Global,
+    instance: InstanceId,
+) -> Result<Vec<Eventgroup>, AllocError>
+    ensures wished { IfOk result (λ wished. wished.items
+        ≡ finite.keys (wished_of instance (map_of eventgroup_cmp table.now))) }
+    ensures grows { OnErr result (wished_of instance (map_of eventgroup_cmp table.now) ≢ finite.empty) }
+{
+    if !has_wish(table, instance) {
+        return Ok(Vec::new(alloc));
+    }
+    wishes_from(table, instance)
+        .take_while(|(eventgroup, _)| is_of(eventgroup, instance))
+        .filter(|(_, wish)| wish.stage.is_wished())
+        .map(|(eventgroup, _)| *eventgroup)
+        .collect(alloc)
+}
+
+/// The eventgroups of an instance whose subscriptions were begun, by rising Eventgroup ID.
+pub(crate) fn begun_of(
+    table: &WishTable,
+    alloc: Global,
+    instance: InstanceId,
+) -> Result<Vec<Eventgroup>, AllocError>
+    ensures begun { IfOk result (λ begun. begun.items
+        ≡ finite.keys (begun_of instance (map_of eventgroup_cmp table.now))) }
+    ensures grows { OnErr result (begun_of instance (map_of eventgroup_cmp table.now) ≢ finite.empty) }
+{
+    if !has_begun(table, instance) {
+        return Ok(Vec::new(alloc));
+    }
+    wishes_from(table, instance)
+        .take_while(|(eventgroup, _)| is_of(eventgroup, instance))
+        .filter(|(_, wish)| wish.stage.is_begun())
+        .map(|(eventgroup, _)| *eventgroup)
+        .collect(alloc)
+}
+
+/// Whether a subscription of an instance was begun.
+pub(crate) fn has_begun(table: &WishTable, instance: InstanceId) -> bool
+    ensures { result ≡ any_begun (λ eventgroup beginning. is_of instance eventgroup)
+        (map_of eventgroup_cmp table.now) }
+{
+    wishes_from(table, instance)
+        .take_while(|(eventgroup, _)| is_of(eventgroup, instance))
+        .any(|(_, wish)| wish.stage.is_begun())
+}
+
+/// Whether an eventgroup of an instance is wished.
+fn has_wish(table: &WishTable, instance: InstanceId) -> bool
+    ensures { result ≡ any_wished instance (map_of eventgroup_cmp table.now) }
+{
+    wishes_from(table, instance)
+        .take_while(|(eventgroup, _)| is_of(eventgroup, instance))
+        .any(|(_, wish)| wish.stage.is_wished())
+}
+
+/// The wishes from the first one of an instance on.
+fn wishes_from(table: &WishTable, instance: InstanceId) -> btree_map::Range<'_, Eventgroup, Wish>
+    ensures rest { result ≡ filter (λ e. is_le (eventgroup_cmp (least_of instance) e.0))
+        (finite.entries (map_of eventgroup_cmp table.now)) }
+    ensures runs { ShowsInOrder (deref_pair {K = Eventgroup} {X = Wish}) }
+    ensures fits { length result < 2 ^ 63 }
+{
+    table.held().range(first_of(instance)..)
+}
+
+/// What no eventgroup of an instance comes before.
+fn first_of(instance: InstanceId) -> Eventgroup
+    ensures { result ≡ least_of instance }
+{
+    Eventgroup { instance, id: 0 }
+}
+
+/// Whether an eventgroup is of an instance.
+fn is_of(eventgroup: &Eventgroup, instance: InstanceId) -> bool
+    ensures { result ≡ is_of instance eventgroup.now }
+{
+    is_same_key(&eventgroup.instance, &instance)
+}
