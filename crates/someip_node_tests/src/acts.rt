@@ -2,7 +2,7 @@
 use sd_core::{Eventgroup, InstanceId};
 use someip_node::{Node, NodeError, Output};
 use someip_rpc::{CallKind, Reply};
-use someip_tp::SegmentList;
+use someip_tp::IntervalPool;
 use std::alloc::Global;
 use std::fmt::Write;
 use std::net::{Ipv4Addr, SocketAddrV4};
@@ -55,7 +55,7 @@ pub(crate) type Row = (Act, &'static str);
 /// The number of the first of these rows for which a node does not give the lines beside it.
 pub(crate) fn first_wrong(
     alloc: Global,
-    node: &mut Node<SegmentList>,
+    node: &mut Node<IntervalPool>,
     rows: &[Row],
 ) -> Result<Option<usize>, Fail> {
     for (index, (act, lines)) in rows.iter().enumerate() {
@@ -68,7 +68,7 @@ pub(crate) fn first_wrong(
 
 /// The lines that a node gives for what is done to it. Each call of a node has a function of its own below:
 /// so the prover meets one call at a time.
-pub(crate) fn given(alloc: Global, node: &mut Node<SegmentList>, act: Act) -> Result<String, Fail> {
+pub(crate) fn given(alloc: Global, node: &mut Node<IntervalPool>, act: Act) -> Result<String, Fail> {
     match act {
         Act::Datagram(from, to, bytes) => on_datagram(alloc, node, from, to, bytes),
         Act::Tick(ms) => tick(alloc, node, ms),
@@ -85,7 +85,7 @@ pub(crate) fn given(alloc: Global, node: &mut Node<SegmentList>, act: Act) -> Re
 
 fn on_datagram(
     alloc: Global,
-    node: &mut Node<SegmentList>,
+    node: &mut Node<IntervalPool>,
     from: Port,
     to: Port,
     bytes: &str,
@@ -97,13 +97,13 @@ fn on_datagram(
     )
 }
 
-fn tick(alloc: Global, node: &mut Node<SegmentList>, ms: u64) -> Result<String, Fail> {
+fn tick(alloc: Global, node: &mut Node<IntervalPool>, ms: u64) -> Result<String, Fail> {
     lines_of(alloc, node.tick(ms))
 }
 
 fn call(
     alloc: Global,
-    node: &mut Node<SegmentList>,
+    node: &mut Node<IntervalPool>,
     kind: CallKind,
     instance: InstanceId,
     method: u16,
@@ -115,7 +115,7 @@ fn call(
 
 fn answer(
     alloc: Global,
-    node: &mut Node<SegmentList>,
+    node: &mut Node<IntervalPool>,
     token: u64,
     reply: Reply,
     payload: &str,
@@ -126,7 +126,7 @@ fn answer(
 
 fn publish(
     alloc: Global,
-    node: &mut Node<SegmentList>,
+    node: &mut Node<IntervalPool>,
     instance: InstanceId,
     event: u16,
     payload: &str,
@@ -137,7 +137,7 @@ fn publish(
 
 fn publish_to(
     alloc: Global,
-    node: &mut Node<SegmentList>,
+    node: &mut Node<IntervalPool>,
     of: Eventgroup,
     to: Port,
     event: u16,
@@ -150,7 +150,7 @@ fn publish_to(
 
 fn subscribe(
     alloc: Global,
-    node: &mut Node<SegmentList>,
+    node: &mut Node<IntervalPool>,
     eventgroup: Eventgroup,
 ) -> Result<String, Fail> {
     lines_of(alloc, node.subscribe(eventgroup))
@@ -158,7 +158,7 @@ fn subscribe(
 
 fn unsubscribe(
     alloc: Global,
-    node: &mut Node<SegmentList>,
+    node: &mut Node<IntervalPool>,
     eventgroup: Eventgroup,
 ) -> Result<String, Fail> {
     lines_of(alloc, node.unsubscribe(eventgroup))
@@ -166,13 +166,13 @@ fn unsubscribe(
 
 fn stop_offer(
     alloc: Global,
-    node: &mut Node<SegmentList>,
+    node: &mut Node<IntervalPool>,
     instance: InstanceId,
 ) -> Result<String, Fail> {
     lines_of(alloc, node.stop_offer(instance))
 }
 
-fn restart(alloc: Global, node: &mut Node<SegmentList>, delay: u32) -> Result<String, Fail> {
+fn restart(alloc: Global, node: &mut Node<IntervalPool>, delay: u32) -> Result<String, Fail> {
     let mut text = String::new(alloc);
     if let Err(refusal) = node.restart(delay) {
         writeln!(text, "refused {refusal}")?;

@@ -4,7 +4,7 @@ use crate::acts::Row;
 use crate::nodes::{OFFERS, OFFERS_TWO, WANTS, config_of, gives};
 use sd_core::InstanceId;
 use someip_node::{Common, Config, Node, NodeError};
-use someip_tp::SegmentList;
+use someip_tp::IntervalPool;
 use std::alloc::Global;
 use std::net::SocketAddrV4;
 use std::test::Fail;
@@ -124,7 +124,7 @@ fn first_wrong_start(alloc: Global, rows: &[(Start, Refusal)]) -> Result<Option<
 
 /// Why a node is not started.
 fn refusal(alloc: Global, config: Config, delay: u32) -> Refusal {
-    match Node::<SegmentList>::start(alloc, config, delay) {
+    match Node::<IntervalPool>::start(alloc, config, delay) {
         Ok(_) => None,
         Err(refusal) => Some(refusal),
     }

@@ -6,7 +6,7 @@ use crate::nodes::{
     started,
 };
 use someip_node::{Node, Output};
-use someip_tp::SegmentList;
+use someip_tp::IntervalPool;
 use std::alloc::Global;
 use std::test::Fail;
 
@@ -263,7 +263,7 @@ fn many_replies(alloc: Global) -> Result<(usize, usize), Fail> {
     replies_of(alloc, &mut node)
 }
 
-fn replies_of(alloc: Global, node: &mut Node<SegmentList>) -> Result<(usize, usize), Fail> {
+fn replies_of(alloc: Global, node: &mut Node<IntervalPool>) -> Result<(usize, usize), Fail> {
     let bytes = many_subscribes(alloc)?;
     let outputs = node.on_datagram(SD_OF_CLIENT.endpoint(), SD_OF_SERVER.endpoint(), &bytes)?;
     Ok((outputs.len(), count_sent(&outputs)))

@@ -3,7 +3,7 @@ use crate::acts::lines_of;
 use crate::nodes::{INSTANCE, OFFERS, WANTS, started};
 use someip_node::{Node, NodeError, Output};
 use someip_rpc::{CallKind, Reply};
-use someip_tp::SegmentList;
+use someip_tp::IntervalPool;
 use someip_wire::ReturnCode;
 use std::alloc::Global;
 use std::test::Fail;
@@ -12,7 +12,7 @@ use std::test::Fail;
 fn carry(
     alloc: Global,
     outputs: &[Output],
-    node: &mut Node<SegmentList>,
+    node: &mut Node<IntervalPool>,
 ) -> Result<Vec<Output>, NodeError> {
     let mut given = Vec::new(alloc);
     for output in outputs {
@@ -35,8 +35,8 @@ fn first_token(outputs: &[Output]) -> Option<u64> {
 /// The clock of the server goes on, and its Offer goes to the client.
 fn offer(
     alloc: Global,
-    server: &mut Node<SegmentList>,
-    client: &mut Node<SegmentList>,
+    server: &mut Node<IntervalPool>,
+    client: &mut Node<IntervalPool>,
 ) -> Result<(), NodeError> {
     let offer = server.tick(10)?;
     carry(alloc, &offer, client)?;
@@ -46,8 +46,8 @@ fn offer(
 /// The client calls a method, and the request goes to the server, which hands it up.
 fn call(
     alloc: Global,
-    server: &mut Node<SegmentList>,
-    client: &mut Node<SegmentList>,
+    server: &mut Node<IntervalPool>,
+    client: &mut Node<IntervalPool>,
 ) -> Result<Vec<Output>, NodeError> {
     let call = client.call(CallKind::Request, INSTANCE, 0x0421, &[1, 2])?;
     carry(alloc, &call, server)
@@ -57,8 +57,8 @@ fn call(
 fn answer(
     alloc: Global,
     token: u64,
-    server: &mut Node<SegmentList>,
-    client: &mut Node<SegmentList>,
+    server: &mut Node<IntervalPool>,
+    client: &mut Node<IntervalPool>,
 ) -> Result<Vec<Output>, NodeError> {
     let answer = server.answer(token, Reply::Response(ReturnCode::E_OK), &[3])?;
     carry(alloc, &answer, client)
@@ -67,8 +67,8 @@ fn answer(
 /// What is told last: the server offers, the client calls a method, and it is answered.
 fn run(
     alloc: Global,
-    server: &mut Node<SegmentList>,
-    client: &mut Node<SegmentList>,
+    server: &mut Node<IntervalPool>,
+    client: &mut Node<IntervalPool>,
 ) -> Result<Vec<Output>, NodeError> {
     offer(alloc, server, client)?;
     let requests = call(alloc, server, client)?;
@@ -86,7 +86,7 @@ fn last_lines(alloc: Global) -> Result<String, Fail> {
 }
 
 /// The same with this server.
-fn last_lines_with(alloc: Global, server: &mut Node<SegmentList>) -> Result<String, Fail> {
+fn last_lines_with(alloc: Global, server: &mut Node<IntervalPool>) -> Result<String, Fail> {
     let mut client = started(alloc, WANTS)?;
     lines_of(alloc, run(alloc, server, &mut client))
 }

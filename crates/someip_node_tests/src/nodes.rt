@@ -2,7 +2,7 @@
 use crate::acts::{Port, Row, first_wrong};
 use sd_core::{Eventgroup, InstanceId};
 use someip_node::{Config, Node};
-use someip_tp::SegmentList;
+use someip_tp::IntervalPool;
 use someip_world_setup::Setup;
 use std::alloc::Global;
 use std::test::Fail;
@@ -158,7 +158,7 @@ pub(crate) fn config_of(alloc: Global, setup: &str) -> Result<Config, Fail> {
 }
 
 /// The first node of a setup, at its start.
-pub(crate) fn started(alloc: Global, setup: &str) -> Result<Node<SegmentList>, Fail> {
+pub(crate) fn started(alloc: Global, setup: &str) -> Result<Node<IntervalPool>, Fail> {
     Ok(Node::start(alloc, config_of(alloc, setup)?, 10)?)
 }
 

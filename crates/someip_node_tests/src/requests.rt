@@ -4,7 +4,7 @@ use crate::acts::{Row, first_wrong, given};
 use crate::nodes::{CLIENT, EVENTGROUP, INSTANCE, OFFERS, SERVER, gives, started};
 use someip_node::Node;
 use someip_rpc::{CallKind, Reply};
-use someip_tp::SegmentList;
+use someip_tp::IntervalPool;
 use someip_wire::ReturnCode;
 use std::alloc::Global;
 use std::test::Fail;
@@ -107,7 +107,7 @@ const ONE_MORE: &[Row] = &[(
 )];
 
 /// Lets so many requests come.
-fn ask(alloc: Global, node: &mut Node<SegmentList>, times: usize) -> Result<(), Fail> {
+fn ask(alloc: Global, node: &mut Node<IntervalPool>, times: usize) -> Result<(), Fail> {
     for _ in 0..times {
         given(alloc, node, Datagram(CLIENT, SERVER, REQUEST))?;
     }

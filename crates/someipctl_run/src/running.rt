@@ -7,7 +7,7 @@ ghost use Rattle.someipctl_run.specs.Traces.{trace_text};
 
 use crate::error::RunFault;
 use crate::lines::{put_lines, put_reuse};
-use someip_tp::SegmentList;
+use someip_tp::IntervalPool;
 use someip_world::{Line, Reuse, Setup, SetupNode, Trace, read_schedule, run};
 use someipctl_commands::read_all;
 use someipctl_print::{Buffer, CannotWrite};
@@ -64,7 +64,7 @@ fn trace_of(alloc: Global, setup: &Setup, text: &[u8]) -> Result<Trace, RunFault
     ensures err { IfErr result (RefusesTrace setup.now.nodes text.now) }
 {
     let steps = read_schedule(alloc, text)?;
-    let trace = run::<SegmentList>(alloc, setup, &steps)?;
+    let trace = run::<IntervalPool>(alloc, setup, &steps)?;
     Ok(trace)
 }
 
