@@ -42,6 +42,7 @@ pub(crate) fn note<K: Key>(dues: &mut Vec<Due<K>>, key: K, moment: Option<u64>)
     }
 }
 
+/// Takes a key at its moment out of the list, if it is there.
 fn take_out<K: Key>(dues: &mut Vec<Due<K>>, due: &Due<K>)
     requires { IsStrictlySortedBy (falling K.cmp) dues.old.items }
     ensures falls { IsStrictlySortedBy (falling K.cmp) dues.new.items }
@@ -54,6 +55,7 @@ fn take_out<K: Key>(dues: &mut Vec<Due<K>>, due: &Due<K>)
     }
 }
 
+/// Puts a key at its moment into the list, unless it is there.
 fn put_in<K: Key>(dues: &mut Vec<Due<K>>, due: Due<K>)
     requires falls { IsStrictlySortedBy (falling K.cmp) dues.old.items }
     requires room { length dues.old.items < vec_capacity dues.old }
