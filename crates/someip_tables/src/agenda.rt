@@ -1,7 +1,7 @@
 //! The moments that the keys of a map wait for, from the last to the first, so that what is due
 //! stands at the end.
 ghost use Rattle.std.specs.Prelude.{◌≡◌, ◌<◌, ◌≤◌, ◌++◌, [], true, false, nat_le, length, map, reverse, take_while};
-ghost use Rattle.std.specs.Prelude.{if◌then◌else◌, IfOk, OnErr, IsTrue};
+ghost use Rattle.std.specs.Prelude.{if◌then◌else◌, IfOk, OnErr};
 ghost use Rattle.std.specs.List.{list_any, cons_option};
 ghost use Rattle.std.specs.List.Sorted.{IsStrictlySortedBy, IsSorted, IsPermutation};
 ghost use Rattle.std.specs.List.Sorted.{IsBinarySearchResult, IsSearchInRange};
