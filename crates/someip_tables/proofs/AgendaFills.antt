@@ -1,14 +1,14 @@
 -- The moments of a map's entries, put in order.
-use Rattle.std.proofs.Common.{◌≡◌, ℕ, ◌+◌, ◌≤◌, ◌==◌, nat_lt, Bool, true, false, cond, ◌&&◌, ◌||◌, List, [], ◌∷◌, ◌++◌, length, Option, None, Some, refl, ap, sym, ◌∙◌, append_assoc, arith}
-use Rattle.std.specs.Option.{option_and_then, is_none}
-use Rattle.std.specs.List.{list_any, AllByRecursion, IsDistinct, cons_option, filter_map}
+use Rattle.std.proofs.Common.{◌≡◌, ℕ, ◌≤◌, ◌==◌, nat_lt, Bool, true, false, cond, ◌&&◌, ◌||◌, List, [], ◌∷◌, ◌++◌, length, Option, None, Some, refl, ap, sym, ◌∙◌, append_assoc, arith}
+use Rattle.std.specs.Option.{option_and_then}
+use Rattle.std.specs.List.{list_any, AllByRecursion, IsDistinct, cons_option}
 use Rattle.std.specs.List.Sorted.{IsStrictlySortedBy, IsSorted, IsPermutation}
 use Rattle.std.specs.Map.{keys_of}
 use Rattle.std.specs.declared.cmp.Ordering.{Ordering}
 use Rattle.std.specs.declared.cmp.Ordering.TheVariants.{Less, Equal, Greater}
 use Rattle.std.specs.Ordering.{eq_by_cmp, is_eq, nat_cmp, ordering_then}
 use Rattle.std.specs.Cmp.{IsTotalOrder, eq_by_cmp_equiv}
-use Rattle.std.specs.FinMap.{IsAntisymmetric, find, get, get-from_entries}
+use Rattle.std.specs.FinMap.{IsAntisymmetric, find, get-from_entries}
 use Rattle.std.proofs.lemmas.Bool.{and_parts}
 use Rattle.std.proofs.lemmas.Bool.Decides.{nat_tests}
 use Rattle.std.proofs.lemmas.List.Sorted.{list_any-IsPermutation}
@@ -17,7 +17,7 @@ use Rattle.someip_tables.specs.Agendas.{falling, has_due, is_awaited, due_of, du
 use Rattle.someip_tables.specs.Distinct.{are_distinct}
 use Rattle.someip_tables.specs.Tables.{map_of}
 use Rattle.someip_tables.proofs.AgendaLemmas.{falling_total, exact_falling}
-use Rattle.someip_tables.proofs.Entries.{same_by_test, none_found, own_test}
+use Rattle.someip_tables.proofs.Entries.{same_by_test, none_found}
 use Rattle.someip_tables.proofs.Ranked.{sorted_rises}
 use Rattle.someip_tables.proofs.Trees.{rising_distinct}
 

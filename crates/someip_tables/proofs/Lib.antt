@@ -1,3 +1,4 @@
+pub mod Outcomes
 pub mod Entries
 pub mod MapLaws
 pub mod Members
@@ -9,7 +10,6 @@ pub mod RetainLemmas
 pub mod ExpiredKeys
 pub mod SortedEntries
 pub mod ChangedLemmas
-pub mod WaitLemmas
 pub mod Ranked
 pub mod AgendaLemmas
 pub mod AgendaKeys

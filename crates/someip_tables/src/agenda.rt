@@ -1,7 +1,7 @@
 //! The moments that the keys of a map wait for, from the last to the first, so that what is due
 //! stands at the end.
 ghost use Rattle.std.specs.Prelude.{◌≡◌, ◌<◌, ◌≤◌, ◌++◌, [], true, false, nat_le, length, map, reverse, take_while};
-ghost use Rattle.std.specs.Prelude.{if◌then◌else◌, IfOk, OnErr, IsTrue};
+ghost use Rattle.std.specs.Prelude.{if◌then◌else◌, IfOk, OnErr};
 ghost use Rattle.std.specs.List.{list_any, cons_option};
 ghost use Rattle.std.specs.List.Sorted.{IsStrictlySortedBy, IsSorted, IsPermutation};
 ghost use Rattle.std.specs.List.Sorted.{IsBinarySearchResult, IsSearchInRange};
@@ -42,6 +42,7 @@ pub(crate) fn note<K: Key>(dues: &mut Vec<Due<K>>, key: K, moment: Option<u64>)
     }
 }
 
+/// Takes a key at its moment out of the list, if it is there.
 fn take_out<K: Key>(dues: &mut Vec<Due<K>>, due: &Due<K>)
     requires { IsStrictlySortedBy (falling K.cmp) dues.old.items }
     ensures falls { IsStrictlySortedBy (falling K.cmp) dues.new.items }
@@ -54,6 +55,7 @@ fn take_out<K: Key>(dues: &mut Vec<Due<K>>, due: &Due<K>)
     }
 }
 
+/// Puts a key at its moment into the list, unless it is there.
 fn put_in<K: Key>(dues: &mut Vec<Due<K>>, due: Due<K>)
     requires falls { IsStrictlySortedBy (falling K.cmp) dues.old.items }
     requires room { length dues.old.items < vec_capacity dues.old }

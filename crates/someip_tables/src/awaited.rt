@@ -1,6 +1,6 @@
 //! An ordered map, and beside it the moments that its values wait for, in order. A key has at most one,
 //! so a list with room for as many as the map has entries takes every change of a value without memory.
-ghost use Rattle.std.specs.Prelude.{◌≡◌, ◌≢◌, ◌<◌, ◌≤◌, [], OnOk, OnErr, None, is_some, true};
+ghost use Rattle.std.specs.Prelude.{◌≡◌, ◌<◌, ◌≤◌, OnOk, OnErr, None, is_some, true};
 ghost use Rattle.std.specs.Prelude.{if◌then◌else◌};
 ghost use Rattle.std.specs.Option.{option_and_then};
 ghost use Rattle.std.specs.FinMap as finite;

@@ -3,12 +3,10 @@ ghost use Rattle.std.specs.Prelude.{◌≡◌, ◌≢◌, ◌↔◌, OnOk, OnErr
 ghost use Rattle.std.specs.Prelude.{if◌then◌else◌};
 ghost use Rattle.std.specs.Option.{option_copied};
 ghost use Rattle.std.specs.FinMap as finite;
-ghost use Rattle.std.specs.List.{list_any};
-ghost use Rattle.std.specs.Ordering.{eq_by_cmp};
 ghost use Rattle.someip_tables.specs.Changed.{each_changed};
 ghost use Rattle.someip_tables.specs.Retained.{retain};
 ghost use Rattle.someip_tables.specs.Tables.{map_of, AnswersPairAs};
-ghost use Rattle.someip_tables.specs.Waits.{due_by, is_due_by};
+ghost use Rattle.someip_tables.specs.Waits.{due_by};
 
 use crate::agenda::{due_keys, has_come};
 use crate::awaited::{change_all, change_those, has, put, renew};
@@ -20,7 +18,7 @@ use std::alloc::{AllocError, Global};
 use std::collections::BTreeMap;
 use std::marker::Model;
 
-/// A map whose values wait for a moment each, or for none; the moments stand in order beside it, so
+/// A map whose values wait for a moment each, or for none. The moments stand in order beside it, so
 /// what is due is found without a look at the rest. Memory is taken for a new key alone: the room of
 /// its moment is reserved with it.
 #[derive(Drop)]

@@ -5,7 +5,7 @@ use Rattle.someip_tables.specs.Agendas.{IsAgenda}
 use Rattle.someip_tables.specs.Tables.{map_of}
 use Rattle.someip_tables.proofs.AgendaLemmas.{agenda_fits_tree, agenda_with}
 use Rattle.someip_tables.proofs.Trees.{map_of-insert}
-use Rattle.someip_tables.proofs.WaitLemmas.{where_ok}
+use Rattle.someip_tables.proofs.Outcomes.{where_ok}
 use Rattle.someip_tables.proofs.awaited.add.Goals as goal
 
 put : (g : _) (c : goal.After-note g) → map_of g.K.Ord.cmp c.insert.new.self.entries ≡ finite.insert (map_of g.K.Ord.cmp c.args.held.now.entries) c.args.key c.args.value

@@ -6,7 +6,7 @@ use Rattle.someip_tables.specs.Agendas.{IsAgenda}
 use Rattle.someip_tables.specs.Tables.{map_of}
 use Rattle.someip_tables.proofs.AgendaLemmas.{agenda_without, agenda_renewed, room_for_one, same_length}
 use Rattle.someip_tables.proofs.Trees.{get-map_of, map_of-insert}
-use Rattle.someip_tables.proofs.WaitLemmas.{where_no_err, not_none}
+use Rattle.someip_tables.proofs.Outcomes.{where_no_err, not_none}
 use Rattle.someip_tables.proofs.awaited.renew.Goals as goal
 
 put : (g : _) (c : goal.After-note g) → map_of g.K.Ord.cmp c.insert.new.self.entries ≡ finite.insert (map_of g.K.Ord.cmp c.args.held.now.entries) c.args.key c.args.value

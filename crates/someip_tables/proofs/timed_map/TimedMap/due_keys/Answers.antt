@@ -1,7 +1,7 @@
 use Rattle.std.proofs.lemmas.Result.{on_err_weaker}
 use Rattle.someip_tables.specs.Tables.{map_of}
 use Rattle.someip_tables.proofs.AgendaKeys.{due_keys_are, some_due}
-use Rattle.someip_tables.proofs.WaitLemmas.{if_ok_both}
+use Rattle.someip_tables.proofs.Outcomes.{if_ok_both}
 use Rattle.someip_tables.proofs.timed_map.TimedMap.due_keys.Goals as goal
 
 pub returns-clause-due : goal.returns-clause-due
