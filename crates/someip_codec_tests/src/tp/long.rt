@@ -185,3 +185,45 @@ fn is_mebibyte_whole(alloc: Global) -> Option<bool> {
 fn a_mebibyte_backwards(rt: HostRuntime) {
     assert!(rt; is_mebibyte_whole(rt.alloc()) == Some(true));
 }
+
+/// The offer of 16 bytes of a payload; those at its end are the last ones.
+fn sixteen(payload: &[u8], at: usize) -> Option<TpCall<'_>> {
+    let rest = payload.get(at..)?;
+    let bytes = rest.get(..16)?;
+    let offset = u32::try_from(at).ok()?;
+    Some(offer(key(1), offset, rest.len() > 16, bytes, 0))
+}
+
+/// The offers of the slices of 16 bytes of 65536 bytes, those at every other place first, and then its
+/// message is taken.
+fn every_other_first(alloc: Global, payload: &[u8]) -> Option<Vec<TpCall<'_>>> {
+    let mut calls = Vec::new(alloc);
+    for i in 0..2048 {
+        calls.push(sixteen(payload, 32 * i)?).ok()?;
+    }
+    for i in 0..2048 {
+        calls.push(sixteen(payload, 32 * i + 16)?).ok()?;
+    }
+    calls.push(TpCall::Take { key: key(1) }).ok()?;
+    Some(calls)
+}
+
+/// The answers to 4096 slices, of which the last makes the message whole.
+fn answers_to_every_other(alloc: Global) -> Result<Vec<TpAnswer>, AllocError> {
+    let mut answers = vec![in alloc; PART; 4095]?;
+    answers.push(WHOLE)?;
+    answers.push(TAKEN)?;
+    Ok(answers)
+}
+
+fn is_whole_by_every_other(alloc: Global) -> Option<bool> {
+    let payload = payload_of(alloc, 65536).ok()?;
+    let calls = every_other_first(alloc, &payload)?;
+    let wanted = answers_to_every_other(alloc).ok()?;
+    is_answered(alloc, 1, 65536, &calls, &wanted, &payload)
+}
+
+#[test]
+fn slices_at_every_other_place_first(rt: HostRuntime) {
+    assert!(rt; is_whole_by_every_other(rt.alloc()) == Some(true));
+}

@@ -1,10 +1,10 @@
-//! Calls of a store, each beside the answer that it must give.
+//! Calls of both bodies of a store, each beside the answer that it must give.
 use super::call::{Run, Source, Step, key};
 use super::rows::{ONE, OVERLAPS, REFUSALS, TIMES, TOTALS, TWO};
 use crate::rows::{Row, check};
 use someip_tp::{
-    Offered, Reassembly, ReassemblyKey, SegmentList, TpAnswer, TpCall, TpError, are_in_time,
-    run_calls,
+    IntervalPool, Offered, Reassembly, ReassemblyKey, SegmentList, TpAnswer, TpCall, TpError,
+    are_in_time, run_calls,
 };
 use std::alloc::{AllocError, Global};
 
@@ -30,7 +30,7 @@ fn answers_of<R: Reassembly>(
 }
 
 /// A store with so many slots and this limit answers these calls so, and gives these bytes.
-pub fn is_answered(
+fn is_answered_by<R: Reassembly>(
     alloc: Global,
     slots: usize,
     limit: usize,
@@ -39,8 +39,22 @@ pub fn is_answered(
     bytes: &[u8],
 ) -> Option<bool> {
     let mut taken = Vec::new(alloc);
-    let answers = answers_of::<SegmentList>(alloc, slots, limit, calls, &mut taken).ok()?;
+    let answers = answers_of::<R>(alloc, slots, limit, calls, &mut taken).ok()?;
     Some(answers.as_slice() == wanted && taken.as_slice() == bytes)
+}
+
+/// Both bodies with so many slots and this limit answer these calls so, and give these bytes.
+pub fn is_answered(
+    alloc: Global,
+    slots: usize,
+    limit: usize,
+    calls: &[TpCall<'_>],
+    wanted: &[TpAnswer],
+    bytes: &[u8],
+) -> Option<bool> {
+    let list = is_answered_by::<SegmentList>(alloc, slots, limit, calls, wanted, bytes)?;
+    let pool = is_answered_by::<IntervalPool>(alloc, slots, limit, calls, wanted, bytes)?;
+    Some(list && pool)
 }
 
 /// The calls of these steps.
@@ -133,7 +147,8 @@ fn call_directly<R: Reassembly>(
 #[test]
 fn a_store_is_called_directly(rt: HostRuntime) {
     let mut bytes = Vec::new(rt.alloc());
-    let answers = call_directly::<SegmentList>(rt.alloc(), &mut bytes);
+    let list = call_directly::<SegmentList>(rt.alloc(), &mut bytes);
+    let pool = call_directly::<IntervalPool>(rt.alloc(), &mut bytes);
     let offered = [Ok(Offered::Part), Ok(Offered::Whole)];
-    assert!(rt; answers == Ok((offered, true)) && bytes.len() == 32);
+    assert!(rt; list == Ok((offered, true)) && pool == list && bytes.len() == 64);
 }

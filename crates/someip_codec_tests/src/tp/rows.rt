@@ -32,6 +32,13 @@ const OTHER: &[u8] = b"\x11\x11\x11\x11\x11\x11\x11\x11\x11\x11\x11\x11\x11\x11\
                        \x22\x22\x22\x22\x22\x22\x22\x22\x22\x22\x22\x22\x22\x22\x22\x23\
                        \x33\x33\x33\x33\x33\x33\x33\x33\x33\x33\x33\x33\x33\x33\x33\x33";
 
+/// The first, the second, the third, and the first two the other way round.
+const FIVE: &[u8] = b"\x11\x11\x11\x11\x11\x11\x11\x11\x11\x11\x11\x11\x11\x11\x11\x11\
+                       \x22\x22\x22\x22\x22\x22\x22\x22\x22\x22\x22\x22\x22\x22\x22\x22\
+                       \x33\x33\x33\x33\x33\x33\x33\x33\x33\x33\x33\x33\x33\x33\x33\x33\
+                       \x22\x22\x22\x22\x22\x22\x22\x22\x22\x22\x22\x22\x22\x22\x22\x22\
+                       \x11\x11\x11\x11\x11\x11\x11\x11\x11\x11\x11\x11\x11\x11\x11\x11";
+
 /// Totals and empty slices.
 pub static TOTALS: [Run; 11] = [
     // A total at a held place.
@@ -165,7 +172,7 @@ pub static TOTALS: [Run; 11] = [
 ];
 
 /// Slices that lie over one another.
-pub static OVERLAPS: [Run; 6] = [
+pub static OVERLAPS: [Run; 8] = [
     // Repeats fill no gap.
     Run {
         slots: 1,
@@ -238,6 +245,33 @@ pub static OVERLAPS: [Run; 6] = [
             (Last(2, 0, ONE, 0), NO_SLOT),
             (Last(1, 0, OTHER, 0), CONFLICT),
             (Take(1), NONE_TAKEN),
+        ],
+        bytes: NO,
+    },
+    // A slice over three that are apart, twice.
+    Run {
+        slots: 1,
+        limit: 80,
+        steps: &[
+            (More(1, 64, ONE, 0), PART),
+            (More(1, 0, ONE, 0), PART),
+            (More(1, 32, THREE, 0), PART),
+            (More(1, 0, FIVE, 0), PART),
+            (More(1, 0, FIVE, 0), PART),
+            (Last(1, 80, NO, 0), WHOLE),
+            (Take(1), TAKEN),
+        ],
+        bytes: FIVE,
+    },
+    // A conflict frees the slot.
+    Run {
+        slots: 1,
+        limit: 48,
+        steps: &[
+            (More(1, 0, ONE, 0), PART),
+            (More(2, 0, ONE, 0), NO_SLOT),
+            (More(1, 0, TWO, 0), CONFLICT),
+            (More(2, 0, ONE, 0), PART),
         ],
         bytes: NO,
     },
