@@ -246,3 +246,54 @@ from_start held other n below tied first =
 -- where none is held, there is no interval
 pub none_tied : (held : ℕ → Bool) (other : ℕ → ℕ) → ((j : ℕ) → held j ≡ false) → AreTied held other
 none_tied held other none first last this = absurd (let on = this.within first (omega arith) this.order in let off = none first in cc)
+
+-- ---- intervals are apart
+
+pub holds_all : (held : ℕ → Bool) (first last from to block : ℕ) → IsInterval held first last → ((k : ℕ) → from ≤ k → k < to → held k ≡ true) → first ≤ block → block ≤ last → from ≤ block → block < to
+    → (first ≤ from) × (to ≤ last + 1)
+holds_all held first last from to block this all a b c d = (low (nat_lt from first) refl, high (nat_lt (last + 1) to) refl)
+  where
+    low : (t : Bool) → nat_lt from first ≡ t → first ≤ from
+    low false test = grind (arith, nat_tests, test)
+    low true test =
+        let lt : from < first = grind (arith, nat_tests, test) in
+        let off = this.before (first - 1) (omega (arith, lt)) in
+        let on = all (first - 1) (omega (arith, lt)) (omega (arith, lt, a, d)) in
+        absurd (cc)
+
+    high : (t : Bool) → nat_lt (last + 1) to ≡ t → to ≤ last + 1
+    high false test = grind (arith, nat_tests, test)
+    high true test =
+        let lt : last + 1 < to = grind (arith, nat_tests, test) in
+        let on = all (last + 1) (omega (arith, b, c)) lt in
+        let off = this.after in
+        absurd (cc)
+
+-- an interval that begins within another one, or right behind it, begins and ends no later than that
+begins_with : (held : ℕ → Bool) (a b c d : ℕ) → IsInterval held a b → IsInterval held c d → c ≤ b + 1 → c ≤ a
+begins_with held a b c d one other near = cases (nat_lt a c) refl
+  where
+    cases : (t : Bool) → nat_lt a c ≡ t → c ≤ a
+    cases false test = grind (arith, nat_tests, test)
+    cases true test =
+        let lt : a < c = grind (arith, nat_tests, test) in
+        let off = other.before (c - 1) (omega (arith, lt)) in
+        let on = one.within (c - 1) (omega (arith, lt)) (omega (arith, near)) in
+        absurd (cc)
+
+ends_with : (held : ℕ → Bool) (a b c d : ℕ) → IsInterval held a b → IsInterval held c d → c ≤ b + 1 → d ≤ b
+ends_with held a b c d one other near = cases (nat_lt b d) refl
+  where
+    cases : (t : Bool) → nat_lt b d ≡ t → d ≤ b
+    cases false test = grind (arith, nat_tests, test)
+    cases true test =
+        let lt : b < d = grind (arith, nat_tests, test) in
+        let on = other.within (b + 1) near (omega (arith, lt)) in
+        let off = one.after in
+        absurd (cc)
+
+pub are_one : (held : ℕ → Bool) (a b c d : ℕ) → IsInterval held a b → IsInterval held c d → c ≤ b + 1 → a ≤ d + 1 → (a ≡ c) × (b ≡ d)
+are_one held a b c d one other near far = (
+  omega (arith, begins_with held a b c d one other near, begins_with held c d a b other one far),
+  omega (arith, ends_with held a b c d one other near, ends_with held c d a b other one far),
+)

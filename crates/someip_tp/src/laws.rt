@@ -1,6 +1,6 @@
 //! Laws of the definitions behind the contracts. Each is the contract of a function that does
 //! nothing: it says what holds of segments, parts and calls, whatever body keeps them.
-ghost use Rattle.std.specs.Prelude.{◌≡◌, ◌≢◌, ◌↔◌, ◌+◌, ◌<◌, ◌≤◌, ◌^◌, ◌%◌, ℕ, List, [], length, Some, None, Result, Ok, Err, is_some, true};
+ghost use Rattle.std.specs.Prelude.{◌≡◌, ◌≢◌, ◌↔◌, ◌+◌, ◌<◌, ◌≤◌, ◌^◌, ◌%◌, ℕ, List, [], length, Some, None, Result, Ok, Err, is_some, Bool, true};
 ghost use Rattle.std.specs.FinMap as map;
 ghost use Rattle.std.specs.FinMap.{get, len};
 ghost use Rattle.std.specs.List.{AllByRecursion, Contains};
@@ -21,6 +21,7 @@ ghost use Rattle.someip_tp.specs.Offers.{Offer, judgement, parts_after, message_
 ghost use Rattle.someip_tp.specs.Offers.{parts_less, no_part, with_offer};
 ghost use Rattle.someip_tp.specs.Arrivals.{AllArrive};
 ghost use Rattle.someip_tp.specs.Accepted.{HoldsOnly, IsSegmentOf, accepted_through};
+ghost use Rattle.someip_tp.specs.Blocks.{IsInterval};
 ghost use Rattle.someip_tp.specs.Wholes.{IsWhole, IsWithin};
 ghost use Rattle.someip_tp.specs.Calls.{parts_through};
 
@@ -127,4 +128,14 @@ pub fn each_call_keeps_parts_within_limits()
         → IsWithin limits parts → IsWithin limits (parts_less parts key) }
     ensures expire { (limits : Limits) (now : ℕ) (parts : Parts)
         → IsWithin limits parts → IsWithin limits (parts_at limits now parts) }
+{}
+
+/// Intervals of held places are apart, so a slice that lies over some leaves one in their place: blocks
+/// that are held in a row are in one interval, and two intervals that share a block, or touch, are one.
+pub fn intervals_are_apart()
+    ensures whole { (held : ℕ → Bool) (first last from to block : ℕ) → IsInterval held first last
+        → ((k : ℕ) → from ≤ k → k < to → held k ≡ true)
+        → first ≤ block → block ≤ last → from ≤ block → block < to → (first ≤ from) × (to ≤ last + 1) }
+    ensures apart { (held : ℕ → Bool) (a b c d : ℕ) → IsInterval held a b → IsInterval held c d
+        → c ≤ b + 1 → a ≤ d + 1 → (a ≡ c) × (b ≡ d) }
 {}
