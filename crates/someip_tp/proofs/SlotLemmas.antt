@@ -1,12 +1,13 @@
 -- Parts that are taken out of their list, and what it shows of them.
-use Rattle.std.proofs.Common.{◌≡◌, ℕ, zero, suc, ◌+◌, ◌<◌, ◌≤◌, Bool, true, false, cond, not, List, [], ◌∷◌, ◌++◌, filter, take, drop, length, set, get_or, None, Some, refl, sym, ap, subst, ◌∙◌, arith}
+use Rattle.std.proofs.Common.{◌≡◌, ℕ, zero, suc, ◌+◌, ◌<◌, ◌≤◌, Bool, true, false, cond, not, nat_lt, nat_le, List, [], ◌∷◌, ◌++◌, filter, take, drop, length, set, get_or, None, Some, refl, sym, ap, subst, ◌∙◌, arith}
 use Rattle.std.specs.Option.{is_none, is_some}
 use Rattle.std.specs.Ordering.{eq_by_cmp}
 use Rattle.std.specs.List.{All}
 use Rattle.std.specs.FinMap.{find, insert, len}
 use Rattle.std.proofs.lemmas.Bool.{and_parts, and_from}
-use Rattle.std.proofs.lemmas.List.{take-map, drop-map, map-append, map-set, get_or-map, length-map, take_all, drop_all, append-nil}
-use Rattle.std.proofs.lemmas.List.Elements.{All-append, All-take, All-drop, All-cons, All-nil}
+use Rattle.std.proofs.lemmas.Bool.Decides.{nat_tests}
+use Rattle.std.proofs.lemmas.List.{take-map, drop-map, map-append, map-set, get_or-map, length-map, take_all, drop_all, append-nil, get_or_default}
+use Rattle.std.proofs.lemmas.List.Elements.{All-append, All-take, All-drop, All-cons, All-nil, All-head, All-tail}
 use Rattle.std.proofs.lemmas.Option.{same_Some}
 use Rattle.someip_tables.specs.Distinct.{are_distinct}
 use Rattle.someip_tables.proofs.Entries as entries
@@ -16,7 +17,7 @@ use Rattle.someip_tp.specs.Partials.{Entry}
 use Rattle.someip_tp.specs.RoomParts.{PartInRoom}
 use Rattle.someip_tp.specs.Pools.{entries_of}
 use Rattle.someip_tp.specs.Stores.{StandsAt, parts_of_entries}
-use Rattle.someip_tp.specs.Parts.{Part}
+use Rattle.someip_tp.specs.Parts.{Part, is_gone}
 use Rattle.someip_tp.specs.Offers.{Offer, with_offer, message_of, message_at, parts_less, part_under}
 use Rattle.someip_tp.proofs.KeyOrder.{same_from_test}
 use Rattle.someip_tp.proofs.StoreLemmas.{stands, message_there, entry_under, parts_less_whole, changed_distinct, changed_parts, pushed_distinct, pushed_parts, count_is}
@@ -225,3 +226,29 @@ part_count ps distinct = count_is (entries_of ps) distinct ∙ as_many ps
 
 pub one_of_all : {X : Type 0} (P : X → Type 0) (xs : List X) (n : ℕ) (x : X) → All P xs → n < length xs → Some x ≡ Some (get_or xs n x) → P x
 one_of_all P xs n x all lt is = subst P (sym (same_Some x (get_or xs n x) is)) (all n x lt)
+
+-- ---- when the parts had their last segments
+
+-- no part is left out of a moment that none of them had its last segment before
+pub none_sooner : (ps : List PartInRoom) (i : ℕ) (p : PartInRoom) (old soonest : ℕ) → i < length ps → p ≡ get_or ps i p → soonest ≤ old → soonest ≤ p.entry.1.last
+    → ((k : ℕ) (d : PartInRoom) → k < i → old ≤ (get_or ps k d).entry.1.last) → (k : ℕ) (d : PartInRoom) → k < i + 1 → soonest ≤ (get_or ps k d).entry.1.last
+none_sooner ps i p old soonest lt is less own before k d below = cases (nat_lt k i) refl
+  where
+    cases : (b : Bool) → nat_lt k i ≡ b → soonest ≤ (get_or ps k d).entry.1.last
+    cases true test = omega (arith, less, before k d (grind (arith, nat_tests)))
+    cases false test =
+        let same : k ≡ i = grind (arith, nat_tests) in
+        let this : get_or ps k d ≡ p = ap (λ j. get_or ps j d) same ∙ (get_or_default ps i d p lt ∙ sym is) in
+        omega (arith, own, ap (λ (q : PartInRoom). q.entry.1.last) this)
+
+pub sooner : (ps : List PartInRoom) (old soonest : ℕ) → soonest ≤ old → All (λ (p : PartInRoom). old ≤ p.entry.1.last) ps → All (λ (p : PartInRoom). soonest ≤ p.entry.1.last) ps
+sooner ps old soonest less all = λ k d lt. omega (arith, less, all k d lt)
+
+-- where the time of none is over yet, all are left
+pub none_gone : (timeout now soonest : ℕ) (ps : List PartInRoom) → All (λ (p : PartInRoom). soonest ≤ p.entry.1.last) ps → nat_le (soonest + timeout) now ≡ false
+    → entries_of ps ≡ filter (λ e. not (is_gone timeout now e.1)) (entries_of ps)
+none_gone timeout now soonest [] all early = refl
+none_gone timeout now soonest (p ∷ ps) all early =
+    let own : soonest ≤ p.entry.1.last = All-head (λ (p : PartInRoom). soonest ≤ p.entry.1.last) p ps all in
+    let stays : is_gone timeout now p.entry.1 ≡ false = grind (arith, nat_tests, early, own) in
+    rw stays (ap (λ rest. p.entry ∷ rest) (none_gone timeout now soonest ps (All-tail (λ (p : PartInRoom). soonest ≤ p.entry.1.last) p ps all) early))

@@ -27,7 +27,8 @@ pub record IsFree (places : ℕ) (room : Room) : Type 0 where
   pub limit : room.limit ≡ places
 
 -- what is true of the slots of a pool: no two parts are of one key, all rooms have the places that a message may have,
--- the parts and the free rooms are as many as there are slots, and for each of both there is a place in its list
+-- the parts and the free rooms are as many as there are slots, for each of both there is a place in its list, and no part
+-- had its last segment before a moment that is kept
 pub record ArePooled (slots : Slots) : Type 0 where
   pub distinct : are_distinct key_cmp (entries_in slots) ≡ true
   pub rooms : All (λ (p : PartInRoom). p.limit ≡ slots.limit) slots.taken.items
@@ -35,3 +36,4 @@ pub record ArePooled (slots : Slots) : Type 0 where
   pub count : length slots.taken.items + length slots.free.items ≡ slots.count
   pub room_of_taken : slots.count ≤ vec_capacity slots.taken
   pub room_of_free : slots.count ≤ vec_capacity slots.free
+  pub soonest : All (λ (p : PartInRoom). slots.soonest ≤ p.entry.1.last) slots.taken.items

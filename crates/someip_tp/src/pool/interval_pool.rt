@@ -17,8 +17,8 @@ use std::marker::Model;
 /// answers `OutOfMemory`, and no peer can make it grow.
 ///
 /// A segment costs what its own bytes need, in any order of arrival: each 16 places of it are
-/// compared where they are held, and joined to the intervals beside them. An offer looks at the
-/// moment and the key of each part once or twice besides.
+/// compared where they are held, and joined to the intervals beside them. Besides, an offer looks at
+/// the key of each part, and at the moment of each only where the time of one may be over.
 #[derive(Drop)]
 pub struct IntervalPool {
     slots: Slots,

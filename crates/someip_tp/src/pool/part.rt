@@ -1,5 +1,5 @@
 //! A message that has come in part, in the room of its slot.
-ghost use Rattle.std.specs.Prelude.{◌≡◌, ◌+◌, ◌%◌, ◌++◌, ◌≤◌, [], false, true, OnOk, OnErr, is_some, unwrap_or, length};
+ghost use Rattle.std.specs.Prelude.{◌≡◌, ◌+◌, ◌%◌, ◌++◌, ◌≤◌, [], false, true, OnOk, OnErr, is_some, unwrap_or, length, nat_le};
 ghost use Rattle.std.specs.FinMap as map;
 ghost use Rattle.someip_tp.specs.Keys.{same_key};
 ghost use Rattle.someip_tp.specs.Parts.{is_gone};
@@ -68,14 +68,18 @@ impl RoomPart {
         is_same(key, &self.key)
     }
 
+    /// When its last segment was accepted.
+    pub(crate) fn last(&self) -> u64
+        ensures { result ≡ self.now.entry.1.last }
+    {
+        self.last
+    }
+
     /// Whether its time is over at `now`.
     pub(crate) fn is_gone(&self, timeout: u64, now: u64) -> bool
         ensures { result ≡ is_gone timeout now self.now.entry.1 }
     {
-        match now.checked_sub(self.last) {
-            Some(age) => age >= timeout,
-            None => false,
-        }
+        is_over(self.last, timeout, now)
     }
 
     /// Whether a segment contradicts what has come.
@@ -125,5 +129,15 @@ impl RoomPart {
         ensures err { OnErr result (bytes.new.items ≡ bytes.old.items) }
     {
         self.room.append_front(bytes)
+    }
+}
+
+/// Whether a time that began at `since` is over at `now`.
+pub(crate) fn is_over(since: u64, timeout: u64, now: u64) -> bool
+    ensures { result ≡ nat_le (since + timeout) now }
+{
+    match now.checked_sub(since) {
+        Some(age) => age >= timeout,
+        None => false,
     }
 }

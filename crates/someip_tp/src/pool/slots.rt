@@ -1,5 +1,6 @@
 //! The slots of a pool: those that a message stands in, and free ones.
 ghost use Rattle.std.specs.Prelude.{ℕ, ◌≡◌, ◌≢◌, ◌+◌, ◌++◌, ◌<◌, ◌≤◌, ◌%◌, [], true, false, Some, None, Err, OnOk, OnErr, IfOk, is_some, unwrap_or, not, length, filter, take, drop, map, vec_len};
+ghost use Rattle.std.specs.List.{All};
 ghost use Rattle.std.specs.FinMap as finite;
 ghost use Rattle.someip_tp.specs.Keys.{same_key};
 ghost use Rattle.someip_tp.specs.Parts.{is_gone};
@@ -10,7 +11,7 @@ ghost use Rattle.someip_tp.specs.Pools.{ArePooled, SameBounds, entries_in, entri
 use crate::error::TpError;
 use crate::key::ReassemblyKey;
 use crate::partials::Arrived;
-use crate::pool::part::RoomPart;
+use crate::pool::part::{RoomPart, is_over};
 use crate::pool::room::Room;
 use crate::reassembly::Offered;
 use std::alloc::{AllocError, Global};
@@ -24,6 +25,8 @@ pub(crate) struct Slots {
     count: usize,
     /// How many places a message may have.
     limit: usize,
+    /// No part had its last segment before this moment.
+    soonest: u64,
 }
 
 impl Slots {
@@ -44,6 +47,7 @@ impl Slots {
             free,
             count,
             limit,
+            soonest: u64::MAX,
         })
     }
 
@@ -59,8 +63,23 @@ impl Slots {
         self.free.push_reserved(part.into_room());
     }
 
-    /// Frees the slots of the parts whose time is over at `now`.
+    /// Frees the slots of the parts whose time is over at `now`. It looks at them only where there may
+    /// be one.
     pub(crate) fn free_gone(&mut self, timeout: u64, now: u64)
+        requires { ArePooled self.old }
+        ensures pooled { ArePooled self.new }
+        ensures entries { entries_in self.new
+            ≡ filter (λ e. not (is_gone timeout now e.1)) (entries_in self.old) }
+        ensures bounds { SameBounds self.old self.new }
+    {
+        if is_over(self.soonest, timeout, now) {
+            self.free_each_gone(timeout, now);
+            self.soonest = soonest(&self.taken);
+        }
+    }
+
+    /// Looks at each part, and frees its slot if its time is over at `now`.
+    fn free_each_gone(&mut self, timeout: u64, now: u64)
         requires { ArePooled self.old }
         ensures pooled { ArePooled self.new }
         ensures entries { entries_in self.new
@@ -133,6 +152,7 @@ impl Slots {
             return Err(TpError::Conflict);
         }
         let offered = accept(&mut self.taken[i], arrived);
+        self.soonest = self.soonest.min(arrived.now);
         Ok(offered)
     }
 
@@ -155,6 +175,7 @@ impl Slots {
         let mut part = RoomPart::new(arrived.key, room);
         let offered = accept(&mut part, arrived);
         self.taken.push_reserved(part);
+        self.soonest = self.soonest.min(arrived.now);
         Ok(offered)
     }
 
@@ -200,6 +221,18 @@ fn position(taken: &[RoomPart], key: &ReassemblyKey) -> Option<usize>
         }
     }
     None
+}
+
+/// The first moment at which one of the parts had its last segment; the last moment of all where there
+/// is no part.
+fn soonest(taken: &[RoomPart]) -> u64
+    ensures { All (λ p. result ≤ p.entry.1.last) taken.now }
+{
+    let mut soonest = u64::MAX;
+    for part in taken {
+        soonest = soonest.min(part.last());
+    }
+    soonest
 }
 
 /// Keeps a segment that contradicts nothing, and tells what it made of the message.

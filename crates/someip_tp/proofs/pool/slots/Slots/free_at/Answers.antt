@@ -1,4 +1,4 @@
-use Rattle.std.proofs.Common.{◌≡◌, true, sym, ap, subst, ◌∙◌, arith}
+use Rattle.std.proofs.Common.{◌≡◌, ◌≤◌, true, sym, ap, subst, ◌∙◌, arith}
 use Rattle.std.specs.List.{All}
 use Rattle.someip_tables.specs.Distinct.{are_distinct}
 use Rattle.someip_tp.specs.Keys.{key_cmp}
@@ -23,6 +23,7 @@ returns-clause-pooled c =
       count = omega (arith, c.remove-part.ensures.len, c.push_reserved.ensures.len, c.requires.pooled.count);
       room_of_taken = omega (arith, c.remove-part.ensures.capacity, c.requires.pooled.room_of_taken);
       room_of_free = omega (arith, c.push_reserved.ensures.capacity, c.requires.pooled.room_of_free);
+      soonest = subst (All (λ (p : PartInRoom). old.soonest ≤ p.entry.1.last)) (sym (split ∙ as_without c.args.i old.taken.items)) (all_without (λ (p : PartInRoom). old.soonest ≤ p.entry.1.last) c.args.i old.taken.items c.requires.pooled.soonest);
     }
 
 pub returns-clause-entries : goal.returns-clause-entries

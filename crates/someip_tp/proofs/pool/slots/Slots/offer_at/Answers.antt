@@ -1,4 +1,4 @@
-use Rattle.std.proofs.Common.{◌≡◌, sym, ap, ◌∙◌, Ok, false, true, arith}
+use Rattle.std.proofs.Common.{◌≡◌, ◌≤◌, sym, ap, ◌∙◌, Ok, false, true, arith}
 use Rattle.std.proofs.lemmas.List.{length-set}
 use Rattle.std.proofs.lemmas.List.Elements.{All-set}
 use Rattle.someip_tp.specs.RoomParts.{PartInRoom}
@@ -6,7 +6,7 @@ use Rattle.someip_tp.specs.Stores.{segment_arrived, parts_of_entries}
 use Rattle.someip_tp.specs.Offers.{conflicts, part_or_whole, with_offer, part_under}
 use Rattle.someip_tp.specs.Pools.{entries_of}
 use Rattle.someip_tp.proofs.StoreLemmas.{judged_conflict, judged_fit, part_there, removed_parts}
-use Rattle.someip_tp.proofs.SlotLemmas.{as_many, part_in, freed, distinct_once_changed, parts_once_changed}
+use Rattle.someip_tp.proofs.SlotLemmas.{as_many, part_in, freed, distinct_once_changed, parts_once_changed, sooner}
 use Rattle.someip_tp.proofs.pool.slots.Slots.offer_at.Goals as goal
 
 pub returns-then-contradicts-clause-offers : goal.returns-then-contradicts-clause-offers
@@ -32,6 +32,8 @@ returns-clause-pooled c =
       count = omega (arith, length-set old.taken.items c.args.i n, c.requires.pooled.count);
       room_of_taken = c.requires.pooled.room_of_taken;
       room_of_free = c.requires.pooled.room_of_free;
+      soonest = All-set (λ (p : PartInRoom). c.min-self.result ≤ p.entry.1.last) old.taken.items c.args.i n
+          (omega (arith, c.min-self.ensures, ap (λ e. e.1.last) c.accept-offered.ensures.entry)) (sooner old.taken.items old.soonest c.min-self.result (omega (arith, c.min-self.ensures)) c.requires.pooled.soonest);
     }
 
 pub returns-clause-offers : goal.returns-clause-offers

@@ -1,4 +1,4 @@
-use Rattle.std.proofs.Common.{◌≡◌, nat_le, sym, ap, subst, ◌∙◌, Ok, false, true, None, refl, arith}
+use Rattle.std.proofs.Common.{◌≡◌, ◌≤◌, nat_le, sym, ap, subst, ◌∙◌, Ok, false, true, None, refl, arith}
 use Rattle.std.specs.FinMap.{get, len}
 use Rattle.std.specs.List.{All}
 use Rattle.std.proofs.lemmas.Bool.Decides.{nat_tests}
@@ -8,7 +8,7 @@ use Rattle.someip_tp.specs.Stores.{segment_arrived, parts_of_entries}
 use Rattle.someip_tp.specs.Offers.{conflicts, part_or_whole, with_offer, no_part}
 use Rattle.someip_tp.specs.Pools.{IsFree, entries_in}
 use Rattle.someip_tp.proofs.StoreLemmas.{no_part_there, judged_full, judged_new, no_part_under, nothing_conflicts}
-use Rattle.someip_tp.proofs.SlotLemmas.{part_count, one_of_all, all_pushed, distinct_once_pushed, parts_once_pushed}
+use Rattle.someip_tp.proofs.SlotLemmas.{part_count, one_of_all, all_pushed, distinct_once_pushed, parts_once_pushed, sooner}
 use Rattle.someip_tp.proofs.pool.slots.Slots.offer_new.Goals as goal
 
 pub returns-in_default-clause-offers : goal.returns-in_default-clause-offers
@@ -42,6 +42,9 @@ returns-clause-pooled c =
       count = omega (arith, c.push_reserved.ensures.len, c.in-Some.ensures.cases, c.requires.pooled.count);
       room_of_taken = omega (arith, c.push_reserved.ensures.capacity, c.requires.pooled.room_of_taken);
       room_of_free = omega (arith, c.in-Some.ensures.capacity, c.requires.pooled.room_of_free);
+      soonest = subst (All (λ (p : PartInRoom). c.min-self.result ≤ p.entry.1.last)) (sym c.push_reserved.ensures.items)
+          (all_pushed (λ (p : PartInRoom). c.min-self.result ≤ p.entry.1.last) old.taken.items n (sooner old.taken.items old.soonest c.min-self.result (omega (arith, c.min-self.ensures)) c.requires.pooled.soonest)
+          (omega (arith, c.min-self.ensures, ap (λ e. e.1.last) c.accept-offered.ensures.entry)));
     }
 
 pub returns-clause-offers : goal.returns-clause-offers
