@@ -1,5 +1,5 @@
-//! Tests of the cores: tables with deadlines, sessions, Service Discovery at both ends, and calls and
-//! answers.
+//! Tests of the cores: tables with deadlines or moments, sessions, Service Discovery at both ends, and
+//! calls and answers.
 //!
 //! Tests stand over the crates that they try, since a crate is proved again with its tests.
 #![tactic(auto)]
@@ -12,3 +12,5 @@ mod rpc;
 mod session;
 #[cfg(test)]
 mod tables;
+#[cfg(test)]
+mod timed;
