@@ -1,5 +1,5 @@
 //! The slots of a pool: those that a message stands in, and free ones.
-ghost use Rattle.std.specs.Prelude.{ℕ, ◌≡◌, ◌≢◌, ◌+◌, ◌++◌, ◌<◌, ◌≤◌, ◌%◌, [], true, false, Some, None, Err, OnOk, OnErr, IfOk, is_some, unwrap_or, not, length, filter, take, drop, map, vec_len, vec_capacity};
+ghost use Rattle.std.specs.Prelude.{ℕ, ◌≡◌, ◌≢◌, ◌+◌, ◌++◌, ◌<◌, ◌≤◌, ◌%◌, ◌^◌, [], true, false, Some, None, Err, OnOk, OnErr, IfOk, is_some, unwrap_or, not, length, filter, take, drop, map, vec_len, vec_capacity};
 ghost use Rattle.std.specs.List.{All, insert};
 ghost use Rattle.std.specs.FinMap as finite;
 ghost use Rattle.someip_tp.specs.Keys.{same_key};
@@ -237,7 +237,8 @@ fn insert_reserved(taken: &mut Vec<RoomPart>, i: usize, part: RoomPart)
 /// The first moment at which one of the parts had its last segment; the last moment of all where there
 /// is no part.
 fn soonest(taken: &[RoomPart]) -> u64
-    ensures { All (λ p. result ≤ p.entry.1.last) taken.now }
+    ensures least { All (λ p. result ≤ p.entry.1.last) taken.now }
+    ensures reached { (at : ℕ) → at < 2 ^ 64 → All (λ p. at ≤ p.entry.1.last) taken.now → at ≤ result }
 {
     let mut soonest = u64::MAX;
     for part in taken {
