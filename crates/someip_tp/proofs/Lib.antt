@@ -17,3 +17,4 @@ pub mod BlockLemmas
 pub mod RoomLemmas
 pub mod PoolLemmas
 pub mod SlotLemmas
+pub mod RisingLemmas

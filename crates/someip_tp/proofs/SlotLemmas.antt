@@ -1,10 +1,9 @@
 -- Parts that are taken out of their list, and what it shows of them.
-use Rattle.std.proofs.Common.{◌≡◌, ℕ, zero, suc, ◌+◌, ◌<◌, ◌≤◌, Bool, true, false, cond, not, nat_lt, nat_le, List, [], ◌∷◌, ◌++◌, filter, take, drop, length, set, get_or, None, Some, refl, sym, ap, subst, ◌∙◌, arith}
+use Rattle.std.proofs.Common.{◌≡◌, ℕ, zero, suc, ◌+◌, ◌<◌, ◌≤◌, Bool, true, false, cond, not, nat_lt, nat_le, List, [], ◌∷◌, ◌++◌, filter, take, drop, length, set, get_or, insert as put_in, None, Some, refl, sym, ap, subst, ◌∙◌, arith}
 use Rattle.std.specs.Option.{is_none, is_some}
-use Rattle.std.specs.Ordering.{eq_by_cmp}
 use Rattle.std.specs.List.{All}
 use Rattle.std.specs.FinMap.{find, insert, len}
-use Rattle.std.proofs.lemmas.Bool.{and_parts, and_from}
+use Rattle.std.proofs.lemmas.Bool.{and_parts}
 use Rattle.std.proofs.lemmas.Bool.Decides.{nat_tests}
 use Rattle.std.proofs.lemmas.List.{take-map, drop-map, map-append, map-set, get_or-map, length-map, take_all, drop_all, append-nil, get_or_default}
 use Rattle.std.proofs.lemmas.List.Elements.{All-append, All-take, All-drop, All-cons, All-nil, All-head, All-tail}
@@ -17,10 +16,10 @@ use Rattle.someip_tp.specs.Partials.{Entry}
 use Rattle.someip_tp.specs.RoomParts.{PartInRoom}
 use Rattle.someip_tp.specs.Pools.{entries_of}
 use Rattle.someip_tp.specs.Stores.{StandsAt, parts_of_entries}
-use Rattle.someip_tp.specs.Parts.{Part, is_gone}
+use Rattle.someip_tp.specs.Parts.{is_gone}
 use Rattle.someip_tp.specs.Offers.{Offer, with_offer, message_of, message_at, parts_less, part_under}
 use Rattle.someip_tp.proofs.KeyOrder.{same_from_test}
-use Rattle.someip_tp.proofs.StoreLemmas.{stands, message_there, entry_under, parts_less_whole, changed_distinct, changed_parts, pushed_distinct, pushed_parts, count_is}
+use Rattle.someip_tp.proofs.StoreLemmas.{stands, message_there, entry_under, parts_less_whole, changed_parts, count_is}
 
 -- ---- all but one
 
@@ -39,30 +38,8 @@ all_without P i xs all = All-append P (take i xs) (drop (suc i) xs) (All-take P 
 pub all_pushed : {X : Type 0} (P : X → Type 0) (xs : List X) (x : X) → All P xs → P x → All P (xs ++ x ∷ [])
 all_pushed P xs x all own = All-append P xs (x ∷ []) all (All-cons P x [] own (All-nil P))
 
--- ---- no key stands twice in what is left
-
-found_in_rest : (key : ReassemblyKey) (i : ℕ) (es : List Entry) → find key_cmp key es ≡ None → find key_cmp key (without i es) ≡ None
-found_in_rest key zero [] none = none
-found_in_rest key (suc i) [] none = none
-found_in_rest key zero (e ∷ es) none = by_test (eq_by_cmp key_cmp key e.0) none
-  where
-    by_test : (t : Bool) → cond t (Some e.1) (find key_cmp key es) ≡ None → find key_cmp key es ≡ None
-    by_test true none = cc
-    by_test false none = none
-found_in_rest key (suc i) (e ∷ es) none = by_test (eq_by_cmp key_cmp key e.0) none (found_in_rest key i es)
-  where
-    by_test : (t : Bool) → cond t (Some e.1) (find key_cmp key es) ≡ None → (find key_cmp key es ≡ None → find key_cmp key (without i es) ≡ None)
-        → cond t (Some e.1) (find key_cmp key (without i es)) ≡ None
-    by_test true none rest = cc
-    by_test false none rest = rest none
-
-pub distinct_without : (i : ℕ) (es : List Entry) → are_distinct key_cmp es ≡ true → are_distinct key_cmp (without i es) ≡ true
-distinct_without zero [] distinct = refl
-distinct_without (suc i) [] distinct = refl
-distinct_without zero (e ∷ es) distinct = (and_parts (is_none (find key_cmp e.0 es)) (are_distinct key_cmp es) distinct).1
-distinct_without (suc i) (e ∷ es) distinct =
-    let parts = and_parts (is_none (find key_cmp e.0 es)) (are_distinct key_cmp es) distinct in
-    and_from _ _ (ap is_none (found_in_rest e.0 i es (entries.none_found _ parts.0))) (distinct_without i es parts.1)
+pub all_put : {X : Type 0} (P : X → Type 0) (xs : List X) (i : ℕ) (x : X) → All P xs → P x → All P (put_in xs i x)
+all_put P xs i x all own = All-append P (take i xs) (x ∷ drop i xs) (All-take P i xs all) (All-cons P x (drop i xs) own (All-drop P i xs all))
 
 -- ---- without the entry of a key
 
@@ -170,7 +147,7 @@ none_yet keep es n le =
 
 -- ---- the part of a key
 
-own_entry : (key : ReassemblyKey) (ps : List PartInRoom) (i : ℕ) (p : PartInRoom) → StandsAt key (entries_of ps) (Some i) → p ≡ get_or ps i p → p.entry ≡ get_or (entries_of ps) i p.entry
+pub own_entry : (key : ReassemblyKey) (ps : List PartInRoom) (i : ℕ) (p : PartInRoom) → StandsAt key (entries_of ps) (Some i) → p ≡ get_or ps i p → p.entry ≡ get_or (entries_of ps) i p.entry
 own_entry key ps i p at is = sym (entry_at ps i p (omega (arith, at.0, as_many ps)) is p.entry)
 
 pub message_in : (key : ReassemblyKey) (ps : List PartInRoom) (i : ℕ) (p : PartInRoom) → are_distinct key_cmp (entries_of ps) ≡ true → StandsAt key (entries_of ps) (Some i) → p ≡ get_or ps i p
@@ -193,31 +170,11 @@ freed_parts key es new i distinct at is whole = ap parts_of_entries (freed key e
 pub changed_entries : (ps : List PartInRoom) (i : ℕ) (n : PartInRoom) → entries_of (set ps i n) ≡ set (entries_of ps) i n.entry
 changed_entries ps i n = map-set (λ (p : PartInRoom). p.entry) ps i n
 
-pub distinct_once_changed : (key : ReassemblyKey) (ps : List PartInRoom) (i : ℕ) (p n : PartInRoom) → are_distinct key_cmp (entries_of ps) ≡ true → StandsAt key (entries_of ps) (Some i) → p ≡ get_or ps i p → n.entry.0 ≡ p.entry.0
-    → are_distinct key_cmp (entries_of (set ps i n)) ≡ true
-distinct_once_changed key ps i p n distinct at is same =
-    ap (are_distinct key_cmp) (changed_entries ps i n) ∙ changed_distinct (entries_of ps) i p.entry n.entry distinct at.0 (own_entry key ps i p at is) same
-
 pub parts_once_changed : (key : ReassemblyKey) (now : ℕ) (o : Offer) (ps : List PartInRoom) (i : ℕ) (p n : PartInRoom) → are_distinct key_cmp (entries_of ps) ≡ true → StandsAt key (entries_of ps) (Some i) → p ≡ get_or ps i p
     → n.entry ≡ (p.entry.0, with_offer p.entry.1 now o)
     → parts_of_entries (entries_of (set ps i n)) ≡ insert (parts_of_entries (entries_of ps)) key (with_offer (part_under (parts_of_entries (entries_of ps)) key) now o)
 parts_once_changed key now o ps i p n distinct at is new =
     ap parts_of_entries (changed_entries ps i n) ∙ changed_parts key now o (entries_of ps) i p.entry n.entry distinct at (own_entry key ps i p at is) new
-
--- ---- a part of a new key
-
-pub pushed_entries : (ps : List PartInRoom) (n : PartInRoom) → entries_of (ps ++ n ∷ []) ≡ entries_of ps ++ n.entry ∷ []
-pushed_entries ps n = map-append (λ (p : PartInRoom). p.entry) ps (n ∷ [])
-
-pub distinct_once_pushed : (key : ReassemblyKey) (ps new : List PartInRoom) (n : PartInRoom) → new ≡ ps ++ n ∷ [] → are_distinct key_cmp (entries_of ps) ≡ true → StandsAt key (entries_of ps) None → n.entry.0 ≡ key
-    → are_distinct key_cmp (entries_of new) ≡ true
-distinct_once_pushed key ps new n is distinct none own =
-    ap (λ xs. are_distinct key_cmp (entries_of xs)) is ∙ (ap (are_distinct key_cmp) (pushed_entries ps n) ∙ pushed_distinct key (entries_of ps) n.entry distinct none own)
-
-pub parts_once_pushed : (key : ReassemblyKey) (part : Part) (ps new : List PartInRoom) (n : PartInRoom) → new ≡ ps ++ n ∷ [] → StandsAt key (entries_of ps) None → n.entry ≡ (key, part)
-    → parts_of_entries (entries_of new) ≡ insert (parts_of_entries (entries_of ps)) key part
-parts_once_pushed key part ps new n is none own =
-    ap (λ xs. parts_of_entries (entries_of xs)) is ∙ (ap parts_of_entries (pushed_entries ps n) ∙ pushed_parts key part (entries_of ps) n.entry none own)
 
 -- ---- how many parts there are
 

@@ -1,7 +1,7 @@
 //! Reassembly in memory that is reserved once.
 //!
 //! - `interval_pool`: the store;
-//! - `slots`: its slots, those that a message stands in and free ones;
+//! - `slots`: its slots, those that a message stands in, by rising keys, and free ones;
 //! - `part`: a message that has come in part, in the room of its slot;
 //! - `room`: that room: the bytes at their places, and which of them are held;
 //! - `block`: what is noted of 16 places, and the intervals that held ones make.

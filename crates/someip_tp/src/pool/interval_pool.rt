@@ -17,8 +17,9 @@ use std::marker::Model;
 /// answers `OutOfMemory`, and no peer can make it grow.
 ///
 /// A segment costs what its own bytes need, in any order of arrival: each 16 places of it are
-/// compared where they are held, and joined to the intervals beside them. Besides, an offer looks at
-/// the key of each part, and at the moment of each only where the time of one may be over.
+/// compared where they are held, and joined to the intervals beside them. Besides, an offer finds the
+/// part of its key by a binary search, and looks at the moment of each part only where the time of one
+/// may be over. A part that begins or goes moves those behind it by one place.
 #[derive(Drop)]
 pub struct IntervalPool {
     slots: Slots,

@@ -1,15 +1,16 @@
 //! A message that has come in part, in the room of its slot.
 ghost use Rattle.std.specs.Prelude.{◌≡◌, ◌+◌, ◌%◌, ◌++◌, ◌≤◌, [], false, true, OnOk, OnErr, is_some, unwrap_or, length, nat_le};
 ghost use Rattle.std.specs.FinMap as map;
-ghost use Rattle.someip_tp.specs.Keys.{same_key};
+ghost use Rattle.someip_tp.specs.Keys.{key_cmp};
 ghost use Rattle.someip_tp.specs.Parts.{is_gone};
 ghost use Rattle.someip_tp.specs.Offers.{offer, no_part, conflicts, with_offer, message_of};
 ghost use Rattle.someip_tp.specs.Rooms.{IsConsistent, held_bytes};
 
-use crate::key::{ReassemblyKey, is_same};
+use crate::key::{ReassemblyKey, compare};
 use crate::partial::{differ, passes, total_of, total_with};
 use crate::pool::room::Room;
 use std::alloc::AllocError;
+use std::cmp::Ordering;
 use std::marker::Model;
 
 /// A message that has come in part: its bytes in the room of its slot, its total if the last slice is
@@ -61,11 +62,11 @@ impl RoomPart {
         room
     }
 
-    /// Whether it is the part of this key.
-    pub(crate) fn is_for(&self, key: &ReassemblyKey) -> bool
-        ensures { result ≡ same_key key.now self.now.entry.0 }
+    /// How its key stands to another.
+    pub(crate) fn compare(&self, key: &ReassemblyKey) -> Ordering
+        ensures { result ≡ key_cmp self.now.entry.0 key.now }
     {
-        is_same(key, &self.key)
+        compare(&self.key, key)
     }
 
     /// When its last segment was accepted.

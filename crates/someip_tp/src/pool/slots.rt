@@ -1,12 +1,12 @@
 //! The slots of a pool: those that a message stands in, and free ones.
-ghost use Rattle.std.specs.Prelude.{ℕ, ◌≡◌, ◌≢◌, ◌+◌, ◌++◌, ◌<◌, ◌≤◌, ◌%◌, [], true, false, Some, None, Err, OnOk, OnErr, IfOk, is_some, unwrap_or, not, length, filter, take, drop, map, vec_len};
-ghost use Rattle.std.specs.List.{All};
+ghost use Rattle.std.specs.Prelude.{ℕ, ◌≡◌, ◌≢◌, ◌+◌, ◌++◌, ◌<◌, ◌≤◌, ◌%◌, ◌^◌, [], true, false, Some, None, Err, OnOk, OnErr, IfOk, is_some, unwrap_or, not, length, filter, take, drop, map, vec_len, vec_capacity};
+ghost use Rattle.std.specs.List.{All, insert};
 ghost use Rattle.std.specs.FinMap as finite;
 ghost use Rattle.someip_tp.specs.Keys.{same_key};
 ghost use Rattle.someip_tp.specs.Parts.{is_gone};
 ghost use Rattle.someip_tp.specs.Offers.{conflicts, with_offer, part_or_whole, message_at, parts_less, is_unaligned, is_too_long};
 ghost use Rattle.someip_tp.specs.Stores.{StandsAt, Offers, OffersAmong, segment_arrived, parts_of_entries};
-ghost use Rattle.someip_tp.specs.Pools.{ArePooled, SameBounds, entries_in, entries_of};
+ghost use Rattle.someip_tp.specs.Pools.{ArePooled, SameBounds, AreRising, GoesAt, Finds, entries_in, entries_of};
 
 use crate::error::TpError;
 use crate::key::ReassemblyKey;
@@ -19,6 +19,7 @@ use std::alloc::{AllocError, Global};
 /// The slots of a pool: those that a message stands in, and free ones.
 #[derive(Drop)]
 pub(crate) struct Slots {
+    /// By rising keys.
     taken: Vec<RoomPart>,
     free: Vec<Room>,
     /// How many slots there are.
@@ -129,8 +130,8 @@ impl Slots {
             return Err(TpError::TooLong);
         }
         match position(&self.taken, &arrived.key) {
-            Some(i) => self.offer_at(i, arrived),
-            None => self.offer_new(arrived),
+            Ok(i) => self.offer_at(i, arrived),
+            Err(i) => self.offer_new(i, arrived),
         }
     }
 
@@ -156,10 +157,10 @@ impl Slots {
         Ok(offered)
     }
 
-    /// Offers a segment of fit length under a key without a part.
-    fn offer_new(&mut self, arrived: Arrived<'_>) -> Result<Offered, TpError>
+    /// Offers a segment of fit length under a key without a part, which goes at `i`.
+    fn offer_new(&mut self, i: usize, arrived: Arrived<'_>) -> Result<Offered, TpError>
         requires pooled { ArePooled self.old }
-        requires new { StandsAt arrived.key (entries_in self.old) None }
+        requires new { GoesAt arrived.key (entries_in self.old) i }
         requires aligned { arrived.offset % 16 ≡ 0 }
         requires whole_blocks { is_unaligned (segment_arrived arrived) ≡ false }
         requires within { is_too_long self.old.limit (segment_arrived arrived) ≡ false }
@@ -174,7 +175,7 @@ impl Slots {
         };
         let mut part = RoomPart::new(arrived.key, room);
         let offered = accept(&mut part, arrived);
-        self.taken.push_reserved(part);
+        insert_reserved(&mut self.taken, i, part);
         self.soonest = self.soonest.min(arrived.now);
         Ok(offered)
     }
@@ -199,7 +200,7 @@ impl Slots {
             ((entries_in self.new ≡ entries_in self.old) × (bytes.new.items ≡ bytes.old.items)) }
         ensures bounds { SameBounds self.old self.new }
     {
-        let Some(i) = position(&self.taken, key) else {
+        let Ok(i) = position(&self.taken, key) else {
             return Ok(false);
         };
         let whole = self.taken[i].is_whole();
@@ -211,22 +212,33 @@ impl Slots {
     }
 }
 
-/// Where the part of a key stands.
-fn position(taken: &[RoomPart], key: &ReassemblyKey) -> Option<usize>
-    ensures { StandsAt key.now (entries_of taken.now) result }
+/// Where the part of a key stands, or else where one goes, so that the keys still rise.
+fn position(taken: &[RoomPart], key: &ReassemblyKey) -> Result<usize, usize>
+    requires { AreRising (entries_of taken.now) }
+    ensures { Finds key.now (entries_of taken.now) result }
 {
-    for (i, part) in taken.iter().enumerate() {
-        if part.is_for(key) {
-            return Some(i);
-        }
+    taken.binary_search_by(|part| part.compare(key))
+}
+
+/// Puts a part in at `i`, for which a place is reserved.
+fn insert_reserved(taken: &mut Vec<RoomPart>, i: usize, part: RoomPart)
+    requires inside { i ≤ vec_len taken.old }
+    requires room { vec_len taken.old < vec_capacity taken.old }
+    ensures items { taken.new.items ≡ insert taken.old.items i part }
+    ensures len { vec_len taken.new ≡ vec_len taken.old + 1 }
+    ensures capacity { vec_capacity taken.old ≤ vec_capacity taken.new }
+{
+    match taken.insert(i, part) {
+        Ok(()) => {}
+        Err(_) => unreachable!(),
     }
-    None
 }
 
 /// The first moment at which one of the parts had its last segment; the last moment of all where there
 /// is no part.
 fn soonest(taken: &[RoomPart]) -> u64
-    ensures { All (λ p. result ≤ p.entry.1.last) taken.now }
+    ensures least { All (λ p. result ≤ p.entry.1.last) taken.now }
+    ensures reached { (at : ℕ) → at < 2 ^ 64 → All (λ p. at ≤ p.entry.1.last) taken.now → at ≤ result }
 {
     let mut soonest = u64::MAX;
     for part in taken {

@@ -1,14 +1,11 @@
-use Rattle.std.proofs.Common.{sym, ◌∙◌, arith}
-use Rattle.someip_tp.specs.Pools.{entries_of}
-use Rattle.someip_tp.proofs.StoreLemmas.{none_more, none_stands}
-use Rattle.someip_tp.proofs.SlotLemmas.{entry_at, as_many}
+use Rattle.std.proofs.Common.{rules}
+use Rattle.std.proofs.lemmas.Fn.{always_returns_same}
+use Rattle.someip_tp.specs.RoomParts.{PartInRoom}
+use Rattle.someip_tp.specs.Keys.{key_cmp}
+use Rattle.someip_tp.proofs.RisingLemmas.{found_so}
 use Rattle.someip_tp.proofs.pool.slots.position.Goals as goal
 
-pub loop-i-preserved : goal.loop-i-preserved
-loop-i-preserved c =
-    let es = entries_of c.args.taken.now in
-    none_more c.args.key.now es c.loop-i.i _ (omega (arith, as_many c.args.taken.now, c.loop-i-test.true)) (sym (entry_at c.args.taken.now c.loop-i.i c.index-taken-i.result c.loop-i-test.true c.index-taken-i.is _))
-    (sym c.is_for.ensures ∙ c.if-is_for.false) c.loop-i.invariant
-
 pub returns : goal.returns
-returns c = none_stands c.args.key.now (entries_of c.args.taken.now) (λ k d lt. c.loop-i.invariant k d (omega (arith, lt, as_many c.args.taken.now, c.loop-i-test.false)))
+returns c =
+    found_so c.args.key.now c.args.taken.now c.binary_search_by.result c.requires c.binary_search_by.ensures.bound
+    (c.binary_search_by.ensures.position (λ (p : PartInRoom). key_cmp p.entry.0 c.args.key.now) (always_returns_same _ _ _ (λ a r f' k. search rules)))

@@ -5,6 +5,7 @@ use Rattle.someip_tp.specs.Stores.{Offers, parts_of_entries}
 use Rattle.someip_tp.specs.Pools.{entries_in}
 use Rattle.someip_tp.proofs.MomentLemmas.{none_after-offered_by}
 use Rattle.someip_tp.proofs.StoreLemmas.{left_parts, judged_so, changed_so}
+use Rattle.someip_tp.proofs.RisingLemmas.{apart}
 use Rattle.someip_tp.proofs.pool.interval_pool.IntervalPoolReassembly.offer.Goals as goal
 
 pub returns-clause-judged : goal.returns-clause-judged
@@ -13,7 +14,7 @@ returns-clause-judged c =
     let limits : Limits = record { slots = slots.count; limit = slots.limit; timeout = c.self.inside.timeout } in
     let o : Offer = offer c.args.key c.args.offset c.args.more c.args.bytes.now in
     let parts = parts_of_entries (entries_in slots) in
-    let left : parts_of_entries (entries_in c.free_gone.new.self) ≡ parts_at limits c.args.now parts = ap parts_of_entries c.free_gone.ensures.entries ∙ left_parts limits c.args.now (entries_in slots) c.self.invariant.distinct in
+    let left : parts_of_entries (entries_in c.free_gone.new.self) ≡ parts_at limits c.args.now parts = ap parts_of_entries c.free_gone.ensures.entries ∙ left_parts limits c.args.now (entries_in slots) (apart (entries_in slots) c.self.invariant.rising) in
     let bounds = c.free_gone.ensures.bounds in
     let acts = subst (λ l. Offers l c.args.now o (parts_of_entries (entries_in c.free_gone.new.self)) c.offer.result (parts_of_entries (entries_in c.offer.new.self)))
     (λ i. record { slots = bounds.0 i; limit = bounds.1 i; timeout = limits.timeout }) (c.offer.ensures.offers limits.timeout) in
@@ -25,7 +26,7 @@ returns-clause-parts c =
     let limits : Limits = record { slots = slots.count; limit = slots.limit; timeout = c.self.inside.timeout } in
     let o : Offer = offer c.args.key c.args.offset c.args.more c.args.bytes.now in
     let parts = parts_of_entries (entries_in slots) in
-    let left : parts_of_entries (entries_in c.free_gone.new.self) ≡ parts_at limits c.args.now parts = ap parts_of_entries c.free_gone.ensures.entries ∙ left_parts limits c.args.now (entries_in slots) c.self.invariant.distinct in
+    let left : parts_of_entries (entries_in c.free_gone.new.self) ≡ parts_at limits c.args.now parts = ap parts_of_entries c.free_gone.ensures.entries ∙ left_parts limits c.args.now (entries_in slots) (apart (entries_in slots) c.self.invariant.rising) in
     let bounds = c.free_gone.ensures.bounds in
     let acts = subst (λ l. Offers l c.args.now o (parts_of_entries (entries_in c.free_gone.new.self)) c.offer.result (parts_of_entries (entries_in c.offer.new.self)))
     (λ i. record { slots = bounds.0 i; limit = bounds.1 i; timeout = limits.timeout }) (c.offer.ensures.offers limits.timeout) in

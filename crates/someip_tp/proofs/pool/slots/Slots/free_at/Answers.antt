@@ -1,10 +1,9 @@
-use Rattle.std.proofs.Common.{◌≡◌, ◌≤◌, true, sym, ap, subst, ◌∙◌, arith}
+use Rattle.std.proofs.Common.{◌≡◌, ◌≤◌, sym, ap, subst, ◌∙◌, arith}
 use Rattle.std.specs.List.{All}
-use Rattle.someip_tables.specs.Distinct.{are_distinct}
-use Rattle.someip_tp.specs.Keys.{key_cmp}
 use Rattle.someip_tp.specs.RoomParts.{PartInRoom}
 use Rattle.someip_tp.specs.Pools.{IsFree, entries_in}
-use Rattle.someip_tp.proofs.SlotLemmas.{as_without, entries_left, distinct_without, all_without, all_pushed}
+use Rattle.someip_tp.proofs.SlotLemmas.{as_without, entries_left, all_without, all_pushed}
+use Rattle.someip_tp.proofs.RisingLemmas.{rising_left}
 use Rattle.someip_tp.proofs.pool.slots.Slots.free_at.Goals as goal
 
 pub returns-clause-pooled : goal.returns-clause-pooled
@@ -12,7 +11,7 @@ returns-clause-pooled c =
     let old = c.args.self.now in
     let split = c.remove-part.ensures.by_index.2 in
     record {
-      distinct = subst (λ es. are_distinct key_cmp es ≡ true) (sym (entries_left c.args.i old.taken.items c.remove-part.new.self.items split)) (distinct_without c.args.i (entries_in old) c.requires.pooled.distinct);
+      rising = rising_left c.args.i old.taken.items c.remove-part.new.self.items c.requires.pooled.rising c.requires.inside split;
       rooms = subst (All (λ (p : PartInRoom). p.limit ≡ old.limit)) (sym (split ∙ as_without c.args.i old.taken.items)) (all_without (λ (p : PartInRoom). p.limit ≡ old.limit) c.args.i old.taken.items c.requires.pooled.rooms);
       free = subst (All (IsFree old.limit)) (sym c.push_reserved.ensures.items)
           (all_pushed (IsFree old.limit) old.free.items c.into_room.result c.requires.pooled.free (record {
