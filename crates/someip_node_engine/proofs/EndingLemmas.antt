@@ -28,10 +28,12 @@ use Rattle.someip_node_engine.proofs.RisingLemmas.{before_all, below_past, first
 abbrev is_before : InstanceId → Eventgroup → Bool
 is_before x g = is_lt (instance_cmp g.instance x)
 
+-- an instance before another is before all eventgroups that are not before the other
 groups_past : (w x : InstanceId) (gs : List Eventgroup) → instance_cmp w x ≡ Less → AllByRecursion (λ g. is_before x g ≡ false) gs → AllByRecursion (λ g. instance_cmp w g.instance ≡ Less) gs
 groups_past w x [] lt all = tt
 groups_past w x (g ∷ gs) lt all = (below_past instances_total exact_instances w x g.instance lt all.0, groups_past w x gs lt all.1)
 
+-- no eventgroup is of an instance before all of theirs
 no_groups : (w : InstanceId) (gs : List Eventgroup) → AllByRecursion (λ g. instance_cmp w g.instance ≡ Less) gs → those_of w gs ≡ []
 no_groups w [] all = refl
 no_groups w (g ∷ gs) all =
@@ -57,9 +59,11 @@ groups_after g (h ∷ hs) all = (cases (instance_cmp g.instance h.instance) refl
 -- ---- the eventgroups of instances before one, and those behind them
 
 module _ (x : InstanceId) where
+  -- how many stand in front
   abbrev count : List Eventgroup → ℕ
   count gs = prefix_len (is_before x) gs
 
+  -- those in front are of instances before it
   front_before : (gs : List Eventgroup) → AllByRecursion (λ g. instance_cmp g.instance x ≡ Less) (take (count gs) gs)
   front_before [] = tt
   front_before (g ∷ gs) = cases (is_before x g) refl (front_before gs)
@@ -69,10 +73,12 @@ module _ (x : InstanceId) where
       cases true is so_far = rw one-add (less_by (instance_cmp g.instance x) is, so_far)
       cases false is so_far = tt
 
+  -- where one is not, none after it is
   all_past : (g : Eventgroup) (gs : List Eventgroup) → is_before x g ≡ false → AllByRecursion (λ h. is_before g.instance h ≡ false) gs → AllByRecursion (λ h. is_before x h ≡ false) gs
   all_past g [] past all = tt
   all_past g (h ∷ hs) past all = (not_before instances_total exact_instances x g.instance h.instance past all.0, all_past g hs past all.1)
 
+  -- those behind are not
   behind_past : (gs : List Eventgroup) → IsStrictlySortedBy eventgroup_cmp gs → AllByRecursion (λ g. is_before x g ≡ false) (drop (count gs) gs)
   unfolding IsStrictlySortedBy
   behind_past [] rises = tt
@@ -82,16 +88,18 @@ module _ (x : InstanceId) where
       cases true is so_far = rw one-add so_far
       cases false is so_far = (is, all_past g gs is (groups_after g gs rises.0))
 
--- they stand before all that is gone, where that rises from the one on
+-- those in front stand before all that is gone, where the one is the first of that
 front_below : (x : InstanceId) (gone : List InstanceId) (gs : List Eventgroup) → AllByRecursion (λ i. instance_cmp x i ≡ Less) gone → AllByRecursion (λ g. instance_cmp g.instance x ≡ Less) gs
     → AllByRecursion (λ g. AllByRecursion (λ i. instance_cmp g.instance i ≡ Less) (x ∷ gone)) gs
 front_below x gone [] later all = tt
 front_below x gone (g ∷ gs) later all = ((all.0, before_all instances_total g.instance x gone all.0 later), front_below x gone gs later all.1)
 
+-- where nothing is gone, they stand before all of that
 nothing_before : (gs : List Eventgroup) → AllByRecursion (λ g. AllByRecursion (λ i. instance_cmp g.instance i ≡ Less) []) gs
 nothing_before [] = tt
 nothing_before (g ∷ gs) = (tt, nothing_before gs)
 
+-- where nothing ended, nothing is told
 none_told : (instances : List InstanceId) → endings instances [] [] ≡ []
 none_told [] = refl
 none_told (i ∷ is) = none_told is
@@ -104,7 +112,7 @@ joined p g gs = cases (p g)
     cases true = refl
     cases false = refl
 
--- ---- what ended, one thing after another, where a test says what is wanted
+-- ---- what ended, one thing after another
 
 module _ (config : Config) (rises : IsStrictlySortedBy instance_cmp (wanted_instances config)) where
   abbrev instances : List InstanceId
@@ -113,15 +121,16 @@ module _ (config : Config) (rises : IsStrictlySortedBy instance_cmp (wanted_inst
   abbrev wanted : InstanceId → Bool
   wanted instance = is_some (wanted_as config instance)
 
-  is : (q : InstanceId) → wanted q ≡ has_instance instances q
-  is q = is_some-lookup (is_at (instance_cmp q)) config.wants.entries
+  -- an instance that is looked up is found where it is among those that are wanted
+  is_wanted : (q : InstanceId) → wanted q ≡ has_instance instances q
+  is_wanted q = is_some-lookup (is_at (instance_cmp q)) config.wants.entries
 
-  -- the known offer of the first instance of which something ended
+  -- the known offer of an instance is told before what ended of no instance before it
   gone_told : (x : InstanceId) (gone : List InstanceId) (gs : List Eventgroup) → AllByRecursion (λ i. instance_cmp x i ≡ Less) gone → AllByRecursion (λ g. is_before x g ≡ false) gs
       → endings instances (x ∷ gone) gs ≡ (if wanted x then Gone x ∷ [] else []) ++ endings instances gone gs
   gone_told x gone gs later past =
       first_told instances_total exact_instances (endings_of (x ∷ gone) gs) (endings_of gone gs) x (Gone x ∷ []) others here before instances rises
-      ∙ ap (λ b. (if b then Gone x ∷ [] else []) ++ endings instances gone gs) (sym (is x))
+      ∙ ap (λ b. (if b then Gone x ∷ [] else []) ++ endings instances gone gs) (sym (is_wanted x))
     where
       others : (w : InstanceId) → eq_by_cmp instance_cmp x w ≡ false → endings_of (x ∷ gone) gs w ≡ endings_of gone gs w
       others w differs =
@@ -135,12 +144,12 @@ module _ (config : Config) (rises : IsStrictlySortedBy instance_cmp (wanted_inst
       before : (w : InstanceId) → instance_cmp w x ≡ Less → endings_of (x ∷ gone) gs w ≡ []
       before w lt = nothing_ended w (x ∷ gone) gs (lt, before_all instances_total w x gone lt later) (groups_past w x gs lt past)
 
-  -- the subscription of the first eventgroup
+  -- the subscription of an eventgroup is told before what ended of no instance before its own
   group_told : (gone : List InstanceId) (g : Eventgroup) (gs : List Eventgroup) → AllByRecursion (λ i. instance_cmp g.instance i ≡ Less) gone → AllByRecursion (λ h. is_before g.instance h ≡ false) gs
       → endings instances gone (g ∷ gs) ≡ (if wanted g.instance then Unsubscribed g ∷ [] else []) ++ endings instances gone gs
   group_told gone g gs later past =
       first_told instances_total exact_instances (endings_of gone (g ∷ gs)) (endings_of gone gs) g.instance (Unsubscribed g ∷ []) others here before instances rises
-      ∙ ap (λ b. (if b then Unsubscribed g ∷ [] else []) ++ endings instances gone gs) (sym (is g.instance))
+      ∙ ap (λ b. (if b then Unsubscribed g ∷ [] else []) ++ endings instances gone gs) (sym (is_wanted g.instance))
     where
       others : (w : InstanceId) → eq_by_cmp instance_cmp g.instance w ≡ false → endings_of gone (g ∷ gs) w ≡ endings_of gone gs w
       others w differs = ap (λ b. (if has_instance gone w then Gone w ∷ [] else []) ++ unsubscribed (cond b (g ∷ those_of w gs) (those_of w gs))) differs
@@ -154,7 +163,7 @@ module _ (config : Config) (rises : IsStrictlySortedBy instance_cmp (wanted_inst
       before : (w : InstanceId) → instance_cmp w g.instance ≡ Less → endings_of gone (g ∷ gs) w ≡ []
       before w lt = nothing_ended w gone (g ∷ gs) (before_all instances_total w g.instance gone lt later) (lt, groups_past w g.instance gs lt past)
 
-  -- the subscriptions of the first eventgroups, where they stand before all that is gone
+  -- and those of several, before what is gone of later instances
   groups_told : (gone : List InstanceId) (front behind : List Eventgroup) → IsStrictlySortedBy eventgroup_cmp (front ++ behind)
       → AllByRecursion (λ g. AllByRecursion (λ i. instance_cmp g.instance i ≡ Less) gone) front
       → endings instances gone (front ++ behind) ≡ unsubscribed (filter (λ g. wanted g.instance) front) ++ endings instances gone behind
@@ -166,7 +175,7 @@ module _ (config : Config) (rises : IsStrictlySortedBy instance_cmp (wanted_inst
       ∙ sym (append_assoc (if wanted g.instance then Unsubscribed g ∷ [] else []) (unsubscribed (filter (λ h. wanted h.instance) front)) (endings instances gone behind))
       ∙ ap (λ os. os ++ endings instances gone behind) (joined (λ h. wanted h.instance) g front)
 
-  -- what ended before the first instance that is gone, and it
+  -- the subscriptions in front of the first instance that is gone are told, then its known offer, and then the others
   first_ended : (x : InstanceId) (gone : List InstanceId) (gs : List Eventgroup) → IsStrictlySortedBy instance_cmp (x ∷ gone) → IsStrictlySortedBy eventgroup_cmp gs
       → endings instances (x ∷ gone) gs
       ≡ unsubscribed (filter (λ g. wanted g.instance) (take (count x gs) gs)) ++ ((if wanted x then Gone x ∷ [] else []) ++ endings instances gone (drop (count x gs) gs))
@@ -177,7 +186,7 @@ module _ (config : Config) (rises : IsStrictlySortedBy instance_cmp (wanted_inst
       ∙ groups_told (x ∷ gone) (take (count x gs) gs) (drop (count x gs) gs) (subst (IsStrictlySortedBy eventgroup_cmp) (sym parts) rise) (front_below x gone (take (count x gs) gs) later.0 (front_before x gs))
       ∙ ap (λ os. unsubscribed (filter (λ g. wanted g.instance) (take (count x gs) gs)) ++ os) (gone_told x gone (drop (count x gs) gs) later.0 (behind_past x gs rise))
 
-  -- once they were told, what is left to be told is what was left with them
+  -- once the first two were told, what is left to be told is what was left with them
   pub one_ended : (gone : List InstanceId) (i n : ℕ) (d : InstanceId) (gs front behind : List Eventgroup) (before mid after all : List Output) → i < length gone
       → IsStrictlySortedBy instance_cmp gone → IsStrictlySortedBy eventgroup_cmp gs
       → n ≡ prefix_len (λ g. is_lt (instance_cmp g.instance (get_or gone i d))) gs → front ≡ take n gs → behind ≡ drop n gs

@@ -1,5 +1,5 @@
 -- Lists that rise: what stands where in them, and what is told of each in their order.
-use Rattle.std.proofs.Common.{◌≡◌, ℕ, zero, suc, Bool, true, false, ◌||◌, if◌then◌else◌, List, [], ◌∷◌, ◌++◌, map, drop, refl, sym, ap, subst, ◌∙◌, append_assoc}
+use Rattle.std.proofs.Common.{◌≡◌, ℕ, zero, suc, true, false, ◌||◌, if◌then◌else◌, List, [], ◌∷◌, ◌++◌, map, drop, refl, sym, ap, subst, ◌∙◌, append_assoc}
 use Rattle.std.specs.List.{AllByRecursion, flat_map, list_any}
 use Rattle.std.specs.List.Sorted.{IsStrictlySortedBy}
 use Rattle.std.specs.declared.cmp.Ordering.{Ordering}
@@ -13,6 +13,7 @@ use Rattle.someip_tables.proofs.Entries.{true_from}
 
 -- ---- in a list that rises
 
+-- a test that answers Less
 pub less_by : (r : Ordering) → is_lt r ≡ true → r ≡ Less
 less_by Less h = refl
 less_by Equal h = absurd (cc)
@@ -48,16 +49,20 @@ module _ {K : Type 0} {R : K → K → Ordering} (o : IsTotalOrder R) where
       cases Greater is = refl
 
 module _ {K : Type 0} (R : K → K → Ordering) where
+  -- what is left of it rises
   pub sorted_drop : (n : ℕ) (xs : List K) → IsStrictlySortedBy R xs → IsStrictlySortedBy R (drop n xs)
   unfolding IsStrictlySortedBy
   sorted_drop zero xs rises = rises
   sorted_drop (suc n) [] rises = tt
   sorted_drop (suc n) (x ∷ xs) rises = sorted_drop n xs rises.1
 
--- ---- what is told of one more thing, in its order
+-- ---- what is told of each thing, with that of one more
+
+-- f tells of each what rest does, and of x something more, which comes first; of what stands before x it tells nothing.
+-- So over a list that rises f tells that, if x is in the list, and then what rest does
 
 module _ {K Y : Type 0} {R : K → K → Ordering} (o : IsTotalOrder R) (exact : IsAntisymmetric R) (f rest : K → List Y) (x : K) (told : List Y)
-  (others : (w : K) → eq_by_cmp R x w ≡ false → f w ≡ rest w) (here : f x ≡ told ++ rest x) (before : (w : K) → R w x ≡ Less → f w ≡ []) where
+    (others : (w : K) → eq_by_cmp R x w ≡ false → f w ≡ rest w) (here : f x ≡ told ++ rest x) (before : (w : K) → R w x ≡ Less → f w ≡ []) where
   same_past : (ws : List K) → AllByRecursion (λ w. R x w ≡ Less) ws → flat_map f ws ≡ flat_map rest ws
   same_past [] all = refl
   same_past (w ∷ ws) all = ap (λ ys. ys ++ flat_map f ws) (others w (ap is_eq all.0)) ∙ ap (λ ys. rest w ++ ys) (same_past ws all.1)

@@ -14,8 +14,8 @@ use someip_node_rules::{Config, Output};
 use std::alloc::AllocError;
 
 /// Tells what ended, by rising instance: the known offers of these instances, and with each the
-/// subscriptions of its eventgroups among these. Both rise, so that it goes once over each, and it
-/// looks up of each whether its instance is wanted.
+/// subscriptions of its eventgroups among these, as far as the instances are wanted. Both lists rise,
+/// so it goes over each once; it looks up whether an instance is wanted, and never goes over the wants.
 pub(crate) fn tell_endings(
     config: &Config,
     gone: &[InstanceId],
@@ -38,7 +38,7 @@ pub(crate) fn tell_endings(
     tell_lapses(config, rest, outputs)
 }
 
-/// The instances that are wanted rise.
+/// The instances that are wanted rise, since they are the keys of a map.
 fn wants_rise(config: &Config)
     ensures { IsStrictlySortedBy instance_cmp (wanted_instances config.now) }
 {

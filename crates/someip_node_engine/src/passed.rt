@@ -1,4 +1,5 @@
 //! What a moment brings.
+ghost use Rattle.std.proofs.Props.{props};
 ghost use Rattle.std.specs.List.Sorted.{IsStrictlySortedBy};
 ghost use Rattle.sd_core.specs.Eventgroups.{eventgroup_cmp};
 ghost use Rattle.sd_core.specs.Keys.{instance_cmp};
@@ -20,6 +21,6 @@ pub(crate) struct Passed {
     pub(crate) offers: Vec<InstanceId>,
     /// The instances that send a Find, by rising instance.
     pub(crate) finds: Vec<InstanceId>,
-    ghost gone_rise: { IsStrictlySortedBy instance_cmp gone.items },
-    ghost lapsed_rise: { IsStrictlySortedBy eventgroup_cmp lapsed.items },
+    ghost gone_rise: { IsStrictlySortedBy instance_cmp gone.items } by { Prim.hlevel props },
+    ghost lapsed_rise: { IsStrictlySortedBy eventgroup_cmp lapsed.items } by { Prim.hlevel props },
 }

@@ -1,7 +1,5 @@
 use Rattle.std.proofs.Common.{sym, subst, arith}
-use Rattle.std.specs.List.{prefix_len}
 use Rattle.std.specs.List.Sorted.{IsStrictlySortedBy}
-use Rattle.std.specs.Ordering.{is_lt}
 use Rattle.std.proofs.lemmas.List.Sums.{prefix_len-le-length}
 use Rattle.std.proofs.lemmas.Result.{on_ok_weaker}
 use Rattle.sd_core.specs.declared.eventgroup.Eventgroup.{Eventgroup}
