@@ -10,3 +10,5 @@ pub mod HearingLemmas
 pub mod LearningLemmas
 pub mod PortLemmas
 pub mod StartLemmas
+pub mod RisingLemmas
+pub mod EndingLemmas

@@ -1,68 +1,103 @@
 //! Known offers and subscriptions that end.
-ghost use Rattle.std.specs.Prelude.{◌≡◌, ◌++◌, OnOk};
-ghost use Rattle.someip_node_rules.specs.Outcomes.{endings, endings_of, has_instance, those_of, unsubscribed};
-ghost use Rattle.someip_node_rules.specs.Setups.{wanted_instances};
+ghost use Rattle.std.specs.Prelude.{◌≡◌, ◌++◌, ◌∷◌, [], if◌then◌else◌, filter, is_some, OnOk};
+ghost use Rattle.std.specs.List.{prefix_len};
+ghost use Rattle.std.specs.List.Sorted.{IsStrictlySortedBy};
+ghost use Rattle.std.specs.Ordering.{is_lt};
+ghost use Rattle.sd_core.specs.Eventgroups.{eventgroup_cmp};
+ghost use Rattle.sd_core.specs.Keys.{instance_cmp};
+ghost use Rattle.someip_node_rules.specs.declared.output.Output.TheVariants.{Gone, Unsubscribed};
+ghost use Rattle.someip_node_rules.specs.Outcomes.{endings, unsubscribed};
+ghost use Rattle.someip_node_rules.specs.Setups.{wanted_as, wanted_instances};
 
 use sd_core::{Eventgroup, InstanceId};
 use someip_node_rules::{Config, Output};
-use someip_tables::is_same_key;
 use std::alloc::AllocError;
 
 /// Tells what ended, by rising instance: the known offers of these instances, and with each the
-/// subscriptions of its eventgroups among these.
+/// subscriptions of its eventgroups among these, as far as the instances are wanted. Both lists rise,
+/// so it goes over each once; it looks up whether an instance is wanted, and never goes over the wants.
 pub(crate) fn tell_endings(
     config: &Config,
     gone: &[InstanceId],
     eventgroups: &[Eventgroup],
     outputs: &mut Vec<Output>,
 ) -> Result<(), AllocError>
+    requires gone { IsStrictlySortedBy instance_cmp gone.now }
+    requires eventgroups { IsStrictlySortedBy eventgroup_cmp eventgroups.now }
     ensures { OnOk result (outputs.new.items ≡ outputs.old.items
         ++ endings (wanted_instances config.now) gone.now eventgroups.now) }
 {
-    for (instance, _) in &config.wants {
-        tell_endings_of(*instance, gone, eventgroups, outputs)?;
+    wants_rise(config);
+    let mut rest = eventgroups;
+    for instance in gone {
+        let (front, behind) = rest.split_at(count_before(*instance, rest));
+        tell_lapses(config, front, outputs)?;
+        tell_gone(config, *instance, outputs)?;
+        rest = behind;
+    }
+    tell_lapses(config, rest, outputs)
+}
+
+/// The instances that are wanted rise, since they are the keys of a map.
+fn wants_rise(config: &Config)
+    ensures { IsStrictlySortedBy instance_cmp (wanted_instances config.now) }
+{
+    let _ = config.wants.len();
+}
+
+/// How many of these eventgroups, from the first on, are of instances before this one.
+fn count_before(instance: InstanceId, eventgroups: &[Eventgroup]) -> usize
+    ensures { result
+        ≡ prefix_len (λ g. is_lt (instance_cmp g.instance instance)) eventgroups.now }
+{
+    eventgroups
+        .iter()
+        .take_while(|eventgroup| eventgroup.instance < instance)
+        .count()
+}
+
+/// Tells that the known offer of an instance ended, if it is wanted.
+fn tell_gone(
+    config: &Config,
+    instance: InstanceId,
+    outputs: &mut Vec<Output>,
+) -> Result<(), AllocError>
+    ensures { OnOk result (outputs.new.items ≡ outputs.old.items
+        ++ (if is_some (wanted_as config.now instance) then Gone instance ∷ [] else [])) }
+{
+    if config.wants.contains_key(&instance) {
+        outputs.push(Output::Gone { instance })?;
     }
     Ok(())
 }
 
-/// Tells what ended of an instance.
-fn tell_endings_of(
-    instance: InstanceId,
-    gone: &[InstanceId],
-    eventgroups: &[Eventgroup],
+/// Tells that the subscription of an eventgroup ended, if its instance is wanted.
+fn tell_lapse(
+    config: &Config,
+    eventgroup: Eventgroup,
     outputs: &mut Vec<Output>,
 ) -> Result<(), AllocError>
-    ensures { OnOk result (outputs.new.items
-        ≡ outputs.old.items ++ endings_of gone.now eventgroups.now instance) }
+    ensures { OnOk result (outputs.new.items ≡ outputs.old.items
+        ++ (if is_some (wanted_as config.now eventgroup.instance)
+        then Unsubscribed eventgroup ∷ [] else [])) }
 {
-    if has_instance(gone, &instance) {
-        outputs.push(Output::Gone { instance })?;
+    if config.wants.contains_key(&eventgroup.instance) {
+        outputs.push(Output::Unsubscribed { eventgroup })?;
     }
-    tell_those_of(instance, eventgroups, outputs)
+    Ok(())
 }
 
-/// Whether an instance is among some.
-fn has_instance(instances: &[InstanceId], instance: &InstanceId) -> bool
-    ensures { result ≡ has_instance instances.now instance.now }
-{
-    instances.iter().any(|other| is_same_key(instance, other))
-}
-
-/// Tells that the subscriptions of an instance ended whose eventgroups are among these.
-fn tell_those_of(
-    instance: InstanceId,
+/// Tells that the subscriptions ended of those of these eventgroups whose instances are wanted.
+fn tell_lapses(
+    config: &Config,
     eventgroups: &[Eventgroup],
     outputs: &mut Vec<Output>,
 ) -> Result<(), AllocError>
-    ensures { OnOk result (outputs.new.items
-        ≡ outputs.old.items ++ unsubscribed (those_of instance eventgroups.now)) }
+    ensures { OnOk result (outputs.new.items ≡ outputs.old.items
+        ++ unsubscribed (filter (λ g. is_some (wanted_as config.now g.instance)) eventgroups.now)) }
 {
     for eventgroup in eventgroups {
-        if is_same_key(&eventgroup.instance, &instance) {
-            outputs.push(Output::Unsubscribed {
-                eventgroup: *eventgroup,
-            })?;
-        }
+        tell_lapse(config, *eventgroup, outputs)?;
     }
     Ok(())
 }

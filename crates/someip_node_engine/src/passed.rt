@@ -1,6 +1,8 @@
 //! What a moment brings.
-ghost use Rattle.std.specs.Prelude.{◌↔◌, IsTrue};
-ghost use Rattle.someip_node_engine.specs.Passings.{IsNothing};
+ghost use Rattle.std.proofs.Props.{props};
+ghost use Rattle.std.specs.List.Sorted.{IsStrictlySortedBy};
+ghost use Rattle.sd_core.specs.Eventgroups.{eventgroup_cmp};
+ghost use Rattle.sd_core.specs.Keys.{instance_cmp};
 
 use sd_core::{Eventgroup, InstanceId};
 use someip_rpc::CallKey;
@@ -19,17 +21,6 @@ pub(crate) struct Passed {
     pub(crate) offers: Vec<InstanceId>,
     /// The instances that send a Find, by rising instance.
     pub(crate) finds: Vec<InstanceId>,
-}
-
-impl Passed {
-    /// Whether nothing ends and nothing is due.
-    pub(crate) fn is_nothing(&self) -> bool
-        ensures { IsTrue result ↔ IsNothing self.now }
-    {
-        self.calls.is_empty()
-            && self.gone.is_empty()
-            && self.lapsed.is_empty()
-            && self.offers.is_empty()
-            && self.finds.is_empty()
-    }
+    ghost gone_rise: { IsStrictlySortedBy instance_cmp gone.items } by { Prim.hlevel props },
+    ghost lapsed_rise: { IsStrictlySortedBy eventgroup_cmp lapsed.items } by { Prim.hlevel props },
 }

@@ -1,5 +1,5 @@
 //! The clock of a node.
-ghost use Rattle.std.specs.Prelude.{◌≡◌, ◌≢◌, ◌+◌, ◌++◌, map, IfErr, IfOk, OnErr, OnOk};
+ghost use Rattle.std.specs.Prelude.{◌≡◌, ◌≢◌, ◌↔◌, ◌+◌, ◌++◌, map, IfErr, IfOk, IsTrue, OnErr, OnOk};
 ghost use Rattle.std.specs.List.{flat_map};
 ghost use Rattle.std.specs.FinMap as finite;
 ghost use Rattle.someip_tables.specs.Lastings.{expired, unexpired};
@@ -10,7 +10,8 @@ ghost use Rattle.someip_node_rules.specs.Inputs as input;
 ghost use Rattle.someip_node_rules.specs.Inputs.{tick_plan};
 ghost use Rattle.someip_node_rules.specs.Items.{changed, Ticked};
 ghost use Rattle.sd_core.specs.SeekTables.{KnowsWanted};
-ghost use Rattle.someip_node_engine.specs.Passings.{BringsNothing, HasPassed, entries_of, told_of};
+ghost use Rattle.someip_node_engine.specs.Passings.{BringsNothing, HasPassed, IsNothing};
+ghost use Rattle.someip_node_engine.specs.Passings.{entries_of, told_of};
 ghost use Rattle.someip_node_rules.specs.Plans.{plain, run};
 ghost use Rattle.someip_node_rules.specs.Receivers.{messages_plan_to};
 ghost use Rattle.someip_node_engine.specs.Working.{told_all, working};
@@ -151,6 +152,19 @@ impl<R: Reassembly> Engine<R> {
             entries.push(find_entry(self.alloc, instance, want.major))?;
         }
         Ok(())
+    }
+}
+
+impl Passed {
+    /// Whether nothing ends and nothing is due.
+    pub(crate) fn is_nothing(&self) -> bool
+        ensures { IsTrue result ↔ IsNothing self.now }
+    {
+        self.calls.is_empty()
+            && self.gone.is_empty()
+            && self.lapsed.is_empty()
+            && self.offers.is_empty()
+            && self.finds.is_empty()
     }
 }
 

@@ -1,4 +1,7 @@
-use Rattle.std.proofs.Common.{◌∙◌, ◌+◌, refl, sym, ap, arith}
+use Rattle.std.proofs.Common.{◌∙◌, ◌+◌, refl, sym, ap, subst, arith}
+use Rattle.std.specs.List.Sorted.{IsStrictlySortedBy}
+use Rattle.sd_core.specs.Eventgroups.{eventgroup_cmp}
+use Rattle.sd_core.specs.Keys.{instance_cmp}
 use Rattle.someip_tp.specs.Parts.{parts_at}
 use Rattle.someip_tp.proofs.MomentLemmas.{later, none_after-parts_at}
 use Rattle.sd_core.specs.Endings.{ends_at}
@@ -9,6 +12,7 @@ use Rattle.someip_node_rules.specs.Tables.{passed_instances}
 use Rattle.sd_core.specs.Wishes.{begun_where, ended_where}
 use Rattle.someip_node_rules.specs.Items.{changed, Ticked}
 use Rattle.someip_node_engine.proofs.PassingLemmas.{no_keys, on_err, ticked_is}
+use Rattle.someip_node_engine.proofs.RisingLemmas.{keys_rise}
 use Rattle.someip_node_engine.proofs.engine.Engine.pass.Goals as goal
 
 pub invariant_of-self-2 : goal.invariant_of-self-2
@@ -21,6 +25,12 @@ invariant_of-self-2 g c = (
   ap (λ offers. offers.versions) c.in_ok-offers.ensures.after ∙ c.self.invariant.5,
   ap (λ seek. seek.wanted) c.in_ok-wanted.ensures.after ∙ c.self.invariant.6,
 )
+
+pub invariant_of-result : goal.invariant_of-result
+invariant_of-result g c = record {
+  gone_rise = subst (IsStrictlySortedBy instance_cmp) (sym c.in_ok-wanted.ensures.ended) (keys_rise _);
+  lapsed_rise = subst (IsStrictlySortedBy eventgroup_cmp) (sym c.in_ok-lapsed.ensures.ended) (keys_rise _);
+}
 
 pub returns-clause-ticked : goal.returns-clause-ticked
 returns-clause-ticked g c =

@@ -1,8 +1,0 @@
-use Rattle.std.proofs.Common.{◌≡◌, ◌++◌, drop}
-use Rattle.someip_node_rules.specs.Outcomes.{those_of, unsubscribed}
-use Rattle.someip_node_engine.proofs.endings.tell_those_of.Given as goal
-
--- those that were told, and those that are left, are all
-abbrev pub invariant-loop-eventgroup : goal.invariant-loop-eventgroup
-invariant-loop-eventgroup l =
-    l.outputs.items ++ unsubscribed (those_of l.instance (drop l.eventgroup-index l.eventgroups)) ≡ l.fn.outputs.items ++ unsubscribed (those_of l.instance l.eventgroups)
