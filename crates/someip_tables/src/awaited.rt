@@ -71,7 +71,7 @@ pub(crate) fn renew<K: Key, V: Waits>(
 }
 
 /// Puts a value under a new key. The room of its moment comes first.
-pub(crate) fn add<K: Key, V: Waits>(
+fn add<K: Key, V: Waits>(
     held: &mut BTreeMap<K, V>,
     dues: &mut Vec<Due<K>>,
     key: K,
