@@ -68,7 +68,11 @@ pub(crate) fn first_wrong(
 
 /// The lines that a node gives for what is done to it. Each call of a node has a function of its own below:
 /// so the prover meets one call at a time.
-pub(crate) fn given(alloc: Global, node: &mut Node<IntervalPool>, act: Act) -> Result<String, Fail> {
+pub(crate) fn given(
+    alloc: Global,
+    node: &mut Node<IntervalPool>,
+    act: Act,
+) -> Result<String, Fail> {
     match act {
         Act::Datagram(from, to, bytes) => on_datagram(alloc, node, from, to, bytes),
         Act::Tick(ms) => tick(alloc, node, ms),
