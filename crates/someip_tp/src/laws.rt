@@ -130,8 +130,8 @@ pub fn each_call_keeps_parts_within_limits()
         → IsWithin limits parts → IsWithin limits (parts_at limits now parts) }
 {}
 
-/// Intervals of held places are apart, so a slice that lies over some leaves one in their place: blocks
-/// that are held in a row are in one interval, and two intervals that share a block, or touch, are one.
+/// Intervals of held blocks are apart: one that has a block of a row of held ones has them all, and two
+/// that share a block, or touch, are one. So a slice that lies over some leaves one in their place.
 pub fn intervals_are_apart()
     ensures whole { (held : ℕ → Bool) (first last from to block : ℕ) → IsInterval held first last
         → ((k : ℕ) → from ≤ k → k < to → held k ≡ true)
