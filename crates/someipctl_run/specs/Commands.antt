@@ -11,7 +11,7 @@ use Rattle.someip_world_schedule.specs.Schedule.{first_bad, steps_of}
 use Rattle.someip_world_schedule.specs.declared.step.Step.{Step}
 use Rattle.someip_world_setup.specs.GoodSetups.{Network}
 use Rattle.someip_world_setup.specs.Readings.{HasValues, TextHasFault, setup_of_text, tree_of}
-use Rattle.someip_world_setup.specs.declared.error.SetupError.TheVariants.{NotToml}
+use Rattle.someip_world_setup.specs.declared.error.SetupError.TheVariants as errors
 use Rattle.someip_world_setup.specs.declared.setup_node.SetupNode.{SetupNode}
 use Rattle.someipctl_commands.specs.ShowResult.{WasLeft}
 use Rattle.someipctl_run.specs.Traces.{trace_text}
@@ -30,9 +30,11 @@ OfInput input P = (text : List ℕ) × WasLeft input text × P text
 abbrev pub IsSetupOf : List ℕ → Network → Type 0
 IsSetupOf text network = (is_utf8 text ≡ true) × IsSomeAnd (setup_of_text text) (HasValues network)
 
--- a text is refused: it is no UTF-8 and so no TOML, or it has the fault that is told
+-- a text is refused: it is no UTF-8 and so no TOML, or it has the fault that is told. That memory ran out refuses no
+-- text, and is told by the command's own name for it
 abbrev pub RefusesSetup : List ℕ → SetupFault → Type 0
-RefusesSetup text (setups.Refused NotToml) = (is_utf8 text ≡ true) → tree_of text ≡ None
+RefusesSetup text (setups.Refused errors.NotToml) = (is_utf8 text ≡ true) → tree_of text ≡ None
+RefusesSetup text (setups.Refused errors.OutOfMemory) = ⊥
 RefusesSetup text (setups.Refused error) = (is_utf8 text ≡ true) × TextHasFault (tree_of text) error
 RefusesSetup text setups.CannotRead = ⊥
 RefusesSetup text setups.OutOfMemory = Unit {0}
