@@ -10,6 +10,7 @@ mod faults;
 mod ids;
 mod instances;
 mod nodes;
+mod order;
 
 /// The worked setup, to its first node.
 const COMMON: &str = "group = \"239.0.0.1\"\n";
