@@ -13,6 +13,7 @@ use Rattle.sd_wire.specs.Fronts.{front_lengths}
 use Rattle.sd_wire.specs.Values.{EntryValue}
 use Rattle.sd_core.specs.declared.eventgroup.Eventgroup.{Eventgroup}
 use Rattle.sd_core.specs.declared.keys.InstanceId.{InstanceId}
+use Rattle.sd_core.specs.declared.received.ReceivedOffer.{ReceivedOffer}
 use Rattle.sd_core.specs.declared.sending.Sending.{Sending}
 use Rattle.sd_core.specs.declared.wish.Wish.{Wish}
 use Rattle.sd_core.specs.Endings.{ends_at}
@@ -29,19 +30,21 @@ use Rattle.someip_rpc.specs.declared.ids.CallKey.{CallKey}
 use Rattle.someip_rpc.specs.Answers.{is_awaited}
 use Rattle.someip_rpc.specs.IdOrder.{calls_total, exact_calls}
 use Rattle.someip_node_rules.specs.declared.config.Config.{Config}
+use Rattle.someip_node_rules.specs.declared.drops.DropReason.TheVariants.{NoEndpoint, OtherPeer}
 use Rattle.someip_node_rules.specs.declared.error.NodeError.{NodeError}
 use Rattle.someip_node_rules.specs.declared.output.Output.{Output}
 use Rattle.someip_node_rules.specs.declared.output.Output.TheVariants.{Answered, Called, Sent, TimedOut}
 use Rattle.someip_node_rules.specs.declared.receiver.Receiver.TheVariants.{Group}
 use Rattle.someip_node_rules.specs.Calls.{due_entries, find_of}
-use Rattle.someip_node_rules.specs.CallExamples.{IsClient, calling, knowing, message, instance_offer}
+use Rattle.someip_node_rules.specs.CallExamples.{IsClient, calling, knowing, message, instance_offer, other_offer, other_server}
 use Rattle.someip_node_rules.specs.History.{answers_of, historic, met, start_of}
 use Rattle.someip_node_rules.specs.Inputs.{Call, Datagram, Tick}
 use Rattle.someip_node_rules.specs.Items.{Ticked}
 use Rattle.someip_node_rules.specs.Messages.{answer_by}
-use Rattle.someip_node_rules.specs.Outcomes.{endings}
+use Rattle.someip_node_rules.specs.Learning.{offer_by}
+use Rattle.someip_node_rules.specs.Outcomes.{dropped, endings}
 use Rattle.someip_node_rules.specs.Outputs.{Tells, written}
-use Rattle.someip_node_rules.specs.Plans.{run}
+use Rattle.someip_node_rules.specs.Plans.{rule, run, TakesOffer}
 use Rattle.someip_node_rules.specs.Receivers.{messages_plan_to}
 use Rattle.someip_node_rules.specs.Setups.{wanted_instances}
 use Rattle.someip_node_rules.specs.Subscribing.{offer_of}
@@ -50,7 +53,7 @@ use Rattle.someip_node_rules.specs.WorkedExamples.{asking, client, gives, instan
 use Rattle.std.specs.Option.{option_map}
 use Rattle.std.specs.FinMap.{empty, get-empty, get-from_entries}
 use Rattle.std.proofs.lemmas.Bool.{le-ltb}
-use Rattle.sd_core.specs.SeekTables.{known_at}
+use Rattle.sd_core.specs.SeekTables.{known_at, offer_refusal}
 use Rattle.someip_rpc.specs.declared.call.CallKind.TheVariants.{Request}
 use Rattle.someip_rpc.specs.declared.error.RpcError.TheVariants.{NotOffered}
 use Rattle.someip_rpc.specs.Ids.{message_cmp}
@@ -174,3 +177,23 @@ module _ (config : Config) (is : IsClient config) where
   told =
       ended_none 2000 (key ∷ []) refl (ap (λ m. keys (expired 2000 m)) pending_is ∙ key_kept calls_total exact_calls (λ _ lasting. has_passed 2000 lasting.until) key awaited refl)
       ∙ nothing_due 2000 (key ∷ [])
+
+  -- ---- an Offer of another peer
+
+  abbrev learned : Tables
+  learned = answers_of (knowing config)
+
+  wanted : get learned.seek.wanted instance ≡ Some 1
+  wanted = rw (is.wants, is.major) (get-from_entries instances_total ((instance, 1) ∷ []) instance)
+
+  pub bare_offer_dropped : rule (TakesOffer (other_offer None)) learned ≡ dropped NoEndpoint
+  bare_offer_dropped =
+      ap (λ v. offer_by (other_offer None) (offer_refusal v (known_at 0 (get learned.seek.known instance)) (other_offer None)) learned) wanted
+
+  abbrev other : ReceivedOffer
+  other = other_offer (Some other_server)
+
+  pub other_offer_dropped : rule (TakesOffer (other_offer (Some other_server))) learned ≡ dropped OtherPeer
+  other_offer_dropped =
+      ap (λ v. offer_by other (offer_refusal v (known_at 0 (get learned.seek.known instance)) other) learned) wanted
+      ∙ ap (λ v. offer_by other (offer_refusal (Some 1) (known_at 0 v) other) learned) (get-from_entries instances_total ((instance, offer_from instance_offer server 0) ∷ []) instance)

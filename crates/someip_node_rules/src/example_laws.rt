@@ -13,12 +13,13 @@ ghost use Rattle.sd_wire.specs.Values.{bad_run};
 ghost use Rattle.sd_core.specs.declared.error.Cause.TheVariants.{NoEndpoint, UnknownEventgroup};
 ghost use Rattle.someip_rpc.specs.declared.error.DropCause.TheVariants.{NotPending};
 ghost use Rattle.someip_rpc.specs.Answers.{answered_call};
+ghost use Rattle.someip_node_rules.specs.CallExamples.{IsClient, knowing, other_offer, other_server};
 ghost use Rattle.someip_node_rules.specs.Entries.{discovery_payload};
 ghost use Rattle.someip_node_rules.specs.Handling.{entry_plan};
 ghost use Rattle.someip_node_rules.specs.History.{History, answers_of, start_of};
 ghost use Rattle.someip_node_rules.specs.Lives.{is_waiting};
 ghost use Rattle.someip_node_rules.specs.Outcomes.{dropped};
-ghost use Rattle.someip_node_rules.specs.Plans.{act, rule, Drops, TakesAnswer, TakesSubscribe};
+ghost use Rattle.someip_node_rules.specs.Plans.{act, rule, Drops, TakesAnswer, TakesOffer, TakesSubscribe};
 ghost use Rattle.someip_node_rules.specs.Setups.{has_eventgroup};
 ghost use Rattle.someip_node_rules.specs.Subscribing.{nacked_for};
 ghost use Rattle.someip_node_rules.specs.declared.drops.DropReason.TheVariants.{BadRun};
@@ -78,4 +79,16 @@ pub fn late_answers_are_dropped()
         → header.kind ≡ Response → IsFalse (is_waiting h.config h.items (answered_call header))
         → rule (TakesAnswer from header payload) (answers_of h)
         ≡ dropped (drop_reason.Answer NotPending) }
+{}
+
+/// An Offer of an instance whose offer by another peer is known is dropped for that. One without an
+/// endpoint is dropped for want of it, also there (SOME/IP Service Discovery Protocol, "Offer Service
+/// entry").
+pub fn offers_of_another_peer_by_example()
+    ensures without_endpoint { (config : Config) → IsClient config
+        → rule (TakesOffer (other_offer None)) (answers_of (knowing config))
+        ≡ dropped drop_reason.NoEndpoint }
+    ensures with_endpoint { (config : Config) → IsClient config
+        → rule (TakesOffer (other_offer (Some other_server))) (answers_of (knowing config))
+        ≡ dropped drop_reason.OtherPeer }
 {}
