@@ -1,6 +1,7 @@
 //! Peers that are heard, and what ends as one began again.
-ghost use Rattle.std.specs.Prelude.{◌≡◌, ◌++◌, ◌∷◌, if◌then◌else◌, IfOk, OnOk};
-ghost use Rattle.sd_session.specs.Peers.{may_hold};
+ghost use Rattle.std.specs.Prelude.{◌≡◌, ◌++◌, ◌∷◌, true, if◌then◌else◌, None, Ok, Err, IfOk, IfSome, IfNone, OnOk, OnErr};
+ghost use Rattle.std.specs.FinMap as finite;
+ghost use Rattle.sd_session.specs.Peers.{Saw, may_hold};
 ghost use Rattle.someip_node_rules.specs.declared.drops.DropReason.TheVariants.{PeersFull};
 ghost use Rattle.someip_node_rules.specs.declared.output.Output.TheVariants.{Rebooted};
 ghost use Rattle.someip_node_rules.specs.Items.{changed, PeerRebooted};
@@ -11,7 +12,7 @@ ghost use Rattle.someip_node_engine.specs.Working.{working};
 use crate::endings::tell_endings;
 use crate::engine::Engine;
 use crate::giving::Giving;
-use sd_session::{Channel, Seen, SessionError, Stamp};
+use sd_session::{Channel, PeerTable, Seen, SessionError, Stamp};
 use someip_node_rules::{DropReason, Output};
 use someip_tp::Reassembly;
 use std::alloc::AllocError;
@@ -35,19 +36,18 @@ impl<R: Reassembly> Engine<R> {
             (working self.old giving.old)) }
         ensures config { self.new.config ≡ self.old.config }
     {
-        match self.peers.saw(peer, channel, stamp.session, stamp.reboot) {
-            Ok(Seen::Same) => Ok(true),
-            Ok(Seen::Rebooted) => {
+        match seen(&mut self.peers, peer, channel, stamp)? {
+            Some(Seen::Same) => Ok(true),
+            Some(Seen::Rebooted) => {
                 self.forget_peer(peer, &mut giving.outputs)?;
                 Ok(true)
             }
-            Err(SessionError::PeersFull) => {
+            None => {
                 giving.outputs.push(Output::Dropped {
                     reason: DropReason::PeersFull,
                 })?;
                 Ok(false)
             }
-            Err(SessionError::OutOfMemory) => Err(AllocError),
         }
     }
 
@@ -64,5 +64,28 @@ impl<R: Reassembly> Engine<R> {
         self.subscribers.peer_reboot(peer);
         tell_endings(&self.config, &gone, &ended, outputs)?;
         Ok(())
+    }
+}
+
+/// Enters a message of a peer in the table of peers, and says what it tells of the peer, or that there is
+/// no room for it. Memory runs out only for a new peer for which there is room.
+fn seen(
+    peers: &mut PeerTable,
+    peer: Ipv4Addr,
+    channel: Channel,
+    stamp: Stamp,
+) -> Result<Option<Seen>, AllocError>
+    ensures entered { IfOk result (λ seen. IfSome seen (λ told. Saw peers.old.limit peer channel stamp
+        peers.old.held (Ok told) peers.new.held)) }
+    ensures full { IfOk result (λ seen. IfNone seen (Saw peers.old.limit peer channel stamp
+        peers.old.held (Err SessionError.PeersFull) peers.new.held)) }
+    ensures room { OnErr result (may_hold peers.old.limit peers.old.held peer ≡ true) }
+    ensures is_new { OnErr result (finite.get peers.old.held peer ≡ None) }
+    ensures limit { peers.new.limit ≡ peers.old.limit }
+{
+    match peers.saw(peer, channel, stamp.session, stamp.reboot) {
+        Ok(seen) => Ok(Some(seen)),
+        Err(SessionError::PeersFull) => Ok(None),
+        Err(SessionError::OutOfMemory) => Err(AllocError),
     }
 }
