@@ -1,5 +1,5 @@
 //! Segments that come.
-ghost use Rattle.std.specs.Prelude.{◌≡◌, ◌++◌, ◌%◌, IfOk, OnOk};
+ghost use Rattle.std.specs.Prelude.{◌≡◌, ◌++◌, ◌%◌, true, is_ok, IfOk, OnOk, OnErr};
 ghost use Rattle.someip_tp.specs.Keys.{segment_key};
 ghost use Rattle.someip_tp.specs.Offers.{judgement, message_at, parts_after, parts_less};
 ghost use Rattle.someip_tp.specs.Parts.{NoneAfter};
@@ -157,7 +157,8 @@ fn offer_to<R: Reassembly>(
     }
 }
 
-/// Offers a segment, and keeps out of memory apart.
+/// Offers a segment, and keeps out of memory apart, which comes only for a segment that was to be
+/// accepted.
 fn offered<R: Reassembly>(
     store: &mut R,
     now: u64,
@@ -169,6 +170,8 @@ fn offered<R: Reassembly>(
         ≡ judgement (R.limits store.old) now (segment_offer segment.entry) (R.parts store.old)) }
     ensures parts { OnOk result (R.parts store.new
         ≡ parts_after (R.limits store.old) now (segment_offer segment.entry) (R.parts store.old)) }
+    ensures wanting { OnErr result (is_ok (judgement (R.limits store.old) now
+        (segment_offer segment.entry) (R.parts store.old)) ≡ true) }
     ensures moments { NoneAfter now (R.parts store.new) }
     ensures limits { R.limits store.new ≡ R.limits store.old }
 {

@@ -1,5 +1,5 @@
 //! What a server does with the entries of Service Discovery: Finds, Subscribes and StopSubscribes.
-ghost use Rattle.std.specs.Prelude.{◌≡◌, ◌++◌, ◌∷◌, [], map, IfOk, OnOk};
+ghost use Rattle.std.specs.Prelude.{◌≡◌, ◌++◌, ◌∷◌, [], map, None, IfOk, OnOk, OnErr};
 ghost use Rattle.std.specs.List.{flat_map, fold};
 ghost use Rattle.sd_wire.specs.Values.{view_entry};
 ghost use Rattle.sd_core.specs.SubscriberTables.{nack_cause};
@@ -86,7 +86,7 @@ impl<R: Reassembly> Engine<R> {
         tell_answer(self.alloc, peer, head, endpoint, refusal, giving)
     }
 
-    /// Accepts a Subscribe, or gives the cause of its Nack.
+    /// Accepts a Subscribe, or gives the cause of its Nack. Memory runs out only where there is none.
     fn admit(
         &mut self,
         peer: Ipv4Addr,
@@ -97,6 +97,8 @@ impl<R: Reassembly> Engine<R> {
             (subscribe_in peer head.now endpoint) (live_subscribers self.old)) }
         ensures accepted { IfOk result (λ refusal. self.new ≡ fold changed self.old
             (subscribe_by head.now (subscribe_in peer head.now endpoint) refusal).items) }
+        ensures wanting { OnErr result (nack_cause (rules_for head.now self.old)
+            (subscribe_in peer head.now endpoint) (live_subscribers self.old) ≡ None) }
         ensures config { self.new.config ≡ self.old.config }
     {
         let rules = self.rules_for(head);
