@@ -81,7 +81,7 @@ fn failure_of(cause: Cause) -> Failure<'static> {
 }
 
 /// Whether a failure has this text and this exit status.
-fn is_told(alloc: Global, failure: &Failure<'_>, text: &str, status: u8) -> bool {
+pub fn is_told(alloc: Global, failure: &Failure<'_>, text: &str, status: u8) -> bool {
     match failure.to_string(alloc) {
         Ok(printed) => printed.as_str() == text && failure.status() == status,
         Err(_) => false,

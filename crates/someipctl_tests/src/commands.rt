@@ -1,48 +1,9 @@
-//! Captures and payloads, of which no command line shows all; and readers and writers that fail.
-use crate::slow::{Limits, SlowReader, SlowWriter};
+//! Captures and payloads, of which no command line shows all.
+use crate::slow::{Limits, SlowWriter};
 use someipctl_commands::payload::{PayloadRefusal, payload};
 use someipctl_commands::show::{ShowError, show};
-use someipctl_commands::vectors::{VectorsError, vectors};
 use someipctl_commands::{Outcome, laws, read_capture};
 use std::alloc::{AllocError, Global};
-use std::io::ErrorKind;
-
-/// One request.
-const REQUEST: &[u8] = b"12340421 00000008 00010001 01010000\n";
-
-const REQUEST_LINE: &str =
-    "1 message 1234.0421 length 8 client 0001 session 0001 interface 01 type REQUEST code 00 payload -\n";
-
-/// Whether the request over a reader ends so and shows this text.
-fn is_read(
-    alloc: Global,
-    reader: &mut SlowReader<'_>,
-    wanted: Result<Outcome, ShowError>,
-    text: &str,
-) -> bool {
-    let mut out = Vec::new(alloc);
-    let outcome = show(alloc, reader, &mut out);
-    outcome == wanted && out.as_slice() == text.as_bytes()
-}
-
-/// Whether each call of the reader, failing by an error of a kind, is told and shows nothing.
-fn are_refused(alloc: Global, kind: ErrorKind, error: ShowError) -> bool {
-    for fails_at in 0..=REQUEST.len() {
-        let mut reader = SlowReader::new(REQUEST, fails_at, kind);
-        if !is_read(alloc, &mut reader, Err(error), "") {
-            return false;
-        }
-    }
-    let mut reader = SlowReader::new(REQUEST, REQUEST.len() + 1, kind);
-    is_read(alloc, &mut reader, Ok(Outcome::Done), REQUEST_LINE)
-}
-
-#[test]
-fn a_read_that_fails_shows_nothing(rt: HostRuntime) {
-    let holds = are_refused(rt.alloc(), ErrorKind::Other, ShowError::CannotRead)
-        && are_refused(rt.alloc(), ErrorKind::OutOfMemory, ShowError::OutOfMemory);
-    assert!(rt; holds);
-}
 
 /// Whether a capture over a writer with these limits ends so, and a beginning of a text of this length was taken.
 fn is_written(
@@ -56,57 +17,6 @@ fn is_written(
     let outcome = show(alloc, &mut capture, &mut writer);
     let taken = writer.taken.as_slice();
     outcome == wanted && taken.len() == length && text.as_bytes().starts_with(taken)
-}
-
-/// The limits of a writer that takes a byte a call, and fails at one.
-fn byte_for_byte(fails_at: usize, takes_nothing: bool) -> Limits {
-    Limits {
-        most: 1,
-        fails_at,
-        takes_nothing,
-    }
-}
-
-/// Whether each call of the writer, failing, leaves what it took before.
-fn leave_beginnings(alloc: Global, takes_nothing: bool) -> bool {
-    for fails_at in 0..REQUEST_LINE.len() {
-        let limits = byte_for_byte(fails_at, takes_nothing);
-        let told = (REQUEST_LINE, fails_at);
-        if !is_written(alloc, REQUEST, limits, Err(ShowError::CannotWrite), told) {
-            return false;
-        }
-    }
-    true
-}
-
-#[test]
-fn a_write_that_fails_leaves_a_beginning(rt: HostRuntime) {
-    let limits = byte_for_byte(REQUEST_LINE.len(), false);
-    let told = (REQUEST_LINE, REQUEST_LINE.len());
-    let holds = leave_beginnings(rt.alloc(), false)
-        && leave_beginnings(rt.alloc(), true)
-        && is_written(rt.alloc(), REQUEST, limits, Ok(Outcome::Done), told);
-    assert!(rt; holds);
-}
-
-/// Two datagrams, the first of which has a fault, and what is shown of them.
-const FAULTY: &[u8] = b"12340421\n-\n";
-
-const FAULTY_LINES: &str = "1 fault Truncated at 4\n2 empty\n";
-
-/// Whether the two datagrams over a writer that takes so many bytes end so.
-fn ends_faulty(alloc: Global, length: usize, wanted: Result<Outcome, ShowError>) -> bool {
-    let limits = byte_for_byte(length, false);
-    is_written(alloc, FAULTY, limits, wanted, (FAULTY_LINES, length))
-}
-
-/// A write that fails after a fault was shown is told, and not the fault.
-#[test]
-fn a_write_that_fails_after_a_fault(rt: HostRuntime) {
-    let length = FAULTY_LINES.len();
-    let holds = ends_faulty(rt.alloc(), length, Ok(Outcome::FaultShown))
-        && ends_faulty(rt.alloc(), length - 1, Err(ShowError::CannotWrite));
-    assert!(rt; holds);
 }
 
 /// Adds a text to another, so many times.
@@ -265,70 +175,11 @@ fn is_payload_refused(alloc: Global, shape: &str, hex: &str) -> bool {
     payload(alloc, shape, hex, &mut out) == Err(PayloadRefusal::BadHex) && out.is_empty()
 }
 
-/// Whether a payload whose writer fails is refused, and a beginning was taken.
-fn is_payload_begun(alloc: Global) -> bool {
-    let mut writer = SlowWriter::new(alloc, byte_for_byte(5, false));
-    payload(alloc, "u8", "07", &mut writer) == Err(PayloadRefusal::CannotWrite)
-        && writer.taken.as_slice() == b"value".as_slice()
-}
-
-/// HEX that is no word of a line of cases, and a writer that fails.
+/// HEX that is no word of a line of cases.
 #[test]
 fn payloads_are_refused(rt: HostRuntime) {
     let holds = is_payload_refused(rt.alloc(), "u8", "00 00")
         && is_payload_refused(rt.alloc(), "u8", "")
-        && is_payload_refused(rt.alloc(), "fixed<0,u8>", "")
-        && is_payload_begun(rt.alloc());
-    assert!(rt; holds);
-}
-
-/// A file of two vectors, and what is printed of them.
-const VECTORS: &[u8] = b"datagram -\n> 1 empty\npayload u8 07\n";
-
-const VERDICTS: &[u8] = b"1 ok\n2 differs\npassed 1 of 2\n";
-
-/// Whether the file ends so, and so many bytes are printed, where a reader gives it byte for byte, a writer takes
-/// the text so, and each of them fails at a call.
-fn is_judged(
-    alloc: Global,
-    read_fails_at: usize,
-    write_fails_at: usize,
-    wanted: Result<Outcome, VectorsError>,
-    length: usize,
-) -> bool {
-    let mut reader = SlowReader::new(VECTORS, read_fails_at, ErrorKind::Other);
-    let mut writer = SlowWriter::new(alloc, byte_for_byte(write_fails_at, false));
-    let outcome = vectors(alloc, &mut reader, &mut writer);
-    let taken = writer.taken.as_slice();
-    outcome == wanted && taken.len() == length && VERDICTS.starts_with(taken)
-}
-
-/// Whether each call of the reader, failing, is told, and nothing is printed.
-fn is_not_judged_unread(alloc: Global) -> bool {
-    for fails_at in 0..=VECTORS.len() {
-        if !is_judged(alloc, fails_at, 1000, Err(VectorsError::CannotRead), 0) {
-            return false;
-        }
-    }
-    true
-}
-
-/// Whether each call of the writer, failing, is told, and leaves what was taken before.
-fn is_begun_unwritten(alloc: Global) -> bool {
-    for fails_at in 0..VERDICTS.len() {
-        let wanted = Err(VectorsError::CannotWrite);
-        if !is_judged(alloc, 1000, fails_at, wanted, fails_at) {
-            return false;
-        }
-    }
-    true
-}
-
-#[test]
-fn vectors_that_cannot_be_read_or_written(rt: HostRuntime) {
-    let wanted = Ok(Outcome::FaultShown);
-    let holds = is_not_judged_unread(rt.alloc())
-        && is_begun_unwritten(rt.alloc())
-        && is_judged(rt.alloc(), 1000, 1000, wanted, VERDICTS.len());
+        && is_payload_refused(rt.alloc(), "fixed<0,u8>", "");
     assert!(rt; holds);
 }

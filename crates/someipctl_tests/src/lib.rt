@@ -4,8 +4,9 @@
 //! print are the cases of `someip_cases`; here stands what no command line shows.
 //!
 //! - `cli`: what words come to, and the texts and statuses of failures;
-//! - `commands`: captures and payloads, and readers and writers that fail;
-//! - `run`: the same of a setup and a schedule;
+//! - `commands`: captures and payloads;
+//! - `failing`: commands over a reader and a writer that fail, for each of their calls;
+//! - `run`: the text of a setup's fault;
 //! - `slow`: readers and writers that move few bytes a call.
 #![tactic(auto)]
 
@@ -13,6 +14,8 @@
 mod cli;
 #[cfg(test)]
 mod commands;
+#[cfg(test)]
+mod failing;
 #[cfg(test)]
 mod run;
 #[cfg(test)]
