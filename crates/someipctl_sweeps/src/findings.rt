@@ -1,0 +1,45 @@
+//! What a sweep finds wrong.
+
+use std::alloc::{AllocError, Global};
+use std::fmt::Display;
+
+/// What a sweep found wrong so far: a line for each finding, which names the input and the fault.
+#[derive(Drop)]
+pub struct Findings {
+    alloc: Global,
+    lines: Vec<String>,
+}
+
+impl Findings {
+    /// No findings.
+    pub fn new(alloc: Global) -> Findings {
+        Findings {
+            alloc,
+            lines: Vec::new(alloc),
+        }
+    }
+
+    /// Adds a finding: an input, and what is wrong with what the stack makes of it.
+    pub fn add<I: Display, W: Display>(&mut self, input: &I, wrong: &W) -> Result<(), AllocError> {
+        let line = format!(in self.alloc; "{input}: {wrong}")?;
+        self.lines.push(line)?;
+        Ok(())
+    }
+
+    /// Adds a finding where a judgement of an input is one.
+    pub fn judge<I: Display, W: Display + Drop>(
+        &mut self,
+        input: &I,
+        judgement: Result<(), W>,
+    ) -> Result<(), AllocError> {
+        match judgement {
+            Ok(()) => Ok(()),
+            Err(wrong) => self.add(input, &wrong),
+        }
+    }
+
+    /// The lines, in the order in which they were added.
+    pub fn lines(&self) -> &[String] {
+        self.lines.as_slice()
+    }
+}

@@ -1,0 +1,29 @@
+//! The sweep over the fronts of a message.
+
+use crate::error::SweepError;
+use crate::findings::Findings;
+use crate::report::Report;
+use crate::worked::OFFER;
+use someipctl_commands::show::text_of_datagram;
+use std::alloc::{AllocError, Global};
+
+/// Shows each proper front of the worked Offer but the empty one: it is a fault at its end.
+pub fn sweep(alloc: Global) -> Result<Report, SweepError> {
+    let mut findings = Findings::new(alloc);
+    let whole = OFFER.len();
+    for len in 1..whole {
+        if !is_fault(alloc, OFFER.get(..len).unwrap_or(&OFFER))? {
+            findings.add(&format_args!("front of {len}"), &"shown otherwise")?;
+        }
+    }
+    let done = format!(in alloc; "fronts: those of a message of {whole} bytes")?;
+    Ok(Report { done, findings })
+}
+
+/// Whether a front is shown as a fault at its end.
+fn is_fault(alloc: Global, front: &[u8]) -> Result<bool, AllocError> {
+    let len = front.len();
+    let shown = text_of_datagram(alloc, front)?;
+    let wanted = format!(in alloc; "1 fault Truncated at {len}\n")?;
+    Ok(shown.as_slice() == wanted.as_bytes())
+}

@@ -1,0 +1,121 @@
+//! What a node makes of datagrams.
+
+use crate::inputs::trial::{EVENTGROUP, INSTANCE, Past, Port, Trial, known_after};
+use crate::inputs::wrong::InputWrong;
+use crate::worked::{ACK, ANSWER, OFFER};
+use someip_node::{Config, Node, NodeError, Output};
+use someip_rpc::{CallKind, MessageId, RpcError};
+use someip_tp::IntervalPool;
+use std::alloc::Global;
+use std::net::SocketAddrV4;
+
+/// The delay of the node's start, in milliseconds.
+const DELAY: u32 = 10;
+
+/// The method that is called.
+const METHOD: u16 = 0x0421;
+
+/// The payload of the calls.
+const PAYLOAD: [u8; 2] = [1, 2];
+
+/// Hands a datagram to a node of this configuration by a trial, and then judges its answer to a call.
+pub fn judge_node(
+    alloc: Global,
+    config: &Config,
+    trial: Trial,
+    bytes: &[u8],
+) -> Result<(), InputWrong> {
+    let mut node = started(alloc, config)?;
+    if let Past::Worked = trial.past {
+        work(&mut node).map_err(InputWrong::Refused)?;
+    }
+    let outputs = carry(&mut node, trial.way.from, trial.way.to, bytes).map_err(
+        InputWrong::Refused,
+    )?;
+    let known = known_after(trial.past.known(), &outputs);
+    judge_call(call(&mut node), known, trial.past.next_session())
+}
+
+/// A node of this configuration, at its start.
+fn started(alloc: Global, config: &Config) -> Result<Node<IntervalPool>, InputWrong> {
+    let config = config.clone()?;
+    Node::start(alloc, config, DELAY).map_err(InputWrong::Refused)
+}
+
+/// Takes the node through what it did in the first nine steps of the worked run.
+fn work(node: &mut Node<IntervalPool>) -> Result<(), NodeError> {
+    carry(node, Port::SD_OF_SERVER, Port::SD_OF_ALL, &OFFER)?;
+    call(node)?;
+    carry(node, Port::SERVER, Port::CLIENT, &ANSWER)?;
+    subscribe(node)?;
+    carry(node, Port::SD_OF_SERVER, Port::SD_OF_CLIENT, &ACK)?;
+    Ok(())
+}
+
+fn carry(
+    node: &mut Node<IntervalPool>,
+    from: Port,
+    to: Port,
+    bytes: &[u8],
+) -> Result<Vec<Output>, NodeError> {
+    node.on_datagram(from.endpoint(), to.endpoint(), bytes)
+}
+
+fn call(node: &mut Node<IntervalPool>) -> Result<Vec<Output>, NodeError> {
+    node.call(CallKind::Request, INSTANCE, METHOD, &PAYLOAD)
+}
+
+fn subscribe(node: &mut Node<IntervalPool>) -> Result<Vec<Output>, NodeError> {
+    node.subscribe(EVENTGROUP)
+}
+
+/// The answer to a call is the one that is owed where the instance is known there: a request with this
+/// session goes to it, and where it is known nowhere the call is refused.
+fn judge_call(
+    answer: Result<Vec<Output>, NodeError>,
+    known: Option<SocketAddrV4>,
+    session: u16,
+) -> Result<(), InputWrong> {
+    let is_owed = match (answer, known) {
+        (Ok(outputs), Some(to)) => is_request(&outputs, to, session),
+        (Err(NodeError::Rpc(RpcError::NotOffered)), None) => true,
+        _ => false,
+    };
+    if is_owed {
+        Ok(())
+    } else {
+        Err(InputWrong::OtherAnswer)
+    }
+}
+
+/// Whether outputs tell that a request with this session goes there.
+fn is_request(outputs: &[Output], known: SocketAddrV4, session: u16) -> bool {
+    match outputs {
+        [
+            Output::Called {
+                message,
+                session: called,
+            },
+            Output::Sent { from, to, bytes },
+        ] => {
+            let is_called = *message == METHOD_ID && *called == session;
+            let is_addressed = *from == Port::CLIENT.endpoint() && *to == known;
+            is_called && is_addressed && bytes.as_slice() == request(session).as_slice()
+        }
+        _ => false,
+    }
+}
+
+/// What is called.
+const METHOD_ID: MessageId = MessageId {
+    service: 0x1111,
+    method: METHOD,
+};
+
+/// The bytes of the request with a session.
+fn request(session: u16) -> [u8; 18] {
+    let [high, low] = session.to_be_bytes();
+    [
+        0x11, 0x11, 0x04, 0x21, 0, 0, 0, 0x0a, 0x01, 0x02, high, low, 1, 1, 0, 0, 1, 2,
+    ]
+}

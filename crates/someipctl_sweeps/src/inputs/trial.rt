@@ -1,0 +1,144 @@
+//! The nodes that datagrams are handed to, and the ways by which they come.
+
+use sd_core::{Eventgroup, InstanceId};
+use someip_node::Output;
+use std::fmt;
+use std::net::{Ipv4Addr, SocketAddrV4};
+
+/// The instance that the node wants.
+pub const INSTANCE: InstanceId = InstanceId {
+    service: 0x1111,
+    instance: 1,
+};
+
+/// An eventgroup of it.
+pub const EVENTGROUP: Eventgroup = Eventgroup {
+    instance: INSTANCE,
+    id: 1,
+};
+
+/// A host, where 0 is the multicast group and n the address 192.168.0.n, and a port.
+#[derive(Clone, Copy, Debug)]
+pub struct Port(u8, u16);
+
+impl Port {
+    /// The endpoint of Service Discovery of the node that offers.
+    pub const SD_OF_SERVER: Port = Port(1, 30490);
+    /// The endpoint of the instance.
+    pub const SERVER: Port = Port(1, 30509);
+    /// The endpoint of Service Discovery of the node that wants.
+    pub const SD_OF_CLIENT: Port = Port(2, 30490);
+    /// The endpoint of Service Discovery of all nodes.
+    pub const SD_OF_ALL: Port = Port(0, 30490);
+    /// The endpoint of the client.
+    pub const CLIENT: Port = Port(2, 40001);
+
+    /// Its endpoint.
+    pub fn endpoint(self) -> SocketAddrV4 {
+        let address = if self.0 == 0 {
+            Ipv4Addr::new(239, 0, 0, 1)
+        } else {
+            Ipv4Addr::new(192, 168, 0, self.0)
+        };
+        SocketAddrV4::new(address, self.1)
+    }
+}
+
+/// By which way a datagram comes.
+#[derive(Clone, Copy, Debug)]
+pub struct Way {
+    /// From where.
+    pub from: Port,
+    /// To where.
+    pub to: Port,
+}
+
+/// The ways: from the two endpoints of the node that offers, to the three of the node that wants.
+pub const WAYS: [Way; 6] = [
+    Way {
+        from: Port::SD_OF_SERVER,
+        to: Port::SD_OF_CLIENT,
+    },
+    Way {
+        from: Port::SD_OF_SERVER,
+        to: Port::SD_OF_ALL,
+    },
+    Way {
+        from: Port::SD_OF_SERVER,
+        to: Port::CLIENT,
+    },
+    Way {
+        from: Port::SERVER,
+        to: Port::SD_OF_CLIENT,
+    },
+    Way {
+        from: Port::SERVER,
+        to: Port::SD_OF_ALL,
+    },
+    Way {
+        from: Port::SERVER,
+        to: Port::CLIENT,
+    },
+];
+
+/// What the node went through before.
+#[derive(Clone, Copy, Debug)]
+pub enum Past {
+    /// Nothing.
+    New,
+    /// The first nine steps of the worked run: it knows the offer, had a call answered, and is subscribed.
+    Worked,
+}
+
+/// Both.
+pub const PASTS: [Past; 2] = [Past::New, Past::Worked];
+
+impl Past {
+    /// Where the node knows the instance.
+    pub fn known(self) -> Option<SocketAddrV4> {
+        match self {
+            Past::New => None,
+            Past::Worked => Some(Port::SERVER.endpoint()),
+        }
+    }
+
+    /// The session of the node's next call: one was made in the worked run.
+    pub fn next_session(self) -> u16 {
+        match self {
+            Past::New => 1,
+            Past::Worked => 2,
+        }
+    }
+}
+
+/// Where the node knows the instance after it gave outputs: these tell it, or it is as before.
+pub fn known_after(before: Option<SocketAddrV4>, outputs: &[Output]) -> Option<SocketAddrV4> {
+    let mut known = before;
+    for output in outputs {
+        match output {
+            Output::Known { instance, endpoint } if *instance == INSTANCE => {
+                known = Some(*endpoint);
+            }
+            Output::Gone { instance } if *instance == INSTANCE => known = None,
+            _ => {}
+        }
+    }
+    known
+}
+
+/// A way to a node.
+#[derive(Clone, Copy, Debug)]
+pub struct Trial {
+    /// By which way the datagram comes.
+    pub way: Way,
+    /// What the node went through before.
+    pub past: Past,
+}
+
+impl fmt::Display for Trial {
+    fn fmt<W: fmt::Write>(&self, f: &mut fmt::Formatter<W>) -> fmt::Result {
+        let from = self.way.from.endpoint();
+        let to = self.way.to.endpoint();
+        write!(f, "from {from} to {to}, node {:?}", self.past)
+    }
+}

@@ -1,0 +1,75 @@
+//! Whether the lines of a run hang together.
+
+use crate::schedules::life::Life;
+use crate::schedules::schedule::Schedule;
+use crate::schedules::wrong::ScheduleWrong;
+use someip_node::Output;
+use someip_world::{Line, SetupNode, Step, Told};
+use someip_world_rules::place_of;
+use std::alloc::{AllocError, Global};
+
+/// Judges the run of a schedule over the nodes of a setup by its lines alone.
+pub fn judge(alloc: Global, nodes: &[SetupNode], schedule: &Schedule) -> Result<(), ScheduleWrong> {
+    let mut lives = lives_of(alloc, nodes)?;
+    let lines = schedule.trace.lines.as_slice();
+    let senders = senders_in(alloc, lines)?;
+    for (place, step) in schedule.steps.iter().enumerate() {
+        let node = place_of(nodes, step.node().as_str()).unwrap_or(0);
+        if let Some(life) = lives.get_mut(node) {
+            take_step(life, step, node, &senders);
+            take_lines(life, step, place.saturating_add(1), lines)?;
+        }
+    }
+    Ok(())
+}
+
+/// The first life of each node.
+fn lives_of(alloc: Global, nodes: &[SetupNode]) -> Result<Vec<Life>, AllocError> {
+    let mut lives = Vec::new(alloc);
+    for _node in nodes {
+        lives.push(Life::new(alloc))?;
+    }
+    Ok(lives)
+}
+
+/// The place in the setup of the node that sent each datagram.
+fn senders_in(alloc: Global, lines: &[Line]) -> Result<Vec<usize>, AllocError> {
+    let mut senders = Vec::new(alloc);
+    for line in lines {
+        if let Told::Gave(Output::Sent { .. }) = &line.told {
+            senders.push(line.node)?;
+        }
+    }
+    Ok(senders)
+}
+
+/// Takes a step of the node at a place of the setup.
+fn take_step(life: &mut Life, step: &Step, node: usize, senders: &[usize]) {
+    match step {
+        Step::Restart { .. } => life.begin_anew(),
+        Step::Deliver { number, .. } => {
+            let sender = senders.get(number.saturating_sub(1) as usize);
+            if sender.is_some_and(|sender| *sender != node) {
+                life.hear();
+            }
+        }
+        _ => {}
+    }
+}
+
+/// Takes the lines of a step. Only the step's own node gives something in it.
+fn take_lines(
+    life: &mut Life,
+    step: &Step,
+    index: usize,
+    lines: &[Line],
+) -> Result<(), ScheduleWrong> {
+    for line in lines {
+        if line.step == index
+            && let Told::Gave(output) = &line.told
+        {
+            life.take(step, index, output)?;
+        }
+    }
+    Ok(())
+}

@@ -1,0 +1,119 @@
+//! What the lines of a run so far tell of its world.
+
+use someip_node::Output;
+use someip_world::{Line, Step, Told};
+use std::alloc::{AllocError, Global};
+use std::net::SocketAddrV4;
+
+/// A datagram that was sent.
+#[derive(Clone, Copy, Debug)]
+pub struct Sent {
+    /// The place in the setup of the node that sent it.
+    pub sender: usize,
+    /// Where it was sent to.
+    pub to: SocketAddrV4,
+    /// Whether a step has delivered it.
+    pub is_delivered: bool,
+}
+
+/// A request that waits for its answer.
+#[derive(Clone, Copy, Debug, PartialEq, Eq)]
+pub struct Open {
+    /// The place in the setup of the node that handed it up.
+    pub node: usize,
+    /// What its answer names.
+    pub token: u64,
+}
+
+/// What the lines of a run so far tell.
+#[derive(Drop)]
+pub struct World {
+    /// The datagrams that were sent, of which the first has the number 1.
+    pub sent: Vec<Sent>,
+    /// The requests that wait, in the order in which they came.
+    pub open: Vec<Open>,
+    /// How many lines were taken.
+    taken: usize,
+}
+
+impl World {
+    /// A world in which nothing has happened.
+    pub fn new(alloc: Global) -> World {
+        World {
+            sent: Vec::new(alloc),
+            open: Vec::new(alloc),
+            taken: 0,
+        }
+    }
+
+    /// Takes a step of the node at a place of the setup.
+    pub fn take_step(&mut self, step: &Step, node: usize) {
+        match step {
+            Step::Deliver { number, .. } => self.note_delivery(*number),
+            Step::Restart { .. } => self.open.retain(|open| open.node != node),
+            Step::Answer { token, .. } => self.close(node, *token),
+            _ => {}
+        }
+    }
+
+    /// Takes the lines of all steps so far, of which it has taken some.
+    pub fn take_lines(&mut self, lines: &[Line]) -> Result<(), AllocError> {
+        for line in lines.get(self.taken..).unwrap_or(&[]) {
+            self.take_line(line)?;
+        }
+        self.taken = lines.len();
+        Ok(())
+    }
+
+    fn note_delivery(&mut self, number: u64) {
+        if let Some(sent) = self.sent.get_mut(number.saturating_sub(1) as usize) {
+            sent.is_delivered = true;
+        }
+    }
+
+    /// A request of this token waits no more; of an answer that is refused it does not either, which only
+    /// keeps the token from being drawn again.
+    fn close(&mut self, node: usize, token: u64) {
+        let answered = Open { node, token };
+        self.open.retain(|open| *open != answered);
+    }
+
+    fn take_line(&mut self, line: &Line) -> Result<(), AllocError> {
+        match &line.told {
+            Told::Gave(Output::Sent { to, .. }) => self.sent.push(Sent {
+                sender: line.node,
+                to: *to,
+                is_delivered: false,
+            })?,
+            Told::Gave(
+                Output::Request {
+                    token: Some(token),
+                    ..
+                },
+            ) => self.open.push(Open {
+                node: line.node,
+                token: *token,
+            })?,
+            _ => {}
+        }
+        Ok(())
+    }
+
+    /// The token of the first request that waits at a node.
+    pub fn first_open(&self, node: usize) -> Option<u64> {
+        self.open
+            .iter()
+            .find(|open| open.node == node)
+            .map(|open| open.token)
+    }
+
+    /// The place among those sent of the first datagram that no step has delivered.
+    pub fn first_undelivered(&self) -> Option<usize> {
+        self.sent.iter().position(|sent| !sent.is_delivered)
+    }
+
+    /// The place among those sent of the last datagram that no step has delivered.
+    pub fn last_undelivered(&self) -> Option<usize> {
+        self.sent.iter().rposition(|sent| !sent.is_delivered)
+    }
+}
