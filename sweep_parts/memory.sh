@@ -1,0 +1,128 @@
+# memory: each growth of memory is refused in turn.
+#
+# The program someipctl_growths does the calls of one kind, three times in one process; it ends with status 1 and says
+# which act answered otherwise than it has to. The program someipctl is judged by what it prints.
+#
+# Some calls ask for memory a second time where the first is refused, and go on. So where a run does not differ although
+# a growth was refused, the next ones are refused with it, up to this many.
+most_in_a_row=6
+
+# What someipctl_growths sweeps; of the nodes an act cannot be left out, since a node that was refused memory fails.
+kinds="wire segment-list interval-pool payloads messages sessions offers seeker subscribers subscriptions client server runs"
+kinds_of_nodes="server-node client-node"
+
+# Calls a program whose growth $1 is refused, and the ones behind it, $2 in all. Keeps the exit status, what came on
+# standard output and standard error, and how many growths there were.
+call_refused() {
+    REFUSED_GROWTH=$1
+    REFUSED_GROWTHS=$2
+    GROWTHS_SEEN=$scratch/seen
+    shift 2
+    rm -f "$scratch/seen"
+    export REFUSED_GROWTH REFUSED_GROWTHS GROWTHS_SEEN
+    LD_PRELOAD=$scratch/refused_growths.so "$@" >"$scratch/out" 2>"$scratch/err"
+    status=$?
+    seen=$(cat "$scratch/seen" 2>/dev/null || echo 0)
+}
+
+# Whether the call before met a refusal, and differs in nothing from one that meets none: then $2 is the text on
+# standard output and $3 the status.
+is_tolerated() {
+    [ "$seen" -ge "$1" ] && [ "$status" = "$3" ] && cmp -s "$scratch/out" "$2"
+}
+
+# Calls the program after the words $2 and $3 with growth $1 refused, and with so many behind it that the call differs
+# from one that meets no refusal, which has the text of the file $2 on standard output and the status $3.
+call_until_refused() {
+    growth=$1
+    unrefused=$2
+    ends=$3
+    shift 3
+    row=1
+    call_refused "$growth" "$row" "$@"
+    while is_tolerated "$growth" "$unrefused" "$ends" && [ "$row" -lt "$most_in_a_row" ]; do
+        row=$((row + 1))
+        call_refused "$growth" "$row" "$@"
+    done
+}
+
+# Tells a finding about growth $growth of what $1 names.
+tell_growth() {
+    findings=$((findings + 1))
+    echo "$part: $1, growth $growth ($row refused): $2"
+}
+
+# Refuses each growth of the sweep of the kind $1 in turn, and does the act that was refused memory again, or leaves it
+# out, as $2 says.
+sweep_kind() {
+    echo unrefused >"$scratch/unrefused"
+    growth=1
+    while :; do
+        call_until_refused "$growth" "$scratch/unrefused" 0 "$growths_program" "$1" "$2" whole
+        [ "$seen" -ge "$growth" ] || break
+        growths=$((growths + 1))
+        came=$(cat "$scratch/out")
+        case "$status $came" in
+        "0 refused "*) judged=$((judged + 1)) ;;
+        "0 " | "0 unjudged") ;;
+        *) tell_growth "$1 $2" "status $status, $came" ;;
+        esac
+        growth=$((growth + 1))
+    done
+    [ "$status $(cat "$scratch/out")" = "0 unrefused" ] || tell_growth "$1 $2" "nothing was refused, status $status, $(cat "$scratch/out")"
+}
+
+# The acts that take no memory meet no growth: with them there are as many as without them.
+sweep_without_memory() {
+    call_refused 0 1 "$growths_program" "$1" again whole
+    whole=$seen
+    call_refused 0 1 "$growths_program" "$1" again bare
+    growth=0
+    row=0
+    [ "$whole" = "$seen" ] || tell_growth "$1" "$whole growths with the acts that take no memory, $seen without them"
+}
+
+# Whether the text of the file $1 is a beginning of that of the file $2.
+is_beginning() {
+    head -c "$(wc -c <"$1" | tr -d ' ')" "$2" | cmp -s "$1" -
+}
+
+# Refuses each growth in turn of the program on these words.
+sweep_program() {
+    call_refused 0 1 "$program" "$@"
+    cp "$scratch/out" "$scratch/unrefused"
+    ended=$status
+    growth=1
+    while :; do
+        call_until_refused "$growth" "$scratch/unrefused" "$ended" "$program" "$@"
+        [ "$seen" -ge "$growth" ] || break
+        growths=$((growths + 1))
+        judged=$((judged + 1))
+        came=$(cat "$scratch/err")
+        [ "$status $came" = "3 out of memory" ] && is_beginning "$scratch/out" "$scratch/unrefused" ||
+            tell_growth "someipctl $1" "status $status, error '$came', $(wc -c <"$scratch/out" | tr -d ' ') bytes printed"
+        growth=$((growth + 1))
+    done
+}
+
+sweep_memory() {
+    begin_part memory
+    growths=0
+    judged=0
+    cc -O1 -shared -fPIC -o "$scratch/refused_growths.so" "$here/sweep_parts/refused_growths.c" || return 1
+    for kind in $kinds; do
+        sweep_kind "$kind" again
+        sweep_kind "$kind" left-out
+        sweep_without_memory "$kind"
+    done
+    for kind in $kinds_of_nodes; do
+        sweep_kind "$kind" again
+        sweep_without_memory "$kind"
+    done
+    sweep_program show "$examples/segments.txt"
+    sweep_program payload 'array/8<2,array/8<2,u8>>' 050201020103
+    sweep_program vectors "$examples/vectors/two.txt"
+    sweep_program run "$examples/runs/two.toml" "$examples/runs/two.txt"
+    [ "$findings" -eq 0 ] || return 1
+    echo "$part: $growths growths refused, $judged of them judged, no finding"
+}
