@@ -84,7 +84,6 @@ const ACTS: &[Act] = &[
     Call(CallKind::Request, 0x0421, &[1, 2]),
     Subscribe(1),
     Tick(4000),
-    Call(CallKind::Request, 0x0421, &[]),
     // From here on none takes any.
     Subscribe(2),
     Unsubscribe(2),
