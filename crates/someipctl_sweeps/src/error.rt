@@ -7,8 +7,8 @@ use thiserror::Error;
 /// Why a sweep could not be made. What a sweep finds wrong with the stack is none of these.
 #[derive(Clone, Copy, Debug, PartialEq, Eq, Error)]
 pub enum SweepError {
-    /// A word names no sweep.
-    #[error("usage: someipctl_sweeps [schedules] [inputs] [fronts]")]
+    /// A word is neither the name of a sweep nor the number of a schedule.
+    #[error("usage: someipctl_sweeps [schedules] [inputs] [fronts] [NUMBER]")]
     Usage,
     /// A file of the data could not be read.
     #[error("cannot read the data")]

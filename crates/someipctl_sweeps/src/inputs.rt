@@ -148,9 +148,11 @@ impl Inputs<'_> {
 
     /// Reads the payload of each message of a vector, cut and changed, as Service Discovery.
     fn sweep_messages(&mut self, number: usize, whole: &[u8]) -> Result<(), SweepError> {
-        for (index, item) in Messages::new(whole).enumerate() {
+        let mut number_of_message = 0usize;
+        for item in Messages::new(whole) {
+            number_of_message = number_of_message.saturating_add(1);
             if let Ok(message) = item {
-                let origin = Origin::PayloadOf(number, index.saturating_add(1));
+                let origin = Origin::PayloadOf(number, number_of_message);
                 self.sweep_discovery(origin, message.payload)?;
             }
         }

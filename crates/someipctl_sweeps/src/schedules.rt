@@ -14,10 +14,11 @@ use crate::findings::Findings;
 use crate::report::Report;
 use judging::judge;
 use reached::Reached;
-use schedule::Schedule;
+use schedule::{STEPS, Schedule};
 use someip_world::Setup;
 use std::alloc::{AllocError, Global};
 use std::fmt;
+use wrong::ScheduleWrong;
 
 /// How many schedules are drawn: the first is that of the seed 1.
 const SCHEDULES: u64 = 1000;
@@ -36,20 +37,39 @@ impl fmt::Display for Seed {
 pub fn sweep(alloc: Global, setup: &Setup) -> Result<Report, SweepError> {
     let mut findings = Findings::new(alloc);
     let mut reached = Reached::new(alloc)?;
-    let mut steps = 0usize;
     for seed in 1..=SCHEDULES {
-        match Schedule::draw(alloc, setup, seed) {
-            Ok(schedule) => {
-                reached.count(&schedule);
-                steps = schedule.steps.len();
-                findings.judge(&Seed(seed), judge(alloc, setup.nodes(), &schedule))?;
-            }
-            Err(wrong) => findings.add(&Seed(seed), &wrong)?,
-        }
+        let judgement = judge_seed(alloc, setup, seed, &mut reached);
+        findings.judge(&Seed(seed), judgement)?;
     }
     find_missed(alloc, &reached, &mut findings)?;
-    let done = format!(in alloc; "schedules: {SCHEDULES} of {steps} steps")?;
+    let done = format!(in alloc; "schedules: {SCHEDULES} of {STEPS} steps")?;
     Ok(Report { done, findings })
+}
+
+/// Draws and judges the schedule of a seed, and counts what it reaches.
+fn judge_seed(
+    alloc: Global,
+    setup: &Setup,
+    seed: u64,
+    reached: &mut Reached,
+) -> Result<(), ScheduleWrong> {
+    let mut schedule = Schedule::new(alloc, setup)?;
+    schedule.draw(alloc, setup, seed)?;
+    reached.count(&schedule);
+    judge(alloc, setup.nodes(), &schedule)
+}
+
+/// The lines of the schedule of a seed, and what is wrong with it after them, if something is.
+pub fn text_of(alloc: Global, setup: &Setup, seed: u64) -> Result<String, SweepError> {
+    let mut schedule = match Schedule::new(alloc, setup) {
+        Ok(schedule) => schedule,
+        Err(_) => return Err(SweepError::OutOfMemory),
+    };
+    let text = match schedule.draw(alloc, setup, seed) {
+        Ok(()) => schedule.text.clone()?,
+        Err(wrong) => format!(in alloc; "{}# {wrong}\n", schedule.text)?,
+    };
+    Ok(text)
 }
 
 /// A finding for each milestone that no schedule reached.

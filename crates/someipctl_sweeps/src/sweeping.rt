@@ -1,4 +1,4 @@
-//! The sweeps that the words name, one after the other.
+//! What the program's words ask for, one after the other.
 
 use crate::error::SweepError;
 use crate::report::Report;
@@ -14,7 +14,7 @@ const SETUP: &str = "two.toml";
 /// The file of the vectors.
 const VECTORS: &str = "all.txt";
 
-/// A sweep.
+/// What a word asks for.
 #[derive(Clone, Copy, Debug)]
 enum Sweep {
     /// Schedules that are drawn.
@@ -23,43 +23,51 @@ enum Sweep {
     Inputs,
     /// Fronts of a message.
     Fronts,
+    /// No sweep: the lines of the schedule of a number.
+    LinesOf(u64),
 }
 
 impl Sweep {
-    /// The sweep of a name.
-    fn named(name: &str) -> Option<Sweep> {
-        match name {
+    /// What a word asks for.
+    fn of_word(word: &str) -> Option<Sweep> {
+        match word {
             "schedules" => Some(Sweep::Schedules),
             "inputs" => Some(Sweep::Inputs),
             "fronts" => Some(Sweep::Fronts),
-            _ => None,
+            number => number.parse::<u64>().ok().map(Sweep::LinesOf),
         }
     }
 }
 
-/// Makes the sweeps that the program's words name, and prints what each comes to. It answers whether none
-/// of them found anything.
+/// Does what the program's words ask for, and prints what each comes to. It answers whether nothing was found.
 pub fn sweep_all<R: Files + Env + Print + AllocGlobal>(rt: &R) -> Result<bool, SweepError> {
     let setup = read_setup(rt)?;
     let mut is_clean = true;
     for word in env::args(rt)?.skip(1) {
-        let sweep = Sweep::named(word.as_str()).ok_or(SweepError::Usage)?;
-        let report = make(rt, sweep, &setup)?;
-        print(rt, &report)?;
-        is_clean = is_clean && report.findings.lines().is_empty();
+        let sweep = Sweep::of_word(word.as_str()).ok_or(SweepError::Usage)?;
+        is_clean = make(rt, sweep, &setup)? && is_clean;
     }
     Ok(is_clean)
 }
 
-/// Makes a sweep.
-fn make<R: Files + AllocGlobal>(rt: &R, sweep: Sweep, setup: &Setup) -> Result<Report, SweepError> {
+/// Makes a sweep, and prints what it comes to. It answers whether nothing was found.
+fn make<R: Files + Print + AllocGlobal>(
+    rt: &R,
+    sweep: Sweep,
+    setup: &Setup,
+) -> Result<bool, SweepError> {
     match sweep {
-        Sweep::Schedules => schedules::sweep(rt.alloc(), setup),
+        Sweep::Schedules => print(rt, &schedules::sweep(rt.alloc(), setup)?),
         Sweep::Inputs => {
             let text = read_text(rt, VECTORS)?;
-            inputs::sweep(rt.alloc(), setup, text.as_str())
+            print(rt, &inputs::sweep(rt.alloc(), setup, text.as_str())?)
         }
-        Sweep::Fronts => fronts::sweep(rt.alloc()),
+        Sweep::Fronts => print(rt, &fronts::sweep(rt.alloc())?),
+        Sweep::LinesOf(seed) => {
+            let text = schedules::text_of(rt.alloc(), setup, seed)?;
+            print!(rt; "{text}")?;
+            Ok(true)
+        }
     }
 }
 
@@ -84,11 +92,12 @@ fn read_text<R: Files + AllocGlobal>(rt: &R, path: &str) -> Result<String, Sweep
     }
 }
 
-/// Prints what a sweep comes to: a line with its counts, and one for each finding.
-fn print<R: Print>(rt: &R, report: &Report) -> Result<(), SweepError> {
+/// Prints what a sweep comes to: a line with its counts, and one for each finding. It answers whether there
+/// is none.
+fn print<R: Print>(rt: &R, report: &Report) -> Result<bool, SweepError> {
     println!(rt; "{report}")?;
     for line in report.findings.lines() {
         println!(rt; "{line}")?;
     }
-    Ok(())
+    Ok(report.findings.lines().is_empty())
 }

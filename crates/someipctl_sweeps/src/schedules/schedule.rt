@@ -15,6 +15,9 @@ const ROUNDS: usize = 10;
 /// How many steps a round has.
 const STEPS_OF_ROUND: usize = 5;
 
+/// How many steps a schedule has.
+pub const STEPS: usize = ROUNDS * STEPS_OF_ROUND;
+
 /// A schedule that was drawn, and what its run gave.
 #[derive(Drop)]
 pub struct Schedule {
@@ -27,21 +30,8 @@ pub struct Schedule {
 }
 
 impl Schedule {
-    /// Draws the schedule of a seed over a setup, round by round. The steps of a round are drawn with regard
-    /// to the lines that the rounds before it gave, for which those are run.
-    pub fn draw(alloc: Global, setup: &Setup, seed: u64) -> Result<Schedule, ScheduleWrong> {
-        let mut draws = Draws::new(seed);
-        let mut world = World::new(alloc);
-        let mut schedule = Schedule::empty(alloc, setup)?;
-        for _round in 0..ROUNDS {
-            schedule.draw_round(alloc, setup, &mut draws, &mut world)?;
-            schedule.trace = run::<IntervalPool>(alloc, setup, &schedule.steps)?;
-            world.take_lines(&schedule.trace.lines)?;
-        }
-        Ok(schedule)
-    }
-
-    fn empty(alloc: Global, setup: &Setup) -> Result<Schedule, ScheduleWrong> {
+    /// A schedule without steps, whose run gives nothing.
+    pub fn new(alloc: Global, setup: &Setup) -> Result<Schedule, ScheduleWrong> {
         let steps = Vec::new(alloc);
         let trace = run::<IntervalPool>(alloc, setup, &steps)?;
         Ok(Schedule {
@@ -49,6 +39,20 @@ impl Schedule {
             steps,
             trace,
         })
+    }
+
+    /// Draws the steps of a seed over a setup, round by round. The steps of a round are drawn with regard to
+    /// the lines that the rounds before it gave, for which those are run. Where something is wrong, the
+    /// lines that were drawn until then stand in the text.
+    pub fn draw(&mut self, alloc: Global, setup: &Setup, seed: u64) -> Result<(), ScheduleWrong> {
+        let mut draws = Draws::new(seed);
+        let mut world = World::new(alloc);
+        for _round in 0..ROUNDS {
+            self.draw_round(alloc, setup, &mut draws, &mut world)?;
+            self.trace = run::<IntervalPool>(alloc, setup, &self.steps)?;
+            world.take_lines(&self.trace.lines)?;
+        }
+        Ok(())
     }
 
     /// Draws the steps of a round.
@@ -72,6 +76,9 @@ impl Schedule {
         self.text.push_str(line)?;
         self.text.push('\n')?;
         let mut steps = read_schedule(alloc, line.as_bytes()).map_err(|_| ScheduleWrong::BadLine)?;
+        if steps.len() != 1 {
+            return Err(ScheduleWrong::BadLine);
+        }
         self.steps.append(&mut steps)?;
         Ok(())
     }

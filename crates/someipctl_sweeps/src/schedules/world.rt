@@ -16,7 +16,7 @@ pub struct Sent {
     pub is_delivered: bool,
 }
 
-/// A request that waits for its answer.
+/// A request that waits for its answer, as far as the steps tell.
 #[derive(Clone, Copy, Debug, PartialEq, Eq)]
 pub struct Open {
     /// The place in the setup of the node that handed it up.
@@ -71,8 +71,7 @@ impl World {
         }
     }
 
-    /// A request of this token waits no more; of an answer that is refused it does not either, which only
-    /// keeps the token from being drawn again.
+    /// A request of this token waits no more, also where the node refuses the answer.
     fn close(&mut self, node: usize, token: u64) {
         let answered = Open { node, token };
         self.open.retain(|open| *open != answered);
