@@ -83,6 +83,9 @@ fn append_good(entries: &mut Vec<Entry>, read: Vec<ReadEntry>) -> Result<(), All
 
 impl Messages {
     fn write(&mut self, answers: &mut Answers) -> Result<Told, Trouble> {
+        if self.entries.len() > 65535 {
+            return tell_value(answers, &"too many entries");
+        }
         let message = SdMessage {
             flags: SdFlags::from_byte(0xc0),
             entries: self.entries.as_slice(),

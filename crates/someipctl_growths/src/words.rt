@@ -145,8 +145,8 @@ fn tell_wrong<R: Print>(rt: &R, sweep: &Sweep, act: usize) -> std::io::Result<()
 }
 
 fn text_of(bytes: Option<&[u8]>) -> &str {
-    match bytes.map(str::from_utf8) {
-        Some(Ok(text)) => text,
-        _ => "nothing",
+    match bytes {
+        Some(bytes) => str::from_utf8(bytes).unwrap_or("no text"),
+        None => "nothing",
     }
 }
