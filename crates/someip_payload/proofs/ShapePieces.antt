@@ -3,39 +3,38 @@ use Rattle.std.proofs.Common.{rules, ◌≡◌, ℕ, ◌<◌, ◌≤◌, ◌^◌
 use Rattle.std.specs.Prelude.{Result, Ok, Err, IfOk}
 use Rattle.std.specs.Fmt.{decimal}
 use Rattle.std.specs.declared.boxed.Box.{Box}
-use Rattle.someip_payload.specs.declared.number.Size.TheVariants.{S8, S16, S32, S64}
 use Rattle.someip_payload.specs.declared.shape_text_error.ShapeTextError.{ShapeTextError}
-use Rattle.someip_payload.specs.declared.shape.Shape.{Shape, Bool, U8, U16, U32, U64, I8, I16, I32, I64, Text, Array, Fixed, Struct, Union, the_lemmas}
-use Rattle.someip_payload.specs.declared.shape.Encoding.{Encoding}
-use Rattle.someip_payload.specs.declared.shape.Encoding.TheVariants.{Utf8, Utf16}
-use Rattle.someip_payload.specs.declared.shape.Width.{Width}
-use Rattle.someip_payload.specs.Data.{bool, unsigned, signed, string, array, fixed, «struct», union}
-use Rattle.someip_payload.specs.View.{form, forms, all_variants}
+use Rattle.someip_payload_codec.specs.declared.shape.Shape.{Shape, Bool, U8, U16, U32, U64, I8, I16, I32, I64, Text, Array, Fixed, Struct, Union, the_lemmas}
+use Rattle.someip_payload_codec.specs.declared.shape.Encoding.{Encoding}
+use Rattle.someip_payload_codec.specs.declared.shape.Encoding.TheVariants.{Utf8, Utf16}
+use Rattle.someip_payload_codec.specs.declared.shape.Width.{Width}
+use Rattle.someip_payload_codec.specs.Data.{bool, u8, u16, u32, u64, i8, i16, i32, i64, string, array, fixed, «struct», union}
+use Rattle.someip_payload_codec.specs.View.{form, forms, all_variants}
 use Rattle.someip_payload.specs.ShapeText.{IsTextOf, IsTextOfMembers, IsTextOfVariants, bool_text, u8_text, u16_text, u32_text, u64_text, i8_text, i16_text, i32_text, i64_text, utf8_text, utf16_text, array_text, fixed_text, struct_text, union_text, width_text, or_32, repeated_text}
 use Rattle.someip_payload.proofs.Pieces.{slice_range-append}
 
-pub form-U8 : form U8 ≡ unsigned S8
+pub form-U8 : form U8 ≡ u8
 form-U8 = search (rules, the_lemmas)
 
-pub form-U16 : form U16 ≡ unsigned S16
+pub form-U16 : form U16 ≡ u16
 form-U16 = search (rules, the_lemmas)
 
-pub form-U32 : form U32 ≡ unsigned S32
+pub form-U32 : form U32 ≡ u32
 form-U32 = search (rules, the_lemmas)
 
-pub form-U64 : form U64 ≡ unsigned S64
+pub form-U64 : form U64 ≡ u64
 form-U64 = search (rules, the_lemmas)
 
-pub form-I8 : form I8 ≡ signed S8
+pub form-I8 : form I8 ≡ i8
 form-I8 = search (rules, the_lemmas)
 
-pub form-I16 : form I16 ≡ signed S16
+pub form-I16 : form I16 ≡ i16
 form-I16 = search (rules, the_lemmas)
 
-pub form-I32 : form I32 ≡ signed S32
+pub form-I32 : form I32 ≡ i32
 form-I32 = search (rules, the_lemmas)
 
-pub form-I64 : form I64 ≡ signed S64
+pub form-I64 : form I64 ≡ i64
 form-I64 = search (rules, the_lemmas)
 
 pub form-Text : (e : Encoding) (w : Width) → form (Text e w) ≡ string e w
@@ -57,28 +56,28 @@ pub bool_shape : (piece : List ℕ) → piece ≡ codes "bool" → IsTextOf (for
 bool_shape piece is = let e : form Bool ≡ bool = search (rules, the_lemmas) in rw (e, is) bool_text
 
 pub u8_shape : (piece : List ℕ) → piece ≡ codes "u8" → IsTextOf (form U8) piece
-u8_shape piece is = let e : form U8 ≡ unsigned S8 = search (rules, the_lemmas) in rw (e, is) u8_text
+u8_shape piece is = let e : form U8 ≡ u8 = search (rules, the_lemmas) in rw (e, is) u8_text
 
 pub u16_shape : (piece : List ℕ) → piece ≡ codes "u16" → IsTextOf (form U16) piece
-u16_shape piece is = let e : form U16 ≡ unsigned S16 = search (rules, the_lemmas) in rw (e, is) u16_text
+u16_shape piece is = let e : form U16 ≡ u16 = search (rules, the_lemmas) in rw (e, is) u16_text
 
 pub u32_shape : (piece : List ℕ) → piece ≡ codes "u32" → IsTextOf (form U32) piece
-u32_shape piece is = let e : form U32 ≡ unsigned S32 = search (rules, the_lemmas) in rw (e, is) u32_text
+u32_shape piece is = let e : form U32 ≡ u32 = search (rules, the_lemmas) in rw (e, is) u32_text
 
 pub u64_shape : (piece : List ℕ) → piece ≡ codes "u64" → IsTextOf (form U64) piece
-u64_shape piece is = let e : form U64 ≡ unsigned S64 = search (rules, the_lemmas) in rw (e, is) u64_text
+u64_shape piece is = let e : form U64 ≡ u64 = search (rules, the_lemmas) in rw (e, is) u64_text
 
 pub i8_shape : (piece : List ℕ) → piece ≡ codes "i8" → IsTextOf (form I8) piece
-i8_shape piece is = let e : form I8 ≡ signed S8 = search (rules, the_lemmas) in rw (e, is) i8_text
+i8_shape piece is = let e : form I8 ≡ i8 = search (rules, the_lemmas) in rw (e, is) i8_text
 
 pub i16_shape : (piece : List ℕ) → piece ≡ codes "i16" → IsTextOf (form I16) piece
-i16_shape piece is = let e : form I16 ≡ signed S16 = search (rules, the_lemmas) in rw (e, is) i16_text
+i16_shape piece is = let e : form I16 ≡ i16 = search (rules, the_lemmas) in rw (e, is) i16_text
 
 pub i32_shape : (piece : List ℕ) → piece ≡ codes "i32" → IsTextOf (form I32) piece
-i32_shape piece is = let e : form I32 ≡ signed S32 = search (rules, the_lemmas) in rw (e, is) i32_text
+i32_shape piece is = let e : form I32 ≡ i32 = search (rules, the_lemmas) in rw (e, is) i32_text
 
 pub i64_shape : (piece : List ℕ) → piece ≡ codes "i64" → IsTextOf (form I64) piece
-i64_shape piece is = let e : form I64 ≡ signed S64 = search (rules, the_lemmas) in rw (e, is) i64_text
+i64_shape piece is = let e : form I64 ≡ i64 = search (rules, the_lemmas) in rw (e, is) i64_text
 
 pub utf8_shape : (w : Option Width) (meant : Width) (piece : List ℕ) → meant ≡ or_32 w → piece ≡ width_text w → IsTextOf (form (Text Utf8 meant)) (codes "utf8" ++ piece)
 utf8_shape w meant piece is is_piece = rw (form-Text Utf8 meant, is, is_piece) (utf8_text w)

@@ -1,11 +1,10 @@
 -- The texts of shapes.
 use Rattle.std.specs.Prelude.{◌≡◌, ℕ, ◌<◌, ◌≤◌, ◌^◌, ⊤, List, [], ◌∷◌, ◌++◌, Option, Some, None, Result, Ok, Err, codes}
 use Rattle.std.specs.Fmt.{decimal}
-use Rattle.someip_payload.specs.Data.{Form, bool, unsigned, signed, string, array, fixed, «struct», union, Forms, no_forms, form_then, Variants, no_variants, variant}
-use Rattle.someip_payload.specs.declared.number.Size.TheVariants.{S8, S16, S32, S64}
-use Rattle.someip_payload.specs.declared.shape.Encoding.TheVariants.{Utf8, Utf16}
-use Rattle.someip_payload.specs.declared.shape.Width.{Width}
-use Rattle.someip_payload.specs.declared.shape.Width.TheVariants.{W8, W16, W32}
+use Rattle.someip_payload_codec.specs.Data.{Form, bool, u8, u16, u32, u64, i8, i16, i32, i64, string, array, fixed, «struct», union, Forms, no_forms, form_then, Variants, no_variants, variant}
+use Rattle.someip_payload_codec.specs.declared.shape.Encoding.TheVariants.{Utf8, Utf16}
+use Rattle.someip_payload_codec.specs.declared.shape.Width.{Width}
+use Rattle.someip_payload_codec.specs.declared.shape.Width.TheVariants.{W8, W16, W32}
 use Rattle.someip_payload.specs.declared.shape_text_error.ShapeTextError.{ShapeTextError}
 use Rattle.someip_payload.specs.declared.shape_text_error.ShapeTextError.TheVariants.{BadShape, OutOfMemory}
 
@@ -29,14 +28,14 @@ mutual
   -- the form has the text. A number has 32 bits.
   pub data IsTextOf : Form → List ℕ → Type 0 where
     bool_text : IsTextOf bool (codes "bool")
-    u8_text : IsTextOf (unsigned S8) (codes "u8")
-    u16_text : IsTextOf (unsigned S16) (codes "u16")
-    u32_text : IsTextOf (unsigned S32) (codes "u32")
-    u64_text : IsTextOf (unsigned S64) (codes "u64")
-    i8_text : IsTextOf (signed S8) (codes "i8")
-    i16_text : IsTextOf (signed S16) (codes "i16")
-    i32_text : IsTextOf (signed S32) (codes "i32")
-    i64_text : IsTextOf (signed S64) (codes "i64")
+    u8_text : IsTextOf u8 (codes "u8")
+    u16_text : IsTextOf u16 (codes "u16")
+    u32_text : IsTextOf u32 (codes "u32")
+    u64_text : IsTextOf u64 (codes "u64")
+    i8_text : IsTextOf i8 (codes "i8")
+    i16_text : IsTextOf i16 (codes "i16")
+    i32_text : IsTextOf i32 (codes "i32")
+    i64_text : IsTextOf i64 (codes "i64")
     utf8_text : (w : Option Width) → IsTextOf (string Utf8 (or_32 w)) (codes "utf8" ++ width_text w)
     utf16_text : (w : Option Width) → IsTextOf (string Utf16 (or_32 w)) (codes "utf16" ++ width_text w)
     array_text : (w : Option Width) (n : ℕ) (f : Form) (text : List ℕ) → n < 2 ^ 32 → IsTextOf f text

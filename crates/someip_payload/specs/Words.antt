@@ -1,9 +1,8 @@
 -- The words that a shape's text begins with.
 use Rattle.std.specs.Prelude.{◌≡◌, ℕ, ◌<◌, ◌^◌, List, [], ◌++◌, Option, codes}
-use Rattle.someip_payload.specs.Data.{Form, bool, unsigned, signed, string, array, fixed, «struct», union, Forms, Variants}
-use Rattle.someip_payload.specs.declared.number.Size.TheVariants.{S8, S16, S32, S64}
-use Rattle.someip_payload.specs.declared.shape.Encoding.TheVariants.{Utf8, Utf16}
-use Rattle.someip_payload.specs.declared.shape.Width.{Width}
+use Rattle.someip_payload_codec.specs.Data.{Form, bool, u8, u16, u32, u64, i8, i16, i32, i64, string, array, fixed, «struct», union, Forms, Variants}
+use Rattle.someip_payload_codec.specs.declared.shape.Encoding.TheVariants.{Utf8, Utf16}
+use Rattle.someip_payload_codec.specs.declared.shape.Width.{Width}
 use Rattle.someip_payload.specs.ShapeText.{IsTextOf, IsTextOfMembers, IsTextOfVariants, width_text, or_32, repeated_text}
 use Rattle.someip_payload.specs.declared.shape_text.Word.{Word}
 use Rattle.someip_payload.specs.declared.shape_text.Word.TheVariants as word
@@ -28,14 +27,14 @@ word_text word.Union = codes "union"
 -- what stands after the word in a text of the form
 abbrev pub Behind : Word → Form → List ℕ → Type 0
 Behind word.Bool f back = (f ≡ bool) × (back ≡ [])
-Behind word.U8 f back = (f ≡ unsigned S8) × (back ≡ [])
-Behind word.U16 f back = (f ≡ unsigned S16) × (back ≡ [])
-Behind word.U32 f back = (f ≡ unsigned S32) × (back ≡ [])
-Behind word.U64 f back = (f ≡ unsigned S64) × (back ≡ [])
-Behind word.I8 f back = (f ≡ signed S8) × (back ≡ [])
-Behind word.I16 f back = (f ≡ signed S16) × (back ≡ [])
-Behind word.I32 f back = (f ≡ signed S32) × (back ≡ [])
-Behind word.I64 f back = (f ≡ signed S64) × (back ≡ [])
+Behind word.U8 f back = (f ≡ u8) × (back ≡ [])
+Behind word.U16 f back = (f ≡ u16) × (back ≡ [])
+Behind word.U32 f back = (f ≡ u32) × (back ≡ [])
+Behind word.U64 f back = (f ≡ u64) × (back ≡ [])
+Behind word.I8 f back = (f ≡ i8) × (back ≡ [])
+Behind word.I16 f back = (f ≡ i16) × (back ≡ [])
+Behind word.I32 f back = (f ≡ i32) × (back ≡ [])
+Behind word.I64 f back = (f ≡ i64) × (back ≡ [])
 Behind word.Utf8 f back = (w : Option Width) × (f ≡ string Utf8 (or_32 w)) × (back ≡ width_text w)
 Behind word.Utf16 f back = (w : Option Width) × (f ≡ string Utf16 (or_32 w)) × (back ≡ width_text w)
 Behind word.Array f back =

@@ -8,26 +8,11 @@
 //! - [`laws`]: what the definitions behind the contracts promise.
 #![tactic(auto)]
 
-mod check;
-mod error;
-mod fields;
-pub mod laws;
-mod number;
-mod reading;
-mod shape;
 mod shape_text;
 mod shape_text_error;
-mod text;
-mod value;
-mod value_text;
-mod window;
-mod writing;
 
-pub use check::{MAX_DEPTH, check_shape};
-pub use error::PayloadError;
-pub use reading::decode;
-pub use shape::{Encoding, Shape, Width};
 pub use shape_text::read_shape;
 pub use shape_text_error::ShapeTextError;
-pub use value::Value;
-pub use writing::encode;
+pub use someip_payload_codec::{
+    Encoding, MAX_DEPTH, PayloadError, Shape, Value, Width, check_shape, decode, encode, laws,
+};

@@ -3,16 +3,16 @@
 ghost use Rattle.std.specs.Prelude.{◌≡◌, ◌≢◌, ◌+◌, ◌*◌, ◌<◌, ◌≤◌, ◌^◌, ◌++◌, [], ◌∷◌, ℕ, List, Option, Some, None, Ok, length, take, drop, slice_range, slice_index, codes, IsTrue, IfOk, IfErr, IfSome, IfNone};
 ghost use Rattle.std.specs.List.{AllByRecursion};
 ghost use Rattle.std.specs.Fmt.{decimal};
-ghost use Rattle.someip_payload.specs.declared.shape.Width.{Width};
+ghost use Rattle.someip_payload_codec.specs.declared.shape.Width.{Width};
 ghost use Rattle.someip_payload.specs.declared.shape_text.Word.{Word};
-ghost use Rattle.someip_payload.specs.Data.{Form, Forms, Variants};
-ghost use Rattle.someip_payload.specs.Check.{depth, deepest, deepest_variant};
+ghost use Rattle.someip_payload_codec.specs.Data.{Form, Forms, Variants};
+ghost use Rattle.someip_payload_codec.specs.Check.{depth, deepest, deepest_variant};
 ghost use Rattle.someip_payload.specs.ShapeText.{IsTextOf, IsTextOfMembers, IsTextOfVariants, IsFaultWithin, IsDigit, HasNoWidth, IsReadAs, IsReadTo, IsRepeatedTo, IsNoFront, width_text, or_32, repeated_text};
-ghost use Rattle.someip_payload.specs.View.{form, forms, all_variants};
+ghost use Rattle.someip_payload_codec.specs.View.{form, forms, all_variants};
 ghost use Rattle.someip_payload.specs.Words.{word_text, Behind};
 
-use crate::shape::{Encoding, Shape, Width};
 use crate::shape_text_error::ShapeTextError;
+use someip_payload_codec::{Encoding, Shape, Width};
 use std::alloc::Global;
 
 /// How many shapes may lie around a shape in a text.

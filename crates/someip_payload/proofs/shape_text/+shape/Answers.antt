@@ -3,12 +3,11 @@ use Rattle.std.specs.Fmt.{decimal}
 use Rattle.std.proofs.lemmas.Bool.{false≢true}
 use Rattle.std.proofs.lemmas.Result.{err_from_is_err_and}
 use Rattle.std.proofs.lemmas.List.{length-append}
-use Rattle.someip_payload.specs.declared.number.Size.TheVariants.{S8, S16, S32, S64}
-use Rattle.someip_payload.specs.declared.shape.Shape.{U8, U16, U32, U64, I8, I16, I32, I64}
-use Rattle.someip_payload.specs.Data.{unsigned, signed}
-use Rattle.someip_payload.specs.Check.{depth, deepest, deepest_variant}
+use Rattle.someip_payload_codec.specs.declared.shape.Shape.{U8, U16, U32, U64, I8, I16, I32, I64}
+use Rattle.someip_payload_codec.specs.Data.{u8, u16, u32, u64, i8, i16, i32, i64}
+use Rattle.someip_payload_codec.specs.Check.{depth, deepest, deepest_variant}
 use Rattle.someip_payload.specs.ShapeText.{repeated_text, width_text}
-use Rattle.someip_payload.specs.View.{form}
+use Rattle.someip_payload_codec.specs.View.{form}
 use Rattle.someip_payload.proofs.Converse.{by_word, plain, word_there, behind_piece, same_first, same_second, not_read}
 use Rattle.someip_payload.proofs.ConverseParts.{split_front, some_depth, array_is, struct_is, union_is, stops_repeated, stops_bracket, stops_end, no_digit_comma, no_digit_colon, after_open, after_comma, length-repeated, after_bracket, members_none, next_member_of, member_more, member_last, within_more, deepest-push, deepest_variant-push, variants_none, next_variant_of, variant_more, variant_last}
 use Rattle.someip_payload.specs.Words.{word_text}
@@ -180,42 +179,42 @@ shape_at-returns-in_err-word-clause-only t c = λ f front rest is is_text deep s
 pub shape_at-returns-in-U8-clause-only : goal.shape_at-returns-in-U8-clause-only
 shape_at-returns-in-U8-clause-only t c = λ f front rest is is_text deep stops.
     by_word c.args.text.now front rest c.args.at c.in_ok-word.end f c.in_ok-word.word (Ok (U8, c.in_ok-word.end)) is is_text c.in_ok-word.ensures.only
-    (λ back there behind. plain U8 f (unsigned S8) back c.in_ok-word.end form-U8 (rw c.in-U8.is at behind))
+    (λ back there behind. plain U8 f u8 back c.in_ok-word.end form-U8 (rw c.in-U8.is at behind))
 
 pub shape_at-returns-in-U16-clause-only : goal.shape_at-returns-in-U16-clause-only
 shape_at-returns-in-U16-clause-only t c = λ f front rest is is_text deep stops.
     by_word c.args.text.now front rest c.args.at c.in_ok-word.end f c.in_ok-word.word (Ok (U16, c.in_ok-word.end)) is is_text c.in_ok-word.ensures.only
-    (λ back there behind. plain U16 f (unsigned S16) back c.in_ok-word.end form-U16 (rw c.in-U16.is at behind))
+    (λ back there behind. plain U16 f u16 back c.in_ok-word.end form-U16 (rw c.in-U16.is at behind))
 
 pub shape_at-returns-in-U32-clause-only : goal.shape_at-returns-in-U32-clause-only
 shape_at-returns-in-U32-clause-only t c = λ f front rest is is_text deep stops.
     by_word c.args.text.now front rest c.args.at c.in_ok-word.end f c.in_ok-word.word (Ok (U32, c.in_ok-word.end)) is is_text c.in_ok-word.ensures.only
-    (λ back there behind. plain U32 f (unsigned S32) back c.in_ok-word.end form-U32 (rw c.in-U32.is at behind))
+    (λ back there behind. plain U32 f u32 back c.in_ok-word.end form-U32 (rw c.in-U32.is at behind))
 
 pub shape_at-returns-in-U64-clause-only : goal.shape_at-returns-in-U64-clause-only
 shape_at-returns-in-U64-clause-only t c = λ f front rest is is_text deep stops.
     by_word c.args.text.now front rest c.args.at c.in_ok-word.end f c.in_ok-word.word (Ok (U64, c.in_ok-word.end)) is is_text c.in_ok-word.ensures.only
-    (λ back there behind. plain U64 f (unsigned S64) back c.in_ok-word.end form-U64 (rw c.in-U64.is at behind))
+    (λ back there behind. plain U64 f u64 back c.in_ok-word.end form-U64 (rw c.in-U64.is at behind))
 
 pub shape_at-returns-in-I8-clause-only : goal.shape_at-returns-in-I8-clause-only
 shape_at-returns-in-I8-clause-only t c = λ f front rest is is_text deep stops.
     by_word c.args.text.now front rest c.args.at c.in_ok-word.end f c.in_ok-word.word (Ok (I8, c.in_ok-word.end)) is is_text c.in_ok-word.ensures.only
-    (λ back there behind. plain I8 f (signed S8) back c.in_ok-word.end form-I8 (rw c.in-I8.is at behind))
+    (λ back there behind. plain I8 f i8 back c.in_ok-word.end form-I8 (rw c.in-I8.is at behind))
 
 pub shape_at-returns-in-I16-clause-only : goal.shape_at-returns-in-I16-clause-only
 shape_at-returns-in-I16-clause-only t c = λ f front rest is is_text deep stops.
     by_word c.args.text.now front rest c.args.at c.in_ok-word.end f c.in_ok-word.word (Ok (I16, c.in_ok-word.end)) is is_text c.in_ok-word.ensures.only
-    (λ back there behind. plain I16 f (signed S16) back c.in_ok-word.end form-I16 (rw c.in-I16.is at behind))
+    (λ back there behind. plain I16 f i16 back c.in_ok-word.end form-I16 (rw c.in-I16.is at behind))
 
 pub shape_at-returns-in-I32-clause-only : goal.shape_at-returns-in-I32-clause-only
 shape_at-returns-in-I32-clause-only t c = λ f front rest is is_text deep stops.
     by_word c.args.text.now front rest c.args.at c.in_ok-word.end f c.in_ok-word.word (Ok (I32, c.in_ok-word.end)) is is_text c.in_ok-word.ensures.only
-    (λ back there behind. plain I32 f (signed S32) back c.in_ok-word.end form-I32 (rw c.in-I32.is at behind))
+    (λ back there behind. plain I32 f i32 back c.in_ok-word.end form-I32 (rw c.in-I32.is at behind))
 
 pub shape_at-returns-in-I64-clause-only : goal.shape_at-returns-in-I64-clause-only
 shape_at-returns-in-I64-clause-only t c = λ f front rest is is_text deep stops.
     by_word c.args.text.now front rest c.args.at c.in_ok-word.end f c.in_ok-word.word (Ok (I64, c.in_ok-word.end)) is is_text c.in_ok-word.ensures.only
-    (λ back there behind. plain I64 f (signed S64) back c.in_ok-word.end form-I64 (rw c.in-I64.is at behind))
+    (λ back there behind. plain I64 f i64 back c.in_ok-word.end form-I64 (rw c.in-I64.is at behind))
 
 pub shape_at-returns-in-Utf8-clause-only : goal.shape_at-returns-in-Utf8-clause-only
 shape_at-returns-in-Utf8-clause-only t c = λ f front rest is is_text deep stops.

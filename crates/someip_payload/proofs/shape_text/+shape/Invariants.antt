@@ -1,7 +1,7 @@
 use Rattle.std.proofs.Common.{◌≡◌, ◌≤◌, ◌+◌, ◌-◌, ◌*◌, ◌++◌, ℕ, List, codes, drop, length, slice_range}
-use Rattle.someip_payload.specs.Data.{Forms, Variants}
-use Rattle.someip_payload.specs.Check.{deepest, deepest_variant}
-use Rattle.someip_payload.specs.View.{forms, all_variants}
+use Rattle.someip_payload_codec.specs.Data.{Forms, Variants}
+use Rattle.someip_payload_codec.specs.Check.{deepest, deepest_variant}
+use Rattle.someip_payload_codec.specs.View.{forms, all_variants}
 use Rattle.someip_payload.specs.ShapeText.{IsTextOfMembers, IsTextOfVariants}
 use Rattle.someip_payload.proofs.ConverseParts.{MembersLeft, VariantsLeft}
 use Rattle.someip_payload.proofs.Members.{MembersSoFar, VariantsSoFar}

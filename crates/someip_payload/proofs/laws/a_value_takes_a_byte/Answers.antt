@@ -1,5 +1,0 @@
-use Rattle.someip_payload.proofs.Whole.{takes_some}
-use Rattle.someip_payload.proofs.laws.a_value_takes_a_byte.Goals as goal
-
-pub returns : goal.returns
-returns c = takes_some

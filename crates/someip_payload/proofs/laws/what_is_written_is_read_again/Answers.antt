@@ -1,5 +1,0 @@
-use Rattle.someip_payload.proofs.Whole.{written_again}
-use Rattle.someip_payload.proofs.laws.what_is_written_is_read_again.Goals as goal
-
-pub returns : goal.returns
-returns c = written_again

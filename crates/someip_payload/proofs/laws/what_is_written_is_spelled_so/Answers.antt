@@ -1,5 +1,0 @@
-use Rattle.someip_payload.proofs.Whole.{written_reads}
-use Rattle.someip_payload.proofs.laws.what_is_written_is_spelled_so.Goals as goal
-
-pub returns : goal.returns
-returns c = written_reads

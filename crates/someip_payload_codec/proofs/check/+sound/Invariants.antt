@@ -1,0 +1,10 @@
+use Rattle.std.proofs.Common.{◌≡◌, drop}
+use Rattle.someip_payload_codec.specs.View.{forms, all_variants}
+use Rattle.someip_payload_codec.specs.Check.{are_forms, are_variants}
+use Rattle.someip_payload_codec.proofs.check.+sound.Given as goal
+
+abbrev pub invariant-are_sound-loop-shape : goal.invariant-are_sound-loop-shape
+invariant-are_sound-loop-shape l = are_forms (forms (drop l.shape-index l.shapes)) ≡ are_forms (forms l.shapes)
+
+abbrev pub invariant-are_sound_shapes-loop-variant : goal.invariant-are_sound_shapes-loop-variant
+invariant-are_sound_shapes-loop-variant l = are_variants (all_variants (drop l.variant-index l.variants)) ≡ are_variants (all_variants l.variants)

@@ -1,0 +1,85 @@
+-- Which forms can be read and written.
+use Rattle.std.specs.Prelude.{◌≡◌, ℕ, ◌+◌, max, Bool, true, false, not, ◌&&◌, ◌||◌, ◌==◌, nat_lt, if◌then◌else◌, List, [], ◌∷◌, Result, Ok, Err}
+use Rattle.someip_payload_codec.specs.declared.error.PayloadError.{PayloadError}
+use Rattle.someip_payload_codec.specs.declared.error.PayloadError.TheVariants as errors
+use Rattle.someip_payload_codec.specs.declared.error.PayloadError.TheVariants.{TooDeep, BadShape}
+use Rattle.someip_payload_codec.specs.Data.{Form, bool, unsigned, signed, string, array, fixed, «struct», union, Forms, no_forms, form_then, Variants, no_variants, variant}
+
+-- how many forms lie inside each other
+abbrev mutual
+  pub depth : Form → ℕ
+  depth (array width most element) = depth element + 1
+  depth (fixed n element) = depth element + 1
+  depth («struct» width fs) = deepest fs + 1
+  depth (union vs) = deepest_variant vs + 1
+  depth bool = 1
+  depth (unsigned size) = 1
+  depth (signed size) = 1
+  depth (string encoding width) = 1
+
+  pub deepest : Forms → ℕ
+  deepest no_forms = 0
+  deepest (form_then f fs) = max (depth f) (deepest fs)
+
+  pub deepest_variant : Variants → ℕ
+  deepest_variant no_variants = 0
+  deepest_variant (variant n f vs) = max (depth f) (deepest_variant vs)
+
+abbrev pub has_members : Forms → Bool
+has_members no_forms = false
+has_members (form_then f fs) = true
+
+abbrev pub has_variants : Variants → Bool
+has_variants no_variants = false
+has_variants (variant n f vs) = true
+
+abbrev pub is_fixed : Form → Bool
+is_fixed (fixed n element) = true
+is_fixed bool = false
+is_fixed (unsigned size) = false
+is_fixed (signed size) = false
+is_fixed (string encoding width) = false
+is_fixed (array width most element) = false
+is_fixed («struct» width fs) = false
+is_fixed (union vs) = false
+
+abbrev pub is_among : ℕ → List ℕ → Bool
+is_among n [] = false
+is_among n (m ∷ ms) = (n == m) || is_among n ms
+
+-- no number is 0, stands twice or is one of the earlier ones
+abbrev pub are_numbers : List ℕ → Variants → Bool
+are_numbers earlier no_variants = true
+are_numbers earlier (variant n f vs) = nat_lt 0 n && (not (is_among n earlier) && are_numbers (n ∷ earlier) vs)
+
+-- each fixed number of elements is above 0 and not one of such, each structure has members, and each union
+-- has variants whose numbers are above 0 and differ
+abbrev mutual
+  pub is_form : Form → Bool
+  is_form (array width most element) = is_form element
+  is_form (fixed n element) = nat_lt 0 n && (not (is_fixed element) && is_form element)
+  is_form («struct» width fs) = has_members fs && are_forms fs
+  is_form (union vs) = has_variants vs && (are_numbers [] vs && are_variants vs)
+  is_form bool = true
+  is_form (unsigned size) = true
+  is_form (signed size) = true
+  is_form (string encoding width) = true
+
+  pub are_forms : Forms → Bool
+  are_forms no_forms = true
+  are_forms (form_then f fs) = is_form f && are_forms fs
+
+  pub are_variants : Variants → Bool
+  are_variants no_variants = true
+  are_variants (variant n f vs) = is_form f && are_variants vs
+
+-- at most 16 forms lie inside each other, and each is one that a form may have
+unfoldable pub checked : Form → Result (Unit {0}) PayloadError
+checked f = if nat_lt 16 (depth f) then Err (TooDeep 0) else if is_form f then Ok tt else Err (BadShape 0)
+
+-- the faults of a shape: they have the place 0
+abbrev pub IsShapeFault : PayloadError → Type 0
+IsShapeFault (errors.TooDeep place) = place ≡ 0
+IsShapeFault (errors.BadShape place) = place ≡ 0
+IsShapeFault errors.OutOfMemory = Unit {0}
+IsShapeFault e = ⊥

@@ -1,0 +1,11 @@
+pub mod Data
+pub mod View
+pub mod Steps
+pub mod Check
+pub mod Grammar
+pub mod Texts
+pub mod Reading
+pub mod Writing
+pub mod Faults
+pub mod ValueText
+pub mod Names

@@ -1,0 +1,142 @@
+-- Reading from left to right, with the first fault that is met.
+use Rattle.std.specs.Prelude.{ℕ, zero, suc, ◌+◌, ◌-◌, ◌*◌, ◌==◌, ◌&&◌, not, Bool, ℤ, List, [], ◌∷◌, length, take, drop, slice_index, Some, None, Result, Ok, Err, nat_lt, if◌then◌else◌, false, true}
+use Rattle.std.specs.Int.{byte_len, from_be_bytes, cast_signed}
+use Rattle.std.specs.Str.{is_utf8, encode_utf8_all}
+use Rattle.std.specs.Char.Utf16.{has_unpaired_surrogate, utf16_lossy_chars}
+use Rattle.someip_payload_codec.specs.declared.error.PayloadError.{PayloadError}
+use Rattle.someip_payload_codec.specs.declared.error.PayloadError.TheVariants.{Truncated, BadText, NoTerminator, UnknownVariant, LengthMismatch, TooMany}
+use Rattle.someip_payload_codec.specs.declared.number.Size.{Size}
+use Rattle.someip_payload_codec.specs.declared.number.Size.TheVariants.{S8, S32}
+use Rattle.someip_payload_codec.specs.declared.shape.Width.{Width}
+use Rattle.someip_payload_codec.specs.declared.shape.Encoding.{Encoding}
+use Rattle.someip_payload_codec.specs.declared.shape.Encoding.TheVariants.{Utf8, Utf16}
+use Rattle.someip_payload_codec.specs.Steps.{◌>>=◌}
+use Rattle.someip_payload_codec.specs.Check.{checked}
+use Rattle.someip_payload_codec.specs.Grammar.{width_of, size_of, is_odd}
+use Rattle.someip_payload_codec.specs.Texts.{utf16_mark}
+use Rattle.someip_payload_codec.specs.Data.{Form, bool, unsigned, signed, string, array, fixed, «struct», union, Forms, no_forms, form_then, Variants, no_variants, variant, Data, truth, uint, int, phrase, list, tuple, nothing, chosen, Items, no_items, item, View}
+
+-- the fault that something passes the window's end
+abbrev pub short_at : View → PayloadError
+short_at w = if w.is_body then LengthMismatch w.place else Truncated w.place
+
+-- what is left after so many bytes
+abbrev pub skip : ℕ → View → View
+skip n w = record { is_body = w.is_body; place = w.place + n; bytes = drop n w.bytes }
+
+abbrev pub front_at : ℕ → View → Result (List ℕ × View) PayloadError
+front_at n w = if nat_lt (length w.bytes) n then Err (short_at w) else Ok (take n w.bytes, skip n w)
+
+unfoldable pub number_at : Size → View → Result (ℕ × View) PayloadError
+number_at size w = do
+  front ← front_at (byte_len (width_of size)) w
+  Ok (from_be_bytes (width_of size) front.0, front.1)
+
+abbrev pub signed_of : Size → ℕ → ℤ
+signed_of size n = cast_signed (width_of size) n
+
+-- a body of so many bytes is next at v, whose length field stands at w, and what is left after it
+unfoldable pub window_at : ℕ → View → View → Result (View × View) PayloadError
+window_at n w v = if nat_lt (length v.bytes) n then Err (short_at w) else Ok (record { is_body = true; place = v.place; bytes = take n v.bytes }, skip n v)
+
+-- the body after a length field, and what is left after it
+unfoldable pub body_at : Width → View → Result (View × View) PayloadError
+body_at width w = do
+  len ← number_at (size_of width) w
+  window_at len.0 w len.1
+
+-- the byte order mark of UTF-8 stands at the front
+abbrev pub has_mark : List ℕ → Bool
+has_mark bytes = (slice_index bytes 0 == 0xEF) && ((slice_index bytes 1 == 0xBB) && (slice_index bytes 2 == 0xBF))
+
+-- the bytes without that mark
+abbrev pub without_mark : List ℕ → List ℕ
+without_mark bytes = if has_mark bytes then drop 3 bytes else bytes
+
+-- a zero stands at the end
+abbrev pub is_ended : List ℕ → Bool
+is_ended xs = nat_lt 0 (length xs) && (slice_index xs (length xs - 1) == 0)
+
+unfoldable pub utf8_at : ℕ → List ℕ → Result (List ℕ) PayloadError
+utf8_at place body =
+    if is_ended body
+    then (if is_utf8 (without_mark (take (length body - 1) body)) then Ok (without_mark (take (length body - 1) body)) else Err (BadText place))
+    else Err (NoTerminator place)
+
+abbrev pub unit_of : Bool → ℕ → ℕ → ℕ
+unit_of true a b = a * 256 + b
+unit_of false a b = b * 256 + a
+
+-- the units of two bytes each, without an odd byte at the end
+unfoldable pub units_of : Bool → List ℕ → List ℕ
+units_of big (a ∷ b ∷ bytes) = unit_of big a b ∷ units_of big bytes
+units_of big (a ∷ []) = []
+units_of big [] = []
+
+-- the mark has its lower byte first
+abbrev pub is_little : List ℕ → Bool
+is_little body = nat_lt 1 (length body) && ((slice_index body 0 == 0xFF) && (slice_index body 1 == 0xFE))
+
+-- the units between the first and the last
+abbrev pub inner : List ℕ → List ℕ
+inner units = drop 1 (take (length units - 1) units)
+
+unfoldable pub utf16_in : ℕ → List ℕ → Result (List ℕ) PayloadError
+utf16_in place units =
+    if is_ended units
+    then (if (slice_index units 0 == utf16_mark) && not (has_unpaired_surrogate (inner units)) then Ok (encode_utf8_all (utf16_lossy_chars (inner units))) else Err (BadText place))
+    else Err (NoTerminator place)
+
+-- the text of a body whose length field stands at the place
+unfoldable pub text_at : Encoding → ℕ → List ℕ → Result (List ℕ) PayloadError
+text_at Utf8 place body = utf8_at place body
+text_at Utf16 place body = utf16_in place (units_of (not (is_little body)) body)
+
+-- at most so many elements, until the bytes are used up
+unfoldable pub items_at : (View → Result (Data × View) PayloadError) → ℕ → View → Result Items PayloadError
+items_at one zero w = if nat_lt 0 (length w.bytes) then Err (TooMany w.place) else Ok no_items
+items_at one (suc left) w =
+    if nat_lt 0 (length w.bytes)
+    then (one w >>= λ first. items_at one left first.1 >>= λ others. Ok (item first.0 others))
+    else Ok no_items
+
+-- exactly so many elements
+unfoldable pub fixed_at : (View → Result (Data × View) PayloadError) → ℕ → View → Result (Items × View) PayloadError
+fixed_at one zero w = Ok (no_items, w)
+fixed_at one (suc left) w = one w >>= λ first. fixed_at one left first.1 >>= λ others. Ok (item first.0 others.0, others.1)
+
+-- what stands after the length and the type number of a union
+unfoldable pub union_at : (ℕ → ℕ → ℕ → View → Result (Data × View) PayloadError) → View → Result (Data × View) PayloadError
+union_at known w = do
+  len ← number_at S32 w
+  kind ← number_at S32 len.1
+  if kind.0 == 0 then (if len.0 == 0 then Ok (nothing, kind.1) else Err (LengthMismatch w.place)) else known kind.0 len.0 len.1.place kind.1
+
+-- the value of a union whose variant is read so, which begins at w and whose body at v
+unfoldable pub chosen_at : (View → Result (Data × View) PayloadError) → ℕ → ℕ → View → View → Result (Data × View) PayloadError
+chosen_at one kind len w v = window_at len w v >>= λ body. one body.0 >>= λ d. Ok (chosen kind d.0, body.1)
+
+unfoldable mutual
+  pub data_at : Form → View → Result (Data × View) PayloadError
+  data_at bool w = number_at S8 w >>= λ n. Ok (truth (is_odd n.0), n.1)
+  data_at (unsigned size) w = number_at size w >>= λ n. Ok (uint n.0, n.1)
+  data_at (signed size) w = number_at size w >>= λ n. Ok (int (signed_of size n.0), n.1)
+  data_at (string encoding width) w = body_at width w >>= λ body. text_at encoding w.place body.0.bytes >>= λ s. Ok (phrase s, body.1)
+  data_at (array width most element) w = body_at width w >>= λ body. items_at (data_at element) most body.0 >>= λ items. Ok (list items, body.1)
+  data_at (fixed n element) w = fixed_at (data_at element) n w >>= λ items. Ok (list items.0, items.1)
+  data_at («struct» None fs) w = members_at fs w >>= λ members. Ok (tuple members.0, members.1)
+  data_at («struct» (Some width) fs) w = body_at width w >>= λ body. members_at fs body.0 >>= λ members. Ok (tuple members.0, body.1)
+  data_at (union vs) w = union_at (λ kind len place v. variant_at vs kind len place w v) w
+
+  pub members_at : Forms → View → Result (Items × View) PayloadError
+  members_at no_forms w = Ok (no_items, w)
+  members_at (form_then f fs) w = data_at f w >>= λ first. members_at fs first.1 >>= λ others. Ok (item first.0 others.0, others.1)
+
+  -- the variant of the number at the place, whose union begins at w and whose body at v
+  pub variant_at : Variants → ℕ → ℕ → ℕ → View → View → Result (Data × View) PayloadError
+  variant_at no_variants kind len place w v = Err (UnknownVariant place)
+  variant_at (variant n f vs) kind len place w v = if n == kind then chosen_at (data_at f) kind len w v else variant_at vs kind len place w v
+
+-- the whole input, with how many bytes the value takes
+unfoldable pub decoded : Form → List ℕ → Result (Data × ℕ) PayloadError
+decoded f bytes = checked f >>= λ _. data_at f (record { is_body = false; place = 0; bytes = bytes }) >>= λ x. Ok (x.0, x.1.place)

@@ -1,0 +1,110 @@
+//! Numbers and bodies at the front of a window.
+
+ghost use Rattle.std.specs.Prelude.{◌≡◌, ◌+◌, ◌<◌, length, IfOk};
+ghost use Rattle.someip_payload_codec.specs.Grammar.{limit_of};
+ghost use Rattle.someip_payload_codec.specs.Steps.{Gives};
+ghost use Rattle.someip_payload_codec.specs.View.{seen};
+ghost use Rattle.someip_payload_codec.specs.Reading.{short_at, front_at, number_at, window_at, body_at};
+
+use crate::error::PayloadError;
+use crate::number::{Size, size_of};
+use crate::shape::Width;
+use crate::window::Window;
+
+/// Something at the front passes the end of the window.
+pub(crate) fn short(window: Window<'_>) -> PayloadError
+    ensures { result ≡ short_at (seen window.entry) }
+{
+    if window.is_body {
+        PayloadError::LengthMismatch(window.place)
+    } else {
+        PayloadError::Truncated(window.place)
+    }
+}
+
+fn front(window: Window<'_>, count: usize) -> Result<(&[u8], Window<'_>), PayloadError>
+    ensures exact { Gives (λ x. (x.0.now, seen x.1)) result (front_at count (seen window.entry)) }
+    ensures len { IfOk result (λ x. length x.0.now ≡ count) }
+{
+    if window.bytes.len() < count {
+        return Err(short(window));
+    }
+    let (bytes, rest) = window.bytes.split_at(count);
+    Ok((
+        bytes,
+        Window {
+            bytes: rest,
+            place: window.place + count,
+            is_body: window.is_body,
+        },
+    ))
+}
+
+#[tactic(auto, unfolding(crate::specs::Reading::number_at))]
+pub(crate) fn number(size: Size, window: Window<'_>) -> Result<(u64, Window<'_>), PayloadError>
+    ensures exact { Gives (λ x. (x.0, seen x.1)) result (number_at size (seen window.entry)) }
+    ensures below { IfOk result (λ x. x.0 < limit_of size) }
+{
+    match size {
+        Size::S8 => {
+            let (bytes, rest) = front(window, 1)?;
+            Ok((u64::from(bytes[0]), rest))
+        }
+        Size::S16 => {
+            let (bytes, rest) = front(window, 2)?;
+            Ok((u64::from(u16::from_be_bytes([bytes[0], bytes[1]])), rest))
+        }
+        Size::S32 => {
+            let (bytes, rest) = front(window, 4)?;
+            let number = u32::from_be_bytes([bytes[0], bytes[1], bytes[2], bytes[3]]);
+            Ok((u64::from(number), rest))
+        }
+        Size::S64 => {
+            let (bytes, rest) = front(window, 8)?;
+            let number = u64::from_be_bytes([
+                bytes[0], bytes[1], bytes[2], bytes[3], bytes[4], bytes[5], bytes[6], bytes[7],
+            ]);
+            Ok((number, rest))
+        }
+    }
+}
+
+/// The body of so many bytes, whose length field stands at the start, and what comes after it.
+#[tactic(auto, unfolding(crate::specs::Reading::window_at))]
+pub(crate) fn sized<'a>(
+    len: u64,
+    start: Window<'a>,
+    rest: Window<'a>,
+) -> Result<(Window<'a>, Window<'a>), PayloadError>
+    ensures { Gives (λ x. (seen x.0, seen x.1)) result (window_at len (seen start.entry) (seen rest.entry)) }
+{
+    let len = len as usize;
+    if rest.bytes.len() < len {
+        return Err(short(start));
+    }
+    let (bytes, after) = rest.bytes.split_at(len);
+    Ok((
+        Window {
+            bytes,
+            place: rest.place,
+            is_body: true,
+        },
+        Window {
+            bytes: after,
+            place: rest.place + len,
+            is_body: rest.is_body,
+        },
+    ))
+}
+
+/// The body after a length field, and what comes after it.
+#[tactic(auto, unfolding(crate::specs::Reading::body_at))]
+pub(crate) fn body(
+    width: Width,
+    window: Window<'_>,
+) -> Result<(Window<'_>, Window<'_>), PayloadError>
+    ensures { Gives (λ x. (seen x.0, seen x.1)) result (body_at width (seen window.entry)) }
+{
+    let (len, rest) = number(size_of(width), window)?;
+    sized(len, window, rest)
+}

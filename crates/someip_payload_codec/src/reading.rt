@@ -1,0 +1,265 @@
+//! Values from bytes.
+
+ghost use Rattle.std.specs.Prelude.{◌≡◌, ◌+◌, ◌^◌, ◌<◌, ◌≤◌, ℕ, take, length, IfOk, IfErr, Ok, Err};
+ghost use Rattle.someip_payload_codec.specs.Data.{unsigned, signed, bool, Data};
+ghost use Rattle.someip_payload_codec.specs.Check.{checked};
+ghost use Rattle.someip_payload_codec.specs.Faults.{FaultIn, IsFirstFault, IsReadingFault, whole};
+ghost use Rattle.someip_payload_codec.specs.Grammar.{Reads};
+ghost use Rattle.someip_payload_codec.specs.View.{form, forms, all_variants, data_of, data_of_all, seen};
+ghost use Rattle.someip_payload_codec.specs.Steps.{Gives};
+ghost use Rattle.someip_payload_codec.specs.Reading.{decoded, data_at, items_at, fixed_at, members_at, union_at, chosen_at, variant_at};
+
+use crate::check::check_shape;
+use crate::error::PayloadError;
+use crate::fields::{body, number, sized};
+use crate::number::{Size, signed_of};
+use crate::shape::Shape;
+use crate::text::text;
+use crate::value::Value;
+use crate::window::Window;
+use std::alloc::Global;
+
+/// The value at the front of the bytes, and how many bytes it takes. What comes after it is not
+/// looked at. Refuses what `check_shape` refuses, and then at the first fault from left to right:
+/// `Truncated`, `LengthMismatch`, `TooMany`, `UnknownVariant`, `NoTerminator` or `BadText`, each
+/// with its place, in bytes from the first one.
+///
+/// ```text
+/// array<2,u16>    00000004 0001 0002         [1,2], 8 bytes
+/// array<2,u16>    00000003 0001 00           LengthMismatch(6)
+/// array<2,u16>    00000006 0001 0002 0003    TooMany(8)
+/// ```
+pub fn decode(alloc: Global, shape: &Shape, bytes: &[u8]) -> Result<(Value, usize), PayloadError>
+    // What is read is spelled so.
+    ensures found { IfOk result (λ x. (checked (form shape.now) ≡ Ok tt) × (x.1 ≤ length bytes.now)
+        × Reads (form shape.now) (data_of x.0) (take x.1 bytes.now)) }
+    // What is spelled so is read, unless memory runs out.
+    ensures only { (d : Data) (n : ℕ) → checked (form shape.now) ≡ Ok tt → n ≤ length bytes.now
+        → Reads (form shape.now) d (take n bytes.now)
+        → Gives {Y = Data × ℕ} (λ x. (data_of x.0, x.1)) result (Ok (d, n)) }
+    // What stands before a fault is read, and at the fault nothing can be.
+    ensures fault { IfErr result (λ e. IsFirstFault (form shape.now) bytes.now e) }
+    // A shape that is refused is refused here too, and where a fault is described, it comes.
+    ensures refused { (e : PayloadError) → checked (form shape.now) ≡ Err e
+        → Gives {Y = Data × ℕ} (λ x. (data_of x.0, x.1)) result (Err e) }
+    ensures faulty { (e : PayloadError) → checked (form shape.now) ≡ Ok tt
+        → FaultIn (form shape.now) e (whole bytes.now)
+        → Gives {Y = Data × ℕ} (λ x. (data_of x.0, x.1)) result (Err e) }
+    // A fault is none of a value.
+    ensures errors { IfErr result IsReadingFault }
+    // Which value, or which fault: the first that reading from left to right meets.
+    ensures exact { Gives (λ x. (data_of x.0, x.1)) result (decoded (form shape.now) bytes.now) }
+{
+    decode_front(alloc, shape, bytes)
+}
+
+#[tactic(auto, unfolding(crate::specs::Reading::decoded))]
+fn decode_front(alloc: Global, shape: &Shape, bytes: &[u8]) -> Result<(Value, usize), PayloadError>
+    ensures { Gives (λ x. (data_of x.0, x.1)) result (decoded (form shape.now) bytes.now) }
+{
+    check_shape(alloc, shape)?;
+    let window = Window {
+        bytes,
+        place: 0,
+        is_body: false,
+    };
+    let (value, rest) = value(alloc, shape, window)?;
+    Ok((value, rest.place))
+}
+
+#[tactic(auto, unfolding(crate::specs::Reading::data_at))]
+fn truth(window: Window<'_>) -> Result<(Value, Window<'_>), PayloadError>
+    ensures { Gives (λ x. (data_of x.0, seen x.1)) result (data_at bool (seen window.entry)) }
+{
+    let (n, rest) = number(Size::S8, window)?;
+    Ok((Value::Bool(n % 2 == 1), rest))
+}
+
+#[tactic(auto, unfolding(crate::specs::Reading::data_at))]
+fn unsigned(size: Size, window: Window<'_>) -> Result<(Value, Window<'_>), PayloadError>
+    ensures { Gives (λ x. (data_of x.0, seen x.1)) result (data_at (unsigned size) (seen window.entry)) }
+{
+    let (n, rest) = number(size, window)?;
+    Ok((Value::Uint(n), rest))
+}
+
+#[tactic(auto, unfolding(crate::specs::Reading::data_at))]
+fn signed(size: Size, window: Window<'_>) -> Result<(Value, Window<'_>), PayloadError>
+    ensures { Gives (λ x. (data_of x.0, seen x.1)) result (data_at (signed size) (seen window.entry)) }
+{
+    let (n, rest) = number(size, window)?;
+    Ok((Value::Int(signed_of(size, n)), rest))
+}
+
+#[cycle(read)]
+#[tactic(auto, unfolding(crate::specs::Reading::data_at))]
+fn value<'a>(
+    alloc: Global,
+    shape: &Shape,
+    window: Window<'a>,
+) -> Result<(Value, Window<'a>), PayloadError>
+    ensures { Gives (λ x. (data_of x.0, seen x.1)) result (data_at (form shape.now) (seen window.entry)) }
+{
+    match shape {
+        Shape::Bool => truth(window),
+        Shape::U8 => unsigned(Size::S8, window),
+        Shape::U16 => unsigned(Size::S16, window),
+        Shape::U32 => unsigned(Size::S32, window),
+        Shape::U64 => unsigned(Size::S64, window),
+        Shape::I8 => signed(Size::S8, window),
+        Shape::I16 => signed(Size::S16, window),
+        Shape::I32 => signed(Size::S32, window),
+        Shape::I64 => signed(Size::S64, window),
+        Shape::Text(encoding, width) => {
+            let (body, rest) = body(*width, window)?;
+            let text = text(alloc, *encoding, window.place, body.bytes)?;
+            Ok((Value::Text(text), rest))
+        }
+        Shape::Array(width, max, element) => {
+            let (body, rest) = body(*width, window)?;
+            let items = items(alloc, *max, element, body)?;
+            Ok((Value::List(items), rest))
+        }
+        Shape::Fixed(count, element) => {
+            let (items, rest) = fixed(alloc, *count, element, window)?;
+            Ok((Value::List(items), rest))
+        }
+        Shape::Struct(None, shapes) => {
+            let (values, rest) = members(alloc, shapes, window)?;
+            Ok((Value::Struct(values), rest))
+        }
+        Shape::Struct(Some(width), shapes) => {
+            let (body, rest) = body(*width, window)?;
+            let (values, _) = members(alloc, shapes, body)?;
+            Ok((Value::Struct(values), rest))
+        }
+        Shape::Union(variants) => union(alloc, variants, window),
+    }
+}
+
+/// Elements until the window is used up.
+#[cycle(read)]
+fn items(
+    alloc: Global,
+    max: u32,
+    element: &Shape,
+    window: Window<'_>,
+) -> Result<Vec<Value>, PayloadError>
+    ensures { Gives (λ v. data_of_all v.items) result (items_at (data_at (form element.now)) max (seen window.entry)) }
+{
+    let mut values = Vec::new(alloc);
+    let mut left = max;
+    let mut window = window;
+    while !window.bytes.is_empty() {
+        if left == 0 {
+            return Err(PayloadError::TooMany(window.place));
+        }
+        let (value, rest) = value(alloc, element, window)?;
+        values.push(value)?;
+        left -= 1;
+        window = rest;
+    }
+    Ok(values)
+}
+
+/// Exactly so many elements.
+#[cycle(read)]
+fn fixed<'a>(
+    alloc: Global,
+    count: u32,
+    element: &Shape,
+    window: Window<'a>,
+) -> Result<(Vec<Value>, Window<'a>), PayloadError>
+    ensures { Gives (λ x. (data_of_all x.0.items, seen x.1)) result (fixed_at (data_at (form element.now)) count (seen window.entry)) }
+{
+    let mut values = Vec::new(alloc);
+    let mut window = window;
+    for _ in 0..count {
+        let (value, rest) = value(alloc, element, window)?;
+        values.push(value)?;
+        window = rest;
+    }
+    Ok((values, window))
+}
+
+#[cycle(read)]
+fn members<'a>(
+    alloc: Global,
+    shapes: &[Shape],
+    window: Window<'a>,
+) -> Result<(Vec<Value>, Window<'a>), PayloadError>
+    ensures { Gives (λ x. (data_of_all x.0.items, seen x.1)) result (members_at (forms shapes.now) (seen window.entry)) }
+{
+    let mut values = Vec::new(alloc);
+    let mut window = window;
+    for shape in shapes {
+        let (value, rest) = value(alloc, shape, window)?;
+        values.push(value)?;
+        window = rest;
+    }
+    Ok((values, window))
+}
+
+/// A length, a type number and a body.
+#[cycle(read)]
+#[tactic(auto, unfolding(crate::specs::Reading::union_at))]
+fn union<'a>(
+    alloc: Global,
+    variants: &[(u32, Shape)],
+    window: Window<'a>,
+) -> Result<(Value, Window<'a>), PayloadError>
+    ensures { Gives (λ x. (data_of x.0, seen x.1)) result (union_at
+        (λ kind len place v. variant_at (all_variants variants.now) kind len place (seen window.entry) v)
+        (seen window.entry)) }
+{
+    let (len, after) = number(Size::S32, window)?;
+    let (kind, rest) = number(Size::S32, after)?;
+    if kind != 0 {
+        return variant(alloc, variants, kind, after.place, len, window, rest);
+    }
+    if len != 0 {
+        return Err(PayloadError::LengthMismatch(window.place));
+    }
+    Ok((Value::Union(None), rest))
+}
+
+/// The variant of the number at the place, whose union begins at the start.
+#[cycle(read)]
+fn variant<'a>(
+    alloc: Global,
+    variants: &[(u32, Shape)],
+    kind: u64,
+    place: usize,
+    len: u64,
+    start: Window<'a>,
+    rest: Window<'a>,
+) -> Result<(Value, Window<'a>), PayloadError>
+    ensures { Gives (λ x. (data_of x.0, seen x.1)) result
+        (variant_at (all_variants variants.now) kind len place (seen start.entry) (seen rest.entry)) }
+{
+    for variant in variants {
+        if u64::from(variant.0) == kind {
+            return chosen(alloc, variant.0, &variant.1, len, start, rest);
+        }
+    }
+    Err(PayloadError::UnknownVariant(place))
+}
+
+#[cycle(read)]
+#[tactic(auto, unfolding(crate::specs::Reading::chosen_at))]
+fn chosen<'a>(
+    alloc: Global,
+    kind: u32,
+    shape: &Shape,
+    len: u64,
+    start: Window<'a>,
+    rest: Window<'a>,
+) -> Result<(Value, Window<'a>), PayloadError>
+    ensures { Gives (λ x. (data_of x.0, seen x.1)) result
+        (chosen_at (data_at (form shape.now)) kind len (seen start.entry) (seen rest.entry)) }
+{
+    let (body, after) = sized(len, start, rest)?;
+    let (value, _) = value(alloc, shape, body)?;
+    let value = Box::new(alloc, value)?;
+    Ok((Value::Union(Some((kind, value))), after))
+}

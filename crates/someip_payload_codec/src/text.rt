@@ -1,0 +1,134 @@
+//! Texts in the body of a length field.
+
+ghost use Rattle.std.specs.Prelude.{◌≡◌, ◌++◌, true, flat_map, string_bytes, IfOk, OnOk};
+ghost use Rattle.std.specs.Char.Escape.{encode_utf16};
+ghost use Rattle.someip_payload_codec.specs.Texts.{unit_bytes};
+ghost use Rattle.someip_payload_codec.specs.Writing.{text_body};
+ghost use Rattle.someip_payload_codec.specs.Steps.{Gives};
+ghost use Rattle.someip_payload_codec.specs.Reading.{without_mark, is_little, unit_of, units_of, utf8_at, utf16_in, text_at};
+
+use crate::error::PayloadError;
+use crate::shape::Encoding;
+use std::alloc::{AllocError, Global};
+
+/// The text of a body whose length field stands at the place.
+#[tactic(auto, unfolding(crate::specs::Reading::text_at))]
+pub(crate) fn text(
+    alloc: Global,
+    encoding: Encoding,
+    place: usize,
+    body: &[u8],
+) -> Result<String, PayloadError>
+    ensures { Gives (λ s. string_bytes s) result (text_at encoding place body.now) }
+{
+    match encoding {
+        Encoding::Utf8 => utf8(alloc, place, body),
+        Encoding::Utf16 => {
+            let units = units(alloc, !is_little_endian(body), body)?;
+            utf16(alloc, place, &units)
+        }
+    }
+}
+
+#[tactic(auto, using(crate::proofs::Strings::is_utf8_true, crate::proofs::Strings::is_utf8_false), unfolding(crate::specs::Reading::utf8_at))]
+fn utf8(alloc: Global, place: usize, body: &[u8]) -> Result<String, PayloadError>
+    ensures { Gives (λ s. string_bytes s) result (utf8_at place body.now) }
+{
+    if body.is_empty() || body[body.len() - 1] != 0 {
+        return Err(PayloadError::NoTerminator(place));
+    }
+    match str::from_utf8(after_mark(&body[..body.len() - 1])) {
+        Ok(text) => Ok(String::from_str(alloc, text)?),
+        Err(_) => Err(PayloadError::BadText(place)),
+    }
+}
+
+/// What comes after the byte order mark of UTF-8, if there is one.
+fn after_mark(bytes: &[u8]) -> &[u8]
+    ensures { result.now ≡ without_mark bytes.now }
+{
+    if bytes.len() >= 3 && bytes[0] == 0xef && bytes[1] == 0xbb && bytes[2] == 0xbf {
+        &bytes[3..]
+    } else {
+        bytes
+    }
+}
+
+#[tactic(auto, unfolding(crate::specs::Reading::utf16_in))]
+fn utf16(alloc: Global, place: usize, units: &[u16]) -> Result<String, PayloadError>
+    ensures { Gives (λ s. string_bytes s) result (utf16_in place units.now) }
+{
+    if units.is_empty() || units[units.len() - 1] != 0 {
+        return Err(PayloadError::NoTerminator(place));
+    }
+    if units[0] != 0xfeff {
+        return Err(PayloadError::BadText(place));
+    }
+    match String::from_utf16(alloc, &units[1..units.len() - 1])? {
+        Ok(text) => Ok(text),
+        Err(_) => Err(PayloadError::BadText(place)),
+    }
+}
+
+/// Whether the byte order mark has its lower byte first.
+fn is_little_endian(body: &[u8]) -> bool
+    ensures { result ≡ is_little body.now }
+{
+    body.len() > 1 && body[0] == 0xff && body[1] == 0xfe
+}
+
+/// The units of UTF-16, without an odd byte at the end.
+fn units(alloc: Global, is_big: bool, bytes: &[u8]) -> Result<Vec<u16>, AllocError>
+    ensures { IfOk result (λ v. v.items ≡ units_of is_big bytes.now) }
+{
+    let mut units = Vec::new(alloc);
+    let mut at = 0;
+    while bytes.len() - at > 1 {
+        units.push(unit(is_big, bytes[at], bytes[at + 1]))?;
+        at += 2;
+    }
+    Ok(units)
+}
+
+fn unit(is_big: bool, first: u8, second: u8) -> u16
+    ensures { result ≡ unit_of is_big first second }
+{
+    if is_big {
+        u16::from_be_bytes([first, second])
+    } else {
+        u16::from_le_bytes([first, second])
+    }
+}
+
+/// Adds a text with mark and terminator.
+#[tactic(auto, unfolding(crate::specs::Writing::text_body))]
+pub(crate) fn put_text(encoding: Encoding, text: &str, out: &mut Vec<u8>) -> Result<(), AllocError>
+    ensures { OnOk result (out.new.items ≡ out.old.items ++ text_body encoding text.now) }
+{
+    match encoding {
+        Encoding::Utf8 => {
+            out.extend_from_slice(&[0xef, 0xbb, 0xbf])?;
+            out.extend_from_slice(text.as_bytes())?;
+            out.push(0)?;
+        }
+        Encoding::Utf16 => {
+            out.extend_from_slice(&[0xfe, 0xff])?;
+            for c in text.chars() {
+                put_char(c, out)?;
+            }
+            out.extend_from_slice(&[0, 0])?;
+        }
+    }
+    Ok(())
+}
+
+/// Adds the units of a character, each with its higher byte first.
+fn put_char(c: char, out: &mut Vec<u8>) -> Result<(), AllocError>
+    ensures { OnOk result (out.new.items ≡ out.old.items ++ flat_map (unit_bytes true) (encode_utf16 c)) }
+{
+    let mut pair = [0; 2];
+    for unit in c.encode_utf16(&mut pair) {
+        out.extend_from_slice(&unit.to_be_bytes())?;
+    }
+    Ok(())
+}
