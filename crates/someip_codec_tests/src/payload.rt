@@ -4,6 +4,7 @@ use someip_payload::{PayloadError, Value, decode, encode, laws, read_shape};
 use std::alloc::Global;
 
 mod limits;
+mod tagged;
 
 /// The value at the front of bytes of a shape, and how many bytes it has.
 fn value_of(alloc: Global, shape: &str, bytes: &[u8]) -> Option<(Value, usize)> {
@@ -417,6 +418,21 @@ const PRINTED: &[Printed] = &[
     Printed(PayloadError::NotOfShape(0), "NotOfShape", "NotOfShape at 0"),
     Printed(PayloadError::TooLong(0), "TooLong", "TooLong at 0"),
     Printed(PayloadError::BadShape(0), "BadShape", "BadShape at 0"),
+    Printed(
+        PayloadError::DuplicateMember(7),
+        "DuplicateMember",
+        "DuplicateMember at 7",
+    ),
+    Printed(
+        PayloadError::WrongWireType(4),
+        "WrongWireType",
+        "WrongWireType at 4",
+    ),
+    Printed(
+        PayloadError::MissingMember(0),
+        "MissingMember",
+        "MissingMember at 0",
+    ),
     Printed(PayloadError::OutOfMemory, "OutOfMemory", "out of memory"),
 ];
 

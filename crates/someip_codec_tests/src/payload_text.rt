@@ -54,6 +54,14 @@ const SHAPED: &[Shaped] = &[
         "union(0:bool,4294967295:union(7:u8,7:i32),30:array<1,u8>)",
         "Union([(0, Bool), (4294967295, Union([(7, U8), (7, I32)])), (30, Array(W32, 1, U8))])",
     ),
+    Shaped(
+        "tagged(1:u8)",
+        "Tagged(W32, [Member { id: 1, is_optional: false, shape: U8 }])",
+    ),
+    Shaped(
+        "tagged/8(4095?:tagged/16(0:i8),4095:bool)",
+        "Tagged(W8, [Member { id: 4095, is_optional: true, shape: Tagged(W16, [Member { id: 0, is_optional: false, shape: I8 }]) }, Member { id: 4095, is_optional: false, shape: Bool }])",
+    ),
 ];
 
 #[test]
@@ -201,6 +209,24 @@ const PARTS: &[Faulty] = &[
     Faulty("union(1:u8,02:u8)", 12),
     Faulty("union(1:u8,u8)", 11),
     Faulty("union(4294967296:u8)", 15),
+    Faulty("tag", 3),
+    Faulty("tagged", 6),
+    Faulty("tagged()", 7),
+    Faulty("tagged/9(1:u8)", 7),
+    Faulty("tagged(u8)", 7),
+    Faulty("tagged(?:u8)", 7),
+    Faulty("tagged(1", 8),
+    Faulty("tagged(1?", 9),
+    Faulty("tagged(1u8)", 8),
+    Faulty("tagged(1?u8)", 9),
+    Faulty("tagged(1??:u8)", 9),
+    Faulty("tagged(1:?u8)", 9),
+    Faulty("tagged(01:u8)", 8),
+    Faulty("tagged(4095:u8", 14),
+    Faulty("tagged(4096:u8)", 10),
+    Faulty("tagged(5000:u8)", 10),
+    Faulty("tagged(1:u8,)", 12),
+    Faulty("tagged(1:u8,2?:utf8/8", 21),
 ];
 
 #[test]
@@ -235,6 +261,8 @@ const BALANCED: &[Balanced] = &[
     Balanced("struct(", ")"),
     Balanced("struct/8(u8,", ")"),
     Balanced("union(1:", ")"),
+    Balanced("tagged(1:", ")"),
+    Balanced("tagged/8(1?:u8,2?:", ")"),
 ];
 
 /// So many times the piece, then the end, and the place of the fault.

@@ -40,6 +40,7 @@ word_text-nonempty word.Array h = cc
 word_text-nonempty word.Fixed h = cc
 word_text-nonempty word.Struct h = cc
 word_text-nonempty word.Union h = cc
+word_text-nonempty word.Tagged h = cc
 
 -- the place behind a word is not the place of the word
 pub behind_its_word : (r : Result (Word × ℕ) ShapeTextError) (text : List ℕ) (at high : ℕ) → IfOk r (λ x. (at ≤ x.1) × (x.1 ≤ high))

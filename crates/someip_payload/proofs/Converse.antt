@@ -12,7 +12,7 @@ use Rattle.someip_payload.specs.declared.shape_text.Word.TheVariants as word
 use Rattle.someip_payload.specs.declared.shape_text_error.ShapeTextError.{ShapeTextError}
 use Rattle.someip_payload.specs.declared.shape_text_error.ShapeTextError.TheVariants.{BadShape, OutOfMemory}
 use Rattle.someip_payload_codec.specs.Data.{Form}
-use Rattle.someip_payload.specs.ShapeText.{IsTextOf, bool_text, u8_text, u16_text, u32_text, u64_text, i8_text, i16_text, i32_text, i64_text, utf8_text, utf16_text, array_text, fixed_text, struct_text, union_text, width_text, HasNoWidth, IsNoFront, IsReadAs, IsReadTo, IsRepeatedTo}
+use Rattle.someip_payload.specs.ShapeText.{IsTextOf, bool_text, u8_text, u16_text, u32_text, u64_text, i8_text, i16_text, i32_text, i64_text, utf8_text, utf16_text, array_text, fixed_text, struct_text, union_text, tagged_text, width_text, HasNoWidth, IsNoFront, IsReadAs, IsReadTo, IsRepeatedTo}
 use Rattle.someip_payload_codec.specs.View.{form}
 use Rattle.someip_payload.specs.Words.{word_text, Behind}
 
@@ -59,13 +59,14 @@ first_word_of bytes =
     (cond (eqb a 97) word.Array
     (cond (eqb a 102) word.Fixed
     (cond (eqb a 115) word.Struct
+    (cond (eqb a 116) word.Tagged
     (cond (eqb a 105) (cond (eqb b 56) word.I8 (cond (eqb b 49) word.I16 (cond (eqb b 51) word.I32 word.I64)))
     (cond (eqb b 56) word.U8
     (cond (eqb b 49) word.U16
     (cond (eqb b 51) word.U32
     (cond (eqb b 54) word.U64
     (cond (eqb b 110) word.Union
-    (cond (eqb d 56) word.Utf8 word.Utf16))))))))))
+    (cond (eqb d 56) word.Utf8 word.Utf16)))))))))))
 
 word_back : (w : Word) (rest : List ℕ) → first_word_of (word_text w ++ rest) ≡ w
 unfolding first_word_of
@@ -84,6 +85,7 @@ word_back word.Array rest = refl
 word_back word.Fixed rest = refl
 word_back word.Struct rest = refl
 word_back word.Union rest = refl
+word_back word.Tagged rest = refl
 
 same_word : (w v : Word) (r s : List ℕ) → word_text w ++ r ≡ word_text v ++ s → w ≡ v
 same_word w v r s is = sym (word_back w r) ∙ ap first_word_of is ∙ word_back v s
@@ -118,7 +120,7 @@ first_word_only (Err e) text at w rest is found bounds none = absurd (none rest 
 abbrev pub NoWord : List ℕ → Type 0
 NoWord text =
     AllByRecursion (λ w. IsNoFront (word_text w) text)
-    (word.Bool ∷ word.U8 ∷ word.U16 ∷ word.U32 ∷ word.U64 ∷ word.I8 ∷ word.I16 ∷ word.I32 ∷ word.I64 ∷ word.Utf8 ∷ word.Utf16 ∷ word.Array ∷ word.Fixed ∷ word.Struct ∷ word.Union ∷ [])
+    (word.Bool ∷ word.U8 ∷ word.U16 ∷ word.U32 ∷ word.U64 ∷ word.I8 ∷ word.I16 ∷ word.I32 ∷ word.I64 ∷ word.Utf8 ∷ word.Utf16 ∷ word.Array ∷ word.Fixed ∷ word.Struct ∷ word.Union ∷ word.Tagged ∷ [])
 
 pub none_of : (text : List ℕ) (w : Word) → NoWord text → IsNoFront (word_text w) text
 none_of text word.Bool none = none.0
@@ -136,6 +138,7 @@ none_of text word.Array none = none.1.1.1.1.1.1.1.1.1.1.1.0
 none_of text word.Fixed none = none.1.1.1.1.1.1.1.1.1.1.1.1.0
 none_of text word.Struct none = none.1.1.1.1.1.1.1.1.1.1.1.1.1.0
 none_of text word.Union none = none.1.1.1.1.1.1.1.1.1.1.1.1.1.1.0
+none_of text word.Tagged none = none.1.1.1.1.1.1.1.1.1.1.1.1.1.1.1.0
 
 pub if_none : {X : Type 0} {E : Type 0} (r : Result X E) (A B : Type 0) → (A → B) → IfErr r (λ e. A) → IfErr r (λ e. B)
 if_none (Ok x) A B f h = tt
@@ -198,6 +201,7 @@ split f text (array_text w n g element small is) = record { first = word.Array; 
 split f text (fixed_text n g element small is) = record { first = word.Fixed; back = _; is = refl; behind = (n, g, element, small, is, refl, refl) }
 split f text (struct_text w fs members are) = record { first = word.Struct; back = _; is = refl; behind = (w, fs, members, are, refl, refl) }
 split f text (union_text vs variants are) = record { first = word.Union; back = _; is = refl; behind = (vs, variants, are, refl, refl) }
+split f text (tagged_text w ms members are) = record { first = word.Tagged; back = _; is = refl; behind = (w, ms, members, are, refl, refl) }
 
 abbrev pub word_read : Word → ℕ → Result (Word × ℕ) ShapeTextError
 word_read w end = Ok (w, end)

@@ -4,17 +4,18 @@ use Rattle.std.specs.Prelude.{◌⊎◌, Result, Ok, Err, IfOk}
 use Rattle.std.specs.Fmt.{decimal}
 use Rattle.std.specs.declared.boxed.Box.{Box}
 use Rattle.std.proofs.lemmas.List.{length-append, get_or-drop}
-use Rattle.someip_payload_codec.specs.declared.shape.Shape.{Shape, Text, Array, Fixed, Struct, Union}
+use Rattle.someip_payload_codec.specs.declared.shape.Shape.{Shape, Text, Array, Fixed, Struct, Union, Tagged}
+use Rattle.someip_payload_codec.specs.declared.shape.Member.{Member}
 use Rattle.someip_payload_codec.specs.declared.shape.Encoding.{Encoding}
 use Rattle.someip_payload_codec.specs.declared.shape.Width.{Width}
 use Rattle.someip_payload.specs.declared.shape_text_error.ShapeTextError.{ShapeTextError}
 use Rattle.someip_payload_codec.specs.Check.{depth, deepest, deepest_variant}
-use Rattle.someip_payload_codec.specs.Data.{Form, bool, unsigned, signed, string, array, fixed, «struct», union, Forms, no_forms, form_then, Variants, no_variants, variant}
+use Rattle.someip_payload_codec.specs.Data.{Form, bool, unsigned, signed, string, array, fixed, «struct», union, tagged, Forms, no_forms, form_then, Variants, no_variants, variant, Members}
 use Rattle.someip_payload.specs.ShapeText.{IsTextOf, IsTextOfMembers, last_member, next_member, IsTextOfVariants, last_variant, next_variant, IsDigit, HasNoWidth, width_text, or_32, repeated_text}
-use Rattle.someip_payload_codec.specs.View.{form, forms, all_variants}
+use Rattle.someip_payload_codec.specs.View.{form, forms, all_variants, all_members}
 use Rattle.someip_payload.proofs.Members.{before, before-more, before-none, before_variants, before_variants-more, before_variants-none}
 use Rattle.someip_payload.proofs.Converse.{behind_piece}
-use Rattle.someip_payload.proofs.ShapePieces.{form-Text, form-Array, form-Fixed, form-Struct, form-Union}
+use Rattle.someip_payload.proofs.ShapePieces.{form-Text, form-Array, form-Fixed, form-Struct, form-Union, form-Tagged}
 
 -- two pieces in front of the rest
 pub split_front : (bytes back rest a b : List ℕ) → bytes ≡ back ++ rest → back ≡ a ++ b → bytes ≡ a ++ (b ++ rest)
@@ -29,6 +30,7 @@ some_depth (array width most element) = omega arith
 some_depth (fixed n element) = omega arith
 some_depth («struct» width fs) = omega arith
 some_depth (union vs) = omega arith
+some_depth (tagged width ms) = omega arith
 
 -- ---- shapes of their parts
 
@@ -47,6 +49,9 @@ struct_is w v ss f fs same members what = let own = form-Struct w ss in cc
 pub union_is : (ss : Vec (ℕ × Shape) Global) (f : Form) (vs : Variants) → all_variants ss.items ≡ vs → f ≡ union vs → form (Union ss) ≡ f
 union_is ss f vs variants what = let own = form-Union ss in cc
 
+pub tagged_is : (w v : Option Width) (meant : Width) (mm : Vec Member Global) (f : Form) (ms : Members) → meant ≡ or_32 w → w ≡ v → all_members mm.items ≡ ms → f ≡ tagged (or_32 v) ms → form (Tagged meant mm) ≡ f
+tagged_is w v meant mm f ms is same members what = let own = form-Tagged meant mm in let width = ap or_32 same in cc
+
 -- ---- what a part begins with
 
 pub stops_repeated : (n : ℕ) (element rest : List ℕ) → HasNoWidth (repeated_text n element ++ rest)
@@ -60,6 +65,9 @@ stops_end rest = λ e. omega (arith, e)
 
 pub no_digit_comma : IsDigit 44 → ⊥
 no_digit_comma d = omega (arith, d.0)
+
+pub no_digit_mark : IsDigit 63 → ⊥
+no_digit_mark d = omega (arith, d.1)
 
 pub no_digit_colon : IsDigit 58 → ⊥
 no_digit_colon d = omega (arith, d.1)

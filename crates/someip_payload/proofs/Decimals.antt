@@ -114,7 +114,7 @@ module _ (n b : ℕ) (rest bytes : List ℕ) (small : n < 2 ^ 32) (stop : IsDigi
           stop (subst IsDigit (ap (λ j. get_or bytes j 0) same ∙ behind) digit)
 
   -- a digit that makes the number too large
-  pub not_too_large : (m k d : ℕ) → 0 < m → m < 2 ^ 32 → d < 10 → 2 ^ 32 ≤ m * 10 + d → length (decimal m) ≡ k → take k bytes ≡ decimal m → k < length bytes → get_or bytes k 0 ≡ 48 + d → ⊥
+  pub not_too_large : (m k d : ℕ) → 0 < m → m < 2 ^ 32 → d < 10 → n < m * 10 + d → length (decimal m) ≡ k → take k bytes ≡ decimal m → k < length bytes → get_or bytes k 0 ≡ 48 + d → ⊥
   not_too_large m k d some less small_digit large len front lt digit = ⊎_elim inner (λ le. ends (omega (arith, within m k less len front, le))) (cases_lt k (length (decimal n)))
     where
       is_digit : IsDigit (get_or bytes k 0)
@@ -153,7 +153,7 @@ module _ (text : List ℕ) (at end n b : ℕ) (rest : List ℕ) (small : n < 2 ^
       let is_digit : IsDigit (get_or (drop at text) (end - at) 0) = (omega (arith, here, digit), omega (arith, here, digit, small_digit)) in
       no_leading_zero n b rest (drop at text) small stop is (end - at) (omega (arith, lt)) (digits_len 0 zero_front) zero_front is_digit
 
-  pub too_large_at : (m d : ℕ) → 0 < m → m < 2 ^ 32 → slice_range text at end ≡ decimal m → d < 10 → get_or text end 0 ≡ 48 + d → end < length text → 2 ^ 32 ≤ m * 10 + d → ⊥
+  pub too_large_at : (m d : ℕ) → 0 < m → m < 2 ^ 32 → slice_range text at end ≡ decimal m → d < 10 → get_or text end 0 ≡ 48 + d → end < length text → n < m * 10 + d → ⊥
   too_large_at m d some less front small_digit digit inside_text large =
       not_too_large n b rest (drop at text) small stop is m (end - at) d some less small_digit large (digits_len m front) front (omega (arith, le, inside_text, length-drop at text)) (here ∙ digit)
 

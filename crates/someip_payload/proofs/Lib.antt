@@ -6,3 +6,4 @@ mod Beginnings
 pub mod Decimals
 pub mod Converse
 pub mod ConverseParts
+pub mod TaggedMembers

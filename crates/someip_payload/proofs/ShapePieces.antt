@@ -1,16 +1,17 @@
 -- Shapes of which the parts were read one after the other.
 use Rattle.std.proofs.Common.{rules, ◌≡◌, ℕ, ◌<◌, ◌≤◌, ◌^◌, List, ◌++◌, length, Option, Vec, Global, slice_range, codes, arith}
-use Rattle.std.specs.Prelude.{Result, Ok, Err, IfOk}
+use Rattle.std.specs.Prelude.{Bool as Bit, Result, Ok, Err, IfOk}
 use Rattle.std.specs.Fmt.{decimal}
 use Rattle.std.specs.declared.boxed.Box.{Box}
 use Rattle.someip_payload.specs.declared.shape_text_error.ShapeTextError.{ShapeTextError}
-use Rattle.someip_payload_codec.specs.declared.shape.Shape.{Shape, Bool, U8, U16, U32, U64, I8, I16, I32, I64, Text, Array, Fixed, Struct, Union, the_lemmas}
+use Rattle.someip_payload_codec.specs.declared.shape.Shape.{Shape, Bool, U8, U16, U32, U64, I8, I16, I32, I64, Text, Array, Fixed, Struct, Union, Tagged, the_lemmas}
+use Rattle.someip_payload_codec.specs.declared.shape.Member.{Member, roll-Member}
 use Rattle.someip_payload_codec.specs.declared.shape.Encoding.{Encoding}
 use Rattle.someip_payload_codec.specs.declared.shape.Encoding.TheVariants.{Utf8, Utf16}
 use Rattle.someip_payload_codec.specs.declared.shape.Width.{Width}
-use Rattle.someip_payload_codec.specs.Data.{bool, u8, u16, u32, u64, i8, i16, i32, i64, string, array, fixed, «struct», union}
-use Rattle.someip_payload_codec.specs.View.{form, forms, all_variants}
-use Rattle.someip_payload.specs.ShapeText.{IsTextOf, IsTextOfMembers, IsTextOfVariants, bool_text, u8_text, u16_text, u32_text, u64_text, i8_text, i16_text, i32_text, i64_text, utf8_text, utf16_text, array_text, fixed_text, struct_text, union_text, width_text, or_32, repeated_text}
+use Rattle.someip_payload_codec.specs.Data.{bool, u8, u16, u32, u64, i8, i16, i32, i64, string, array, fixed, «struct», union, tagged}
+use Rattle.someip_payload_codec.specs.View.{form, forms, all_variants, all_members, OneMember, one_member}
+use Rattle.someip_payload.specs.ShapeText.{IsTextOf, IsTextOfMembers, IsTextOfVariants, IsTextOfTaggedMembers, bool_text, u8_text, u16_text, u32_text, u64_text, i8_text, i16_text, i32_text, i64_text, utf8_text, utf16_text, array_text, fixed_text, struct_text, union_text, tagged_text, width_text, or_32, repeated_text}
 use Rattle.someip_payload.proofs.Pieces.{slice_range-append}
 
 pub form-U8 : form U8 ≡ u8
@@ -51,6 +52,15 @@ form-Struct w ss = search (rules, the_lemmas)
 
 pub form-Union : (vs : Vec (ℕ × Shape) Global) → form (Union vs) ≡ union (all_variants vs.items)
 form-Union vs = search (rules, the_lemmas)
+
+pub form-Tagged : (width : Width) (ms : Vec Member Global) → form (Tagged width ms) ≡ tagged width (all_members ms.items)
+form-Tagged width ms = search (rules, the_lemmas)
+
+abbrev pub made_member : ℕ → Bit → Shape → Member
+made_member id optional s = roll-Member (record { id = id; is_optional = optional; shape = s })
+
+pub one_member-made : (id : ℕ) (optional : Bit) (s : Shape) → one_member (made_member id optional s) ≡ record { id = id; optional = optional; form = form s }
+one_member-made id optional s = search (rules, the_lemmas)
 
 pub bool_shape : (piece : List ℕ) → piece ≡ codes "bool" → IsTextOf (form Bool) piece
 bool_shape piece is = let e : form Bool ≡ bool = search (rules, the_lemmas) in rw (e, is) bool_text
@@ -106,6 +116,12 @@ pub union_shape : (vs : Vec (ℕ × Shape) Global) (text variants : List ℕ) (a
     → IsTextOf (form (Union vs)) (codes "union" ++ slice_range text at end)
 union_shape vs text variants at first end le le2 bracket are all =
     rw (form-Union vs, ← slice_range-append text at first end le le2, bracket, all) (union_text (all_variants vs.items) variants are)
+
+pub tagged_shape : (w : Option Width) (meant : Width) (ms : Vec Member Global) (text members : List ℕ) (at from first end : ℕ) → at ≤ from → from ≤ first → first ≤ end → meant ≡ or_32 w
+    → slice_range text at from ≡ width_text w → slice_range text from first ≡ codes "(" → IsTextOfTaggedMembers (all_members ms.items) members → slice_range text first end ≡ members ++ codes ")"
+    → IsTextOf (form (Tagged meant ms)) (codes "tagged" ++ slice_range text at end)
+tagged_shape w meant ms text members at from first end le le2 le3 is width bracket are all =
+    rw (form-Tagged meant ms, is, ← slice_range-append text at from end le (omega arith), width, ← slice_range-append text from first end le2 le3, bracket, all) (tagged_text w (all_members ms.items) members are)
 
 pub repeated_piece : (text : List ℕ) (n at from comma first last end : ℕ) → at ≤ from → from ≤ comma → comma ≤ first → first ≤ last → last ≤ end
     → slice_range text at from ≡ codes "<" → slice_range text from comma ≡ decimal n → slice_range text comma first ≡ codes "," → slice_range text last end ≡ codes ">"

@@ -1,7 +1,8 @@
 -- The texts of shapes.
-use Rattle.std.specs.Prelude.{◌≡◌, ℕ, ◌<◌, ◌≤◌, ◌^◌, ⊤, List, [], ◌∷◌, ◌++◌, Option, Some, None, Result, Ok, Err, codes}
+use Rattle.std.specs.Prelude.{◌≡◌, ℕ, ◌<◌, ◌≤◌, ◌^◌, ⊤, Bool, true, false, List, [], ◌∷◌, ◌++◌, Option, Some, None, Result, Ok, Err, codes}
 use Rattle.std.specs.Fmt.{decimal}
-use Rattle.someip_payload_codec.specs.Data.{Form, bool, u8, u16, u32, u64, i8, i16, i32, i64, string, array, fixed, «struct», union, Forms, no_forms, form_then, Variants, no_variants, variant}
+use Rattle.someip_payload_codec.specs.Data.{Form, bool, u8, u16, u32, u64, i8, i16, i32, i64, string, array, fixed, «struct», union, tagged, Forms, no_forms, form_then, Variants, no_variants, variant, Members, no_members, member_then}
+use Rattle.someip_payload_codec.specs.View.{OneMember}
 use Rattle.someip_payload_codec.specs.declared.shape.Encoding.TheVariants.{Utf8, Utf16}
 use Rattle.someip_payload_codec.specs.declared.shape.Width.{Width}
 use Rattle.someip_payload_codec.specs.declared.shape.Width.TheVariants.{W8, W16, W32}
@@ -24,6 +25,15 @@ or_32 (Some w) = w
 abbrev pub repeated_text : ℕ → List ℕ → List ℕ
 repeated_text n element = codes "<" ++ (decimal n ++ (codes "," ++ (element ++ codes ">")))
 
+-- what marks a member that may be absent
+abbrev pub mark_text : Bool → List ℕ
+mark_text true = codes "?"
+mark_text false = []
+
+-- a member of a tagged structure: its Data ID, perhaps the mark, and the text of its form
+abbrev pub tagged_member_text : ℕ → Bool → List ℕ → List ℕ
+tagged_member_text id optional text = decimal id ++ (mark_text optional ++ (codes ":" ++ text))
+
 mutual
   -- the form has the text. A number has 32 bits.
   pub data IsTextOf : Form → List ℕ → Type 0 where
@@ -44,6 +54,8 @@ mutual
     struct_text : (w : Option Width) (fs : Forms) (text : List ℕ) → IsTextOfMembers fs text
         → IsTextOf («struct» w fs) (codes "struct" ++ (width_text w ++ (codes "(" ++ (text ++ codes ")"))))
     union_text : (vs : Variants) (text : List ℕ) → IsTextOfVariants vs text → IsTextOf (union vs) (codes "union" ++ (codes "(" ++ (text ++ codes ")")))
+    tagged_text : (w : Option Width) (ms : Members) (text : List ℕ) → IsTextOfTaggedMembers ms text
+        → IsTextOf (tagged (or_32 w) ms) (codes "tagged" ++ (width_text w ++ (codes "(" ++ (text ++ codes ")"))))
 
   -- members, of which there is at least one, with commas between them
   pub data IsTextOfMembers : Forms → List ℕ → Type 0 where
@@ -56,6 +68,17 @@ mutual
     last_variant : (n : ℕ) (f : Form) (text : List ℕ) → n < 2 ^ 32 → IsTextOf f text → IsTextOfVariants (variant n f no_variants) (decimal n ++ (codes ":" ++ text))
     next_variant : (n : ℕ) (f : Form) (vs : Variants) (text others : List ℕ) → n < 2 ^ 32 → IsTextOf f text → IsTextOfVariants vs others
         → IsTextOfVariants (variant n f vs) ((decimal n ++ (codes ":" ++ text)) ++ (codes "," ++ others))
+
+  -- members of a tagged structure, of which there is at least one, with commas between them. A Data ID has 12 bits.
+  pub data IsTextOfTaggedMembers : Members → List ℕ → Type 0 where
+    last_tagged : (id : ℕ) (optional : Bool) (f : Form) (text : List ℕ) → id < 2 ^ 12 → IsTextOf f text
+        → IsTextOfTaggedMembers (member_then id optional f no_members) (tagged_member_text id optional text)
+    next_tagged : (id : ℕ) (optional : Bool) (f : Form) (ms : Members) (text others : List ℕ) → id < 2 ^ 12 → IsTextOf f text → IsTextOfTaggedMembers ms others
+        → IsTextOfTaggedMembers (member_then id optional f ms) (tagged_member_text id optional text ++ (codes "," ++ others))
+
+-- the text of one member of a tagged structure
+abbrev pub IsTextOfTaggedMember : OneMember → List ℕ → Type 0
+IsTextOfTaggedMember m text = (shape : List ℕ) × (m.id < 2 ^ 12) × IsTextOf m.form shape × (text ≡ tagged_member_text m.id m.optional shape)
 
 -- a fault's place lies between two places; memory may run out at any
 abbrev pub IsFaultWithin : ℕ → ℕ → ShapeTextError → Type 0

@@ -1,9 +1,9 @@
 -- The words that a shape's text begins with.
 use Rattle.std.specs.Prelude.{◌≡◌, ℕ, ◌<◌, ◌^◌, List, [], ◌++◌, Option, codes}
-use Rattle.someip_payload_codec.specs.Data.{Form, bool, u8, u16, u32, u64, i8, i16, i32, i64, string, array, fixed, «struct», union, Forms, Variants}
+use Rattle.someip_payload_codec.specs.Data.{Form, bool, u8, u16, u32, u64, i8, i16, i32, i64, string, array, fixed, «struct», union, tagged, Forms, Variants, Members}
 use Rattle.someip_payload_codec.specs.declared.shape.Encoding.TheVariants.{Utf8, Utf16}
 use Rattle.someip_payload_codec.specs.declared.shape.Width.{Width}
-use Rattle.someip_payload.specs.ShapeText.{IsTextOf, IsTextOfMembers, IsTextOfVariants, width_text, or_32, repeated_text}
+use Rattle.someip_payload.specs.ShapeText.{IsTextOf, IsTextOfMembers, IsTextOfVariants, IsTextOfTaggedMembers, width_text, or_32, repeated_text}
 use Rattle.someip_payload.specs.declared.shape_text.Word.{Word}
 use Rattle.someip_payload.specs.declared.shape_text.Word.TheVariants as word
 
@@ -23,6 +23,7 @@ word_text word.Array = codes "array"
 word_text word.Fixed = codes "fixed"
 word_text word.Struct = codes "struct"
 word_text word.Union = codes "union"
+word_text word.Tagged = codes "tagged"
 
 -- what stands after the word in a text of the form
 abbrev pub Behind : Word → Form → List ℕ → Type 0
@@ -47,3 +48,6 @@ Behind word.Struct f back =
     × (f ≡ «struct» w fs) × (back ≡ width_text w ++ (codes "(" ++ (text ++ codes ")")))
 Behind word.Union f back =
     (vs : Variants) × (text : List ℕ) × IsTextOfVariants vs text × (f ≡ union vs) × (back ≡ codes "(" ++ (text ++ codes ")"))
+Behind word.Tagged f back =
+    (w : Option Width) × (ms : Members) × (text : List ℕ) × IsTextOfTaggedMembers ms text
+    × (f ≡ tagged (or_32 w) ms) × (back ≡ width_text w ++ (codes "(" ++ (text ++ codes ")")))

@@ -1,7 +1,7 @@
 //! SOME/IP payloads: values of a shape, as bytes (SOME/IP Protocol, "Serialization of Parameters and
 //! Data Structures").
 //!
-//! - [`Shape`], with [`Width`] and [`Encoding`]: what a payload is read by; [`Value`]: what it says;
+//! - [`Shape`], with [`Width`], [`Encoding`] and [`Member`]: what a payload is read by; [`Value`]: what it says;
 //! - [`check_shape`]: whether payloads can have a shape; [`MAX_DEPTH`]: how deep it may be;
 //! - [`decode`]: bytes as a value; [`encode`]: a value as bytes; [`PayloadError`]: the first fault;
 //! - [`read_shape`]: a shape from its text; [`ShapeTextError`]: where it is none;
@@ -10,9 +10,11 @@
 
 mod shape_text;
 mod shape_text_error;
+mod text_parts;
 
 pub use shape_text::read_shape;
 pub use shape_text_error::ShapeTextError;
 pub use someip_payload_codec::{
-    Encoding, MAX_DEPTH, PayloadError, Shape, Value, Width, check_shape, decode, encode, laws,
+    Encoding, MAX_DEPTH, Member, PayloadError, Shape, Value, Width, check_shape, decode, encode,
+    laws,
 };

@@ -1,22 +1,27 @@
 //! Shapes from their texts.
 
-ghost use Rattle.std.specs.Prelude.{◌≡◌, ◌≢◌, ◌+◌, ◌*◌, ◌<◌, ◌≤◌, ◌^◌, ◌++◌, [], ◌∷◌, ℕ, List, Option, Some, None, Ok, length, take, drop, slice_range, slice_index, codes, IsTrue, IfOk, IfErr, IfSome, IfNone};
-ghost use Rattle.std.specs.List.{AllByRecursion};
-ghost use Rattle.std.specs.Fmt.{decimal};
+ghost use Rattle.std.specs.Prelude.{◌≡◌, ◌+◌, ◌<◌, ◌≤◌, ◌^◌, ◌++◌, ℕ, Bool, List, Option, Some, None, Ok, length, drop, slice_range, codes, IfOk, IfErr};
 ghost use Rattle.someip_payload_codec.specs.declared.shape.Width.{Width};
 ghost use Rattle.someip_payload.specs.declared.shape_text.Word.{Word};
-ghost use Rattle.someip_payload_codec.specs.Data.{Form, Forms, Variants};
-ghost use Rattle.someip_payload_codec.specs.Check.{depth, deepest, deepest_variant};
-ghost use Rattle.someip_payload.specs.ShapeText.{IsTextOf, IsTextOfMembers, IsTextOfVariants, IsFaultWithin, IsDigit, HasNoWidth, IsReadAs, IsReadTo, IsRepeatedTo, IsNoFront, width_text, or_32, repeated_text};
-ghost use Rattle.someip_payload_codec.specs.View.{form, forms, all_variants};
+ghost use Rattle.someip_payload_codec.specs.Data.{Form, Forms, Variants, Members};
+ghost use Rattle.someip_payload_codec.specs.Check.{depth, deepest, deepest_variant, deepest_member};
+ghost use Rattle.someip_payload.specs.ShapeText.{IsTextOf, IsTextOfMembers, IsTextOfVariants, IsTextOfTaggedMembers, IsTextOfTaggedMember, IsFaultWithin, HasNoWidth, IsReadAs, IsReadTo, IsRepeatedTo, width_text, or_32, mark_text, repeated_text};
+ghost use Rattle.someip_payload_codec.specs.View.{form, forms, all_variants, all_members, OneMember, one_member};
 ghost use Rattle.someip_payload.specs.Words.{word_text, Behind};
 
 use crate::shape_text_error::ShapeTextError;
-use someip_payload_codec::{Encoding, Shape, Width};
+use crate::text_parts::{byte_at, decimal_at, has_comma, word_at};
+use someip_payload_codec::{Encoding, Member, Shape, Width};
 use std::alloc::Global;
 
 /// How many shapes may lie around a shape in a text.
 const MOST_AROUND: u32 = 64;
+
+/// One more than the largest number that a shape may have.
+const NUMBERS: u64 = 0x1_0000_0000;
+
+/// One more than the largest Data ID.
+const DATA_IDS: u64 = 0x1000;
 
 #[derive(Clone, Copy)]
 enum Word {
@@ -35,10 +40,11 @@ enum Word {
     Fixed,
     Struct,
     Union,
+    Tagged,
 }
 
 /// What a shape's text begins with. No word begins another one.
-const WORDS: [(&str, Word); 15] = [
+const WORDS: [(&str, Word); 16] = [
     ("bool", Word::Bool),
     ("u8", Word::U8),
     ("u16", Word::U16),
@@ -54,14 +60,15 @@ const WORDS: [(&str, Word); 15] = [
     ("fixed", Word::Fixed),
     ("struct", Word::Struct),
     ("union", Word::Union),
+    ("tagged", Word::Tagged),
 ];
 
 const WIDTHS: [(&str, Width); 3] = [("/8", Width::W8), ("/16", Width::W16), ("/32", Width::W32)];
 
-/// The shape of this text, as `array<8,struct(u8,utf16/8)>`: each text of a shape is read as it,
-/// unless memory runs out or more than 64 shapes lie inside each other. A fault's place is that of
-/// the first byte at which no text of a shape goes on, which is the length of a text that ends too
-/// early. A shape inside 64 others is a fault at its first byte.
+/// The shape of this text, as `array<8,struct(u8,utf16/8)>` or `tagged(1:u8,2?:utf8)`: each text of
+/// a shape is read as it, unless memory runs out or more than 64 shapes lie inside each other. A
+/// fault's place is that of the first byte at which no text of a shape goes on, which is the length
+/// of a text that ends too early. A shape inside 64 others is a fault at its first byte.
 pub fn read_shape(alloc: Global, text: &str) -> Result<Shape, ShapeTextError>
     ensures found { IfOk result (λ shape. IsTextOf (form shape) text.now) }
     // Each text of a shape is read.
@@ -115,6 +122,7 @@ fn shape_at(
         Word::Fixed => fixed_at(alloc, text, end, left - 1),
         Word::Struct => struct_at(alloc, text, end, left - 1),
         Word::Union => union_at(alloc, text, end, left - 1),
+        Word::Tagged => tagged_at(alloc, text, end, left - 1),
     }
 }
 
@@ -208,7 +216,7 @@ fn repeated_at(
     ensures fault { IfErr result (IsFaultWithin at (length text.now)) }
 {
     let from = byte_at(b'<', text, at)?;
-    let (number, comma) = decimal_at(text, from)?;
+    let (number, comma) = decimal_at(text, from, NUMBERS)?;
     let first = byte_at(b',', text, comma)?;
     let (element, last) = shape_at(alloc, text, first, left)?;
     let end = byte_at(b'>', text, last)?;
@@ -315,7 +323,7 @@ fn variants_at(
     let mut variants = Vec::new(alloc);
     let mut next = at;
     loop {
-        let (number, colon) = decimal_at(text, next)?;
+        let (number, colon) = decimal_at(text, next, NUMBERS)?;
         let first = byte_at(b':', text, colon)?;
         let (shape, end) = shape_at(alloc, text, first, left)?;
         variants.push((number, shape))?;
@@ -325,6 +333,109 @@ fn variants_at(
             let end = byte_at(b')', text, end)?;
             return Ok((variants, end));
         }
+    }
+}
+
+/// The rest of a shape after the word `tagged`.
+#[cycle(shape)]
+fn tagged_at(
+    alloc: Global,
+    text: &[u8],
+    at: usize,
+    left: u32,
+) -> Result<(Shape, usize), ShapeTextError>
+    requires { at ≤ length text.now }
+    ensures found { IfOk result (λ x. IsTextOf (form x.0) (codes "tagged" ++ slice_range text.now at x.1)) }
+    ensures only { (f : Form) (back rest : List ℕ) → drop at text.now ≡ back ++ rest
+        → Behind Word.Tagged f back → depth f ≤ left + 1
+        → IsReadTo form f (at + length back) result }
+    ensures within { IfOk result (λ x. depth (form x.0) ≤ left + 1) }
+    ensures end { IfOk result (λ x. (at ≤ x.1) × (x.1 ≤ length text.now)) }
+    ensures fault { IfErr result (IsFaultWithin at (length text.now)) }
+{
+    let (width, from) = width_at(text, at)?;
+    let first = byte_at(b'(', text, from)?;
+    let (members, end) = tagged_members_at(alloc, text, first, left)?;
+    Ok((Shape::Tagged(or_32(width), members), end))
+}
+
+/// Members of a tagged structure with commas between them, and a bracket after the last.
+#[cycle(shape)]
+fn tagged_members_at(
+    alloc: Global,
+    text: &[u8],
+    at: usize,
+    left: u32,
+) -> Result<(Vec<Member>, usize), ShapeTextError>
+    requires { at ≤ length text.now }
+    ensures found { IfOk result (λ x. (members : List ℕ) × IsTextOfTaggedMembers (all_members x.0.items) members
+        × (slice_range text.now at x.1 ≡ members ++ codes ")")) }
+    ensures only { (ms : Members) (members rest : List ℕ)
+        → drop at text.now ≡ members ++ (codes ")" ++ rest) → IsTextOfTaggedMembers ms members
+        → deepest_member ms ≤ left
+        → IsReadTo (λ x. all_members x.items) ms (at + (length members + 1)) result }
+    ensures within { IfOk result (λ x. deepest_member (all_members x.0.items) ≤ left) }
+    ensures end { IfOk result (λ x. (at ≤ x.1) × (x.1 ≤ length text.now)) }
+    ensures fault { IfErr result (IsFaultWithin at (length text.now)) }
+{
+    let mut members = Vec::new(alloc);
+    let mut next = at;
+    loop {
+        let (member, end) = tagged_member_at(alloc, text, next, left)?;
+        members.push(member)?;
+        if has_comma(text, end) {
+            next = end + 1;
+        } else {
+            let end = byte_at(b')', text, end)?;
+            return Ok((members, end));
+        }
+    }
+}
+
+/// A member of a tagged structure: its Data ID, perhaps a question mark, and its shape.
+#[cycle(shape)]
+fn tagged_member_at(
+    alloc: Global,
+    text: &[u8],
+    at: usize,
+    left: u32,
+) -> Result<(Member, usize), ShapeTextError>
+    requires { at ≤ length text.now }
+    ensures found { IfOk result (λ x. IsTextOfTaggedMember (one_member x.0) (slice_range text.now at x.1)) }
+    ensures only { (m : OneMember) (front rest : List ℕ) → drop at text.now ≡ front ++ rest
+        → IsTextOfTaggedMember m front → depth m.form ≤ left → HasNoWidth rest
+        → IsReadTo one_member m (at + length front) result }
+    ensures within { IfOk result (λ x. depth (one_member x.0).form ≤ left) }
+    ensures end { IfOk result (λ x. (at < x.1) × (x.1 ≤ length text.now)) }
+    ensures fault { IfErr result (IsFaultWithin at (length text.now)) }
+{
+    let (number, behind) = decimal_at(text, at, DATA_IDS)?;
+    let (is_optional, colon) = mark_at(text, behind);
+    let first = byte_at(b':', text, colon)?;
+    let (shape, end) = shape_at(alloc, text, first, left)?;
+    let id = number as u16;
+    Ok((
+        Member {
+            id,
+            is_optional,
+            shape,
+        },
+        end,
+    ))
+}
+
+/// Whether a question mark stands here, and the place after it.
+fn mark_at(text: &[u8], at: usize) -> (bool, usize)
+    requires { at ≤ length text.now }
+    ensures found { slice_range text.now at result.1 ≡ mark_text result.0 }
+    ensures only { (optional : Bool) (rest : List ℕ) → drop at text.now ≡ mark_text optional ++ (codes ":" ++ rest)
+        → result ≡ (optional, at + length (mark_text optional)) }
+    ensures end { (at ≤ result.1) × (result.1 ≤ length text.now) }
+{
+    if text.get(at) == Some(&b'?') {
+        (true, at + 1)
+    } else {
+        (false, at)
     }
 }
 
@@ -360,119 +471,4 @@ fn first_word(text: &[u8], at: usize) -> Result<(Word, usize), ShapeTextError>
     ensures fault { IfErr result (IsFaultWithin at (length text.now)) }
 {
     word_at(&WORDS, text, at)
-}
-
-/// The word at a place, and the place after it. The fault is at the first byte at which none of
-/// the words goes on.
-fn word_at<T: Copy>(
-    words: &[(&str, T)],
-    text: &[u8],
-    at: usize,
-) -> Result<(T, usize), ShapeTextError>
-    requires { at ≤ length text.now }
-    ensures found { (name : T → List ℕ) → AllByRecursion (λ word. word.0.now ≡ name word.1) words.now
-        → IfOk result (λ x. slice_range text.now at x.1 ≡ name x.0) }
-    ensures end { IfOk result (λ x. (at ≤ x.1) × (x.1 ≤ length text.now)) }
-    ensures fault { IfErr result (IsFaultWithin at (length text.now)) }
-    ensures none { IfErr result (λ e.
-        AllByRecursion (λ word. IsNoFront word.0.now (drop at text.now)) words.now) }
-{
-    let rest = &text[at..];
-    for (word, item) in words {
-        let count = common_len(word.as_bytes(), rest);
-        if count == word.len() {
-            return Ok((*item, at + count));
-        }
-    }
-    Err(ShapeTextError::BadShape(at + longest_front(words, rest)))
-}
-
-/// How many bytes a text has in common with the word that goes on longest with it.
-fn longest_front<T: Copy>(words: &[(&str, T)], text: &[u8]) -> usize
-    ensures { result ≤ length text.now }
-{
-    let mut most = 0;
-    for (word, _) in words {
-        most = most.max(common_len(word.as_bytes(), text));
-    }
-    most
-}
-
-/// How many bytes two texts have in common at their front.
-fn common_len(a: &[u8], b: &[u8]) -> usize
-    ensures bound_a { result ≤ length a.now }
-    ensures bound_b { result ≤ length b.now }
-    ensures same { take result a.now ≡ take result b.now }
-    ensures most { (rest : List ℕ) → b.now ≡ a.now ++ rest → result ≡ length a.now }
-{
-    let mut count = 0;
-    while count < a.len() && count < b.len() && a[count] == b[count] {
-        count += 1;
-    }
-    count
-}
-
-fn has_comma(text: &[u8], at: usize) -> bool
-    ensures comma { IsTrue result → (at < length text.now) × (slice_index text.now at ≡ 44) }
-    ensures only { (rest : List ℕ) → drop at text.now ≡ 44 ∷ rest → IsTrue result }
-{
-    text.get(at) == Some(&b',')
-}
-
-fn byte_at(byte: u8, text: &[u8], at: usize) -> Result<usize, ShapeTextError>
-    requires { at ≤ length text.now }
-    ensures found { IfOk result (λ end. slice_range text.now at end ≡ byte ∷ []) }
-    ensures only { (rest : List ℕ) → drop at text.now ≡ byte ∷ rest → result ≡ Ok (at + 1) }
-    ensures end { IfOk result (λ end. (end ≡ at + 1) × (end ≤ length text.now)) }
-    ensures fault { IfErr result (IsFaultWithin at (length text.now)) }
-{
-    if text.get(at) != Some(&byte) {
-        return Err(ShapeTextError::BadShape(at));
-    }
-    Ok(at + 1)
-}
-
-/// A decimal number without leading zeros. The fault is at the first digit that is one too many.
-fn decimal_at(text: &[u8], at: usize) -> Result<(u32, usize), ShapeTextError>
-    requires { at ≤ length text.now }
-    ensures found { IfOk result (λ x. slice_range text.now at x.1 ≡ decimal x.0) }
-    ensures fits { IfOk result (λ x. x.0 < 2 ^ 32) }
-    ensures only { (n b : ℕ) (rest : List ℕ) → drop at text.now ≡ decimal n ++ b ∷ rest → n < 2 ^ 32
-        → (IsDigit b → ⊥) → result ≡ Ok (n, at + length (decimal n)) }
-    ensures end { IfOk result (λ x. (at < x.1) × (x.1 ≤ length text.now)) }
-    ensures fault { IfErr result (IsFaultWithin at (length text.now)) }
-{
-    let mut number = 0;
-    let mut end = at;
-    while let Some(digit) = digit_at(text, end) {
-        if number == 0 && at < end {
-            return Err(ShapeTextError::BadShape(end));
-        }
-        number = with_digit(number, digit).ok_or(ShapeTextError::BadShape(end))?;
-        end += 1;
-    }
-    if end == at {
-        return Err(ShapeTextError::BadShape(at));
-    }
-    Ok((number, end))
-}
-
-fn digit_at(text: &[u8], at: usize) -> Option<u32>
-    ensures bound { IfSome result (λ digit. (digit < 10) × (at < length text.now)) }
-    ensures value { IfSome result (λ digit. slice_index text.now at ≡ 48 + digit) }
-    ensures none { IfNone result (at < length text.now → IsDigit (slice_index text.now at) → ⊥) }
-{
-    let byte = *text.get(at)?;
-    if byte.is_ascii_digit() {
-        Some(u32::from(byte - b'0'))
-    } else {
-        None
-    }
-}
-
-fn with_digit(number: u32, digit: u32) -> Option<u32>
-    ensures value { IfSome result (λ n. n ≡ number * 10 + digit) }
-    ensures none { IfNone result (2 ^ 32 ≤ number * 10 + digit) }
-{
-    number.checked_mul(10)?.checked_add(digit)
 }

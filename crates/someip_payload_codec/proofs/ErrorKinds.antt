@@ -1,20 +1,25 @@
 -- Which errors each call may have.
-use Rattle.std.proofs.Common.{◌≡◌, ◌⊎◌, inl, inr, ℕ, ◌^◌, Bool, true, false, cond, ltb, eqb, List, ◌++◌, length, Result, Ok, Err, Some, None, refl, sym, subst}
+use Rattle.std.proofs.Common.{◌≡◌, ◌⊎◌, inl, inr, ℕ, ◌+◌, ◌^◌, Bool, true, false, cond, ltb, eqb, List, [], ◌++◌, length, Result, Ok, Err, Some, None, refl, sym, subst}
 use Rattle.std.specs.Prelude.{ℤ, IfErr}
 use Rattle.std.specs.Int.{cast_unsigned}
 use Rattle.std.specs.Str.{is_utf8}
 use Rattle.someip_payload_codec.specs.declared.error.PayloadError.{PayloadError}
 use Rattle.someip_payload_codec.specs.declared.error.PayloadError.TheVariants as errors
-use Rattle.someip_payload_codec.specs.declared.error.PayloadError.TheVariants.{Truncated, BadText, NoTerminator, UnknownVariant, LengthMismatch, TooMany, TooDeep, NotOfShape, TooLong, BadShape}
+use Rattle.someip_payload_codec.specs.declared.error.PayloadError.TheVariants.{Truncated, BadText, NoTerminator, UnknownVariant, LengthMismatch, TooMany, TooDeep, NotOfShape, TooLong, BadShape, DuplicateMember, WrongWireType, MissingMember}
 use Rattle.someip_payload_codec.specs.declared.number.Size.{Size}
 use Rattle.someip_payload_codec.specs.declared.shape.Width.{Width}
-use Rattle.someip_payload_codec.specs.Data.{Form, bool, unsigned, signed, string, array, fixed, «struct», union, Forms, no_forms, form_then, Variants, no_variants, variant, Data, truth, uint, int, phrase, list, tuple, nothing, chosen, Items, no_items, item, View}
+use Rattle.someip_payload_codec.specs.declared.shape.Width.TheVariants.{W32}
+use Rattle.someip_payload_codec.specs.declared.tag.WireType.{WireType}
+use Rattle.someip_payload_codec.specs.declared.tag.WireType.TheVariants.{Basic, OwnLength, Length}
+use Rattle.someip_payload_codec.specs.Data.{Form, bool, unsigned, signed, string, array, fixed, «struct», union, tagged, Forms, no_forms, form_then, Variants, no_variants, variant, Members, member_then, Data, truth, uint, int, phrase, list, tuple, nothing, chosen, slotted, Items, no_items, item, Slots, present, absent, View}
 use Rattle.someip_payload_codec.specs.Steps.{◌>>=◌, Fails, Gives}
 use Rattle.someip_payload_codec.specs.Check.{depth, is_form, checked}
-use Rattle.someip_payload_codec.specs.Grammar.{width_of, limit_of, size_of, number, framed, tagged, count, Picks}
+use Rattle.someip_payload_codec.specs.Numbers.{width_of, limit_of, size_of, field_len, number, framed, typed}
+use Rattle.someip_payload_codec.specs.Grammar.{count, Picks}
 use Rattle.someip_payload_codec.specs.Reading.{short_at, skip, decoded}
-use Rattle.someip_payload_codec.specs.Writing.{is_signed, count_forms, number_text, signed_text, body_text, text_body, each_text, array_text, fixed_text, struct_text, tagged_text, chosen_text, text_of, members_text, variant_text, encoded, Appends, IsRefusal}
-use Rattle.someip_payload_codec.specs.Faults.{FaultIn, FaultInMembers, FaultInVariant, IsReadingFault, whole}
+use Rattle.someip_payload_codec.specs.Tags.{item_bytes, items_bytes, own_width, has_wire_type, width_in, wire_type_of}
+use Rattle.someip_payload_codec.specs.Writing.{is_signed, count_forms, number_text, signed_text, body_text, text_body, each_text, array_text, fixed_text, struct_text, typed_text, chosen_text, item_text, absent_text, count_members, count_slots, text_of, members_text, variant_text, slots_text, encoded, Appends, IsRefusal}
+use Rattle.someip_payload_codec.specs.Faults.{body_view, FaultBy, FaultIn, FaultInMembers, FaultInVariant, FaultInSkipped, FaultBehindTag, IsReadingFault, whole}
 use Rattle.someip_payload_codec.specs.declared.value.Value.{Value}
 use Rattle.someip_payload_codec.specs.View.{data_of}
 use Rattle.someip_payload_codec.proofs.Parts.{IsBytes}
@@ -44,6 +49,9 @@ by_fails P (errors.TooDeep k) r none then h = then h
 by_fails P (errors.NotOfShape k) r none then h = then h
 by_fails P (errors.TooLong k) r none then h = then h
 by_fails P (errors.BadShape k) r none then h = then h
+by_fails P (errors.DuplicateMember k) r none then h = then h
+by_fails P (errors.WrongWireType k) r none then h = then h
+by_fails P (errors.MissingMember k) r none then h = then h
 
 -- ---- reading
 
@@ -58,43 +66,65 @@ picks_kind : (t : Bool) (A B C : Type 0) → (A → C) → (B → C) → Picks t
 picks_kind true A B C first next h = first h
 picks_kind false A B C first next h = next h
 
-mutual
-  unfolding FaultIn FaultInMembers FaultInVariant
+-- an item that is skipped passes its window
+skipped_kind : (t : WireType) (e : PayloadError) (w : View) → FaultInSkipped t e w → IsReadingFault e
+skipped_kind (Basic size) e w h = short_kind w e h.1
+skipped_kind OwnLength e w (inl (none, same)) = short_kind w e same
+skipped_kind OwnLength e w (inr (body, has, never)) = absurd never
+skipped_kind (Length width) e w (inl (none, same)) = short_kind w e same
+skipped_kind (Length width) e w (inr (body, has, never)) = absurd never
 
-  fault_kind : (f : Form) (e : PayloadError) (w : View) → FaultIn f e w → IsReadingFault e
-  fault_kind bool e w h = short_kind w e h.1
-  fault_kind (unsigned size) e w h = short_kind w e h.1
-  fault_kind (signed size) e w h = short_kind w e h.1
-  fault_kind (string encoding width) e w (inl (none, same)) = short_kind w e same
-  fault_kind (string encoding width) e w (inr (body, has, inl (open_end, same))) = subst IsReadingFault (sym same) tt
-  fault_kind (string encoding width) e w (inr (body, has, inr (ended, bad, same))) = subst IsReadingFault (sym same) tt
-  fault_kind (array width max element) e w (inl (none, same)) = short_kind w e same
-  fault_kind (array width max element) e w (inr (body, has, (ds, text, rest, parts, each, some, inl (full, same)))) = subst IsReadingFault (sym same) tt
-  fault_kind (array width max element) e w (inr (body, has, (ds, text, rest, parts, each, some, inr (few, in_it)))) = fault_kind element e _ in_it
-  fault_kind (fixed n element) e w (ds, text, rest, parts, each, few, in_it) = fault_kind element e _ in_it
-  fault_kind («struct» None fs) e w h = members_kind fs e w h
-  fault_kind («struct» (Some width) fs) e w (inl (none, same)) = short_kind w e same
-  fault_kind («struct» (Some width) fs) e w (inr (body, has, in_it)) = members_kind fs e _ in_it
-  fault_kind (union vs) e w (inl h) = short_kind w e h.1
-  fault_kind (union vs) e w (inr (inl (long, h))) = short_kind (skip 4 w) e h.1
-  fault_kind (union vs) e w (inr (inr (len, kind, v, head, inl (zero, some, same)))) = subst IsReadingFault (sym same) tt
-  fault_kind (union vs) e w (inr (inr (len, kind, v, head, inr (some, in_it)))) = variant_kind vs e kind len w v in_it
+mutual
+  unfolding FaultBy FaultInMembers FaultInVariant FaultBehindTag
+
+  fault_kind : (width : Width) (f : Form) (e : PayloadError) (w : View) → FaultBy width f e w → IsReadingFault e
+  fault_kind width bool e w h = short_kind w e h.1
+  fault_kind width (unsigned size) e w h = short_kind w e h.1
+  fault_kind width (signed size) e w h = short_kind w e h.1
+  fault_kind width (string encoding own) e w (inl (none, same)) = short_kind w e same
+  fault_kind width (string encoding own) e w (inr (body, has, inl (open_end, same))) = subst IsReadingFault (sym same) tt
+  fault_kind width (string encoding own) e w (inr (body, has, inr (ended, bad, same))) = subst IsReadingFault (sym same) tt
+  fault_kind width (array own max element) e w (inl (none, same)) = short_kind w e same
+  fault_kind width (array own max element) e w (inr (body, has, (ds, text, rest, parts, each, some, inl (full, same)))) = subst IsReadingFault (sym same) tt
+  fault_kind width (array own max element) e w (inr (body, has, (ds, text, rest, parts, each, some, inr (few, in_it)))) = fault_kind (own_width element) element e _ in_it
+  fault_kind width (fixed n element) e w (ds, text, rest, parts, each, few, in_it) = fault_kind (own_width element) element e _ in_it
+  fault_kind width («struct» None fs) e w h = members_kind fs e w h
+  fault_kind width («struct» (Some own) fs) e w (inl (none, same)) = short_kind w e same
+  fault_kind width («struct» (Some own) fs) e w (inr (body, has, in_it)) = members_kind fs e _ in_it
+  fault_kind width (union vs) e w (inl h) = short_kind w e h.1
+  fault_kind width (union vs) e w (inr (inl (long, h))) = short_kind (skip (field_len width) w) e h.1
+  fault_kind width (union vs) e w (inr (inr (len, kind, v, head, inl (zero, some, same)))) = subst IsReadingFault (sym same) tt
+  fault_kind width (union vs) e w (inr (inr (len, kind, v, head, inr (some, in_it)))) = variant_kind vs (w.place + field_len width) e kind len w v in_it
+  fault_kind width (tagged own ms) e w (inl (none, same)) = short_kind w e same
+  fault_kind width (tagged own ms) e w (inr (body, has, (items, ss, rest, parts, reads, others, inl (empty, missing, same)))) = subst IsReadingFault (sym same) tt
+  fault_kind width (tagged own ms) e w (inr (body, has, (items, ss, rest, parts, reads, others, inr (some, inl h)))) = short_kind (skip (length (items_bytes items)) (body_view width w body)) e h.1
+  fault_kind width (tagged own ms) e w (inr (body, has, (items, ss, rest, parts, reads, others, inr (some, inr (reserved, t, id, v, tag, in_it))))) =
+      slots_kind ms ss t id (skip (length (items_bytes items)) (body_view width w body)).place e v in_it
 
   members_kind : (fs : Forms) (e : PayloadError) (w : View) → FaultInMembers fs e w → IsReadingFault e
   members_kind no_forms e w h = absurd h
-  members_kind (form_then f fs) e w (inl h) = fault_kind f e w h
+  members_kind (form_then f fs) e w (inl h) = fault_kind (own_width f) f e w h
   members_kind (form_then f fs) e w (inr (d, text, rest, parts, here, later)) = members_kind fs e _ later
 
-  variant_kind : (vs : Variants) (e : PayloadError) (kind len : ℕ) (w v : View) → FaultInVariant vs e kind len w v → IsReadingFault e
-  variant_kind no_variants e kind len w v same = subst IsReadingFault (sym same) tt
-  variant_kind (variant n f vs) e kind len w v h =
+  variant_kind : (vs : Variants) (place : ℕ) (e : PayloadError) (kind len : ℕ) (w v : View) → FaultInVariant vs place e kind len w v → IsReadingFault e
+  variant_kind no_variants place e kind len w v same = subst IsReadingFault (sym same) tt
+  variant_kind (variant n f vs) place e kind len w v h =
       picks_kind (eqb n kind) _ _ (IsReadingFault e)
-      (λ here. elim here [ inl (few, same) ↦ short_kind w e same | inr (long, in_it) ↦ fault_kind f e _ in_it ])
-      (λ later. variant_kind vs e kind len w v later) h
+      (λ here. elim here [ inl (few, same) ↦ short_kind w e same | inr (long, in_it) ↦ fault_kind (own_width f) f e _ in_it ])
+      (λ later. variant_kind vs place e kind len w v later) h
+
+  slots_kind : (ms : Members) (ss : Slots) (t : WireType) (id place : ℕ) (e : PayloadError) (v : View) → FaultBehindTag ms ss t id place e v → IsReadingFault e
+  slots_kind (member_then n optional f ms) (present d ss) t id place e v h =
+      picks_kind (eqb n id) _ _ (IsReadingFault e) (λ same. subst IsReadingFault (sym same) tt) (λ later. slots_kind ms ss t id place e v later) h
+  slots_kind (member_then n optional f ms) (absent ss) t id place e v h =
+      picks_kind (eqb n id) _ _ (IsReadingFault e)
+      (λ here. picks_kind (has_wire_type f t) _ _ (IsReadingFault e) (λ in_it. fault_kind (width_in t f) f e v in_it) (λ same. subst IsReadingFault (sym same) tt) here)
+      (λ later. slots_kind ms ss t id place e v later) h
+  slots_kind _ ss t id place e v h = skipped_kind t e v h
 
 reading_kind : (f : Form) (bytes : List ℕ) (e : PayloadError) → (checked f ≡ Err e) ⊎ FaultIn f e (whole bytes) → IsReadingFault e
 reading_kind f bytes e (inl h) = elim (checked_one f e h) [ inl same ↦ subst IsReadingFault same tt | inr same ↦ subst IsReadingFault same tt ]
-reading_kind f bytes e (inr h) = fault_kind f e _ h
+reading_kind f bytes e (inr h) = fault_kind (own_width f) f e _ h
 
 pub reading_faults : (f : Form) (bytes : List ℕ) (r : Result (Value × ℕ) PayloadError) → IsBytes bytes → Gives (λ x. (data_of x.0, x.1)) r (decoded f bytes) → IfErr r IsReadingFault
 reading_faults f bytes (Ok x) fits given = tt
@@ -122,11 +152,11 @@ then_body : (width : Width) (r : Result (List ℕ) PayloadError) (e : PayloadErr
 then_body width r e first h = elim (bind_err r (body_text width) e h) [ inl bad ↦ first bad | inr (body, was, then) ↦ body_kind width body e then ]
 
 chosen_kind : (kind : ℕ) (r : Result (List ℕ) PayloadError) (e : PayloadError) → (r ≡ Err e → IsRefusal e) → chosen_text kind r ≡ Err e → IsRefusal e
-unfolding chosen_text tagged_text
+unfolding chosen_text typed_text
 chosen_kind kind r e first h =
-    elim (bind_err r (tagged_text kind) e h) [
+    elim (bind_err r (typed_text kind) e h) [
       | inl bad ↦ first bad
-      | inr (body, was, then) ↦ elim (passed_err (ltb (length body) (2 ^ 32)) (Ok (tagged kind body)) (TooLong 0) e then) [ inl (big, same) ↦ subst IsRefusal same refl | inr (good, never) ↦ absurd cc ]
+      | inr (body, was, then) ↦ elim (passed_err (ltb (length body) (2 ^ 32)) (Ok (typed W32 kind body)) (TooLong 0) e then) [ inl (big, same) ↦ subst IsRefusal same refl | inr (good, never) ↦ absurd cc ]
     ]
 
 each_kind : (one : Data → Result (List ℕ) PayloadError) (e : PayloadError) → ((d : Data) → one d ≡ Err e → IsRefusal e) → (ds : Items) → each_text one ds ≡ Err e → IsRefusal e
@@ -146,7 +176,7 @@ refused : (d e : PayloadError) → IsRefusal d → (let r : Result (List ℕ) Pa
 refused d e is h = let same : d ≡ e = cc in subst IsRefusal same is
 
 mutual
-  unfolding text_of members_text variant_text array_text fixed_text struct_text
+  unfolding text_of members_text variant_text slots_text array_text fixed_text struct_text item_text absent_text
 
   text_kind : (f : Form) (d : Data) (e : PayloadError) → text_of f d ≡ Err e → IsRefusal e
   text_kind bool (truth b) e h = absurd cc
@@ -168,6 +198,9 @@ mutual
   text_kind (union vs) nothing e h = absurd cc
   text_kind (union vs) (chosen kind d) e h =
       choice_kind (ltb kind (2 ^ 32)) (variant_text vs kind d) (Err (UnknownVariant 0)) e (λ k. variant_refused vs kind d e k) (refused (UnknownVariant 0) e refl) h
+  text_kind (tagged width ms) (slotted ss) e h =
+      choice_kind (eqb (count_slots ss) (count_members ms)) (slots_text ms ss >>= body_text width) (Err (NotOfShape 0)) e
+      (λ k. then_body width (slots_text ms ss) e (λ bad. slots_refused ms ss e bad) k) (refused (NotOfShape 0) e refl) h
   text_kind _ d e h = refused (NotOfShape 0) e refl h
 
   members_refused : (fs : Forms) (ds : Items) (e : PayloadError) → members_text fs ds ≡ Err e → IsRefusal e
@@ -183,6 +216,19 @@ mutual
   variant_refused (variant n f vs) kind d e h =
       choice_kind (eqb n kind) (chosen_text kind (text_of f d)) (variant_text vs kind d) e
       (λ k. chosen_kind kind (text_of f d) e (λ bad. text_kind f d e bad) k) (λ k. variant_refused vs kind d e k) h
+
+  slots_refused : (ms : Members) (ss : Slots) (e : PayloadError) → slots_text ms ss ≡ Err e → IsRefusal e
+  slots_refused (member_then id optional f ms) (present d ss) e h =
+      elim (bind_err (item_text f id (text_of f d)) (λ a. slots_text ms ss >>= λ others. Ok (a ++ others)) e h) [
+        | inl bad ↦ elim (bind_err (text_of f d) (λ bytes. Ok (item_bytes (record { reserved = false; wire_type = wire_type_of f; id = id; bytes = bytes }))) e bad) [ inl first ↦ text_kind f d e first | inr (x, good, never) ↦ absurd cc ]
+        | inr (a, was, then) ↦ elim (bind_err (slots_text ms ss) (λ others. Ok (a ++ others)) e then) [ inl bad ↦ slots_refused ms ss e bad | inr (others, good, never) ↦ absurd cc ]
+      ]
+  slots_refused (member_then id optional f ms) (absent ss) e h =
+      elim (bind_err (absent_text optional) (λ a. slots_text ms ss >>= λ others. Ok (a ++ others)) e h) [
+        | inl bad ↦ choice_kind optional (Ok []) (Err (NotOfShape 0)) e (λ never. absurd cc) (refused (NotOfShape 0) e refl) bad
+        | inr (a, was, then) ↦ elim (bind_err (slots_text ms ss) (λ others. Ok (a ++ others)) e then) [ inl bad ↦ slots_refused ms ss e bad | inr (others, good, never) ↦ absurd cc ]
+      ]
+  slots_refused _ ss e h = absurd cc
 
 writing_kind : (f : Form) (d : Data) (e : PayloadError) → encoded f d ≡ Err e → IsRefusal e
 unfolding encoded

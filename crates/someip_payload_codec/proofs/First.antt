@@ -1,75 +1,27 @@
 -- The fault that reading gives is the first.
-use Rattle.std.proofs.Common.{◌≡◌, ◌⊎◌, inl, inr, ℕ, zero, suc, ◌+◌, ◌<◌, ◌≤◌, eqb, Bool, true, false, cond, ltb, List, [], ◌++◌, length, take, drop, Result, Ok, Err, Some, None, refl, sym, ap, subst, ◌∙◌, append_assoc, arith}
-use Rattle.std.specs.Int.{byte_len, from_be_bytes}
+use Rattle.std.proofs.Common.{◌≡◌, ◌⊎◌, inl, inr, ℕ, zero, suc, ◌+◌, ◌<◌, ◌≤◌, eqb, Bool, true, false, cond, ltb, List, [], ◌++◌, length, take, Result, Ok, Err, Some, None, refl, sym, ap, subst, ◌∙◌, append_assoc, arith}
 use Rattle.std.proofs.lemmas.Bool.{ltb-true, eqb-true, eqb-false}
-use Rattle.std.proofs.lemmas.List.{length-append, drop_at, take_at}
+use Rattle.std.proofs.lemmas.List.{length-append, take_at}
 use Rattle.someip_payload_codec.specs.declared.error.PayloadError.TheVariants.{TooMany, UnknownVariant, LengthMismatch}
-use Rattle.someip_payload_codec.specs.declared.number.Size.{Size}
 use Rattle.someip_payload_codec.specs.declared.number.Size.TheVariants.{S8, S32}
 use Rattle.someip_payload_codec.specs.declared.shape.Width.{Width}
-use Rattle.someip_payload_codec.specs.Data.{Form, bool, unsigned, signed, string, array, fixed, «struct», union, Forms, no_forms, form_then, Variants, no_variants, variant, Data, truth, uint, int, phrase, list, tuple, nothing, chosen, Items, no_items, item, View}
+use Rattle.someip_payload_codec.specs.declared.tag.Tag.{Tag}
+use Rattle.someip_payload_codec.specs.Data.{Form, bool, unsigned, signed, string, array, fixed, «struct», union, tagged, Forms, no_forms, form_then, Variants, no_variants, variant, Members, no_members, member_then, Data, truth, uint, int, phrase, list, tuple, nothing, chosen, slotted, Items, no_items, item, Slots, no_slots, present, absent, View}
 use Rattle.someip_payload_codec.specs.declared.error.PayloadError.{PayloadError}
 use Rattle.someip_payload_codec.specs.Steps.{◌>>=◌}
-use Rattle.someip_payload_codec.specs.Grammar.{width_of, size_of, number, is_odd, framed, Picks, Reads}
-use Rattle.someip_payload_codec.specs.Reading.{short_at, skip, front_at, signed_of, number_at, window_at, body_at, text_at, items_at, fixed_at, union_at, chosen_at, data_at, members_at, variant_at}
-use Rattle.someip_payload_codec.specs.Faults.{body_view, HasBody, FaultInBody, FaultInText, FaultInItems, FaultInFixed, FaultInNumber, HasHead, FaultInUnion, FaultIn, FaultInMembers, FaultInVariant}
+use Rattle.someip_payload_codec.specs.Numbers.{size_of, field_len, number, is_odd}
+use Rattle.someip_payload_codec.specs.Tags.{own_width}
+use Rattle.someip_payload_codec.specs.Grammar.{Reads}
+use Rattle.someip_payload_codec.specs.Reading.{short_at, skip, signed_of, number_at, window_at, text_at, items_at, fixed_at, union_at, chosen_at, tagged_at, item_at, all_absent, required_at, data_by, data_at, members_at, variant_at, slots_at}
+use Rattle.someip_payload_codec.specs.Faults.{FaultInText, FaultInItems, FaultInFixed, FaultInNumber, HasHead, FaultInUnion, FaultBy, FaultIn, FaultInMembers, FaultInVariant, FaultInItem, FaultInTagged, FaultBehindTag}
 use Rattle.someip_payload_codec.proofs.StepLemmas.{err_is, bind_err, only_first}
-use Rattle.someip_payload_codec.proofs.Parts.{IsBytes, same_view, Took, took_bytes, took_then, number_took, window_took, body_took, body_again}
-use Rattle.someip_payload_codec.proofs.Sound.{Takes, IsSound, data_took}
+use Rattle.someip_payload_codec.proofs.Parts.{IsBytes, same_view, Takes, wide, took_bytes, took_then, number_took, window_took}
+use Rattle.someip_payload_codec.proofs.Forms.{IsForm, AreForms, AreVariants, AreMembers}
+use Rattle.someip_payload_codec.proofs.PartFaults.{guard_err, chosen_err, picks_failed, number_failed, window_failed, in_body, left_is, left_after}
+use Rattle.someip_payload_codec.proofs.Sound.{IsSound, data_took, slots_took}
+use Rattle.someip_payload_codec.proofs.TaggedSound.{item_took}
+use Rattle.someip_payload_codec.proofs.TaggedFirst.{skipped_failed, present_failed, absent_failed, item_failed, tagged_failed, both_first}
 use Rattle.someip_payload_codec.proofs.TextLemmas.{text_failed}
-
-guard_err : {A : Type 0} (b : Bool) (d e : PayloadError) (x : A) → cond b (Err d) (Ok x) ≡ Err e → (b ≡ true) × (d ≡ e)
-guard_err {A = A} true d e x h = (refl, err_is {A = A} d e h)
-guard_err false d e x h = absurd cc
-
-chosen_err : {A : Type 0} (b : Bool) (r : Result A PayloadError) (x : A) (e : PayloadError) → cond b r (Ok x) ≡ Err e → (b ≡ true) × (r ≡ Err e)
-chosen_err true r x e h = (refl, h)
-chosen_err false r x e h = absurd cc
-
-number_failed : (width : Size) (w : View) (e : PayloadError) → number_at width w ≡ Err e → FaultInNumber (byte_len (width_of width)) w e
-unfolding number_at
-number_failed width w e h =
-    elim (bind_err (front_at (byte_len (width_of width)) w) (λ front. Ok (from_be_bytes (width_of width) front.0, front.1)) e h) [
-      | inl first ↦ let g = guard_err (ltb (length w.bytes) (byte_len (width_of width))) (short_at w) e (take (byte_len (width_of width)) w.bytes, skip (byte_len (width_of width)) w) first in (ltb-true _ _ g.0, sym g.1)
-      | inr (x, was, then) ↦ absurd cc
-    ]
-
-window_failed : (n : ℕ) (w u : View) (e : PayloadError) → window_at n w u ≡ Err e → (length u.bytes < n) × (e ≡ short_at w)
-unfolding window_at
-window_failed n w u e h =
-    let g = guard_err (ltb (length u.bytes) n) (short_at w) e (record { is_body = true; place = u.place; bytes = take n u.bytes }, skip n u) h in
-    (ltb-true _ _ g.0, sym g.1)
-
-pub body_failed : (width : Width) (w : View) (e : PayloadError) → body_at width w ≡ Err e → e ≡ short_at w
-unfolding body_at
-body_failed width w e h =
-    elim (bind_err (number_at (size_of width) w) (λ len. window_at len.0 w len.1) e h) [
-      | inl first ↦ (number_failed (size_of width) w e first).1
-      | inr (x, was, then) ↦ (window_failed x.0 w x.1 e then).1
-    ]
-
-no_body : (width : Width) (w : View) (e : PayloadError) → body_at width w ≡ Err e → (body : List ℕ) → HasBody width w body → ⊥
-no_body width w e h body (fits, rest, parts) =
-    let v : View = record { is_body = w.is_body; place = w.place + length (framed width body); bytes = rest } in
-    let good : body_at width w ≡ Ok (body_view width w body, v) = body_again width w v body (record { is_body = refl; place = refl; bytes = parts }) fits in
-    cc
-
--- a body that was read whole, and then a fault
-in_body : {A : Type 0} (width : Width) (In : View → Type 0) (w : View) (e : PayloadError) (f : View × View → Result A PayloadError) → IsBytes w.bytes
-    → ((b v : View) → IsBytes b.bytes → f (b, v) ≡ Err e → In b) → (body_at width w >>= f) ≡ Err e → FaultInBody width In w e
-in_body width In w e f fits inside h =
-    elim (bind_err (body_at width w) f e h) [
-      | inl first ↦ inl (no_body width w e first, body_failed width w e first)
-      | inr (x, was, then) ↦
-          let t = body_took width w x.0 x.1 fits was in
-          inr (x.0.bytes, (t.fits, x.1.bytes, t.took.bytes), subst In t.is_body (inside x.0 x.1 t.bytes then))
-    ]
-
--- what was taken leaves what is skipped to
-left_is : {w v : View} {text : List ℕ} → Took w text v → v ≡ skip (length text) w
-left_is {w = w} {v = v} {text = text} t =
-    let rest : drop (length text) w.bytes ≡ v.bytes = ap (drop (length text)) t.bytes ∙ drop_at text v.bytes (length text) refl in
-    same_view v (skip (length text) w) t.is_body t.place (sym rest)
 
 -- the same with one element before
 items_later : (one : View → Result (Data × View) PayloadError) (P : Data → List ℕ → Type 0) (In : View → Type 0) (max : ℕ) (w : View) (d : Data) (v : View) (e : PayloadError)
@@ -77,8 +29,7 @@ items_later : (one : View → Result (Data × View) PayloadError) (P : Data → 
 items_later one P In max w d v e t (ds, text, rest, parts, each, some, which) =
     let all : w.bytes ≡ (t.text ++ text) ++ rest = t.took.bytes ∙ ap (λ (x : List ℕ). t.text ++ x) parts ∙ sym (append_assoc t.text text rest) in
     let place : v.place + length text ≡ w.place + length (t.text ++ text) = omega (arith, t.took.place, length-append t.text text) in
-    let left : skip (length text) v ≡ skip (length (t.text ++ text)) w = same_view (skip (length text) v) (skip (length (t.text ++ text)) w) t.took.is_body place
-    (ap (drop (length text)) parts ∙ drop_at text rest (length text) refl ∙ sym (ap (drop (length (t.text ++ text))) all ∙ drop_at (t.text ++ text) rest (length (t.text ++ text)) refl)) in (
+    let left : skip (length text) v ≡ skip (length (t.text ++ text)) w = left_after t.took text rest parts in (
       item d ds,
       t.text ++ text,
       rest,
@@ -113,9 +64,7 @@ fixed_later : (P : Data → List ℕ → Type 0) (In : View → Type 0) (n : ℕ
     → Takes (P d) w v → FaultInFixed P In n v → FaultInFixed P In (suc n) w
 fixed_later P In n w d v t (ds, text, rest, parts, each, few, in_it) =
     let all : w.bytes ≡ (t.text ++ text) ++ rest = t.took.bytes ∙ ap (λ (x : List ℕ). t.text ++ x) parts ∙ sym (append_assoc t.text text rest) in
-    let place : v.place + length text ≡ w.place + length (t.text ++ text) = omega (arith, t.took.place, length-append t.text text) in
-    let left : skip (length text) v ≡ skip (length (t.text ++ text)) w = same_view (skip (length text) v) (skip (length (t.text ++ text)) w) t.took.is_body place
-    (ap (drop (length text)) parts ∙ drop_at text rest (length text) refl ∙ sym (ap (drop (length (t.text ++ text))) all ∙ drop_at (t.text ++ text) rest (length (t.text ++ text)) refl)) in
+    let left : skip (length text) v ≡ skip (length (t.text ++ text)) w = left_after t.took text rest parts in
     (item d ds, t.text ++ text, rest, all, (t.text, text, refl, t.holds, each), omega arith, subst In left in_it)
 
 fixed_failed : (one : View → Result (Data × View) PayloadError) (P : Data → List ℕ → Type 0) (In : View → Type 0) (e : PayloadError) → IsSound one P → ((w : View) → IsBytes w.bytes → one w ≡ Err e → In w)
@@ -135,10 +84,6 @@ fixed_failed one P In e sound inside (suc n) w fits h =
 
 -- ---- unions
 
-picks_failed : (t : Bool) (A B : Type 0) (r s : Result (Data × View) PayloadError) (e : PayloadError) → (r ≡ Err e → A) → (s ≡ Err e → B) → cond t r s ≡ Err e → Picks t A B
-picks_failed true A B r s e first next h = first h
-picks_failed false A B r s e first next h = next h
-
 chosen_failed : (one : View → Result (Data × View) PayloadError) (In : View → Type 0) (e : PayloadError) → ((b : View) → IsBytes b.bytes → one b ≡ Err e → In b) → (kind len : ℕ) (w u : View) → IsBytes u.bytes
     → chosen_at one kind len w u ≡ Err e
     → ((length u.bytes < len) × (e ≡ short_at w)) ⊎ ((len ≤ length u.bytes) × In (record { is_body = true; place = u.place; bytes = take len u.bytes }))
@@ -154,84 +99,94 @@ chosen_failed one In e inside kind len w u fits h =
           inr (omega (arith, t.len, ap length t.took.bytes ∙ length-append x.0.bytes x.1.bytes), subst In body (inside x.0 t.bytes (only_first (one x.0) g e then)))
     ]
 
-union_which : (known : ℕ → ℕ → ℕ → View → Result (Data × View) PayloadError) (In : ℕ → ℕ → View → Type 0) (kind len place : ℕ) (w v : View) (e : PayloadError) → HasHead len kind w v
+union_which : (width : Width) (known : ℕ → ℕ → ℕ → View → Result (Data × View) PayloadError) (In : ℕ → ℕ → View → Type 0) (kind len place : ℕ) (w v : View) (e : PayloadError) → HasHead width len kind w v
     → (known kind len place v ≡ Err e → In kind len v) → (t z : Bool) → eqb kind 0 ≡ t → eqb len 0 ≡ z
-    → cond t (cond z (Ok (nothing, v)) (Err (LengthMismatch w.place))) (known kind len place v) ≡ Err e → FaultInUnion In w e
-union_which known In kind len place w v e head inside true true k l h = absurd cc
-union_which known In kind len place w v e head inside true false k l h =
+    → cond t (cond z (Ok (nothing, v)) (Err (LengthMismatch w.place))) (known kind len place v) ≡ Err e → FaultInUnion width In w e
+union_which width known In kind len place w v e head inside true true k l h = absurd cc
+union_which width known In kind len place w v e head inside true false k l h =
     let some : len ≡ 0 → ⊥ = eqb-false _ _ l in
     let same : LengthMismatch w.place ≡ e = err_is {A = Data × View} (LengthMismatch w.place) e h in
     inr (inr (len, kind, v, head, inl (eqb-true _ _ k, omega arith, sym same)))
-union_which known In kind len place w v e head inside false z k l h =
+union_which width known In kind len place w v e head inside false z k l h =
     let some : kind ≡ 0 → ⊥ = eqb-false _ _ k in
     inr (inr (len, kind, v, head, inr (omega arith, inside h)))
 
-union_failed : (known : ℕ → ℕ → ℕ → View → Result (Data × View) PayloadError) (In : ℕ → ℕ → View → Type 0) (w : View) (e : PayloadError) → IsBytes w.bytes
-    → ((kind len place : ℕ) (u : View) → IsBytes u.bytes → place ≡ w.place + 4 → known kind len place u ≡ Err e → In kind len u)
-    → union_at known w ≡ Err e → FaultInUnion In w e
+union_failed : (width : Width) (known : ℕ → ℕ → ℕ → View → Result (Data × View) PayloadError) (In : ℕ → ℕ → View → Type 0) (w : View) (e : PayloadError) → IsBytes w.bytes
+    → ((kind len place : ℕ) (u : View) → IsBytes u.bytes → place ≡ w.place + field_len width → known kind len place u ≡ Err e → In kind len u)
+    → union_at width known w ≡ Err e → FaultInUnion width In w e
 unfolding union_at
-union_failed known In w e fits inside h =
+union_failed width known In w e fits inside h =
     let second = λ (len : ℕ) (m : View) (kind : ℕ × View). cond (eqb kind.0 0) (cond (eqb len 0) (Ok (nothing, kind.1)) (Err (LengthMismatch w.place))) (known kind.0 len m.place kind.1) in
-    elim (bind_err (number_at S32 w) (λ len. number_at S32 len.1 >>= second len.0 len.1) e h) [
-      | inl first ↦ inl (number_failed S32 w e first)
+    elim (bind_err (number_at (size_of width) w) (λ len. number_at S32 len.1 >>= second len.0 len.1) e h) [
+      | inl first ↦ inl (number_failed (size_of width) w e first)
       | inr (len, was, then) ↦
-          let l = number_took S32 w len.1 len.0 fits was in
+          let l = number_took (size_of width) w len.1 len.0 fits was in
           let after = (took_bytes fits l.0).1 in
-          let here : len.1 ≡ skip 4 w = left_is l.0 in
+          let wide_len : length (number (size_of width) len.0) ≡ field_len width = (wide (size_of width)).len len.0 in
+          let here : len.1 ≡ skip (field_len width) w = subst (λ (n : ℕ). len.1 ≡ skip n w) wide_len (left_is l.0) in
           elim (bind_err (number_at S32 len.1) (second len.0 len.1) e then) [
             | inl bad ↦
-                let long : 4 ≤ length w.bytes = omega (arith, ap length l.0.bytes ∙ length-append (number S32 len.0) len.1.bytes) in
+                let long : field_len width ≤ length w.bytes = omega (arith, wide_len, ap length l.0.bytes ∙ length-append (number (size_of width) len.0) len.1.bytes) in
                 inr (inl (long, subst (λ (x : View). FaultInNumber 4 x e) here (number_failed S32 len.1 e bad)))
             | inr (kind, was2, then2) ↦
                 let k = number_took S32 len.1 kind.1 kind.0 after was2 in
                 let rest = (took_bytes after k.0).1 in
                 let both = took_then l.0 k.0 in
-                let parts : w.bytes ≡ number S32 len.0 ++ (number S32 kind.0 ++ kind.1.bytes) = l.0.bytes ∙ ap (λ (x : List ℕ). number S32 len.0 ++ x) k.0.bytes in
-                let head : HasHead len.0 kind.0 w kind.1 = (l.1, k.1, parts, left_is both) in
-                union_which known In kind.0 len.0 len.1.place w kind.1 e head (inside kind.0 len.0 len.1.place kind.1 rest l.0.place) (eqb kind.0 0) (eqb len.0 0) refl refl then2
+                let parts : w.bytes ≡ number (size_of width) len.0 ++ (number S32 kind.0 ++ kind.1.bytes) = l.0.bytes ∙ ap (λ (x : List ℕ). number (size_of width) len.0 ++ x) k.0.bytes in
+                let both_len : length (number (size_of width) len.0 ++ number S32 kind.0) ≡ field_len width + 4 = omega (arith, wide_len, length-append (number (size_of width) len.0) (number S32 kind.0), (wide S32).len kind.0) in
+                let head : HasHead width len.0 kind.0 w kind.1 = (l.1, k.1, parts, subst (λ (n : ℕ). kind.1 ≡ skip n w) both_len (left_is both)) in
+                union_which width known In kind.0 len.0 len.1.place w kind.1 e head (inside kind.0 len.0 len.1.place kind.1 rest (subst (λ (n : ℕ). len.1.place ≡ w.place + n) wide_len l.0.place)) (eqb kind.0 0) (eqb len.0 0) refl refl then2
           ]
     ]
 
 mutual
-  unfolding data_at members_at variant_at FaultIn FaultInMembers FaultInVariant
+  unfolding data_by members_at variant_at slots_at FaultBy FaultInMembers FaultInVariant FaultBehindTag
 
-  pub data_failed : (f : Form) (w : View) (e : PayloadError) → IsBytes w.bytes → data_at f w ≡ Err e → FaultIn f e w
-  data_failed bool w e fits h =
+  pub data_failed : (width : Width) (f : Form) (w : View) (e : PayloadError) → IsForm f → IsBytes w.bytes → data_by width f w ≡ Err e → FaultBy width f e w
+  data_failed width bool w e form fits h =
       elim (bind_err (number_at S8 w) (λ n. Ok (truth (is_odd n.0), n.1)) e h) [ inl first ↦ number_failed S8 w e first | inr (x, was, then) ↦ absurd cc ]
-  data_failed (unsigned size) w e fits h =
+  data_failed width (unsigned size) w e form fits h =
       elim (bind_err (number_at size w) (λ n. Ok (uint n.0, n.1)) e h) [ inl first ↦ number_failed size w e first | inr (x, was, then) ↦ absurd cc ]
-  data_failed (signed size) w e fits h =
+  data_failed width (signed size) w e form fits h =
       elim (bind_err (number_at size w) (λ n. Ok (int (signed_of size n.0), n.1)) e h) [ inl first ↦ number_failed size w e first | inr (x, was, then) ↦ absurd cc ]
-  data_failed (string encoding width) w e fits h =
+  data_failed width (string encoding own) w e form fits h =
       in_body width (FaultInText encoding w.place e) w e (λ body. text_at encoding w.place body.0.bytes >>= λ s. Ok (phrase s, body.1)) fits
       (λ b v bytes then. let g : List ℕ → Data × View = λ s. (phrase s, v) in
       text_failed encoding w.place b e bytes (only_first (text_at encoding w.place b.bytes) g e then)) h
-  data_failed (array width max element) w e fits h =
+  data_failed width (array own max element) w e form fits h =
       in_body width (FaultInItems (Reads element) (FaultIn element e) max e) w e (λ body. items_at (data_at element) max body.0 >>= λ items. Ok (list items, body.1)) fits
       (λ b v bytes then. let g : Items → Data × View = λ items. (list items, v) in
-      items_failed (data_at element) (Reads element) (FaultIn element e) e (record { takes = data_took element }) (λ u us bad. data_failed element u e us bad) max b bytes (only_first (items_at (data_at element) max b) g e then)) h
-  data_failed (fixed n element) w e fits h =
+      items_failed (data_at element) (Reads element) (FaultIn element e) e (record { takes = λ x y d. data_took (own_width element) element x y d form }) (λ u us bad. data_failed (own_width element) element u e form us bad) max b bytes (only_first (items_at (data_at element) max b) g e then)) h
+  data_failed width (fixed n element) w e form fits h =
       elim (bind_err (fixed_at (data_at element) n w) (λ items. Ok (list items.0, items.1)) e h) [
-        | inl first ↦ fixed_failed (data_at element) (Reads element) (FaultIn element e) e (record { takes = data_took element }) (λ u us bad. data_failed element u e us bad) n w fits first
+        | inl first ↦ fixed_failed (data_at element) (Reads element) (FaultIn element e) e (record { takes = λ x y d. data_took (own_width element) element x y d form.1 }) (λ u us bad. data_failed (own_width element) element u e form.1 us bad) n w fits first
         | inr (x, was, then) ↦ absurd cc
       ]
-  data_failed («struct» None fs) w e fits h =
-      elim (bind_err (members_at fs w) (λ members. Ok (tuple members.0, members.1)) e h) [ inl first ↦ members_failed fs w e fits first | inr (x, was, then) ↦ absurd cc ]
-  data_failed («struct» (Some width) fs) w e fits h =
+  data_failed width («struct» None fs) w e form fits h =
+      elim (bind_err (members_at fs w) (λ members. Ok (tuple members.0, members.1)) e h) [ inl first ↦ members_failed fs w e form.1 fits first | inr (x, was, then) ↦ absurd cc ]
+  data_failed width («struct» (Some own) fs) w e form fits h =
       in_body width (FaultInMembers fs e) w e (λ body. members_at fs body.0 >>= λ members. Ok (tuple members.0, body.1)) fits
       (λ b v bytes then. let g : Items × View → Data × View = λ members. (tuple members.0, v) in
-      members_failed fs b e bytes (only_first (members_at fs b) g e then)) h
-  data_failed (union vs) w e fits h =
-      union_failed (λ kind len place u. variant_at vs kind len place w u) (λ kind len v. FaultInVariant vs e kind len w v) w e fits
-      (λ kind len place u us at bad. variant_failed vs kind len place w u e us at bad) h
+      members_failed fs b e form.1 bytes (only_first (members_at fs b) g e then)) h
+  data_failed width (union vs) w e form fits h =
+      union_failed width (λ kind len place u. variant_at vs kind len place w u) (λ kind len v. FaultInVariant vs (w.place + field_len width) e kind len w v) w e fits
+      (λ kind len place u us at bad. subst (λ (n : ℕ). FaultInVariant vs n e kind len w u) at (variant_failed vs kind len place w u e form us bad)) h
+  data_failed width (tagged own ms) w e form fits h =
+      let takes = λ (ss ss' : Slots) (tag : Tag) (place : ℕ) (u x : View) (bytes : IsBytes u.bytes) (was : slots_at ms ss tag place u ≡ Ok (ss', x)). slots_took ms ss ss' tag place u x form bytes was in
+      let inside = λ (ss : Slots) (tag : Tag) (place : ℕ) (u : View) (bytes : IsBytes u.bytes) (bad : slots_at ms ss tag place u ≡ Err e). slots_failed ms ss tag place u e form bytes bad in
+      let In : Slots → View → Type 0 = λ ss v. FaultInItem (λ t id u. FaultBehindTag ms ss t id v.place e u) v e in
+      in_body width (FaultInTagged ms In w.place e) w e
+      (λ body. tagged_at (item_at ms) (length body.0.bytes) (all_absent ms) body.0 >>= λ ss. required_at ms w.place ss >>= λ whole. Ok (slotted whole, body.1)) fits
+      (λ b v bytes then. tagged_failed (item_at ms) ms (item_took (slots_at ms) ms takes) In e (item_failed (slots_at ms) (λ ss t id place u. FaultBehindTag ms ss t id place e u) e inside) w.place b bytes
+      (both_first (tagged_at (item_at ms) (length b.bytes) (all_absent ms) b) (required_at ms w.place) (λ whole. (slotted whole, v)) e then)) h
 
-  pub members_failed : (fs : Forms) (w : View) (e : PayloadError) → IsBytes w.bytes → members_at fs w ≡ Err e → FaultInMembers fs e w
-  members_failed no_forms w e fits h = absurd cc
-  members_failed (form_then f fs) w e fits h =
+  pub members_failed : (fs : Forms) (w : View) (e : PayloadError) → AreForms fs → IsBytes w.bytes → members_at fs w ≡ Err e → FaultInMembers fs e w
+  members_failed no_forms w e form fits h = absurd cc
+  members_failed (form_then f fs) w e form fits h =
       elim (bind_err (data_at f w) (λ first. members_at fs first.1 >>= λ others. Ok (item first.0 others.0, others.1)) e h) [
-        | inl first ↦ inl (data_failed f w e fits first)
+        | inl first ↦ inl (data_failed (own_width f) f w e form.0 fits first)
         | inr (x, was, then) ↦
-            let t = data_took f w x.1 x.0 fits was in
+            let t = data_took (own_width f) f w x.1 x.0 form.0 fits was in
             inr (
               x.0,
               t.text,
@@ -239,15 +194,24 @@ mutual
               t.took.bytes,
               t.holds,
               (let g : Items × View → Items × View = λ others. (item x.0 others.0, others.1) in
-                  subst (FaultInMembers fs e) (left_is t.took) (members_failed fs x.1 e (took_bytes fits t.took).1 (only_first (members_at fs x.1) g e then))),
+                  subst (FaultInMembers fs e) (left_is t.took) (members_failed fs x.1 e form.1 (took_bytes fits t.took).1 (only_first (members_at fs x.1) g e then))),
             )
       ]
 
-  pub variant_failed : (vs : Variants) (kind len place : ℕ) (w u : View) (e : PayloadError) → IsBytes u.bytes → place ≡ w.place + 4 → variant_at vs kind len place w u ≡ Err e → FaultInVariant vs e kind len w u
-  variant_failed no_variants kind len place w u e fits at h = sym (err_is {A = Data × View} (UnknownVariant place) e h) ∙ ap UnknownVariant at
-  variant_failed (variant n f vs) kind len place w u e fits at h =
+  pub variant_failed : (vs : Variants) (kind len place : ℕ) (w u : View) (e : PayloadError) → AreVariants vs → IsBytes u.bytes → variant_at vs kind len place w u ≡ Err e → FaultInVariant vs place e kind len w u
+  variant_failed no_variants kind len place w u e form fits h = sym (err_is {A = Data × View} (UnknownVariant place) e h)
+  variant_failed (variant n f vs) kind len place w u e form fits h =
       picks_failed (eqb n kind)
       (((length u.bytes < len) × (e ≡ short_at w)) ⊎ ((len ≤ length u.bytes) × FaultIn f e (record { is_body = true; place = u.place; bytes = take len u.bytes })))
-      (FaultInVariant vs e kind len w u) (chosen_at (data_at f) kind len w u) (variant_at vs kind len place w u) e
-      (λ here. chosen_failed (data_at f) (FaultIn f e) e (λ b bs bad. data_failed f b e bs bad) kind len w u fits here)
-      (λ later. variant_failed vs kind len place w u e fits at later) h
+      (FaultInVariant vs place e kind len w u) (chosen_at (data_at f) kind len w u) (variant_at vs kind len place w u) e
+      (λ here. chosen_failed (data_at f) (FaultIn f e) e (λ b bs bad. data_failed (own_width f) f b e form.1 bs bad) kind len w u fits here)
+      (λ later. variant_failed vs kind len place w u e form.2 fits later) h
+
+  pub slots_failed : (ms : Members) (ss : Slots) (tag : Tag) (place : ℕ) (w : View) (e : PayloadError) → AreMembers ms → IsBytes w.bytes → slots_at ms ss tag place w ≡ Err e → FaultBehindTag ms ss tag.wire_type tag.id place e w
+  slots_failed no_members ss tag place w e are fits h = skipped_failed tag.wire_type ss w e fits h
+  slots_failed (member_then id optional f ms) no_slots tag place w e are fits h = skipped_failed tag.wire_type no_slots w e fits h
+  slots_failed (member_then id optional f ms) (present d ss) tag place w e are fits h =
+      present_failed (eqb id tag.id) (FaultBehindTag ms ss tag.wire_type tag.id place e w) d place (slots_at ms ss tag place w) e (λ bad. slots_failed ms ss tag place w e are.4 fits bad) h
+  slots_failed (member_then id optional f ms) (absent ss) tag place w e are fits h =
+      absent_failed (eqb id tag.id) (FaultBehindTag ms ss tag.wire_type tag.id place e w) (λ width. FaultBy width f e w) (λ width u. data_by width f u) f ss tag place w (slots_at ms ss tag place w) e
+      (λ bad. slots_failed ms ss tag place w e are.4 fits bad) (λ width bad. data_failed width f w e are.3 fits bad) h

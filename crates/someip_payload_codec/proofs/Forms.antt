@@ -1,8 +1,9 @@
 -- Forms that values can have, as facts.
-use Rattle.std.proofs.Common.{◌≡◌, ℕ, ◌<◌, true, ltb, not, ◌&&◌, List, [], ◌∷◌}
-use Rattle.std.proofs.lemmas.Bool.{and_parts, ltb-true}
-use Rattle.someip_payload_codec.specs.Data.{Form, bool, unsigned, signed, string, array, fixed, «struct», union, Forms, no_forms, form_then, Variants, no_variants, variant}
-use Rattle.someip_payload_codec.specs.Check.{has_members, has_variants, is_fixed, is_among, are_numbers, is_form, are_forms, are_variants}
+use Rattle.std.proofs.Common.{◌≡◌, ℕ, ◌<◌, ◌^◌, Bool, true, false, ltb, eqb, not, ◌&&◌, ◌||◌, List, [], ◌∷◌, refl}
+use Rattle.std.proofs.lemmas.Bool.{and_parts, ltb-true, ne_eqb, eq-eqb}
+use Rattle.someip_payload_codec.specs.Data.{Form, bool, unsigned, signed, string, array, fixed, «struct», union, tagged, Forms, no_forms, form_then, Variants, no_variants, variant, Members, no_members, member_then}
+use Rattle.someip_payload_codec.specs.Check.{has_members, has_variants, has_tagged_members, is_fixed, can_be_tagged, is_among, are_numbers, are_ids, is_form, are_forms, are_variants, are_tagged}
+use Rattle.someip_payload_codec.specs.Grammar.{is_member}
 
 abbrev pub HasMembers : Forms → Type 0
 HasMembers no_forms = ⊥
@@ -14,6 +15,7 @@ abbrev mutual
   IsForm (fixed n element) = (0 < n) × IsForm element
   IsForm («struct» width fs) = HasMembers fs × AreForms fs
   IsForm (union vs) = AreVariants vs
+  IsForm (tagged width ms) = AreMembers ms
   IsForm bool = Unit {0}
   IsForm (unsigned size) = Unit {0}
   IsForm (signed size) = Unit {0}
@@ -26,6 +28,27 @@ abbrev mutual
   pub AreVariants : Variants → Type 0
   AreVariants no_variants = Unit {0}
   AreVariants (variant n f vs) = (0 < n) × IsForm f × AreVariants vs
+
+  pub AreMembers : Members → Type 0
+  AreMembers no_members = Unit {0}
+  AreMembers (member_then id optional f ms) = (id < 2 ^ 12) × (is_member id ms ≡ false) × (can_be_tagged f ≡ true) × IsForm f × AreMembers ms
+
+or_right : (a b : Bool) → b ≡ true → (a || b) ≡ true
+or_right true b e = refl
+or_right false b e = e
+
+or_left : (a b : Bool) → a ≡ true → (a || b) ≡ true
+or_left true b e = refl
+or_left false b e = absurd cc
+
+-- a Data ID that stood earlier is none of a later member
+not_later : (ms : Members) (earlier : List ℕ) (id : ℕ) → is_among id earlier ≡ true → are_ids earlier ms ≡ true → is_member id ms ≡ false
+not_later no_members earlier id among e = refl
+not_later (member_then n optional f ms) earlier id among e =
+    let p = and_parts (ltb n 4096) (not (is_among n earlier) && are_ids (n ∷ earlier) ms) e in
+    let q = and_parts (not (is_among n earlier)) (are_ids (n ∷ earlier) ms) p.1 in
+    let other : eqb n id ≡ false = ne_eqb n id (λ same. let h : is_among n earlier ≡ true = rw same among in let g : not (is_among n earlier) ≡ true = q.0 in cc) in
+    rw (other, not_later ms (n ∷ earlier) id (or_right (eqb id n) (is_among id earlier) among) q.1) refl
 
 some_members : (fs : Forms) → has_members fs ≡ true → HasMembers fs
 some_members no_forms e = absurd cc
@@ -49,6 +72,10 @@ mutual
       let p = and_parts (has_variants vs) (are_numbers [] vs && are_variants vs) e in
       let q = and_parts (are_numbers [] vs) (are_variants vs) p.1 in
       variants_are vs [] q.0 q.1
+  form_is (tagged width ms) e =
+      let p = and_parts (has_tagged_members ms) (are_ids [] ms && are_tagged ms) e in
+      let q = and_parts (are_ids [] ms) (are_tagged ms) p.1 in
+      members_are ms [] q.0 q.1
 
   pub forms_are : (fs : Forms) → are_forms fs ≡ true → AreForms fs
   forms_are no_forms e = tt
@@ -63,3 +90,12 @@ mutual
       let q = and_parts (ltb 0 n) (not (is_among n earlier) && are_numbers (n ∷ earlier) vs) numbers in
       let r = and_parts (not (is_among n earlier)) (are_numbers (n ∷ earlier) vs) q.1 in
       (ltb-true 0 n q.0, form_is f p.0, variants_are vs (n ∷ earlier) r.1 p.1)
+
+  pub members_are : (ms : Members) (earlier : List ℕ) → are_ids earlier ms ≡ true → are_tagged ms ≡ true → AreMembers ms
+  members_are no_members earlier ids e = tt
+  members_are (member_then id optional f ms) earlier ids e =
+      let p = and_parts (can_be_tagged f) (is_form f && are_tagged ms) e in
+      let p' = and_parts (is_form f) (are_tagged ms) p.1 in
+      let q = and_parts (ltb id 4096) (not (is_among id earlier) && are_ids (id ∷ earlier) ms) ids in
+      let r = and_parts (not (is_among id earlier)) (are_ids (id ∷ earlier) ms) q.1 in
+      (ltb-true id 4096 q.0, not_later ms (id ∷ earlier) id (or_left (eqb id id) (is_among id earlier) (eq-eqb id id refl)) r.1, p.0, form_is f p'.0, members_are ms (id ∷ earlier) r.1 p'.1)

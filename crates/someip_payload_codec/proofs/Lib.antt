@@ -1,6 +1,8 @@
 mod Shapes
 mod Strings
 mod Loops
+mod TaggedLoops
+mod Shorter
 mod Writes
 mod Parts
 mod Forms
@@ -9,10 +11,17 @@ mod Utf8Texts
 mod Utf16Units
 mod Utf16Texts
 mod TextLemmas
+mod TagLemmas
+mod PartFaults
+mod TaggedSound
 mod Sound
+mod TaggedAgain
 mod Complete
+mod TaggedFirst
 mod First
+mod TaggedWritten
 mod Whole
 mod ErrorKinds
 mod Exact
 mod Characters
+mod ValueTexts

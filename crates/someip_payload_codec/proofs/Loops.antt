@@ -28,6 +28,9 @@ fails_too (errors.TooDeep k) a b then h = then h
 fails_too (errors.NotOfShape k) a b then h = then h
 fails_too (errors.TooLong k) a b then h = then h
 fails_too (errors.BadShape k) a b then h = then h
+fails_too (errors.DuplicateMember k) a b then h = then h
+fails_too (errors.WrongWireType k) a b then h = then h
+fails_too (errors.MissingMember k) a b then h = then h
 
 -- the data so far, and then others
 abbrev pub before : List Data → Items → Items

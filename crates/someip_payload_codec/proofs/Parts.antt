@@ -9,7 +9,7 @@ use Rattle.someip_payload_codec.specs.declared.shape.Width.{Width}
 use Rattle.someip_payload_codec.specs.declared.number.Size.{Size}
 use Rattle.someip_payload_codec.specs.declared.number.Size.TheVariants.{S8, S16, S32, S64}
 use Rattle.someip_payload_codec.specs.Data.{View}
-use Rattle.someip_payload_codec.specs.Grammar.{width_of, limit_of, size_of, number, framed}
+use Rattle.someip_payload_codec.specs.Numbers.{width_of, limit_of, size_of, number, framed}
 use Rattle.someip_payload_codec.specs.Steps.{◌>>=◌}
 use Rattle.someip_payload_codec.specs.Reading.{short_at, skip, front_at, number_at, window_at, body_at}
 use Rattle.someip_payload_codec.specs.Faults.{body_view}
@@ -44,6 +44,12 @@ pub record Took (w : View) (text : List ℕ) (v : View) : Type 0 where
   pub is_body : v.is_body ≡ w.is_body
   pub place : v.place ≡ w.place + length text
   pub bytes : w.bytes ≡ text ++ v.bytes
+
+-- a text of such a kind was taken from w, and v is left
+pub record Takes (P : List ℕ → Type 0) (w v : View) : Type 0 where
+  pub text : List ℕ
+  pub took : Took w text v
+  pub holds : P text
 
 pub took_none : (w : View) → Took w [] w
 took_none w = record { is_body = refl; place = omega arith; bytes = refl }

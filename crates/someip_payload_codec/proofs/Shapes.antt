@@ -4,11 +4,12 @@ use Rattle.std.proofs.lemmas.Bool.Decides.{nat_tests}
 use Rattle.std.proofs.lemmas.List.{drop_more}
 use Rattle.someip_payload_codec.specs.declared.shape.Encoding.{Encoding}
 use Rattle.someip_payload_codec.specs.declared.shape.Width.{Width}
-use Rattle.someip_payload_codec.specs.declared.shape.Shape.{Shape, Text, Union, the_lemmas}
-use Rattle.someip_payload_codec.specs.declared.value.Value.{Value, Text as TextValue, Union as UnionValue, the_lemmas as value_lemmas}
-use Rattle.someip_payload_codec.specs.Data.{form_then, variant, string, union, phrase, chosen}
-use Rattle.someip_payload_codec.specs.Check.{has_members, has_variants}
-use Rattle.someip_payload_codec.specs.View.{form, forms, all_variants, data_of, data_of_choice}
+use Rattle.someip_payload_codec.specs.declared.shape.Shape.{Shape, Text, Union, Tagged, the_lemmas}
+use Rattle.someip_payload_codec.specs.declared.shape.Member.{Member, out-Member}
+use Rattle.someip_payload_codec.specs.declared.value.Value.{Value, Text as TextValue, Union as UnionValue, Tagged as TaggedValue, the_lemmas as value_lemmas}
+use Rattle.someip_payload_codec.specs.Data.{form_then, variant, member_then, string, union, tagged, phrase, chosen, slotted}
+use Rattle.someip_payload_codec.specs.Check.{has_members, has_variants, has_tagged_members}
+use Rattle.someip_payload_codec.specs.View.{form, forms, all_variants, all_members, data_of, data_of_choice, slots_of}
 
 pub has_members_of : (ss : List Shape) → has_members (forms ss) ≡ not (length ss == 0)
 has_members_of [] = refl
@@ -30,6 +31,10 @@ pub all_variants-drop : (vs : List (ℕ × Shape)) (i : ℕ) (v : ℕ × Shape) 
     → all_variants (drop i vs) ≡ variant (get_or vs i v).0 (form (get_or vs i v).1) (all_variants (drop (i + 1) vs))
 all_variants-drop vs i v h = rw (drop_more vs i v h)
 
+pub all_members-drop : (ms : List Member) (i : ℕ) (m : Member) → i < length ms
+    → all_members (drop i ms) ≡ member_then (out-Member (get_or ms i m)).id (out-Member (get_or ms i m)).is_optional (form (out-Member (get_or ms i m)).shape) (all_members (drop (i + 1) ms))
+all_members-drop ms i m h = rw (drop_more ms i m h) (search (rules, the_lemmas))
+
 pub form-Union : (vs : Vec (ℕ × Shape) Global) → form (Union vs) ≡ union (all_variants vs.items)
 form-Union vs = search (rules, the_lemmas)
 
@@ -45,3 +50,13 @@ form-Text encoding width = search (rules, the_lemmas)
 
 pub data_of-Text : (s : String Global) → data_of (TextValue s) ≡ phrase (string_bytes s)
 data_of-Text s = search (rules, value_lemmas)
+
+pub has_tagged_members_of : (ms : List Member) → has_tagged_members (all_members ms) ≡ not (length ms == 0)
+has_tagged_members_of [] = refl
+has_tagged_members_of (m ∷ ms) = grind (arith, nat_tests)
+
+pub form-Tagged : (width : Width) (ms : Vec Member Global) → form (Tagged width ms) ≡ tagged width (all_members ms.items)
+form-Tagged width ms = search (rules, the_lemmas)
+
+pub data_of-Tagged : (ss : Vec (Option Value) Global) → data_of (TaggedValue ss) ≡ slotted (slots_of ss.items)
+data_of-Tagged ss = search (rules, value_lemmas)

@@ -10,18 +10,18 @@ use Rattle.someip_payload_codec.specs.declared.error.PayloadError.{PayloadError}
 use Rattle.someip_payload_codec.specs.declared.error.PayloadError.TheVariants.{TooMany, LengthMismatch}
 use Rattle.someip_payload_codec.specs.declared.number.Size.{Size}
 use Rattle.someip_payload_codec.specs.declared.number.Size.TheVariants.{S8, S16, S32, S64}
-use Rattle.someip_payload_codec.specs.Data.{Form, bool, unsigned, signed, string, array, fixed, «struct», union, Forms, no_forms, form_then, Variants, no_variants, variant, Data, truth, uint, int, phrase, list, tuple, nothing, chosen, Items, no_items, item, View}
-use Rattle.someip_payload_codec.specs.Grammar.{width_of, limit_of, number, count, framed, tagged, is_odd, Begins, Picks, Each, Reads, ReadsMembers, ReadsVariant}
+use Rattle.someip_payload_codec.specs.declared.shape.Width.{Width}
+use Rattle.someip_payload_codec.specs.declared.tag.Tag.{Tag}
+use Rattle.someip_payload_codec.specs.Data.{Form, bool, unsigned, signed, string, array, fixed, «struct», union, tagged, Forms, no_forms, form_then, Variants, no_variants, variant, Members, no_members, member_then, Data, truth, uint, int, phrase, list, tuple, nothing, chosen, slotted, Items, no_items, item, Slots, no_slots, present, absent, View}
+use Rattle.someip_payload_codec.specs.Numbers.{width_of, limit_of, size_of, number, framed, typed, is_odd, Begins}
+use Rattle.someip_payload_codec.specs.Tags.{own_width}
+use Rattle.someip_payload_codec.specs.Grammar.{count, Picks, Each, Reads, ReadsBy, ReadsMembers, ReadsVariant, ReadsItems}
 use Rattle.someip_payload_codec.specs.Steps.{◌>>=◌}
-use Rattle.someip_payload_codec.specs.Reading.{signed_of, number_at, window_at, body_at, text_at, items_at, fixed_at, union_at, chosen_at, data_at, members_at, variant_at}
-use Rattle.someip_payload_codec.proofs.Parts.{IsBytes, bind_ok, ok_is, Took, took_none, took_then, took_bytes, number_took, window_took, body_took}
+use Rattle.someip_payload_codec.specs.Reading.{signed_of, number_at, window_at, body_at, text_at, items_at, fixed_at, union_at, chosen_at, Filler, item_by, tagged_at, all_absent, required_at, data_by, data_at, members_at, variant_at, slots_at}
+use Rattle.someip_payload_codec.proofs.Parts.{IsBytes, bind_ok, ok_is, Took, Takes, took_none, took_then, took_bytes, number_took, window_took, body_took}
+use Rattle.someip_payload_codec.proofs.Forms.{IsForm, AreForms, AreVariants, AreMembers}
+use Rattle.someip_payload_codec.proofs.TaggedSound.{none_yet, reads_more, TakesSlot, skipped_took, present_took, absent_or_value, item_took, tagged_took, required_is}
 use Rattle.someip_payload_codec.proofs.TextLemmas.{text_took}
-
--- a text of such a kind was taken from w, and v is left
-pub record Takes (P : List ℕ → Type 0) (w v : View) : Type 0 where
-  pub text : List ℕ
-  pub took : Took w text v
-  pub holds : P text
 
 -- a reader that takes what P says
 pub record IsSound (one : View → Result (Data × View) PayloadError) (P : Data → List ℕ → Type 0) : Type 0 where
@@ -106,108 +106,129 @@ picks_took true P Q r s kind len u v d first next h = first h
 picks_took false P Q r s kind len u v d first next h = next h
 
 -- what a union took
-record TookUnion (P : ℕ → Data → List ℕ → Type 0) (w v : View) (d : Data) : Type 0 where
+record TookUnion (width : Width) (P : ℕ → Data → List ℕ → Type 0) (w v : View) (d : Data) : Type 0 where
   pub text : List ℕ
   pub took : Took w text v
-  pub holds : ((d ≡ nothing) × (text ≡ tagged 0 []))
-      ⊎ ((kind : ℕ) × (e : Data) × (d ≡ chosen kind e) × (0 < kind) × (kind < 2 ^ 32) × (body : List ℕ) × (length body < 2 ^ 32) × (text ≡ tagged kind body) × Begins (P kind e) body)
+  pub holds : ((d ≡ nothing) × (text ≡ typed width 0 []))
+      ⊎ ((kind : ℕ) × (e : Data) × (d ≡ chosen kind e) × (0 < kind) × (kind < 2 ^ 32) × (body : List ℕ) × (length body < limit_of (size_of width)) × (text ≡ typed width kind body) × Begins (P kind e) body)
 
-union_cases : (known : ℕ → ℕ → ℕ → View → Result (Data × View) PayloadError) (P : ℕ → Data → List ℕ → Type 0) (kind len place : ℕ) (w u v : View) (d : Data) (f : PayloadError)
-    → IsBytes u.bytes → len < 2 ^ 32 → kind < 2 ^ 32 → Took w (number S32 len ++ number S32 kind) u
+union_cases : (width : Width) (known : ℕ → ℕ → ℕ → View → Result (Data × View) PayloadError) (P : ℕ → Data → List ℕ → Type 0) (kind len place : ℕ) (w u v : View) (d : Data) (f : PayloadError)
+    → IsBytes u.bytes → len < limit_of (size_of width) → kind < 2 ^ 32 → Took w (number (size_of width) len ++ number S32 kind) u
     → (known kind len place u ≡ Ok (d, v) → TakesVariant kind len (P kind) u v d)
-    → (t z : Bool) → eqb kind 0 ≡ t → eqb len 0 ≡ z → cond t (cond z (Ok (nothing, u)) (Err f)) (known kind len place u) ≡ Ok (d, v) → TookUnion P w v d
-union_cases known P kind len place w u v d f fits lb kb head takes true true k l h =
-    let none : number S32 len ++ number S32 kind ≡ tagged 0 [] = rw (eqb-true _ _ k, eqb-true _ _ l) refl in
-    subst (λ (x : Data × View). TookUnion P w x.1 x.0) (ok_is (nothing, u) (d, v) h) (record { text = number S32 len ++ number S32 kind; took = head; holds = inl (refl, none) })
-union_cases known P kind len place w u v d f fits lb kb head takes true false k l h = absurd cc
-union_cases known P kind len place w u v d f fits lb kb head takes false z k l h =
+    → (t z : Bool) → eqb kind 0 ≡ t → eqb len 0 ≡ z → cond t (cond z (Ok (nothing, u)) (Err f)) (known kind len place u) ≡ Ok (d, v) → TookUnion width P w v d
+union_cases width known P kind len place w u v d f fits lb kb head takes true true k l h =
+    let none : number (size_of width) len ++ number S32 kind ≡ typed width 0 [] = rw (eqb-true _ _ k, eqb-true _ _ l) refl in
+    subst (λ (x : Data × View). TookUnion width P w x.1 x.0) (ok_is (nothing, u) (d, v) h) (record { text = number (size_of width) len ++ number S32 kind; took = head; holds = inl (refl, none) })
+union_cases width known P kind len place w u v d f fits lb kb head takes true false k l h = absurd cc
+union_cases width known P kind len place w u v d f fits lb kb head takes false z k l h =
     let (e, is, t) = takes h in
-    let same : (number S32 len ++ number S32 kind) ++ t.text ≡ tagged kind t.text = rw (t.holds.0) (append_assoc (number S32 len) (number S32 kind) t.text) in
+    let same : (number (size_of width) len ++ number S32 kind) ++ t.text ≡ typed width kind t.text = rw (t.holds.0) (append_assoc (number (size_of width) len) (number S32 kind) t.text) in
     let some : kind ≡ 0 → ⊥ = eqb-false _ _ k in
-    record { text = (number S32 len ++ number S32 kind) ++ t.text; took = took_then head t.took; holds = inr (kind, e, is, omega arith, kb, t.text, omega (arith, t.holds.0), same, t.holds.1) }
+    record { text = (number (size_of width) len ++ number S32 kind) ++ t.text; took = took_then head t.took; holds = inr (kind, e, is, omega arith, kb, t.text, omega (arith, t.holds.0), same, t.holds.1) }
 
-union_took : (known : ℕ → ℕ → ℕ → View → Result (Data × View) PayloadError) (P : ℕ → Data → List ℕ → Type 0) (w v : View) (d : Data) → IsBytes w.bytes
+union_took : (width : Width) (known : ℕ → ℕ → ℕ → View → Result (Data × View) PayloadError) (P : ℕ → Data → List ℕ → Type 0) (w v : View) (d : Data) → IsBytes w.bytes
     → ((kind len place : ℕ) (u : View) → IsBytes u.bytes → known kind len place u ≡ Ok (d, v) → TakesVariant kind len (P kind) u v d)
-    → union_at known w ≡ Ok (d, v) → TookUnion P w v d
+    → union_at width known w ≡ Ok (d, v) → TookUnion width P w v d
 unfolding union_at
-union_took known P w v d fits takes h =
+union_took width known P w v d fits takes h =
     let second = λ (len : ℕ) (m : View) (kind : ℕ × View). cond (eqb kind.0 0) (cond (eqb len 0) (Ok (nothing, kind.1)) (Err (LengthMismatch w.place))) (known kind.0 len m.place kind.1) in
-    let a = bind_ok (number_at S32 w) (λ len. number_at S32 len.1 >>= second len.0 len.1) (d, v) h in
+    let a = bind_ok (number_at (size_of width) w) (λ len. number_at S32 len.1 >>= second len.0 len.1) (d, v) h in
     let b = bind_ok (number_at S32 a.0.1) (second a.0.0 a.0.1) (d, v) a.2 in
-    let l = number_took S32 w a.0.1 a.0.0 fits a.1 in
+    let l = number_took (size_of width) w a.0.1 a.0.0 fits a.1 in
     let after = (took_bytes fits l.0).1 in
     let k = number_took S32 a.0.1 b.0.1 b.0.0 after b.1 in
     let rest = (took_bytes after k.0).1 in
-    union_cases known P b.0.0 a.0.0 a.0.1.place w b.0.1 v d (LengthMismatch w.place) rest l.1 k.1 (took_then l.0 k.0) (takes b.0.0 a.0.0 a.0.1.place b.0.1 rest) (eqb b.0.0 0) (eqb a.0.0 0) refl refl b.2
+    union_cases width known P b.0.0 a.0.0 a.0.1.place w b.0.1 v d (LengthMismatch w.place) rest l.1 k.1 (took_then l.0 k.0) (takes b.0.0 a.0.0 a.0.1.place b.0.1 rest) (eqb b.0.0 0) (eqb a.0.0 0) refl refl b.2
 
 mutual
-  unfolding data_at members_at variant_at Reads ReadsMembers ReadsVariant
+  unfolding data_by members_at variant_at slots_at ReadsBy ReadsMembers ReadsVariant ReadsItems
 
-  pub data_took : (f : Form) (w v : View) (d : Data) → IsBytes w.bytes → data_at f w ≡ Ok (d, v) → Takes (Reads f d) w v
-  data_took bool w v d fits e =
+  pub data_took : (width : Width) (f : Form) (w v : View) (d : Data) → IsForm f → IsBytes w.bytes → data_by width f w ≡ Ok (d, v) → Takes (ReadsBy width f d) w v
+  data_took width bool w v d form fits e =
       let a = bind_ok (number_at S8 w) (λ n. Ok (truth (is_odd n.0), n.1)) (d, v) e in
       let t = number_took S8 w a.0.1 a.0.0 fits a.1 in
-      subst (λ (x : Data × View). Takes (Reads bool x.0) w x.1) (ok_is (truth (is_odd a.0.0), a.0.1) (d, v) a.2) (record { text = _; took = t.0; holds = (a.0.0, t.1, refl, refl) })
-  data_took (unsigned size) w v d fits e =
+      subst (λ (x : Data × View). Takes (ReadsBy width bool x.0) w x.1) (ok_is (truth (is_odd a.0.0), a.0.1) (d, v) a.2) (record { text = _; took = t.0; holds = (a.0.0, t.1, refl, refl) })
+  data_took width (unsigned size) w v d form fits e =
       let a = bind_ok (number_at size w) (λ n. Ok (uint n.0, n.1)) (d, v) e in
       let t = number_took size w a.0.1 a.0.0 fits a.1 in
-      subst (λ (x : Data × View). Takes (Reads (unsigned size) x.0) w x.1) (ok_is (uint a.0.0, a.0.1) (d, v) a.2) (record { text = _; took = t.0; holds = (t.1, refl) })
-  data_took (signed size) w v d fits e =
+      subst (λ (x : Data × View). Takes (ReadsBy width (unsigned size) x.0) w x.1) (ok_is (uint a.0.0, a.0.1) (d, v) a.2) (record { text = _; took = t.0; holds = (t.1, refl) })
+  data_took width (signed size) w v d form fits e =
       let a = bind_ok (number_at size w) (λ n. Ok (int (signed_of size n.0), n.1)) (d, v) e in
       let t = number_took size w a.0.1 a.0.0 fits a.1 in
       let s = signed_fits size a.0.0 t.1 in
-      subst (λ (x : Data × View). Takes (Reads (signed size) x.0) w x.1) (ok_is (int (signed_of size a.0.0), a.0.1) (d, v) a.2)
+      subst (λ (x : Data × View). Takes (ReadsBy width (signed size) x.0) w x.1) (ok_is (int (signed_of size a.0.0), a.0.1) (d, v) a.2)
       (record { text = _; took = t.0; holds = (s.0, ap (number size) (sym s.1)) })
-  data_took (string encoding width) w v d fits e =
+  data_took width (string encoding own) w v d form fits e =
       let a = bind_ok (body_at width w) (λ body. text_at encoding w.place body.0.bytes >>= λ s. Ok (phrase s, body.1)) (d, v) e in
       let b = bind_ok (text_at encoding w.place a.0.0.bytes) (λ s. Ok (phrase s, a.0.1)) (d, v) a.2 in
       let t = body_took width w a.0.0 a.0.1 fits a.1 in
-      subst (λ (x : Data × View). Takes (Reads (string encoding width) x.0) w x.1) (ok_is (phrase b.0, a.0.1) (d, v) b.2)
+      subst (λ (x : Data × View). Takes (ReadsBy width (string encoding width) x.0) w x.1) (ok_is (phrase b.0, a.0.1) (d, v) b.2)
       (record { text = framed width a.0.0.bytes; took = t.took; holds = (a.0.0.bytes, t.fits, refl, text_took encoding w.place a.0.0.bytes b.0 t.bytes b.1) })
-  data_took (array width max element) w v d fits e =
+  data_took width (array own max element) w v d form fits e =
       let a = bind_ok (body_at width w) (λ body. items_at (data_at element) max body.0 >>= λ items. Ok (list items, body.1)) (d, v) e in
       let b = bind_ok (items_at (data_at element) max a.0.0) (λ items. Ok (list items, a.0.1)) (d, v) a.2 in
       let t = body_took width w a.0.0 a.0.1 fits a.1 in
-      let rest = items_took (data_at element) (Reads element) (record { takes = data_took element }) max a.0.0 b.0 t.bytes b.1 in
-      subst (λ (x : Data × View). Takes (Reads (array width max element) x.0) w x.1) (ok_is (list b.0, a.0.1) (d, v) b.2)
+      let rest = items_took (data_at element) (Reads element) (record { takes = λ u x y. data_took (own_width element) element u x y form }) max a.0.0 b.0 t.bytes b.1 in
+      subst (λ (x : Data × View). Takes (ReadsBy width (array own max element) x.0) w x.1) (ok_is (list b.0, a.0.1) (d, v) b.2)
       (record { text = framed width a.0.0.bytes; took = t.took; holds = (rest.0, (a.0.0.bytes, t.fits, refl, rest.1)) })
-  data_took (fixed n element) w v d fits e =
+  data_took width (fixed n element) w v d form fits e =
       let a = bind_ok (fixed_at (data_at element) n w) (λ items. Ok (list items.0, items.1)) (d, v) e in
-      let t = fixed_took (data_at element) (Reads element) (record { takes = data_took element }) n w a.0.1 a.0.0 fits a.1 in
-      subst (λ (x : Data × View). Takes (Reads (fixed n element) x.0) w x.1) (ok_is (list a.0.0, a.0.1) (d, v) a.2) (record { text = t.text; took = t.took; holds = t.holds })
-  data_took («struct» None fs) w v d fits e =
+      let t = fixed_took (data_at element) (Reads element) (record { takes = λ u x y. data_took (own_width element) element u x y form.1 }) n w a.0.1 a.0.0 fits a.1 in
+      subst (λ (x : Data × View). Takes (ReadsBy width (fixed n element) x.0) w x.1) (ok_is (list a.0.0, a.0.1) (d, v) a.2) (record { text = t.text; took = t.took; holds = t.holds })
+  data_took width («struct» None fs) w v d form fits e =
       let a = bind_ok (members_at fs w) (λ members. Ok (tuple members.0, members.1)) (d, v) e in
-      let t = members_took fs w a.0.1 a.0.0 fits a.1 in
-      subst (λ (x : Data × View). Takes (Reads («struct» None fs) x.0) w x.1) (ok_is (tuple a.0.0, a.0.1) (d, v) a.2) (record { text = t.text; took = t.took; holds = t.holds })
-  data_took («struct» (Some width) fs) w v d fits e =
+      let t = members_took fs w a.0.1 a.0.0 form.1 fits a.1 in
+      subst (λ (x : Data × View). Takes (ReadsBy width («struct» None fs) x.0) w x.1) (ok_is (tuple a.0.0, a.0.1) (d, v) a.2) (record { text = t.text; took = t.took; holds = t.holds })
+  data_took width («struct» (Some own) fs) w v d form fits e =
       let a = bind_ok (body_at width w) (λ body. members_at fs body.0 >>= λ members. Ok (tuple members.0, body.1)) (d, v) e in
       let b = bind_ok (members_at fs a.0.0) (λ members. Ok (tuple members.0, a.0.1)) (d, v) a.2 in
       let t = body_took width w a.0.0 a.0.1 fits a.1 in
-      let rest = members_took fs a.0.0 b.0.1 b.0.0 t.bytes b.1 in
-      subst (λ (x : Data × View). Takes (Reads («struct» (Some width) fs) x.0) w x.1) (ok_is (tuple b.0.0, a.0.1) (d, v) b.2)
+      let rest = members_took fs a.0.0 b.0.1 b.0.0 form.1 t.bytes b.1 in
+      subst (λ (x : Data × View). Takes (ReadsBy width («struct» (Some own) fs) x.0) w x.1) (ok_is (tuple b.0.0, a.0.1) (d, v) b.2)
       (record { text = framed width a.0.0.bytes; took = t.took; holds = (a.0.0.bytes, t.fits, refl, (rest.text, b.0.1.bytes, rest.took.bytes, rest.holds)) })
-  data_took (union vs) w v d fits e =
-      let t = union_took (λ kind len place u. variant_at vs kind len place w u) (λ kind x body. ReadsVariant vs kind x body) w v d fits (λ kind len place u. variant_took vs kind len place w u v d) e in
+  data_took width (union vs) w v d form fits e =
+      let t = union_took width (λ kind len place u. variant_at vs kind len place w u) (λ kind x body. ReadsVariant vs kind x body) w v d fits (λ kind len place u. variant_took vs kind len place w u v d form) e in
       elim t.holds [
-        | inl (is, none) ↦ subst (λ (x : Data). Takes (Reads (union vs) x) w v) (sym is) (record { text = t.text; took = t.took; holds = none })
+        | inl (is, none) ↦ subst (λ (x : Data). Takes (ReadsBy width (union vs) x) w v) (sym is) (record { text = t.text; took = t.took; holds = none })
         | inr (kind, x, is, some, below, body, short, same, begins) ↦
-            subst (λ (x : Data). Takes (Reads (union vs) x) w v) (sym is) (record { text = t.text; took = t.took; holds = (some, below, (body, short, same, begins)) })
+            subst (λ (x : Data). Takes (ReadsBy width (union vs) x) w v) (sym is) (record { text = t.text; took = t.took; holds = (some, below, (body, short, same, begins)) })
       ]
+  data_took width (tagged own ms) w v d form fits e =
+      let one : Filler = item_by (slots_at ms) in
+      let third = λ (body : View × View) (ss : Slots). required_at ms w.place ss >>= λ whole. let x : Data × View = (slotted whole, body.1) in Ok x in
+      let a = bind_ok (body_at width w) (λ body. tagged_at one (length body.0.bytes) (all_absent ms) body.0 >>= third body) (d, v) e in
+      let b = bind_ok (tagged_at one (length a.0.0.bytes) (all_absent ms) a.0.0) (third a.0) (d, v) a.2 in
+      let c = bind_ok (required_at ms w.place b.0) (λ whole. let x : Data × View = (slotted whole, a.0.1) in Ok x) (d, v) b.2 in
+      let t = body_took width w a.0.0 a.0.1 fits a.1 in
+      let fills = item_took (slots_at ms) ms (λ ss ss' tag place u x bytes h. slots_took ms ss ss' tag place u x form bytes h) in
+      let items = tagged_took one ms fills (length a.0.0.bytes) [] (all_absent ms) b.0 a.0.0 t.bytes (omega arith) (none_yet ms) tt b.1 in
+      let whole = required_is ms w.place b.0 c.0 c.1 in
+      subst (λ (x : Data × View). Takes (ReadsBy width (tagged own ms) x.0) w x.1) (ok_is (slotted c.0, a.0.1) (d, v) c.2)
+      (record { text = framed width a.0.0.bytes; took = t.took; holds = ((a.0.0.bytes, t.fits, refl, (items.more, items.bytes, subst (λ (x : Slots). ReadsItems ms x items.more) whole.1 items.reads, items.skips)), whole.0) })
 
-  pub members_took : (fs : Forms) (w v : View) (ds : Items) → IsBytes w.bytes → members_at fs w ≡ Ok (ds, v) → Takes (ReadsMembers fs ds) w v
-  members_took no_forms w v ds fits e =
+  pub members_took : (fs : Forms) (w v : View) (ds : Items) → AreForms fs → IsBytes w.bytes → members_at fs w ≡ Ok (ds, v) → Takes (ReadsMembers fs ds) w v
+  members_took no_forms w v ds form fits e =
       subst (λ (x : Items × View). Takes (ReadsMembers no_forms x.0) w x.1) (ok_is (no_items, w) (ds, v) e) (record { text = []; took = took_none w; holds = refl })
-  members_took (form_then f fs) w v ds fits e =
+  members_took (form_then f fs) w v ds form fits e =
       let a = bind_ok (data_at f w) (λ first. members_at fs first.1 >>= λ others. Ok (item first.0 others.0, others.1)) (ds, v) e in
       let b = bind_ok (members_at fs a.0.1) (λ others. Ok (item a.0.0 others.0, others.1)) (ds, v) a.2 in
-      let t = data_took f w a.0.1 a.0.0 fits a.1 in
-      let rest = members_took fs a.0.1 b.0.1 b.0.0 (took_bytes fits t.took).1 b.1 in
+      let t = data_took (own_width f) f w a.0.1 a.0.0 form.0 fits a.1 in
+      let rest = members_took fs a.0.1 b.0.1 b.0.0 form.1 (took_bytes fits t.took).1 b.1 in
       subst (λ (x : Items × View). Takes (ReadsMembers (form_then f fs) x.0) w x.1) (ok_is (item a.0.0 b.0.0, b.0.1) (ds, v) b.2)
       (record { text = t.text ++ rest.text; took = took_then t.took rest.took; holds = (t.text, rest.text, refl, t.holds, rest.holds) })
 
-  pub variant_took : (vs : Variants) (kind len place : ℕ) (w u v : View) (d : Data) → IsBytes u.bytes → variant_at vs kind len place w u ≡ Ok (d, v) → TakesVariant kind len (λ x body. ReadsVariant vs kind x body) u v d
-  variant_took no_variants kind len place w u v d fits h = absurd cc
-  variant_took (variant n f vs) kind len place w u v d fits h =
+  pub variant_took : (vs : Variants) (kind len place : ℕ) (w u v : View) (d : Data) → AreVariants vs → IsBytes u.bytes → variant_at vs kind len place w u ≡ Ok (d, v) → TakesVariant kind len (λ x body. ReadsVariant vs kind x body) u v d
+  variant_took no_variants kind len place w u v d form fits h = absurd cc
+  variant_took (variant n f vs) kind len place w u v d form fits h =
       picks_took (eqb n kind) (Reads f) (λ x body. ReadsVariant vs kind x body) (chosen_at (data_at f) kind len w u) (variant_at vs kind len place w u) kind len u v d
-      (chosen_took (data_at f) (Reads f) (record { takes = data_took f }) kind len w u v d fits)
-      (variant_took vs kind len place w u v d fits) h
+      (chosen_took (data_at f) (Reads f) (record { takes = λ b x y. data_took (own_width f) f b x y form.1 }) kind len w u v d fits)
+      (variant_took vs kind len place w u v d form.2 fits) h
+
+  pub slots_took : (ms : Members) (ss ss' : Slots) (tag : Tag) (place : ℕ) (w v : View) → AreMembers ms → IsBytes w.bytes → slots_at ms ss tag place w ≡ Ok (ss', v) → TakesSlot ms ss ss' tag w v
+  slots_took no_members ss ss' tag place w v are fits e = skipped_took no_members ss ss' tag w v (λ items i reads. reads_more no_members ss items i refl reads) fits e
+  slots_took (member_then id optional f ms) no_slots ss' tag place w v are fits e = skipped_took (member_then id optional f ms) no_slots ss' tag w v (λ items i reads. reads) fits e
+  slots_took (member_then id optional f ms) (present d ss) ss' tag place w v are fits e =
+      present_took id optional f ms d ss ss' tag place w v (slots_at ms ss tag place w) (λ ss1 u h. slots_took ms ss ss1 tag place w u are.4 fits h) e
+  slots_took (member_then id optional f ms) (absent ss) ss' tag place w v are fits e =
+      absent_or_value id optional f ms ss ss' tag place w v (slots_at ms ss tag place w) (λ width u. data_by width f u) are.1 (λ ss1 u h. slots_took ms ss ss1 tag place w u are.4 fits h)
+      (λ width u d h. data_took width f w u d are.3 fits h) (eqb id tag.id) refl e

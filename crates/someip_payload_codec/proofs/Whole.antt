@@ -1,5 +1,5 @@
 -- The whole input, and what was written read again.
-use Rattle.std.proofs.Common.{◌≡◌, ◌⊎◌, inl, inr, ℕ, ◌^◌, ◌<◌, ◌≤◌, Bool, true, false, cond, ltb, eqb, List, [], ◌++◌, length, take, drop, Result, Ok, Err, Some, None, refl, sym, ap, subst, ◌∙◌, arith}
+use Rattle.std.proofs.Common.{◌≡◌, ◌⊎◌, inl, inr, ℕ, ◌^◌, ◌<◌, ◌≤◌, Bool, true, false, cond, ltb, eqb, List, [], ◌∷◌, ◌++◌, length, take, drop, Result, Ok, Err, Some, None, refl, sym, ap, subst, ◌∙◌, arith}
 use Rattle.std.specs.Prelude.{ℤ, pos, negsuc, IfOk, IfErr}
 use Rattle.std.specs.Int.{cast_unsigned}
 use Rattle.std.specs.Int.RustNames.{FitsSigned}
@@ -12,19 +12,24 @@ use Rattle.someip_payload_codec.specs.declared.error.PayloadError.TheVariants.{T
 use Rattle.someip_payload_codec.specs.declared.number.Size.{Size}
 use Rattle.someip_payload_codec.specs.declared.number.Size.TheVariants.{S8, S16, S32, S64}
 use Rattle.someip_payload_codec.specs.declared.shape.Width.{Width}
+use Rattle.someip_payload_codec.specs.declared.shape.Width.TheVariants.{W32}
 use Rattle.someip_payload_codec.specs.declared.value.Value.{Value}
-use Rattle.someip_payload_codec.specs.Data.{Form, bool, unsigned, signed, string, array, fixed, «struct», union, Forms, no_forms, form_then, Variants, no_variants, variant, Data, truth, uint, int, phrase, list, tuple, nothing, chosen, Items, no_items, item, View}
+use Rattle.someip_payload_codec.specs.Data.{Form, bool, unsigned, signed, string, array, fixed, «struct», union, tagged, Forms, no_forms, form_then, Variants, no_variants, variant, Members, no_members, member_then, Data, truth, uint, int, phrase, list, tuple, nothing, chosen, slotted, Items, no_items, item, Slots, no_slots, present, absent, View}
 use Rattle.someip_payload_codec.specs.View.{data_of}
 use Rattle.someip_payload_codec.specs.Steps.{◌>>=◌, Fails, Gives}
 use Rattle.someip_payload_codec.specs.Check.{depth, is_form, checked}
-use Rattle.someip_payload_codec.specs.Grammar.{width_of, limit_of, size_of, number, framed, tagged, count, is_odd, Framed, Tagged, Begins, Picks, Each, Reads, ReadsMembers, ReadsVariant}
+use Rattle.someip_payload_codec.specs.Numbers.{width_of, limit_of, size_of, number, framed, typed, is_odd, Framed, Typed, Begins}
+use Rattle.someip_payload_codec.specs.Grammar.{count, is_member, Picks, Each, SkipsOthers, has_required, Reads, ReadsBy, ReadsMembers, ReadsVariant, ReadsItems}
 use Rattle.someip_payload_codec.specs.Texts.{SpellsText}
 use Rattle.someip_payload_codec.specs.Reading.{data_at, decoded}
-use Rattle.someip_payload_codec.specs.Writing.{bit_of, is_signed, count_forms, number_text, signed_text, body_text, text_body, each_text, array_text, fixed_text, struct_text, tagged_text, chosen_text, text_of, members_text, variant_text, encoded}
+use Rattle.someip_payload_codec.specs.Tags.{TaggedItem, item_bytes, items_bytes, with_id, own_width, width_in, wire_type_of}
+use Rattle.someip_payload_codec.specs.Numbers.{bit_of}
+use Rattle.someip_payload_codec.specs.Writing.{is_signed, count_forms, number_text, signed_text, body_text, text_body, each_text, array_text, fixed_text, struct_text, typed_text, chosen_text, item_text, absent_text, count_members, count_slots, text_of, members_text, variant_text, slots_text, encoded}
 use Rattle.someip_payload_codec.specs.Faults.{FaultIn, IsFirstFault, whole}
 use Rattle.someip_payload_codec.proofs.StepLemmas.{passed, kept, bind_err, only_first}
 use Rattle.someip_payload_codec.proofs.Parts.{IsBytes, bind_ok, ok_is, Took}
-use Rattle.someip_payload_codec.proofs.Forms.{IsForm, AreForms, AreVariants, form_is}
+use Rattle.someip_payload_codec.proofs.Forms.{IsForm, AreForms, AreVariants, AreMembers, form_is}
+use Rattle.someip_payload_codec.proofs.TaggedWritten.{AreOfMembers, own_type, own_width_in, of_more, none_skipped, none_with, one_with, member_itself, reads_past}
 use Rattle.someip_payload_codec.proofs.TextLemmas.{text_spells}
 use Rattle.someip_payload_codec.proofs.Sound.{data_took}
 use Rattle.someip_payload_codec.proofs.Complete.{data_again, reads_some}
@@ -42,7 +47,7 @@ unfolding decoded
 decoded_found f bytes d n fits e =
     let a = bind_ok (checked f) (λ _. data_at f (whole bytes) >>= λ x. Ok (x.0, x.1.place)) (d, n) e in
     let b = bind_ok (data_at f (whole bytes)) (λ x. Ok (x.0, x.1.place)) (d, n) a.2 in
-    let t = data_took f (whole bytes) b.0.1 b.0.0 fits b.1 in
+    let t = data_took (own_width f) f (whole bytes) b.0.1 b.0.0 (checked_is f a.1) fits b.1 in
     let place : b.0.1.place ≡ length t.text = omega (arith, t.took.place) in
     let front : take b.0.1.place bytes ≡ t.text = ap (take b.0.1.place) t.took.bytes ∙ take_at t.text b.0.1.bytes b.0.1.place (sym place) in
     let holds = subst (λ (x : Data × ℕ). (x.1 ≤ length bytes) × Reads f x.0 (take x.1 bytes)) (ok_is (b.0.0, b.0.1.place) (d, n) b.2)
@@ -54,7 +59,7 @@ unfolding decoded
 decoded_again f text more d good reads =
     let v : View = record { is_body = false; place = length text; bytes = more } in
     let took : Took (whole (text ++ more)) text v = record { is_body = refl; place = omega arith; bytes = refl } in
-    rw (good, data_again f (whole (text ++ more)) v d text (checked_is f good) reads took) refl
+    rw (good, data_again (own_width f) f (whole (text ++ more)) v d text (checked_is f good) reads took) refl
 
 pub decoded_only : (f : Form) (bytes : List ℕ) (d : Data) (n : ℕ) → checked f ≡ Ok tt → n ≤ length bytes → Reads f d (take n bytes) → decoded f bytes ≡ Ok (d, n)
 decoded_only f bytes d n good le reads =
@@ -63,7 +68,7 @@ decoded_only f bytes d n good le reads =
 
 -- each value takes a byte
 pub takes_some : (f : Form) (d : Data) (text : List ℕ) → checked f ≡ Ok tt → Reads f d text → 0 < length text
-takes_some f d text good reads = reads_some f d text (checked_is f good) reads
+takes_some f d text good reads = reads_some (own_width f) f d text (checked_is f good) reads
 
 -- ---- what is written is spelled so
 
@@ -104,16 +109,16 @@ each_reads one P reads (item d ds) text e =
     (a.0, b.0, sym (ok_is (a.0 ++ b.0) text b.2), reads d a.0 a.1, each_reads one P reads ds b.0 b.1)
 
 picks_reads : (t : Bool) (P Q : List ℕ → Type 0) (r s : Result (List ℕ) PayloadError) (kind : ℕ) (text : List ℕ)
-    → (r ≡ Ok text → Tagged kind (Begins P) text) → (s ≡ Ok text → Tagged kind (Begins Q) text) → cond t r s ≡ Ok text → Tagged kind (Begins (λ bytes. Picks t (P bytes) (Q bytes))) text
+    → (r ≡ Ok text → Typed W32 kind (Begins P) text) → (s ≡ Ok text → Typed W32 kind (Begins Q) text) → cond t r s ≡ Ok text → Typed W32 kind (Begins (λ bytes. Picks t (P bytes) (Q bytes))) text
 picks_reads true P Q r s kind text first next e = first e
 picks_reads false P Q r s kind text first next e = next e
 
-chosen_reads : (kind : ℕ) (P : List ℕ → Type 0) (written : Result (List ℕ) PayloadError) (text : List ℕ) → ((body : List ℕ) → written ≡ Ok body → P body) → chosen_text kind written ≡ Ok text → Tagged kind (Begins P) text
-unfolding chosen_text tagged_text
+chosen_reads : (kind : ℕ) (P : List ℕ → Type 0) (written : Result (List ℕ) PayloadError) (text : List ℕ) → ((body : List ℕ) → written ≡ Ok body → P body) → chosen_text kind written ≡ Ok text → Typed W32 kind (Begins P) text
+unfolding chosen_text typed_text
 chosen_reads kind P written text reads e =
-    let a = bind_ok written (tagged_text kind) text e in
-    let b = passed (ltb (length a.0) (2 ^ 32)) (Ok (tagged kind a.0)) (TooLong 0) text a.2 in
-    (a.0, ltb-true _ _ b.0, sym (ok_is (tagged kind a.0) text b.1), (a.0, [], sym (append-nil a.0), reads a.0 a.1))
+    let a = bind_ok written (typed_text kind) text e in
+    let b = passed (ltb (length a.0) (2 ^ 32)) (Ok (typed W32 kind a.0)) (TooLong 0) text a.2 in
+    (a.0, ltb-true _ _ b.0, sym (ok_is (typed W32 kind a.0) text b.1), (a.0, [], sym (append-nil a.0), reads a.0 a.1))
 
 known_some : (t : Bool) (n kind : ℕ) (r s : Result (List ℕ) PayloadError) (text : List ℕ) → eqb n kind ≡ t → 0 < n → (s ≡ Ok text → 0 < kind) → cond t r s ≡ Ok text → 0 < kind
 known_some true n kind r s text same some next e = omega (arith, eqb-true n kind same)
@@ -129,8 +134,12 @@ bit_reads : (b : Bool) (text : List ℕ) → text ≡ number S8 (bit_of b) → (
 bit_reads true text e = (1, omega arith, e, refl)
 bit_reads false text e = (0, omega arith, e, refl)
 
+-- the items that were written, of which each is one of a member
+abbrev WrittenItems : Members → Slots → List ℕ → Type 0
+WrittenItems ms ss text = (items : List TaggedItem) × (text ≡ items_bytes items) × ReadsItems ms ss items × AreOfMembers ms items × (has_required ms ss ≡ true)
+
 mutual
-  unfolding text_of members_text variant_text array_text fixed_text struct_text Reads ReadsMembers ReadsVariant
+  unfolding text_of members_text variant_text slots_text array_text fixed_text struct_text item_text absent_text ReadsBy ReadsMembers ReadsVariant ReadsItems
 
   pub text_reads : (f : Form) (d : Data) (text : List ℕ) → IsForm f → text_of f d ≡ Ok text → Reads f d text
   text_reads bool (truth b) text is e = bit_reads b text (sym (ok_is (number S8 (bit_of b)) text e))
@@ -153,10 +162,15 @@ mutual
       let a = passed (eqb (count ds) (count_forms fs)) (members_text fs ds >>= body_text width) (NotOfShape 0) text e in
       let b = bind_ok (members_text fs ds) (body_text width) text a.1 in
       body_reads width (Begins (ReadsMembers fs ds)) b.0 text (b.0, [], sym (append-nil b.0), members_read fs ds b.0 is.1 (eqb-true _ _ a.0) b.1) b.2
-  text_reads (union vs) nothing text is e = sym (ok_is (tagged 0 []) text e)
+  text_reads (union vs) nothing text is e = sym (ok_is (typed W32 0 []) text e)
   text_reads (union vs) (chosen kind d) text is e =
       let a = passed (ltb kind (2 ^ 32)) (variant_text vs kind d) (UnknownVariant 0) text e in
       (variant_some vs kind d text is a.1, ltb-true _ _ a.0, variant_reads vs kind d text is a.1)
+  text_reads (tagged width ms) (slotted ss) text is e =
+      let a = passed (eqb (count_slots ss) (count_members ms)) (slots_text ms ss >>= body_text width) (NotOfShape 0) text e in
+      let b = bind_ok (slots_text ms ss) (body_text width) text a.1 in
+      let (items, same, reads, of, required) = slots_read ms ss b.0 is (eqb-true _ _ a.0) b.1 in
+      (body_reads width (λ body. (items : List TaggedItem) × (body ≡ items_bytes items) × ReadsItems ms ss items × SkipsOthers ms items) b.0 text (items, same, reads, none_skipped ms items of) b.2, required)
   text_reads _ d text is e = absurd cc
 
   pub members_read : (fs : Forms) (ds : Items) (text : List ℕ) → AreForms fs → count ds ≡ count_forms fs → members_text fs ds ≡ Ok text → ReadsMembers fs ds text
@@ -168,12 +182,43 @@ mutual
   members_read no_forms (item d ds) text is same e = absurd (omega arith)
   members_read (form_then f fs) no_items text is same e = absurd (omega arith)
 
-  pub variant_reads : (vs : Variants) (kind : ℕ) (d : Data) (text : List ℕ) → AreVariants vs → variant_text vs kind d ≡ Ok text → Tagged kind (Begins (ReadsVariant vs kind d)) text
+  pub variant_reads : (vs : Variants) (kind : ℕ) (d : Data) (text : List ℕ) → AreVariants vs → variant_text vs kind d ≡ Ok text → Typed W32 kind (Begins (ReadsVariant vs kind d)) text
   variant_reads no_variants kind d text is e = absurd cc
   variant_reads (variant n f vs) kind d text is e =
       picks_reads (eqb n kind) (Reads f d) (ReadsVariant vs kind d) (chosen_text kind (text_of f d)) (variant_text vs kind d) kind text
       (λ here. chosen_reads kind (Reads f d) (text_of f d) text (λ body good. text_reads f d body is.1 good) here)
       (λ later. variant_reads vs kind d text is.2 later) e
+
+  pub slots_read : (ms : Members) (ss : Slots) (text : List ℕ) → AreMembers ms → count_slots ss ≡ count_members ms → slots_text ms ss ≡ Ok text → WrittenItems ms ss text
+  slots_read no_members no_slots text is same e = ([], sym (ok_is [] text e), tt, tt, refl)
+  slots_read (member_then id optional f ms) (present d ss) text (below, new, can, form, is) same e =
+      let a = bind_ok (item_text f id (text_of f d)) (λ first. slots_text ms ss >>= λ others. Ok (first ++ others)) text e in
+      let b = bind_ok (slots_text ms ss) (λ others. Ok (a.0 ++ others)) text a.2 in
+      let w = bind_ok (text_of f d) (λ bytes. Ok (item_bytes (record { reserved = false; wire_type = wire_type_of f; id = id; bytes = bytes }))) a.0 a.1 in
+      let i : TaggedItem = record { reserved = false; wire_type = wire_type_of f; id = id; bytes = w.0 } in
+      let (items, bytes, reads, of, required) = slots_read ms ss b.0 is (omega arith) b.1 in
+      let none : with_id id items ≡ [] = none_with id ms items new of in
+      let here : ReadsBy (width_in (wire_type_of f) f) f d w.0 = subst (λ (x : Width). ReadsBy x f d w.0) (sym (own_width_in f)) (text_reads f d w.0 form w.1) in (
+        i ∷ items,
+        sym (ok_is (a.0 ++ b.0) text b.2) ∙ ap (λ (x : List ℕ). x ++ b.0) (sym (ok_is (item_bytes i) a.0 w.2)) ∙ ap (λ (x : List ℕ). item_bytes i ++ x) bytes,
+        (i, one_with i items none, own_type f can, here, reads_past ms ss i items new reads),
+        (below, member_itself id (is_member id ms), of_more id optional f ms items of),
+        required,
+      )
+  slots_read (member_then id optional f ms) (absent ss) text (below, new, can, form, is) same e =
+      let a = bind_ok (absent_text optional) (λ first. slots_text ms ss >>= λ others. Ok (first ++ others)) text e in
+      let b = bind_ok (slots_text ms ss) (λ others. Ok (a.0 ++ others)) text a.2 in
+      let may = passed optional (Ok []) (NotOfShape 0) a.0 a.1 in
+      let (items, bytes, reads, of, required) = slots_read ms ss b.0 is (omega arith) b.1 in (
+        items,
+        sym (ok_is (a.0 ++ b.0) text b.2) ∙ ap (λ (x : List ℕ). x ++ b.0) (sym (ok_is [] a.0 may.1)) ∙ bytes,
+        (none_with id ms items new of, reads),
+        of_more id optional f ms items of,
+        rw may.0 required,
+      )
+  slots_read no_members (present d ss) text is same e = absurd (omega arith)
+  slots_read no_members (absent ss) text is same e = absurd (omega arith)
+  slots_read (member_then id optional f ms) no_slots text is same e = absurd (omega arith)
 
 -- each text that is written is read as its value
 pub written_reads : (f : Form) (d : Data) (text : List ℕ) → encoded f d ≡ Ok text → (checked f ≡ Ok tt) × Reads f d text
@@ -202,7 +247,7 @@ decoded_failed f bytes e fits h =
       | inl first ↦ inl first
       | inr (x, was, then) ↦
           let g : Data × View → Data × ℕ = λ x. (x.0, x.1.place) in
-          inr (data_failed f (whole bytes) e fits (only_first (data_at f (whole bytes)) g e then))
+          inr (data_failed (own_width f) f (whole bytes) e (checked_is f was) fits (only_first (data_at f (whole bytes)) g e then))
     ]
 
 first_fault : (f : Form) (bytes : List ℕ) (e : PayloadError) → IsBytes bytes → Fails e (decoded f bytes) → IsFirstFault f bytes e
@@ -217,6 +262,9 @@ first_fault f bytes (errors.TooDeep k) fits h = decoded_failed f bytes (errors.T
 first_fault f bytes (errors.NotOfShape k) fits h = decoded_failed f bytes (errors.NotOfShape k) fits h
 first_fault f bytes (errors.TooLong k) fits h = decoded_failed f bytes (errors.TooLong k) fits h
 first_fault f bytes (errors.BadShape k) fits h = decoded_failed f bytes (errors.BadShape k) fits h
+first_fault f bytes (errors.DuplicateMember k) fits h = decoded_failed f bytes (errors.DuplicateMember k) fits h
+first_fault f bytes (errors.WrongWireType k) fits h = decoded_failed f bytes (errors.WrongWireType k) fits h
+first_fault f bytes (errors.MissingMember k) fits h = decoded_failed f bytes (errors.MissingMember k) fits h
 
 pub is_first : (f : Form) (bytes : List ℕ) (r : Result (Value × ℕ) PayloadError) → IsBytes bytes → Gives (λ x. (data_of x.0, x.1)) r (decoded f bytes) → IfErr r (λ e. IsFirstFault f bytes e)
 is_first f bytes (Ok x) fits given = tt

@@ -1,16 +1,18 @@
 -- Writing one after the other, as the loops do.
-use Rattle.std.proofs.Common.{◌≡◌, ℕ, ◌+◌, ◌<◌, ◌≤◌, List, [], ◌∷◌, ◌++◌, length, drop, get_or, Result, Ok, Err, refl, sym, ap, ◌∙◌, append_assoc, arith}
+use Rattle.std.proofs.Common.{◌≡◌, ℕ, ◌+◌, ◌<◌, ◌≤◌, List, [], ◌∷◌, ◌++◌, length, drop, get_or, Option, Some, None, Result, Ok, Err, refl, sym, ap, ◌∙◌, append_assoc, arith}
 use Rattle.std.proofs.lemmas.Bool.{eq-eqb, ne_eqb}
 use Rattle.someip_payload_codec.specs.declared.error.PayloadError.{PayloadError}
 use Rattle.someip_payload_codec.specs.declared.error.PayloadError.TheVariants.{UnknownVariant}
 use Rattle.std.proofs.lemmas.List.{drop_more, drop_all, append-nil}
 use Rattle.someip_payload_codec.specs.declared.shape.Shape.{Shape}
+use Rattle.someip_payload_codec.specs.declared.shape.Member.{Member}
 use Rattle.someip_payload_codec.specs.declared.value.Value.{Value}
-use Rattle.someip_payload_codec.specs.Data.{Data}
-use Rattle.someip_payload_codec.specs.View.{form, forms, all_variants, data_of, data_of_all}
+use Rattle.someip_payload_codec.specs.declared.shape.Width.{Width}
+use Rattle.someip_payload_codec.specs.Data.{Data, tagged, slotted}
+use Rattle.someip_payload_codec.specs.View.{form, forms, all_variants, all_members, one_member, data_of, data_of_all, slot_of, slots_of}
 use Rattle.someip_payload_codec.specs.Steps.{◌>>=◌, Fails}
 use Rattle.someip_payload_codec.specs.Grammar.{count}
-use Rattle.someip_payload_codec.specs.Writing.{count_forms, text_of, each_text, chosen_text, members_text, variant_text}
+use Rattle.someip_payload_codec.specs.Writing.{count_forms, count_members, count_slots, text_of, body_text, each_text, chosen_text, members_text, variant_text, slots_text, member_text}
 use Rattle.someip_payload_codec.proofs.Shapes.{all_variants-drop}
 use Rattle.someip_payload_codec.proofs.Loops.{fails_too}
 
@@ -21,6 +23,15 @@ count_of_all (v ∷ vs) = omega (arith, count_of_all vs)
 pub count_of_forms : (ss : List Shape) → count_forms (forms ss) ≡ length ss
 count_of_forms [] = refl
 count_of_forms (s ∷ ss) = omega (arith, count_of_forms ss)
+
+pub count_of_slots : (vs : List (Option Value)) → count_slots (slots_of vs) ≡ length vs
+count_of_slots [] = refl
+count_of_slots (None ∷ vs) = omega (arith, count_of_slots vs)
+count_of_slots (Some v ∷ vs) = omega (arith, count_of_slots vs)
+
+pub count_of_members : (ms : List Member) → count_members (all_members ms) ≡ length ms
+count_of_members [] = refl
+count_of_members (m ∷ ms) = omega (arith, count_of_members ms)
 
 -- the text so far, and then others
 abbrev pub text_after : List ℕ → Result (List ℕ) PayloadError → Result (List ℕ) PayloadError
@@ -99,3 +110,36 @@ module _ (kind : ℕ) (d : Data) (vs : List (ℕ × Shape)) (i : ℕ) where
   variant_none total le so_far =
       let step : variant_text (all_variants (drop i vs)) kind d ≡ Err (UnknownVariant 0) = rw (drop_all i vs le) refl in
       sym so_far ∙ step
+
+-- ---- the items of members
+
+slots_first : (m : Member) (ms : List Member) (s : Option Value) (ss : List (Option Value))
+    → slots_text (all_members (m ∷ ms)) (slots_of (s ∷ ss)) ≡ (member_text (one_member m) (slot_of s) >>= λ first. slots_text (all_members ms) (slots_of ss) >>= λ others. Ok (first ++ others))
+unfolding slots_text
+slots_first m ms None ss = refl
+slots_first m ms (Some v) ss = refl
+
+module _ (front : List ℕ) (ms : List Member) (ss : List (Option Value)) (i : ℕ) (total : Result (List ℕ) PayloadError) where
+  pub slots_go_on : (m : Member) (s : Option Value) (first : List ℕ) → i < length ms → i < length ss → m ≡ get_or ms i m → s ≡ get_or ss i s → member_text (one_member m) (slot_of s) ≡ Ok first
+      → text_after front (slots_text (all_members (drop i ms)) (slots_of (drop i ss))) ≡ total → text_after (front ++ first) (slots_text (all_members (drop (i + 1) ms)) (slots_of (drop (i + 1) ss))) ≡ total
+  slots_go_on m s first in_members in_slots m_at s_at h so_far =
+      let step : text_after front (slots_text (all_members (drop i ms)) (slots_of (drop i ss))) ≡ text_after (front ++ first) (slots_text (all_members (drop (i + 1) ms)) (slots_of (drop (i + 1) ss))) =
+      rw (drop_more ms i m in_members, drop_more ss i s in_slots, ← m_at, ← s_at, slots_first m (drop (i + 1) ms) s (drop (i + 1) ss), h) (regroup front first (slots_text (all_members (drop (i + 1) ms)) (slots_of (drop (i + 1) ss)))) in
+      sym step ∙ so_far
+
+  pub slots_fail : (e : PayloadError) (m : Member) (s : Option Value) → i < length ms → i < length ss → m ≡ get_or ms i m → s ≡ get_or ss i s → Fails e (member_text (one_member m) (slot_of s))
+      → text_after front (slots_text (all_members (drop i ms)) (slots_of (drop i ss))) ≡ total → Fails e total
+  slots_fail e m s in_members in_slots m_at s_at h so_far =
+      fails_too e (member_text (one_member m) (slot_of s)) total
+      (λ bad. let step : text_after front (slots_text (all_members (drop i ms)) (slots_of (drop i ss))) ≡ Err e = rw (drop_more ms i m in_members, drop_more ss i s in_slots, ← m_at, ← s_at, slots_first m (drop (i + 1) ms) s (drop (i + 1) ss), bad) refl in sym so_far ∙ step) h
+
+  pub slots_done : length ms ≤ i → text_after front (slots_text (all_members (drop i ms)) (slots_of (drop i ss))) ≡ total → total ≡ Ok front
+  unfolding slots_text
+  slots_done le so_far =
+      let step : text_after front (slots_text (all_members (drop i ms)) (slots_of (drop i ss))) ≡ Ok front = rw (drop_all i ms le, append-nil front) refl in
+      sym so_far ∙ step
+
+pub tagged_is : (width : Width) (ms : List Member) (ss : List (Option Value)) → length ss ≡ length ms
+    → text_of (tagged width (all_members ms)) (slotted (slots_of ss)) ≡ (slots_text (all_members ms) (slots_of ss) >>= body_text width)
+unfolding text_of
+tagged_is width ms ss lens = rw (count_of_slots ss, count_of_members ms, eq-eqb (length ss) (length ms) lens) refl

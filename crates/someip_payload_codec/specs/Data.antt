@@ -15,6 +15,7 @@ mutual
     fixed : ℕ → Form → Form
     «struct» : Option Width → Forms → Form
     union : Variants → Form
+    tagged : Width → Members → Form
 
   -- the members of a structure
   pub data Forms : Type 0 where
@@ -25,6 +26,11 @@ mutual
   pub data Variants : Type 0 where
     no_variants : Variants
     variant : ℕ → Form → Variants → Variants
+
+  -- the members of a tagged structure, each with its Data ID and whether it may be absent
+  pub data Members : Type 0 where
+    no_members : Members
+    member_then : ℕ → Bool → Form → Members → Members
 
 -- numbers by their names
 abbrev pub u8 : Form
@@ -62,10 +68,17 @@ mutual
     tuple : Items → Data
     nothing : Data
     chosen : ℕ → Data → Data
+    slotted : Slots → Data
 
   pub data Items : Type 0 where
     no_items : Items
     item : Data → Items → Items
+
+  -- the members of a tagged structure in its order, of which some may be absent
+  pub data Slots : Type 0 where
+    no_slots : Slots
+    present : Data → Slots → Slots
+    absent : Slots → Slots
 
 -- what is left to read: whether it is in the body of a length field, where it begins, and the bytes
 pub record View : Type 0 where

@@ -1,21 +1,27 @@
 -- The first fault from left to right: what stands before it is read, and at it nothing can be.
-use Rattle.std.specs.Prelude.{◌≡◌, ◌⊎◌, ℕ, ◌+◌, ◌<◌, ◌≤◌, ◌^◌, ◌==◌, List, ◌++◌, length, take, Some, None, true, false, Err}
+use Rattle.std.specs.Prelude.{◌≡◌, ◌⊎◌, ℕ, ◌+◌, ◌<◌, ◌≤◌, ◌^◌, ◌==◌, Bool, List, [], ◌++◌, length, take, Some, None, true, false, Err}
 use Rattle.std.specs.Int.{byte_len}
 use Rattle.someip_payload_codec.specs.declared.error.PayloadError.{PayloadError}
 use Rattle.someip_payload_codec.specs.declared.error.PayloadError.TheVariants as errors
-use Rattle.someip_payload_codec.specs.declared.error.PayloadError.TheVariants.{BadText, NoTerminator, UnknownVariant, LengthMismatch, TooMany}
-use Rattle.someip_payload_codec.specs.declared.number.Size.TheVariants.{S32}
+use Rattle.someip_payload_codec.specs.declared.error.PayloadError.TheVariants.{BadText, NoTerminator, UnknownVariant, LengthMismatch, TooMany, DuplicateMember, WrongWireType, MissingMember}
+use Rattle.someip_payload_codec.specs.declared.number.Size.{Size}
+use Rattle.someip_payload_codec.specs.declared.number.Size.TheVariants.{S16, S32}
 use Rattle.someip_payload_codec.specs.declared.shape.Width.{Width}
+use Rattle.someip_payload_codec.specs.declared.shape.Width.TheVariants.{W32}
 use Rattle.someip_payload_codec.specs.declared.shape.Encoding.{Encoding}
+use Rattle.someip_payload_codec.specs.declared.tag.WireType.{WireType}
+use Rattle.someip_payload_codec.specs.declared.tag.WireType.TheVariants.{Basic, OwnLength, Length}
 use Rattle.someip_payload_codec.specs.Check.{checked}
-use Rattle.someip_payload_codec.specs.Data.{Form, bool, unsigned, signed, string, array, fixed, «struct», union, Forms, no_forms, form_then, Variants, no_variants, variant, Data, Items, View}
-use Rattle.someip_payload_codec.specs.Grammar.{width_of, limit_of, size_of, number, framed, count, Picks, Each, Reads}
+use Rattle.someip_payload_codec.specs.Data.{Form, bool, unsigned, signed, string, array, fixed, «struct», union, tagged, Forms, no_forms, form_then, Variants, no_variants, variant, Members, member_then, Data, Items, Slots, present, absent, View}
+use Rattle.someip_payload_codec.specs.Numbers.{width_of, limit_of, size_of, field_len, number, framed}
+use Rattle.someip_payload_codec.specs.Tags.{TaggedItem, items_bytes, tag_number, own_width, has_wire_type, width_in}
+use Rattle.someip_payload_codec.specs.Grammar.{count, Picks, Each, Reads, SkipsOthers, ReadsItems, has_required}
 use Rattle.someip_payload_codec.specs.Texts.{SpellsText, IsTerminated}
 use Rattle.someip_payload_codec.specs.Reading.{short_at, skip}
 
 -- the window of a body that stands after a length field at w
 abbrev pub body_view : Width → View → List ℕ → View
-body_view width w body = record { is_body = true; place = w.place + byte_len (width_of (size_of width)); bytes = body }
+body_view width w body = record { is_body = true; place = w.place + field_len width; bytes = body }
 
 -- a length field and its whole body are next
 abbrev pub HasBody : Width → View → List ℕ → Type 0
@@ -47,42 +53,82 @@ FaultInFixed P In n w =
 abbrev pub FaultInNumber : ℕ → View → PayloadError → Type 0
 FaultInNumber len w e = (length w.bytes < len) × (e ≡ short_at w)
 
--- a union's length and type number are next
-abbrev pub HasHead : ℕ → ℕ → View → View → Type 0
-HasHead len kind w v = (len < 2 ^ 32) × (kind < 2 ^ 32) × (w.bytes ≡ number S32 len ++ (number S32 kind ++ v.bytes)) × (v ≡ skip 8 w)
+-- a number of that size is at fault
+abbrev pub FaultInSize : Size → View → PayloadError → Type 0
+FaultInSize size w e = FaultInNumber (byte_len (width_of size)) w e
+
+-- a union's length, of that width, and its type number are next
+abbrev pub HasHead : Width → ℕ → ℕ → View → View → Type 0
+HasHead width len kind w v = (len < limit_of (size_of width)) × (kind < 2 ^ 32) × (w.bytes ≡ number (size_of width) len ++ (number S32 kind ++ v.bytes)) × (v ≡ skip (field_len width + 4) w)
 
 -- the length or the type number of a union passes the window, none has a length, or the variant is at fault
-abbrev pub FaultInUnion : (ℕ → ℕ → View → Type 0) → View → PayloadError → Type 0
-FaultInUnion In w e =
-    FaultInNumber 4 w e
-    ⊎ ((4 ≤ length w.bytes) × FaultInNumber 4 (skip 4 w) e)
-    ⊎ ((len kind : ℕ) × (v : View) × HasHead len kind w v × (((kind ≡ 0) × (0 < len) × (e ≡ LengthMismatch w.place)) ⊎ ((0 < kind) × In kind len v)))
+abbrev pub FaultInUnion : Width → (ℕ → ℕ → View → Type 0) → View → PayloadError → Type 0
+FaultInUnion width In w e =
+    FaultInSize (size_of width) w e
+    ⊎ ((field_len width ≤ length w.bytes) × FaultInNumber 4 (skip (field_len width) w) e)
+    ⊎ ((len kind : ℕ) × (v : View) × HasHead width len kind w v × (((kind ≡ 0) × (0 < len) × (e ≡ LengthMismatch w.place)) ⊎ ((0 < kind) × In kind len v)))
+
+-- an item's tag is next
+abbrev pub HasTag : Bool → WireType → ℕ → View → View → Type 0
+HasTag reserved t id w v = (id < 2 ^ 12) × (w.bytes ≡ number S16 (tag_number reserved t id) ++ v.bytes) × (v ≡ skip 2 w)
+
+-- the bytes behind the tag of an item that is skipped pass the window
+abbrev pub FaultInSkipped : WireType → PayloadError → View → Type 0
+FaultInSkipped (Basic size) e w = FaultInSize size w e
+FaultInSkipped OwnLength e w = FaultInBody W32 (λ body. ⊥) w e
+FaultInSkipped (Length width) e w = FaultInBody width (λ body. ⊥) w e
+
+-- the tag of an item passes the window, or there is one, and the item is at fault
+abbrev pub FaultInItem : (WireType → ℕ → View → Type 0) → View → PayloadError → Type 0
+FaultInItem In w e =
+    FaultInNumber 2 w e
+    ⊎ ((reserved : Bool) × (t : WireType) × (id : ℕ) × (v : View) × HasTag reserved t id w v × In t id v)
+
+-- some items are read, and the next one is at fault; or all are, and a member is missing
+abbrev pub FaultInTagged : Members → (Slots → View → Type 0) → ℕ → PayloadError → View → Type 0
+FaultInTagged ms In place e b =
+    (items : List TaggedItem) × (ss : Slots) × (rest : List ℕ) × (b.bytes ≡ items_bytes items ++ rest) × ReadsItems ms ss items × SkipsOthers ms items
+    × (((rest ≡ []) × (has_required ms ss ≡ false) × (e ≡ MissingMember place)) ⊎ ((0 < length rest) × In ss (skip (length (items_bytes items)) b)))
 
 unfoldable mutual
-  pub FaultIn : Form → PayloadError → View → Type 0
-  FaultIn bool e w = FaultInNumber 1 w e
-  FaultIn (unsigned size) e w = FaultInNumber (byte_len (width_of size)) w e
-  FaultIn (signed size) e w = FaultInNumber (byte_len (width_of size)) w e
-  FaultIn (string encoding width) e w = FaultInBody width (FaultInText encoding w.place e) w e
-  FaultIn (array width most element) e w = FaultInBody width (FaultInItems (Reads element) (FaultIn element e) most e) w e
-  FaultIn (fixed n element) e w = FaultInFixed (Reads element) (FaultIn element e) n w
-  FaultIn («struct» None fs) e w = FaultInMembers fs e w
-  FaultIn («struct» (Some width) fs) e w = FaultInBody width (FaultInMembers fs e) w e
-  FaultIn (union vs) e w = FaultInUnion (λ kind len v. FaultInVariant vs e kind len w v) w e
+  -- with a length field of that width, where the form has one
+  pub FaultBy : Width → Form → PayloadError → View → Type 0
+  FaultBy width bool e w = FaultInNumber 1 w e
+  FaultBy width (unsigned size) e w = FaultInSize size w e
+  FaultBy width (signed size) e w = FaultInSize size w e
+  FaultBy width (string encoding own) e w = FaultInBody width (FaultInText encoding w.place e) w e
+  FaultBy width (array own most element) e w = FaultInBody width (FaultInItems (Reads element) (FaultBy (own_width element) element e) most e) w e
+  FaultBy width (fixed n element) e w = FaultInFixed (Reads element) (FaultBy (own_width element) element e) n w
+  FaultBy width («struct» None fs) e w = FaultInMembers fs e w
+  FaultBy width («struct» (Some own) fs) e w = FaultInBody width (FaultInMembers fs e) w e
+  FaultBy width (union vs) e w = FaultInUnion width (λ kind len v. FaultInVariant vs (w.place + field_len width) e kind len w v) w e
+  FaultBy width (tagged own ms) e w =
+      FaultInBody width (FaultInTagged ms (λ ss v. FaultInItem (λ t id u. FaultBehindTag ms ss t id v.place e u) v e) w.place e) w e
 
   -- the first member is at fault, or it is read and a later one is
   pub FaultInMembers : Forms → PayloadError → View → Type 0
   FaultInMembers no_forms e w = ⊥
   FaultInMembers (form_then f fs) e w =
-      FaultIn f e w ⊎ ((d : Data) × (text rest : List ℕ) × (w.bytes ≡ text ++ rest) × Reads f d text × FaultInMembers fs e (skip (length text) w))
+      FaultBy (own_width f) f e w ⊎ ((d : Data) × (text rest : List ℕ) × (w.bytes ≡ text ++ rest) × Reads f d text × FaultInMembers fs e (skip (length text) w))
 
-  -- no variant has the number, or the body after it, at v, passes the window or is at fault
-  pub FaultInVariant : Variants → PayloadError → ℕ → ℕ → View → View → Type 0
-  FaultInVariant no_variants e kind len w v = e ≡ UnknownVariant (w.place + 4)
-  FaultInVariant (variant n f vs) e kind len w v =
+  -- no variant has the number, which stands at the place, or the body after it, at v, passes the window or is at fault
+  pub FaultInVariant : Variants → ℕ → PayloadError → ℕ → ℕ → View → View → Type 0
+  FaultInVariant no_variants place e kind len w v = e ≡ UnknownVariant place
+  FaultInVariant (variant n f vs) place e kind len w v =
       Picks (n == kind)
-      (((length v.bytes < len) × (e ≡ short_at w)) ⊎ ((len ≤ length v.bytes) × FaultIn f e (record { is_body = true; place = v.place; bytes = take len v.bytes })))
-      (FaultInVariant vs e kind len w v)
+      (((length v.bytes < len) × (e ≡ short_at w)) ⊎ ((len ≤ length v.bytes) × FaultBy (own_width f) f e (record { is_body = true; place = v.place; bytes = take len v.bytes })))
+      (FaultInVariant vs place e kind len w v)
+
+  -- the item with this wire type and Data ID, whose tag stands at the place and v behind it, is at fault:
+  -- its member was there before, has another wire type or is at fault, or it is skipped and does not fit
+  pub FaultBehindTag : Members → Slots → WireType → ℕ → ℕ → PayloadError → View → Type 0
+  FaultBehindTag (member_then n optional f ms) (present d ss) t id place e v = Picks (n == id) (e ≡ DuplicateMember place) (FaultBehindTag ms ss t id place e v)
+  FaultBehindTag (member_then n optional f ms) (absent ss) t id place e v =
+      Picks (n == id) (Picks (has_wire_type f t) (FaultBy (width_in t f) f e v) (e ≡ WrongWireType place)) (FaultBehindTag ms ss t id place e v)
+  FaultBehindTag _ ss t id place e v = FaultInSkipped t e v
+
+abbrev pub FaultIn : Form → PayloadError → View → Type 0
+FaultIn f = FaultBy (own_width f) f
 
 -- the outermost window
 abbrev pub whole : List ℕ → View

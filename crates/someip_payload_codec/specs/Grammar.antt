@@ -1,99 +1,83 @@
 -- Which bytes are read as which value of a form. A number has its bytes from the highest on, a body stands
--- after its length, and members and elements follow each other.
-use Rattle.std.specs.Prelude.{◌≡◌, ℕ, ◌+◌, ◌<◌, ◌≤◌, ◌^◌, ◌%◌, ◌==◌, Bool, true, false, List, [], ◌++◌, length, Some, None}
-use Rattle.std.specs.Int.{Width as IntWidth, w8, w16, w32, w64, to_be_bytes, cast_unsigned}
+-- after its length, members and elements follow each other, and items of a tagged structure stand in any order.
+use Rattle.std.specs.Prelude.{◌≡◌, ℕ, ◌+◌, ◌<◌, ◌≤◌, ◌^◌, ◌==◌, ◌||◌, ◌&&◌, Bool, true, false, List, [], ◌∷◌, ◌++◌, Some, None}
+use Rattle.std.specs.Int.{cast_unsigned}
 use Rattle.std.specs.Int.RustNames.{FitsSigned}
-use Rattle.someip_payload_codec.specs.declared.number.Size.{Size}
-use Rattle.someip_payload_codec.specs.declared.number.Size.TheVariants.{S8, S16, S32, S64}
+use Rattle.someip_payload_codec.specs.declared.number.Size.TheVariants.{S8}
 use Rattle.someip_payload_codec.specs.declared.shape.Width.{Width}
-use Rattle.someip_payload_codec.specs.declared.shape.Width.TheVariants.{W8, W16, W32}
-use Rattle.someip_payload_codec.specs.Data.{Form, bool, unsigned, signed, string, array, fixed, «struct», union, Forms, no_forms, form_then, Variants, no_variants, variant, Data, truth, uint, int, phrase, list, tuple, nothing, chosen, Items, no_items, item}
+use Rattle.someip_payload_codec.specs.Data.{Form, bool, unsigned, signed, string, array, fixed, «struct», union, tagged, Forms, no_forms, form_then, Variants, no_variants, variant, Members, no_members, member_then, Data, truth, uint, int, phrase, list, tuple, nothing, chosen, slotted, Items, no_items, item, Slots, no_slots, present, absent}
+use Rattle.someip_payload_codec.specs.Numbers.{width_of, limit_of, number, typed, is_odd, Framed, Typed, Begins}
+use Rattle.someip_payload_codec.specs.Tags.{TaggedItem, items_bytes, with_id, Skips, own_width, has_wire_type, width_in}
 use Rattle.someip_payload_codec.specs.Texts.{SpellsText}
-
-abbrev pub width_of : Size → IntWidth
-width_of S8 = w8
-width_of S16 = w16
-width_of S32 = w32
-width_of S64 = w64
-
--- one more than the largest number of a size
-abbrev pub limit_of : Size → ℕ
-limit_of S8 = 2 ^ 8
-limit_of S16 = 2 ^ 16
-limit_of S32 = 2 ^ 32
-limit_of S64 = 2 ^ 64
-
-abbrev pub size_of : Width → Size
-size_of W8 = S8
-size_of W16 = S16
-size_of W32 = S32
-
--- a number, from its highest byte on
-abbrev pub number : Size → ℕ → List ℕ
-number size n = to_be_bytes (width_of size) n
-
-abbrev pub length_bytes : Width → ℕ → List ℕ
-length_bytes width n = number (size_of width) n
-
--- a body after its length
-abbrev pub framed : Width → List ℕ → List ℕ
-framed width body = length_bytes width (length body) ++ body
-
--- a body after its length and a type number
-abbrev pub tagged : ℕ → List ℕ → List ℕ
-tagged kind body = number S32 (length body) ++ (number S32 kind ++ body)
 
 abbrev pub count : Items → ℕ
 count no_items = 0
 count (item d ds) = count ds + 1
-
--- bytes of such a kind in the body of a length field
-abbrev pub Framed : Width → (List ℕ → Type 0) → List ℕ → Type 0
-Framed width P bytes = (body : List ℕ) × (length body < limit_of (size_of width)) × (bytes ≡ framed width body) × P body
-
--- bytes of such a kind in the body of a length and a type number
-abbrev pub Tagged : ℕ → (List ℕ → Type 0) → List ℕ → Type 0
-Tagged kind P bytes = (body : List ℕ) × (length body < 2 ^ 32) × (bytes ≡ tagged kind body) × P body
-
--- bytes of such a kind, and others that are skipped
-abbrev pub Begins : (List ℕ → Type 0) → List ℕ → Type 0
-Begins P bytes = (front more : List ℕ) × (bytes ≡ front ++ more) × P front
 
 -- one after the other, each of the same kind
 abbrev pub Each : (Data → List ℕ → Type 0) → Items → List ℕ → Type 0
 Each P no_items bytes = bytes ≡ []
 Each P (item d ds) bytes = (first others : List ℕ) × (bytes ≡ first ++ others) × P d first × Each P ds others
 
--- the lowest bit
-abbrev pub is_odd : ℕ → Bool
-is_odd n = n % 2 == 1
-
 -- the one fact if the test holds, else the other
 abbrev pub Picks : Bool → Type 0 → Type 0 → Type 0
 Picks true A B = A
 Picks false A B = B
 
--- these bytes are read as this value of the form
+-- a member has the Data ID
+abbrev pub is_member : ℕ → Members → Bool
+is_member id no_members = false
+is_member id (member_then n optional f ms) = (n == id) || is_member id ms
+
+-- each item has a Data ID of 12 bits, and where no member has that one, the bytes behind its tag can be skipped
+abbrev pub SkipsOthers : Members → List TaggedItem → Type 0
+SkipsOthers ms [] = Unit {0}
+SkipsOthers ms (i ∷ items) = (i.id < 2 ^ 12) × (is_member i.id ms ≡ false → Skips i.wire_type i.bytes) × SkipsOthers ms items
+
+-- each member that is absent is optional
+abbrev pub has_required : Members → Slots → Bool
+has_required no_members no_slots = true
+has_required no_members (present d ss) = true
+has_required no_members (absent ss) = true
+has_required (member_then id optional f ms) no_slots = true
+has_required (member_then id optional f ms) (present d ss) = has_required ms ss
+has_required (member_then id optional f ms) (absent ss) = optional && has_required ms ss
+
 unfoldable mutual
-  pub Reads : Form → Data → List ℕ → Type 0
-  Reads bool (truth b) bytes = (n : ℕ) × (n < 2 ^ 8) × (bytes ≡ number S8 n) × (b ≡ is_odd n)
-  Reads (unsigned size) (uint n) bytes = (n < limit_of size) × (bytes ≡ number size n)
-  Reads (signed size) (int z) bytes = FitsSigned (width_of size) z × (bytes ≡ number size (cast_unsigned (width_of size) z))
-  Reads (string encoding width) (phrase s) bytes = Framed width (SpellsText encoding s) bytes
-  Reads (array width max element) (list ds) bytes = (count ds ≤ max) × Framed width (Each (Reads element) ds) bytes
-  Reads (fixed n element) (list ds) bytes = (count ds ≡ n) × Each (Reads element) ds bytes
-  Reads («struct» None fs) (tuple ds) bytes = ReadsMembers fs ds bytes
-  Reads («struct» (Some width) fs) (tuple ds) bytes = Framed width (Begins (ReadsMembers fs ds)) bytes
-  Reads (union vs) nothing bytes = bytes ≡ tagged 0 []
-  Reads (union vs) (chosen kind d) bytes = (0 < kind) × (kind < 2 ^ 32) × Tagged kind (Begins (ReadsVariant vs kind d)) bytes
-  Reads _ _ bytes = ⊥
+  -- these bytes are read as this value of the form, with a length field of that width where it has one
+  pub ReadsBy : Width → Form → Data → List ℕ → Type 0
+  ReadsBy width bool (truth b) bytes = (n : ℕ) × (n < 2 ^ 8) × (bytes ≡ number S8 n) × (b ≡ is_odd n)
+  ReadsBy width (unsigned size) (uint n) bytes = (n < limit_of size) × (bytes ≡ number size n)
+  ReadsBy width (signed size) (int z) bytes = FitsSigned (width_of size) z × (bytes ≡ number size (cast_unsigned (width_of size) z))
+  ReadsBy width (string encoding own) (phrase s) bytes = Framed width (SpellsText encoding s) bytes
+  ReadsBy width (array own max element) (list ds) bytes = (count ds ≤ max) × Framed width (Each (ReadsBy (own_width element) element) ds) bytes
+  ReadsBy width (fixed n element) (list ds) bytes = (count ds ≡ n) × Each (ReadsBy (own_width element) element) ds bytes
+  ReadsBy width («struct» None fs) (tuple ds) bytes = ReadsMembers fs ds bytes
+  ReadsBy width («struct» (Some own) fs) (tuple ds) bytes = Framed width (Begins (ReadsMembers fs ds)) bytes
+  ReadsBy width (union vs) nothing bytes = bytes ≡ typed width 0 []
+  ReadsBy width (union vs) (chosen kind d) bytes = (0 < kind) × (kind < 2 ^ 32) × Typed width kind (Begins (ReadsVariant vs kind d)) bytes
+  ReadsBy width (tagged own ms) (slotted ss) bytes =
+      Framed width (λ body. (items : List TaggedItem) × (body ≡ items_bytes items) × ReadsItems ms ss items × SkipsOthers ms items) bytes × (has_required ms ss ≡ true)
+  ReadsBy width _ _ bytes = ⊥
 
   pub ReadsMembers : Forms → Items → List ℕ → Type 0
   ReadsMembers no_forms no_items bytes = bytes ≡ []
-  ReadsMembers (form_then f fs) (item d ds) bytes = (first others : List ℕ) × (bytes ≡ first ++ others) × Reads f d first × ReadsMembers fs ds others
+  ReadsMembers (form_then f fs) (item d ds) bytes = (first others : List ℕ) × (bytes ≡ first ++ others) × ReadsBy (own_width f) f d first × ReadsMembers fs ds others
   ReadsMembers _ _ bytes = ⊥
 
   -- by the variant of that number
   pub ReadsVariant : Variants → ℕ → Data → List ℕ → Type 0
   ReadsVariant no_variants kind d bytes = ⊥
-  ReadsVariant (variant n f vs) kind d bytes = Picks (n == kind) (Reads f d bytes) (ReadsVariant vs kind d bytes)
+  ReadsVariant (variant n f vs) kind d bytes = Picks (n == kind) (ReadsBy (own_width f) f d bytes) (ReadsVariant vs kind d bytes)
+
+  -- each member that is present has one item, which is read as its value, and each that is absent has none
+  pub ReadsItems : Members → Slots → List TaggedItem → Type 0
+  ReadsItems no_members no_slots items = Unit {0}
+  ReadsItems (member_then id optional f ms) (present d ss) items =
+      (i : TaggedItem) × (with_id id items ≡ i ∷ []) × (has_wire_type f i.wire_type ≡ true) × ReadsBy (width_in i.wire_type f) f d i.bytes × ReadsItems ms ss items
+  ReadsItems (member_then id optional f ms) (absent ss) items = (with_id id items ≡ []) × ReadsItems ms ss items
+  ReadsItems _ _ items = ⊥
+
+-- these bytes are read as this value of the form
+abbrev pub Reads : Form → Data → List ℕ → Type 0
+Reads f = ReadsBy (own_width f) f

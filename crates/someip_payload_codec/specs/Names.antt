@@ -15,6 +15,9 @@ fault_name (errors.TooDeep place) = codes "TooDeep"
 fault_name (errors.NotOfShape place) = codes "NotOfShape"
 fault_name (errors.TooLong place) = codes "TooLong"
 fault_name (errors.BadShape place) = codes "BadShape"
+fault_name (errors.DuplicateMember place) = codes "DuplicateMember"
+fault_name (errors.WrongWireType place) = codes "WrongWireType"
+fault_name (errors.MissingMember place) = codes "MissingMember"
 fault_name errors.OutOfMemory = codes "OutOfMemory"
 
 -- the place of a fault in the input
@@ -29,4 +32,7 @@ fault_place (errors.TooDeep place) = place
 fault_place (errors.NotOfShape place) = place
 fault_place (errors.TooLong place) = place
 fault_place (errors.BadShape place) = place
+fault_place (errors.DuplicateMember place) = place
+fault_place (errors.WrongWireType place) = place
+fault_place (errors.MissingMember place) = place
 fault_place errors.OutOfMemory = 0

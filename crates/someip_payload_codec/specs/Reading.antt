@@ -4,17 +4,23 @@ use Rattle.std.specs.Int.{byte_len, from_be_bytes, cast_signed}
 use Rattle.std.specs.Str.{is_utf8, encode_utf8_all}
 use Rattle.std.specs.Char.Utf16.{has_unpaired_surrogate, utf16_lossy_chars}
 use Rattle.someip_payload_codec.specs.declared.error.PayloadError.{PayloadError}
-use Rattle.someip_payload_codec.specs.declared.error.PayloadError.TheVariants.{Truncated, BadText, NoTerminator, UnknownVariant, LengthMismatch, TooMany}
+use Rattle.someip_payload_codec.specs.declared.error.PayloadError.TheVariants.{Truncated, BadText, NoTerminator, UnknownVariant, LengthMismatch, TooMany, DuplicateMember, WrongWireType, MissingMember}
 use Rattle.someip_payload_codec.specs.declared.number.Size.{Size}
-use Rattle.someip_payload_codec.specs.declared.number.Size.TheVariants.{S8, S32}
+use Rattle.someip_payload_codec.specs.declared.number.Size.TheVariants.{S8, S16, S32}
 use Rattle.someip_payload_codec.specs.declared.shape.Width.{Width}
+use Rattle.someip_payload_codec.specs.declared.shape.Width.TheVariants.{W32}
+use Rattle.someip_payload_codec.specs.declared.tag.WireType.{WireType}
+use Rattle.someip_payload_codec.specs.declared.tag.WireType.TheVariants.{Basic, OwnLength, Length}
+use Rattle.someip_payload_codec.specs.declared.tag.Tag.{Tag}
 use Rattle.someip_payload_codec.specs.declared.shape.Encoding.{Encoding}
 use Rattle.someip_payload_codec.specs.declared.shape.Encoding.TheVariants.{Utf8, Utf16}
 use Rattle.someip_payload_codec.specs.Steps.{◌>>=◌}
 use Rattle.someip_payload_codec.specs.Check.{checked}
-use Rattle.someip_payload_codec.specs.Grammar.{width_of, size_of, is_odd}
+use Rattle.someip_payload_codec.specs.Numbers.{width_of, size_of, is_odd}
+use Rattle.someip_payload_codec.specs.Tags.{own_width, has_wire_type, width_in, tag_in}
+use Rattle.someip_payload_codec.specs.Grammar.{has_required}
 use Rattle.someip_payload_codec.specs.Texts.{utf16_mark}
-use Rattle.someip_payload_codec.specs.Data.{Form, bool, unsigned, signed, string, array, fixed, «struct», union, Forms, no_forms, form_then, Variants, no_variants, variant, Data, truth, uint, int, phrase, list, tuple, nothing, chosen, Items, no_items, item, View}
+use Rattle.someip_payload_codec.specs.Data.{Form, bool, unsigned, signed, string, array, fixed, «struct», union, tagged, Forms, no_forms, form_then, Variants, no_variants, variant, Members, no_members, member_then, Data, truth, uint, int, phrase, list, tuple, nothing, chosen, slotted, Items, no_items, item, Slots, no_slots, present, absent, View}
 
 -- the fault that something passes the window's end
 abbrev pub short_at : View → PayloadError
@@ -105,10 +111,10 @@ unfoldable pub fixed_at : (View → Result (Data × View) PayloadError) → ℕ 
 fixed_at one zero w = Ok (no_items, w)
 fixed_at one (suc left) w = one w >>= λ first. fixed_at one left first.1 >>= λ others. Ok (item first.0 others.0, others.1)
 
--- what stands after the length and the type number of a union
-unfoldable pub union_at : (ℕ → ℕ → ℕ → View → Result (Data × View) PayloadError) → View → Result (Data × View) PayloadError
-union_at known w = do
-  len ← number_at S32 w
+-- what stands after the length, of that width, and the type number of a union
+unfoldable pub union_at : Width → (ℕ → ℕ → ℕ → View → Result (Data × View) PayloadError) → View → Result (Data × View) PayloadError
+union_at width known w = do
+  len ← number_at (size_of width) w
   kind ← number_at S32 len.1
   if kind.0 == 0 then (if len.0 == 0 then Ok (nothing, kind.1) else Err (LengthMismatch w.place)) else known kind.0 len.0 len.1.place kind.1
 
@@ -116,26 +122,84 @@ union_at known w = do
 unfoldable pub chosen_at : (View → Result (Data × View) PayloadError) → ℕ → ℕ → View → View → Result (Data × View) PayloadError
 chosen_at one kind len w v = window_at len w v >>= λ body. one body.0 >>= λ d. Ok (chosen kind d.0, body.1)
 
+-- the tag of an item
+unfoldable pub tag_at : View → Result (Tag × View) PayloadError
+tag_at w = number_at S16 w >>= λ n. Ok (tag_in n.0, n.1)
+
+-- what is left after the data of an item that is skipped
+unfoldable pub skip_at : WireType → View → Result View PayloadError
+skip_at (Basic size) w = number_at size w >>= λ n. Ok n.1
+skip_at OwnLength w = body_at W32 w >>= λ body. Ok body.1
+skip_at (Length width) w = body_at width w >>= λ body. Ok body.1
+
+-- reads one item: from the members that were read so far to those with it
+abbrev pub Filler : Type 0
+Filler = Slots → View → Result (Slots × View) PayloadError
+
+-- reads a tag, and hands on the members so far, the tag, the place where it stands and what is behind it
+unfoldable pub item_by : (Slots → Tag → ℕ → View → Result (Slots × View) PayloadError) → Filler
+item_by one ss w = tag_at w >>= λ tag. one ss tag.0 w.place tag.1
+
+-- items until the bytes are used up; the number makes this end, and is no bound, since each item takes a byte
+unfoldable pub tagged_at : Filler → ℕ → Slots → View → Result Slots PayloadError
+tagged_at one zero ss w = Ok ss
+tagged_at one (suc left) ss w = if nat_lt 0 (length w.bytes) then (one ss w >>= λ filled. tagged_at one left filled.0 filled.1) else Ok ss
+
+-- no member was read yet
+abbrev pub all_absent : Members → Slots
+all_absent no_members = no_slots
+all_absent (member_then id optional f ms) = absent (all_absent ms)
+
+-- the members that were read, unless one is missing; the length field stands at the place
+unfoldable pub required_at : Members → ℕ → Slots → Result Slots PayloadError
+required_at ms place ss = if has_required ms ss then Ok ss else Err (MissingMember place)
+
+-- the value of the member whose item has the tag at the place
+unfoldable pub member_at : (Width → View → Result (Data × View) PayloadError) → Form → Tag → ℕ → View → Result (Data × View) PayloadError
+member_at one f tag place w = if has_wire_type f tag.wire_type then one (width_in tag.wire_type f) w else Err (WrongWireType place)
+
 unfoldable mutual
-  pub data_at : Form → View → Result (Data × View) PayloadError
-  data_at bool w = number_at S8 w >>= λ n. Ok (truth (is_odd n.0), n.1)
-  data_at (unsigned size) w = number_at size w >>= λ n. Ok (uint n.0, n.1)
-  data_at (signed size) w = number_at size w >>= λ n. Ok (int (signed_of size n.0), n.1)
-  data_at (string encoding width) w = body_at width w >>= λ body. text_at encoding w.place body.0.bytes >>= λ s. Ok (phrase s, body.1)
-  data_at (array width most element) w = body_at width w >>= λ body. items_at (data_at element) most body.0 >>= λ items. Ok (list items, body.1)
-  data_at (fixed n element) w = fixed_at (data_at element) n w >>= λ items. Ok (list items.0, items.1)
-  data_at («struct» None fs) w = members_at fs w >>= λ members. Ok (tuple members.0, members.1)
-  data_at («struct» (Some width) fs) w = body_at width w >>= λ body. members_at fs body.0 >>= λ members. Ok (tuple members.0, body.1)
-  data_at (union vs) w = union_at (λ kind len place v. variant_at vs kind len place w v) w
+  -- a value of the form, with a length field of that width where it has one
+  pub data_by : Width → Form → View → Result (Data × View) PayloadError
+  data_by width bool w = number_at S8 w >>= λ n. Ok (truth (is_odd n.0), n.1)
+  data_by width (unsigned size) w = number_at size w >>= λ n. Ok (uint n.0, n.1)
+  data_by width (signed size) w = number_at size w >>= λ n. Ok (int (signed_of size n.0), n.1)
+  data_by width (string encoding own) w = body_at width w >>= λ body. text_at encoding w.place body.0.bytes >>= λ s. Ok (phrase s, body.1)
+  data_by width (array own most element) w = body_at width w >>= λ body. items_at (data_by (own_width element) element) most body.0 >>= λ items. Ok (list items, body.1)
+  data_by width (fixed n element) w = fixed_at (data_by (own_width element) element) n w >>= λ items. Ok (list items.0, items.1)
+  data_by width («struct» None fs) w = members_at fs w >>= λ members. Ok (tuple members.0, members.1)
+  data_by width («struct» (Some own) fs) w = body_at width w >>= λ body. members_at fs body.0 >>= λ members. Ok (tuple members.0, body.1)
+  data_by width (union vs) w = union_at width (λ kind len place v. variant_at vs kind len place w v) w
+  data_by width (tagged own ms) w =
+      body_at width w >>= λ body. tagged_at (item_by (slots_at ms)) (length body.0.bytes) (all_absent ms) body.0
+      >>= λ ss. required_at ms w.place ss >>= λ whole. Ok (slotted whole, body.1)
 
   pub members_at : Forms → View → Result (Items × View) PayloadError
   members_at no_forms w = Ok (no_items, w)
-  members_at (form_then f fs) w = data_at f w >>= λ first. members_at fs first.1 >>= λ others. Ok (item first.0 others.0, others.1)
+  members_at (form_then f fs) w = data_by (own_width f) f w >>= λ first. members_at fs first.1 >>= λ others. Ok (item first.0 others.0, others.1)
 
   -- the variant of the number at the place, whose union begins at w and whose body at v
   pub variant_at : Variants → ℕ → ℕ → ℕ → View → View → Result (Data × View) PayloadError
   variant_at no_variants kind len place w v = Err (UnknownVariant place)
-  variant_at (variant n f vs) kind len place w v = if n == kind then chosen_at (data_at f) kind len w v else variant_at vs kind len place w v
+  variant_at (variant n f vs) kind len place w v = if n == kind then chosen_at (data_by (own_width f) f) kind len w v else variant_at vs kind len place w v
+
+  -- the member with the tag's Data ID gets its value; an item that no member has is skipped
+  pub slots_at : Members → Slots → Tag → ℕ → View → Result (Slots × View) PayloadError
+  slots_at (member_then id optional f ms) (present d ss) tag place w =
+      if id == tag.id then Err (DuplicateMember place) else (slots_at ms ss tag place w >>= λ x. Ok (present d x.0, x.1))
+  slots_at (member_then id optional f ms) (absent ss) tag place w =
+      if id == tag.id
+      then (member_at (λ width v. data_by width f v) f tag place w >>= λ x. Ok (present x.0 ss, x.1))
+      else (slots_at ms ss tag place w >>= λ x. Ok (absent x.0, x.1))
+  slots_at _ ss tag place w = skip_at tag.wire_type w >>= λ v. Ok (ss, v)
+
+-- the members so far with the item at the front
+abbrev pub item_at : Members → Filler
+item_at ms = item_by (slots_at ms)
+
+-- a value of the form
+abbrev pub data_at : Form → View → Result (Data × View) PayloadError
+data_at f = data_by (own_width f) f
 
 -- the whole input, with how many bytes the value takes
 unfoldable pub decoded : Form → List ℕ → Result (Data × ℕ) PayloadError

@@ -1,5 +1,5 @@
 -- The text of a value.
-use Rattle.std.specs.Prelude.{ℕ, ◌==◌, ◌||◌, false, nat_lt, if◌then◌else◌, List, [], ◌∷◌, ◌++◌, Some, None, string_bytes, codes}
+use Rattle.std.specs.Prelude.{ℕ, ◌==◌, ◌||◌, false, nat_lt, if◌then◌else◌, List, [], ◌∷◌, ◌++◌, map, Option, Some, None, string_bytes, codes}
 use Rattle.std.specs.List.{flat_map}
 use Rattle.std.specs.Str.{chars}
 use Rattle.std.specs.Char.{encode_utf8}
@@ -26,6 +26,11 @@ abbrev pub listed : List (List ℕ) → List ℕ
 listed [] = []
 listed (text ∷ texts) = text ++ flat_map behind_comma texts
 
+-- a member that is absent
+abbrev pub or_dash : Option (List ℕ) → List ℕ
+or_dash None = codes "-"
+or_dash (Some text) = text
+
 -- one level, with the text of each value inside
 abbrev pub text_step : Value-F (List ℕ) → List ℕ
 text_step (Value-F.Bool b) = if b then codes "true" else codes "false"
@@ -35,8 +40,13 @@ text_step (Value-F.Text s) = quoted (string_bytes s)
 text_step (Value-F.List ts) = codes "[" ++ (listed ts.items ++ codes "]")
 text_step (Value-F.Struct ts) = codes "(" ++ (listed ts.items ++ codes ")")
 text_step (Value-F.Union None) = codes "none"
+text_step (Value-F.Tagged ts) = codes "{" ++ (listed (map or_dash ts.items) ++ codes "}")
 text_step (Value-F.Union (Some v)) = decimal v.0 ++ (codes ":" ++ v.1.value)
 
 -- the text of a value
 abbrev pub value_text : Value → List ℕ
 value_text = fold-Value (List ℕ) text_step
+
+abbrev pub slot_text : Option Value → List ℕ
+slot_text None = codes "-"
+slot_text (Some v) = value_text v

@@ -8,21 +8,30 @@ use Rattle.someip_payload_codec.specs.declared.error.PayloadError.TheVariants.{N
 use Rattle.someip_payload_codec.specs.declared.number.Size.{Size}
 use Rattle.someip_payload_codec.specs.declared.number.Size.TheVariants.{S8, S16, S32, S64}
 use Rattle.someip_payload_codec.specs.declared.shape.Width.{Width}
+use Rattle.someip_payload_codec.specs.declared.shape.Width.TheVariants.{W32}
 use Rattle.someip_payload_codec.specs.declared.shape.Encoding.{Encoding}
 use Rattle.someip_payload_codec.specs.declared.shape.Encoding.TheVariants.{Utf8, Utf16}
 use Rattle.someip_payload_codec.specs.Steps.{◌>>=◌, Fails}
 use Rattle.someip_payload_codec.specs.Check.{checked}
 use Rattle.someip_payload_codec.specs.Texts.{utf8_mark, unit_bytes, units_of_text}
-use Rattle.someip_payload_codec.specs.Data.{Form, bool, unsigned, signed, string, array, fixed, «struct», union, Forms, no_forms, form_then, Variants, no_variants, variant, Data, truth, uint, int, phrase, list, tuple, nothing, chosen, Items, no_items, item}
-use Rattle.someip_payload_codec.specs.Grammar.{width_of, limit_of, size_of, number, framed, tagged, count}
+use Rattle.someip_payload_codec.specs.Data.{Form, bool, unsigned, signed, string, array, fixed, «struct», union, tagged, Forms, no_forms, form_then, Variants, no_variants, variant, Members, no_members, member_then, Data, truth, uint, int, phrase, list, tuple, nothing, chosen, slotted, Items, no_items, item, Slots, no_slots, present, absent}
+use Rattle.someip_payload_codec.specs.Numbers.{width_of, limit_of, size_of, number, bit_of, framed, typed}
+use Rattle.someip_payload_codec.specs.Tags.{item_bytes, wire_type_of}
+use Rattle.someip_payload_codec.specs.Grammar.{count}
+use Rattle.someip_payload_codec.specs.View.{OneMember}
 
 abbrev pub count_forms : Forms → ℕ
 count_forms no_forms = 0
 count_forms (form_then f fs) = count_forms fs + 1
 
-abbrev pub bit_of : Bool → ℕ
-bit_of true = 1
-bit_of false = 0
+abbrev pub count_members : Members → ℕ
+count_members no_members = 0
+count_members (member_then id optional f ms) = count_members ms + 1
+
+abbrev pub count_slots : Slots → ℕ
+count_slots no_slots = 0
+count_slots (present d ss) = count_slots ss + 1
+count_slots (absent ss) = count_slots ss + 1
 
 unfoldable pub number_text : Size → ℕ → Result (List ℕ) PayloadError
 number_text size n = if nat_lt n (limit_of size) then Ok (number size n) else Err (NotOfShape 0)
@@ -66,12 +75,20 @@ struct_text None members = members
 struct_text (Some width) members = members >>= body_text width
 
 -- a body after its length and its type number
-unfoldable pub tagged_text : ℕ → List ℕ → Result (List ℕ) PayloadError
-tagged_text kind body = if nat_lt (length body) (2 ^ 32) then Ok (tagged kind body) else Err (TooLong 0)
+unfoldable pub typed_text : ℕ → List ℕ → Result (List ℕ) PayloadError
+typed_text kind body = if nat_lt (length body) (2 ^ 32) then Ok (typed W32 kind body) else Err (TooLong 0)
 
 -- the text of a value, after its length and its type number
 unfoldable pub chosen_text : ℕ → Result (List ℕ) PayloadError → Result (List ℕ) PayloadError
-chosen_text kind value = value >>= tagged_text kind
+chosen_text kind value = value >>= typed_text kind
+
+-- the item of a member whose value is written so
+unfoldable pub item_text : Form → ℕ → Result (List ℕ) PayloadError → Result (List ℕ) PayloadError
+item_text f id written = written >>= λ bytes. Ok (item_bytes (record { reserved = false; wire_type = wire_type_of f; id = id; bytes = bytes }))
+
+-- of an absent member nothing is written, if it is optional
+unfoldable pub absent_text : Bool → Result (List ℕ) PayloadError
+absent_text optional = if optional then Ok [] else Err (NotOfShape 0)
 
 unfoldable mutual
   pub text_of : Form → Data → Result (List ℕ) PayloadError
@@ -82,8 +99,9 @@ unfoldable mutual
   text_of (array width most element) (list ds) = array_text width most (text_of element) ds
   text_of (fixed n element) (list ds) = fixed_text n (text_of element) ds
   text_of («struct» width fs) (tuple ds) = if count ds == count_forms fs then struct_text width (members_text fs ds) else Err (NotOfShape 0)
-  text_of (union vs) nothing = Ok (tagged 0 [])
+  text_of (union vs) nothing = Ok (typed W32 0 [])
   text_of (union vs) (chosen kind d) = if nat_lt kind (2 ^ 32) then variant_text vs kind d else Err (UnknownVariant 0)
+  text_of (tagged width ms) (slotted ss) = if count_slots ss == count_members ms then (slots_text ms ss >>= body_text width) else Err (NotOfShape 0)
   text_of _ _ = Err (NotOfShape 0)
 
   pub members_text : Forms → Items → Result (List ℕ) PayloadError
@@ -94,6 +112,17 @@ unfoldable mutual
   pub variant_text : Variants → ℕ → Data → Result (List ℕ) PayloadError
   variant_text no_variants kind d = Err (UnknownVariant 0)
   variant_text (variant n f vs) kind d = if n == kind then chosen_text kind (text_of f d) else variant_text vs kind d
+
+  -- the items of the members that are present, or the refusal of the first that is absent and not optional
+  pub slots_text : Members → Slots → Result (List ℕ) PayloadError
+  slots_text (member_then id optional f ms) (present d ss) = item_text f id (text_of f d) >>= λ first. slots_text ms ss >>= λ others. Ok (first ++ others)
+  slots_text (member_then id optional f ms) (absent ss) = absent_text optional >>= λ first. slots_text ms ss >>= λ others. Ok (first ++ others)
+  slots_text _ _ = Ok []
+
+-- what is written of a member of a tagged structure
+abbrev pub member_text : OneMember → Option Data → Result (List ℕ) PayloadError
+member_text m None = absent_text m.optional
+member_text m (Some d) = item_text m.form m.id (text_of m.form d)
 
 unfoldable pub encoded : Form → Data → Result (List ℕ) PayloadError
 encoded f d = checked f >>= λ _. text_of f d

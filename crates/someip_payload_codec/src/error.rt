@@ -24,7 +24,7 @@ pub enum PayloadError {
     /// A union has no variant of this type number.
     #[error("UnknownVariant at {0}")]
     UnknownVariant(usize),
-    /// A value passes the end that a length field sets, or a union without a value has a length.
+    /// Something passes the end that a length field sets, or a union without a value has a length.
     #[error("LengthMismatch at {0}")]
     LengthMismatch(usize),
     /// An array has more elements than its shape allows.
@@ -43,9 +43,22 @@ pub enum PayloadError {
     #[error("out of memory")]
     OutOfMemory,
     /// The shape has a part that no shape may have: a Fixed of no elements or of Fixed elements, a
-    /// Struct or a Union without parts, or a variant number that is 0 or stands twice.
+    /// Struct or a Tagged without members, a Union without variants, a variant number that is 0 or
+    /// stands twice, a Data ID that is above 4095 or stands twice, or a member of a Tagged that is a
+    /// Fixed, or a Struct without a width.
     #[error("BadShape at {0}")]
     BadShape(usize),
+    /// A tagged structure has a second item of one member. The place is that of its tag.
+    #[error("DuplicateMember at {0}")]
+    DuplicateMember(usize),
+    /// An item of a tagged structure has a wire type that its member cannot have. The place is that
+    /// of its tag.
+    #[error("WrongWireType at {0}")]
+    WrongWireType(usize),
+    /// A tagged structure has no item of a member that is not optional. The place is that of its
+    /// length field.
+    #[error("MissingMember at {0}")]
+    MissingMember(usize),
 }
 
 impl PayloadError {
@@ -65,6 +78,9 @@ impl PayloadError {
             PayloadError::TooLong(_) => "TooLong",
             PayloadError::OutOfMemory => "OutOfMemory",
             PayloadError::BadShape(_) => "BadShape",
+            PayloadError::DuplicateMember(_) => "DuplicateMember",
+            PayloadError::WrongWireType(_) => "WrongWireType",
+            PayloadError::MissingMember(_) => "MissingMember",
         }
     }
 
@@ -82,7 +98,10 @@ impl PayloadError {
             | PayloadError::TooDeep(place)
             | PayloadError::NotOfShape(place)
             | PayloadError::TooLong(place)
-            | PayloadError::BadShape(place) => *place,
+            | PayloadError::BadShape(place)
+            | PayloadError::DuplicateMember(place)
+            | PayloadError::WrongWireType(place)
+            | PayloadError::MissingMember(place) => *place,
             PayloadError::OutOfMemory => 0,
         }
     }

@@ -1,14 +1,15 @@
 //! Numbers and bodies at the front of a window.
 
 ghost use Rattle.std.specs.Prelude.{◌≡◌, ◌+◌, ◌<◌, length, IfOk};
-ghost use Rattle.someip_payload_codec.specs.Grammar.{limit_of};
+ghost use Rattle.someip_payload_codec.specs.Numbers.{limit_of};
 ghost use Rattle.someip_payload_codec.specs.Steps.{Gives};
 ghost use Rattle.someip_payload_codec.specs.View.{seen};
-ghost use Rattle.someip_payload_codec.specs.Reading.{short_at, front_at, number_at, window_at, body_at};
+ghost use Rattle.someip_payload_codec.specs.Reading.{short_at, front_at, number_at, window_at, body_at, tag_at, skip_at};
 
 use crate::error::PayloadError;
 use crate::number::{Size, size_of};
 use crate::shape::Width;
+use crate::tag::{Tag, WireType, tag_in};
 use crate::window::Window;
 
 /// Something at the front passes the end of the window.
@@ -107,4 +108,26 @@ pub(crate) fn body(
 {
     let (len, rest) = number(size_of(width), window)?;
     sized(len, window, rest)
+}
+
+/// The tag of an item.
+#[tactic(auto, unfolding(crate::specs::Reading::tag_at))]
+pub(crate) fn tag(window: Window<'_>) -> Result<(Tag, Window<'_>), PayloadError>
+    ensures { Gives (λ x. (x.0, seen x.1)) result (tag_at (seen window.entry)) }
+{
+    let (number, rest) = number(Size::S16, window)?;
+    Ok((tag_in(number as u16), rest))
+}
+
+/// What comes after an item that is skipped, whose tag was read. Nothing in it is looked at but its
+/// length field, which has 32 bits where only the shape would tell.
+#[tactic(auto, unfolding(crate::specs::Reading::skip_at))]
+pub(crate) fn skipped(wire_type: WireType, window: Window<'_>) -> Result<Window<'_>, PayloadError>
+    ensures { Gives seen result (skip_at wire_type (seen window.entry)) }
+{
+    match wire_type {
+        WireType::Basic(size) => Ok(number(size, window)?.1),
+        WireType::OwnLength => Ok(body(Width::W32, window)?.1),
+        WireType::Length(width) => Ok(body(width, window)?.1),
+    }
 }

@@ -2,7 +2,7 @@
 
 ghost use Rattle.std.specs.Prelude.{◌≡◌, ◌<◌, ◌++◌, ◌↔◌, true, IsTrue, OnOk};
 ghost use Rattle.std.specs.Int.{cast_unsigned, cast_signed};
-ghost use Rattle.someip_payload_codec.specs.Grammar.{width_of, limit_of, size_of, number};
+ghost use Rattle.someip_payload_codec.specs.Numbers.{width_of, limit_of, size_of, number};
 ghost use Rattle.someip_payload_codec.specs.Writing.{is_signed};
 
 use crate::shape::Width;

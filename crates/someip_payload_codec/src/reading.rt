@@ -1,33 +1,39 @@
 //! Values from bytes.
 
-ghost use Rattle.std.specs.Prelude.{◌≡◌, ◌+◌, ◌^◌, ◌<◌, ◌≤◌, ℕ, take, length, IfOk, IfErr, Ok, Err};
-ghost use Rattle.someip_payload_codec.specs.Data.{unsigned, signed, bool, Data};
+ghost use Rattle.std.specs.Prelude.{◌≡◌, ◌≤◌, ℕ, take, length, IfOk, IfErr, Ok, Err};
+ghost use Rattle.someip_payload_codec.specs.Data.{unsigned, signed, bool, tagged, Data};
 ghost use Rattle.someip_payload_codec.specs.Check.{checked};
 ghost use Rattle.someip_payload_codec.specs.Faults.{FaultIn, IsFirstFault, IsReadingFault, whole};
 ghost use Rattle.someip_payload_codec.specs.Grammar.{Reads};
-ghost use Rattle.someip_payload_codec.specs.View.{form, forms, all_variants, data_of, data_of_all, seen};
+ghost use Rattle.someip_payload_codec.specs.View.{form, forms, one_member, all_variants, all_members, data_of, data_of_all, slots_of, seen};
 ghost use Rattle.someip_payload_codec.specs.Steps.{Gives};
-ghost use Rattle.someip_payload_codec.specs.Reading.{decoded, data_at, items_at, fixed_at, members_at, union_at, chosen_at, variant_at};
+ghost use Rattle.someip_payload_codec.specs.Reading.{decoded, data_at, data_by, items_at, fixed_at, members_at, union_at, chosen_at, variant_at, member_at, tagged_at, item_at, all_absent};
+ghost use Rattle.someip_payload_codec.specs.Indexes.{HasIndexes, Fills};
 
 use crate::check::check_shape;
 use crate::error::PayloadError;
-use crate::fields::{body, number, sized};
-use crate::number::{Size, signed_of};
-use crate::shape::Shape;
+use crate::fields::{body, number, sized, skipped, tag};
+use crate::members::{empty_slots, have_required, indexes_of};
+use crate::number::{Size, signed_of, size_of};
+use crate::shape::{Member, Shape, Width};
+use crate::tag::{Tag, has_wire_type, own_width, width_in};
 use crate::text::text;
 use crate::value::Value;
 use crate::window::Window;
 use std::alloc::Global;
+use std::collections::BTreeMap;
 
 /// The value at the front of the bytes, and how many bytes it takes. What comes after it is not
 /// looked at. Refuses what `check_shape` refuses, and then at the first fault from left to right:
-/// `Truncated`, `LengthMismatch`, `TooMany`, `UnknownVariant`, `NoTerminator` or `BadText`, each
-/// with its place, in bytes from the first one.
+/// `Truncated`, `LengthMismatch`, `TooMany`, `UnknownVariant`, `NoTerminator`, `BadText`,
+/// `DuplicateMember`, `WrongWireType` or `MissingMember`, each with its place, in bytes from the
+/// first one.
 ///
 /// ```text
-/// array<2,u16>    00000004 0001 0002         [1,2], 8 bytes
-/// array<2,u16>    00000003 0001 00           LengthMismatch(6)
-/// array<2,u16>    00000006 0001 0002 0003    TooMany(8)
+/// array<2,u16>    00000004 0001 0002            [1,2], 8 bytes
+/// array<2,u16>    00000003 0001 00              LengthMismatch(6)
+/// array<2,u16>    00000006 0001 0002 0003       TooMany(8)
+/// tagged(1:u8)    00000007 0001 07 1009 ffff    {7}, 11 bytes
 /// ```
 pub fn decode(alloc: Global, shape: &Shape, bytes: &[u8]) -> Result<(Value, usize), PayloadError>
     // What is read is spelled so.
@@ -67,7 +73,7 @@ fn decode_front(alloc: Global, shape: &Shape, bytes: &[u8]) -> Result<(Value, us
     Ok((value, rest.place))
 }
 
-#[tactic(auto, unfolding(crate::specs::Reading::data_at))]
+#[tactic(auto, unfolding(crate::specs::Reading::data_by))]
 fn truth(window: Window<'_>) -> Result<(Value, Window<'_>), PayloadError>
     ensures { Gives (λ x. (data_of x.0, seen x.1)) result (data_at bool (seen window.entry)) }
 {
@@ -75,7 +81,7 @@ fn truth(window: Window<'_>) -> Result<(Value, Window<'_>), PayloadError>
     Ok((Value::Bool(n % 2 == 1), rest))
 }
 
-#[tactic(auto, unfolding(crate::specs::Reading::data_at))]
+#[tactic(auto, unfolding(crate::specs::Reading::data_by))]
 fn unsigned(size: Size, window: Window<'_>) -> Result<(Value, Window<'_>), PayloadError>
     ensures { Gives (λ x. (data_of x.0, seen x.1)) result (data_at (unsigned size) (seen window.entry)) }
 {
@@ -83,7 +89,7 @@ fn unsigned(size: Size, window: Window<'_>) -> Result<(Value, Window<'_>), Paylo
     Ok((Value::Uint(n), rest))
 }
 
-#[tactic(auto, unfolding(crate::specs::Reading::data_at))]
+#[tactic(auto, unfolding(crate::specs::Reading::data_by))]
 fn signed(size: Size, window: Window<'_>) -> Result<(Value, Window<'_>), PayloadError>
     ensures { Gives (λ x. (data_of x.0, seen x.1)) result (data_at (signed size) (seen window.entry)) }
 {
@@ -92,13 +98,26 @@ fn signed(size: Size, window: Window<'_>) -> Result<(Value, Window<'_>), Payload
 }
 
 #[cycle(read)]
-#[tactic(auto, unfolding(crate::specs::Reading::data_at))]
 fn value<'a>(
     alloc: Global,
     shape: &Shape,
     window: Window<'a>,
 ) -> Result<(Value, Window<'a>), PayloadError>
     ensures { Gives (λ x. (data_of x.0, seen x.1)) result (data_at (form shape.now) (seen window.entry)) }
+{
+    value_by(alloc, own_width(shape), shape, window)
+}
+
+/// A value with a length field of that width, where its shape has one.
+#[cycle(read)]
+#[tactic(auto, unfolding(crate::specs::Reading::data_by))]
+fn value_by<'a>(
+    alloc: Global,
+    width: Width,
+    shape: &Shape,
+    window: Window<'a>,
+) -> Result<(Value, Window<'a>), PayloadError>
+    ensures { Gives (λ x. (data_of x.0, seen x.1)) result (data_by width (form shape.now) (seen window.entry)) }
 {
     match shape {
         Shape::Bool => truth(window),
@@ -110,13 +129,13 @@ fn value<'a>(
         Shape::I16 => signed(Size::S16, window),
         Shape::I32 => signed(Size::S32, window),
         Shape::I64 => signed(Size::S64, window),
-        Shape::Text(encoding, width) => {
-            let (body, rest) = body(*width, window)?;
+        Shape::Text(encoding, _) => {
+            let (body, rest) = body(width, window)?;
             let text = text(alloc, *encoding, window.place, body.bytes)?;
             Ok((Value::Text(text), rest))
         }
-        Shape::Array(width, max, element) => {
-            let (body, rest) = body(*width, window)?;
+        Shape::Array(_, max, element) => {
+            let (body, rest) = body(width, window)?;
             let items = items(alloc, *max, element, body)?;
             Ok((Value::List(items), rest))
         }
@@ -128,12 +147,13 @@ fn value<'a>(
             let (values, rest) = members(alloc, shapes, window)?;
             Ok((Value::Struct(values), rest))
         }
-        Shape::Struct(Some(width), shapes) => {
-            let (body, rest) = body(*width, window)?;
+        Shape::Struct(Some(_), shapes) => {
+            let (body, rest) = body(width, window)?;
             let (values, _) = members(alloc, shapes, body)?;
             Ok((Value::Struct(values), rest))
         }
-        Shape::Union(variants) => union(alloc, variants, window),
+        Shape::Union(variants) => union(alloc, width, variants, window),
+        Shape::Tagged(_, members) => tagged(alloc, width, members, window),
     }
 }
 
@@ -205,14 +225,15 @@ fn members<'a>(
 #[tactic(auto, unfolding(crate::specs::Reading::union_at))]
 fn union<'a>(
     alloc: Global,
+    width: Width,
     variants: &[(u32, Shape)],
     window: Window<'a>,
 ) -> Result<(Value, Window<'a>), PayloadError>
-    ensures { Gives (λ x. (data_of x.0, seen x.1)) result (union_at
+    ensures { Gives (λ x. (data_of x.0, seen x.1)) result (union_at width
         (λ kind len place v. variant_at (all_variants variants.now) kind len place (seen window.entry) v)
         (seen window.entry)) }
 {
-    let (len, after) = number(Size::S32, window)?;
+    let (len, after) = number(size_of(width), window)?;
     let (kind, rest) = number(Size::S32, after)?;
     if kind != 0 {
         return variant(alloc, variants, kind, after.place, len, window, rest);
@@ -262,4 +283,92 @@ fn chosen<'a>(
     let (value, _) = value(alloc, shape, body)?;
     let value = Box::new(alloc, value)?;
     Ok((Value::Union(Some((kind, value))), after))
+}
+
+/// A length and items until the body is used up.
+#[cycle(read)]
+#[tactic(auto, unfolding(crate::specs::Reading::data_by, crate::specs::Reading::required_at))]
+fn tagged<'a>(
+    alloc: Global,
+    width: Width,
+    members: &[Member],
+    window: Window<'a>,
+) -> Result<(Value, Window<'a>), PayloadError>
+    ensures { Gives (λ x. (data_of x.0, seen x.1)) result
+        (data_by width (tagged width (all_members members.now)) (seen window.entry)) }
+{
+    let (body, rest) = body(width, window)?;
+    let slots = tagged_items(alloc, members, body)?;
+    if !have_required(members, &slots) {
+        return Err(PayloadError::MissingMember(window.place));
+    }
+    Ok((Value::Tagged(slots), rest))
+}
+
+/// The members of which the window has an item, each at its index.
+#[cycle(read)]
+fn tagged_items(
+    alloc: Global,
+    members: &[Member],
+    window: Window<'_>,
+) -> Result<Vec<Option<Value>>, PayloadError>
+    ensures exact { Gives (λ v. slots_of v.items) result (tagged_at (item_at (all_members members.now))
+        (length window.entry.bytes.now) (all_absent (all_members members.now)) (seen window.entry)) }
+    ensures len { IfOk result (λ v. length v.items ≡ length members.now) }
+{
+    let indexes = indexes_of(alloc, members)?;
+    let mut slots = empty_slots(alloc, members)?;
+    let mut window = window;
+    while !window.bytes.is_empty() {
+        window = tagged_item(alloc, members, &indexes, &mut slots, window)?;
+    }
+    Ok(slots)
+}
+
+/// The item at the front of the window.
+#[cycle(read)]
+#[tactic(auto, unfolding(crate::specs::Reading::item_by))]
+fn tagged_item<'a>(
+    alloc: Global,
+    members: &[Member],
+    indexes: &BTreeMap<u16, usize>,
+    slots: &mut [Option<Value>],
+    window: Window<'a>,
+) -> Result<Window<'a>, PayloadError>
+    requires lens { length slots.now ≡ length members.now }
+    requires indexes { HasIndexes (all_members members.now) indexes.now }
+    ensures exact { Fills slots.new result (item_at (all_members members.now) (slots_of slots.old) (seen window.entry)) }
+    ensures len { length slots.new ≡ length slots.old }
+{
+    let (tag, rest) = tag(window)?;
+    let Some(&index) = indexes.get(&tag.id) else {
+        return skipped(tag.wire_type, rest);
+    };
+    let member = &members[index];
+    if slots[index].is_some() {
+        return Err(PayloadError::DuplicateMember(window.place));
+    }
+    let (value, rest) = tagged_member(alloc, member, tag, window.place, rest)?;
+    slots[index] = Some(value);
+    Ok(rest)
+}
+
+/// The value of a member whose item has the tag, which stands at the place.
+#[cycle(read)]
+#[tactic(auto, unfolding(crate::specs::Reading::member_at))]
+fn tagged_member<'a>(
+    alloc: Global,
+    member: &Member,
+    tag: Tag,
+    place: usize,
+    window: Window<'a>,
+) -> Result<(Value, Window<'a>), PayloadError>
+    ensures { Gives (λ x. (data_of x.0, seen x.1)) result
+        (member_at (λ width v. data_by width (one_member member.now).form v) (one_member member.now).form tag place (seen window.entry)) }
+{
+    let shape = &member.shape;
+    if !has_wire_type(shape, tag.wire_type) {
+        return Err(PayloadError::WrongWireType(place));
+    }
+    value_by(alloc, width_in(tag.wire_type, shape), shape, window)
 }

@@ -16,4 +16,6 @@ pub enum Value {
     Struct(Vec<Value>),
     /// The variant of a union with its type number, or none.
     Union(Option<(u32, Box<Value>)>),
+    /// The members of a tagged structure in the order of its shape, of which some may be absent.
+    Tagged(Vec<Option<Value>>),
 }

@@ -2,7 +2,7 @@
 
 ghost use Rattle.std.specs.Prelude.{Some, map};
 ghost use Rattle.std.specs.Fmt.{WritesOnOk};
-ghost use Rattle.someip_payload_codec.specs.ValueText.{escaped, quoted, listed, value_text};
+ghost use Rattle.someip_payload_codec.specs.ValueText.{escaped, quoted, listed, value_text, slot_text};
 
 use crate::value::Value;
 use std::fmt;
@@ -33,6 +33,11 @@ impl Display for Value {
                 write!(f, "{number}:")?;
                 (**value).fmt(f)
             }
+            Value::Tagged(slots) => {
+                write!(f, "{{")?;
+                write_slots(f, slots)?;
+                write!(f, "}}")
+            }
         }
     }
 }
@@ -49,6 +54,23 @@ fn write_values<W: fmt::Write>(f: &mut fmt::Formatter<W>, values: &[Value]) -> f
     for value in rest {
         write!(f, ",")?;
         value.fmt(f)?;
+    }
+    Ok(())
+}
+
+/// The texts of members, with commas between them, and a dash for one that is absent.
+#[cycle(value_text)]
+fn write_slots<W: fmt::Write>(f: &mut fmt::Formatter<W>, slots: &[Option<Value>]) -> fmt::Result
+    ensures { WritesOnOk W.write_str_gives f.old result (listed (map slot_text slots.now)) f.new }
+{
+    for (i, slot) in slots.iter().enumerate() {
+        if i > 0 {
+            write!(f, ",")?;
+        }
+        match slot {
+            None => write!(f, "-")?,
+            Some(value) => value.fmt(f)?,
+        }
     }
     Ok(())
 }

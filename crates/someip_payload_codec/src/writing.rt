@@ -1,16 +1,20 @@
 //! Bytes from values.
 
-ghost use Rattle.std.specs.Prelude.{◌≡◌, ◌+◌, ◌<◌, ◌++◌, ◌==◌, if◌then◌else◌, length, string_bytes, Err, IfErr};
+ghost use Rattle.std.specs.Prelude.{◌≡◌, ◌+◌, ◌++◌, ◌==◌, if◌then◌else◌, false, length, Err, IfErr, OnOk};
 ghost use Rattle.someip_payload_codec.specs.declared.error.PayloadError.TheVariants.{NotOfShape, UnknownVariant};
-ghost use Rattle.someip_payload_codec.specs.View.{form, forms, all_variants, data_of, data_of_all, data_of_choice};
-ghost use Rattle.someip_payload_codec.specs.Data.{union};
+ghost use Rattle.someip_payload_codec.specs.View.{form, forms, all_variants, all_members, data_of, data_of_all, data_of_choice, one_member, slot_of, slots_of};
+ghost use Rattle.someip_payload_codec.specs.Data.{union, tagged, slotted};
+ghost use Rattle.someip_payload_codec.specs.declared.number.Size.TheVariants.{S16};
+ghost use Rattle.someip_payload_codec.specs.Numbers.{number};
+ghost use Rattle.someip_payload_codec.specs.Tags.{tag_number};
 ghost use Rattle.someip_payload_codec.specs.Grammar.{count};
-ghost use Rattle.someip_payload_codec.specs.Writing.{Appends, Adds, number_text, signed_text, body_text, text_body, each_text, array_text, fixed_text, struct_text, tagged_text, chosen_text, count_forms, text_of, members_text, variant_text, encoded, IsRefusal};
+ghost use Rattle.someip_payload_codec.specs.Writing.{Appends, Adds, number_text, signed_text, body_text, text_body, each_text, array_text, fixed_text, struct_text, typed_text, chosen_text, count_forms, text_of, members_text, variant_text, slots_text, member_text, encoded, IsRefusal};
 
 use crate::check::check_shape;
 use crate::error::PayloadError;
 use crate::number::{Size, bits_of, has_number, has_signed, put_bytes, size_of};
-use crate::shape::{Encoding, Shape, Width};
+use crate::shape::{Encoding, Member, Shape, Width};
+use crate::tag::{WireType, tag_number, wire_type_of};
 use crate::text::put_text;
 use crate::value::Value;
 use std::alloc::{AllocError, Global};
@@ -21,8 +25,12 @@ use std::alloc::{AllocError, Global};
 /// `NotOfShape`, `UnknownVariant`, `TooMany` or `TooLong`. An `Err` leaves `out` as it was, so the
 /// bytes are made first, in memory of its allocator.
 ///
+/// The members of a tagged structure that are present stand in the order of its shape, each with a
+/// reserved bit of 0 and the wire type of its shape and own width.
+///
 /// ```text
 /// struct/16(u8,utf16), (7,"A")    000b 07 00000006 feff 0041 0000
+/// tagged(1:u8,2?:u8), {7,-}       00000003 0001 07
 /// array<2,u16>, [1,2,3]           TooMany(0)
 /// ```
 pub fn encode(shape: &Shape, value: &Value, out: &mut Vec<u8>) -> Result<(), PayloadError>
@@ -77,6 +85,9 @@ fn put(alloc: Global, shape: &Shape, value: &Value, out: &mut Vec<u8>) -> Result
             put_struct(alloc, *width, shapes, values, out)
         }
         (Shape::Union(variants), Value::Union(choice)) => put_union(alloc, variants, choice, out),
+        (Shape::Tagged(width, members), Value::Tagged(slots)) => {
+            put_tagged(alloc, *width, members, slots, out)
+        }
         _ => Err(PayloadError::NotOfShape(0)),
     }
 }
@@ -221,7 +232,70 @@ fn put_chosen(
 {
     let mut body = Vec::new(alloc);
     put(alloc, shape, value, &mut body)?;
-    put_tagged(kind, &body, out)
+    put_typed(kind, &body, out)
+}
+
+#[cycle(put)]
+#[tactic(auto, using(crate::proofs::Writes::count_of_slots, crate::proofs::Writes::count_of_members), unfolding(crate::specs::Writing::text_of))]
+fn put_tagged(
+    alloc: Global,
+    width: Width,
+    members: &[Member],
+    slots: &[Option<Value>],
+    out: &mut Vec<u8>,
+) -> Result<(), PayloadError>
+    ensures { Adds out.old.items out.new.items result (text_of (tagged width (all_members members.now)) (slotted (slots_of slots.now))) }
+{
+    if slots.len() != members.len() {
+        return Err(PayloadError::NotOfShape(0));
+    }
+    let mut body = Vec::new(alloc);
+    put_slots(alloc, members, slots, &mut body)?;
+    put_body(width, &body, out)
+}
+
+/// The items of the members that are present.
+#[cycle(put)]
+fn put_slots(
+    alloc: Global,
+    members: &[Member],
+    slots: &[Option<Value>],
+    out: &mut Vec<u8>,
+) -> Result<(), PayloadError>
+    requires { length members.now ≡ length slots.now }
+    ensures { Adds out.old.items out.new.items result (slots_text (all_members members.now) (slots_of slots.now)) }
+{
+    for i in 0..members.len() {
+        put_slot(alloc, &members[i], &slots[i], out)?;
+    }
+    Ok(())
+}
+
+/// The item of a member, if it is present.
+#[cycle(put)]
+#[tactic(auto, unfolding(crate::specs::Writing::item_text, crate::specs::Writing::absent_text))]
+fn put_slot(
+    alloc: Global,
+    member: &Member,
+    slot: &Option<Value>,
+    out: &mut Vec<u8>,
+) -> Result<(), PayloadError>
+    ensures { Adds out.old.items out.new.items result (member_text (one_member member.now) (slot_of slot.now)) }
+{
+    let Some(value) = slot else {
+        if member.is_optional {
+            return Ok(());
+        }
+        return Err(PayloadError::NotOfShape(0));
+    };
+    put_tag(wire_type_of(&member.shape), member.id, out)?;
+    put(alloc, &member.shape, value, out)
+}
+
+fn put_tag(wire_type: WireType, id: u16, out: &mut Vec<u8>) -> Result<(), AllocError>
+    ensures { OnOk result (out.new.items ≡ out.old.items ++ number S16 (tag_number false wire_type id)) }
+{
+    put_bytes(Size::S16, u64::from(tag_number(wire_type, id)), out)
 }
 
 #[tactic(auto, unfolding(crate::specs::Writing::number_text))]
@@ -273,9 +347,9 @@ fn put_body(width: Width, body: &[u8], out: &mut Vec<u8>) -> Result<(), PayloadE
     Ok(())
 }
 
-#[tactic(auto, unfolding(crate::specs::Writing::tagged_text))]
-fn put_tagged(kind: u32, body: &[u8], out: &mut Vec<u8>) -> Result<(), PayloadError>
-    ensures { Adds out.old.items out.new.items result (tagged_text kind body.now) }
+#[tactic(auto, unfolding(crate::specs::Writing::typed_text))]
+fn put_typed(kind: u32, body: &[u8], out: &mut Vec<u8>) -> Result<(), PayloadError>
+    ensures { Adds out.old.items out.new.items result (typed_text kind body.now) }
 {
     let len = body.len() as u64;
     if !has_number(Size::S32, len) {

@@ -122,11 +122,17 @@ const PAYLOAD_EXAMPLE: &str = "\
 SHAPE says what the payload looks like, HEX is the payload in hex without blanks, - for no bytes.
 A shape is bool, u8, u16, u32, u64, i8, i16, i32 or i64; utf8, utf16, array<MAX,shape> or
 struct(shape,..), with /8, /16 or /32 behind the word for the width of the length field;
-fixed<N,shape>; or union(NUMBER:shape,..). So the call
+fixed<N,shape>; union(NUMBER:shape,..); or tagged(ID:shape,ID?:shape,..), with a width as above,
+where ? marks a member that may be absent, which is printed as -. So the calls
   someipctl payload 'array<2,u16>' 0000000400010002
-prints
+  someipctl payload 'tagged/8(1:u8,2?:utf8)' 070001071009ffff
+print
   value [1,2]
-  used 8 of 8";
+  used 8 of 8
+and
+  value {7,-}
+  used 8 of 8
+where member 2 is absent, and the item of the unknown ID 9 is skipped.";
 
 const VECTORS_EXAMPLE: &str = "\
 A line `datagram HEX` or `payload SHAPE HEX` is a vector, and the lines after it that begin with

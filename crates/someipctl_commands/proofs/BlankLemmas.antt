@@ -8,7 +8,7 @@ use Rattle.std.proofs.lemmas.Bool.{eqb-true}
 use Rattle.std.proofs.lemmas.Fmt.{decimal_is_IsNumeral}
 use Rattle.std.proofs.lemmas.List.Folds.{list_any-append}
 use Rattle.someip_payload_codec.specs.Check.{depth}
-use Rattle.someip_payload_codec.specs.Data.{Form, Forms, Variants}
+use Rattle.someip_payload_codec.specs.Data.{Form, Forms, Variants, Members}
 use Rattle.someip_payload_codec.specs.View.{form}
 use Rattle.someip_payload_codec.specs.declared.Shape.{Shape}
 use Rattle.someip_payload.specs.declared.ShapeTextError.{ShapeTextError}
@@ -18,7 +18,7 @@ use Rattle.someipctl_commands.specs.Payload.{argument_bytes}
 use Rattle.someipctl_commands.specs.VectorLines.{AreArguments, fault_of_shape}
 use Rattle.someip_payload_codec.specs.declared.shape.Width.{Width}
 use Rattle.someip_payload_codec.specs.declared.shape.Width.TheVariants.{W8, W16, W32}
-use Rattle.someip_payload.specs.ShapeText.{IsReadAs, width_text, repeated_text, IsTextOf, bool_text, u8_text, u16_text, u32_text, u64_text, i8_text, i16_text, i32_text, i64_text, utf8_text, utf16_text, array_text, fixed_text, struct_text, union_text, IsTextOfMembers, last_member, next_member, IsTextOfVariants, last_variant, next_variant}
+use Rattle.someip_payload.specs.ShapeText.{IsReadAs, width_text, repeated_text, IsTextOf, bool_text, u8_text, u16_text, u32_text, u64_text, i8_text, i16_text, i32_text, i64_text, utf8_text, utf16_text, array_text, fixed_text, struct_text, union_text, tagged_text, mark_text, tagged_member_text, IsTextOfTaggedMembers, last_tagged, next_tagged, IsTextOfMembers, last_member, next_member, IsTextOfVariants, last_variant, next_variant}
 
 abbrev pub is_blank : ℕ → Bool
 is_blank b = b == 32
@@ -61,6 +61,14 @@ repeated_unparted n text fits h =
 number_unparted : (n : ℕ) (text : List ℕ) → n < 2 ^ 32 → IsUnparted text → IsUnparted (decimal n ++ (codes ":" ++ text))
 number_unparted n text fits h = between (decimal n) (codes ":") text (decimal_unparted n fits) refl h
 
+mark_unparted : (optional : Bool) → IsUnparted (mark_text optional)
+mark_unparted true = refl
+mark_unparted false = refl
+
+member_unparted : (id : ℕ) (optional : Bool) (text : List ℕ) → id < 2 ^ 12 → IsUnparted text → IsUnparted (tagged_member_text id optional text)
+member_unparted id optional text fits h =
+    both (decimal id) (mark_text optional ++ (codes ":" ++ text)) (decimal_unparted id (omega (arith, fits))) (between (mark_text optional) (codes ":") text (mark_unparted optional) refl h)
+
 mutual
   pub shape_unparted : (f : Form) (text : List ℕ) → IsTextOf f text → IsUnparted text
   shape_unparted f text bool_text = refl
@@ -83,6 +91,9 @@ mutual
       (between (codes "(") inner (codes ")") refl (members_unparted fs inner h) refl)
   shape_unparted f text (union_text vs inner h) =
       both (codes "union") (codes "(" ++ (inner ++ codes ")")) refl (between (codes "(") inner (codes ")") refl (variants_unparted vs inner h) refl)
+  shape_unparted f text (tagged_text w ms inner h) =
+      between (codes "tagged") (width_text w) (codes "(" ++ (inner ++ codes ")")) refl (width_unparted w)
+      (between (codes "(") inner (codes ")") refl (tagged_unparted ms inner h) refl)
 
   members_unparted : (fs : Forms) (text : List ℕ) → IsTextOfMembers fs text → IsUnparted text
   members_unparted fs text (last_member f inner h) = shape_unparted f inner h
@@ -93,6 +104,11 @@ mutual
   variants_unparted vs text (last_variant n f inner fits h) = number_unparted n inner fits (shape_unparted f inner h)
   variants_unparted vs text (next_variant n f ws inner others fits h more) =
       between (decimal n ++ (codes ":" ++ inner)) (codes ",") others (number_unparted n inner fits (shape_unparted f inner h)) refl (variants_unparted ws others more)
+
+  tagged_unparted : (ms : Members) (text : List ℕ) → IsTextOfTaggedMembers ms text → IsUnparted text
+  tagged_unparted ms text (last_tagged id optional f inner fits h) = member_unparted id optional inner fits (shape_unparted f inner h)
+  tagged_unparted ms text (next_tagged id optional f ns inner others fits h more) =
+      between (tagged_member_text id optional inner) (codes ",") others (member_unparted id optional inner fits (shape_unparted f inner h)) refl (tagged_unparted ns others more)
 
 -- ---- parting a line
 

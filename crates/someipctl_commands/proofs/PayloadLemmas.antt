@@ -36,6 +36,9 @@ fault_told shape bytes (faults.TooDeep p) first refused other = fault_by shape b
 fault_told shape bytes (faults.NotOfShape p) first refused other = fault_by shape bytes (faults.NotOfShape p) (checked shape) refl first refused
 fault_told shape bytes (faults.TooLong p) first refused other = fault_by shape bytes (faults.TooLong p) (checked shape) refl first refused
 fault_told shape bytes (faults.BadShape p) first refused other = fault_by shape bytes (faults.BadShape p) (checked shape) refl first refused
+fault_told shape bytes (faults.DuplicateMember p) first refused other = fault_by shape bytes (faults.DuplicateMember p) (checked shape) refl first refused
+fault_told shape bytes (faults.WrongWireType p) first refused other = fault_by shape bytes (faults.WrongWireType p) (checked shape) refl first refused
+fault_told shape bytes (faults.MissingMember p) first refused other = fault_by shape bytes (faults.MissingMember p) (checked shape) refl first refused
 fault_told shape bytes faults.OutOfMemory first refused other = absurd (other refl)
 
 -- a beginning was written of the text that answers the arguments

@@ -41,6 +41,12 @@ const ACTS: &[Act] = &[
     Decode(&[5, 2, 1, 2, 1, 3]),
     Encode,
     Bytes,
+    ReadShape("tagged/8(1:u8,2?:array/8<2,u8>)"),
+    Check,
+    Decode(&[11, 0x10, 9, 0xff, 0xff, 0x50, 2, 1, 8, 0, 1, 7]),
+    Encode,
+    Bytes,
+    Decode(&[4, 0x50, 2, 1, 8]),
 ];
 
 /// A value of the struct: 7, true, -2, "hi", "A", [1,2], [1,2,3] and 2:"hi".

@@ -5,15 +5,16 @@ use Rattle.std.proofs.lemmas.Result.{err_from_is_err_and}
 use Rattle.std.proofs.lemmas.List.{length-append}
 use Rattle.someip_payload_codec.specs.declared.shape.Shape.{U8, U16, U32, U64, I8, I16, I32, I64}
 use Rattle.someip_payload_codec.specs.Data.{u8, u16, u32, u64, i8, i16, i32, i64}
-use Rattle.someip_payload_codec.specs.Check.{depth, deepest, deepest_variant}
-use Rattle.someip_payload.specs.ShapeText.{repeated_text, width_text}
+use Rattle.someip_payload_codec.specs.Check.{depth, deepest, deepest_variant, deepest_member}
+use Rattle.someip_payload.specs.ShapeText.{repeated_text, width_text, mark_text}
 use Rattle.someip_payload_codec.specs.View.{form}
 use Rattle.someip_payload.proofs.Converse.{by_word, plain, word_there, behind_piece, same_first, same_second, not_read}
-use Rattle.someip_payload.proofs.ConverseParts.{split_front, some_depth, array_is, struct_is, union_is, stops_repeated, stops_bracket, stops_end, no_digit_comma, no_digit_colon, after_open, after_comma, length-repeated, after_bracket, members_none, next_member_of, member_more, member_last, within_more, deepest-push, deepest_variant-push, variants_none, next_variant_of, variant_more, variant_last}
+use Rattle.someip_payload.proofs.ConverseParts.{split_front, some_depth, array_is, struct_is, union_is, tagged_is, stops_repeated, stops_bracket, stops_end, no_digit_comma, no_digit_colon, after_open, after_comma, length-repeated, after_bracket, members_none, next_member_of, member_more, member_last, within_more, deepest-push, deepest_variant-push, variants_none, next_variant_of, variant_more, variant_last}
 use Rattle.someip_payload.specs.Words.{word_text}
 use Rattle.someip_payload.proofs.Pieces.{slice_range-append, slice_range-empty}
-use Rattle.someip_payload.proofs.ShapePieces.{bool_shape, u8_shape, u16_shape, u32_shape, u64_shape, i8_shape, i16_shape, i32_shape, i64_shape, form-Array, form-Fixed, form-Struct, form-Union, form-U8, form-U16, form-U32, form-U64, form-I8, form-I16, form-I32, form-I64, behind_word, array_shape, fixed_shape, struct_shape, union_shape, repeated_piece}
+use Rattle.someip_payload.proofs.ShapePieces.{bool_shape, u8_shape, u16_shape, u32_shape, u64_shape, i8_shape, i16_shape, i32_shape, i64_shape, form-Array, form-Fixed, form-Struct, form-Union, form-Tagged, one_member-made, form-U8, form-U16, form-U32, form-U64, form-I8, form-I16, form-I32, form-I64, behind_word, array_shape, fixed_shape, struct_shape, union_shape, tagged_shape, repeated_piece}
 use Rattle.someip_payload.proofs.Members.{next_member_at, last_member_at, next_variant_at, last_variant_at, variant_piece}
+use Rattle.someip_payload.proofs.TaggedMembers.{next_tagged_at, last_tagged_at, tagged_none, next_tagged_of, tagged_more, tagged_last, deepest_member-push, member_there, mark_first, member_piece, same_member}
 use Rattle.someip_payload.proofs.shape_text.+shape.Goals as goal
 
 pub array_at-returns-clause-found : goal.array_at-returns-clause-found
@@ -531,3 +532,176 @@ pub variants_at-returns-else-has_comma-clause-within : goal.variants_at-returns-
 variants_at-returns-else-has_comma-clause-within t c =
     let pushed : c.push.new.self.items ≡ c.loop-variants.variants.items ++ (c.in_ok-number.number, c.in_ok-shape.shape) ∷ [] = search rules in
     rw pushed (deepest_variant-push c.loop-variants.variants.items (c.in_ok-number.number, c.in_ok-shape.shape) c.args.left c.loop-variants.invariant.4 c.in_ok-shape.ensures.within)
+
+-- ---- tagged structures
+
+pub tagged_members_at-loop-members-preserved : goal.tagged_members_at-loop-members-preserved
+tagged_members_at-loop-members-preserved t c =
+    let here : c.args.at ≤ c.loop-members.next = c.loop-members.invariant.0 in
+    let behind : c.loop-members.next < c.in_ok-member.end = c.in_ok-member.ensures.end.0 in
+    let inside : c.in_ok-member.end < length c.args.text.now = (c.if-has_comma.ensures.comma refl).0 in
+    let pushed : c.push.new.self.items ≡ c.loop-members.members.items ++ c.in_ok-member.member ∷ [] = search rules in (
+      omega arith,
+      omega arith,
+      rw pushed (next_tagged_at _ _ _ _ _ _ here (omega arith) inside (c.if-has_comma.ensures.comma refl).1 c.loop-members.invariant.2 c.in_ok-member.ensures.found),
+      λ fs all rest is are deep.
+          let n = next_tagged_of c.args.text.now c.args.at c.args.left fs all rest c.loop-members.members.items c.loop-members.next (c.loop-members.invariant.3 fs all rest is are deep) in
+          let read = c.in_ok-member.ensures.only n.f n.front n.tail n.there n.is_text n.deep n.stops in
+          rw pushed (tagged_more c.args.text.now c.args.at c.args.left fs all rest c.loop-members.members.items c.loop-members.next c.in_ok-member.member c.in_ok-member.end n read (c.if-has_comma.ensures.comma refl).1),
+      rw pushed (deepest_member-push c.loop-members.members.items c.in_ok-member.member c.args.left c.loop-members.invariant.4 c.in_ok-member.ensures.within),
+    )
+
+pub tagged_members_at-returns-else-has_comma-clause-found : goal.tagged_members_at-returns-else-has_comma-clause-found
+tagged_members_at-returns-else-has_comma-clause-found t c =
+    let here : c.args.at ≤ c.loop-members.next = c.loop-members.invariant.0 in
+    let behind : c.loop-members.next < c.in_ok-member.end = c.in_ok-member.ensures.end.0 in
+    let end : c.in_ok-end.end ≡ c.in_ok-member.end + 1 = c.in_ok-end.ensures.end.0 in
+    let pushed : c.push.new.self.items ≡ c.loop-members.members.items ++ c.in_ok-member.member ∷ [] = search rules in (
+      slice_range c.args.text.now c.args.at c.in_ok-member.end,
+      rw pushed (last_tagged_at _ _ _ _ _ _ here (omega arith) c.loop-members.invariant.2 c.in_ok-member.ensures.found),
+      rw (← slice_range-append c.args.text.now c.args.at c.in_ok-member.end c.in_ok-end.end (omega arith) (omega arith), c.in_ok-end.ensures.found),
+    )
+
+pub tagged_members_at-loop-members-init : goal.tagged_members_at-loop-members-init
+tagged_members_at-loop-members-init t c = (
+  omega arith,
+  omega (arith, c.requires),
+  λ fs others are. rw (slice_range-empty c.args.text.now c.args.at, c.new-members.ensures.items) are,
+  tagged_none c.args.text.now c.args.at c.args.left c.new-members.result.items c.new-members.ensures.items,
+  rw c.new-members.ensures.items (omega arith),
+)
+
+pub tagged_members_at-returns-in_err-member-clause-only : goal.tagged_members_at-returns-in_err-member-clause-only
+tagged_members_at-returns-in_err-member-clause-only t c = λ fs all rest is are deep.
+    let p = err_from_is_err_and c.from_residual.result c.from_residual.ensures.1 in
+    let n = next_tagged_of c.args.text.now c.args.at c.args.left fs all rest c.loop-members.members.items c.loop-members.next (c.loop-members.invariant.3 fs all rest is are deep) in
+    rw (p.1, p.2) (c.in_err-member.ensures.only n.f n.front n.tail n.there n.is_text n.deep n.stops)
+
+pub tagged_members_at-returns-in_err-end-clause-only : goal.tagged_members_at-returns-in_err-end-clause-only
+tagged_members_at-returns-in_err-end-clause-only t c = λ fs all rest is are deep.
+    let n = next_tagged_of c.args.text.now c.args.at c.args.left fs all rest c.loop-members.members.items c.loop-members.next (c.loop-members.invariant.3 fs all rest is are deep) in
+    let read = c.in_ok-member.ensures.only n.f n.front n.tail n.there n.is_text n.deep n.stops in
+    let last = tagged_last c.args.text.now c.args.at c.args.left fs all rest c.loop-members.members.items c.loop-members.next c.in_ok-member.member c.in_ok-member.end n read (λ others here. false≢true (c.if-has_comma.ensures.only others here)) in
+    let bad = c.in_err-end.ensures.only rest last.bracket in
+    absurd (not_read _ _ bad)
+
+pub tagged_members_at-returns-else-has_comma-clause-only : goal.tagged_members_at-returns-else-has_comma-clause-only
+tagged_members_at-returns-else-has_comma-clause-only t c = λ fs all rest is are deep.
+    let n = next_tagged_of c.args.text.now c.args.at c.args.left fs all rest c.loop-members.members.items c.loop-members.next (c.loop-members.invariant.3 fs all rest is are deep) in
+    let read = c.in_ok-member.ensures.only n.f n.front n.tail n.there n.is_text n.deep n.stops in
+    let last = tagged_last c.args.text.now c.args.at c.args.left fs all rest c.loop-members.members.items c.loop-members.next c.in_ok-member.member c.in_ok-member.end n read (λ others here. false≢true (c.if-has_comma.ensures.only others here)) in
+    let pushed : c.push.new.self.items ≡ c.loop-members.members.items ++ c.in_ok-member.member ∷ [] = search rules in
+    (rw pushed last.is, omega (arith, last.place, c.in_ok-end.ensures.end.0))
+
+pub tagged_members_at-returns-else-has_comma-clause-within : goal.tagged_members_at-returns-else-has_comma-clause-within
+tagged_members_at-returns-else-has_comma-clause-within t c =
+    let pushed : c.push.new.self.items ≡ c.loop-members.members.items ++ c.in_ok-member.member ∷ [] = search rules in
+    rw pushed (deepest_member-push c.loop-members.members.items c.in_ok-member.member c.args.left c.loop-members.invariant.4 c.in_ok-member.ensures.within)
+
+pub tagged_at-returns-clause-found : goal.tagged_at-returns-clause-found
+tagged_at-returns-clause-found t c =
+    let whole = c.in_ok-members.ensures.found in
+    let first : c.in_ok-first.first ≡ c.in_ok-width.from + 1 = c.in_ok-first.ensures.end.0 in
+    tagged_shape c.in_ok-width.width _ _ _ whole.0 _ _ _ _ c.in_ok-width.ensures.end.0 (omega arith) c.in_ok-members.ensures.end.0 c.or_32.ensures
+    c.in_ok-width.ensures.found c.in_ok-first.ensures.found whole.1 whole.2
+
+pub tagged_at-returns-in_err-first-clause-only : goal.tagged_at-returns-in_err-first-clause-only
+tagged_at-returns-in_err-first-clause-only t c = λ f back rest is behind deep.
+    let here = split_front _ back rest _ _ is behind.5 in
+    let width = c.in_ok-width.ensures.only behind.0 ((codes "(" ++ (behind.2 ++ codes ")")) ++ rest) here (stops_bracket (behind.2 ++ codes ")") rest) in
+    let from : c.in_ok-width.from ≡ c.args.at + length (width_text behind.0) = same_second _ _ _ _ width in
+    let bad = c.in_err-first.ensures.only ((behind.2 ++ codes ")") ++ rest) (behind_piece c.args.text.now (width_text behind.0) _ c.args.at c.in_ok-width.from here from) in
+    absurd (not_read _ _ bad)
+
+pub tagged_at-returns-in_err-members-clause-only : goal.tagged_at-returns-in_err-members-clause-only
+tagged_at-returns-in_err-members-clause-only t c = λ f back rest is behind deep.
+    let p = err_from_is_err_and c.from_residual-in_err-members.result c.from_residual-in_err-members.ensures.1 in
+    let here = split_front _ back rest _ _ is behind.5 in
+    let width = c.in_ok-width.ensures.only behind.0 ((codes "(" ++ (behind.2 ++ codes ")")) ++ rest) here (stops_bracket (behind.2 ++ codes ")") rest) in
+    let from : c.in_ok-width.from ≡ c.args.at + length (width_text behind.0) = same_second _ _ _ _ width in
+    let bracket = behind_piece c.args.text.now (width_text behind.0) _ c.args.at c.in_ok-width.from here from in
+    let inside = after_bracket c.args.text.now behind.2 rest c.in_ok-width.from c.in_ok-first.first bracket c.in_ok-first.ensures.end.0 in
+    let inner : deepest_member behind.1 ≤ c.args.left = omega (arith, deep, ap depth behind.4) in
+    rw (p.1, p.2) (c.in_err-members.ensures.only behind.1 behind.2 rest inside behind.3 inner)
+
+pub tagged_at-returns-clause-only : goal.tagged_at-returns-clause-only
+tagged_at-returns-clause-only t c = λ f back rest is behind deep.
+    let here = split_front _ back rest _ _ is behind.5 in
+    let both = c.in_ok-width.ensures.only behind.0 ((codes "(" ++ (behind.2 ++ codes ")")) ++ rest) here (stops_bracket (behind.2 ++ codes ")") rest) in
+    let width : c.in_ok-width.width ≡ behind.0 = same_first _ _ _ _ both in
+    let from : c.in_ok-width.from ≡ c.args.at + length (width_text behind.0) = same_second _ _ _ _ both in
+    let bracket = behind_piece c.args.text.now (width_text behind.0) _ c.args.at c.in_ok-width.from here from in
+    let inside = after_bracket c.args.text.now behind.2 rest c.in_ok-width.from c.in_ok-first.first bracket c.in_ok-first.ensures.end.0 in
+    let inner : deepest_member behind.1 ≤ c.args.left = omega (arith, deep, ap depth behind.4) in
+    let read = c.in_ok-members.ensures.only behind.1 behind.2 rest inside behind.3 inner in (
+      tagged_is _ _ _ c.in_ok-members.members f behind.1 c.or_32.ensures width read.0 behind.4,
+      omega (arith, read.1, from, c.in_ok-first.ensures.end.0, ap length behind.5, length-append (width_text behind.0) (40 ∷ (behind.2 ++ codes ")")), length-append behind.2 (codes ")")),
+    )
+
+pub tagged_at-returns-clause-within : goal.tagged_at-returns-clause-within
+tagged_at-returns-clause-within t c = rw (form-Tagged c.or_32.result c.in_ok-members.members) (omega (arith, c.in_ok-members.ensures.within))
+
+pub shape_at-returns-in-Tagged-clause-found : goal.shape_at-returns-in-Tagged-clause-found
+shape_at-returns-in-Tagged-clause-found t c =
+    behind_word _ _ (codes "tagged") _ _ c.in_ok-word.ensures.end.0 (c.in_ok-word.ensures.found ∙ ap word_text c.in-Tagged.is) c.tagged_at.ensures.end c.tagged_at.ensures.found
+
+pub shape_at-returns-in-Tagged-clause-only : goal.shape_at-returns-in-Tagged-clause-only
+shape_at-returns-in-Tagged-clause-only t c = λ f front rest is is_text deep stops.
+    let inner : depth f ≤ (c.args.left - 1) + 1 = omega (arith, deep, some_depth f) in
+    by_word c.args.text.now front rest c.args.at c.in_ok-word.end f c.in_ok-word.word c.tagged_at.result is is_text c.in_ok-word.ensures.only
+    (λ back there behind. c.tagged_at.ensures.only f back rest there (rw c.in-Tagged.is at behind) inner)
+
+pub shape_at-returns-in-Tagged-clause-within : goal.shape_at-returns-in-Tagged-clause-within
+shape_at-returns-in-Tagged-clause-within t c = within_more c.tagged_at.result (c.args.left - 1 + 1) c.args.left (omega (arith, c.if-left-eq0.false)) c.tagged_at.ensures.within
+
+pub tagged_member_at-returns-in_err-first-clause-only : goal.tagged_member_at-returns-in_err-first-clause-only
+tagged_member_at-returns-in_err-first-clause-only t c = λ m front rest is is_text deep stops.
+    let here = member_there c.args.text.now c.args.at m front rest is is_text in
+    let next = mark_first m.optional (here.shape ++ rest) in
+    let both = c.in_ok-number.ensures.only m.id next.first next.others (here.there ∙ ap (λ (x : List ℕ). decimal m.id ++ x) next.is) here.small next.stop in
+    let behind : c.in_ok-number.behind ≡ c.args.at + length (decimal m.id) = same_second _ _ _ _ both in
+    let marked = behind_piece c.args.text.now (decimal m.id) _ c.args.at c.in_ok-number.behind here.there behind in
+    let mark = c.mark_at-is_optional.ensures.only m.optional (here.shape ++ rest) marked in
+    let colon = behind_piece c.args.text.now (mark_text m.optional) _ c.in_ok-number.behind c.mark_at-is_optional.result.1 marked (ap (λ x. x.1) mark) in
+    let bad = c.in_err-first.ensures.only (here.shape ++ rest) colon in
+    absurd (not_read _ _ bad)
+
+pub tagged_member_at-returns-in_err-shape-clause-only : goal.tagged_member_at-returns-in_err-shape-clause-only
+tagged_member_at-returns-in_err-shape-clause-only t c = λ m front rest is is_text deep stops.
+    let p = err_from_is_err_and c.from_residual-in_err-shape.result c.from_residual-in_err-shape.ensures.1 in
+    let here = member_there c.args.text.now c.args.at m front rest is is_text in
+    let next = mark_first m.optional (here.shape ++ rest) in
+    let both = c.in_ok-number.ensures.only m.id next.first next.others (here.there ∙ ap (λ (x : List ℕ). decimal m.id ++ x) next.is) here.small next.stop in
+    let behind : c.in_ok-number.behind ≡ c.args.at + length (decimal m.id) = same_second _ _ _ _ both in
+    let marked = behind_piece c.args.text.now (decimal m.id) _ c.args.at c.in_ok-number.behind here.there behind in
+    let mark = c.mark_at-is_optional.ensures.only m.optional (here.shape ++ rest) marked in
+    let colon = behind_piece c.args.text.now (mark_text m.optional) _ c.in_ok-number.behind c.mark_at-is_optional.result.1 marked (ap (λ x. x.1) mark) in
+    let inside = behind_piece c.args.text.now (codes ":") (here.shape ++ rest) c.mark_at-is_optional.result.1 c.in_ok-first.first colon c.in_ok-first.ensures.end.0 in
+    rw (p.1, p.2) (c.in_err-shape.ensures.only m.form here.shape rest inside here.is_text deep stops)
+
+pub tagged_member_at-returns-clause-found : goal.tagged_member_at-returns-clause-found
+tagged_member_at-returns-clause-found t c =
+    let first : c.in_ok-first.first ≡ c.mark_at-is_optional.result.1 + 1 = c.in_ok-first.ensures.end.0 in
+    let number : c.args.at < c.in_ok-number.behind = c.in_ok-number.ensures.end.0 in
+    let mark : c.in_ok-number.behind ≤ c.mark_at-is_optional.result.1 = c.mark_at-is_optional.ensures.end.0 in
+    let behind : c.in_ok-first.first ≤ c.in_ok-shape.end = omega (arith, c.in_ok-shape.ensures.end.0) in
+    let made = one_member-made c.in_ok-number.number c.mark_at-is_optional.result.0 c.in_ok-shape.shape in
+    let piece = member_piece c.args.text.now c.in_ok-number.number c.mark_at-is_optional.result.0 c.args.at c.in_ok-number.behind c.mark_at-is_optional.result.1 c.in_ok-first.first c.in_ok-shape.end
+    (omega arith) mark (omega arith) behind c.in_ok-number.ensures.found c.mark_at-is_optional.ensures.found c.in_ok-first.ensures.found in
+    rw made (slice_range c.args.text.now c.in_ok-first.first c.in_ok-shape.end, c.in_ok-number.ensures.fits, c.in_ok-shape.ensures.found, piece)
+
+pub tagged_member_at-returns-clause-only : goal.tagged_member_at-returns-clause-only
+tagged_member_at-returns-clause-only t c = λ m front rest is is_text deep stops.
+    let here = member_there c.args.text.now c.args.at m front rest is is_text in
+    let next = mark_first m.optional (here.shape ++ rest) in
+    let both = c.in_ok-number.ensures.only m.id next.first next.others (here.there ∙ ap (λ (x : List ℕ). decimal m.id ++ x) next.is) here.small next.stop in
+    let id : c.in_ok-number.number ≡ m.id = same_first _ _ _ _ both in
+    let behind : c.in_ok-number.behind ≡ c.args.at + length (decimal m.id) = same_second _ _ _ _ both in
+    let marked = behind_piece c.args.text.now (decimal m.id) _ c.args.at c.in_ok-number.behind here.there behind in
+    let mark = c.mark_at-is_optional.ensures.only m.optional (here.shape ++ rest) marked in
+    let colon = behind_piece c.args.text.now (mark_text m.optional) _ c.in_ok-number.behind c.mark_at-is_optional.result.1 marked (ap (λ x. x.1) mark) in
+    let inside = behind_piece c.args.text.now (codes ":") (here.shape ++ rest) c.mark_at-is_optional.result.1 c.in_ok-first.first colon c.in_ok-first.ensures.end.0 in
+    let read = c.in_ok-shape.ensures.only m.form here.shape rest inside here.is_text deep stops in (
+      one_member-made c.in_ok-number.number c.mark_at-is_optional.result.0 c.in_ok-shape.shape ∙ same_member _ _ _ m id (ap (λ x. x.0) mark) read.0,
+      omega (arith, read.1, behind, ap (λ x. x.1) mark, c.in_ok-first.ensures.end.0, here.len),
+    )

@@ -6,7 +6,7 @@ use Rattle.someip_payload.proofs.Converse.{NoWord, none_of, if_none, first_word_
 use Rattle.someip_payload.proofs.shape_text.first_word.Goals as goal
 
 pub returns-clause-found : goal.returns-clause-found
-returns-clause-found c = c.word_at.ensures.found word_text (refl, (refl, (refl, (refl, (refl, (refl, (refl, (refl, (refl, (refl, (refl, (refl, (refl, (refl, (refl, tt)))))))))))))))
+returns-clause-found c = c.word_at.ensures.found word_text (refl, (refl, (refl, (refl, (refl, (refl, (refl, (refl, (refl, (refl, (refl, (refl, (refl, (refl, (refl, (refl, tt))))))))))))))))
 
 pub returns-clause-only : goal.returns-clause-only
 returns-clause-only c = λ w rest is.

@@ -1,11 +1,15 @@
-use Rattle.std.proofs.Common.{◌≡◌, ◌<◌, ◌++◌, ◌∷◌, [], ◌∙◌, ap, length, map, rules, arith}
+use Rattle.std.proofs.Common.{None, is_some, true, false, sym, refl, ◌≡◌, ◌<◌, ◌++◌, ◌∷◌, [], ◌∙◌, ap, length, map, rules, arith}
 use Rattle.std.proofs.lemmas.Result.{err_from_is_err_and}
-use Rattle.std.proofs.lemmas.List.{map_push}
+use Rattle.std.proofs.lemmas.List.{map_push, length-map, with_items_is}
 use Rattle.someip_payload_codec.specs.Data.{union}
-use Rattle.someip_payload_codec.specs.View.{form, all_variants, data_of, seen}
-use Rattle.someip_payload_codec.specs.Reading.{data_at, items_at, chosen_at}
+use Rattle.someip_payload_codec.specs.View.{form, all_variants, all_members, data_of, slots_of, seen}
+use Rattle.someip_payload_codec.specs.Reading.{data_at, data_by, items_at, chosen_at}
 use Rattle.someip_payload_codec.proofs.Shapes.{form-Union, data_of-Some}
 use Rattle.someip_payload_codec.proofs.Loops.{items_go_on, items_fail, items_too_many, items_done, fixed_more, fixed_bad, fixed_end, members_go_on, members_fail, members_done, variant_hit, variant_miss, variant_none}
+use Rattle.someip_payload_codec.specs.Reading.{item_by, item_at}
+use Rattle.someip_payload_codec.specs.declared.shape.Shape.{the_lemmas}
+use Rattle.someip_payload_codec.proofs.TaggedLoops.{none_read, found_in, skip_fills, slots_duplicate, slots_fault, slots_value, tagged_go_on, tagged_fail, tagged_done}
+use Rattle.someip_payload_codec.proofs.Shorter.{item_shorter}
 use Rattle.someip_payload_codec.proofs.reading.+read.Goals as goal
 
 pub items-returns-then-left-eq0 : goal.items-returns-then-left-eq0
@@ -43,11 +47,11 @@ members-loop-shape-preserved t c =
 pub members-returns : goal.members-returns
 members-returns t c = members_done (map data_of c.loop-shape.values.items) c.args.shapes.now c.loop-shape.shape-index (seen c.loop-shape.window) _ c.loop-shape-test.false c.loop-shape.invariant
 
-pub value-returns-in-Union : goal.value-returns-in-Union
-unfolding data_at
-value-returns-in-Union t c =
+pub value_by-returns-in-Union : goal.value_by-returns-in-Union
+unfolding data_by
+value_by-returns-in-Union t c =
     let e : form c.args.shape.now ≡ union (all_variants c.in-Union.variants.items) = ap form c.in-Union.is ∙ form-Union c.in-Union.variants in
-    rw e (search rules)
+    rw (e, ← c.deref-in-Union.ensures.value) c.union.ensures
 
 pub chosen-returns : goal.chosen-returns
 unfolding chosen_at
@@ -81,3 +85,99 @@ pub variant-loop-variant-preserved : goal.variant-loop-variant-preserved
 variant-loop-variant-preserved t c =
     let other = λ (same : c.variant-item.result.0 ≡ c.args.kind). c.if-from-kind.false (c.from.ensures ∙ same) in
     variant_miss c.args.kind c.args.len c.args.place (seen c.args.start) (seen c.args.rest) c.args.variants.now c.loop-variant.variant-index c.variant-item.result _ c.loop-variant-test.true c.variant-item.is other c.loop-variant.invariant
+
+pub tagged_items-loop-window-init : goal.tagged_items-loop-window-init
+tagged_items-loop-window-init t c =
+    (length c.args.window.bytes.now, omega arith, rw (c.in_ok-slots.ensures, none_read c.args.members.now) refl, rw c.in_ok-slots.ensures (length-map c.args.members.now (λ _. None)))
+
+pub tagged_items-loop-window-smaller : goal.tagged_items-loop-window-smaller
+tagged_items-loop-window-smaller t c =
+    let one = rw c.deref_mut.ensures.value at c.in_ok-window.ensures.exact in
+    item_shorter (all_members c.args.members.now) (slots_of c.loop-window.slots.items) (slots_of c.tagged_item.new.slots) (seen c.loop-window.window) (seen c.in_ok-window.window) one
+
+pub tagged_items-returns-in_err-window-clause-exact : goal.tagged_items-returns-in_err-window-clause-exact
+tagged_items-returns-in_err-window-clause-exact t c =
+    let some : 0 < length c.loop-window.window.bytes.now = search rules in
+    let p = err_from_is_err_and c.from_residual-in_err-window.result c.from_residual-in_err-window.ensures.1 in
+    let one = rw c.deref_mut.ensures.value at c.in_err-window.ensures.exact in
+    let (left, le, so_far, lens) = c.loop-window.invariant in
+    rw (p.1, p.2) (tagged_fail c.in_err-window.field-0.0 (item_at (all_members c.args.members.now)) left (slots_of c.loop-window.slots.items) (seen c.loop-window.window) _ some le one so_far)
+
+pub tagged_items-loop-window-preserved : goal.tagged_items-loop-window-preserved
+tagged_items-loop-window-preserved t c =
+    let some : 0 < length c.loop-window.window.bytes.now = search rules in
+    let one = rw c.deref_mut.ensures.value at c.in_ok-window.ensures.exact in
+    let (left, le, so_far, lens) = c.loop-window.invariant in
+    let shorter = item_shorter (all_members c.args.members.now) (slots_of c.loop-window.slots.items) (slots_of c.tagged_item.new.slots) (seen c.loop-window.window) (seen c.in_ok-window.window) one in
+    let (fewer, enough, next) = tagged_go_on (item_at (all_members c.args.members.now)) left (slots_of c.loop-window.slots.items) (slots_of c.tagged_item.new.slots) (seen c.loop-window.window) (seen c.in_ok-window.window) _ some le one shorter so_far in
+    let same = with_items_is c.loop-window.slots c.tagged_item.new.slots (c.in_ok-window.ensures.len ∙ c.deref_mut.ensures.len) in
+    (fewer, enough, rw same next, rw same (c.in_ok-window.ensures.len ∙ ap length c.deref_mut.ensures.value ∙ lens))
+
+pub tagged_items-returns-clause-exact : goal.tagged_items-returns-clause-exact
+tagged_items-returns-clause-exact t c =
+    let none : length c.loop-window.window.bytes.now ≡ 0 = search rules in
+    let (left, le, so_far, lens) = c.loop-window.invariant in
+    tagged_done (item_at (all_members c.args.members.now)) left (slots_of c.loop-window.slots.items) (seen c.loop-window.window) _ none so_far
+
+pub tagged_item-returns-in_default-clause-exact : goal.tagged_item-returns-in_default-clause-exact
+unfolding item_by
+tagged_item-returns-in_default-clause-exact t c =
+    rw c.in_ok-tag.ensures
+    (skip_fills (all_members c.args.members.now) c.args.indexes.now c.args.slots.now c.in_ok-tag.tag c.args.window.place (seen c.in_ok-tag.rest) c.skipped.result c.requires.indexes c.in_default.ensures.value c.skipped.ensures)
+
+pub tagged_item-offset_bounds-members-index : goal.tagged_item-offset_bounds-members-index
+tagged_item-offset_bounds-members-index t c =
+    let lt : c.in-Some.field-0.now < length c.args.members.now = found_in c.args.members.now c.args.indexes.now c.in_ok-tag.tag.id c.in-Some.field-0.now c.requires.indexes c.in-Some.ensures.value in
+    search rules
+
+pub tagged_item-bounds-members-index : goal.tagged_item-bounds-members-index
+tagged_item-bounds-members-index t c = omega (arith, c.requires.lens, found_in c.args.members.now c.args.indexes.now c.in_ok-tag.tag.id c.in-Some.field-0.now c.requires.indexes c.in-Some.ensures.value)
+
+pub tagged_item-offset_bounds-slots-index : goal.tagged_item-offset_bounds-slots-index
+tagged_item-offset_bounds-slots-index t c =
+    let lt : c.in-Some.field-0.now < length c.args.members.now = found_in c.args.members.now c.args.indexes.now c.in_ok-tag.tag.id c.in-Some.field-0.now c.requires.indexes c.in-Some.ensures.value in
+    search rules
+
+pub tagged_item-bounds-slots-index : goal.tagged_item-bounds-slots-index
+tagged_item-bounds-slots-index t c = omega (arith, c.requires.lens, found_in c.args.members.now c.args.indexes.now c.in_ok-tag.tag.id c.in-Some.field-0.now c.requires.indexes c.in-Some.ensures.value)
+
+pub tagged_item-offset_bounds-slots-index-2 : goal.tagged_item-offset_bounds-slots-index-2
+tagged_item-offset_bounds-slots-index-2 t c =
+    let lt : c.in-Some.field-0.now < length c.args.members.now = found_in c.args.members.now c.args.indexes.now c.in_ok-tag.tag.id c.in-Some.field-0.now c.requires.indexes c.in-Some.ensures.value in
+    search rules
+
+pub tagged_item-bounds-slots-index-2 : goal.tagged_item-bounds-slots-index-2
+tagged_item-bounds-slots-index-2 t c = omega (arith, c.requires.lens, found_in c.args.members.now c.args.indexes.now c.in_ok-tag.tag.id c.in-Some.field-0.now c.requires.indexes c.in-Some.ensures.value)
+
+pub tagged_item-tagged_member-requires : goal.tagged_item-tagged_member-requires
+tagged_item-tagged_member-requires t c =
+    let lt : c.in-Some.field-0.now < length c.args.members.now = found_in c.args.members.now c.args.indexes.now c.in_ok-tag.tag.id c.in-Some.field-0.now c.requires.indexes c.in-Some.ensures.value in
+    search (arith, the_lemmas, lt, c.decreases, c.index-members-index.is)
+
+pub tagged_item-returns-then-is_some-clause-exact : goal.tagged_item-returns-then-is_some-clause-exact
+unfolding item_by
+tagged_item-returns-then-is_some-clause-exact t c =
+    let some : is_some c.index-slots-index.result ≡ true = ap is_some c.index-slots-index.is ∙ sym c.if-is_some.ensures in
+    rw c.in_ok-tag.ensures
+    (slots_duplicate c.in_ok-tag.tag c.args.window.place (seen c.in_ok-tag.rest) c.args.members.now c.args.indexes.now c.args.slots.now c.in-Some.field-0.now c.index-members-index.result c.index-slots-index.result
+    c.requires.indexes c.in-Some.ensures.value c.requires.lens c.index-members-index.is c.index-slots-index.is
+    some)
+
+pub tagged_item-returns-in_err-value-clause-exact : goal.tagged_item-returns-in_err-value-clause-exact
+unfolding item_by
+tagged_item-returns-in_err-value-clause-exact t c =
+    let p = err_from_is_err_and c.from_residual-in_err-value.result c.from_residual-in_err-value.ensures.1 in
+    let none : is_some c.index-slots-index.result ≡ false = ap is_some c.index-slots-index.is ∙ sym c.if-is_some.ensures in
+    rw (p.1, p.2, c.in_ok-tag.ensures)
+    (slots_fault c.in_ok-tag.tag c.args.window.place (seen c.in_ok-tag.rest) c.args.members.now c.args.indexes.now c.args.slots.now c.in-Some.field-0.now c.index-members-index.result c.index-slots-index.result
+    c.requires.indexes c.in-Some.ensures.value c.requires.lens c.index-members-index.is c.index-slots-index.is
+    c.in_err-value.field-0.0 none c.in_err-value.ensures)
+
+pub tagged_item-returns-clause-exact : goal.tagged_item-returns-clause-exact
+unfolding item_by
+tagged_item-returns-clause-exact t c =
+    let none : is_some c.index-slots-index.result ≡ false = ap is_some c.index-slots-index.is ∙ sym c.if-is_some.ensures in
+    rw c.in_ok-tag.ensures
+    (slots_value c.in_ok-tag.tag c.args.window.place (seen c.in_ok-tag.rest) c.args.members.now c.args.indexes.now c.args.slots.now c.in-Some.field-0.now c.index-members-index.result c.index-slots-index.result
+    c.requires.indexes c.in-Some.ensures.value c.requires.lens c.index-members-index.is c.index-slots-index.is
+    c.in_ok-value.value (seen c.in_ok-value.rest) none c.in_ok-value.ensures)

@@ -1,6 +1,6 @@
-use Rattle.std.proofs.Common.{◌≡◌, ◌-◌, map, drop}
-use Rattle.someip_payload_codec.specs.View.{form, forms, all_variants, data_of, seen}
-use Rattle.someip_payload_codec.specs.Reading.{data_at, items_at, fixed_at, members_at, variant_at}
+use Rattle.std.proofs.Common.{◌≡◌, ℕ, ◌-◌, ◌≤◌, length, map, drop}
+use Rattle.someip_payload_codec.specs.View.{form, forms, all_variants, all_members, data_of, slots_of, seen}
+use Rattle.someip_payload_codec.specs.Reading.{data_at, items_at, fixed_at, members_at, variant_at, tagged_at, item_at, all_absent}
 use Rattle.someip_payload_codec.proofs.Loops.{items_after, members_after}
 use Rattle.someip_payload_codec.proofs.reading.+read.Given as goal
 
@@ -22,3 +22,13 @@ invariant-fixed-loop l =
 abbrev pub invariant-variant-loop-variant : goal.invariant-variant-loop-variant
 invariant-variant-loop-variant l =
     variant_at (all_variants (drop l.variant-index l.variants)) l.kind l.len l.place (seen l.start) (seen l.rest) ≡ variant_at (all_variants l.variants) l.kind l.len l.place (seen l.start) (seen l.rest)
+
+abbrev pub invariant-tagged_items-loop-window : goal.invariant-tagged_items-loop-window
+invariant-tagged_items-loop-window l =
+    (left : ℕ) × (length l.window.bytes.now ≤ left)
+    × (tagged_at (item_at (all_members l.members)) left (slots_of l.slots.items) (seen l.window)
+    ≡ tagged_at (item_at (all_members l.members)) (length l.fn.window.bytes.now) (all_absent (all_members l.members)) (seen l.fn.window))
+    × (length l.slots.items ≡ length l.members)
+
+abbrev pub decreases-tagged_items-loop-window : goal.decreases-tagged_items-loop-window
+decreases-tagged_items-loop-window l = length l.window.bytes.now

@@ -1,12 +1,14 @@
-use Rattle.std.proofs.Common.{rules, ◌≡◌, true, string_bytes, ap, ◌++◌, ◌∙◌, append_assoc, arith}
+use Rattle.std.proofs.Common.{rules, ◌≡◌, true, string_bytes, refl, ap, ◌++◌, ◌∙◌, append_assoc, arith}
 use Rattle.std.proofs.lemmas.Result.{err_from_is_err_and}
 use Rattle.std.specs.Str.{is_utf8}
 use Rattle.std.proofs.lemmas.Str.{IsUtf8-string_bytes, is_utf8-from_IsUtf8}
-use Rattle.someip_payload_codec.specs.Data.{union, string, phrase}
-use Rattle.someip_payload_codec.specs.View.{form, all_variants, data_of, data_of_choice}
-use Rattle.someip_payload_codec.proofs.Shapes.{form-Text, form-Union, data_of-Text, data_of-Union}
-use Rattle.someip_payload_codec.specs.Writing.{text_of}
-use Rattle.someip_payload_codec.proofs.Writes.{each_go_on, each_fail, each_done, members_go_on, members_fail, members_done, variant_hit, variant_miss, variant_none}
+use Rattle.someip_payload_codec.specs.Data.{union, tagged, string, phrase, slotted}
+use Rattle.someip_payload_codec.specs.View.{form, all_variants, all_members, data_of, data_of_choice, slots_of}
+use Rattle.someip_payload_codec.proofs.Shapes.{form-Text, form-Union, form-Tagged, data_of-Text, data_of-Union, data_of-Tagged}
+use Rattle.someip_payload_codec.specs.Writing.{text_of, body_text, slots_text}
+use Rattle.someip_payload_codec.specs.Steps.{◌>>=◌}
+use Rattle.someip_payload_codec.proofs.Loops.{fails_too}
+use Rattle.someip_payload_codec.proofs.Writes.{each_go_on, each_fail, each_done, members_go_on, members_fail, members_done, variant_hit, variant_miss, variant_none, slots_go_on, slots_fail, slots_done, tagged_is}
 use Rattle.someip_payload_codec.proofs.writing.+put.Goals as goal
 
 pub put_each-returns-in_err-put : goal.put_each-returns-in_err-put
@@ -74,3 +76,34 @@ put-returns-in-Union-Union t c =
     let f : form c.args.shape.now ≡ union (all_variants x.variants.items) = ap form x.is-0 ∙ form-Union x.variants in
     let d : data_of c.args.value.now ≡ data_of_choice x.choice = ap data_of x.is-1 ∙ data_of-Union x.choice in
     rw (f, d) (search rules)
+
+pub put-returns-in-Tagged-Tagged : goal.put-returns-in-Tagged-Tagged
+put-returns-in-Tagged-Tagged t c =
+    let x = c.in-Tagged-Tagged in
+    let f : form c.args.shape.now ≡ tagged x.width (all_members x.members.items) = ap form x.is-0 ∙ form-Tagged x.width x.members in
+    let d : data_of c.args.value.now ≡ slotted (slots_of x.slots.items) = ap data_of x.is-1 ∙ data_of-Tagged x.slots in
+    rw (f, d) (search rules)
+
+pub put_slots-returns-in_err-put_slot : goal.put_slots-returns-in_err-put_slot
+put_slots-returns-in_err-put_slot t c =
+    let p = err_from_is_err_and c.from_residual.result c.from_residual.ensures.1 in
+    let (added, is, so_far) = c.loop-i.invariant in
+    rw (p.1, p.2) (slots_fail added c.args.members.now c.args.slots.now c.loop-i.i _ c.in_err-put_slot.field-0.0 c.index-members-i.result c.index-slots-i.result c.loop-i-test.true (omega arith) c.index-members-i.is c.index-slots-i.is c.in_err-put_slot.ensures so_far)
+
+pub put_slots-loop-i-preserved : goal.put_slots-loop-i-preserved
+put_slots-loop-i-preserved t c =
+    let (added, is, so_far) = c.loop-i.invariant in
+    let (first, text, new) = c.in_ok-put_slot.ensures in
+    (added ++ first, new ∙ rw is (append_assoc c.args.out.now.items added first), slots_go_on added c.args.members.now c.args.slots.now c.loop-i.i _ c.index-members-i.result c.index-slots-i.result first c.loop-i-test.true (omega arith) c.index-members-i.is c.index-slots-i.is text so_far)
+
+pub put_slots-returns : goal.put_slots-returns
+put_slots-returns t c =
+    let (added, is, so_far) = c.loop-i.invariant in
+    (added, slots_done added c.args.members.now c.args.slots.now c.loop-i.i _ c.loop-i-test.false so_far, is)
+
+pub put_tagged-returns-in_err-put_slots : goal.put_tagged-returns-in_err-put_slots
+put_tagged-returns-in_err-put_slots t c =
+    let p = err_from_is_err_and c.from_residual.result c.from_residual.ensures.1 in
+    let text = slots_text (all_members c.args.members.now) (slots_of c.args.slots.now) in
+    rw (p.1, p.2, tagged_is c.args.width c.args.members.now c.args.slots.now (omega arith))
+    (fails_too c.in_err-put_slots.field-0.0 text (text >>= body_text c.args.width) (λ bad. rw bad refl) c.in_err-put_slots.ensures)

@@ -1,6 +1,6 @@
 use Rattle.std.proofs.Common.{◌≡◌, ◌++◌, ℕ, List, drop}
-use Rattle.someip_payload_codec.specs.View.{form, forms, all_variants, data_of, data_of_all}
-use Rattle.someip_payload_codec.specs.Writing.{text_of, each_text, members_text, variant_text}
+use Rattle.someip_payload_codec.specs.View.{form, forms, all_variants, all_members, data_of, data_of_all, slots_of}
+use Rattle.someip_payload_codec.specs.Writing.{text_of, each_text, members_text, variant_text, slots_text}
 use Rattle.someip_payload_codec.proofs.Writes.{text_after}
 use Rattle.someip_payload_codec.proofs.writing.+put.Given as goal
 
@@ -18,3 +18,8 @@ abbrev pub invariant-put_variant-loop-variant : goal.invariant-put_variant-loop-
 invariant-put_variant-loop-variant l =
     (l.out.items ≡ l.fn.out.items)
     × (variant_text (all_variants (drop l.variant-index l.variants)) l.kind (data_of l.value) ≡ variant_text (all_variants l.variants) l.kind (data_of l.value))
+
+abbrev pub invariant-put_slots-loop-i : goal.invariant-put_slots-loop-i
+invariant-put_slots-loop-i l =
+    (added : List ℕ) × (l.out.items ≡ l.fn.out.items ++ added)
+    × (text_after added (slots_text (all_members (drop l.i l.members)) (slots_of (drop l.i l.slots))) ≡ slots_text (all_members l.members) (slots_of l.slots))

@@ -1,6 +1,6 @@
 use Rattle.std.proofs.Common.{◌≡◌, ℕ, List, Bor, take, drop}
 use Rattle.someip_payload.proofs.Beginnings.{AllByRecursion-at, take-rest, whole_word}
-use Rattle.someip_payload.proofs.shape_text.word_at.Goals as goal
+use Rattle.someip_payload.proofs.text_parts.word_at.Goals as goal
 
 pub returns-then-count-word-clause-found : goal.returns-then-count-word-clause-found
 returns-then-count-word-clause-found g c name each =

@@ -1,5 +1,5 @@
 use Rattle.std.proofs.Common.{◌≡◌, ◌≤◌, ◌-◌, take, length}
-use Rattle.someip_payload.proofs.shape_text.common_len.Given as goal
+use Rattle.someip_payload.proofs.text_parts.common_len.Given as goal
 
 abbrev pub invariant-loop-count : goal.invariant-loop-count
 invariant-loop-count l = (l.count ≤ length l.a) × (l.count ≤ length l.b) × (take l.count l.a ≡ take l.count l.b)

@@ -1,0 +1,131 @@
+//! Parts of the text of a shape: words, numbers and single bytes.
+
+ghost use Rattle.std.specs.Prelude.{◌≡◌, ◌+◌, ◌*◌, ◌<◌, ◌≤◌, ◌^◌, ◌++◌, ◌∷◌, [], ℕ, List, Ok, length, take, drop, slice_range, slice_index, IsTrue, IfOk, IfErr, IfSome, IfNone};
+ghost use Rattle.std.specs.List.{AllByRecursion};
+ghost use Rattle.std.specs.Fmt.{decimal};
+ghost use Rattle.someip_payload.specs.ShapeText.{IsFaultWithin, IsDigit, IsNoFront};
+
+use crate::shape_text_error::ShapeTextError;
+
+/// The word at a place, and the place after it. The fault is at the first byte at which none of
+/// the words goes on.
+pub(crate) fn word_at<T: Copy>(
+    words: &[(&str, T)],
+    text: &[u8],
+    at: usize,
+) -> Result<(T, usize), ShapeTextError>
+    requires { at ≤ length text.now }
+    ensures found { (name : T → List ℕ) → AllByRecursion (λ word. word.0.now ≡ name word.1) words.now
+        → IfOk result (λ x. slice_range text.now at x.1 ≡ name x.0) }
+    ensures end { IfOk result (λ x. (at ≤ x.1) × (x.1 ≤ length text.now)) }
+    ensures fault { IfErr result (IsFaultWithin at (length text.now)) }
+    ensures none { IfErr result (λ e.
+        AllByRecursion (λ word. IsNoFront word.0.now (drop at text.now)) words.now) }
+{
+    let rest = &text[at..];
+    for (word, item) in words {
+        let count = common_len(word.as_bytes(), rest);
+        if count == word.len() {
+            return Ok((*item, at + count));
+        }
+    }
+    Err(ShapeTextError::BadShape(at + longest_front(words, rest)))
+}
+
+/// How many bytes a text has in common with the word that goes on longest with it.
+fn longest_front<T: Copy>(words: &[(&str, T)], text: &[u8]) -> usize
+    ensures { result ≤ length text.now }
+{
+    let mut most = 0;
+    for (word, _) in words {
+        most = most.max(common_len(word.as_bytes(), text));
+    }
+    most
+}
+
+/// How many bytes two texts have in common at their front.
+fn common_len(a: &[u8], b: &[u8]) -> usize
+    ensures bound_a { result ≤ length a.now }
+    ensures bound_b { result ≤ length b.now }
+    ensures same { take result a.now ≡ take result b.now }
+    ensures most { (rest : List ℕ) → b.now ≡ a.now ++ rest → result ≡ length a.now }
+{
+    let mut count = 0;
+    while count < a.len() && count < b.len() && a[count] == b[count] {
+        count += 1;
+    }
+    count
+}
+
+pub(crate) fn has_comma(text: &[u8], at: usize) -> bool
+    ensures comma { IsTrue result → (at < length text.now) × (slice_index text.now at ≡ 44) }
+    ensures only { (rest : List ℕ) → drop at text.now ≡ 44 ∷ rest → IsTrue result }
+{
+    text.get(at) == Some(&b',')
+}
+
+pub(crate) fn byte_at(byte: u8, text: &[u8], at: usize) -> Result<usize, ShapeTextError>
+    requires { at ≤ length text.now }
+    ensures found { IfOk result (λ end. slice_range text.now at end ≡ byte ∷ []) }
+    ensures only { (rest : List ℕ) → drop at text.now ≡ byte ∷ rest → result ≡ Ok (at + 1) }
+    ensures end { IfOk result (λ end. (end ≡ at + 1) × (end ≤ length text.now)) }
+    ensures fault { IfErr result (IsFaultWithin at (length text.now)) }
+{
+    if text.get(at) != Some(&byte) {
+        return Err(ShapeTextError::BadShape(at));
+    }
+    Ok(at + 1)
+}
+
+/// A decimal number below the limit, without leading zeros. The fault is at the first digit that is
+/// one too many.
+pub(crate) fn decimal_at(text: &[u8], at: usize, limit: u64) -> Result<(u32, usize), ShapeTextError>
+    requires place { at ≤ length text.now }
+    requires limit { (10 ≤ limit) × (limit ≤ 2 ^ 32) }
+    ensures found { IfOk result (λ x. slice_range text.now at x.1 ≡ decimal x.0) }
+    ensures fits { IfOk result (λ x. x.0 < limit) }
+    ensures only { (n b : ℕ) (rest : List ℕ) → drop at text.now ≡ decimal n ++ b ∷ rest → n < limit
+        → (IsDigit b → ⊥) → result ≡ Ok (n, at + length (decimal n)) }
+    ensures end { IfOk result (λ x. (at < x.1) × (x.1 ≤ length text.now)) }
+    ensures fault { IfErr result (IsFaultWithin at (length text.now)) }
+{
+    let mut number = 0;
+    let mut end = at;
+    while let Some(digit) = digit_at(text, end) {
+        if number == 0 && at < end {
+            return Err(ShapeTextError::BadShape(end));
+        }
+        number = with_digit(number, digit, limit).ok_or(ShapeTextError::BadShape(end))?;
+        end += 1;
+    }
+    if end == at {
+        return Err(ShapeTextError::BadShape(at));
+    }
+    Ok((number, end))
+}
+
+fn digit_at(text: &[u8], at: usize) -> Option<u32>
+    ensures bound { IfSome result (λ digit. (digit < 10) × (at < length text.now)) }
+    ensures value { IfSome result (λ digit. slice_index text.now at ≡ 48 + digit) }
+    ensures none { IfNone result (at < length text.now → IsDigit (slice_index text.now at) → ⊥) }
+{
+    let byte = *text.get(at)?;
+    if byte.is_ascii_digit() {
+        Some(u32::from(byte - b'0'))
+    } else {
+        None
+    }
+}
+
+fn with_digit(number: u32, digit: u32, limit: u64) -> Option<u32>
+    requires { limit ≤ 2 ^ 32 }
+    ensures value { IfSome result (λ n. (n ≡ number * 10 + digit) × (n < limit)) }
+    ensures none { IfNone result (limit ≤ number * 10 + digit) }
+{
+    let next = u64::from(number) * 10 + u64::from(digit);
+    if next < limit {
+        Some(next as u32)
+    } else {
+        None
+    }
+}

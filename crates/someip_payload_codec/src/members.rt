@@ -1,0 +1,48 @@
+//! The members of a tagged structure: where each stands, and whether it was read.
+
+ghost use Rattle.std.specs.Prelude.{◌≡◌, map, length, None, IfOk};
+ghost use Rattle.someip_payload_codec.specs.View.{all_members, slots_of};
+ghost use Rattle.someip_payload_codec.specs.Grammar.{has_required};
+ghost use Rattle.someip_payload_codec.specs.Indexes.{HasIndexes};
+
+use crate::shape::Member;
+use crate::value::Value;
+use std::alloc::{AllocError, Global};
+use std::collections::BTreeMap;
+
+/// At which index the member with each Data ID stands.
+pub(crate) fn indexes_of(
+    alloc: Global,
+    members: &[Member],
+) -> Result<BTreeMap<u16, usize>, AllocError>
+    ensures { IfOk result (λ indexes. HasIndexes (all_members members.now) indexes) }
+{
+    let mut indexes = BTreeMap::new(alloc);
+    for i in (0..members.len()).rev() {
+        indexes.insert(members[i].id, i)?;
+    }
+    Ok(indexes)
+}
+
+/// As many members, of which none was read.
+pub(crate) fn empty_slots(
+    alloc: Global,
+    members: &[Member],
+) -> Result<Vec<Option<Value>>, AllocError>
+    ensures { IfOk result (λ slots. slots.items ≡ map (λ _. None) members.now) }
+{
+    members.iter().map(|_| None).collect(alloc)
+}
+
+/// Whether each member that is absent is optional.
+pub(crate) fn have_required(members: &[Member], slots: &[Option<Value>]) -> bool
+    requires { length slots.now ≡ length members.now }
+    ensures { result ≡ has_required (all_members members.now) (slots_of slots.now) }
+{
+    for i in 0..members.len() {
+        if !members[i].is_optional && slots[i].is_none() {
+            return false;
+        }
+    }
+    true
+}
