@@ -1,0 +1,13 @@
+pub mod TimeLemmas
+pub mod PacketLemmas
+pub mod OptionLemmas
+pub mod ItemLemmas
+pub mod SectionLemmas
+pub mod FieldSpelling
+pub mod ClassicSpelling
+pub mod ClassicSplit
+pub mod BlockSpelling
+pub mod PacketReading
+pub mod BlockSplit
+pub mod RecordingLemmas
+pub mod PacketSplit

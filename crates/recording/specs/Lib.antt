@@ -1,0 +1,14 @@
+pub mod Numbers
+pub mod Times
+pub mod Packets
+pub mod Classic
+pub mod Blocks
+pub mod Interfaces
+pub mod Sections
+pub mod Records
+pub mod View
+pub mod Steps
+pub mod Parts
+pub mod Examples
+pub mod Spelling
+pub mod PacketSpelling

@@ -1,0 +1,44 @@
+//! Laws of the definitions behind the contracts. Each is the contract of a function that does nothing:
+//! it says what recordings are, whatever code reads them.
+ghost use Rattle.std.specs.Prelude.{◌≡◌, ℕ, List, [], ◌∷◌, Option, Ok, Err};
+ghost use Rattle.recording.specs.declared.error.RecordingError.TheVariants.{Truncated};
+ghost use Rattle.recording.specs.declared.error.RecordingError.TheVariants.{NotRecording};
+ghost use Rattle.recording.specs.declared.time.Time.{Time};
+ghost use Rattle.recording.specs.Packets.{DatagramValue, datagram_in};
+ghost use Rattle.recording.specs.PacketSpelling.{Carries};
+ghost use Rattle.recording.specs.Spelling.{IsBytes, IsRecording};
+ghost use Rattle.recording.specs.Records.{Item, items_of};
+ghost use Rattle.recording.specs.Examples.{sent_at, classic_head, classic_file, cut_file, blocks_file};
+ghost use Rattle.recording.specs.Examples.{little_packet};
+
+/// Examples: classic pcap with no packet, with one, and with a part of another; two sections of pcapng
+/// in the two orders of bytes; blocks without a section.
+pub fn worked_recordings()
+    ensures nothing { items_of classic_head ≡ Ok [] }
+    ensures packet { items_of classic_file ≡ Ok (sent_at 5 7000 ∷ []) }
+    ensures cut { items_of cut_file ≡ Ok (sent_at 5 7000 ∷ Err (Truncated 71) ∷ []) }
+    ensures blocks { items_of blocks_file ≡ Ok (sent_at 3 1000 ∷ sent_at 0 3000001 ∷ []) }
+    ensures none { items_of little_packet ≡ Err (NotRecording 0) }
+{}
+
+/// A file is a recording in one way at most, and what that holds is what the plain program reads. Each
+/// file that it reads is one.
+pub fn each_recording_is_read_in_one_way()
+    ensures some { (items : List Item) (file : List ℕ) → IsBytes file → items_of file ≡ Ok items
+        → IsRecording items file }
+    ensures one { (items others : List Item) (file : List ℕ) → IsRecording items file
+        → IsRecording others file → items ≡ others }
+    ensures read { (items : List Item) (file : List ℕ) → IsRecording items file
+        → items_of file ≡ Ok items }
+{}
+
+/// A packet that carries a datagram under one of the headers of the link layer that are read gives
+/// this datagram, whatever stands in the fields that are not looked at, and behind it. No other packet
+/// gives one.
+pub fn a_packet_gives_the_datagram_that_it_carries()
+    ensures gives { (link : ℕ) (packet : List ℕ) (d : DatagramValue) → Carries link packet d
+        → datagram_in d.time link packet ≡ Ok d }
+    ensures only { (time : Option Time) (link : ℕ) (packet : List ℕ) (d : DatagramValue)
+        → IsBytes packet → datagram_in time link packet ≡ Ok d
+        → Carries link packet d × (d.time ≡ time) }
+{}

@@ -1,0 +1,29 @@
+//! Recordings of network traffic, classic pcap and pcapng: the UDP datagrams over IPv4 in them, with
+//! their times and endpoints. A payload stays where the file's bytes lie, and the only memory that is
+//! taken is the list of the interfaces of a pcapng section.
+//!
+//! - [`Recording`]: what a recording holds, one after the other;
+//! - [`Record`]: a [`Datagram`], or why a packet gives none, [`Skipped`];
+//! - [`Time`], [`Endpoint`]: when a datagram was recorded, and where it came from and went to;
+//! - [`RecordingError`]: the fault that ends a recording;
+//! - [`laws`]: what the definitions behind the contracts say of examples.
+#![tactic(auto)]
+
+mod block;
+mod classic;
+mod error;
+mod format;
+mod interface;
+pub mod laws;
+mod number;
+mod packet;
+mod parts;
+mod record;
+mod recording;
+mod section;
+mod time;
+
+pub use error::RecordingError;
+pub use record::{Datagram, Endpoint, Record, Skipped};
+pub use recording::Recording;
+pub use time::Time;
