@@ -7,6 +7,7 @@ use Rattle.someip_tables.specs.Changed.{each_changed}
 use Rattle.someip_tables.specs.Retained.{retain}
 use Rattle.someip_tables.specs.Waits.{is_due_by, due_by}
 use Rattle.someip_tables.proofs.MapLaws.{remove_absent, insert_present}
+use Rattle.someip_tables.proofs.SortedEntries.{keys-empty, no_keys}
 use Rattle.sd_core.specs.declared.keys.InstanceId.{InstanceId}
 use Rattle.sd_core.specs.declared.version.Version.{Version}
 use Rattle.sd_core.specs.declared.version.Sought.{Sought}
@@ -60,6 +61,9 @@ due_keys now places = keys-shown instances_total exact_instances (λ (p : Place)
 
 pub none_due : (now : ℕ) (places : Places) → due_at now (offers_of places).up ≡ finite.empty → due_by place_moment now places ≡ finite.empty
 none_due now places = none-shown instances_total exact_instances (λ (p : Place). p.sending) places (place_is_due now) (λ _ s. goes_out now s) (λ q p is. is_due now p)
+
+pub due_of_none : (now : ℕ) (places : Places) → due_by place_moment now places ≡ finite.empty → due_at now (offers_of places).up ≡ finite.empty
+due_of_none now places none = no_keys _ (sym (due_keys now places) ∙ ap finite.keys none ∙ keys-empty Place instance_cmp)
 
 -- those that are due sent
 pub all_advanced : (phases : Phases) (now : ℕ) (places : Places)

@@ -16,8 +16,9 @@ use Rattle.someip_tables.specs.Retained.{kept_if, retain}
 use Rattle.someip_tables.specs.Waits.{is_due_by, due_by}
 use Rattle.someip_tables.proofs.ChangedLemmas.{changed_alike}
 use Rattle.someip_tables.proofs.Entries.{get-retain}
+use Rattle.someip_tables.proofs.Firsts.{earlier_due}
 use Rattle.someip_tables.proofs.MapLaws.{retain_none}
-use Rattle.someip_tables.proofs.SortedEntries.{keys-empty}
+use Rattle.someip_tables.proofs.SortedEntries.{keys-empty, no_keys}
 use Rattle.sd_core.specs.declared.keys.InstanceId.{InstanceId}
 use Rattle.sd_core.specs.declared.phases.Phases.{Phases}
 use Rattle.sd_core.specs.declared.received.ReceivedOffer.{ReceivedOffer}
@@ -30,7 +31,7 @@ use Rattle.sd_core.specs.KeyOrder.{instances_total, exact_instances}
 use Rattle.sd_core.specs.Shown.{shown}
 use Rattle.sd_core.specs.Sendings.{goes_out, after_sending, after_find, due_at}
 use Rattle.sd_core.specs.SeekTables.{IsQuiet, KnowsWanted, seek_of, searching_from, seek_after_tick, known_at, offer_refusal, uncounted, stands_by, known_of, forgetting, is_wanted, is_stopped}
-use Rattle.sd_core.specs.Waiting.{earlier, want_moment}
+use Rattle.sd_core.specs.Waiting.{want_moment}
 use Rattle.sd_core.proofs.AmongLemmas.{keys-among}
 use Rattle.sd_core.proofs.ShownChanges.{shown-changed, shown-changed_same, shown-changed_none}
 use Rattle.sd_core.proofs.ShownLemmas.{get-shown, shown-kept, shown-insert, shown-insert_none, shown-insert_same, shown-empty, keys-shown, none-shown}
@@ -99,20 +100,6 @@ all_ticked phases now wants =
 abbrev pub want_is_due : ℕ → InstanceId → Want → Bool
 want_is_due now _ w = is_due_by now (want_moment w)
 
--- a want is due where its offer has passed, or its Find goes out
-earlier_due : (now : ℕ) (a b : Option ℕ) → is_due_by now (earlier a b) ≡ (is_due_by now a || is_due_by now b)
-earlier_due now None b = refl
-earlier_due now (Some a) None = sym (or-false (nat_le a now))
-earlier_due now (Some a) (Some b) = cases (nat_le a b) (nat_le a now) (nat_le b now) refl refl refl
-  where
-    cases : (c d e : Bool) → nat_le a b ≡ c → nat_le a now ≡ d → nat_le b now ≡ e → is_due_by now (if c then Some a else Some b) ≡ (d || e)
-    cases true true e c d is = d
-    cases true false true c d is = absurd (omega (arith, leb-true a b c, leb-false a now d, leb-true b now is))
-    cases true false false c d is = d
-    cases false true true c d is = is
-    cases false true false c d is = absurd (omega (arith, leb-false a b c, leb-true a now d, leb-false b now is))
-    cases false false e c d is = is
-
 passes : (now : ℕ) (v : Option (Lasting KnownOffer)) → is_due_by now (option_and_then (λ l. millis_of l.until) v) ≡ option_map_or (λ l. has_passed now l.until) v false
 passes now None = refl
 passes now (Some l) = cases l.until
@@ -125,6 +112,7 @@ finds : (now : ℕ) (v : Option Sending) → is_due_by now (option_map (λ s. s.
 finds now None = refl
 finds now (Some s) = refl
 
+-- a want is due where its offer has passed, or its Find goes out
 due_is : (now : ℕ) (w : Want) → is_due_by now (want_moment w) ≡ (option_map_or (λ l. has_passed now l.until) w.known false || option_map_or (goes_out now) w.finding false)
 due_is now w =
     earlier_due now (option_and_then (λ l. millis_of l.until) w.known) (option_map (λ s. s.due) w.finding)
@@ -227,6 +215,12 @@ quiet now wants is = retain_none instances_total exact_instances wants (want_is_
 
     none : (q : InstanceId) (w : Want) → finite.get wants q ≡ Some w → (has_ended now q w || find_is_due now q w) ≡ false
     none q w some = or_from _ _ (fails (has_ended now) (none_ended now wants is.0) q w some) (fails (find_is_due now) (no_find now wants is.1) q w some)
+
+-- and where none is due, the moment is quiet
+pub none_is_quiet : (now : ℕ) (wants : WantMap) → due_by want_moment now wants ≡ finite.empty → IsQuiet now (seek_of wants)
+none_is_quiet now wants none =
+    let no_one : finite.keys (due_by want_moment now wants) ≡ [] = ap finite.keys none ∙ keys-empty Want instance_cmp in
+    (no_keys _ (none_ends now wants no_one), no_keys _ (none_finds now wants no_one))
 
 -- where some are due, it is not quiet
 pub not_quiet : (now : ℕ) (wants : WantMap) (due : List InstanceId) → due ≡ finite.keys (due_by want_moment now wants) → (length due == 0) ≡ false → IsQuiet now (seek_of wants) → ⊥

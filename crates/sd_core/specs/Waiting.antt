@@ -1,15 +1,10 @@
 -- What the places of instances wait for.
-use Rattle.std.specs.Prelude.{ℕ, nat_le, if◌then◌else◌, Option, None, Some}
+use Rattle.std.specs.Prelude.{ℕ, Option}
 use Rattle.std.specs.Option.{option_and_then, option_map}
 use Rattle.someip_tables.specs.Deadlines.{millis_of}
+use Rattle.someip_tables.specs.Waits.{earlier}
 use Rattle.sd_core.specs.declared.offers.Place.{Place}
 use Rattle.sd_core.specs.declared.want.Want.{Want}
-
--- the earlier of two moments, or the one that there is
-abbrev pub earlier : Option ℕ → Option ℕ → Option ℕ
-earlier None b = b
-earlier (Some a) None = Some a
-earlier (Some a) (Some b) = if nat_le a b then Some a else Some b
 
 -- an instance that is offered waits for its next Offer, while it is up
 abbrev pub place_moment : Place → Option ℕ

@@ -2,6 +2,7 @@
 ghost use Rattle.std.specs.Prelude.{◌≡◌, ◌≢◌, OnOk, OnErr, IfOk, None, false, is_some};
 ghost use Rattle.std.specs.FinMap as finite;
 ghost use Rattle.someip_tables.specs.Tables.{map_of};
+ghost use Rattle.someip_tables.specs.Waits.{HoldsFrom};
 ghost use Rattle.sd_core.specs.Keys.{instance_cmp};
 ghost use Rattle.std.specs.Option.{option_map, option_map_or};
 ghost use Rattle.sd_core.specs.Sendings.{has_sent, after_sending, due_at};
@@ -131,6 +132,14 @@ impl Offers {
         self.places
             .change_those(&due, |_, place| place.after_sending(phases, now));
         Ok(due)
+    }
+
+    /// When the next Offer is due, in milliseconds since the node's start: at the first moment at which
+    /// [`Offers::tick`] answers an instance, if there is one.
+    pub fn next_due(&self) -> Option<u64>
+        ensures { HoldsFrom result (λ now. due_at now self.now.up ≢ finite.empty) }
+    {
+        self.places.first_due()
     }
 
     /// The instances that answer a Find, by rising instance: those that it asks for, that are up and

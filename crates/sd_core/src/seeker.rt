@@ -6,7 +6,7 @@ ghost use Rattle.std.specs.declared.net.socket_addr.SocketAddrV4.{SocketAddrV4};
 ghost use Rattle.someip_tables.specs.Lastings.{expired};
 ghost use Rattle.someip_tables.specs.Tables.{map_of};
 ghost use Rattle.sd_core.specs.Keys.{instance_cmp};
-ghost use Rattle.someip_tables.specs.Waits.{due_by};
+ghost use Rattle.someip_tables.specs.Waits.{HoldsFrom, due_by};
 ghost use Rattle.sd_core.specs.Sendings.{due_at};
 ghost use Rattle.sd_core.specs.SeekTables.{seek_of, searching, searching_from, seek_after_tick};
 ghost use Rattle.sd_core.specs.SeekTables.{IsQuiet, KnowsWanted, uncounted, counted_as, known_at, learned};
@@ -123,6 +123,16 @@ impl Seeker {
         let ticked = brought(&self.wants, self.alloc, &due, now)?;
         advance(&mut self.wants, &due, now, phases);
         Ok(ticked)
+    }
+
+    /// When a known offer next passes or a Find is due, in milliseconds since the node's start: the first
+    /// moment at which [`Seeker::tick`] answers an instance, if there is one. An offer is known only of an
+    /// instance that is wanted.
+    pub fn next_due(&self) -> Option<u64>
+        ensures due { HoldsFrom result (λ now. ¬ (IsQuiet now self.now)) }
+        ensures wanted { KnowsWanted self.now }
+    {
+        self.wants.first_due()
     }
 
     /// Learns from an Offer, if it counts: its instance is wanted in its major version, it has an

@@ -4,12 +4,13 @@ ghost use Rattle.std.specs.FinMap as finite;
 ghost use Rattle.std.specs.Option.{option_and_then, option_map_or};
 ghost use Rattle.std.specs.Ordering.{eq_by_cmp};
 ghost use Rattle.someip_tables.specs.Tables.{map_of};
+ghost use Rattle.someip_tables.specs.Waits.{HoldsFrom};
 ghost use Rattle.sd_core.specs.Keys.{instance_cmp};
 ghost use Rattle.sd_core.specs.Eventgroups.{eventgroup_cmp};
 ghost use Rattle.someip_tables.specs.Changed.{changed_at};
 ghost use Rattle.sd_core.specs.Wishes.{wish_of, wished_with, sent_at_once, standing, unwished};
 ghost use Rattle.sd_core.specs.Wishes.{offered, subscribes, acked_wish, nacked_wish, told_by_ack};
-ghost use Rattle.sd_core.specs.Wishes.{is_answered, is_subscribed, begun_where, ended_where};
+ghost use Rattle.sd_core.specs.Wishes.{is_answered, is_over, is_subscribed, begun_where, ended_where};
 ghost use Rattle.sd_core.specs.Endings.{ends_at};
 ghost use Rattle.sd_core.specs.Wishes.{is_with};
 
@@ -209,6 +210,15 @@ impl Subscriptions {
             (begun_where (ends_at now instances.now) self.old ≢ finite.empty) }
     {
         end(&mut self.places, self.alloc, Ending::Time(now), instances)
+    }
+
+    /// When the time of an Ack next passes, in milliseconds since the node's start: at the first moment at
+    /// which a subscription ends of itself, if there is one.
+    pub fn next_due(&self) -> Option<u64>
+        ensures { HoldsFrom result (λ now.
+            begun_where (λ eventgroup beginning. is_over now beginning) self.now ≢ finite.empty) }
+    {
+        self.places.first_due()
     }
 
     /// Whether the client is subscribed: the server acknowledged the subscription that stands, and the

@@ -7,12 +7,12 @@ ghost use Rattle.someip_tables.specs.Retained.{kept_if};
 ghost use Rattle.sd_core.specs.Sendings.{goes_out, after_find};
 ghost use Rattle.sd_core.specs.SeekTables.{known_at, is_wanted, stands_by};
 ghost use Rattle.sd_core.specs.SeekTables.{offer_refusal, counted_as};
-ghost use Rattle.sd_core.specs.Waiting.{earlier, want_moment};
+ghost use Rattle.sd_core.specs.Waiting.{want_moment};
 
 use crate::phases::Phases;
 use crate::received::{Counted, KnownOffer, ReceivedOffer, Uncounted};
 use crate::sending::Sending;
-use someip_tables::{Deadline, Lasting, Moment, Waits, is_same_key};
+use someip_tables::{Deadline, Lasting, Moment, Waits, earlier, is_same_key};
 use std::net::{Ipv4Addr, SocketAddrV4};
 
 /// A wanted instance.
@@ -139,17 +139,6 @@ impl Waits for Want {
             None => None,
         };
         earlier(passes, finds)
-    }
-}
-
-/// The earlier of two moments, or the one that there is.
-fn earlier(a: Option<u64>, b: Option<u64>) -> Option<u64>
-    ensures { result ≡ earlier a b }
-{
-    match (a, b) {
-        (Some(x), Some(y)) => Some(x.min(y)),
-        (Some(x), None) => Some(x),
-        (None, _) => b,
     }
 }
 

@@ -1,5 +1,6 @@
--- A moment at which nothing is given brings nothing.
-use Rattle.std.proofs.Common.{◌≡◌, ◌≢◌, ℕ, ◌+◌, nat_lt, Bool, true, false, cond, if◌then◌else◌, ◌||◌, IsTrue, List, [], ◌∷◌, ◌++◌, map, length, take, drop, Option, None, Some, Result, Ok, Err, IfErr, refl, ap, sym, subst, ◌∙◌}
+-- A moment at which nothing is given brings nothing, and one that brings nothing gives nothing.
+use Rattle.std.proofs.Common.{◌≡◌, ◌≢◌, ℕ, ◌+◌, ◌<◌, ◌^◌, nat_lt, Bool, true, false, cond, if◌then◌else◌, ◌||◌, IsTrue, List, [], ◌∷◌, ◌++◌, map, length, take, drop, Option, None, Some, Result, Ok, Err, IfErr, IfSome, IfNone, refl, ap, sym, subst, ◌∙◌, arith}
+use Rattle.std.proofs.lemmas.Bool.{ltb-true, ltb-false}
 use Rattle.std.specs.Option.{is_some, option_map_or}
 use Rattle.std.specs.List.{flat_map, list_any}
 use Rattle.std.specs.Ordering.{eq_by_cmp}
@@ -30,6 +31,7 @@ use Rattle.sd_core.specs.Sendings.{due_at}
 use Rattle.sd_core.specs.Wishes.{begun_where, has_begun, wish_of}
 use Rattle.someip_node_rules.specs.Calls.{due_entries, find_of, lapsed, ticks, timed_out}
 use Rattle.someip_node_rules.specs.declared.output.Output.{Output}
+use Rattle.someip_node_rules.specs.declared.output.Output.TheVariants.{TimedOut}
 use Rattle.someip_node_rules.specs.declared.error.NodeError.{NodeError}
 use Rattle.someip_node_rules.specs.declared.error.NodeError.TheVariants.{ClockPast, OutOfMemory}
 use Rattle.someip_node_engine.specs.declared.giving.Giving.{Giving}
@@ -41,18 +43,20 @@ use Rattle.someip_node_rules.specs.Lives.{has_its_offer}
 use Rattle.someip_node_rules.specs.OfferQuestions.{offering_at}
 use Rattle.someip_node_rules.specs.Outcomes.{endings, endings_of}
 use Rattle.someip_node_rules.specs.Outputs.{written}
-use Rattle.someip_node_engine.specs.Passings.{BringsNothing}
+use Rattle.someip_node_engine.specs.Passings.{BringsFirstAfter, BringsNothing, NeverBrings}
 use Rattle.someip_node_rules.specs.Plans.{Announces, Plan, Work, act, does, each, rule, run}
 use Rattle.someip_node_rules.specs.Receivers.{message_plan_to, messages_plan_to}
 use Rattle.someip_node_rules.specs.SeekQuestions.{finding_at, known_offer_at}
 use Rattle.someip_node_rules.specs.Setups.{wanted_instances}
-use Rattle.someip_node_rules.specs.Steps.{step, unless_refused, work_on}
+use Rattle.someip_node_rules.specs.Steps.{NodeView, StandsFor, given_in, step, unless_refused, work_on}
 use Rattle.someip_node_rules.specs.Subscribing.{offer_of}
 use Rattle.someip_node_rules.specs.Tables.{Tables, passed_instances}
+use Rattle.someip_node_rules.specs.Waking.{GivesNothing, IsNextDue, NothingIsDue}
 use Rattle.someip_node_rules.specs.WishQuestions.{course_at, is_wished_at, stage_of}
 use Rattle.someip_node_rules.proofs.PlanLemmas.{outputs_of_run}
 use Rattle.someip_node_rules.proofs.QuestionLemmas.{get-table_of}
 use Rattle.someip_node_rules.proofs.StandingLemmas.{has_offer}
+use Rattle.someip_node_rules.proofs.Stands.{seen}
 use Rattle.someip_node_rules.proofs.WishLives.{get-known, get-wish}
 use Rattle.someip_node_rules.proofs.WrittenLemmas.{told_written}
 
@@ -246,6 +250,80 @@ quiet_step h ms done knows is none = cases (nat_lt 0x7FFF_FFFF_FFFF_FFFF ((answe
         let same : run historic (tick_plan ms) (work_on h) ≡ done = cc in
         let sent = sent_none (does historic (ticks ms) (work_on h)) (due_entries ((answers_of h).clock + ms) (answers_of h)) (ap (λ (w : Work History). w.outputs) same ∙ none) in
         quiet h ((answers_of h).clock + ms) knows (sym (told_written _) ∙ sent.0) sent.1
+
+-- ---- a tick that brings nothing
+
+nothing_ends : (instances : List InstanceId) → endings instances [] [] ≡ []
+nothing_ends [] = refl
+nothing_ends (i ∷ is) = nothing_ends is
+
+none_told : (t : Tables) (now : ℕ) → BringsNothing now t → timed_out now t ++ lapsed now t ≡ []
+none_told t now none =
+    (λ i. map (λ call. TimedOut call.message call.session) (none.calls i) ++ endings (wanted_instances t.config) (none.gone i) (none.lapsed i))
+    ∙ nothing_ends (wanted_instances t.config)
+
+none_due : (t : Tables) (now : ℕ) → BringsNothing now t → due_entries now t ≡ []
+none_due t now none = rw (none.offers, none.finds) refl
+
+goes_unsent : (w : Work History) → (run historic (messages_plan_to Group []) w).outputs ≡ w.outputs
+unfolding front_lengths
+goes_unsent w = refl
+
+-- a tick is taken where the clock stays within its bound
+within_bound : (h : History) (ms : ℕ) → (answers_of h).clock + ms < 2 ^ 63 → step h (Tick ms) ≡ Ok (run historic (tick_plan ms) (work_on h))
+within_bound h ms bound = cases (nat_lt 0x7FFF_FFFF_FFFF_FFFF ((answers_of h).clock + ms)) refl
+  where
+    cases : (past : Bool) → nat_lt 0x7FFF_FFFF_FFFF_FFFF ((answers_of h).clock + ms) ≡ past
+        → unless_refused (if past then Some ClockPast else None) (tick_plan ms) h ≡ Ok (run historic (tick_plan ms) (work_on h))
+    cases true is = absurd (omega (arith, ltb-true 0x7FFF_FFFF_FFFF_FFFF ((answers_of h).clock + ms) is, bound))
+    cases false is = refl
+
+gives_none : (h : History) (ms : ℕ) → BringsNothing ((answers_of h).clock + ms) (answers_of h) → (run historic (tick_plan ms) (work_on h)).outputs ≡ []
+gives_none h ms none =
+    ap (λ (entries : List EntryValue). (run historic (messages_plan_to Group entries) (does historic (ticks ms) (work_on h))).outputs) (none_due (answers_of h) ((answers_of h).clock + ms) none)
+    ∙ goes_unsent (does historic (ticks ms) (work_on h)) ∙ told_written _ ∙ none_told (answers_of h) ((answers_of h).clock + ms) none
+
+next_step : (h : History) (t : Tables) (ms : ℕ) → t ≡ answers_of h → KnowsWanted t.seek → BringsFirstAfter ms t → IsNextDue h ms
+next_step h t ms same knows first = (nothing_sooner, (run historic (tick_plan ms) (work_on h), within_bound h ms bound, something_then))
+  where
+    bound : (answers_of h).clock + ms < 2 ^ 63
+    bound = subst (λ (u : Tables). u.clock + ms < 2 ^ 63) same first.0
+
+    nothing_sooner : (fewer : ℕ) → fewer < ms → GivesNothing h fewer
+    nothing_sooner fewer less =
+        ap given_in (within_bound h fewer (omega (arith, bound, less)))
+        ∙ ap (λ outputs. Ok outputs) (gives_none h fewer (subst (λ (u : Tables). BringsNothing (u.clock + fewer) u) same (first.1 fewer less)))
+
+    something_then : (run historic (tick_plan ms) (work_on h)).outputs ≢ []
+    something_then none =
+        first.2 (subst (λ (u : Tables). BringsNothing (u.clock + ms) u) (sym same)
+        (quiet_step h ms (run historic (tick_plan ms) (work_on h)) (subst (λ (u : Tables). KnowsWanted u.seek) same knows) (within_bound h ms bound) none))
+
+nothing_next : (h : History) (t : Tables) → t ≡ answers_of h → NeverBrings t → NothingIsDue h
+nothing_next h t same never = λ ms done is. cases ms done (nat_lt 0x7FFF_FFFF_FFFF_FFFF ((answers_of h).clock + ms)) refl is
+  where
+    cases : (ms : ℕ) (done : Work History) (past : Bool) → nat_lt 0x7FFF_FFFF_FFFF_FFFF ((answers_of h).clock + ms) ≡ past
+        → unless_refused (if past then Some ClockPast else None) (tick_plan ms) h ≡ Ok done → done.outputs ≡ []
+    cases ms done true past is = absurd (cc)
+    cases ms done false past is =
+        let ran : run historic (tick_plan ms) (work_on h) ≡ done = cc in
+        let bound : (answers_of h).clock + ms < 2 ^ 63 = omega (arith, ltb-false 0x7FFF_FFFF_FFFF_FFFF ((answers_of h).clock + ms) past) in
+        sym (ap (λ (w : Work History). w.outputs) ran) ∙ gives_none h ms (subst (λ (u : Tables). BringsNothing ((answers_of h).clock + ms) u) same (never ((answers_of h).clock + ms) bound))
+
+-- the same of a node that stands for a history with these tables
+module _ (t : Tables) (Stands : History → Type 0) (stands : (h : History) → Stands h → t ≡ answers_of h) where
+  pub next_told : (due : Option ℕ) → KnowsWanted t.seek → IfSome due (λ ms. BringsFirstAfter ms t) → IfSome due (λ ms. (h : History) → Stands h → IsNextDue h ms)
+  next_told None knows first = tt
+  next_told (Some ms) knows first = λ h is. next_step h t ms (stands h is) knows first
+
+  pub nothing_told : (due : Option ℕ) → IfNone due (NeverBrings t) → IfNone due ((h : History) → Stands h → NothingIsDue h)
+  nothing_told None never = λ h is. nothing_next h t (stands h is) never
+  nothing_told (Some ms) never = tt
+
+-- a node that failed stands for no history
+pub failed_stands : (failed : Bool) (t : Tables) (h : History) → failed ≡ true → StandsFor (seen failed t) h → NothingIsDue h
+failed_stands true t h is stands = let none : None ≡ Some (answers_of h) = ap (λ (n : NodeView). n.tables) stands in absurd (cc)
+failed_stands false t h is stands = absurd (cc)
 
 -- memory ran out, so what that says holds
 pub ran_out : {P : Type 0} (done : Result (Unit {0}) NodeError) (after : Giving) → IfErr done (λ error. error ≡ OutOfMemory → P) → given_or_error done after ≡ Err OutOfMemory → P

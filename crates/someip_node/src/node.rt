@@ -1,11 +1,12 @@
 //! A node: its tables, unless memory ran out.
-ghost use Rattle.std.specs.Prelude.{◌≡◌, OnOk, OnErr, IfOk, IfErr, Err, true, false};
+ghost use Rattle.std.specs.Prelude.{◌≡◌, OnOk, OnErr, IfOk, IfErr, IfSome, IfNone, Err, None, true, false};
 ghost use Rattle.someip_node.specs.Finishings.{given_or_error, is_fatal};
 ghost use Rattle.someip_node_rules.specs.GoodConfigs.{is_good, is_good_delay};
 ghost use Rattle.someip_node_rules.specs.History.{History, answers_of, start_of};
 ghost use Rattle.someip_node_rules.specs.Limits.{HoldsWithinLimits};
 ghost use Rattle.someip_node_rules.specs.Inputs as input;
 ghost use Rattle.someip_node_rules.specs.Steps.{Reacts, StandsFor, StaysFailed, TakesNoMemory};
+ghost use Rattle.someip_node_rules.specs.Waking.{IsNextDue, NothingIsDue};
 ghost use Rattle.someip_node_rules.specs.SubscriberLimits.{AreWithinLimits};
 ghost use Rattle.someip_node_rules.specs.SubscriberQuestions.{subscribers_in};
 ghost use Rattle.someip_node_rules.specs.declared.error.NodeError.TheVariants as fault;
@@ -166,6 +167,25 @@ impl<R: Reassembly> Node<R> {
         let mut giving = Giving::new(self.alloc);
         let done = self.engine.take_tick(ms, &mut giving);
         finish(&mut self.failed, done, giving)
+    }
+
+    /// After how many milliseconds a tick next gives something, if nothing else happens before: an Offer or
+    /// a Find, a call that timed out, or the end of a known offer or of a subscription of the client. A
+    /// tick of fewer milliseconds gives nothing. `None` where no tick gives anything, since nothing will
+    /// happen by itself or its moment lies past 2^63 - 1 milliseconds, and where the node has failed.
+    ///
+    /// What ends without being told, as a message in part or a subscription at the server, is left out. It
+    /// looks at the first moment of each table alone, and takes no memory.
+    pub fn next_due(&self) -> Option<u64>
+        ensures due { IfSome result
+            (λ ms. (h : History) → StandsFor self.now h → IsNextDue h ms) }
+        ensures none { IfNone result ((h : History) → StandsFor self.now h → NothingIsDue h) }
+        ensures failed { self.now.tables ≡ None → result ≡ None }
+    {
+        if self.failed {
+            return None;
+        }
+        self.engine.next_due()
     }
 
     /// Calls a method of an instance that the node wants, at the endpoint of the offer that it knows.

@@ -12,3 +12,4 @@ pub mod PortLemmas
 pub mod StartLemmas
 pub mod RisingLemmas
 pub mod EndingLemmas
+pub mod WakingLemmas

@@ -5,8 +5,6 @@ use Rattle.sd_wire.specs.Fronts.{front_lengths}
 use Rattle.someip_node_rules.specs.Entries.{fronts}
 use Rattle.std.proofs.lemmas.List.{append-nil}
 use Rattle.std.specs.FinMap as finite
-use Rattle.std.specs.FinMap.{FinMap}
-use Rattle.std.specs.declared.cmp.Ordering.{Ordering}
 use Rattle.sd_core.specs.declared.keys.InstanceId.{InstanceId}
 use Rattle.someip_node_rules.specs.declared.config.Config.{Config}
 use Rattle.someip_node_rules.specs.Outcomes.{endings}
@@ -68,14 +66,6 @@ ticked_is t new ms now is config clock parts peers multicast unicast offers seek
     (client ∙ ap (λ n. record t.client { pending = unexpired n t.client.pending }) is) server
 
 -- ---- a moment that brings nothing
-
--- a map without keys is empty
-pub no_keys : {K V : Type 0} {R : K → K → Ordering} (m : FinMap R V) → finite.keys m ≡ [] → m ≡ finite.empty
-no_keys {K} {V} {R} m is = finite.empty_of_len m (finite.len-entries m ∙ none (finite.entries m) is)
-  where
-    none : (es : List (K × V)) → map (λ e. e.0) es ≡ [] → length es ≡ 0
-    none [] is = refl
-    none (e ∷ es) is = absurd (cc)
 
 pub on_err : {A E : Type 0} {P : Type 0} (r : Result A E) → P → OnErr r P
 on_err (Ok x) p = tt

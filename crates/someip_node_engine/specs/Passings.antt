@@ -1,5 +1,5 @@
 -- What a moment brings: the deadlines that passed with it, and the Offers and Finds that are due.
-use Rattle.std.specs.Prelude.{◌≡◌, ℕ, List, [], ◌++◌, map}
+use Rattle.std.specs.Prelude.{◌≡◌, ℕ, ◌+◌, ◌^◌, ◌<◌, List, [], ◌++◌, map}
 use Rattle.std.specs.List.{flat_map}
 use Rattle.std.specs.FinMap as finite
 use Rattle.someip_tables.specs.Lastings.{expired}
@@ -49,3 +49,11 @@ pub record BringsNothing (now : ℕ) (t : Tables) : Type 0 where
   pub lapsed : finite.keys (begun_where (ends_at now (passed_instances now t)) t.wishes) ≡ []
   pub offers : finite.keys (due_at now t.offers.up) ≡ []
   pub finds : finite.keys (due_at now t.seek.finding) ≡ []
+
+-- the moment after so many milliseconds is one of the clock and brings something, and none before it does
+abbrev pub BringsFirstAfter : ℕ → Tables → Type 0
+BringsFirstAfter ms t = (t.clock + ms < 2 ^ 63) × ((fewer : ℕ) → fewer < ms → BringsNothing (t.clock + fewer) t) × (BringsNothing (t.clock + ms) t → ⊥)
+
+-- no moment of the clock brings anything
+abbrev pub NeverBrings : Tables → Type 0
+NeverBrings t = (now : ℕ) → now < 2 ^ 63 → BringsNothing now t

@@ -29,6 +29,7 @@ mod setups;
 mod starting;
 mod subscribing;
 mod ticking;
+mod waking;
 mod wishing;
 
 pub use engine::Engine;

@@ -46,3 +46,4 @@ pub mod LimitExamples
 pub mod CallExamples
 pub mod WorkedRun
 pub mod Fitting
+pub mod Waking

@@ -31,6 +31,8 @@ pub(crate) enum Act {
     Datagram(Port, Port, &'static str),
     /// So many milliseconds pass.
     Tick(u64),
+    /// It is asked when a tick next gives something.
+    NextDue,
     /// A method of an instance is called.
     Call(CallKind, InstanceId, u16, &'static str),
     /// The request under a token is answered.
@@ -76,6 +78,7 @@ pub(crate) fn given(
     match act {
         Act::Datagram(from, to, bytes) => on_datagram(alloc, node, from, to, bytes),
         Act::Tick(ms) => tick(alloc, node, ms),
+        Act::NextDue => next_due(alloc, node),
         Act::Call(kind, of, method, payload) => call(alloc, node, kind, of, method, payload),
         Act::Answer(token, reply, payload) => answer(alloc, node, token, reply, payload),
         Act::Publish(of, event, payload) => publish(alloc, node, of, event, payload),
@@ -103,6 +106,15 @@ fn on_datagram(
 
 fn tick(alloc: Global, node: &mut Node<IntervalPool>, ms: u64) -> Result<String, Fail> {
     lines_of(alloc, node.tick(ms))
+}
+
+fn next_due(alloc: Global, node: &Node<IntervalPool>) -> Result<String, Fail> {
+    let mut text = String::new(alloc);
+    match node.next_due() {
+        Some(ms) => writeln!(text, "due {ms}")?,
+        None => writeln!(text, "due -")?,
+    }
+    Ok(text)
 }
 
 fn call(

@@ -3,7 +3,7 @@
 //! Tests stand over the crates that they try, since a crate is proved again with its tests.
 //!
 //! - `acts`, `nodes`: what is done with a node, and the nodes that it is done with;
-//! - `worked`, `requests`, `discovery`, `moments`, `drops`, `configs`: the rows;
+//! - `worked`, `requests`, `discovery`, `moments`, `waking`, `drops`, `configs`: the rows;
 //! - `embedding`: two nodes in one process.
 #![tactic(auto)]
 
@@ -23,5 +23,7 @@ mod moments;
 mod nodes;
 #[cfg(test)]
 mod requests;
+#[cfg(test)]
+mod waking;
 #[cfg(test)]
 mod worked;

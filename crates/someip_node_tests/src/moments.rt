@@ -35,7 +35,7 @@ const ACK: &str =
     "ffff8100000000240000000101010200c0000000000000100700000022220001010000030000000100000000";
 
 /// An Offer of the instance until the next reboot.
-const LASTING: &str =
+pub(crate) const LASTING: &str =
     "ffff8100000000300000000101010200c000000000000010010000101111000101ffffff000000000000000c00090400c0a800010011772d";
 
 /// A call, a known offer with a subscription, an Offer and a Find are due at once.

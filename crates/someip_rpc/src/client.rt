@@ -3,6 +3,7 @@ ghost use Rattle.std.specs.Prelude.{◌≡◌, ◌≢◌, ◌≤◌, false, leng
 ghost use Rattle.std.specs.FinMap as finite;
 ghost use Rattle.someip_tables.specs.Lastings.{expired, unexpired};
 ghost use Rattle.someip_tables.specs.Tables.{map_of};
+ghost use Rattle.someip_tables.specs.Waits.{HoldsFrom};
 ghost use Rattle.someip_rpc.specs.Ids.{call_cmp, message_cmp};
 ghost use Rattle.std.specs.Prelude.{ℕ};
 ghost use Rattle.someip_rpc.specs.Sessions.{LastSessions, next_of};
@@ -145,6 +146,14 @@ impl ClientCore {
         ensures unchanged { OnErr result (self.new ≡ self.old) }
     {
         take_answer(&mut self.pending, rules.client, from, header, now)
+    }
+
+    /// When the time of a call next passes, in milliseconds since the node's start: the first moment at
+    /// which [`ClientCore::tick`] answers a call, if there is one.
+    pub fn next_due(&self) -> Option<u64>
+        ensures { HoldsFrom result (λ now. expired now self.now.pending ≢ finite.empty) }
+    {
+        self.pending.first_deadline()
     }
 
     /// Ends the calls whose time has passed, and tells them, by rising Message ID and session. Without

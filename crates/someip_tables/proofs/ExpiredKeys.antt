@@ -133,3 +133,18 @@ module _ {K V : Type 0} {R : K → K → Ordering} (o : IsTotalOrder R) (exact :
         (ap (λ m. get m due.key) gone ∙ get-empty R due.key),
     λ some. true_is_test refl,
   )
+
+  -- something has passed from the first deadline on
+  pub first_holds : (dues : BTreeSet (Due K)) (held : BTreeMap K (Lasting V)) (due : Due K) → Tracks R dues held → IsTrue (contains (due_cmp R) dues due)
+      → ((other : Due K) → IsTrue (contains (due_cmp R) dues other) → due.at ≤ other.at) → (now : ℕ)
+      → (IsTrue (nat_le due.at now) → expired now (map_of R held.entries) ≢ empty) × (expired now (map_of R held.entries) ≢ empty → IsTrue (nat_le due.at now))
+  first_holds dues held due tracks found first now = cases (nat_le due.at now) refl
+    where
+      cases : (b : Bool) → nat_le due.at now ≡ b → (IsTrue b → expired now (map_of R held.entries) ≢ empty) × (expired now (map_of R held.entries) ≢ empty → IsTrue b)
+      cases true is = first_tells now dues held (Some due) tracks found (grind (arith, nat_tests)) tt
+      cases false is = first_tells now dues held None tracks tt tt (λ other has. let le = first other has in let lt : now < due.at = grind (arith, nat_tests) in omega (arith, le, lt))
+
+  -- without one nothing passes
+  pub none_holds : (dues : BTreeSet (Due K)) (held : BTreeMap K (Lasting V)) → Tracks R dues held → ((due : Due K) → IsTrue (contains (due_cmp R) dues due) → ⊥) → (now : ℕ)
+      → (IsTrue false → expired now (map_of R held.entries) ≢ empty) × (expired now (map_of R held.entries) ≢ empty → IsTrue false)
+  none_holds dues held tracks none now = first_tells now dues held None tracks tt tt (λ due has. absurd (none due has))

@@ -6,6 +6,7 @@ pub mod Sorted
 pub mod Trees
 pub mod DueLemmas
 pub mod Expiry
+pub mod Firsts
 pub mod RetainLemmas
 pub mod ExpiredKeys
 pub mod SortedEntries

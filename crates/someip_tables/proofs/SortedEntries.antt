@@ -5,7 +5,7 @@ use Rattle.std.specs.List.{list_any}
 use Rattle.std.specs.declared.cmp.Ordering.{Ordering}
 use Rattle.std.specs.Ordering.{eq_by_cmp, is_lt}
 use Rattle.std.specs.Cmp.{IsTotalOrder}
-use Rattle.std.specs.FinMap.{FinMap, IsAntisymmetric, find, get, keys, len, entries, empty, get-empty, len-empty, len-entries, get-from_entries, from_sorted, entries-from_sorted, get-from_sorted, get-entries, same_map, entries_sorted}
+use Rattle.std.specs.FinMap.{FinMap, IsAntisymmetric, find, get, keys, len, entries, empty, empty_of_len, get-empty, len-empty, len-entries, get-from_entries, from_sorted, entries-from_sorted, get-from_sorted, get-entries, same_map, entries_sorted}
 use Rattle.std.specs.FinMap.Entries.{below_all, is_sorted}
 use Rattle.std.proofs.lemmas.Bool.{and_from, and_parts}
 use lib.Dec.{T}
@@ -126,3 +126,11 @@ module _ {K X : Type 0} {R : K → K → Ordering} (o : IsTotalOrder R) (exact :
 -- the empty map has no keys
 pub keys-empty : {K : Type 0} (X : Type 0) (R : K → K → Ordering) → keys (empty {K = K} {X = X} {R = R}) ≡ []
 keys-empty {K = K} X R = ap (map (λ e. e.0)) (no_entries (entries (empty {K = K} {X = X} {R = R})) (sym (len-entries (empty {K = K} {X = X} {R = R})) ∙ len-empty R X))
+
+-- a map without keys is empty
+pub no_keys : {K V : Type 0} {R : K → K → Ordering} (m : FinMap R V) → keys m ≡ [] → m ≡ empty
+no_keys {K} {V} {R} m is = empty_of_len m (len-entries m ∙ none (entries m) is)
+  where
+    none : (es : List (K × V)) → map (λ e. e.0) es ≡ [] → length es ≡ 0
+    none [] is = refl
+    none (e ∷ es) is = absurd (cc)

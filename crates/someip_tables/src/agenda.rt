@@ -1,13 +1,14 @@
 //! The moments that the keys of a map wait for, from the last to the first, so that what is due
 //! stands at the end.
 ghost use Rattle.std.specs.Prelude.{◌≡◌, ◌<◌, ◌≤◌, ◌++◌, [], true, false, nat_le, length, map, reverse, take_while};
-ghost use Rattle.std.specs.Prelude.{if◌then◌else◌, IfOk, OnErr};
+ghost use Rattle.std.specs.Prelude.{if◌then◌else◌, IfOk, OnErr, ℕ};
 ghost use Rattle.std.specs.List.{list_any, cons_option};
 ghost use Rattle.std.specs.List.Sorted.{IsStrictlySortedBy, IsSorted, IsPermutation};
 ghost use Rattle.std.specs.List.Sorted.{IsBinarySearchResult, IsSearchInRange};
 ghost use Rattle.std.specs.Ordering.{eq_by_cmp};
 ghost use Rattle.std.specs.Vec.{vec_capacity};
 ghost use Rattle.someip_tables.specs.Agendas.{falling, has_due, is_due_at, due_of};
+ghost use Rattle.someip_tables.specs.Waits.{is_due_by};
 ghost use Rattle.someip_tables.specs.declared.due.Due.{Due};
 
 use crate::due::Due;
@@ -106,6 +107,14 @@ pub(crate) fn has_come<K: Key>(dues: &[Due<K>], now: Moment) -> bool
         Some(due) => due.at <= now.as_millis(),
         None => false,
     }
+}
+
+/// The first moment of the list, which is its last entry.
+pub(crate) fn first_due<K: Key>(dues: &[Due<K>]) -> Option<u64>
+    requires { IsStrictlySortedBy (falling K.cmp) dues.now }
+    ensures { (now : ℕ) → is_due_by now result ≡ list_any (λ due. nat_le due.at now) dues.now }
+{
+    Some(dues.last()?.at)
 }
 
 /// The keys whose moment has come, by rising key. It looks at these alone, and takes memory only where

@@ -9,6 +9,7 @@ ghost use Rattle.someip_tables.specs.declared.lasting.Lasting.{Lasting};
 ghost use Rattle.someip_tables.specs.Lastings.{NeedsMemory, unless_passed, expired, unexpired};
 ghost use Rattle.someip_tables.specs.Retained.{retain};
 ghost use Rattle.someip_tables.specs.Tables.{map_of, AnswersAs, AnswersPairAs};
+ghost use Rattle.someip_tables.specs.Waits.{HoldsFrom};
 
 use crate::deadline::Deadline;
 use crate::due::Due;
@@ -16,7 +17,7 @@ use crate::key::Key;
 use crate::lasting::Lasting;
 use crate::moment::Moment;
 use crate::tracked::{
-    count_unexpired, drop_expired, expired_keys, first_passed, put, retain, take_out,
+    count_unexpired, drop_expired, expired_keys, first_due, first_passed, put, retain, take_out,
 };
 use std::alloc::{AllocError, Global};
 use std::collections::{BTreeMap, BTreeSet, btree_map};
@@ -173,6 +174,17 @@ impl<K: Key, V: Drop> DeadlineMap<K, V> {
         ensures { IsTrue result ↔ (expired now (map_of K.cmp self.now) ≢ finite.empty) }
     {
         first_passed(&self.dues, now).is_some()
+    }
+
+    /// The first deadline that passes, in milliseconds since the node's start, if one does. It may have
+    /// passed. It looks at this alone.
+    pub fn first_deadline(&self) -> Option<u64>
+        ensures { HoldsFrom result (λ now. expired now (map_of K.cmp self.now) ≢ finite.empty) }
+    {
+        match first_due(&self.dues) {
+            Some(due) => Some(due.at),
+            None => None,
+        }
     }
 
     /// The keys of what has passed, by rising key. It looks at these alone, and takes memory only if

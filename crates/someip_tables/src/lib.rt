@@ -5,6 +5,7 @@
 //! - [`Key`] and [`is_same_key`]: what tells the entries of a table apart;
 //! - [`DeadlineMap`]: a map whose values last until a deadline each, as [`Lasting`] says;
 //! - [`TimedMap`]: a map whose values wait for a moment each, or for none, as [`Waits`] says;
+//! - [`earlier`]: which of two moments comes first;
 //! - [`laws`]: what the definitions behind the contracts promise, whatever body keeps them.
 #![tactic(auto)]
 
@@ -27,4 +28,4 @@ pub use key::{Key, is_same_key};
 pub use lasting::Lasting;
 pub use moment::Moment;
 pub use timed_map::TimedMap;
-pub use waits::Waits;
+pub use waits::{Waits, earlier};

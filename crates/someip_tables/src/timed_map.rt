@@ -6,9 +6,9 @@ ghost use Rattle.std.specs.FinMap as finite;
 ghost use Rattle.someip_tables.specs.Changed.{each_changed};
 ghost use Rattle.someip_tables.specs.Retained.{retain};
 ghost use Rattle.someip_tables.specs.Tables.{map_of, AnswersPairAs};
-ghost use Rattle.someip_tables.specs.Waits.{due_by};
+ghost use Rattle.someip_tables.specs.Waits.{HoldsFrom, due_by};
 
-use crate::agenda::{due_keys, has_come};
+use crate::agenda::{due_keys, first_due, has_come};
 use crate::awaited::{change_all, change_those, has, put, renew};
 use crate::due::Due;
 use crate::key::Key;
@@ -106,6 +106,14 @@ impl<K: Key, V: Waits> TimedMap<K, V> {
         ensures { IsTrue result ↔ (due_by V.moment now (map_of K.cmp self.now) ≢ finite.empty) }
     {
         has_come(&self.dues, now)
+    }
+
+    /// The first moment that a value waits for, if one does. It looks at this alone.
+    pub fn first_due(&self) -> Option<u64>
+        ensures { HoldsFrom result
+            (λ now. due_by V.moment now (map_of K.cmp self.now) ≢ finite.empty) }
+    {
+        first_due(&self.dues)
     }
 
     /// The keys of the values whose moment has come, by rising key. It looks at these alone, and takes

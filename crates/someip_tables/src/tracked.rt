@@ -89,6 +89,18 @@ pub(crate) fn drop_expired<K: Key, V: Drop>(
     }
 }
 
+/// The first deadline, with its key.
+pub(crate) fn first_due<K: Key>(dues: &BTreeSet<Due<K>>) -> Option<Due<K>>
+    ensures found { IfSome result (λ due. IsTrue (contains (due_cmp K.cmp) dues.now due)) }
+    ensures first { IfSome result (λ first. (due : Due K)
+        → IsTrue (contains (due_cmp K.cmp) dues.now due) → first.at ≤ due.at) }
+    ensures none { IfNone result ((due : Due K)
+        → IsTrue (contains (due_cmp K.cmp) dues.now due) → ⊥) }
+{
+    let first = dues.first()?;
+    Some(*first)
+}
+
 /// The first deadline, if it has passed.
 pub(crate) fn first_passed<K: Key>(dues: &BTreeSet<Due<K>>, now: Moment) -> Option<Due<K>>
     ensures found { IfSome result (λ due. IsTrue (contains (due_cmp K.cmp) dues.now due)) }
@@ -96,9 +108,9 @@ pub(crate) fn first_passed<K: Key>(dues: &BTreeSet<Due<K>>, now: Moment) -> Opti
     ensures none { IfNone result ((due : Due K) → IsTrue (contains (due_cmp K.cmp) dues.now due)
         → now < due.at) }
 {
-    let first = dues.first()?;
+    let first = first_due(dues)?;
     if first.at <= now.as_millis() {
-        Some(*first)
+        Some(first)
     } else {
         None
     }

@@ -11,7 +11,8 @@ use Rattle.sd_core.specs.Sendings.{due_at}
 use Rattle.someip_node_rules.specs.Tables.{passed_instances}
 use Rattle.sd_core.specs.Wishes.{begun_where, ended_where}
 use Rattle.someip_node_rules.specs.Items.{changed, Ticked}
-use Rattle.someip_node_engine.proofs.PassingLemmas.{no_keys, on_err, ticked_is}
+use Rattle.someip_tables.proofs.SortedEntries.{no_keys}
+use Rattle.someip_node_engine.proofs.PassingLemmas.{on_err, ticked_is}
 use Rattle.someip_node_engine.proofs.RisingLemmas.{keys_rise}
 use Rattle.someip_node_engine.proofs.engine.Engine.pass.Goals as goal
 
