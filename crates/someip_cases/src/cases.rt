@@ -5,7 +5,7 @@ use std::rt::Files;
 use std::{fs, io};
 
 /// Runs the command of each line of the file at a path. Lines that are empty or begin with `#` are skipped.
-pub fn run_cases<R: Files + Print + AllocGlobal>(rt: &R, path: &str) -> io::Result<()> {
+pub fn run_cases<R: Files + Print + Eprint + AllocGlobal>(rt: &R, path: &str) -> io::Result<()> {
     let text = fs::read_to_string(rt, path)?;
     for line in text.lines() {
         if !line.is_empty() && !line.starts_with('#') {
@@ -16,7 +16,7 @@ pub fn run_cases<R: Files + Print + AllocGlobal>(rt: &R, path: &str) -> io::Resu
 }
 
 /// Runs one command between a line with its words and one with its exit status.
-fn run_case<R: Files + Print + AllocGlobal>(rt: &R, line: &str) -> io::Result<()> {
+fn run_case<R: Files + Print + Eprint + AllocGlobal>(rt: &R, line: &str) -> io::Result<()> {
     let words = words_of(rt.alloc(), line)?;
     println!(rt; "> {line}")?;
     let status = match run(rt, &words) {

@@ -116,9 +116,9 @@ turn_enters s names enabled w word none before = stop w.stopped before none
 
 -- ---- each use has a value
 
--- each use of the argument has a value, or asks for help
+-- each use of the argument has a value, or asks for help, or has one that stands for none
 abbrev pub has_value : Rule → Bool
-has_value a = nat_lt 0 (unwrap_or_range a.range).start_inclusive || is_request (action_of a)
+has_value a = nat_lt 0 (unwrap_or_range a.range).start_inclusive || (is_request (action_of a) || nat_lt 0 (length a.missing))
 
 -- each row has a value
 abbrev pub HaveValues : List Row → Type 0
@@ -177,9 +177,17 @@ used_values : (again : Bool) (a : Rule) (values : List Text) (rows : List Row) �
 used_values again a (v ∷ vs) rows valued none h = used_as_values (action_of a) a v vs rows h
 used_values again a [] rows valued none h = go (nat_lt 0 (unwrap_or_range a.range).start_inclusive) refl valued
   where
-    go : (b : Bool) → nat_lt 0 (unwrap_or_range a.range).start_inclusive ≡ b → (b || is_request (action_of a)) ≡ true → HaveValues (used a [] rows)
+    stands : (missing : List Text) → nat_lt 0 (length missing) ≡ true → HaveValues (used_as (action_of a) a.id (reading_by a) missing rows)
+    stands [] some = absurd (true≢false (sym some))
+    stands (v ∷ vs) some = used_as_values (action_of a) a v vs rows h
+
+    asks : (r : Bool) → is_request (action_of a) ≡ r → (r || nat_lt 0 (length a.missing)) ≡ true → HaveValues (used a [] rows)
+    asks true is some = absurd (asks_something (action_of a) is (request_fault (action_of a) again a a.missing rows is ∙ (or_nil _ _ none).1))
+    asks false is some = stands a.missing some
+
+    go : (b : Bool) → nat_lt 0 (unwrap_or_range a.range).start_inclusive ≡ b → (b || (is_request (action_of a) || nat_lt 0 (length a.missing))) ≡ true → HaveValues (used a [] rows)
     go true is valued = absurd (none_given _ _ is (or_nil _ _ none).0)
-    go false is asks = absurd (asks_something (action_of a) asks (request_fault (action_of a) again a a.missing rows asks ∙ (or_nil _ _ none).1))
+    go false is some = asks (is_request (action_of a)) refl some
 
 -- ---- the walk keeps that
 

@@ -16,7 +16,7 @@ use Rattle.clap.specs.declared.parser.matches.Found.{Found}
 use Rattle.clap.specs.declared.parser.matches.SubCommand.{SubCommand}
 use Rattle.clap.proofs.WalkLemmas.{first_value-rows}
 use Rattle.clap.proofs.OnLiterals.{clap_on_literals}
-use Rattle.someipctl_cli.specs.CommandLine.{IsTaken, cli, is_flag, asked_by_subcommand, asked_by_entered, requested, asked_by_show, show_request, asked_by_payload, asked_by_run, asked_by_vectors}
+use Rattle.someipctl_cli.specs.CommandLine.{IsTaken, cli, is_flag, asked_by_subcommand, asked_by_entered, requested, asked_by_show, show_request, asked_by_payload, asked_by_run, asked_by_vectors, asked_by_recording, asked_by_chart}
 use Rattle.someipctl_cli.proofs.ClapWalkLemmas.{EntersNoHelp, enters_subcommand, has_value, is_wanted, wanted_value}
 
 pub cli_is_free : is_simple_and_free cli ≡ true
@@ -86,15 +86,35 @@ vectors_asks : (s : Shape) → bytes_eq s.name (codes "show") ≡ false → byte
     → list_all has_value s.rules ≡ true → is_wanted (codes "file") s ≡ true → Asks s
 vectors_asks s other another is valued wanted name met named words none = rw (other, another, is) (vectors_some _ (wanted_value s (codes "file") valued wanted words none))
 
-run_some : (setup schedule : Option Text) → is_some setup ≡ true → is_some schedule ≡ true → IsSome (asked_by_run setup schedule)
-run_some None schedule some more = absurd (true≢false (sym some))
-run_some (Some setup) None some more = absurd (true≢false (sym more))
-run_some (Some setup) (Some schedule) some more = refl
+run_some : (setup schedule expect lines : Option Text) → is_some setup ≡ true → is_some schedule ≡ true → IsSome (asked_by_run setup schedule expect lines)
+run_some None schedule expect lines some more = absurd (true≢false (sym some))
+run_some (Some setup) None expect lines some more = absurd (true≢false (sym more))
+run_some (Some setup) (Some schedule) expect lines some more = refl
 
 run_asks : (s : Shape) → bytes_eq s.name (codes "show") ≡ false → bytes_eq s.name (codes "payload") ≡ false → bytes_eq s.name (codes "vectors") ≡ false
     → bytes_eq s.name (codes "run") ≡ true → list_all has_value s.rules ≡ true → is_wanted (codes "setup") s ≡ true → is_wanted (codes "schedule") s ≡ true → Asks s
 run_asks s other another third is valued setup schedule name met named words none =
-    rw (other, another, third, is) (run_some _ _ (wanted_value s (codes "setup") valued setup words none) (wanted_value s (codes "schedule") valued schedule words none))
+    rw (other, another, third, is) (run_some _ _ _ _ (wanted_value s (codes "setup") valued setup words none) (wanted_value s (codes "schedule") valued schedule words none))
+
+recording_some : (file ports endpoints : Option Text) → is_some file ≡ true → IsSome (asked_by_recording file ports endpoints)
+recording_some None ports endpoints some = absurd (true≢false (sym some))
+recording_some (Some file) ports endpoints some = refl
+
+recording_asks : (s : Shape) → bytes_eq s.name (codes "show") ≡ false → bytes_eq s.name (codes "payload") ≡ false → bytes_eq s.name (codes "vectors") ≡ false
+    → bytes_eq s.name (codes "run") ≡ false → bytes_eq s.name (codes "recording") ≡ true → list_all has_value s.rules ≡ true → is_wanted (codes "file") s ≡ true → Asks s
+recording_asks s other another third fourth is valued file name met named words none =
+    rw (other, another, third, fourth, is) (recording_some _ _ _ (wanted_value s (codes "file") valued file words none))
+
+chart_some : (setup schedule : Option Text) → is_some setup ≡ true → is_some schedule ≡ true → IsSome (asked_by_chart setup schedule)
+chart_some None schedule some more = absurd (true≢false (sym some))
+chart_some (Some setup) None some more = absurd (true≢false (sym more))
+chart_some (Some setup) (Some schedule) some more = refl
+
+chart_asks : (s : Shape) → bytes_eq s.name (codes "show") ≡ false → bytes_eq s.name (codes "payload") ≡ false → bytes_eq s.name (codes "vectors") ≡ false
+    → bytes_eq s.name (codes "run") ≡ false → bytes_eq s.name (codes "recording") ≡ false → bytes_eq s.name (codes "chart") ≡ true
+    → list_all has_value s.rules ≡ true → is_wanted (codes "setup") s ≡ true → is_wanted (codes "schedule") s ≡ true → Asks s
+chart_asks s other another third fourth fifth is valued setup schedule name met named words none =
+    rw (other, another, third, fourth, fifth, is) (chart_some _ _ (wanted_value s (codes "setup") valued setup words none) (wanted_value s (codes "schedule") valued schedule words none))
 
 -- no other name is that of `help`
 help_asks : (s : Shape) → label_of s ≡ (codes "help", []) → Asks s
@@ -108,7 +128,22 @@ help_asks s is name met named words none = go (bytes_eq (codes "help") name) ref
     go false e t = absurd (true≢false (sym t))
 
 cli_asks : EachAsks (built cli).subs
-cli_asks = (show_asks _ refl refl refl, (payload_asks _ refl refl refl refl refl, (vectors_asks _ refl refl refl refl refl, (run_asks _ refl refl refl refl refl refl refl, (help_asks _ refl, tt)))))
+cli_asks = (
+  show_asks _ refl refl refl,
+  (
+    payload_asks _ refl refl refl refl refl,
+    (
+      vectors_asks _ refl refl refl refl refl,
+      (
+        run_asks _ refl refl refl refl refl refl refl,
+        (
+          recording_asks _ refl refl refl refl refl refl refl,
+          (chart_asks _ refl refl refl refl refl refl refl refl refl, (help_asks _ refl, tt)),
+        ),
+      ),
+    ),
+  ),
+)
 
 pub taken_matches : (words : List Text) → IsTaken words → IsSome (requested words)
 taken_matches words none =
@@ -190,7 +225,29 @@ vectors_in m name f is other another vectors =
 
 pub run_in : (m : ArgMatches) (name : Text) (f : Found) → subcommand_rows_of m ≡ Some (name, rows_of f) → bytes_eq name (codes "show") ≡ false → bytes_eq name (codes "payload") ≡ false
     → bytes_eq name (codes "vectors") ≡ false → bytes_eq name (codes "run") ≡ true
-    → asked_by_run (first_value f (codes "setup")) (first_value f (codes "schedule")) ≡ asked_by_entered (subcommand_rows_of m)
+    → asked_by_run (first_value f (codes "setup")) (first_value f (codes "schedule")) (first_value f (codes "expect")) (first_value f (codes "lines")) ≡ asked_by_entered (subcommand_rows_of m)
 run_in m name f is other another third run =
-    let there : asked_by_subcommand name (rows_of f) ≡ asked_by_run (first_of (codes "setup") (rows_of f)) (first_of (codes "schedule") (rows_of f)) = rw (other, another, third, run) refl in
-    ap₂ asked_by_run (first_value-rows f (codes "setup")) (first_value-rows f (codes "schedule")) ∙ sym there ∙ sym (ap asked_by_entered is)
+    let there : asked_by_subcommand name (rows_of f)
+    ≡ asked_by_run (first_of (codes "setup") (rows_of f)) (first_of (codes "schedule") (rows_of f)) (first_of (codes "expect") (rows_of f)) (first_of (codes "lines") (rows_of f))
+    = rw (other, another, third, run) refl in
+    ap₂ (λ (a b : Option Text). asked_by_run a b (first_value f (codes "expect")) (first_value f (codes "lines"))) (first_value-rows f (codes "setup")) (first_value-rows f (codes "schedule"))
+    ∙ ap₂ (λ (a b : Option Text). asked_by_run (first_of (codes "setup") (rows_of f)) (first_of (codes "schedule") (rows_of f)) a b) (first_value-rows f (codes "expect")) (first_value-rows f (codes "lines"))
+    ∙ sym there ∙ sym (ap asked_by_entered is)
+
+pub recording_in : (m : ArgMatches) (name : Text) (f : Found) → subcommand_rows_of m ≡ Some (name, rows_of f) → bytes_eq name (codes "show") ≡ false → bytes_eq name (codes "payload") ≡ false
+    → bytes_eq name (codes "vectors") ≡ false → bytes_eq name (codes "run") ≡ false → bytes_eq name (codes "recording") ≡ true
+    → asked_by_recording (first_value f (codes "file")) (first_value f (codes "ports")) (first_value f (codes "endpoints")) ≡ asked_by_entered (subcommand_rows_of m)
+recording_in m name f is other another third fourth recording =
+    let there : asked_by_subcommand name (rows_of f) ≡ asked_by_recording (first_of (codes "file") (rows_of f)) (first_of (codes "ports") (rows_of f)) (first_of (codes "endpoints") (rows_of f))
+    = rw (other, another, third, fourth, recording) refl in
+    ap (λ (a : Option Text). asked_by_recording a (first_value f (codes "ports")) (first_value f (codes "endpoints"))) (first_value-rows f (codes "file"))
+    ∙ ap₂ (asked_by_recording (first_of (codes "file") (rows_of f))) (first_value-rows f (codes "ports")) (first_value-rows f (codes "endpoints"))
+    ∙ sym there ∙ sym (ap asked_by_entered is)
+
+pub chart_in : (m : ArgMatches) (name : Text) (f : Found) → subcommand_rows_of m ≡ Some (name, rows_of f) → bytes_eq name (codes "show") ≡ false → bytes_eq name (codes "payload") ≡ false
+    → bytes_eq name (codes "vectors") ≡ false → bytes_eq name (codes "run") ≡ false → bytes_eq name (codes "recording") ≡ false → bytes_eq name (codes "chart") ≡ true
+    → asked_by_chart (first_value f (codes "setup")) (first_value f (codes "schedule")) ≡ asked_by_entered (subcommand_rows_of m)
+chart_in m name f is other another third fourth fifth chart =
+    let there : asked_by_subcommand name (rows_of f) ≡ asked_by_chart (first_of (codes "setup") (rows_of f)) (first_of (codes "schedule") (rows_of f))
+    = rw (other, another, third, fourth, fifth, chart) refl in
+    ap₂ asked_by_chart (first_value-rows f (codes "setup")) (first_value-rows f (codes "schedule")) ∙ sym there ∙ sym (ap asked_by_entered is)

@@ -1,5 +1,5 @@
 -- The command line, and what its words ask for.
-use Rattle.std.specs.Prelude.{◌==◌, ◌≡◌, ◌≢◌, ◌⊎◌, Bool, true, false, List, [], ◌∷◌, codes, Option, Some, None, if◌then◌else◌}
+use Rattle.std.specs.Prelude.{◌==◌, ◌≡◌, ◌≢◌, ◌⊎◌, Bool, true, false, List, [], ◌∷◌, codes, Option, Some, None, option_map, if◌then◌else◌}
 use Rattle.std.specs.Str.{bytes_eq}
 use Rattle.clap.specs.Words.{App, IsAmong, Row, Rule, Shape, Text, fault_of, first_of, kind_of}
 use Rattle.clap.specs.Words.{new_app, new_rule, subcommand_of, with_rule, with_subcommand}
@@ -7,8 +7,9 @@ use Rattle.clap.specs.Simple.{on_top}
 use Rattle.clap.specs.declared.Error.{Error}
 use Rattle.clap.specs.declared.error.ErrorKind.{ErrorKind}
 use Rattle.clap.specs.declared.error.ErrorKind.TheVariants as kind
+use Rattle.clap.specs.declared.builder.ArgAction.TheVariants.{SetTrue}
 use Rattle.someipctl_cli.specs.declared.command.Command.{Command}
-use Rattle.someipctl_cli.specs.declared.command.Command.TheVariants.{Show, Payload, Vectors, Run}
+use Rattle.someipctl_cli.specs.declared.command.Command.TheVariants.{Show, Payload, Vectors, Run, Recording, Chart}
 use Rattle.someipctl_cli.specs.declared.command.LineError.{LineError}
 use Rattle.someipctl_cli.specs.declared.command.LineError.TheVariants.{Usage, Help, OutOfMemory}
 
@@ -17,6 +18,13 @@ use Rattle.someipctl_cli.specs.declared.command.LineError.TheVariants.{Usage, He
 -- a required positional argument
 abbrev pub required : Text → Rule
 required id = record (new_rule id) { value_names = 1; required = true }
+
+-- an option with a value, and one without, by their names
+abbrev pub valued : Text → Rule
+valued name = record (new_rule name) { long = Some name; value_names = 1 }
+
+abbrev pub flag : Text → Rule
+flag name = record (new_rule name) { long = Some name; action = Some SetTrue }
 
 -- `show CAPTURE`
 abbrev pub show_usage : Shape
@@ -30,9 +38,24 @@ payload_usage = (with_rule (with_rule (new_app (codes "payload")) (required (cod
 abbrev pub vectors_usage : Shape
 vectors_usage = (with_rule (new_app (codes "vectors")) (required (codes "file"))).top
 
--- `run SETUP SCHEDULE`
+-- the command with the two files of a run as its further arguments
+abbrev pub with_inputs : App → App
+with_inputs command = with_rule (with_rule command (required (codes "setup"))) (required (codes "schedule"))
+
+-- `run [--expect TRACE] [--lines] SETUP SCHEDULE`
 abbrev pub run_usage : Shape
-run_usage = (with_rule (with_rule (new_app (codes "run")) (required (codes "setup"))) (required (codes "schedule"))).top
+run_usage = (with_inputs (with_rule (with_rule (new_app (codes "run")) (valued (codes "expect"))) (flag (codes "lines")))).top
+
+-- `recording [--ports PORTS] [--endpoints] FILE`
+abbrev pub recording_options : App
+recording_options = with_rule (with_rule (new_app (codes "recording")) (valued (codes "ports"))) (flag (codes "endpoints"))
+
+abbrev pub recording_usage : Shape
+recording_usage = (with_rule recording_options (required (codes "file"))).top
+
+-- `chart SETUP SCHEDULE`
+abbrev pub chart_usage : Shape
+chart_usage = (with_inputs (new_app (codes "chart"))).top
 
 -- the program alone, which asks for a subcommand
 abbrev pub program : App
@@ -42,9 +65,13 @@ program = on_top (λ top. record top { subcommand_required = true }) (new_app (c
 abbrev pub with_byte_commands : App
 with_byte_commands = with_subcommand (with_subcommand program show_usage) payload_usage
 
+-- the program with the commands that read bytes, vectors and schedules
+abbrev pub with_file_commands : App
+with_file_commands = with_subcommand (with_subcommand with_byte_commands vectors_usage) run_usage
+
 -- the command line
 abbrev pub cli : App
-cli = with_subcommand (with_subcommand with_byte_commands vectors_usage) run_usage
+cli = with_subcommand (with_subcommand with_file_commands recording_usage) chart_usage
 
 -- ---- what words ask for
 
@@ -53,14 +80,18 @@ pub data Request : Type 0 where
   show_request : Text → Request
   payload_request : Text → Text → Request
   vectors_request : Text → Request
-  run_request : Text → Text → Request
+  run_request : Text → Text → Option Text → Bool → Request
+  recording_request : Text → Option Text → Bool → Request
+  chart_request : Text → Text → Request
 
 -- what a command asks for
 abbrev pub asked_by_command : Command → Request
 asked_by_command (Show capture) = show_request capture.now
 asked_by_command (Payload shape hex) = payload_request shape.now hex.now
 asked_by_command (Vectors file) = vectors_request file.now
-asked_by_command (Run setup schedule) = run_request setup.now schedule.now
+asked_by_command (Run setup schedule expect lines) = run_request setup.now schedule.now (option_map (λ trace. trace.now) expect) lines
+asked_by_command (Recording file ports endpoints) = recording_request file.now (option_map (λ text. text.now) ports) endpoints
+asked_by_command (Chart setup schedule) = chart_request setup.now schedule.now
 
 -- what `show` asks for, by its argument
 abbrev pub asked_by_show : Option Text → Option Request
@@ -78,11 +109,27 @@ abbrev pub asked_by_vectors : Option Text → Option Request
 asked_by_vectors None = None
 asked_by_vectors (Some file) = Some (vectors_request file)
 
--- what `run` asks for, by its arguments
-abbrev pub asked_by_run : Option Text → Option Text → Option Request
-asked_by_run None schedule = None
-asked_by_run (Some setup) None = None
-asked_by_run (Some setup) (Some schedule) = Some (run_request setup schedule)
+-- an option without a value is on where it was given: then its value is that of true
+abbrev pub is_on : Option Text → Bool
+is_on None = false
+is_on (Some value) = bytes_eq value (codes "true")
+
+-- what `run` asks for, by its arguments and options
+abbrev pub asked_by_run : Option Text → Option Text → Option Text → Option Text → Option Request
+asked_by_run None schedule expect lines = None
+asked_by_run (Some setup) None expect lines = None
+asked_by_run (Some setup) (Some schedule) expect lines = Some (run_request setup schedule expect (is_on lines))
+
+-- what `recording` asks for, by its argument and options
+abbrev pub asked_by_recording : Option Text → Option Text → Option Text → Option Request
+asked_by_recording None ports endpoints = None
+asked_by_recording (Some file) ports endpoints = Some (recording_request file ports (is_on endpoints))
+
+-- what `chart` asks for, by its arguments
+abbrev pub asked_by_chart : Option Text → Option Text → Option Request
+asked_by_chart None schedule = None
+asked_by_chart (Some setup) None = None
+asked_by_chart (Some setup) (Some schedule) = Some (chart_request setup schedule)
 
 -- what a subcommand asks for, by its name and what its arguments matched
 abbrev pub asked_by_subcommand : Text → List Row → Option Request
@@ -91,7 +138,11 @@ asked_by_subcommand name rows =
     else (if bytes_eq name (codes "payload")
     then asked_by_payload (first_of (codes "shape") rows) (first_of (codes "hex") rows)
     else (if bytes_eq name (codes "vectors") then asked_by_vectors (first_of (codes "file") rows)
-    else (if bytes_eq name (codes "run") then asked_by_run (first_of (codes "setup") rows) (first_of (codes "schedule") rows) else None)))
+    else (if bytes_eq name (codes "run")
+    then asked_by_run (first_of (codes "setup") rows) (first_of (codes "schedule") rows) (first_of (codes "expect") rows) (first_of (codes "lines") rows)
+    else (if bytes_eq name (codes "recording")
+    then asked_by_recording (first_of (codes "file") rows) (first_of (codes "ports") rows) (first_of (codes "endpoints") rows)
+    else (if bytes_eq name (codes "chart") then asked_by_chart (first_of (codes "setup") rows) (first_of (codes "schedule") rows) else None)))))
 
 -- what the subcommand that was entered asks for, where one was
 abbrev pub asked_by_entered : Option (Text × List Row) → Option Request

@@ -7,13 +7,19 @@ use Rattle.someipctl_commands.specs.declared.outcome.Outcome.{Outcome}
 use Rattle.someipctl_commands.specs.declared.outcome.Outcome.TheVariants.{Done}
 use Rattle.std.specs.Borrow.{Bor}
 use Rattle.someipctl_cli.specs.declared.failure.Failure.{Failure}
-use Rattle.someipctl_cli.specs.declared.failure.Failure.TheVariants.{BadHex, BadVector, BadScheduleLine, BadSetup, BadStep, BadShape, BadPayloadHex, Usage, NotText, OutOfMemory, CannotRead, CannotWrite}
+use Rattle.someipctl_cli.specs.declared.failure.Failure.TheVariants.{BadHex, BadVector, BadScheduleLine, BadSetup, BadExpectedLine, BadStep, BadShape, BadPayloadHex, BadRecording, BadPorts, Usage, NotText, OutOfMemory, CannotRead, CannotWrite}
 use Rattle.someipctl_commands.specs.declared.payload.PayloadRefusal.{PayloadRefusal}
 use Rattle.someipctl_commands.specs.declared.payload.PayloadRefusal.TheVariants as payloads
+use Rattle.someipctl_commands.specs.declared.ports.PortsError.{PortsError}
+use Rattle.someipctl_commands.specs.declared.ports.PortsError.TheVariants as ports
+use Rattle.someipctl_commands.specs.declared.recordings.RecordingFault.{RecordingFault}
+use Rattle.someipctl_commands.specs.declared.recordings.RecordingFault.TheVariants as recordings
 use Rattle.someipctl_commands.specs.declared.show.ShowError.{ShowError}
 use Rattle.someipctl_commands.specs.declared.show.ShowError.TheVariants as shows
 use Rattle.someipctl_commands.specs.declared.vectors.VectorsError.{VectorsError}
 use Rattle.someipctl_commands.specs.declared.vectors.VectorsError.TheVariants as vectors
+use Rattle.someipctl_run.specs.declared.error.ExpectedFault.{ExpectedFault}
+use Rattle.someipctl_run.specs.declared.error.ExpectedFault.TheVariants as expected
 use Rattle.someipctl_run.specs.declared.error.RunFault.{RunFault}
 use Rattle.someipctl_run.specs.declared.error.RunFault.TheVariants as runs
 use Rattle.someipctl_run.specs.declared.error.SetupFault.{SetupFault}
@@ -25,9 +31,12 @@ status_of_failure (BadHex line) = 1
 status_of_failure (BadVector line) = 1
 status_of_failure (BadScheduleLine line) = 1
 status_of_failure (BadSetup error) = 1
+status_of_failure (BadExpectedLine line) = 1
 status_of_failure (BadStep index fault) = 1
 status_of_failure (BadShape place) = 1
 status_of_failure BadPayloadHex = 1
+status_of_failure (BadRecording error) = 1
+status_of_failure (BadPorts text) = 2
 status_of_failure (Usage error) = 2
 status_of_failure NotText = 2
 status_of_failure OutOfMemory = 3
@@ -61,6 +70,12 @@ failure_of_setup (setups.Refused error) path = BadSetup error
 failure_of_setup setups.CannotRead path = CannotRead path
 failure_of_setup setups.OutOfMemory path = OutOfMemory
 
+-- why the expected trace at a path was not read
+abbrev pub failure_of_expected : ExpectedFault → Bor (List ℕ) → Failure
+failure_of_expected (expected.BadLine line) path = BadExpectedLine line
+failure_of_expected expected.CannotRead path = CannotRead path
+failure_of_expected expected.OutOfMemory path = OutOfMemory
+
 -- why the schedule at a path was not run
 abbrev pub failure_of_run : RunFault → Bor (List ℕ) → Failure
 failure_of_run (runs.BadLine line) path = BadScheduleLine line
@@ -68,6 +83,18 @@ failure_of_run (runs.BadStep index fault) path = BadStep index fault
 failure_of_run runs.CannotRead path = CannotRead path
 failure_of_run runs.CannotWrite path = CannotWrite
 failure_of_run runs.OutOfMemory path = OutOfMemory
+
+-- why the recording at a path was not shown
+abbrev pub failure_of_recording : RecordingFault → Bor (List ℕ) → Failure
+failure_of_recording (recordings.BadRecording error) path = BadRecording error
+failure_of_recording recordings.CannotRead path = CannotRead path
+failure_of_recording recordings.CannotWrite path = CannotWrite
+failure_of_recording recordings.OutOfMemory path = OutOfMemory
+
+-- why a text names no ports
+abbrev pub failure_of_ports : PortsError → Bor (List ℕ) → Failure
+failure_of_ports ports.BadPorts text = BadPorts text
+failure_of_ports ports.OutOfMemory text = OutOfMemory
 
 -- the answer to a call for help: its text was written whole, or a beginning of it was and then writing failed
 abbrev pub AnswersHelp : List ℕ → Result Outcome Failure → Option (List ℕ) → Option (List ℕ) → Type 0

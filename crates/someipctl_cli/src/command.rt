@@ -1,17 +1,24 @@
 //! What the arguments ask for: a command, help, or nothing that there is.
 ghost use Rattle.std.specs.Prelude.{◌≡◌, ◌∷◌, IfErr, IfOk, IsSome, List, OnOk, Some, [], codes};
 ghost use Rattle.std.specs.Prelude.{false, map, option_map, ℕ};
-ghost use Rattle.clap.specs.Words.{app_of, first_value, found_of, shape_of, subcommand_rows_of};
+ghost use Rattle.clap.specs.Words.{app_of, first_value, found_of, rule_of, shape_of, subcommand_rows_of};
 ghost use Rattle.clap.specs.declared.builder.Command.TheViews.{out-Command};
 ghost use Rattle.someipctl_cli.specs.declared.command.LineError.TheVariants.{OutOfMemory};
 ghost use Rattle.someipctl_cli.specs.CommandLine.{CallsForHelp, HaveFault, IsLineErrorOf, IsTaken, RefusesWords};
-ghost use Rattle.someipctl_cli.specs.CommandLine.{asked_by_command, asked_by_entered, asked_by_payload};
-ghost use Rattle.someipctl_cli.specs.CommandLine.{asked_by_run, asked_by_show, asked_by_vectors, cli, is_flag};
-ghost use Rattle.someipctl_cli.specs.CommandLine.{line, payload_usage, program, requested, run_usage, show_usage};
-ghost use Rattle.someipctl_cli.specs.CommandLine.{vectors_usage, with_byte_commands};
+ghost use Rattle.someipctl_cli.specs.CommandLine.{asked_by_chart, asked_by_command, asked_by_entered};
+ghost use Rattle.someipctl_cli.specs.CommandLine.{asked_by_payload, asked_by_recording, asked_by_run};
+ghost use Rattle.someipctl_cli.specs.CommandLine.{asked_by_show, asked_by_vectors, chart_usage, cli, is_flag};
+ghost use Rattle.someipctl_cli.specs.CommandLine.{is_on, line, payload_usage, program, recording_usage};
+ghost use Rattle.someipctl_cli.specs.CommandLine.{requested, run_usage, show_usage, vectors_usage};
+ghost use Rattle.someipctl_cli.specs.CommandLine.{flag as flag_rule, recording_options, with_byte_commands};
+ghost use Rattle.someipctl_cli.specs.CommandLine.{valued, with_file_commands, with_inputs};
 
+use crate::examples::{
+    CHART_EXAMPLE, PAYLOAD_EXAMPLE, PROGRAM_EXAMPLE, RECORDING_EXAMPLE, RUN_EXAMPLE, SHOW_EXAMPLE,
+    VECTORS_EXAMPLE,
+};
 use clap::error::ErrorKind;
-use clap::{Arg, ArgMatches};
+use clap::{Arg, ArgAction, ArgMatches};
 use std::alloc::{AllocError, Global};
 use std::convert::AsStr;
 use thiserror::Error;
@@ -38,6 +45,26 @@ pub enum Command<'w> {
     },
     /// Run a schedule over the nodes of a setup.
     Run {
+        /// The setup's path, as it was given.
+        setup: &'w str,
+        /// The schedule's path, as it was given.
+        schedule: &'w str,
+        /// The path of the trace that is expected, as it was given.
+        expect: Option<&'w str>,
+        /// Whether each line of the trace is to begin with the line of the schedule.
+        lines: bool,
+    },
+    /// Print the messages of a recording of network traffic.
+    Recording {
+        /// The recording's path, as it was given.
+        file: &'w str,
+        /// The text of the ports whose datagrams are asked for. None asks for all.
+        ports: Option<&'w str>,
+        /// Whether each line is to begin with the time and the endpoints of its datagram.
+        endpoints: bool,
+    },
+    /// Draw a run of a schedule over the nodes of a setup.
+    Chart {
         /// The setup's path, as it was given.
         setup: &'w str,
         /// The schedule's path, as it was given.
@@ -105,81 +132,18 @@ impl From<AllocError> for LineError {
     }
 }
 
-const PROGRAM_EXAMPLE: &str = "\
-Example:
-  someipctl show examples/one.txt
-
-The help of a command shows the form of its input, as `someipctl help show` does.";
-
-const SHOW_EXAMPLE: &str = "\
-A capture has one datagram a line, in hex. `-` is the empty datagram, blanks are ignored,
-and lines that begin with # are comments. So the line
-  12340421 00000008 00010001 01010000
-prints
-  1 message 1234.0421 length 8 client 0001 session 0001 interface 01 type REQUEST code 00 payload -";
-
-const PAYLOAD_EXAMPLE: &str = "\
-SHAPE says what the payload looks like, HEX is the payload in hex without blanks, - for no bytes.
-A shape is bool, u8, u16, u32, u64, i8, i16, i32 or i64; utf8, utf16, array<MAX,shape> or
-struct(shape,..), with /8, /16 or /32 behind the word for the width of the length field;
-fixed<N,shape>; union(NUMBER:shape,..); or tagged(ID:shape,ID?:shape,..), with a width as above,
-where ? marks a member that may be absent, which is printed as -. So the calls
-  someipctl payload 'array<2,u16>' 0000000400010002
-  someipctl payload 'tagged/8(1:u8,2?:utf8)' 070001071009ffff
-print
-  value [1,2]
-  used 8 of 8
-and
-  value {7,-}
-  used 8 of 8
-where member 2 is absent, and the item of the unknown ID 9 is skipped.";
-
-const VECTORS_EXAMPLE: &str = "\
-A line `datagram HEX` or `payload SHAPE HEX` is a vector, and the lines after it that begin with
-`> ` are the text that it expects: that of `show`, where the datagram is the first of a capture,
-or that of `payload`. HEX has no blanks. Empty lines and lines that begin with # are left out.
-So the lines
-  datagram -
-  > 1 empty
-  payload u8 07
-  > value 8
-  > used 1 of 1
-print
-  1 ok
-  2 differs
-  passed 1 of 2";
-
-const RUN_EXAMPLE: &str = "\
-SETUP is a TOML file: what the nodes of a network share, and each node with what it offers and wants.
-  group = \"239.0.0.1\"
-  [[node]]
-  name = \"a\"
-  address = \"192.168.0.1\"
-  client_id = 0x0101
-  client_port = 40000
-  [[node.offer]]
-  service = 0x1111
-  instance = 1
-  major = 1
-  ttl = 3
-  port = 30509
-  methods = [0x0421]
-
-SCHEDULE has one step a line: what happens to a node. Lines that begin with # are comments.
-  tick NODE MS                 deliver N NODE
-  call NODE SI METHOD PAYLOAD  oneway NODE SI METHOD PAYLOAD
-  answer NODE T CODE PAYLOAD   error NODE T CODE PAYLOAD
-  publish NODE SI EVENT PAYLOAD
-  publish_to NODE SI GROUP EP EVENT PAYLOAD
-  subscribe NODE SI GROUP      unsubscribe NODE SI GROUP
-  stop_offer NODE SI           restart NODE DELAY
-So the step
-  tick a 10
-prints the Offer of node a as datagram 1, which a later `deliver 1 NODE` delivers.";
-
 /// The command line, as `clap` is told of it.
 fn definition<'d>(alloc: Global) -> Result<clap::Command<'d>, AllocError>
     ensures { IfOk result (λ command. app_of command ≡ cli) }
+{
+    files_definition(alloc)?
+        .subcommand(recording_definition(alloc)?)?
+        .subcommand(chart_definition(alloc)?)
+}
+
+/// The program with the commands that read bytes, vectors and schedules.
+fn files_definition<'d>(alloc: Global) -> Result<clap::Command<'d>, AllocError>
+    ensures { IfOk result (λ command. app_of command ≡ with_file_commands) }
 {
     reading_definition(alloc)?
         .subcommand(vectors_definition(alloc)?)?
@@ -231,6 +195,8 @@ fn matched<'w>(matches: &ArgMatches<'w>) -> Option<Command<'w>>
         "payload" => payload_matched(rest),
         "vectors" => vectors_matched(rest),
         "run" => run_matched(rest),
+        "recording" => recording_matched(rest),
+        "chart" => chart_matched(rest),
         _ => None,
     }
 }
@@ -292,23 +258,154 @@ fn run_definition<'d>(alloc: Global) -> Result<clap::Command<'d>, AllocError>
     ensures shape { IfOk result (λ command. shape_of command ≡ run_usage) }
     ensures local { IfOk result (λ command. (out-Command command).has_globals ≡ false) }
 {
-    let setup = Arg::new(alloc, "setup").value_name("SETUP").required(true);
-    let schedule = Arg::new(alloc, "schedule")
-        .value_name("SCHEDULE")
-        .required(true);
-    clap::Command::new(alloc, "run")
+    let expect = valued_option(
+        alloc,
+        "expect",
+        "TRACE",
+        "Compares the trace with this file, and prints the first line that differs",
+    );
+    let lines = flag(
+        alloc,
+        "lines",
+        "Puts the line of the schedule before each line of the trace",
+    );
+    let command = clap::Command::new(alloc, "run")
         .about("Runs a schedule over the nodes of a setup, and prints what they give")
         .after_help(RUN_EXAMPLE)
-        .arg(setup)?
-        .arg(schedule)
+        .arg(expect)?
+        .arg(lines)?;
+    add_inputs(alloc, command)
 }
 
 fn run_matched<'w>(matches: &ArgMatches<'w>) -> Option<Command<'w>>
     ensures { option_map asked_by_command result
         ≡ asked_by_run (first_value (found_of matches.now) (codes "setup"))
+        (first_value (found_of matches.now) (codes "schedule"))
+        (first_value (found_of matches.now) (codes "expect"))
+        (first_value (found_of matches.now) (codes "lines")) }
+{
+    let setup = matches.get_str("setup")?;
+    let schedule = matches.get_str("schedule")?;
+    Some(Command::Run {
+        setup,
+        schedule,
+        expect: matches.get_str("expect"),
+        lines: is_given(matches, "lines"),
+    })
+}
+
+fn recording_definition<'d>(alloc: Global) -> Result<clap::Command<'d>, AllocError>
+    ensures shape { IfOk result (λ command. shape_of command ≡ recording_usage) }
+    ensures local { IfOk result (λ command. (out-Command command).has_globals ≡ false) }
+{
+    let file = Arg::new(alloc, "file")
+        .value_name("FILE")
+        .help("The path of a recording")
+        .required(true);
+    recording_options(alloc)?.arg(file)
+}
+
+/// `recording` with its options alone.
+fn recording_options<'d>(alloc: Global) -> Result<clap::Command<'d>, AllocError>
+    ensures app { IfOk result (λ command. app_of command ≡ recording_options) }
+    ensures local { IfOk result (λ command. (out-Command command).has_globals ≡ false) }
+{
+    let ports = valued_option(
+        alloc,
+        "ports",
+        "PORTS",
+        "Prints only datagrams from or to one of these ports",
+    );
+    let endpoints = flag(
+        alloc,
+        "endpoints",
+        "Puts time, sender and receiver before each line",
+    );
+    clap::Command::new(alloc, "recording")
+        .about("Prints the messages of a recording of network traffic")
+        .after_help(RECORDING_EXAMPLE)
+        .arg(ports)?
+        .arg(endpoints)
+}
+
+fn recording_matched<'w>(matches: &ArgMatches<'w>) -> Option<Command<'w>>
+    ensures { option_map asked_by_command result
+        ≡ asked_by_recording (first_value (found_of matches.now) (codes "file"))
+        (first_value (found_of matches.now) (codes "ports"))
+        (first_value (found_of matches.now) (codes "endpoints")) }
+{
+    let file = matches.get_str("file")?;
+    Some(Command::Recording {
+        file,
+        ports: matches.get_str("ports"),
+        endpoints: is_given(matches, "endpoints"),
+    })
+}
+
+fn chart_definition<'d>(alloc: Global) -> Result<clap::Command<'d>, AllocError>
+    ensures shape { IfOk result (λ command. shape_of command ≡ chart_usage) }
+    ensures local { IfOk result (λ command. (out-Command command).has_globals ≡ false) }
+{
+    let command = clap::Command::new(alloc, "chart")
+        .about("Draws a run of a schedule over the nodes of a setup, as an SVG picture")
+        .after_help(CHART_EXAMPLE);
+    add_inputs(alloc, command)
+}
+
+fn chart_matched<'w>(matches: &ArgMatches<'w>) -> Option<Command<'w>>
+    ensures { option_map asked_by_command result
+        ≡ asked_by_chart (first_value (found_of matches.now) (codes "setup"))
         (first_value (found_of matches.now) (codes "schedule")) }
 {
     let setup = matches.get_str("setup")?;
     let schedule = matches.get_str("schedule")?;
-    Some(Command::Run { setup, schedule })
+    Some(Command::Chart { setup, schedule })
+}
+
+/// The command with the two files of a run as its further arguments.
+fn add_inputs<'d>(
+    alloc: Global,
+    command: clap::Command<'d>,
+) -> Result<clap::Command<'d>, AllocError>
+    requires { (out-Command command).has_globals ≡ false }
+    ensures app { IfOk result (λ r. app_of r ≡ with_inputs (app_of command.entry)) }
+    ensures local { IfOk result (λ r. (out-Command r).has_globals ≡ false) }
+{
+    let setup = Arg::new(alloc, "setup").value_name("SETUP").required(true);
+    let schedule = Arg::new(alloc, "schedule")
+        .value_name("SCHEDULE")
+        .required(true);
+    command.arg(setup)?.arg(schedule)
+}
+
+/// An option with a value, by its name.
+fn valued_option<'d>(alloc: Global, name: &'d str, value_name: &'d str, help: &'d str) -> Arg<'d>
+    ensures rule { rule_of result ≡ valued name.entry.now }
+    ensures local { result.global ≡ false }
+{
+    Arg::new(alloc, name)
+        .long(name)
+        .value_name(value_name)
+        .help(help)
+}
+
+/// An option without a value, by its name.
+fn flag<'d>(alloc: Global, name: &'d str, help: &'d str) -> Arg<'d>
+    ensures rule { rule_of result ≡ flag_rule name.entry.now }
+    ensures local { result.global ≡ false }
+{
+    Arg::new(alloc, name)
+        .long(name)
+        .help(help)
+        .action(ArgAction::SetTrue)
+}
+
+/// Whether an option without a value was given.
+fn is_given(matches: &ArgMatches<'_>, name: &str) -> bool
+    ensures { result ≡ is_on (first_value (found_of matches.now) name.now) }
+{
+    match matches.get_str(name) {
+        Some(value) => value == "true",
+        None => false,
+    }
 }

@@ -1,14 +1,18 @@
 //! Why the program did not do its work.
 ghost use Rattle.std.specs.Prelude.{◌≡◌};
 ghost use Rattle.someipctl_cli.specs.Failures.{status_of_failure, failure_of_show, failure_of_payload};
-ghost use Rattle.someipctl_cli.specs.Failures.{failure_of_run, failure_of_setup, failure_of_vectors};
+ghost use Rattle.someipctl_cli.specs.Failures.{failure_of_expected, failure_of_run, failure_of_setup};
+ghost use Rattle.someipctl_cli.specs.Failures.{failure_of_ports, failure_of_recording, failure_of_vectors};
 
+use recording::RecordingError;
 use someip_world::{SetupError, StepFault};
 use someipctl_commands::ReadFault;
 use someipctl_commands::payload::PayloadRefusal;
+use someipctl_commands::ports::PortsError;
+use someipctl_commands::recordings::RecordingFault;
 use someipctl_commands::show::ShowError;
 use someipctl_commands::vectors::VectorsError;
-use someipctl_run::{RunFault, SetupFault, SetupRefusal};
+use someipctl_run::{ExpectedFault, RunFault, SetupFault, SetupRefusal};
 use thiserror::Error;
 
 /// Why the program did not do its work. Printed, it is the text for standard error.
@@ -26,6 +30,9 @@ pub enum Failure<'p> {
     /// The text of a setup is none.
     #[error("{}", SetupRefusal(.0))]
     BadSetup(SetupError),
+    /// The line of this number of an expected trace, counted from 1, can be none of a trace.
+    #[error("{}", ExpectedFault::BadLine(*.0))]
+    BadExpectedLine(usize),
     /// The step of this index of a schedule, counted from 1, can't happen.
     #[error("{}", RunFault::BadStep(*.0, *.1))]
     BadStep(usize, StepFault),
@@ -35,6 +42,12 @@ pub enum Failure<'p> {
     /// A payload is no hex.
     #[error("{}", PayloadRefusal::BadHex)]
     BadPayloadHex,
+    /// A recording has a fault.
+    #[error("{}", RecordingFault::BadRecording(*.0))]
+    BadRecording(RecordingError),
+    /// This text names no ports.
+    #[error("error: invalid value '{0}' for '--ports <PORTS>': ports are numbers from 1 to 65535 with commas between them\n\nUsage: someipctl recording [OPTIONS] <FILE>")]
+    BadPorts(&'p str),
     /// The arguments are no call of the program.
     #[error("{0}")]
     Usage(clap::Error),
@@ -63,10 +76,12 @@ impl<'p> Failure<'p> {
             | Failure::BadVector(_)
             | Failure::BadScheduleLine(_)
             | Failure::BadSetup(_)
+            | Failure::BadExpectedLine(_)
             | Failure::BadStep(_, _)
             | Failure::BadShape(_)
-            | Failure::BadPayloadHex => 1,
-            Failure::Usage(_) | Failure::NotText => 2,
+            | Failure::BadPayloadHex
+            | Failure::BadRecording(_) => 1,
+            Failure::Usage(_) | Failure::NotText | Failure::BadPorts(_) => 2,
             Failure::OutOfMemory => 3,
             Failure::CannotRead(_) | Failure::CannotWrite => 4,
         }
@@ -107,6 +122,17 @@ impl<'p> Failure<'p> {
         }
     }
 
+    /// Why the expected trace at a path was not read.
+    pub fn of_expected(fault: ExpectedFault, path: &'p str) -> Failure<'p>
+        ensures { result ≡ failure_of_expected fault path.entry }
+    {
+        match fault {
+            ExpectedFault::BadLine(line) => Failure::BadExpectedLine(line),
+            ExpectedFault::CannotRead => Failure::CannotRead(path),
+            ExpectedFault::OutOfMemory => Failure::OutOfMemory,
+        }
+    }
+
     /// Why the schedule at a path was not run.
     pub fn of_run(fault: RunFault, path: &'p str) -> Failure<'p>
         ensures { result ≡ failure_of_run fault path.entry }
@@ -129,6 +155,28 @@ impl<'p> Failure<'p> {
             PayloadRefusal::BadHex => Failure::BadPayloadHex,
             PayloadRefusal::CannotWrite => Failure::CannotWrite,
             PayloadRefusal::OutOfMemory => Failure::OutOfMemory,
+        }
+    }
+
+    /// Why the recording at a path was not shown.
+    pub fn of_recording(fault: RecordingFault, path: &'p str) -> Failure<'p>
+        ensures { result ≡ failure_of_recording fault path.entry }
+    {
+        match fault {
+            RecordingFault::BadRecording(error) => Failure::BadRecording(error),
+            RecordingFault::CannotRead => Failure::CannotRead(path),
+            RecordingFault::CannotWrite => Failure::CannotWrite,
+            RecordingFault::OutOfMemory => Failure::OutOfMemory,
+        }
+    }
+
+    /// Why a text names no ports.
+    pub fn of_ports(error: PortsError, text: &'p str) -> Failure<'p>
+        ensures { result ≡ failure_of_ports error text.entry }
+    {
+        match error {
+            PortsError::BadPorts => Failure::BadPorts(text),
+            PortsError::OutOfMemory => Failure::OutOfMemory,
         }
     }
 }

@@ -1,8 +1,9 @@
 //! Laws of the definitions behind the contracts: what words ask for. Each is the contract of a
 //! function that does nothing.
-ghost use Rattle.std.specs.Prelude.{◌≡◌, ◌∷◌, [], codes, false, Some, IsSome, ℕ, List};
+ghost use Rattle.std.specs.Prelude.{◌≡◌, ◌∷◌, [], codes, false, true, Some, None, IsSome, ℕ, List};
 ghost use Rattle.someipctl_cli.specs.CommandLine.{CallsForHelp, HaveFault, IsTaken, is_flag, line};
-ghost use Rattle.someipctl_cli.specs.CommandLine.{requested, show_request, vectors_request};
+ghost use Rattle.someipctl_cli.specs.CommandLine.{requested, show_request, vectors_request, run_request};
+ghost use Rattle.someipctl_cli.specs.CommandLine.{recording_request, chart_request};
 
 use clap::error::ErrorKind;
 
@@ -26,6 +27,28 @@ pub fn calls_by_example()
 
     ensures vectors { requested (line (codes "vectors" ∷ codes "x" ∷ []))
         ≡ Some (vectors_request (codes "x")) }
+
+    ensures run { requested (line (codes "run" ∷ codes "x" ∷ codes "y" ∷ []))
+        ≡ Some (run_request (codes "x") (codes "y") None false) }
+
+    ensures run_options { requested (line (codes "run" ∷ codes "--lines" ∷ codes "--expect" ∷ codes "t"
+        ∷ codes "x" ∷ codes "y" ∷ [])) ≡ Some (run_request (codes "x") (codes "y") (Some (codes "t")) true) }
+
+    ensures recording { requested (line (codes "recording" ∷ codes "x" ∷ []))
+        ≡ Some (recording_request (codes "x") None false) }
+
+    // Options may also stand behind the file, and have their value behind `=`.
+    ensures recording_options { requested (line (codes "recording" ∷ codes "x" ∷ codes "--ports=1,2"
+        ∷ codes "--endpoints" ∷ [])) ≡ Some (recording_request (codes "x") (Some (codes "1,2")) true) }
+
+    ensures chart { requested (line (codes "chart" ∷ codes "x" ∷ codes "y" ∷ []))
+        ≡ Some (chart_request (codes "x") (codes "y")) }
+
+    // An option without its value, and one that was given twice.
+    ensures bare_expect { HaveFault (line (codes "run" ∷ codes "x" ∷ codes "y" ∷ codes "--expect" ∷ []))
+        ErrorKind.InvalidValue }
+    ensures twice { HaveFault (line (codes "run" ∷ codes "--lines" ∷ codes "--lines" ∷ codes "x" ∷ codes "y" ∷ []))
+        ErrorKind.ArgumentConflict }
 
     // No command, or no capture.
     ensures bare { HaveFault (line []) ErrorKind.MissingSubcommand }

@@ -4,12 +4,14 @@
 //! `someipctl_run`.
 //!
 //! - `command`, `help`: what the words ask for, and the answer to others;
+//! - `examples`: the text below each help;
 //! - `program`: the words, the files that they name, and the exit status;
 //! - `failure`: why the program failed, with its exit status and its text;
 //! - `laws`: what the definitions behind the contracts promise.
 #![tactic(auto)]
 
 mod command;
+mod examples;
 mod failure;
 mod help;
 pub mod laws;

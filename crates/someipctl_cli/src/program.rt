@@ -1,16 +1,21 @@
 //! What the program does with its words: the command that they ask for, over the files that they name,
 //! and how it ends.
-ghost use Rattle.std.specs.Prelude.{◌≡◌};
+ghost use Rattle.std.specs.Prelude.{◌≡◌, true, false};
+ghost use Rattle.someipctl_run.specs.declared.form.TraceForm.TheVariants.{Plain, WithLines};
 ghost use Rattle.someipctl_cli.specs.Failures.{status_of_failure};
 
 use crate::command::{Command, command_of};
 use crate::failure::Failure;
 use crate::help::answer_error;
+use someip_world::Setup;
+use someipctl_chart::chart_schedule;
 use someipctl_commands::Outcome;
 use someipctl_commands::payload::payload;
+use someipctl_commands::ports::ports_in;
+use someipctl_commands::recordings::show_recording;
 use someipctl_commands::show::show;
 use someipctl_commands::vectors::vectors;
-use someipctl_run::{read_setup, run_schedule};
+use someipctl_run::{TraceForm, compare_schedule, read_expected, read_setup, run_schedule_in_form};
 use std::io::ErrorKind;
 use std::rt::{Env, Files};
 use std::{env, fs, io};
@@ -41,7 +46,7 @@ pub fn words_of<R: Env + AllocGlobal>(rt: &R) -> Result<Vec<String>, Failure<'st
 }
 
 /// Does what the words ask for, of which the first is the program's name.
-pub fn run<'w, R: Files + Print + AllocGlobal>(
+pub fn run<'w, R: Files + Print + Eprint + AllocGlobal>(
     rt: &R,
     words: &'w [String],
 ) -> Result<Outcome, Failure<'w>> {
@@ -51,7 +56,7 @@ pub fn run<'w, R: Files + Print + AllocGlobal>(
     }
 }
 
-fn run_command<'w, R: Files + Print + AllocGlobal>(
+fn run_command<'w, R: Files + Print + Eprint + AllocGlobal>(
     rt: &R,
     command: Command<'w>,
 ) -> Result<Outcome, Failure<'w>> {
@@ -61,7 +66,18 @@ fn run_command<'w, R: Files + Print + AllocGlobal>(
             payload(rt.alloc(), shape, hex, &mut io::writer(rt)).map_err(Failure::of_payload)
         }
         Command::Vectors { file } => judge_file(rt, file),
-        Command::Run { setup, schedule } => run_files(rt, setup, schedule),
+        Command::Run {
+            setup,
+            schedule,
+            expect,
+            lines,
+        } => run_files(rt, setup, schedule, expect, form_of(lines)),
+        Command::Chart { setup, schedule } => chart_files(rt, setup, schedule),
+        Command::Recording {
+            file,
+            ports,
+            endpoints,
+        } => show_recorded(rt, file, ports, endpoints),
     }
 }
 
@@ -71,6 +87,36 @@ fn show_file<'p, R: Files + Print + AllocGlobal>(
 ) -> Result<Outcome, Failure<'p>> {
     let mut file = open_file(rt, path)?;
     show(rt.alloc(), &mut file, &mut io::writer(rt)).map_err(|error| Failure::of_show(error, path))
+}
+
+/// Shows a recording, and then tells on standard error what was left out of it. Whatever is wrong with the
+/// ports is told before the recording is looked at.
+fn show_recorded<'p, R: Files + Print + Eprint + AllocGlobal>(
+    rt: &R,
+    path: &'p str,
+    ports: Option<&'p str>,
+    endpoints: bool,
+) -> Result<Outcome, Failure<'p>> {
+    let asked = match ports {
+        Some(text) => Some(ports_in(rt.alloc(), text).map_err(|error| Failure::of_ports(
+            error, text,
+        ))?),
+        None => None,
+    };
+    let mut file = open_file(rt, path)?;
+    let shown = show_recording(
+        rt.alloc(),
+        &mut file,
+        asked.as_ref().map(|ports| ports.as_slice()),
+        endpoints,
+        &mut io::writer(rt),
+    )
+    .map_err(|fault| Failure::of_recording(fault, path))?;
+    if !shown.left_out.is_empty() {
+        // Where standard error can't be written, what was printed stands all the same.
+        let _ = eprintln!(rt; "recording: {}", shown.left_out);
+    }
+    Ok(shown.outcome)
 }
 
 fn judge_file<'p, R: Files + Print + AllocGlobal>(
@@ -83,22 +129,81 @@ fn judge_file<'p, R: Files + Print + AllocGlobal>(
     ))
 }
 
-/// Runs a schedule over a setup. Whatever is wrong with the setup is told before the schedule is looked
-/// at.
+/// The form of a trace, by whether the lines of the schedule are shown.
+fn form_of(lines: bool) -> TraceForm
+    ensures with_lines { lines ≡ true → result ≡ WithLines }
+    ensures plain { lines ≡ false → result ≡ Plain }
+{
+    if lines {
+        TraceForm::WithLines
+    } else {
+        TraceForm::Plain
+    }
+}
+
+/// Runs a schedule over a setup, and compares the trace where one is expected. Whatever is wrong with the
+/// setup is told before the other files are looked at, and whatever is wrong with the expected trace
+/// before the schedule.
 fn run_files<'p, R: Files + Print + AllocGlobal>(
     rt: &R,
     setup: &'p str,
     schedule: &'p str,
+    expect: Option<&'p str>,
+    form: TraceForm,
 ) -> Result<Outcome, Failure<'p>> {
-    let mut file = open_file(rt, setup)?;
-    let network = read_setup(rt.alloc(), &mut file).map_err(|fault| Failure::of_setup(
-        fault, setup,
-    ))?;
+    let network = setup_at(rt, setup)?;
+    if let Some(trace) = expect {
+        return compare_files(rt, &network, schedule, trace, form);
+    }
     let mut file = open_file(rt, schedule)?;
-    run_schedule(rt.alloc(), &network, &mut file, &mut io::writer(rt)).map_err(
+    run_schedule_in_form(rt.alloc(), &network, form, &mut file, &mut io::writer(rt)).map_err(
         |fault| Failure::of_run(fault, schedule),
     )?;
     Ok(Outcome::Done)
+}
+
+/// Runs a schedule over a setup, and compares its trace with the one that a file expects.
+fn compare_files<'p, R: Files + Print + AllocGlobal>(
+    rt: &R,
+    network: &Setup,
+    schedule: &'p str,
+    trace: &'p str,
+    form: TraceForm,
+) -> Result<Outcome, Failure<'p>> {
+    let mut file = open_file(rt, trace)?;
+    let expected = read_expected(rt.alloc(), &mut file).map_err(|fault| Failure::of_expected(
+        fault, trace,
+    ))?;
+    let mut file = open_file(rt, schedule)?;
+    compare_schedule(
+        rt.alloc(),
+        network,
+        form,
+        &expected,
+        &mut file,
+        &mut io::writer(rt),
+    )
+    .map_err(|fault| Failure::of_run(fault, schedule))
+}
+
+/// Draws a schedule over a setup.
+fn chart_files<'p, R: Files + Print + AllocGlobal>(
+    rt: &R,
+    setup: &'p str,
+    schedule: &'p str,
+) -> Result<Outcome, Failure<'p>> {
+    let network = setup_at(rt, setup)?;
+    let mut file = open_file(rt, schedule)?;
+    chart_schedule(rt.alloc(), &network, &mut file, &mut io::writer(rt)).map_err(
+        |fault| Failure::of_run(fault, schedule),
+    )?;
+    Ok(Outcome::Done)
+}
+
+/// The setup of the file at a path.
+fn setup_at<'p, R: Files + AllocGlobal>(rt: &R, path: &'p str) -> Result<Setup, Failure<'p>> {
+    let mut file = open_file(rt, path)?;
+    read_setup(rt.alloc(), &mut file).map_err(|fault| Failure::of_setup(fault, path))
 }
 
 fn open_file<'p, R: Files>(rt: &R, path: &'p str) -> Result<R::File, Failure<'p>> {

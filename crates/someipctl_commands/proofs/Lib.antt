@@ -7,3 +7,5 @@ pub mod VectorLemmas
 pub mod VerdictLemmas
 pub mod PayloadLemmas
 pub mod BlankLemmas
+pub mod RecordedLemmas
+pub mod PortLemmas

@@ -6,3 +6,8 @@ pub mod ShowResult
 pub mod Payload
 pub mod VectorLines
 pub mod Vectors
+pub mod LeftOut
+pub mod RecordedText
+pub mod RecordingResult
+pub mod Ports
+pub mod Heads

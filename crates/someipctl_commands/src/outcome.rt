@@ -7,12 +7,12 @@ ghost use Rattle.someipctl_commands.specs.Outcomes.{fault_outcome, status_of};
 pub enum Outcome {
     /// Nothing was wrong with what was shown.
     Done,
-    /// A fault was shown, or that a vector differs.
+    /// A fault was shown, or that a vector or a trace differs.
     FaultShown,
 }
 
 impl Outcome {
-    /// The outcome of a command that showed a fault, or a vector that differs, or showed none.
+    /// The outcome of a command that showed a fault, or that a vector differs, or showed none.
     pub fn of(fault_shown: bool) -> Outcome
         ensures { result ≡ fault_outcome fault_shown }
     {
@@ -23,7 +23,7 @@ impl Outcome {
         }
     }
 
-    /// The program's exit status: 0, or 1 where a fault was shown, or a vector that differs.
+    /// The program's exit status: 0 for `Done`, 1 for `FaultShown`.
     pub fn status(self) -> u8
         ensures { result ≡ status_of self }
     {

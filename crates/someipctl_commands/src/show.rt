@@ -124,7 +124,7 @@ fn put_datagrams<W: Write>(
 
 /// Prints the text of the k-th datagram, and says whether a fault is in it. What its Service Discovery
 /// messages hold is taken from what is left.
-fn put_datagram<W: Write>(
+pub(crate) fn put_datagram<W: Write>(
     buffer: &mut Buffer,
     writer: &mut W,
     k: usize,

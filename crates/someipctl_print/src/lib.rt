@@ -3,7 +3,7 @@
 //!
 //! - [`Buffer`], [`write_text`]: text on its way out;
 //! - [`Part`], [`put_parts`]: the parts of a line;
-//! - [`Word`], [`put_end`]: the words at the end of a line;
+//! - [`Word`], [`put_words`], [`put_end`]: the words of a line;
 //! - [`put_item`], [`put_empty`]: the lines of what a datagram holds.
 //!
 //! The lines of messages and segments stand in `lines`, those of Service Discovery in `discovery`,
@@ -22,4 +22,4 @@ pub use items::{item_len, put_item};
 pub use lines::put_empty;
 pub use output::{Buffer, CannotWrite, write_text};
 pub use parts::{Part, put_parts};
-pub use words::{Word, put_end};
+pub use words::{Word, put_end, put_words};

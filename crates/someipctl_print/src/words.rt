@@ -50,7 +50,7 @@ pub fn put_end<W: Write>(
 }
 
 /// Prints words, each behind a space.
-fn put_words<W: Write>(
+pub fn put_words<W: Write>(
     buffer: &mut Buffer,
     writer: &mut W,
     words: &[Word<'_>],

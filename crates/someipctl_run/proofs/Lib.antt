@@ -1,1 +1,5 @@
 pub mod TraceLemmas
+pub mod StepLineLemmas
+pub mod ExpectedLemmas
+pub mod ComparingLemmas
+pub mod LawLemmas

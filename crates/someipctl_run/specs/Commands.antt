@@ -14,11 +14,12 @@ use Rattle.someip_world_setup.specs.Readings.{HasValues, TextHasFault, setup_of_
 use Rattle.someip_world_setup.specs.declared.error.SetupError.TheVariants as errors
 use Rattle.someip_world_setup.specs.declared.setup_node.SetupNode.{SetupNode}
 use Rattle.someipctl_commands.specs.ShowResult.{WasLeft}
-use Rattle.someipctl_run.specs.Traces.{trace_text}
+use Rattle.someipctl_run.specs.Traces.{formed_trace, trace_text}
 use Rattle.someipctl_run.specs.declared.error.RunFault.{RunFault}
 use Rattle.someipctl_run.specs.declared.error.RunFault.TheVariants.{BadLine, BadStep, CannotRead, CannotWrite, OutOfMemory}
 use Rattle.someipctl_run.specs.declared.error.SetupFault.{SetupFault}
 use Rattle.someipctl_run.specs.declared.error.SetupFault.TheVariants as setups
+use Rattle.someipctl_run.specs.declared.form.TraceForm.{TraceForm}
 
 -- it holds of what the reader had left
 abbrev pub OfInput : Option (List ℕ) → (List ℕ → Type 0) → Type 0
@@ -65,29 +66,55 @@ RefusesTrace nodes text (BadStep index fault) = (steps : List Step) × SpellsSte
 RefusesTrace nodes text OutOfMemory = Unit {0}
 RefusesTrace nodes text fault = ⊥
 
--- the trace was written
-abbrev pub Ran : List SetupNode → List ℕ → Option (List ℕ) → Option (List ℕ) → Type 0
-Ran nodes text before after =
-    (lines : List Line) × (verdict : Reuse) × IsTraceOf nodes text lines verdict × Appends before after (trace_text nodes lines verdict)
+-- what is printed of a trace was written
+abbrev pub RanAs : (List Line → Reuse → List ℕ) → List SetupNode → List ℕ → Option (List ℕ) → Option (List ℕ) → Type 0
+RanAs printed nodes text before after =
+    (lines : List Line) × (verdict : Reuse) × IsTraceOf nodes text lines verdict × Appends before after (printed lines verdict)
 
 -- a beginning of it was written
-abbrev pub RanPartly : List SetupNode → List ℕ → Option (List ℕ) → Option (List ℕ) → Type 0
-RanPartly nodes text before after =
+abbrev pub RanPartlyAs : (List Line → Reuse → List ℕ) → List SetupNode → List ℕ → Option (List ℕ) → Option (List ℕ) → Type 0
+RanPartlyAs printed nodes text before after =
     (lines : List Line) × (verdict : Reuse) × IsTraceOf nodes text lines verdict
-    × (sent : List ℕ) × (unsent : List ℕ) × Appends before after sent × (sent ++ unsent ≡ trace_text nodes lines verdict)
+    × (sent : List ℕ) × (unsent : List ℕ) × Appends before after sent × (sent ++ unsent ≡ printed lines verdict)
 
 -- what a fault says of the schedule, and of what was written
+abbrev pub RefusesRunAs : (List Line → Reuse → List ℕ) → List SetupNode → List ℕ → RunFault → Option (List ℕ) → Option (List ℕ) → Type 0
+RefusesRunAs printed nodes text (BadLine line) before after = RefusesTrace nodes text (BadLine line) × Keeps before after
+RefusesRunAs printed nodes text (BadStep index fault) before after = RefusesTrace nodes text (BadStep index fault) × Keeps before after
+RefusesRunAs printed nodes text CannotRead before after = ⊥
+RefusesRunAs printed nodes text CannotWrite before after = RanPartlyAs printed nodes text before after
+RefusesRunAs printed nodes text OutOfMemory before after = Keeps before after
+
+-- the same of a schedule that is read
+abbrev pub RefusesReading : (List ℕ → RunFault → Option (List ℕ) → Option (List ℕ) → Type 0) → Option (List ℕ) → RunFault → Option (List ℕ) → Option (List ℕ) → Type 0
+RefusesReading Refuses input CannotRead before after = Keeps before after
+RefusesReading Refuses input OutOfMemory before after = Keeps before after
+RefusesReading Refuses input fault before after = OfInput input (λ text. Refuses text fault before after)
+
+-- ---- the trace alone
+
+abbrev pub Ran : List SetupNode → List ℕ → Option (List ℕ) → Option (List ℕ) → Type 0
+Ran nodes text before after = RanAs (trace_text nodes) nodes text before after
+
 abbrev pub RefusesRun : List SetupNode → List ℕ → RunFault → Option (List ℕ) → Option (List ℕ) → Type 0
-RefusesRun nodes text (BadLine line) before after = RefusesTrace nodes text (BadLine line) × Keeps before after
-RefusesRun nodes text (BadStep index fault) before after = RefusesTrace nodes text (BadStep index fault) × Keeps before after
-RefusesRun nodes text CannotRead before after = ⊥
-RefusesRun nodes text CannotWrite before after = RanPartly nodes text before after
-RefusesRun nodes text OutOfMemory before after = Keeps before after
+RefusesRun nodes text fault before after = RefusesRunAs (trace_text nodes) nodes text fault before after
 
 abbrev pub RanInput : List SetupNode → Option (List ℕ) → Option (List ℕ) → Option (List ℕ) → Type 0
 RanInput nodes input before after = OfInput input (λ text. Ran nodes text before after)
 
 abbrev pub RefusesInputRun : List SetupNode → Option (List ℕ) → RunFault → Option (List ℕ) → Option (List ℕ) → Type 0
-RefusesInputRun nodes input CannotRead before after = Keeps before after
-RefusesInputRun nodes input OutOfMemory before after = Keeps before after
-RefusesInputRun nodes input fault before after = OfInput input (λ text. RefusesRun nodes text fault before after)
+RefusesInputRun nodes input fault before after = RefusesReading (RefusesRun nodes) input fault before after
+
+-- ---- the trace in a form
+
+abbrev pub RanInForm : TraceForm → List SetupNode → List ℕ → Option (List ℕ) → Option (List ℕ) → Type 0
+RanInForm form nodes text before after = RanAs (formed_trace form text nodes) nodes text before after
+
+abbrev pub RefusesRunInForm : TraceForm → List SetupNode → List ℕ → RunFault → Option (List ℕ) → Option (List ℕ) → Type 0
+RefusesRunInForm form nodes text fault before after = RefusesRunAs (formed_trace form text nodes) nodes text fault before after
+
+abbrev pub RanInputInForm : TraceForm → List SetupNode → Option (List ℕ) → Option (List ℕ) → Option (List ℕ) → Type 0
+RanInputInForm form nodes input before after = OfInput input (λ text. RanInForm form nodes text before after)
+
+abbrev pub RefusesInputRunInForm : TraceForm → List SetupNode → Option (List ℕ) → RunFault → Option (List ℕ) → Option (List ℕ) → Type 0
+RefusesInputRunInForm form nodes input fault before after = RefusesReading (RefusesRunInForm form nodes) input fault before after

@@ -5,6 +5,8 @@ use Rattle.someip_world_schedule.specs.declared.error.ScheduleError.{ScheduleErr
 use Rattle.someip_world_schedule.specs.declared.error.ScheduleError.TheVariants as schedules
 use Rattle.someipctl_commands.specs.declared.input.ReadFault.{ReadFault}
 use Rattle.someipctl_commands.specs.declared.input.ReadFault.TheVariants as inputs
+use Rattle.someipctl_run.specs.declared.error.ExpectedFault.{ExpectedFault}
+use Rattle.someipctl_run.specs.declared.error.ExpectedFault.TheVariants as expected
 use Rattle.someipctl_run.specs.declared.error.RunFault.{RunFault}
 use Rattle.someipctl_run.specs.declared.error.RunFault.TheVariants.{BadLine, BadStep, CannotRead, OutOfMemory}
 use Rattle.someipctl_run.specs.declared.error.SetupFault.{SetupFault}
@@ -13,6 +15,10 @@ use Rattle.someipctl_run.specs.declared.error.SetupFault.TheVariants as setups
 abbrev pub setup_fault_of_input : ReadFault → SetupFault
 setup_fault_of_input inputs.CannotRead = setups.CannotRead
 setup_fault_of_input inputs.OutOfMemory = setups.OutOfMemory
+
+abbrev pub expected_fault_of_input : ReadFault → ExpectedFault
+expected_fault_of_input inputs.CannotRead = expected.CannotRead
+expected_fault_of_input inputs.OutOfMemory = expected.OutOfMemory
 
 abbrev pub fault_of_input : ReadFault → RunFault
 fault_of_input inputs.CannotRead = CannotRead

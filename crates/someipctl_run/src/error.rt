@@ -1,11 +1,13 @@
 //! Why a schedule is not run, or a setup not read.
 ghost use Rattle.std.specs.Prelude.{◌≡◌};
+ghost use Rattle.someipctl_run.specs.declared.error.ExpectedFault.TheVariants as expected;
 ghost use Rattle.someipctl_run.specs.declared.error.RunFault.TheVariants.{CannotWrite, OutOfMemory};
-ghost use Rattle.someipctl_run.specs.Faults.{fault_of_input, fault_of_run, fault_of_schedule, setup_fault_of_input};
+ghost use Rattle.someipctl_run.specs.Faults.{expected_fault_of_input, fault_of_input, fault_of_run};
+ghost use Rattle.someipctl_run.specs.Faults.{fault_of_schedule, setup_fault_of_input};
 
 use someip_world::{RunError, ScheduleError, SetupError, StepFault};
 use someipctl_commands::ReadFault;
-use std::alloc::AllocError;
+use std::alloc::{AllocError, AllocFailed};
 use thiserror::Error;
 
 /// Prints that a setup is refused, and why.
@@ -19,6 +21,20 @@ pub enum SetupFault {
     /// Its text is no setup.
     #[error("{}", SetupRefusal(.0))]
     Refused(SetupError),
+    /// It could not be read.
+    #[error("{}", ReadFault::CannotRead)]
+    CannotRead,
+    /// Memory ran out.
+    #[error("out of memory")]
+    OutOfMemory,
+}
+
+/// Why a file says no trace that is expected.
+#[derive(Clone, Copy, Debug, PartialEq, Eq, Error)]
+pub enum ExpectedFault {
+    /// The line of this number, counted from 1, is not UTF-8, or has a carriage return.
+    #[error("line {0}: bad trace line, not UTF-8 or with a carriage return")]
+    BadLine(usize),
     /// It could not be read.
     #[error("{}", ReadFault::CannotRead)]
     CannotRead,
@@ -55,6 +71,25 @@ impl From<ReadFault> for SetupFault {
             ReadFault::CannotRead => SetupFault::CannotRead,
             ReadFault::OutOfMemory => SetupFault::OutOfMemory,
         }
+    }
+}
+
+impl From<ReadFault> for ExpectedFault {
+    ghost from_gives = { λ fault e. e ≡ expected_fault_of_input fault };
+
+    fn from(fault: ReadFault) -> ExpectedFault {
+        match fault {
+            ReadFault::CannotRead => ExpectedFault::CannotRead,
+            ReadFault::OutOfMemory => ExpectedFault::OutOfMemory,
+        }
+    }
+}
+
+impl<T: Drop> From<AllocFailed<T>> for ExpectedFault {
+    ghost from_gives = { λ _ e. e ≡ expected.OutOfMemory };
+
+    fn from(_error: AllocFailed<T>) -> ExpectedFault {
+        ExpectedFault::OutOfMemory
     }
 }
 

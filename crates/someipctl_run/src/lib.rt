@@ -1,17 +1,32 @@
 //! The command `run` of `someipctl`: what a schedule brings about in a network of nodes.
 //!
 //! - [`read_setup`]: the setup of the network;
-//! - [`run_schedule`]: runs a schedule over it, and writes the trace.
+//! - [`run_schedule`], [`run_schedule_in_form`]: runs a schedule over it, and writes the trace, of which
+//!   a [`TraceForm`] says what stands before its lines;
+//! - [`read_expected`], [`compare_schedule`]: compares the trace with the one that a file expects;
+//! - [`told_text`]: what a line of a trace tells;
+//! - [`laws`]: what the definitions promise.
 //!
-//! The lines of a trace stand in `lines`, and what they tell in `outputs`.
+//! The lines of a trace stand in `lines`, what they tell in `outputs`, and the lines of a schedule by
+//! which they came in `step_lines`.
 #![tactic(auto)]
 
+mod comparing;
 mod error;
+mod expected;
+mod form;
+pub mod laws;
 mod lines;
 mod outputs;
 mod running;
 mod setups;
+mod step_lines;
+mod texts;
 
-pub use error::{RunFault, SetupFault, SetupRefusal};
-pub use running::run_schedule;
+pub use comparing::compare_schedule;
+pub use error::{ExpectedFault, RunFault, SetupFault, SetupRefusal};
+pub use expected::read_expected;
+pub use form::TraceForm;
+pub use outputs::told_text;
+pub use running::{run_schedule, run_schedule_in_form};
 pub use setups::read_setup;

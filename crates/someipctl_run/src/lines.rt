@@ -4,36 +4,58 @@ ghost use Rattle.someip_world_rules.specs.Datagrams.{datagram_in};
 ghost use Rattle.std.specs.List.{flat_map};
 ghost use Rattle.someipctl_print.specs.Parts.{part_text};
 ghost use Rattle.someipctl_print.specs.Sending.{Sends, Stops};
-ghost use Rattle.someipctl_run.specs.Traces.{line_head, line_text, numbered_lines, node_name, number_after, reuse_line};
+ghost use Rattle.someipctl_run.specs.Traces.{came_by_text, line_head, line_text, margin, marked_line};
+ghost use Rattle.someipctl_run.specs.Traces.{marked_lines, marked_verdict, node_name, number_after};
+ghost use Rattle.someipctl_run.specs.Traces.{pointed, reuse_line, shown_line_of};
 
 use crate::outputs::put_told;
+use crate::step_lines::line_of_step;
 use someip_node::Output;
 use someip_world::{Line, Reuse, SetupNode, Told};
 use someipctl_print::{Buffer, CannotWrite, Part, put_parts};
 use std::io::Write;
 
-/// Prints lines over the nodes of a setup. The datagrams that they tell of are numbered from 1.
+/// Prints lines over the nodes of a setup, each behind the line of the schedule by which it came, where
+/// those are shown. The datagrams that they tell of are numbered from 1.
 pub(crate) fn put_lines<W: Write>(
     buffer: &mut Buffer,
     writer: &mut W,
+    step_lines: Option<&[usize]>,
     nodes: &[SetupNode],
     lines: &[Line],
 ) -> Result<(), CannotWrite>
     ensures ok { OnOk result (Sends (W.contents writer.old) buffer.old
-        (W.contents writer.new) buffer.new (numbered_lines nodes.now 1 lines.now)) }
+        (W.contents writer.new) buffer.new
+        (marked_lines (pointed step_lines.entry) nodes.now 1 lines.now)) }
     ensures err { OnErr result (Stops (W.contents writer.old) buffer.old
-        (W.contents writer.new) (numbered_lines nodes.now 1 lines.now)) }
+        (W.contents writer.new) (marked_lines (pointed step_lines.entry) nodes.now 1 lines.now)) }
 {
     let mut number = 1;
     for line in lines {
-        put_line(buffer, writer, nodes, number, line)?;
+        put_marked_line(buffer, writer, step_lines, nodes, number, line)?;
         number = number_after(number, line);
     }
     Ok(())
 }
 
-/// Prints the verdict.
-pub(crate) fn put_reuse<W: Write>(
+/// Prints the verdict. It came by no line of the schedule.
+pub(crate) fn put_verdict<W: Write>(
+    buffer: &mut Buffer,
+    writer: &mut W,
+    step_lines: Option<&[usize]>,
+    verdict: Reuse,
+) -> Result<(), CannotWrite>
+    ensures ok { OnOk result (Sends (W.contents writer.old) buffer.old
+        (W.contents writer.new) buffer.new (marked_verdict (pointed step_lines.entry) verdict)) }
+    ensures err { OnErr result (Stops (W.contents writer.old) buffer.old
+        (W.contents writer.new) (marked_verdict (pointed step_lines.entry) verdict)) }
+{
+    put_margin(buffer, writer, step_lines, None)?;
+    put_reuse(buffer, writer, verdict)
+}
+
+/// Prints the words of the verdict.
+fn put_reuse<W: Write>(
     buffer: &mut Buffer,
     writer: &mut W,
     verdict: Reuse,
@@ -57,8 +79,70 @@ pub(crate) fn put_reuse<W: Write>(
     }
 }
 
+/// Prints a line, where the next datagram has a number, behind the line of the schedule by which it came.
+pub(crate) fn put_marked_line<W: Write>(
+    buffer: &mut Buffer,
+    writer: &mut W,
+    step_lines: Option<&[usize]>,
+    nodes: &[SetupNode],
+    number: usize,
+    line: &Line,
+) -> Result<(), CannotWrite>
+    ensures ok { OnOk result (Sends (W.contents writer.old) buffer.old
+        (W.contents writer.new) buffer.new
+        (marked_line (pointed step_lines.entry) nodes.now number line.now)) }
+    ensures err { OnErr result (Stops (W.contents writer.old) buffer.old
+        (W.contents writer.new) (marked_line (pointed step_lines.entry) nodes.now number line.now)) }
+{
+    put_margin(
+        buffer,
+        writer,
+        step_lines,
+        shown_line_of(step_lines, line.step),
+    )?;
+    put_line(buffer, writer, nodes, number, line)
+}
+
+/// Prints what stands before a line that came by a line of the schedule.
+fn put_margin<W: Write>(
+    buffer: &mut Buffer,
+    writer: &mut W,
+    step_lines: Option<&[usize]>,
+    came_by: Option<usize>,
+) -> Result<(), CannotWrite>
+    ensures ok { OnOk result (Sends (W.contents writer.old) buffer.old
+        (W.contents writer.new) buffer.new (margin (pointed step_lines.entry) came_by)) }
+    ensures err { OnErr result (Stops (W.contents writer.old) buffer.old
+        (W.contents writer.new) (margin (pointed step_lines.entry) came_by)) }
+{
+    match step_lines {
+        None => Ok(()),
+        Some(_) => put_parts(buffer, writer, &[came_by_part(came_by), Part::Text(" ")]),
+    }
+}
+
+/// The line of the schedule by which a line of a step came, where those are shown.
+fn shown_line_of(step_lines: Option<&[usize]>, step: usize) -> Option<usize>
+    ensures { result ≡ shown_line_of (pointed step_lines.entry) step }
+{
+    match step_lines {
+        None => None,
+        Some(step_lines) => line_of_step(step_lines, step),
+    }
+}
+
+/// The number of a line of the schedule, or `-` for none.
+pub(crate) fn came_by_part(came_by: Option<usize>) -> Part<'static>
+    ensures { part_text result ≡ came_by_text came_by }
+{
+    match came_by {
+        None => Part::Text("-"),
+        Some(line) => Part::Number(line),
+    }
+}
+
 /// The number of the next datagram after a line.
-fn number_after(number: usize, line: &Line) -> usize
+pub(crate) fn number_after(number: usize, line: &Line) -> usize
     requires { number < usize.MAX }
     ensures { result ≡ number_after number line.now }
 {

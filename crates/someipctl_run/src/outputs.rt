@@ -1,5 +1,5 @@
 //! What the lines of a trace tell, word by word.
-ghost use Rattle.std.specs.Prelude.{◌≡◌, ◌∷◌, [], OnOk, OnErr, map};
+ghost use Rattle.std.specs.Prelude.{◌≡◌, ◌∷◌, [], IfOk, OnOk, OnErr, map};
 ghost use Rattle.someip_node_rules.specs.declared.output.Output.TheVariants as output;
 ghost use Rattle.someipctl_print.specs.Sending.{Sends, Stops};
 ghost use Rattle.someipctl_print.specs.Words.{ended, word_text};
@@ -13,8 +13,20 @@ use someip_rpc::MessageId;
 use someip_wire::ReturnCode;
 use someip_world::Told;
 use someipctl_print::{Buffer, CannotWrite, Word, put_end};
+use std::alloc::{AllocError, Global};
 use std::io::Write;
 use std::net::{Ipv4Addr, SocketAddrV4};
+
+/// The text of what a line tells, to the end of its line, where the next datagram has a number.
+pub fn told_text(alloc: Global, number: usize, told: &Told) -> Result<Vec<u8>, AllocError>
+    ensures { IfOk result (λ text. text.items ≡ ended (told_words number told.now)) }
+{
+    let mut text = Vec::new(alloc);
+    let mut buffer = Buffer::new(alloc)?;
+    put_told(&mut buffer, &mut text, number, told).map_err(|_| AllocError)?;
+    buffer.flush(&mut text).map_err(|_| AllocError)?;
+    Ok(text)
+}
 
 /// Prints what a line tells, where the next datagram has a number.
 pub(crate) fn put_told<W: Write>(

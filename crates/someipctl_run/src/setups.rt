@@ -1,14 +1,13 @@
 //! Reading a setup.
-ghost use Rattle.std.specs.Prelude.{◌≡◌, true, false, IfOk, IfErr, MatchOption};
-ghost use Rattle.std.specs.Str.{is_utf8};
+ghost use Rattle.std.specs.Prelude.{IfOk, IfErr};
 ghost use Rattle.someipctl_run.specs.Commands.{IsSetupOf, IsSetupOfInput, RefusesInput, RefusesSetup};
 
 use crate::error::SetupFault;
+use crate::texts::text_of;
 use someip_world::{Setup, SetupError};
 use someipctl_commands::read_all;
 use std::alloc::Global;
 use std::io::Read;
-use std::str;
 
 /// Reads a setup whole.
 pub fn read_setup<R: Read>(alloc: Global, reader: &mut R) -> Result<Setup, SetupFault>
@@ -34,12 +33,4 @@ fn setup_of(alloc: Global, bytes: &[u8]) -> Result<Setup, SetupFault>
         Err(SetupError::OutOfMemory) => Err(SetupFault::OutOfMemory),
         Err(error) => Err(SetupFault::Refused(error)),
     }
-}
-
-/// The text that bytes are, if they are UTF-8.
-fn text_of(bytes: &[u8]) -> Option<&str>
-    ensures { MatchOption result (is_utf8 bytes.now ≡ false)
-        (λ text. (text.now ≡ bytes.now) × (is_utf8 bytes.now ≡ true)) }
-{
-    str::from_utf8(bytes).ok()
 }

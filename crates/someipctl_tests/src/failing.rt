@@ -7,7 +7,9 @@ use someipctl_commands::Outcome;
 use someipctl_commands::payload::payload;
 use someipctl_commands::show::show;
 use someipctl_commands::vectors::vectors;
-use someipctl_run::{read_setup, run_schedule};
+use someipctl_run::{
+    TraceForm, compare_schedule, read_expected, read_setup, run_schedule, run_schedule_in_form,
+};
 use std::alloc::Global;
 use std::io::{ErrorKind, Read};
 
@@ -100,7 +102,48 @@ fn perform(
         }
         Command::RunSetup(mut schedule) => run_over(alloc, reader, &mut schedule, writer),
         Command::RunSchedule(mut setup) => run_over(alloc, &mut setup, reader, writer),
+        Command::RunWithLines(mut setup) => run_with_lines(alloc, &mut setup, reader, writer),
+        Command::Compare(mut setup, mut schedule) => {
+            compare_over(alloc, &mut setup, &mut schedule, reader, writer)
+        }
     }
+}
+
+/// Reads a setup, and then runs a schedule over it, with the lines of the schedule in the trace.
+fn run_with_lines<S: Read, R: Read>(
+    alloc: Global,
+    setup: &mut S,
+    schedule: &mut R,
+    writer: &mut SlowWriter,
+) -> Result<Outcome, Failure<'static>> {
+    let network = read_setup(alloc, setup).map_err(|fault| Failure::of_setup(fault, PATH))?;
+    run_schedule_in_form(alloc, &network, TraceForm::WithLines, schedule, writer).map_err(
+        |fault| Failure::of_run(fault, PATH),
+    )?;
+    Ok(Outcome::Done)
+}
+
+/// Reads a setup and the trace that is expected, and then compares that of a schedule.
+fn compare_over<S: Read, C: Read, R: Read>(
+    alloc: Global,
+    setup: &mut S,
+    schedule: &mut C,
+    expected: &mut R,
+    writer: &mut SlowWriter,
+) -> Result<Outcome, Failure<'static>> {
+    let network = read_setup(alloc, setup).map_err(|fault| Failure::of_setup(fault, PATH))?;
+    let expected = read_expected(alloc, expected).map_err(|fault| Failure::of_expected(
+        fault, PATH,
+    ))?;
+    compare_schedule(
+        alloc,
+        &network,
+        TraceForm::Plain,
+        &expected,
+        schedule,
+        writer,
+    )
+    .map_err(|fault| Failure::of_run(fault, PATH))
 }
 
 /// Reads a setup, and then runs a schedule over it.

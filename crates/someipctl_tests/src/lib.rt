@@ -17,6 +17,8 @@ mod commands;
 #[cfg(test)]
 mod failing;
 #[cfg(test)]
+mod recordings;
+#[cfg(test)]
 mod run;
 #[cfg(test)]
 mod slow;

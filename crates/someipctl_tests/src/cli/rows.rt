@@ -1,5 +1,5 @@
 //! Calls of the program, and what comes of them.
-use Command::{Payload, Run, Show, Vectors};
+use Command::{Chart, Payload, Recording, Run, Show, Vectors};
 use Wanted::{Help, Is, Usage};
 use someipctl_cli::Command;
 
@@ -34,7 +34,80 @@ pub const ROWS: &[Row] = &[
         Is(Run {
             setup: "x",
             schedule: "y",
+            expect: None,
+            lines: false,
         }),
+    ),
+    (
+        &["someipctl", "run", "--lines", "x", "--expect", "t", "y"],
+        Is(Run {
+            setup: "x",
+            schedule: "y",
+            expect: Some("t"),
+            lines: true,
+        }),
+    ),
+    (
+        &["someipctl", "run", "--expect", "x", "y"],
+        Usage("error: the following required arguments were not provided:\n"),
+    ),
+    (
+        &["someipctl", "help", "run"],
+        Help("      --expect <TRACE>  "),
+    ),
+    (
+        &["someipctl", "help", "run"],
+        Help("      --lines           "),
+    ),
+    (
+        &["someipctl", "recording", "x"],
+        Is(Recording {
+            file: "x",
+            ports: None,
+            endpoints: false,
+        }),
+    ),
+    (
+        &[
+            "someipctl",
+            "recording",
+            "--endpoints",
+            "--ports",
+            "1,2",
+            "x",
+        ],
+        Is(Recording {
+            file: "x",
+            ports: Some("1,2"),
+            endpoints: true,
+        }),
+    ),
+    (
+        &["someipctl", "recording", "x", "--ports="],
+        Is(Recording {
+            file: "x",
+            ports: Some(""),
+            endpoints: false,
+        }),
+    ),
+    (
+        &["someipctl", "recording"],
+        Usage("Usage: someipctl recording <FILE>\n"),
+    ),
+    (
+        &["someipctl", "help", "recording"],
+        Help("  someipctl recording --ports 30509 examples/one.pcap\n"),
+    ),
+    (
+        &["someipctl", "chart", "x", "y"],
+        Is(Chart {
+            setup: "x",
+            schedule: "y",
+        }),
+    ),
+    (
+        &["someipctl", "help", "chart"],
+        Help("Usage: someipctl chart <SETUP> <SCHEDULE>\n"),
     ),
     (
         &["someipctl", "run", "x"],

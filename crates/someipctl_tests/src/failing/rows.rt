@@ -1,5 +1,5 @@
 //! Commands over an input, what they print, and how they end.
-use Command::{Payload, RunSchedule, RunSetup, Show, Vectors};
+use Command::{Compare, Payload, RunSchedule, RunSetup, RunWithLines, Show, Vectors};
 
 /// What a command does with its input.
 #[derive(Clone, Copy)]
@@ -14,6 +14,10 @@ pub enum Command {
     RunSetup(&'static [u8]),
     /// `run` of this setup, and of it as the schedule.
     RunSchedule(&'static [u8]),
+    /// The same with the lines of the schedule.
+    RunWithLines(&'static [u8]),
+    /// `run` of this setup and this schedule, and of it as the trace that is expected.
+    Compare(&'static [u8], &'static [u8]),
 }
 
 /// How a command ends: the text for standard error, and the exit status.
@@ -37,7 +41,9 @@ impl Row {
     pub fn reads(&self) -> usize {
         match self.command {
             Payload(_, _) => 0,
-            Show | Vectors | RunSetup(_) | RunSchedule(_) => self.input.len().saturating_add(1),
+            Show | Vectors | RunSetup(_) | RunSchedule(_) | RunWithLines(_) | Compare(_, _) => {
+                self.input.len().saturating_add(1)
+            }
         }
     }
 }
@@ -83,6 +89,22 @@ const SCHEDULE: &[u8] = b"tick a 10\n";
 const TRACE: &str = "1 a sent 1 192.168.0.1:30490 239.0.0.1:30490 \
     ffff8100000000300000000101010200c000000000000010010000101111000101000003000000000000000c00090400c0a800010011772d\n\
     reuse clean\n";
+
+/// A file with it.
+const TRACE_FILE: &[u8] = b"1 a sent 1 192.168.0.1:30490 239.0.0.1:30490 \
+    ffff8100000000300000000101010200c000000000000010010000101111000101000003000000000000000c00090400c0a800010011772d\n\
+    reuse clean\n";
+
+/// The same with the line of the schedule, the second one, before each line.
+const TRACE_WITH_LINES: &str = "2 1 a sent 1 192.168.0.1:30490 239.0.0.1:30490 \
+    ffff8100000000300000000101010200c000000000000010010000101111000101000003000000000000000c00090400c0a800010011772d\n\
+    - reuse clean\n";
+
+/// What is told of it beside a trace that has no line.
+const NO_TRACE: &str = "expected -\n\
+    got 1 a sent 1 192.168.0.1:30490 239.0.0.1:30490 \
+    ffff8100000000300000000101010200c000000000000010010000101111000101000003000000000000000c00090400c0a800010011772d\n\
+    line 1\n";
 
 /// Captures, vectors and payloads.
 pub const READINGS: &[Row] = &[
@@ -138,6 +160,39 @@ pub const READINGS: &[Row] = &[
 
 /// Setups and schedules.
 pub const RUNS: &[Row] = &[
+    Row {
+        command: RunWithLines(TWO),
+        input: b"# The Offer.\ntick a 10\n",
+        printed: TRACE_WITH_LINES,
+        end: ("", 0),
+    },
+    Row {
+        command: Compare(TWO, SCHEDULE),
+        input: TRACE_FILE,
+        printed: "",
+        end: ("", 0),
+    },
+    Row {
+        command: Compare(TWO, SCHEDULE),
+        input: b"",
+        printed: NO_TRACE,
+        end: ("", 1),
+    },
+    Row {
+        command: Compare(TWO, SCHEDULE),
+        input: b"1 a\r\n",
+        printed: "",
+        end: (
+            "line 1: bad trace line, not UTF-8 or with a carriage return",
+            1,
+        ),
+    },
+    Row {
+        command: Compare(TWO, b"tick c 10\n"),
+        input: b"",
+        printed: "",
+        end: ("step 1: UnknownNode", 1),
+    },
     Row {
         command: RunSetup(SCHEDULE),
         input: TWO,

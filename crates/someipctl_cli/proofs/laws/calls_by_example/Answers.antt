@@ -7,6 +7,13 @@ unfolding clap_on_literals
 returns c = record {
   show = refl;
   vectors = refl;
+  run = refl;
+  run_options = refl;
+  recording = refl;
+  recording_options = refl;
+  chart = refl;
+  bare_expect = ((λ e. cc), inl refl);
+  twice = ((λ e. cc), inl refl);
   bare = ((λ e. cc), inl refl);
   bare_show = ((λ e. cc), inl refl);
   help_flag = inl refl;

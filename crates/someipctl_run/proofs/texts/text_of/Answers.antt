@@ -1,5 +1,5 @@
 use Rattle.someip_world_schedule.proofs.ScheduleLemmas.{decoded}
-use Rattle.someipctl_run.proofs.setups.text_of.Goals as goal
+use Rattle.someipctl_run.proofs.texts.text_of.Goals as goal
 
 pub returns : goal.returns
 returns c =

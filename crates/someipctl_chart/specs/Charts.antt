@@ -1,0 +1,31 @@
+-- What the command does with a setup and a schedule.
+use Rattle.std.specs.Prelude.{ℕ, List, take, Option}
+use Rattle.std.specs.Io.KnownBytes.{Appends, Keeps}
+use Rattle.someip_world_rules.specs.declared.line.Line.{Line}
+use Rattle.someip_world_rules.specs.declared.reuse.Reuse.{Reuse}
+use Rattle.someip_world_setup.specs.declared.setup_node.SetupNode.{SetupNode}
+use Rattle.someipctl_run.specs.Commands.{IsTraceOf, OfInput, RefusesReading, RefusesTrace}
+use Rattle.someipctl_run.specs.declared.error.RunFault.{RunFault}
+use Rattle.someipctl_run.specs.declared.error.RunFault.TheVariants.{BadLine, BadStep, CannotRead, CannotWrite, OutOfMemory}
+
+-- a schedule has a trace
+abbrev pub HasTrace : List SetupNode → List ℕ → Type 0
+HasTrace nodes text = (lines : List Line) × (verdict : Reuse) × IsTraceOf nodes text lines verdict
+
+-- a schedule has a trace, and a picture was written
+abbrev pub Charts : List SetupNode → List ℕ → Option (List ℕ) → Option (List ℕ) → Type 0
+Charts nodes text before after = HasTrace nodes text × (picture : List ℕ) × Appends before after picture
+
+-- what a fault says of the schedule, and of what was written: nothing, but where writing failed a beginning of a picture
+abbrev pub RefusesChart : List SetupNode → List ℕ → RunFault → Option (List ℕ) → Option (List ℕ) → Type 0
+RefusesChart nodes text (BadLine line) before after = RefusesTrace nodes text (BadLine line) × Keeps before after
+RefusesChart nodes text (BadStep index fault) before after = RefusesTrace nodes text (BadStep index fault) × Keeps before after
+RefusesChart nodes text CannotRead before after = ⊥
+RefusesChart nodes text CannotWrite before after = HasTrace nodes text × (picture : List ℕ) × (n : ℕ) × Appends before after (take n picture)
+RefusesChart nodes text OutOfMemory before after = Keeps before after
+
+abbrev pub ChartsInput : List SetupNode → Option (List ℕ) → Option (List ℕ) → Option (List ℕ) → Type 0
+ChartsInput nodes input before after = OfInput input (λ text. Charts nodes text before after)
+
+abbrev pub RefusesInputChart : List SetupNode → Option (List ℕ) → RunFault → Option (List ℕ) → Option (List ℕ) → Type 0
+RefusesInputChart nodes input fault before after = RefusesReading (RefusesChart nodes) input fault before after

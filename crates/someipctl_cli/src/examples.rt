@@ -1,0 +1,110 @@
+//! What stands below the help of the program and of each command: the form of the input, and an example
+//! that can be tried.
+
+/// Of the program.
+pub(crate) const PROGRAM_EXAMPLE: &str = "\
+Example:
+  someipctl show examples/one.txt
+
+The help of a command shows the form of its input, as `someipctl help show` does.";
+
+/// Of `show`.
+pub(crate) const SHOW_EXAMPLE: &str = "\
+A capture has one datagram a line, in hex. `-` is the empty datagram, blanks are ignored,
+and lines that begin with # are comments. So the line
+  12340421 00000008 00010001 01010000
+prints
+  1 message 1234.0421 length 8 client 0001 session 0001 interface 01 type REQUEST code 00 payload -";
+
+/// Of `payload`.
+pub(crate) const PAYLOAD_EXAMPLE: &str = "\
+SHAPE says what the payload looks like, HEX is the payload in hex without blanks, - for no bytes.
+A shape is bool, u8, u16, u32, u64, i8, i16, i32 or i64; utf8, utf16, array<MAX,shape> or
+struct(shape,..), with /8, /16 or /32 behind the word for the width of the length field;
+fixed<N,shape>; union(NUMBER:shape,..); or tagged(ID:shape,ID?:shape,..), with a width as above,
+where ? marks a member that may be absent, which is printed as -. So the calls
+  someipctl payload 'array<2,u16>' 0000000400010002
+  someipctl payload 'tagged/8(1:u8,2?:utf8)' 070001071009ffff
+print
+  value [1,2]
+  used 8 of 8
+and
+  value {7,-}
+  used 8 of 8
+where member 2 is absent, and the item of the unknown ID 9 is skipped.";
+
+/// Of `vectors`.
+pub(crate) const VECTORS_EXAMPLE: &str = "\
+A line `datagram HEX` or `payload SHAPE HEX` is a vector, and the lines after it that begin with
+`> ` are the text that it expects: that of `show`, where the datagram is the first of a capture,
+or that of `payload`. HEX has no blanks. Empty lines and lines that begin with # are left out.
+So the lines
+  datagram -
+  > 1 empty
+  payload u8 07
+  > value 8
+  > used 1 of 1
+print
+  1 ok
+  2 differs
+  passed 1 of 2";
+
+/// Of `run`.
+pub(crate) const RUN_EXAMPLE: &str = "\
+SETUP is a TOML file: what the nodes of a network share, and each node with what it offers and wants.
+  group = \"239.0.0.1\"
+  [[node]]
+  name = \"a\"
+  address = \"192.168.0.1\"
+  client_id = 0x0101
+  client_port = 40000
+  [[node.offer]]
+  service = 0x1111
+  instance = 1
+  major = 1
+  ttl = 3
+  port = 30509
+  methods = [0x0421]
+
+SCHEDULE has one step a line: what happens to a node. Lines that begin with # are comments.
+  tick NODE MS                 deliver N NODE
+  call NODE SI METHOD PAYLOAD  oneway NODE SI METHOD PAYLOAD
+  answer NODE T CODE PAYLOAD   error NODE T CODE PAYLOAD
+  publish NODE SI EVENT PAYLOAD
+  publish_to NODE SI GROUP EP EVENT PAYLOAD
+  subscribe NODE SI GROUP      unsubscribe NODE SI GROUP
+  stop_offer NODE SI           restart NODE DELAY
+So the step
+  tick a 10
+prints the Offer of node a as datagram 1, which a later `deliver 1 NODE` delivers.
+
+The options change what is printed, and nothing that happens in the run. With --lines, the number
+of the line of SCHEDULE stands before each line, and - before the verdict. With --expect, nothing is
+printed where the trace is the text of TRACE, and the exit status is 0. Else it is 1, and the first
+difference is printed as
+  expected LINE
+  got LINE
+  line N
+where N is the line of SCHEDULE by which the second LINE came, and - is what there is none of.";
+
+/// Of `recording`.
+pub(crate) const RECORDING_EXAMPLE: &str = "\
+A recording is a file of classic pcap or pcapng, as tcpdump and Wireshark write it. Of each UDP
+datagram over IPv4 in it the lines are printed that `show` prints of a datagram of a capture. Those
+that are printed are counted from 1. Packets without such a datagram are left out, and how many of
+each kind these are is told on standard error at the end, which is no fault.
+PORTS are numbers from 1 to 65535 with commas between them, as in 30490,30509.
+So the call
+  someipctl recording --ports 30509 examples/one.pcap
+prints
+  1 message 1234.0421 length 8 client 0001 session 0001 interface 01 type REQUEST code 00 payload -
+and with --endpoints the same line begins with
+  1700000000.000001000 192.168.0.2:40001 192.168.0.1:30509
+which are the time in seconds since 1970, - where the recording has none, and where the datagram
+came from and went to.";
+
+/// Of `chart`.
+pub(crate) const CHART_EXAMPLE: &str = "\
+SETUP and SCHEDULE are those of `run`. The picture goes to standard output. So the call
+  someipctl chart examples/runs/two.toml examples/runs/two.txt > two.svg
+writes a picture of that run, which a browser shows.";

@@ -1,0 +1,12 @@
+use Rattle.someipctl_run.proofs.ExpectedLemmas.{IsComparing-more, next_printed}
+use Rattle.someipctl_run.proofs.TraceLemmas.{more_numbers}
+use Rattle.someipctl_run.proofs.comparing.compare_lines.Goals as goal
+
+pub loop-line-preserved : goal.loop-line-preserved
+loop-line-preserved c =
+    let next = next_printed c.args.form c.args.step_lines.now c.args.nodes.now c.loop-line.number c.args.lines.now c.loop-line.line-index c.line-item.result c.loop-line-test.true c.line-item.is in
+    rw c.number_after-number.ensures (
+      IsComparing-more _ _ _ _ _ _ _ c.loop-line.invariant.0 next
+          (rw (c.in_ok-text.ensures, c.shown.ensures) at (rw c.in-Same.is at c.take_line.ensures)),
+      more_numbers c.loop-line.number c.loop-line.line-index c.line-item.result c.loop-line.invariant.1,
+    )

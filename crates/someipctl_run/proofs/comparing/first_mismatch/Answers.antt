@@ -1,0 +1,15 @@
+use Rattle.std.proofs.Common.{None, [], ◌∷◌, ◌++◌}
+use Rattle.someipctl_run.specs.Expected.{PrintedLine, printed_from}
+use Rattle.someipctl_run.specs.Traces.{marked_verdict, shown_lines}
+use Rattle.someipctl_run.proofs.ComparingLemmas.{ends_all}
+use Rattle.someipctl_run.proofs.ExpectedLemmas.{last_line}
+use Rattle.someipctl_run.proofs.comparing.first_mismatch.Goals as goal
+
+pub returns-in-Same-take_line : goal.returns-in-Same-take_line
+returns-in-Same-take_line c =
+    let front = printed_from c.args.form c.args.step_lines.now c.args.nodes.now 1 c.args.lines.now in
+    let last : PrintedLine = record { came_by = None; text = marked_verdict (shown_lines c.args.form c.args.step_lines.now) c.args.verdict } in
+    ends_all (front ++ last ∷ []) c.args.expected.now c.in-Same-take_line.rest.now c.left_over.result
+    (last_line front last c.args.expected.now c.in-Same.rest.now c.in-Same-take_line.rest.now (rw c.in-Same.is at c.in_ok-rest.ensures)
+    (rw (c.in_ok-text.ensures, c.shown.ensures) at (rw c.in-Same-take_line.is at c.take_line.ensures)))
+    c.left_over.ensures

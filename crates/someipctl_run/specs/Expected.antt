@@ -1,0 +1,157 @@
+-- A trace that a file expects, and where a run differs from it.
+use Rattle.std.specs.Prelude.{ℕ, ◌-◌, ◌≡◌, ◌==◌, Bool, false, not, ◌&&◌, List, [], ◌∷◌, ◌++◌, length, slice_get, take, if◌then◌else◌, codes, Option, Some, None}
+use Rattle.std.specs.List.{flat_map, list_any, position_from, position_or_len}
+use Rattle.std.specs.Io.KnownBytes.{Appends, Keeps}
+use Rattle.std.specs.Option.{option_map_or}
+use Rattle.std.specs.Str.{is_utf8}
+use Rattle.someip_world_rules.specs.declared.line.Line.{Line}
+use Rattle.someip_world_rules.specs.declared.reuse.Reuse.{Reuse}
+use Rattle.someip_world_schedule.specs.Schedule.{lines_of}
+use Rattle.someip_world_setup.specs.declared.setup_node.SetupNode.{SetupNode}
+use Rattle.someipctl_commands.specs.declared.outcome.Outcome.{Outcome}
+use Rattle.someipctl_commands.specs.declared.outcome.Outcome.TheVariants.{Done, FaultShown}
+use Rattle.someipctl_print.specs.Lines.{joined}
+use Rattle.someipctl_run.specs.Commands.{IsTraceOf, OfInput, RefusesReading, RefusesTrace}
+use Rattle.someipctl_run.specs.StepLines.{line_of_step, lines_of_steps}
+use Rattle.someipctl_run.specs.Traces.{came_by_text, formed_trace, marked_line, marked_verdict, number_after, shown_lines}
+use Rattle.someipctl_run.specs.declared.error.ExpectedFault.{ExpectedFault}
+use Rattle.someipctl_run.specs.declared.error.ExpectedFault.TheVariants as expected
+use Rattle.someipctl_run.specs.declared.error.RunFault.{RunFault}
+use Rattle.someipctl_run.specs.declared.error.RunFault.TheVariants.{BadLine, BadStep, CannotRead, CannotWrite, OutOfMemory}
+use Rattle.someipctl_run.specs.declared.form.TraceForm.{TraceForm}
+
+-- ---- the file
+
+-- a line can be none of a trace: it is no UTF-8, or a carriage return stands in it
+abbrev pub is_no_line : List ℕ → Bool
+is_no_line line = not (is_utf8 line && not (list_any (λ b. b == 0x0d) line))
+
+-- the first such line of a file. Lines count from 1
+abbrev pub first_no_line : List ℕ → Option ℕ
+first_no_line file = position_from is_no_line 1 (lines_of file)
+
+-- a text has bytes behind its last line feed
+abbrev pub is_unended : List ℕ → Bool
+is_unended text = option_map_or (λ b. not (b == 0x0a)) (slice_get text (length text - 1)) false
+
+-- the text that a file expects: its own, and where its last line has no line feed, that too
+abbrev pub expected_of : List ℕ → List ℕ
+expected_of file = if is_unended file then file ++ codes "\n" else file
+
+-- a file expects this text
+abbrev pub Expects : List ℕ → List ℕ → Type 0
+Expects text file = (first_no_line file ≡ None) × (text ≡ expected_of file)
+
+-- why it expects none
+abbrev pub RefusesExpected : Option (List ℕ) → ExpectedFault → Type 0
+RefusesExpected input (expected.BadLine line) = OfInput input (λ file. first_no_line file ≡ Some line)
+RefusesExpected input expected.CannotRead = Unit {0}
+RefusesExpected input expected.OutOfMemory = Unit {0}
+
+-- ---- lines as they are printed
+
+-- a printed line of a trace with its line feed, and the line of the schedule by which it came: the verdict came by none
+pub record PrintedLine : Type 0 where
+  pub came_by : Option ℕ
+  pub text : List ℕ
+
+-- the lines of a trace, in a form
+abbrev pub printed_from : TraceForm → List ℕ → List SetupNode → ℕ → List Line → List PrintedLine
+printed_from form step_lines nodes number [] = []
+printed_from form step_lines nodes number (line ∷ lines) =
+    record { came_by = line_of_step step_lines line.step; text = marked_line (shown_lines form step_lines) nodes number line }
+    ∷ printed_from form step_lines nodes (number_after number line) lines
+
+-- those of a whole trace, the verdict last
+abbrev pub printed_lines : TraceForm → List ℕ → List SetupNode → List Line → Reuse → List PrintedLine
+printed_lines form step_lines nodes lines verdict =
+    printed_from form step_lines nodes 1 lines ++ record { came_by = None; text = marked_verdict (shown_lines form step_lines) verdict } ∷ []
+
+-- their text
+abbrev pub printed_text : List PrintedLine → List ℕ
+printed_text lines = flat_map (λ line. line.text) lines
+
+-- ---- where they differ
+
+-- what is told of the first difference: the expected line without its line feed, the line that came, and the line of
+-- the schedule by which it came. Of what has ended there is none
+pub record Mismatch : Type 0 where
+  pub expected : Option (List ℕ)
+  pub got : Option (List ℕ)
+  pub came_by : Option ℕ
+
+-- how many bytes stand before the first line feed of a text
+abbrev pub line_len : List ℕ → ℕ
+line_len text = position_or_len (λ b. b == 0x0a) text
+
+-- the first line of what is left of an expected text
+abbrev pub line_left : List ℕ → Option (List ℕ)
+line_left [] = None
+line_left (b ∷ rest) = Some (take (line_len (b ∷ rest)) (b ∷ rest))
+
+-- an expected text does not go on with a line
+abbrev pub GoesOnOtherwise : List ℕ → List ℕ → Type 0
+GoesOnOtherwise rest text = (more : List ℕ) → rest ≡ text ++ more → ⊥
+
+-- what is left of the printed lines and of the expected text differs at once
+abbrev pub DifferAtOnce : List PrintedLine → List ℕ → Mismatch → Type 0
+DifferAtOnce [] [] mismatch = ⊥
+DifferAtOnce [] (b ∷ rest) mismatch = mismatch ≡ record { expected = line_left (b ∷ rest); got = None; came_by = None }
+DifferAtOnce (line ∷ lines) rest mismatch =
+    GoesOnOtherwise rest line.text × (mismatch ≡ record { expected = line_left rest; got = Some line.text; came_by = line.came_by })
+
+-- the printed lines and an expected text first differ so: up to there the text is that of the lines
+pub record FirstDiffer (lines : List PrintedLine) (text : List ℕ) (mismatch : Mismatch) : Type 0 where
+  pub front : List PrintedLine
+  pub others : List PrintedLine
+  pub rest : List ℕ
+  pub parts : lines ≡ front ++ others
+  pub same : text ≡ printed_text front ++ rest
+  pub differ : DifferAtOnce others rest mismatch
+
+-- a line, or `-` and a line feed for none
+abbrev pub line_or_dash : Option (List ℕ) → List ℕ
+line_or_dash None = codes "-\n"
+line_or_dash (Some line) = line
+
+-- what is printed of a mismatch
+abbrev pub mismatch_text : Mismatch → List ℕ
+mismatch_text mismatch = joined (
+    codes "expected " ∷ option_map_or (λ line. line) mismatch.expected (codes "-") ∷ codes "\n"
+    ∷ codes "got " ∷ line_or_dash mismatch.got
+    ∷ codes "line " ∷ came_by_text mismatch.came_by ∷ codes "\n" ∷ [])
+
+-- ---- the comparison
+
+-- a run is what is expected exactly where its trace is that text, and nothing is written then; else the first
+-- difference is
+abbrev pub ComparesTrace : TraceForm → List SetupNode → List ℕ → List ℕ → List Line → Reuse → Outcome → Option (List ℕ) → Option (List ℕ) → Type 0
+ComparesTrace form nodes expected text lines verdict Done before after =
+    (expected ≡ formed_trace form text nodes lines verdict) × Keeps before after
+ComparesTrace form nodes expected text lines verdict FaultShown before after =
+    (mismatch : Mismatch) × FirstDiffer (printed_lines form (lines_of_steps text) nodes lines verdict) expected mismatch × Appends before after (mismatch_text mismatch)
+
+abbrev pub Compares : TraceForm → List SetupNode → List ℕ → List ℕ → Outcome → Option (List ℕ) → Option (List ℕ) → Type 0
+Compares form nodes expected text outcome before after =
+    (lines : List Line) × (verdict : Reuse) × IsTraceOf nodes text lines verdict × ComparesTrace form nodes expected text lines verdict outcome before after
+
+-- a beginning of the first difference was written
+abbrev pub ComparesPartly : TraceForm → List SetupNode → List ℕ → List ℕ → Option (List ℕ) → Option (List ℕ) → Type 0
+ComparesPartly form nodes expected text before after =
+    (lines : List Line) × (verdict : Reuse) × IsTraceOf nodes text lines verdict
+    × (mismatch : Mismatch) × FirstDiffer (printed_lines form (lines_of_steps text) nodes lines verdict) expected mismatch
+    × (sent : List ℕ) × (unsent : List ℕ) × Appends before after sent × (sent ++ unsent ≡ mismatch_text mismatch)
+
+-- what a fault says of the schedule, and of what was written
+abbrev pub RefusesComparing : TraceForm → List SetupNode → List ℕ → List ℕ → RunFault → Option (List ℕ) → Option (List ℕ) → Type 0
+RefusesComparing form nodes expected text (BadLine line) before after = RefusesTrace nodes text (BadLine line) × Keeps before after
+RefusesComparing form nodes expected text (BadStep index fault) before after = RefusesTrace nodes text (BadStep index fault) × Keeps before after
+RefusesComparing form nodes expected text CannotRead before after = ⊥
+RefusesComparing form nodes expected text CannotWrite before after = ComparesPartly form nodes expected text before after
+RefusesComparing form nodes expected text OutOfMemory before after = Keeps before after
+
+abbrev pub ComparesInput : TraceForm → List SetupNode → List ℕ → Option (List ℕ) → Outcome → Option (List ℕ) → Option (List ℕ) → Type 0
+ComparesInput form nodes expected input outcome before after = OfInput input (λ text. Compares form nodes expected text outcome before after)
+
+abbrev pub RefusesInputComparing : TraceForm → List SetupNode → List ℕ → Option (List ℕ) → RunFault → Option (List ℕ) → Option (List ℕ) → Type 0
+RefusesInputComparing form nodes expected input fault before after = RefusesReading (RefusesComparing form nodes expected) input fault before after
