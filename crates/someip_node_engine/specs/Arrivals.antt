@@ -15,8 +15,8 @@ use Rattle.someip_rpc.specs.declared.request.Arrived.TheVariants as arrived
 use Rattle.someip_node_rules.specs.declared.drops.DropReason.TheVariants.{Answer, NotSubscribed, Request as OfRequest, Tp}
 use Rattle.someip_node_rules.specs.declared.output.Output.{Output}
 use Rattle.someip_node_rules.specs.declared.output.Output.TheVariants.{Answered, Dropped, Event}
-use Rattle.someip_node_engine.specs.declared.received.ReceivedPayload.{ReceivedPayload}
-use Rattle.someip_node_engine.specs.declared.received.ReceivedPayload.TheVariants.{Lent, Reassembled}
+use Rattle.someip_node_engine.specs.declared.received_payload.ReceivedPayload.{ReceivedPayload}
+use Rattle.someip_node_engine.specs.declared.received_payload.ReceivedPayload.TheVariants.{Lent, Reassembled}
 use Rattle.someip_node_engine.specs.declared.segments.OfferedSegment.{OfferedSegment}
 use Rattle.someip_node_rules.specs.Messages.{handed_up}
 use Rattle.someip_node_rules.specs.Outputs.{Given, Sends, Tells}

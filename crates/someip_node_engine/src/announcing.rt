@@ -18,7 +18,7 @@ ghost use Rattle.someip_node_engine.specs.Working.{working};
 
 use crate::engine::Engine;
 use crate::giving::Giving;
-use crate::setups::{DISCOVERY_PORT, own_endpoint};
+use crate::own_config::{DISCOVERY_PORT, own_endpoint};
 use sd_session::{Counter, Stamp};
 use sd_wire::{Entry, SdError, SdFlags, SdMessage, split_entries, write_sd};
 use someip_node_rules::{Output, Payload, Receiver};

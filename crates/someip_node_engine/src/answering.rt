@@ -10,7 +10,7 @@ ghost use Rattle.someip_node_rules.specs.Outputs.{datagrams_of, Sends};
 
 use crate::engine::Engine;
 use crate::giving::Giving;
-use crate::sending::send;
+use crate::message_sending::send;
 use someip_node_rules::NodeError;
 use someip_rpc::{Outgoing, Reply};
 use someip_tp::Reassembly;

@@ -13,8 +13,8 @@ ghost use Rattle.someip_rpc.specs.Calls.{call_header};
 
 use crate::engine::Engine;
 use crate::giving::Giving;
-use crate::sending::send;
-use crate::setups::client_rules;
+use crate::message_sending::send;
+use crate::own_config::client_rules;
 use sd_core::InstanceId;
 use someip_node_rules::{NodeError, Output};
 use someip_rpc::{Call, CallKind, MessageId, Outgoing};

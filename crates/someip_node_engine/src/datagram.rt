@@ -14,8 +14,8 @@ ghost use Rattle.someip_node_engine.specs.Working.{working};
 
 use crate::engine::Engine;
 use crate::giving::Giving;
-use crate::received::ReceivedPayload;
-use crate::setups::DISCOVERY_PORT;
+use crate::received_payload::ReceivedPayload;
+use crate::own_config::DISCOVERY_PORT;
 use sd_core::InstanceId;
 use sd_session::Channel;
 use someip_node_rules::{DropReason, NodeError, Output, Target};
@@ -183,7 +183,7 @@ impl<R: Reassembly> Engine<R> {
         ensures config { self.new.config ≡ self.old.config }
     {
         match target {
-            Target::Discovery(channel) => self.discovery(*from.ip(), channel, message, giving),
+            Target::Discovery(channel) => self.discovery_came(*from.ip(), channel, message, giving),
             target => self.message(target, from, to, message, giving),
         }
     }
@@ -225,7 +225,7 @@ impl<R: Reassembly> Engine<R> {
         ensures config { self.new.config ≡ self.old.config }
     {
         match target {
-            Target::Instance(instance) => self.request(instance, from, header, payload, giving),
+            Target::Instance(instance) => self.request_came(instance, from, header, payload, giving),
             Target::Client => self.to_client(from, header, payload, giving),
             Target::Discovery(_) | Target::Nowhere => Ok(()),
         }

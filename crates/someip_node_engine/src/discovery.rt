@@ -24,7 +24,7 @@ use std::net::Ipv4Addr;
 
 impl<R: Reassembly> Engine<R> {
     /// A message comes to Service Discovery.
-    pub(crate) fn discovery(
+    pub(crate) fn discovery_came(
         &mut self,
         peer: Ipv4Addr,
         channel: Channel,

@@ -71,16 +71,16 @@ impl<R: Reassembly> Engine<R> {
         ensures config { self.new.config ≡ self.old.config }
     {
         if head.is_find() {
-            return self.find_service(head, giving);
+            return self.find_came(head, giving);
         }
         let instance = InstanceId {
             service: head.service,
             instance: head.instance,
         };
         if head.is_stop_offer() {
-            return self.stop_offer(instance, head.major, peer, giving);
+            return self.stop_offer_came(instance, head.major, peer, giving);
         }
-        self.offer(&received_offer(peer, head, endpoint), giving)
+        self.offer_came(&received_offer(peer, head, endpoint), giving)
     }
 
     /// An entry about an eventgroup comes, with this endpoint.
@@ -96,13 +96,13 @@ impl<R: Reassembly> Engine<R> {
         ensures config { self.new.config ≡ self.old.config }
     {
         if head.is_subscribe() {
-            self.subscribe(peer, head, endpoint, giving)
+            self.subscribe_came(peer, head, endpoint, giving)
         } else if head.is_stop_subscribe() {
-            self.stop_subscribe(peer, head, endpoint, giving)
+            self.stop_subscribe_came(peer, head, endpoint, giving)
         } else if head.is_ack() {
-            self.ack(peer, head, giving)
+            self.ack_came(peer, head, giving)
         } else {
-            self.nack(peer, head, giving)
+            self.nack_came(peer, head, giving)
         }
     }
 
@@ -120,7 +120,7 @@ impl<R: Reassembly> Engine<R> {
     {
         match head {
             EntryHead::Eventgroup(head) if head.is_subscribe() => {
-                self.subscribe(peer, head, None, giving)
+                self.subscribe_came(peer, head, None, giving)
             }
             _ => {
                 giving.outputs.push(Output::Dropped {

@@ -7,7 +7,7 @@ ghost use Rattle.std.specs.Ordering.{nat_cmp};
 ghost use Rattle.someip_node_engine.specs.Ports.{at_port, is_alone};
 ghost use Rattle.someip_node_rules.specs.GoodConfigs as good;
 
-use crate::setups::DISCOVERY_PORT;
+use crate::own_config::DISCOVERY_PORT;
 use sd_core::InstanceId;
 use sd_wire::Ttl;
 use someip_node_rules::{Common, Config, OfferedService, WantedService};

@@ -33,7 +33,7 @@ use std::net::{Ipv4Addr, SocketAddrV4};
 impl<R: Reassembly> Engine<R> {
     /// An Offer comes.
     #[tactic(auto, using(crate::proofs::LearningLemmas::offer_counted))]
-    pub(crate) fn offer(
+    pub(crate) fn offer_came(
         &mut self,
         offer: &ReceivedOffer,
         giving: &mut Giving,
@@ -113,7 +113,7 @@ impl<R: Reassembly> Engine<R> {
     }
 
     /// A StopOffer comes.
-    pub(crate) fn stop_offer(
+    pub(crate) fn stop_offer_came(
         &mut self,
         instance: InstanceId,
         major: u8,
@@ -151,7 +151,7 @@ impl<R: Reassembly> Engine<R> {
 
     /// An Ack comes.
     #[tactic(auto, using(crate::proofs::LearningLemmas::told_as_it_is))]
-    pub(crate) fn ack(
+    pub(crate) fn ack_came(
         &mut self,
         peer: Ipv4Addr,
         head: &EventgroupEntry,
@@ -168,7 +168,7 @@ impl<R: Reassembly> Engine<R> {
 
     /// A Nack comes.
     #[tactic(auto, using(crate::proofs::LearningLemmas::told_as_it_is))]
-    pub(crate) fn nack(
+    pub(crate) fn nack_came(
         &mut self,
         peer: Ipv4Addr,
         head: &EventgroupEntry,

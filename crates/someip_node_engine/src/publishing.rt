@@ -13,7 +13,7 @@ ghost use Rattle.someip_node_rules.specs.Tables.{is_up};
 
 use crate::engine::Engine;
 use crate::giving::Giving;
-use crate::sending::send;
+use crate::message_sending::send;
 use sd_core::{InstanceId, Subscribers};
 use someip_node_rules::{NodeError, OfferedService, Output};
 use someip_rpc::{Publication, RpcError, ServerCore, Subscriber};

@@ -12,7 +12,7 @@ ghost use Rattle.someip_node_engine.specs.Working.{working};
 
 use crate::engine::Engine;
 use crate::giving::Giving;
-use crate::received::ReceivedPayload;
+use crate::received_payload::ReceivedPayload;
 use someip_node_rules::{DropReason, Output, Payload, Target};
 use someip_tables::Moment;
 use someip_tp::{Offered, Reassembly, ReassemblyKey, TpError, read_segment};

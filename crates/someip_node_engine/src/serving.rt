@@ -11,8 +11,8 @@ ghost use Rattle.someip_node_engine.specs.Working.{working};
 
 use crate::engine::Engine;
 use crate::giving::Giving;
-use crate::received::ReceivedPayload;
-use crate::sending::send;
+use crate::received_payload::ReceivedPayload;
+use crate::message_sending::send;
 use sd_core::InstanceId;
 use someip_node_rules::{DropReason, Output};
 use someip_rpc::{Arrived, Outgoing, ServerCore, ServiceRules};
@@ -23,7 +23,7 @@ use std::net::SocketAddrV4;
 
 impl<R: Reassembly> Engine<R> {
     /// Takes a message that comes to an instance.
-    pub(crate) fn request(
+    pub(crate) fn request_came(
         &mut self,
         instance: InstanceId,
         from: SocketAddrV4,

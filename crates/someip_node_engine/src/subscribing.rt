@@ -30,7 +30,7 @@ use std::net::{Ipv4Addr, SocketAddrV4};
 
 impl<R: Reassembly> Engine<R> {
     /// A Find comes.
-    pub(crate) fn find_service(
+    pub(crate) fn find_came(
         &self,
         head: &ServiceEntry,
         giving: &mut Giving,
@@ -70,7 +70,7 @@ impl<R: Reassembly> Engine<R> {
     }
 
     /// A Subscribe comes, with this endpoint.
-    pub(crate) fn subscribe(
+    pub(crate) fn subscribe_came(
         &mut self,
         peer: Ipv4Addr,
         head: &EventgroupEntry,
@@ -119,7 +119,7 @@ impl<R: Reassembly> Engine<R> {
     }
 
     /// A StopSubscribe comes, with this endpoint.
-    pub(crate) fn stop_subscribe(
+    pub(crate) fn stop_subscribe_came(
         &mut self,
         peer: Ipv4Addr,
         head: &EventgroupEntry,

@@ -18,7 +18,7 @@ ghost use Rattle.someip_node_engine.specs.Working.{told_after, working};
 use crate::engine::Engine;
 use crate::entry_making::{offer_entry, subscribe_entry};
 use crate::giving::Giving;
-use crate::setups::client_endpoint;
+use crate::own_config::client_endpoint;
 use sd_core::{Beginning, Eventgroup, InstanceId, OutgoingSubscribe};
 use sd_wire::{Entry, SubscriptionCounter, Ttl};
 use someip_node_rules::{NodeError, Output, Receiver};

@@ -1,7 +1,7 @@
 use Rattle.std.proofs.Common.{sym}
 use Rattle.std.proofs.lemmas.Result.{on_ok_weaker}
 use Rattle.someip_node_engine.proofs.MessageLemmas.{request_met}
-use Rattle.someip_node_engine.proofs.engine.Engine.request.Goals as goal
+use Rattle.someip_node_engine.proofs.engine.Engine.request_came.Goals as goal
 
 pub returns-in_ok-arrived-in-Some-clause-work : goal.returns-in_ok-arrived-in-Some-clause-work
 returns-in_ok-arrived-in-Some-clause-work g c =

@@ -1,6 +1,6 @@
 use Rattle.std.proofs.Common.{◌≡◌, ◌++◌, map}
 use Rattle.someip_node_rules.specs.Outputs.{datagram_of}
-use Rattle.someip_node_engine.proofs.sending.send.Given as goal
+use Rattle.someip_node_engine.proofs.message_sending.send.Given as goal
 
 -- the datagrams so far, and those of the pieces that are left, are all
 abbrev pub invariant-loop-piece : goal.invariant-loop-piece
