@@ -18,10 +18,10 @@ ghost use Rattle.someip_node_engine.specs.Working.{working};
 
 use crate::engine::Engine;
 use crate::giving::Giving;
-use crate::own_config::{DISCOVERY_PORT, own_endpoint};
+use crate::own_config::own_endpoint;
 use sd_session::{Counter, Stamp};
 use sd_wire::{Entry, SdError, SdFlags, SdMessage, split_entries, write_sd};
-use someip_node_rules::{Output, Payload, Receiver};
+use someip_node_rules::{Config, Output, Payload, Receiver};
 use someip_tp::{Reassembly, append_message};
 use someip_wire::{Header, Message, MessageType, ReturnCode};
 use std::alloc::{AllocError, Global};
@@ -95,7 +95,7 @@ impl<R: Reassembly> Engine<R> {
             (working self.old giving.old)) }
         ensures config { self.new.config ≡ self.old.config }
     {
-        let to = SocketAddrV4::new(self.config.common.group, DISCOVERY_PORT);
+        let to = SocketAddrV4::new(self.config.common.group, Config::DISCOVERY_PORT);
         let (session, reboot) = self.multicast.next();
         let stamp = Stamp { session, reboot };
         let bytes = discovery_bytes(self.alloc, stamp, entries)?;
@@ -117,7 +117,7 @@ impl<R: Reassembly> Engine<R> {
             (working self.old giving.old)) }
         ensures config { self.new.config ≡ self.old.config }
     {
-        let to = SocketAddrV4::new(peer, DISCOVERY_PORT);
+        let to = SocketAddrV4::new(peer, Config::DISCOVERY_PORT);
         let stamp = self.next_stamp(peer)?;
         let bytes = discovery_bytes(self.alloc, stamp, entries)?;
         let from = self.discovery_endpoint();
@@ -138,7 +138,7 @@ impl<R: Reassembly> Engine<R> {
     fn discovery_endpoint(&self) -> SocketAddrV4
         ensures { result ≡ discovery_endpoint self.now.config }
     {
-        own_endpoint(&self.config, DISCOVERY_PORT)
+        own_endpoint(&self.config, Config::DISCOVERY_PORT)
     }
 }
 

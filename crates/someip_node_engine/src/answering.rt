@@ -7,6 +7,7 @@ ghost use Rattle.someip_node_rules.specs.Inputs as input;
 ghost use Rattle.someip_node_rules.specs.Items as item;
 ghost use Rattle.someip_node_rules.specs.Items.{changed};
 ghost use Rattle.someip_node_rules.specs.Outputs.{datagrams_of, Sends};
+ghost use Rattle.someip_node_rules.specs.GoodConfigs.{greatest_message_limit};
 
 use crate::engine::Engine;
 use crate::giving::Giving;
@@ -52,7 +53,7 @@ impl<R: Reassembly> Engine<R> {
           given = Sends sent.from sent.to (view sent.message) ∷ [];
           replies = [];
         }) }
-        ensures short { IfOk result (λ sent. length sent.message.payload.now ≤ 1048576) }
+        ensures short { IfOk result (λ sent. length sent.message.payload.now ≤ greatest_message_limit) }
         ensures closed { OnOk result (self.new ≡ changed self.old (item.Answered token)) }
         ensures refused { IfErr result (λ error. error
             ≡ or_no_memory (answering_refusal token reply payload.now self.old)) }

@@ -10,6 +10,7 @@ ghost use Rattle.someip_node_rules.specs.Items.{changed, Called};
 ghost use Rattle.someip_node_rules.specs.Setups.{client_endpoint};
 ghost use Rattle.someip_node_rules.specs.Tables.{known_endpoint};
 ghost use Rattle.someip_rpc.specs.Calls.{call_header};
+ghost use Rattle.someip_node_rules.specs.GoodConfigs.{greatest_message_limit};
 
 use crate::engine::Engine;
 use crate::giving::Giving;
@@ -92,7 +93,7 @@ impl<R: Reassembly> Engine<R> {
         ensures header { IfOk result (λ sent. sent.message.header
             ≡ call_header self.old.config.client_id call (session_of call self.old)) }
         ensures payload { IfOk result (λ sent. sent.message.payload.now ≡ payload.now) }
-        ensures short { OnOk result (length payload.now ≤ 1048576) }
+        ensures short { OnOk result (length payload.now ≤ greatest_message_limit) }
         ensures called { IfOk result (λ sent. self.new
             ≡ changed self.old (Called call sent.to (session_of call self.old))) }
         ensures refused { IfErr result (λ error. error
@@ -102,6 +103,7 @@ impl<R: Reassembly> Engine<R> {
     {
         let rules = client_rules(&self.config);
         let offer = self.known_endpoint(instance);
+        // Its contract says that few calls wait: so a session is free, and the next free one is taken.
         let _ = self.client.pending_calls();
         let sent = self.client.call(&rules, call, payload, offer, self.clock)?;
         Ok(sent)
@@ -114,7 +116,7 @@ impl<R: Reassembly> Engine<R> {
         sent: &Outgoing<'_>,
         giving: &mut Giving,
     ) -> Result<(), AllocError>
-        requires { length sent.now.message.payload.now ≤ 1048576 }
+        requires { length sent.now.message.payload.now ≤ greatest_message_limit }
         ensures outputs { OnOk result (giving.new.outputs.items ≡ giving.old.outputs.items
             ++ output.Called message sent.now.message.header.session
             ∷ datagrams_of sent.now.from sent.now.to (view sent.now.message)) }

@@ -11,8 +11,8 @@ ghost use Rattle.someip_node_engine.specs.Working.{working};
 
 use crate::engine::Engine;
 use crate::giving::Giving;
-use crate::received_payload::ReceivedPayload;
 use crate::own_config::client_rules;
+use crate::received_payload::ReceivedPayload;
 use sd_core::{Eventgroup, InstanceId};
 use someip_node_rules::{DropReason, Output, WantedService};
 use someip_rpc::{CallKey, DropCause};

@@ -15,10 +15,9 @@ ghost use Rattle.someip_node_engine.specs.Working.{working};
 use crate::engine::Engine;
 use crate::giving::Giving;
 use crate::received_payload::ReceivedPayload;
-use crate::own_config::DISCOVERY_PORT;
 use sd_core::InstanceId;
 use sd_session::Channel;
-use someip_node_rules::{DropReason, NodeError, Output, Target};
+use someip_node_rules::{Config, DropReason, NodeError, Output, Target};
 use someip_tables::is_same_key;
 use someip_tp::Reassembly;
 use someip_wire::{Header, Message, MessageType, Messages, WireError};
@@ -70,7 +69,9 @@ impl<R: Reassembly> Engine<R> {
     {
         if is_same_key(to.ip(), &self.config.address) {
             self.own_target(to.port())
-        } else if is_same_key(to.ip(), &self.config.common.group) && to.port() == DISCOVERY_PORT {
+        } else if is_same_key(to.ip(), &self.config.common.group)
+            && to.port() == Config::DISCOVERY_PORT
+        {
             Target::Discovery(Channel::Multicast)
         } else {
             Target::Nowhere
@@ -81,7 +82,7 @@ impl<R: Reassembly> Engine<R> {
     fn own_target(&self, port: u16) -> Target
         ensures { result ≡ own_target self.now.config port }
     {
-        if port == DISCOVERY_PORT {
+        if port == Config::DISCOVERY_PORT {
             Target::Discovery(Channel::Unicast)
         } else if port == self.config.client_port {
             Target::Client
@@ -225,7 +226,9 @@ impl<R: Reassembly> Engine<R> {
         ensures config { self.new.config ≡ self.old.config }
     {
         match target {
-            Target::Instance(instance) => self.request_came(instance, from, header, payload, giving),
+            Target::Instance(instance) => self.request_came(
+                instance, from, header, payload, giving,
+            ),
             Target::Client => self.to_client(from, header, payload, giving),
             Target::Discovery(_) | Target::Nowhere => Ok(()),
         }

@@ -38,6 +38,7 @@ impl<R: Reassembly> Model for Engine<R> {
     ghost use Rattle.std.specs.Coded.{codes};
     ghost use Rattle.std.specs.Ordering.{nat_cmp};
     ghost use Rattle.someip_node_rules.specs.contracts.config.Config as config_row;
+    ghost use Rattle.someip_node_rules.specs.GoodConfigs.{greatest_message_limit};
     ghost use Rattle.someip_tables.specs.Endpoints.{address_cmp};
     ghost use Rattle.someip_tables.specs.Tables.{map_of};
     ghost use Rattle.someip_tp.specs.Parts.{NoneAfter, coded_parts};
@@ -86,7 +87,7 @@ impl<R: Reassembly> Model for Engine<R> {
     ghost invariant = { λ n.
         (map_of nat_cmp n.ports.entries ≡ ports_of n.config)
         × (R.limits n.store ≡ limits_of n.config) × NoneAfter n.clock (R.parts n.store)
-        × (n.peers.limit ≡ n.config.common.peers) × (n.config.common.message_limit ≤ 1048576)
+        × (n.peers.limit ≡ n.config.common.peers) × (n.config.common.message_limit ≤ greatest_message_limit)
         × (n.offers.versions ≡ versions_of n.config) × (n.seeker.wanted ≡ majors_of n.config) };
 }
 
@@ -103,6 +104,7 @@ impl<R: Reassembly> Engine<R> {
     pub fn holds_within_limits(&self)
         ensures { HoldsWithinLimits self.now }
     {
+        // The contracts of these say how many there are at most.
         let _ = self.peers.len();
         let _ = self.client.pending_calls();
         let _ = self.server.open_requests();

@@ -6,8 +6,8 @@ ghost use Rattle.std.specs.BTreeSet.{contains};
 ghost use Rattle.std.specs.Ordering.{nat_cmp};
 ghost use Rattle.someip_node_engine.specs.Ports.{at_port, is_alone};
 ghost use Rattle.someip_node_rules.specs.GoodConfigs as good;
+ghost use Rattle.someip_node_rules.specs.GoodConfigs.{greatest_message_limit};
 
-use crate::own_config::DISCOVERY_PORT;
 use sd_core::InstanceId;
 use sd_wire::Ttl;
 use someip_node_rules::{Common, Config, OfferedService, WantedService};
@@ -18,7 +18,7 @@ use std::collections::{BTreeMap, BTreeSet};
 /// Whether a node may be set up with this. It takes no memory.
 pub(crate) fn is_good(config: &Config) -> bool
     ensures good { result ≡ good.is_good config.now }
-    ensures limit { OnTrue result (config.now.common.message_limit ≤ 1048576) }
+    ensures limit { OnTrue result (config.now.common.message_limit ≤ greatest_message_limit) }
 {
     is_good_common(&config.common)
         && !is_same_key(&config.address, &config.common.group)
@@ -38,11 +38,11 @@ pub fn is_good_delay(config: &Config, delay: u32) -> bool
 /// Whether the delays, limits and timeouts of all nodes are in their ranges.
 fn is_good_common(common: &Common) -> bool
     ensures good { result ≡ good.is_good_common common.now }
-    ensures limit { OnTrue result (common.now.message_limit ≤ 1048576) }
+    ensures limit { OnTrue result (common.now.message_limit ≤ greatest_message_limit) }
 {
     common.initial_min_ms <= common.initial_max_ms
         && common.initial_max_ms <= 60000
-        && (1400 <= common.message_limit && common.message_limit <= 1_048_576)
+        && (1400 <= common.message_limit && common.message_limit <= Common::GREATEST_MESSAGE_LIMIT)
         && (1 <= common.slots && common.slots <= 1024)
         && (1 <= common.peers && common.peers <= 1024)
         && (1 <= common.reassembly_timeout_ms && common.reassembly_timeout_ms <= 3_600_000)
@@ -53,7 +53,7 @@ fn is_good_common(common: &Common) -> bool
 fn is_good_port(port: u16) -> bool
     ensures { result ≡ good.is_good_port port }
 {
-    port != 0 && port != DISCOVERY_PORT
+    port != 0 && port != Config::DISCOVERY_PORT
 }
 
 /// Whether a Service ID, an Instance ID or an Eventgroup ID stands for one.

@@ -4,6 +4,7 @@ ghost use Rattle.someip_wire.specs.Spelling.{spelling};
 ghost use Rattle.someip_wire.specs.View.{view};
 ghost use Rattle.someip_tp.specs.Sent.{view_piece, piece_message};
 ghost use Rattle.someip_node_rules.specs.Outputs.{datagram_of, datagrams_of};
+ghost use Rattle.someip_node_rules.specs.GoodConfigs.{greatest_message_limit};
 
 use someip_node_rules::{Output, Payload};
 use someip_tp::{Sent, SentPiece, append_piece};
@@ -19,7 +20,7 @@ pub(crate) fn send(
     message: &Message<'_>,
     outputs: &mut Vec<Output>,
 ) -> Result<(), AllocError>
-    requires { length message.now.payload.now ≤ 1048576 }
+    requires { length message.now.payload.now ≤ greatest_message_limit }
     ensures { OnOk result (outputs.new.items
         ≡ outputs.old.items ++ datagrams_of from to (view message.now)) }
 {

@@ -6,9 +6,6 @@ use someip_node_rules::Config;
 use someip_rpc::ClientRules;
 use std::net::SocketAddrV4;
 
-/// The UDP port of Service Discovery.
-pub(crate) const DISCOVERY_PORT: u16 = 30490;
-
 /// A port of the node.
 pub(crate) fn own_endpoint(config: &Config, port: u16) -> SocketAddrV4
     ensures { result ≡ own_endpoint config.now port }

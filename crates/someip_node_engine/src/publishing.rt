@@ -10,6 +10,7 @@ ghost use Rattle.someip_node_rules.specs.Inputs as input;
 ghost use Rattle.someip_node_rules.specs.Outputs.{datagrams_of};
 ghost use Rattle.someip_node_engine.specs.Publishings.{Publishes, PublishesTo};
 ghost use Rattle.someip_node_rules.specs.Tables.{is_up};
+ghost use Rattle.someip_node_rules.specs.GoodConfigs.{greatest_message_limit};
 
 use crate::engine::Engine;
 use crate::giving::Giving;
@@ -99,7 +100,7 @@ impl<R: Reassembly> Engine<R> {
         ensures instance { result.instance ≡ instance }
         ensures up { result.is_up ≡ is_up self.now instance }
         ensures limit { result.limit ≡ self.now.config.common.message_limit }
-        ensures bound { result.limit ≤ 1048576 }
+        ensures bound { result.limit ≤ greatest_message_limit }
     {
         Settings {
             alloc: self.alloc,
@@ -139,7 +140,7 @@ fn publish_by(
     payload: &[u8],
     outputs: &mut Vec<Output>,
 ) -> Result<(), NodeError>
-    requires { settings.limit ≤ 1048576 }
+    requires { settings.limit ≤ greatest_message_limit }
     ensures { Publishes service.now.rules settings.is_up settings.limit event payload.now
         (endpoints_of settings.instance (eventgroups_of service.now event)
         (unexpired now subscribers.now)) server.old outputs.old.items result server.new outputs.new.items }
@@ -173,7 +174,7 @@ fn publish_to_by(
     payload: &[u8],
     outputs: &mut Vec<Output>,
 ) -> Result<(), NodeError>
-    requires { settings.limit ≤ 1048576 }
+    requires { settings.limit ≤ greatest_message_limit }
     ensures { PublishesTo service.now.rules settings.is_up settings.limit subscriber event
         payload.now server.old outputs.old.items result server.new outputs.new.items }
 {
@@ -226,7 +227,7 @@ fn send_all(
     endpoints: &BTreeSet<SocketAddrV4>,
     outputs: &mut Vec<Output>,
 ) -> Result<(), AllocError>
-    requires { length publication.now.message.payload.now ≤ 1048576 }
+    requires { length publication.now.message.payload.now ≤ greatest_message_limit }
     ensures { OnOk result (outputs.new.items ≡ outputs.old.items ++ flat_map
         (λ to. datagrams_of publication.now.from to (view publication.now.message))
         endpoints.now.keys) }

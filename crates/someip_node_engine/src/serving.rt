@@ -11,8 +11,8 @@ ghost use Rattle.someip_node_engine.specs.Working.{working};
 
 use crate::engine::Engine;
 use crate::giving::Giving;
-use crate::received_payload::ReceivedPayload;
 use crate::message_sending::send;
+use crate::received_payload::ReceivedPayload;
 use sd_core::InstanceId;
 use someip_node_rules::{DropReason, Output};
 use someip_rpc::{Arrived, Outgoing, ServerCore, ServiceRules};

@@ -7,7 +7,7 @@ ghost use Rattle.sd_core.specs.Keys.{instance_cmp};
 ghost use Rattle.sd_core.specs.OfferTables.{started};
 ghost use Rattle.sd_core.specs.SeekTables.{searching};
 ghost use Rattle.someip_tp.specs.Parts.{NoneAfter};
-ghost use Rattle.someip_node_rules.specs.GoodConfigs.{is_good, is_good_delay};
+ghost use Rattle.someip_node_rules.specs.GoodConfigs.{greatest_message_limit, is_good, is_good_delay};
 ghost use Rattle.someip_node_rules.specs.OfferQuestions.{version_of, versions_of};
 ghost use Rattle.someip_node_rules.specs.SeekQuestions.{majors_of};
 ghost use Rattle.someip_node_rules.specs.Setups.{limits_of, ports_of};
@@ -34,6 +34,7 @@ fn add_offers(
     ensures { OnOk result (offers.new.versions
         ≡ map_of instance_cmp (map (λ e. (e.0, version_of e.1)) services.now.entries)) }
 {
+    // The last goes in first, as the definition makes a map of entries.
     for (instance, service) in services.iter().rev() {
         offers.add(*instance, version_of(service))?;
     }
@@ -59,6 +60,7 @@ fn add_wants(
     ensures { OnOk result (seeker.new.wanted
         ≡ map_of instance_cmp (map (λ e. (e.0, e.1.major)) wants.now.entries)) }
 {
+    // The last goes in first, as the definition makes a map of entries.
     for (instance, want) in wants.iter().rev() {
         seeker.add(*instance, want.major)?;
     }
@@ -88,7 +90,7 @@ impl<R: Reassembly> Engine<R> {
 
     /// The tables of a start with a good configuration.
     fn of_good(alloc: Global, config: Config, delay: u32) -> Result<Engine<R>, AllocError>
-        requires { config.common.message_limit ≤ 1048576 }
+        requires { config.common.message_limit ≤ greatest_message_limit }
         ensures { IfOk result (λ e. e ≡ started_tables config delay) }
     {
         let offers = started_offers(alloc, &config, delay)?;
@@ -193,6 +195,7 @@ fn add_ports(
     ensures { OnOk result (map_of nat_cmp ports.new.entries
         ≡ map_of nat_cmp (map (λ e. (e.1.rules.endpoint.port, e.0)) services.now.entries)) }
 {
+    // The last goes in first, as the definition makes a map of entries.
     for (instance, service) in services.iter().rev() {
         add_port(ports, service.rules.endpoint.port(), *instance)?;
     }

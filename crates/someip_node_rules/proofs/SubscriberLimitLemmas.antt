@@ -44,7 +44,7 @@ use Rattle.someip_node_rules.specs.SubscriberLimits.{AreWithinLimits, most_subsc
 use Rattle.someip_node_rules.specs.SubscriberQuestions.{subscribers_in}
 use Rattle.someip_node_rules.specs.Subscribing.{rules_by, rules_for, subscribe_by, subscribe_in}
 use Rattle.someip_node_rules.specs.Tables.{Tables, is_up, live_subscribers}
-use Rattle.someip_node_rules.proofs.LimitExampleLemmas.{different, passes}
+use Rattle.someip_node_rules.proofs.KeyCounts.{different, passes}
 use Rattle.someip_node_rules.proofs.MeetingLemmas.{rule_noted}
 use Rattle.someip_node_rules.proofs.MemberLemmas.{all_weaker}
 use Rattle.someip_node_rules.proofs.Shown.{run_shown}

@@ -46,7 +46,7 @@ use Rattle.someip_node_rules.specs.Items.{Answered, Called, GroupAddressed, Offe
 use Rattle.someip_node_rules.specs.Learning.{subscribe_to}
 use Rattle.someip_node_rules.specs.Outcomes.{Outcome, endings, meets, nothing}
 use Rattle.someip_node_rules.specs.Outputs.{Given, Announces, Sends, Tells}
-use Rattle.someip_node_rules.specs.Setups.{client_endpoint, client_rules, discovery_endpoint, group_endpoint, is_wanted_eventgroup, offered_as, wanted_as, wanted_instances}
+use Rattle.someip_node_rules.specs.Setups.{client_endpoint, client_rules, discovery_endpoint, discovery_port, group_endpoint, is_wanted_eventgroup, offered_as, wanted_as, wanted_instances}
 use Rattle.someip_node_rules.specs.Subscribing.{offer_of}
 use Rattle.someip_node_rules.specs.Tables.{Tables, is_up, known_endpoint, known_peer, live_subscribers, passed_instances, stamp_for, waiting_calls}
 
@@ -64,7 +64,7 @@ announces entries t = record {
 abbrev pub replies_to : Ipv4Addr → List EntryValue → Tables → Outcome
 replies_to peer entries t = record {
   items = PeerAddressed peer ∷ [];
-  given = Announces (discovery_endpoint t.config) (record { ip = peer; port = 30490 }) (stamp_for t.unicast peer) entries ∷ [];
+  given = Announces (discovery_endpoint t.config) (record { ip = peer; port = discovery_port }) (stamp_for t.unicast peer) entries ∷ [];
   replies = [];
 }
 

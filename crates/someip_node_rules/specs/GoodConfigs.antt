@@ -11,22 +11,26 @@ use Rattle.someip_node_rules.specs.declared.config.Config.{Config}
 use Rattle.someip_node_rules.specs.declared.config.OfferedService.{OfferedService}
 use Rattle.someip_node_rules.specs.declared.config.WantedService.{WantedService}
 use Rattle.someip_node_rules.specs.Handling.{same_address}
-use Rattle.someip_node_rules.specs.Setups.{ports_of}
+use Rattle.someip_node_rules.specs.Setups.{discovery_port, ports_of}
 
 -- a number lies between two others, or is one of them
 abbrev pub is_within : ℕ → ℕ → ℕ → Bool
 is_within low high n = nat_le low n && nat_le n high
 
+-- the greatest limit that a message may have, in bytes of its payload
+abbrev pub greatest_message_limit : ℕ
+greatest_message_limit = 1048576
+
 -- the delays, limits and timeouts of all nodes
 abbrev pub is_good_common : Common → Bool
 is_good_common common =
     nat_le common.initial_min_ms common.initial_max_ms && nat_le common.initial_max_ms 60000
-    && is_within 1400 1048576 common.message_limit && is_within 1 1024 common.slots && is_within 1 1024 common.peers
+    && is_within 1400 greatest_message_limit common.message_limit && is_within 1 1024 common.slots && is_within 1 1024 common.peers
     && is_within 1 3600000 common.reassembly_timeout_ms && is_within 1 3600000 common.call_timeout_ms
 
 -- a port is not 0, and not that of Service Discovery
 abbrev pub is_good_port : ℕ → Bool
-is_good_port port = not (port == 0) && not (port == 30490)
+is_good_port port = not (port == 0) && not (port == discovery_port)
 
 -- Service IDs and Instance IDs, and IDs of eventgroups, are none of the two that stand for none and for any
 abbrev pub is_good_id : ℕ → Bool

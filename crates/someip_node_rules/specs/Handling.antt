@@ -38,7 +38,7 @@ use Rattle.someip_node_rules.specs.Learning.{received_offer}
 use Rattle.someip_node_rules.specs.Messages.{completed}
 use Rattle.someip_node_rules.specs.Plans.{Plan, rest, act, both, asks, replying, each, Drops, Hears, TakesAck, TakesAnswer, TakesEvent, TakesFind, TakesNack, TakesOffer, TakesRequest, TakesSegment, TakesStopOffer, TakesStopSubscribe, TakesSubscribe}
 use Rattle.someip_node_rules.specs.Receivers.{messages_plan_to}
-use Rattle.someip_node_rules.specs.Setups.{instance_at, limits_of}
+use Rattle.someip_node_rules.specs.Setups.{discovery_port, instance_at, limits_of}
 use Rattle.someip_node_rules.specs.declared.receiver.Receiver.TheVariants.{Peer}
 use Rattle.someip_node_rules.specs.Tables.{Tables}
 
@@ -146,7 +146,7 @@ instance_target (Some instance) = target.Instance instance
 -- what is reached at a port of the node
 abbrev pub own_target : Config → ℕ → Target
 own_target config port =
-    if port == 30490 then target.Discovery Unicast
+    if port == discovery_port then target.Discovery Unicast
     else if port == config.client_port then target.Client
     else instance_target (instance_at config port)
 
@@ -154,7 +154,7 @@ own_target config port =
 abbrev pub target_of : Config → SocketAddrV4 → Target
 target_of config to =
     if same_address (v4_ip to) config.address then own_target config (v4_port to)
-    else if same_address (v4_ip to) config.common.group && (v4_port to == 30490) then target.Discovery Multicast
+    else if same_address (v4_ip to) config.common.group && (v4_port to == discovery_port) then target.Discovery Multicast
     else target.Nowhere
 
 -- a message comes to where it is taken

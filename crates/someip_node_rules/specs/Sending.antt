@@ -20,7 +20,7 @@ use Rattle.someip_rpc.specs.Servers.{code_of_reply, kind_of_reply}
 use Rattle.someip_node_rules.specs.declared.config.OfferedService.{OfferedService}
 use Rattle.someip_node_rules.specs.Calls.{call_of, event_message, eventgroups_of, session_of}
 use Rattle.someip_node_rules.specs.Plans.{Rule, Announces, Answers, Calls, Publishes, PublishesTo, RepliesTo, TakesRequest}
-use Rattle.someip_node_rules.specs.Setups.{client_endpoint, discovery_endpoint, group_endpoint, offered_as}
+use Rattle.someip_node_rules.specs.Setups.{client_endpoint, discovery_endpoint, discovery_port, group_endpoint, offered_as}
 use Rattle.someip_node_rules.specs.Tables.{Tables, is_up, known_endpoint, live_subscribers, stamp_for}
 
 -- a call goes from the client to the endpoint of the known offer, with the next session
@@ -75,5 +75,5 @@ abbrev pub IsAnnounced : Rule → Tables → SocketAddrV4 → SocketAddrV4 → S
 IsAnnounced (Announces own) t from to stamp entries =
     (from ≡ discovery_endpoint t.config) × (to ≡ group_endpoint t.config) × (stamp ≡ t.multicast) × (entries ≡ own)
 IsAnnounced (RepliesTo peer own) t from to stamp entries =
-    (from ≡ discovery_endpoint t.config) × (to ≡ record { ip = peer; port = 30490 }) × (stamp ≡ stamp_for t.unicast peer) × (entries ≡ own)
+    (from ≡ discovery_endpoint t.config) × (to ≡ record { ip = peer; port = discovery_port }) × (stamp ≡ stamp_for t.unicast peer) × (entries ≡ own)
 IsAnnounced r t from to stamp entries = ⊥

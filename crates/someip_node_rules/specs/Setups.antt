@@ -20,6 +20,10 @@ use Rattle.someip_node_rules.specs.declared.config.WantedService.{WantedService}
 
 -- ---- endpoints
 
+-- the UDP port of Service Discovery
+abbrev pub discovery_port : ℕ
+discovery_port = discovery_port
+
 -- a port of the node
 abbrev pub own_endpoint : Config → ℕ → SocketAddrV4
 own_endpoint config port = record { ip = config.address; port = port }
@@ -29,10 +33,10 @@ abbrev pub client_endpoint : Config → SocketAddrV4
 client_endpoint config = own_endpoint config config.client_port
 
 abbrev pub discovery_endpoint : Config → SocketAddrV4
-discovery_endpoint config = own_endpoint config 30490
+discovery_endpoint config = own_endpoint config discovery_port
 
 abbrev pub group_endpoint : Config → SocketAddrV4
-group_endpoint config = record { ip = config.common.group; port = 30490 }
+group_endpoint config = record { ip = config.common.group; port = discovery_port }
 
 -- ---- instances
 

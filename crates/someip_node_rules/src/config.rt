@@ -31,6 +31,11 @@ pub struct Common {
     pub call_timeout_ms: u32,
 }
 
+impl Common {
+    /// The greatest limit that a message may have, in bytes of its payload.
+    pub const GREATEST_MESSAGE_LIMIT: usize = 1_048_576;
+}
+
 /// An instance that a node offers.
 #[derive(Debug, Drop)]
 pub struct OfferedService {
@@ -101,6 +106,11 @@ impl Clone for WantedService {
             groups,
         })
     }
+}
+
+impl Config {
+    /// The UDP port of Service Discovery.
+    pub const DISCOVERY_PORT: u16 = 30490;
 }
 
 impl Clone for Config {

@@ -2,29 +2,32 @@
 //!
 //! - [`Config`], with [`Common`], [`OfferedService`] and [`WantedService`]: what a node is set up with;
 //! - [`Output`], with [`Payload`] and [`DropReason`]: what a node gives; [`NodeError`]: why it refuses;
-//! - [`Target`], [`Receiver`]: what is reached at its endpoints, and who it sends to;
-//! - [`laws`], [`given_laws`], [`limit_laws`], [`subscriber_laws`], [`fit_laws`]: what the definitions
-//!   promise, whatever code carries them out; [`example_laws`], [`call_example_laws`], [`run_example_laws`]:
-//!   worked steps.
+//! - [`Target`], [`Receiver`]: what is reached at its endpoints, and who it sends to.
 //!
-//! The definitions stand in `specs/`: what a node met, what it answers of that, and what it does next.
+//! The definitions stand in `specs/`, and are best read in this order:
+//!
+//! 1. What a node is set up with, sends and gives: `Setups`, `GoodConfigs`, `Entries`, `Receivers`,
+//!    `Outputs`.
+//! 2. What it meets, and what it answers of that: `Items`, then question by question `Questions`,
+//!    `DiscoveryQuestions`, `CallQuestions`, `SubscriberQuestions`, `OfferQuestions`, `SeekQuestions`,
+//!    `WishQuestions`, and all answers together `Tables`, `Starts`, `History`.
+//! 3. What it does: `Outcomes` and `Plans`, rule by rule `Messages`, `Learning`, `Subscribing`, `Calls`,
+//!    datagram by datagram `Handling`, input by input `Inputs`, `Errors`.
+//! 4. A step, and many of them: `Steps`, `Advances`, `Waking`, `Lives`, `Limits`, `SubscriberLimits`.
+//! 5. Which rule gave what, for those who prove more of nodes: `Trails`, `Packets`, `Bringing`, `Replies`,
+//!    `Sending`, `Meanings`, `Meetings`; beside them `Copies` and `Names`.
+//!
+//! What the definitions promise, whatever code carries them out, and worked steps stand in
+//! `someip_node_laws`.
 #![tactic(auto)]
 
-pub mod call_example_laws;
 mod config;
 mod drops;
 mod error;
-pub mod example_laws;
-pub mod fit_laws;
-pub mod given_laws;
-pub mod laws;
-pub mod limit_laws;
 mod output;
 mod output_text;
 mod payload;
 mod receiver;
-pub mod run_example_laws;
-pub mod subscriber_laws;
 mod target;
 
 pub use config::{Common, Config, OfferedService, WantedService};

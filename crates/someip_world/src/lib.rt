@@ -11,10 +11,9 @@
 
 mod log;
 mod performing;
-mod running;
 mod telling;
+mod world_run;
 
-pub use running::run;
 pub use someip_world_rules::{
     Line, Reuse, RunError, StepFault, Told, Trace, example_laws, numbers, run_laws,
 };
@@ -22,3 +21,4 @@ pub use someip_world_schedule::{
     MethodId, NodeName, ScheduleError, Step, StepPayload, read_schedule,
 };
 pub use someip_world_setup::{Setup, SetupError, SetupNode};
+pub use world_run::run;

@@ -24,7 +24,7 @@ use Rattle.someip_node_rules.specs.Steps.{step}
 use Rattle.someip_node_rules.specs.Trails.{after, met_by, trail_of}
 use Rattle.someip_node_rules.proofs.MeetingLemmas.{all_met, state_met}
 use Rattle.someip_node_rules.proofs.MemberLemmas.{all_weaker}
-use Rattle.someip_node_rules.proofs.PublishedLemmas.{is_published, is_published_to}
+use Rattle.someip_node_laws.proofs.PublishedLemmas.{is_published, is_published_to}
 use Rattle.someip_world_exchanges.proofs.RuleInputs.{AskedBy, done_asked, is_publication}
 
 -- ---- one item

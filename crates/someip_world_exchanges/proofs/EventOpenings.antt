@@ -21,12 +21,12 @@ use Rattle.someip_node_rules.specs.Outcomes.{nothing}
 use Rattle.someip_node_rules.specs.Outputs.{Given, Sends}
 use Rattle.someip_node_rules.specs.Plans as plans
 use Rattle.someip_node_rules.specs.Plans.{Rule, Work}
-use Rattle.someip_node_rules.specs.Published.{publication}
+use Rattle.someip_node_laws.specs.Published.{publication}
 use Rattle.someip_node_rules.specs.Setups.{offered_as}
 use Rattle.someip_node_rules.specs.Steps.{step, work_on}
 use Rattle.someip_node_rules.specs.Trails.{Done, given_by, outcome_of, trail_of}
 use Rattle.someip_node_rules.proofs.MemberLemmas.{all_from_members, all_map, at_member, only_one}
-use Rattle.someip_node_rules.proofs.PublishedLemmas.{is_published, is_published_to}
+use Rattle.someip_node_laws.proofs.PublishedLemmas.{is_published, is_published_to}
 use Rattle.someip_world_exchanges.specs.Namings.{named_in, of_event}
 use Rattle.someip_world_exchanges.specs.Openings.{IsEventKey, Opens, OpensBy}
 use Rattle.someip_world_exchanges.specs.declared.exchange_key.ExchangeKey.{ExchangeKey}

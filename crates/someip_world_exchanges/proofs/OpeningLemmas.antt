@@ -29,7 +29,7 @@ use Rattle.someip_node_rules.specs.Plans.{Rule, rule}
 use Rattle.someip_node_rules.specs.Sending.{IsSent}
 use Rattle.someip_node_rules.specs.Setups.{client_endpoint, offered_as}
 use Rattle.someip_node_rules.specs.Tables.{Tables, known_endpoint}
-use Rattle.someip_node_rules.proofs.NamedLemmas.{next-event_session}
+use Rattle.someip_node_laws.proofs.NamedLemmas.{next-event_session}
 use Rattle.someip_node_rules.proofs.MemberLemmas.{at_member}
 use Rattle.someip_world_schedule.specs.declared.step.Step.{Step}
 use Rattle.someip_world_setup.specs.declared.setup_node.SetupNode.{SetupNode}

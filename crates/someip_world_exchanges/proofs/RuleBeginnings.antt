@@ -47,7 +47,7 @@ use Rattle.someip_node_rules.specs.WishQuestions.{course_at, is_wished_at, known
 use Rattle.someip_node_rules.proofs.MeaningLemmas.{rule_meant}
 use Rattle.someip_node_rules.proofs.MeetingLemmas.{rule_noted}
 use Rattle.someip_node_rules.proofs.MemberLemmas.{all_weaker}
-use Rattle.someip_node_rules.proofs.RuleReplies.{rule_replied}
+use Rattle.someip_node_laws.proofs.RuleReplies.{rule_replied}
 use Rattle.someip_node_rules.proofs.WishLives.{get-known, get-wish}
 use Rattle.someip_world_exchanges.specs.Beginnings.{SentSubscribe, subscribe_in_head, subscribes_in}
 use Rattle.someip_world_exchanges.proofs.AgreeingLemmas.{Agrees, IsCalm, calm_agrees, did, same_agrees, stood, subscribe_with, subscribing_agrees, then_stands}

@@ -27,7 +27,7 @@ use Rattle.someip_node_rules.specs.declared.config.Config.{Config}
 use Rattle.someip_node_rules.specs.declared.output.Output.TheVariants.{Sent}
 use Rattle.someip_node_rules.specs.declared.target.Target.{Target}
 use Rattle.someip_node_rules.specs.declared.target.Target.TheVariants as target
-use Rattle.someip_node_rules.specs.Fitting.{FitsWire}
+use Rattle.someip_node_laws.specs.Fitting.{FitsWire}
 use Rattle.someip_node_rules.specs.Handling.{instance_target, own_target, same_address, target_of}
 use Rattle.someip_node_rules.specs.History.{History, answers_of}
 use Rattle.someip_node_rules.specs.Inputs.{Input}

@@ -13,7 +13,7 @@ use Rattle.sd_core.specs.declared.received.KnownOffer.{KnownOffer}
 use Rattle.someip_node_rules.specs.declared.config.Config.{Config}
 use Rattle.someip_node_rules.specs.declared.output.Output.TheVariants.{Sent}
 use Rattle.someip_node_rules.specs.Entries.{discovery_message}
-use Rattle.someip_node_rules.specs.Fitting.{FitsConfig, FitsWire}
+use Rattle.someip_node_laws.specs.Fitting.{FitsConfig, FitsWire}
 use Rattle.someip_node_rules.specs.Handling.{is_discovery}
 use Rattle.someip_node_rules.specs.History.{History, answers_of}
 use Rattle.someip_node_rules.specs.Inputs.{Input}

@@ -27,7 +27,7 @@ use Rattle.someip_node_rules.specs.declared.error.NodeError.{NodeError}
 use Rattle.someip_node_rules.specs.declared.output.Output.{Output}
 use Rattle.someip_node_rules.specs.Copies.{IsCopy, IsCopyOfOffer, IsCopyOfWant}
 use Rattle.someip_node_rules.specs.Entries.{discovery_message}
-use Rattle.someip_node_rules.specs.Fitting.{FitsConfig, FitsHistory, FitsInput, FitsInstance, FitsOffer, FitsPacket, FitsPayload, FitsWant, FitsWire, head_of}
+use Rattle.someip_node_laws.specs.Fitting.{FitsConfig, FitsHistory, FitsInput, FitsInstance, FitsOffer, FitsPacket, FitsPayload, FitsWant, FitsWire, head_of}
 use Rattle.someip_node_rules.specs.Handling.{is_discovery, is_notification}
 use Rattle.someip_node_rules.specs.History.{History, answers_of}
 use Rattle.someip_node_rules.specs.Inputs as inputs
@@ -38,8 +38,8 @@ use Rattle.someip_node_rules.specs.Packets.{Packet}
 use Rattle.someip_node_rules.specs.Plans.{Work}
 use Rattle.someip_node_rules.specs.Steps.{step, given_in}
 use Rattle.someip_node_rules.specs.Trails.{given_by, trail_of}
-use Rattle.someip_node_rules.proofs.FitPlans.{done_fits, given_fits}
-use Rattle.someip_node_rules.proofs.FitRules.{no_notification}
+use Rattle.someip_node_laws.proofs.FitPlans.{done_fits, given_fits}
+use Rattle.someip_node_laws.proofs.FitRules.{no_notification}
 use Rattle.someip_node_rules.proofs.MeaningLemmas.{all_given, outputs_written}
 use Rattle.someip_node_rules.proofs.MemberLemmas.{all_append, all_both, all_flat_map, all_map, all_take, all_weaker, at_member}
 use Rattle.someip_world_schedule.specs.declared.step.Step.{Step}

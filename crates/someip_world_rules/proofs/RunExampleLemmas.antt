@@ -29,15 +29,15 @@ use Rattle.someip_node_rules.specs.Inputs.{plan_of}
 use Rattle.someip_node_rules.specs.Lives.{is_live, was_stopped}
 use Rattle.someip_node_rules.specs.Outputs.{datagrams_of}
 use Rattle.someip_node_rules.specs.Plans.{Work, run}
-use Rattle.someip_node_rules.specs.Published.{IsLiveAt, IsPublished, publication}
+use Rattle.someip_node_laws.specs.Published.{IsLiveAt, IsPublished, publication}
 use Rattle.someip_node_rules.specs.Steps.{step, unless_refused, work_on}
 use Rattle.someip_node_rules.specs.SubscriberQuestions.{stands_until}
 use Rattle.someip_node_rules.specs.Tables.{is_up}
 use Rattle.someip_node_rules.specs.Questions.{clock_at}
-use Rattle.someip_node_rules.proofs.LiveLemmas.{ends_then, lives_before}
-use Rattle.someip_node_rules.proofs.NamedLemmas.{get-subscriber}
-use Rattle.someip_node_rules.proofs.PublishedLemmas.{is_published}
-use Rattle.someip_node_rules.proofs.UpLemmas.{up_is}
+use Rattle.someip_node_laws.proofs.LiveLemmas.{ends_then, lives_before}
+use Rattle.someip_node_laws.proofs.NamedLemmas.{get-subscriber}
+use Rattle.someip_node_laws.proofs.PublishedLemmas.{is_published}
+use Rattle.someip_node_laws.proofs.UpLemmas.{up_is}
 use Rattle.someip_world_rules.specs.RunExamples.{CanPublish, GivesJust, subscribed_for}
 
 -- ---- a set of one endpoint, or of none

@@ -11,8 +11,8 @@ use Rattle.sd_core.specs.declared.keys.InstanceId.{InstanceId}
 use Rattle.someip_node_rules.specs.History.{History}
 use Rattle.someip_node_rules.specs.Inputs.{Input}
 use Rattle.someip_node_rules.specs.Inputs as inputs
-use Rattle.someip_node_rules.specs.Published.{IsPublished, IsPublishedTo}
-use Rattle.someip_node_rules.proofs.PublishedLemmas.{is_published, is_published_to}
+use Rattle.someip_node_laws.specs.Published.{IsPublished, IsPublishedTo}
+use Rattle.someip_node_laws.proofs.PublishedLemmas.{is_published, is_published_to}
 use Rattle.someip_node_rules.specs.Plans.{Work}
 use Rattle.someip_node_rules.specs.Steps.{step, given_in}
 use Rattle.someip_node_rules.specs.declared.config.Config.{Config}

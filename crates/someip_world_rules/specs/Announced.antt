@@ -7,7 +7,7 @@ use Rattle.sd_core.specs.declared.keys.InstanceId.{InstanceId}
 use Rattle.sd_core.specs.declared.received.KnownOffer.{KnownOffer}
 use Rattle.someip_tables.specs.declared.lasting.Lasting.{Lasting}
 use Rattle.someip_rpc.specs.Servers.{code_of_reply}
-use Rattle.someip_node_rules.specs.Fitting.{FitsConfig, FitsWire}
+use Rattle.someip_node_laws.specs.Fitting.{FitsConfig, FitsWire}
 use Rattle.someip_node_rules.specs.History.{History}
 use Rattle.someip_node_rules.specs.Inputs.{Input}
 use Rattle.someip_node_rules.specs.Meanings.{GivenBy}

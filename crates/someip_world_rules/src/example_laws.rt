@@ -1,7 +1,7 @@
 //! A run by example: the trace of two nodes, computed from the definitions. Each is the contract of a
 //! function that does nothing.
 ghost use Rattle.std.specs.Prelude.{◌≡◌, [], ◌∷◌, Ok, Err};
-ghost use Rattle.someip_node_rules.specs.WorkedRun.{OffersEvent, WantsEvent};
+ghost use Rattle.someip_node_laws.specs.WorkedRun.{OffersEvent, WantsEvent};
 ghost use Rattle.someip_node_rules.specs.declared.config.Config.{Config};
 ghost use Rattle.someip_world_schedule.specs.declared.step.Step.TheVariants.{Deliver};
 ghost use Rattle.someip_world_setup.specs.declared.setup_node.SetupNode.{SetupNode};

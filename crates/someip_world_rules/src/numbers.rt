@@ -6,7 +6,7 @@ ghost use Rattle.std.specs.List.{AllByRecursion};
 ghost use Rattle.std.specs.Net.Addr.{IsIpv4Addr};
 ghost use Rattle.std.specs.Net.Socket.{IsSocketAddrV4};
 ghost use Rattle.someip_rpc.specs.Servers.{code_of_reply};
-ghost use Rattle.someip_node_rules.specs.Fitting.{FitsConfig, FitsInstance, FitsOffer, FitsWant};
+ghost use Rattle.someip_node_laws.specs.Fitting.{FitsConfig, FitsInstance, FitsOffer, FitsWant};
 ghost use Rattle.someip_node_rules.specs.GoodConfigs.{is_good};
 ghost use Rattle.someip_world_rules.specs.Announced.{FitNodes, FitsStep};
 

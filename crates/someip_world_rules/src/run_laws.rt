@@ -21,13 +21,13 @@ ghost use Rattle.someip_world_rules.specs.KnownOffers.{IsAmongAnnounced, WasOffe
 ghost use Rattle.someip_node_rules.specs.declared.config.Config.{Config};
 ghost use Rattle.someip_node_rules.specs.declared.config.OfferedService.{OfferedService};
 ghost use Rattle.someip_node_rules.specs.Outputs.{Announces, datagrams_of};
-ghost use Rattle.someip_node_rules.specs.Fitting.{FitsConfig};
+ghost use Rattle.someip_node_laws.specs.Fitting.{FitsConfig};
 ghost use Rattle.someip_node_rules.specs.History.{History};
 ghost use Rattle.someip_node_rules.specs.Inputs as inputs;
 ghost use Rattle.someip_node_rules.specs.Inputs.{Input};
 ghost use Rattle.someip_node_rules.specs.Items.{Item};
 ghost use Rattle.someip_node_rules.specs.Meanings.{GivenBy};
-ghost use Rattle.someip_node_rules.specs.Published.{IsPublished, IsPublishedTo, publication};
+ghost use Rattle.someip_node_laws.specs.Published.{IsPublished, IsPublishedTo, publication};
 ghost use Rattle.someip_world_schedule.specs.declared.step.Step.{Step};
 ghost use Rattle.someip_world_schedule.specs.declared.step.Step.TheVariants.{Publish, PublishTo};
 ghost use Rattle.someip_world_setup.specs.declared.setup_node.SetupNode.{SetupNode};

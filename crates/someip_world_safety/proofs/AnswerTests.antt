@@ -23,7 +23,7 @@ use Rattle.someip_node_rules.specs.CallQuestions.{awaited_at}
 use Rattle.someip_node_rules.specs.History.{History, answers_of}
 use Rattle.someip_node_rules.specs.Questions.{clock_at}
 use Rattle.someip_node_rules.specs.Tables.{waiting_calls}
-use Rattle.someip_node_rules.proofs.NamedLemmas.{get-pending}
+use Rattle.someip_node_laws.proofs.NamedLemmas.{get-pending}
 
 -- ---- the test
 

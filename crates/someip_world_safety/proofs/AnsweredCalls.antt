@@ -11,7 +11,7 @@ use Rattle.someip_rpc.specs.declared.ids.CallKey.{CallKey}
 use Rattle.someip_rpc.specs.declared.ids.MessageId.{MessageId}
 use Rattle.someip_node_rules.specs.declared.config.Config.{Config}
 use Rattle.someip_node_rules.specs.CallQuestions.{awaited_at}
-use Rattle.someip_node_rules.specs.HandUps.{AnswerCame}
+use Rattle.someip_node_laws.specs.HandUps.{AnswerCame}
 use Rattle.someip_node_rules.specs.History.{History, answers_of}
 use Rattle.someip_node_rules.specs.Inputs.{plan_of}
 use Rattle.someip_node_rules.specs.Items as items

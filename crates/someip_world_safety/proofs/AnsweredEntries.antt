@@ -7,7 +7,7 @@ use Rattle.sd_wire.specs.declared.entry.EventgroupKind.TheVariants as group_kind
 use Rattle.sd_wire.specs.declared.entry.ServiceEntry.{ServiceEntry}
 use Rattle.sd_wire.specs.Kinds.{is_ack, is_find}
 use Rattle.sd_wire.specs.Values.{EntryValue}
-use Rattle.someip_node_rules.specs.Answerings.{AnswersAccepted, AnswersSubscribe}
+use Rattle.someip_node_laws.specs.Answerings.{AnswersAccepted, AnswersSubscribe}
 use Rattle.someip_node_rules.specs.Bringing.{OfEntry, RepliesToEntry}
 use Rattle.someip_node_rules.specs.History.{answers_of}
 use Rattle.someip_node_rules.specs.Learning.{eventgroup_in}
@@ -17,7 +17,7 @@ use Rattle.someip_node_rules.specs.Plans.{Rule}
 use Rattle.someip_node_rules.specs.Replies.{IsReply}
 use Rattle.someip_node_rules.specs.Tables.{Tables}
 use Rattle.someip_node_rules.specs.Trails.{Done}
-use Rattle.someip_node_rules.proofs.AnsweringLemmas.{answers_subscribe}
+use Rattle.someip_node_laws.proofs.AnsweringLemmas.{answers_subscribe}
 use Rattle.someip_world_safety.proofs.SentEntries.{IsGroupEntry, IsInstanceEntry, is_ack_kind}
 
 -- an Ack answers a Subscribe that was accepted, about its eventgroup and with its counter

@@ -14,7 +14,7 @@ use Rattle.sd_wire.specs.Kinds.{is_subscribe}
 use Rattle.sd_wire.specs.Values.{EntryValue, bad_run, good}
 use Rattle.sd_session.specs.declared.stamp.Stamp.{Stamp}
 use Rattle.someip_node_rules.specs.declared.config.Config.{Config}
-use Rattle.someip_node_rules.specs.Answerings.{AnswersSubscribe}
+use Rattle.someip_node_laws.specs.Answerings.{AnswersSubscribe}
 use Rattle.someip_node_rules.specs.Bringing.{Brings}
 use Rattle.someip_node_rules.specs.Handling.{same_address}
 use Rattle.someip_node_rules.specs.History.{answers_of}
@@ -25,7 +25,7 @@ use Rattle.someip_node_rules.specs.Packets.{Packet, HasSubscribe}
 use Rattle.someip_node_rules.specs.Plans.{Rule, Announces, RepliesTo}
 use Rattle.someip_node_rules.specs.Sending.{IsAnnounced}
 use Rattle.someip_node_rules.specs.Trails.{Done, trail_of}
-use Rattle.someip_node_rules.proofs.AnsweringLemmas.{answers_subscribe}
+use Rattle.someip_node_laws.proofs.AnsweringLemmas.{answers_subscribe}
 use Rattle.someip_node_rules.proofs.StepRules.{config_there}
 use Rattle.someip_world_schedule.specs.declared.step.Step.{Step}
 use Rattle.someip_world_schedule.specs.declared.step.Step.TheVariants as steps

@@ -2,10 +2,10 @@
 use Rattle.std.proofs.Common.{◌≡◌, ℕ, List, Ok, subst, take}
 use Rattle.std.specs.List.{AllByRecursion}
 use Rattle.someip_node_rules.specs.declared.config.Config.{Config}
-use Rattle.someip_node_rules.specs.Fitting.{FitsConfig}
+use Rattle.someip_node_laws.specs.Fitting.{FitsConfig}
 use Rattle.someip_node_rules.specs.Steps.{step}
 use Rattle.someip_node_rules.proofs.MemberLemmas.{all_take}
-use Rattle.someip_node_rules.proofs.PublishedLemmas.{is_published, is_published_to}
+use Rattle.someip_node_laws.proofs.PublishedLemmas.{is_published, is_published_to}
 use Rattle.someip_world_schedule.specs.declared.step.Step.{Step}
 use Rattle.someip_world_setup.specs.declared.setup_node.SetupNode.{SetupNode}
 use Rattle.someip_world_rules.specs.Announced.{FitsStep}

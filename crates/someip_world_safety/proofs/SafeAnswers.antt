@@ -11,11 +11,11 @@ use Rattle.someip_rpc.specs.declared.ids.CallKey.{CallKey}
 use Rattle.someip_rpc.specs.declared.ids.MessageId.{MessageId}
 use Rattle.someip_node_rules.specs.declared.config.Config.{Config}
 use Rattle.someip_node_rules.specs.declared.output.Output.TheVariants.{Answered}
-use Rattle.someip_node_rules.specs.HandUps.{AnswerCame}
+use Rattle.someip_node_laws.specs.HandUps.{AnswerCame}
 use Rattle.someip_node_rules.specs.Inputs as inputs
 use Rattle.someip_node_rules.specs.Outputs as outputs
 use Rattle.someip_node_rules.specs.Setups.{client_endpoint}
-use Rattle.someip_node_rules.proofs.HandUpLemmas.{answer_came}
+use Rattle.someip_node_laws.proofs.HandUpLemmas.{answer_came}
 use Rattle.someip_node_rules.specs.Steps.{step}
 use Rattle.someip_world_schedule.specs.declared.step.Step.{Step}
 use Rattle.someip_world_setup.specs.declared.setup_node.SetupNode.{SetupNode}

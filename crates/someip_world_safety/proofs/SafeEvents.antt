@@ -9,14 +9,14 @@ use Rattle.sd_core.specs.declared.keys.InstanceId.{InstanceId}
 use Rattle.someip_node_rules.specs.declared.config.Config.{Config}
 use Rattle.someip_node_rules.specs.declared.output.Output.TheVariants.{Event}
 use Rattle.someip_node_rules.specs.Handling.{target_of}
-use Rattle.someip_node_rules.specs.HandUps.{EventCame}
+use Rattle.someip_node_laws.specs.HandUps.{EventCame}
 use Rattle.someip_node_rules.specs.History.{answers_of}
 use Rattle.someip_node_rules.specs.Inputs.{Datagram}
 use Rattle.someip_node_rules.specs.Meanings.{GivenBy}
 use Rattle.someip_node_rules.specs.Messages.{takes_event}
 use Rattle.someip_node_rules.specs.Packets.{Packet, Came}
 use Rattle.someip_node_rules.specs.Trails.{Done, given_by, trail_of}
-use Rattle.someip_node_rules.proofs.HandUpLemmas.{event_came}
+use Rattle.someip_node_laws.proofs.HandUpLemmas.{event_came}
 use Rattle.someip_world_schedule.specs.declared.step.Step.{Step}
 use Rattle.someip_world_setup.specs.declared.setup_node.SetupNode.{SetupNode}
 use Rattle.someip_world_rules.specs.Announced.{AllFits}

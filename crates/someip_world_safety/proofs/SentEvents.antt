@@ -20,13 +20,13 @@ use Rattle.someip_node_rules.specs.Meanings.{GivenBy}
 use Rattle.someip_node_rules.specs.Outputs as outputs
 use Rattle.someip_node_rules.specs.Plans as plans
 use Rattle.someip_node_rules.specs.Plans.{Rule}
-use Rattle.someip_node_rules.specs.Published.{IsLiveAt, publication}
+use Rattle.someip_node_laws.specs.Published.{IsLiveAt, publication}
 use Rattle.someip_node_rules.specs.Sending.{IsSent}
 use Rattle.someip_node_rules.specs.Steps.{step}
 use Rattle.someip_node_rules.specs.Tables.{Tables}
 use Rattle.someip_node_rules.specs.Trails.{given_by, trail_of}
 use Rattle.someip_node_rules.proofs.MemberLemmas.{all_from_members, all_map, at_member, only_one}
-use Rattle.someip_node_rules.proofs.PublishedLemmas.{is_published, is_published_to}
+use Rattle.someip_node_laws.proofs.PublishedLemmas.{is_published, is_published_to}
 use Rattle.someip_world_schedule.specs.declared.step.Step.{Step}
 use Rattle.someip_world_setup.specs.declared.setup_node.SetupNode.{SetupNode}
 use Rattle.someip_world_rules.specs.Deliveries.{Does}

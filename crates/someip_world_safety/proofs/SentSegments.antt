@@ -17,7 +17,7 @@ use Rattle.someip_tp.proofs.AcceptedLemmas.{own_read, segment_is}
 use Rattle.someip_tp.proofs.SentLemmas.{all_fit}
 use Rattle.someip_node_rules.specs.declared.output.Output.TheVariants.{Sent}
 use Rattle.someip_node_rules.specs.Entries.{discovery_message}
-use Rattle.someip_node_rules.specs.Fitting.{FitsWire}
+use Rattle.someip_node_laws.specs.Fitting.{FitsWire}
 use Rattle.someip_node_rules.specs.History.{History, answers_of}
 use Rattle.someip_node_rules.specs.Inputs.{Input}
 use Rattle.someip_node_rules.specs.Meanings.{GivenBy, IsTold}

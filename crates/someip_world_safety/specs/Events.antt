@@ -15,7 +15,7 @@ use Rattle.someip_node_rules.specs.Inputs.{Publish, PublishTo}
 use Rattle.someip_node_rules.specs.Messages.{takes_event}
 use Rattle.someip_node_rules.specs.Outputs.{Sends}
 use Rattle.someip_node_rules.specs.Plans.{TakesEvent}
-use Rattle.someip_node_rules.specs.Published.{IsLiveAt}
+use Rattle.someip_node_laws.specs.Published.{IsLiveAt}
 use Rattle.someip_node_rules.specs.Setups.{client_endpoint, offered_as}
 use Rattle.someip_node_rules.specs.Tables.{known_endpoint}
 use Rattle.someip_node_rules.specs.Trails.{Done, given_by, trail_of}

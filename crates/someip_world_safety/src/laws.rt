@@ -3,7 +3,7 @@
 ghost use Rattle.std.specs.Prelude.{◌≤◌, ℕ, suc, List, length, take};
 ghost use Rattle.std.specs.List.{AllByRecursion};
 ghost use Rattle.someip_node_rules.specs.declared.config.Config.{Config};
-ghost use Rattle.someip_node_rules.specs.Fitting.{FitsConfig};
+ghost use Rattle.someip_node_laws.specs.Fitting.{FitsConfig};
 ghost use Rattle.someip_world_schedule.specs.declared.step.Step.{Step};
 ghost use Rattle.someip_world_setup.specs.declared.setup_node.SetupNode.{SetupNode};
 ghost use Rattle.someip_world_setup.specs.GoodSetups.{IsGoodNetwork, Network};

@@ -7,6 +7,7 @@ use Rattle.sd_core.specs.declared.keys.InstanceId.{InstanceId}
 use Rattle.sd_core.specs.Keys.{instance_cmp}
 use Rattle.someip_node_rules.specs.Handling.{same_address}
 use Rattle.someip_world_setup.specs.Values.{ListedValue, OfferValue, WantValue, NodeValue, SetupValue}
+use Rattle.someip_node_rules.specs.Setups.{discovery_port}
 
 -- one of a list is the same as a later one
 abbrev pub has_repeat : {A : Type 0} → (A → A → Bool) → List A → Bool
@@ -37,7 +38,7 @@ has_equal_addresses group nodes = has_repeat same_address (taken_addresses group
 
 -- the port of Service Discovery, that of a node's client, and those of its offers
 abbrev pub taken_ports : NodeValue → List ℕ
-taken_ports node = 30490 ∷ node.client_port ∷ map (λ o. o.port) node.offers
+taken_ports node = discovery_port ∷ node.client_port ∷ map (λ o. o.port) node.offers
 
 -- a node has a port twice, or that of Service Discovery
 abbrev pub has_equal_ports : NodeValue → Bool

@@ -3,7 +3,6 @@ use Rattle.std.specs.Prelude.{ℕ, codes, List, [], ◌∷◌, ◌++◌}
 use Rattle.std.specs.List.{flat_map}
 use Rattle.std.specs.declared.net.ipv4_addr.Ipv4Addr.{Ipv4Addr}
 use Rattle.toml.specs.Data.{Data, array, table, no_items, item, no_members, member}
-use Rattle.someip_node_rules.specs.WorkedRun.{group_address}
 use Rattle.someip_world_setup.specs.Values.{OfferValue, WantValue, NodeValue, SetupValue}
 
 -- ---- setups
@@ -66,6 +65,10 @@ setup_with group nodes = record {
 -- one node at 192.168.0.1, with a multicast group
 abbrev pub alone_with : Ipv4Addr → SetupValue
 alone_with group = setup_with group (node_with (codes "a") 1 40000 [] [] ∷ [])
+
+-- the multicast group of these setups, 239.0.0.1
+abbrev pub group_address : Ipv4Addr
+group_address = record { octets = 239 ∷ 0 ∷ 0 ∷ 1 ∷ [] }
 
 -- the group 239.0.0.1, the node a with some offers, and a node beside it
 abbrev pub offering : List OfferValue → SetupValue

@@ -4,6 +4,7 @@ use Rattle.toml.specs.Data.{Data}
 use Rattle.someip_world_setup.specs.Keys.{◌>>=◌, number_within, number_or, name_at, address_at}
 use Rattle.someip_world_setup.specs.Lists.{found_at_each, tables_at, tables_or_none, integers_at, integers_or_none, ids_of}
 use Rattle.someip_world_setup.specs.Values.{ListedValue, OfferValue, WantValue, NodeValue, PhasesValue, CommonValue, SetupValue}
+use Rattle.someip_node_rules.specs.GoodConfigs.{greatest_message_limit}
 
 -- an ID: of a service, of an instance or of an eventgroup
 abbrev pub id_at : List ℕ → Data → Option ℕ
@@ -136,7 +137,7 @@ said_common d =
     number_or (codes "initial_min") (pos 10) 0 60000 d >>= λ initial_min.
     number_or (codes "initial_max") (pos 100) initial_min 60000 d >>= λ initial_max.
     said_phases d >>= λ phases.
-    number_or (codes "message_limit") (pos 65536) 1400 1048576 d >>= λ message_limit.
+    number_or (codes "message_limit") (pos 65536) 1400 greatest_message_limit d >>= λ message_limit.
     count_or (codes "slots") (pos 16) d >>= λ slots.
     count_or (codes "peers") (pos 64) d >>= λ peers.
     time_or (codes "reassembly_timeout") (pos 1000) d >>= λ reassembly_timeout.

@@ -1,6 +1,6 @@
 //! What all nodes share.
 ghost use Rattle.std.specs.Prelude.{◌≡◌, true, pos, codes, IfOk};
-ghost use Rattle.someip_node_rules.specs.GoodConfigs.{is_within, is_good_common};
+ghost use Rattle.someip_node_rules.specs.GoodConfigs.{greatest_message_limit, is_good_common, is_within};
 ghost use Rattle.toml.specs.View.{view};
 ghost use Rattle.someip_world_setup.specs.Keys.{IsAsFound, number_or};
 ghost use Rattle.someip_world_setup.specs.Says.{said_phases, said_common};
@@ -29,10 +29,16 @@ fn phases(table: &Value) -> Result<Phases, SetupError>
 
 /// The greatest payload of a message.
 fn message_limit(table: &Value) -> Result<usize, SetupError>
-    ensures good { IfOk result (λ n. is_within 1400 1048576 n ≡ true) }
-    ensures found { IsAsFound (λ n. n) result (number_or (codes "message_limit") (pos 65536) 1400 1048576 (view table.now)) }
+    ensures good { IfOk result (λ n. is_within 1400 greatest_message_limit n ≡ true) }
+    ensures found { IsAsFound (λ n. n) result (number_or (codes "message_limit") (pos 65536) 1400 greatest_message_limit (view table.now)) }
 {
-    Ok(word_or(table, "message_limit", 65536, 1400, 1_048_576)? as usize)
+    Ok(word_or(
+        table,
+        "message_limit",
+        65536,
+        1400,
+        Common::GREATEST_MESSAGE_LIMIT as u32,
+    )? as usize)
 }
 
 /// What all nodes share.

@@ -6,11 +6,9 @@ ghost use Rattle.someip_world_setup.specs.Clashes.{taken_addresses, taken_ports,
 
 use crate::parts::{Listed, NodeParts, OfferParts};
 use sd_core::InstanceId;
+use someip_node_rules::Config;
 use std::alloc::{AllocError, Global};
 use std::net::Ipv4Addr;
-
-/// The UDP port of Service Discovery.
-const DISCOVERY_PORT: u16 = 30490;
 
 /// The address of the multicast group, and then those of the nodes.
 pub(crate) fn addresses(
@@ -33,7 +31,7 @@ pub(crate) fn ports(alloc: Global, node: &NodeParts) -> Result<Vec<u16>, AllocEr
     ensures { IfOk result (λ v. v.items ≡ taken_ports (node_view node.now)) }
 {
     let mut ports = Vec::new(alloc);
-    ports.push(DISCOVERY_PORT)?;
+    ports.push(Config::DISCOVERY_PORT)?;
     ports.push(node.client_port)?;
     add_ports(&mut ports, &node.offers)?;
     Ok(ports)

@@ -13,9 +13,9 @@ ghost use Rattle.someipctl_run.specs.Traces.{marked_line, marked_verdict, pointe
 
 use crate::error::RunFault;
 use crate::form::TraceForm;
-use crate::lines::{came_by_part, number_after, put_marked_line, put_verdict};
 use crate::running::trace_of;
 use crate::step_lines::{line_of_step, lines_of_steps};
+use crate::trace_lines::{came_by_part, number_after, put_marked_line, put_verdict};
 use someip_world::{Line, Reuse, Setup, SetupNode};
 use someipctl_commands::{Outcome, read_all};
 use someipctl_print::{Buffer, CannotWrite, Part, put_parts};

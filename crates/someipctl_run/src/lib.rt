@@ -16,12 +16,12 @@ mod error;
 mod expected;
 mod form;
 pub mod laws;
-mod lines;
 mod outputs;
 mod running;
 mod setups;
 mod step_lines;
 mod texts;
+mod trace_lines;
 
 pub use comparing::compare_schedule;
 pub use error::{ExpectedFault, RunFault, SetupFault, SetupRefusal};

@@ -9,8 +9,8 @@ ghost use Rattle.someipctl_run.specs.Traces.{marked_trace, pointed};
 
 use crate::error::RunFault;
 use crate::form::TraceForm;
-use crate::lines::{put_lines, put_verdict};
 use crate::step_lines::lines_to_show;
+use crate::trace_lines::{put_lines, put_verdict};
 use someip_tp::IntervalPool;
 use someip_world::{Line, Reuse, Setup, SetupNode, Trace, read_schedule, run};
 use someipctl_commands::read_all;

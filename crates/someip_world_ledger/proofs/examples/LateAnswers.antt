@@ -7,7 +7,7 @@ use Rattle.someip_wire.specs.Reading.{items_within}
 use Rattle.sd_wire.specs.Program.{options_within}
 use Rattle.someip_rpc.specs.declared.call.CallKind.TheVariants as kinds
 use Rattle.someip_rpc.specs.declared.request.Reply.TheVariants.{Response}
-use Rattle.someip_node_rules.specs.WorkedExamples.{instance}
+use Rattle.someip_node_laws.specs.WorkedExamples.{instance}
 use Rattle.someip_world_schedule.specs.declared.step.Step.{Step}
 use Rattle.someip_world_schedule.specs.declared.step.Step.TheVariants.{Tick, Deliver, Call, Answer, Restart}
 use Rattle.someip_world_setup.specs.declared.setup_node.SetupNode.{SetupNode}

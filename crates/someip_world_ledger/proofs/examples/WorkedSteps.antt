@@ -5,7 +5,7 @@ use Rattle.std.specs.FinMap as finite
 use Rattle.std.specs.FinMap.{FinMap, get-insert}
 use Rattle.std.specs.Ordering.{nat_cmp}
 use Rattle.someip_tables.proofs.Entries.{own_test}
-use Rattle.someip_node_rules.specs.WorkedExamples.{client, server}
+use Rattle.someip_node_laws.specs.WorkedExamples.{client, server}
 use Rattle.someip_world_schedule.specs.StepNodes.{node_of}
 use Rattle.someip_world_schedule.specs.declared.step.Step.{Step}
 use Rattle.someip_world_setup.specs.declared.setup_node.SetupNode.{SetupNode}

@@ -7,7 +7,7 @@ use Rattle.std.specs.Option.{option_map}
 use Rattle.sd_core.specs.Keys.{instance_cmp}
 use Rattle.sd_core.specs.declared.eventgroup.Eventgroup.{Eventgroup}
 use Rattle.someip_node_rules.specs.Copies.{IsCopy}
-use Rattle.someip_node_rules.specs.Fitting.{FitsWire}
+use Rattle.someip_node_laws.specs.Fitting.{FitsWire}
 use Rattle.someip_node_rules.specs.GoodConfigs.{is_good}
 use Rattle.someip_node_rules.specs.History.{History}
 use Rattle.someip_node_rules.specs.Inputs.{Input}

@@ -26,7 +26,7 @@ use Rattle.someip_node_rules.specs.Setups.{offered_as}
 use Rattle.someip_node_rules.specs.Steps.{step}
 use Rattle.someip_node_rules.specs.declared.config.Config.{Config}
 use Rattle.someip_node_rules.specs.declared.config.OfferedService.{OfferedService}
-use Rattle.someip_node_rules.proofs.PublishedLemmas.{is_published, is_published_to}
+use Rattle.someip_node_laws.proofs.PublishedLemmas.{is_published, is_published_to}
 use Rattle.someip_world_schedule.specs.declared.step.Step.{Step}
 use Rattle.someip_world_schedule.specs.declared.step.Step.TheVariants as steps
 use Rattle.someip_world_rules.specs.declared.line.Line.{Line}

@@ -14,7 +14,7 @@ use Rattle.sd_wire.specs.declared.entry.EventgroupKind.TheVariants.{Subscribe, A
 use Rattle.sd_wire.specs.Kinds.{has_type_subscribe}
 use Rattle.sd_wire.specs.Values.{EntryValue, ReadValue, good}
 use Rattle.sd_session.specs.declared.stamp.Stamp.{Stamp}
-use Rattle.someip_node_rules.specs.Fitting.{FitsWire, head_of}
+use Rattle.someip_node_laws.specs.Fitting.{FitsWire, head_of}
 use Rattle.someip_node_rules.specs.GoodConfigs.{has_own_ports, is_good, is_good_common, is_good_group, is_good_instance, is_good_offer, is_good_port, is_good_want}
 use Rattle.someip_node_rules.specs.Handling.{same_address}
 use Rattle.someip_node_rules.specs.History.{History, answers_of}

@@ -1,6 +1,6 @@
 use Rattle.std.proofs.Common.{◌≢◌}
 use Rattle.std.specs.List.{AllByRecursion}
-use Rattle.someip_node_rules.specs.Fitting.{FitsOffer}
+use Rattle.someip_node_laws.specs.Fitting.{FitsOffer}
 use Rattle.someip_world_rules.proofs.numbers.offers_fit.Given as goal
 
 -- all fit where those that are left do

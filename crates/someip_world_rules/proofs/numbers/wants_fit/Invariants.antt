@@ -1,5 +1,5 @@
 use Rattle.std.specs.List.{AllByRecursion}
-use Rattle.someip_node_rules.specs.Fitting.{FitsWant}
+use Rattle.someip_node_laws.specs.Fitting.{FitsWant}
 use Rattle.someip_world_rules.proofs.numbers.wants_fit.Given as goal
 
 -- all fit where those that are left do

@@ -1,0 +1,5 @@
+use Rattle.someip_node_laws.proofs.ExampleLemmas.{late_dropped}
+use Rattle.someip_node_laws.proofs.example_laws.late_answers_are_dropped.Goals as goal
+
+pub returns : goal.returns
+returns c = late_dropped

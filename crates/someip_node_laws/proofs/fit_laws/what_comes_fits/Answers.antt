@@ -1,0 +1,5 @@
+use Rattle.someip_node_laws.proofs.FitPackets.{bytes_fit}
+use Rattle.someip_node_laws.proofs.fit_laws.what_comes_fits.Goals as goal
+
+pub returns : goal.returns
+returns c = bytes_fit

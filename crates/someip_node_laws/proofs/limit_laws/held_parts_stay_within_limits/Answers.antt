@@ -1,0 +1,6 @@
+use Rattle.someip_node_rules.specs.Setups.{limits_of}
+use Rattle.someip_node_laws.proofs.LimitLemmas.{parts_within}
+use Rattle.someip_node_laws.proofs.limit_laws.held_parts_stay_within_limits.Goals as goal
+
+pub returns : goal.returns
+returns c = λ h. parts_within (limits_of h.config) h.items

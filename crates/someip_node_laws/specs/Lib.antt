@@ -1,0 +1,9 @@
+pub mod HistoryExamples
+pub mod Answerings
+pub mod HandUps
+pub mod Published
+pub mod WorkedExamples
+pub mod LimitExamples
+pub mod CallExamples
+pub mod WorkedRun
+pub mod Fitting

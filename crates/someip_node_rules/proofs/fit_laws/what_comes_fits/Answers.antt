@@ -1,5 +1,0 @@
-use Rattle.someip_node_rules.proofs.FitPackets.{bytes_fit}
-use Rattle.someip_node_rules.proofs.fit_laws.what_comes_fits.Goals as goal
-
-pub returns : goal.returns
-returns c = bytes_fit

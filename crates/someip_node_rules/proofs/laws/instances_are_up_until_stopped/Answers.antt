@@ -1,5 +1,0 @@
-use Rattle.someip_node_rules.proofs.UpLemmas.{up_is}
-use Rattle.someip_node_rules.proofs.laws.instances_are_up_until_stopped.Goals as goal
-
-pub returns : goal.returns
-returns c = up_is

@@ -1,8 +1,0 @@
-use Rattle.someip_node_rules.proofs.CameExamples.{accepted_replied, refused_not_replied}
-use Rattle.someip_node_rules.proofs.run_example_laws.replies_by_example.Goals as goal
-
-pub returns-clause-accepted : goal.returns-clause-accepted
-returns-clause-accepted c = accepted_replied
-
-pub returns-clause-refused : goal.returns-clause-refused
-returns-clause-refused c = refused_not_replied

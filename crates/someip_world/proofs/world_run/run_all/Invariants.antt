@@ -1,0 +1,9 @@
+use Rattle.someip_world_rules.specs.Runs.{World}
+use Rattle.someip_world.specs.Running.{AreOfWorld}
+use Rattle.someip_world.proofs.RunLemmas.{GoesOn}
+use Rattle.someip_world.proofs.world_run.run_all.Given as goal
+
+-- the run goes on from what was done
+abbrev pub invariant-loop-done : goal.invariant-loop-done
+invariant-loop-done g l =
+    (first : World) → AreOfWorld l.fn.nodes.items l.fn.log first → GoesOn l.setup first l.steps l.nodes.items l.log l.done

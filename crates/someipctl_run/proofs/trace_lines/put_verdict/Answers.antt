@@ -1,0 +1,12 @@
+use Rattle.std.proofs.lemmas.Result.{on_ok_weaker, on_err_weaker}
+use Rattle.someipctl_print.proofs.SendingLemmas.{OnErr-any, Sends-trans, Stops-after, Stops-before}
+use Rattle.someipctl_run.proofs.trace_lines.put_verdict.Goals as goal
+
+pub returns-in_err-put_margin-clause-err : goal.returns-in_err-put_margin-clause-err
+returns-in_err-put_margin-clause-err g c = OnErr-any c.from_residual.result (Stops-before _ _ _ _ _ c.in_err-put_margin.ensures.err)
+
+pub returns-clause-ok : goal.returns-clause-ok
+returns-clause-ok g c = on_ok_weaker c.put_reuse.result (λ sends. Sends-trans _ _ _ _ _ _ _ _ c.in_ok-put_margin.ensures.ok sends) c.put_reuse.ensures.ok
+
+pub returns-clause-err : goal.returns-clause-err
+returns-clause-err g c = on_err_weaker c.put_reuse.result (λ stops. Stops-after _ _ _ _ _ _ _ c.in_ok-put_margin.ensures.ok stops) c.put_reuse.ensures.err
