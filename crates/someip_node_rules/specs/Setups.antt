@@ -22,7 +22,7 @@ use Rattle.someip_node_rules.specs.declared.config.WantedService.{WantedService}
 
 -- the UDP port of Service Discovery
 abbrev pub discovery_port : ℕ
-discovery_port = discovery_port
+discovery_port = 30490
 
 -- a port of the node
 abbrev pub own_endpoint : Config → ℕ → SocketAddrV4
