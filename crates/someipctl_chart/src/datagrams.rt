@@ -4,6 +4,7 @@ use crate::rows::Rows;
 use someip_world::{Line, SetupNode, Step};
 use someip_world_rules::place_of;
 use std::alloc::{AllocError, Global};
+use std::collections::{BTreeMap, BTreeSet};
 
 /// A datagram that was sent. They are numbered from 1 by their places.
 #[derive(Clone, Copy)]
@@ -42,6 +43,31 @@ pub(crate) struct Delivery {
     pub(crate) fate: Fate,
 }
 
+/// What was delivered so far; nodes and datagrams are known by their places.
+#[derive(Drop)]
+struct Delivered {
+    /// Each datagram that came to a node, with that node.
+    came: BTreeSet<(usize, usize)>,
+    /// Of what came from one node to another, the datagram that was sent last.
+    newest: BTreeMap<(usize, usize), usize>,
+}
+
+impl Delivered {
+    /// How a datagram of a sender comes to a node now.
+    fn add(&mut self, place: usize, sender: usize, node: usize) -> Result<Fate, AllocError> {
+        if !self.came.insert((place, node))? {
+            return Ok(Fate::Repeated);
+        }
+        match self.newest.get(&(sender, node)) {
+            Some(newest) if place < *newest => Ok(Fate::Overtaken),
+            _ => {
+                self.newest.insert((sender, node), place)?;
+                Ok(Fate::Arrived)
+            }
+        }
+    }
+}
+
 /// The datagrams that the lines of a trace tell of.
 pub(crate) fn sent_in(alloc: Global, rows: &Rows, lines: &[Line]) -> Result<Vec<Sent>, AllocError> {
     let mut sent = Vec::new(alloc);
@@ -66,9 +92,13 @@ pub(crate) fn deliveries_in(
     sent: &[Sent],
 ) -> Result<Vec<Delivery>, AllocError> {
     let mut deliveries = Vec::new(alloc);
+    let mut delivered = Delivered {
+        came: BTreeSet::new(alloc),
+        newest: BTreeMap::new(alloc),
+    };
     for (index, step) in steps.iter().enumerate() {
         if let Some((place, datagram, node)) = delivered_by(step, nodes, sent) {
-            let fate = fate_of(&deliveries, place, datagram, node);
+            let fate = delivered.add(place, datagram.node, node)?;
             deliveries.push(Delivery {
                 place,
                 sent: datagram,
@@ -92,21 +122,14 @@ fn delivered_by(step: &Step, nodes: &[SetupNode], sent: &[Sent]) -> Option<(usiz
     Some((place, datagram, node))
 }
 
-/// How a datagram comes to a node after others.
-fn fate_of(deliveries: &[Delivery], place: usize, sent: Sent, node: usize) -> Fate {
-    let mut fate = Fate::Arrived;
+/// The places of the datagrams that some step delivers.
+pub(crate) fn delivered_places(
+    alloc: Global,
+    deliveries: &[Delivery],
+) -> Result<BTreeSet<usize>, AllocError> {
+    let mut places = BTreeSet::new(alloc);
     for delivery in deliveries {
-        if delivery.node == node && delivery.place == place {
-            return Fate::Repeated;
-        }
-        if delivery.node == node && delivery.sent.node == sent.node && place < delivery.place {
-            fate = Fate::Overtaken;
-        }
+        places.insert(delivery.place)?;
     }
-    fate
-}
-
-/// Whether no step delivers the datagram of a place.
-pub(crate) fn is_lost(deliveries: &[Delivery], place: usize) -> bool {
-    !deliveries.iter().any(|delivery| delivery.place == place)
+    Ok(places)
 }

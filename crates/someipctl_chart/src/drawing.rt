@@ -4,7 +4,7 @@
 //! and beside it what it gave. An arrow leads from where a datagram was sent to where it was delivered;
 //! one that no step delivers ends in a cross.
 
-use crate::datagrams::{Delivery, Fate, Sent, is_lost};
+use crate::datagrams::{Delivery, Fate, Sent, delivered_places};
 use crate::escaping::push_escaped;
 use crate::labels::push_datagram;
 use crate::rows::Rows;
@@ -60,7 +60,7 @@ pub(crate) fn svg_of(
     push_steps(&mut text, picture)?;
     push_lanes(&mut text, picture)?;
     push_arrows(&mut text, picture)?;
-    push_crosses(&mut text, picture)?;
+    push_crosses(alloc, &mut text, picture)?;
     push_labels(alloc, &mut text, picture)?;
     push_verdict(&mut text, picture, verdict)?;
     text.push_str("</svg>\n")?;
@@ -260,9 +260,10 @@ fn class_of(fate: Fate) -> &'static str {
 }
 
 /// Appends a cross for each datagram that no step delivers.
-fn push_crosses(text: &mut String, picture: &Picture<'_>) -> Result<(), AllocError> {
+fn push_crosses(alloc: Global, text: &mut String, picture: &Picture<'_>) -> Result<(), AllocError> {
+    let delivered = delivered_places(alloc, picture.deliveries)?;
     for (place, sent) in picture.sent.iter().enumerate() {
-        if is_lost(picture.deliveries, place) {
+        if !delivered.contains(&place) {
             let (x, y) = (lane_x(sent.node), row_y(sent.row));
             write!(
                 text,

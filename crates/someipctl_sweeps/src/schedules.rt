@@ -6,6 +6,7 @@ mod life;
 mod line;
 mod reached;
 mod schedule;
+mod telling;
 mod world;
 mod wrong;
 

@@ -2,6 +2,7 @@
 
 use crate::schedules::life::Life;
 use crate::schedules::schedule::Schedule;
+use crate::schedules::telling::prints_its_line;
 use crate::schedules::wrong::ScheduleWrong;
 use someip_node::Output;
 use someip_world::{Line, SetupNode, Step, Told};
@@ -17,7 +18,7 @@ pub fn judge(alloc: Global, nodes: &[SetupNode], schedule: &Schedule) -> Result<
         let node = place_of(nodes, step.node().as_str()).unwrap_or(0);
         if let Some(life) = lives.get_mut(node) {
             take_step(life, step, node, &senders);
-            take_lines(life, step, place.saturating_add(1), lines)?;
+            take_lines(alloc, life, step, place.saturating_add(1), lines)?;
         }
     }
     Ok(())
@@ -57,8 +58,9 @@ fn take_step(life: &mut Life, step: &Step, node: usize, senders: &[usize]) {
     }
 }
 
-/// Takes the lines of a step. Only the step's own node gives something in it.
+/// Takes the lines of a step, each of which has the text of its output. Only the step's own node gives something in it.
 fn take_lines(
+    alloc: Global,
     life: &mut Life,
     step: &Step,
     index: usize,
@@ -69,6 +71,9 @@ fn take_lines(
             && let Told::Gave(output) = &line.told
         {
             life.take(step, index, output)?;
+            if !prints_its_line(alloc, line, output)? {
+                return Err(ScheduleWrong::TwoTexts(index));
+            }
         }
     }
     Ok(())

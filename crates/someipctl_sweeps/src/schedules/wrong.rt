@@ -22,6 +22,9 @@ pub enum ScheduleWrong {
     /// Something was handed up that only a peer can bring about, and no datagram of a peer came.
     #[error("step {0}: handed up though nothing came of a peer")]
     NothingCame(usize),
+    /// An output prints itself otherwise than its line tells it.
+    #[error("step {0}: an output has two texts")]
+    TwoTexts(usize),
     /// Memory ran out.
     #[error("out of memory")]
     OutOfMemory,
