@@ -222,11 +222,18 @@ const ASTRAY: &[Row] = &[
 const OFFER: &str =
     "ffff8100000000300000000101010200c000000000000010010000101111000101000003000000000000000c00090400c0a800010011772d";
 
+/// The same in the next session, and one of another port in the session after it.
+const AGAIN: &str =
+    "ffff8100000000300000000201010200c000000000000010010000101111000101000003000000000000000c00090400c0a800010011772d";
+
+const MOVED: &str =
+    "ffff8100000000300000000301010200c000000000000010010000101111000101000003000000000000000c00090400c0a800010011772e";
+
 /// An Offer without an endpoint.
 const BARE: &str =
     "ffff8100000000240000000101010200c0000000000000100100000011110001010000030000000000000000";
 
-/// Offers of an instance by several peers.
+/// Offers of an instance by several peers, and what is told of them.
 const OFFERS: &[Row] = &[
     (
         Datagram(Port(3, 30490), SD_OF_ALL, BARE),
@@ -235,6 +242,11 @@ const OFFERS: &[Row] = &[
     (
         Datagram(SD_OF_SERVER, SD_OF_ALL, OFFER),
         "known 1111.0001 192.168.0.1:30509\n",
+    ),
+    (Datagram(SD_OF_SERVER, SD_OF_ALL, AGAIN), ""),
+    (
+        Datagram(SD_OF_SERVER, SD_OF_ALL, MOVED),
+        "known 1111.0001 192.168.0.1:30510\n",
     ),
     (
         Datagram(Port(4, 30490), SD_OF_ALL, OFFER),
