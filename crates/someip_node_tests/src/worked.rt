@@ -1,6 +1,6 @@
 //! The worked run: two nodes, a call, a subscription and an event.
 use crate::acts::Act::{Answer, Call, Datagram, Publish, Subscribe, Tick, Unsubscribe};
-use crate::acts::Row;
+use crate::acts::{Port, Row};
 use crate::nodes::{
     CLIENT, EVENTGROUP, INSTANCE, OFFERS, SD_OF_ALL, SD_OF_CLIENT, SD_OF_SERVER, SERVER, WANTS,
     gives,
@@ -79,6 +79,18 @@ const AT_CLIENT: &[Row] = &[
     (
         Datagram(SERVER, CLIENT, "111180010000000900000001010102002a"),
         "event 1111.0001 8001 2a\n",
+    ),
+    (
+        Datagram(Port(9, 30509), CLIENT, "111180010000000900000001010102002a"),
+        "dropped NotSubscribed\n",
+    ),
+    (
+        Datagram(Port(1, 30510), CLIENT, "111180010000000900000001010102002a"),
+        "dropped NotSubscribed\n",
+    ),
+    (
+        Datagram(SERVER, CLIENT, "111180010000000900000001010202002a"),
+        "dropped NotSubscribed\n",
     ),
     (
         Unsubscribe(EVENTGROUP),
