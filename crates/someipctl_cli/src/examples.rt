@@ -10,7 +10,7 @@ The help of a command shows the form of its input, as `someipctl help show` does
 
 /// Of `show`.
 pub(crate) const SHOW_EXAMPLE: &str = "\
-A capture has one datagram a line, in hex. `-` is the empty datagram, blanks are ignored,
+A capture has one datagram a line, in hex. `-` is the empty datagram, spaces are ignored,
 and lines that begin with # are comments. So the line
   12340421 00000008 00010001 01010000
 prints
@@ -18,7 +18,7 @@ prints
 
 /// Of `payload`.
 pub(crate) const PAYLOAD_EXAMPLE: &str = "\
-SHAPE says what the payload looks like, HEX is the payload in hex without blanks, - for no bytes.
+SHAPE says what the payload looks like, HEX is the payload in hex without spaces, - for no bytes.
 A shape is bool, u8, u16, u32, u64, i8, i16, i32 or i64; utf8, utf16, array<MAX,shape> or
 struct(shape,..), with /8, /16 or /32 behind the word for the width of the length field;
 fixed<N,shape>; union(NUMBER:shape,..); or tagged(ID:shape,ID?:shape,..), with a width as above,
@@ -37,7 +37,7 @@ where member 2 is absent, and the item of the unknown ID 9 is skipped.";
 pub(crate) const VECTORS_EXAMPLE: &str = "\
 A line `datagram HEX` or `payload SHAPE HEX` is a vector, and the lines after it that begin with
 `> ` are the text that it expects: that of `show`, where the datagram is the first of a capture,
-or that of `payload`. HEX has no blanks. Empty lines and lines that begin with # are left out.
+or that of `payload`. HEX has no spaces. Empty lines and lines that begin with # are left out.
 So the lines
   datagram -
   > 1 empty
@@ -76,7 +76,9 @@ SCHEDULE has one step a line: what happens to a node. Lines that begin with # ar
   stop_offer NODE SI           restart NODE DELAY
 So the step
   tick a 10
-prints the Offer of node a as datagram 1, which a later `deliver 1 NODE` delivers.
+prints the Offer of node a as datagram 1, which a later `deliver 1 NODE` delivers. The last line is
+the verdict: `reuse clean`, or `reuse broken at I` where step I is the first that breaks clean reuse
+of keys.
 
 The options change what is printed, and nothing that happens in the run. With --lines, the number
 of the line of SCHEDULE stands before each line, and - before the verdict. With --expect, nothing is
