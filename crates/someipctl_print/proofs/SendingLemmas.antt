@@ -51,8 +51,11 @@ Stops-at a b held text n wrote none = record {
 }
 
 -- of what was held the first n bytes are written
-pub Stops-flushing : (a b : Option (List ℕ)) (held : List ℕ) (n : ℕ) → Appends a b (take n held) → Stops a held b []
-Stops-flushing a b held n wrote = record { unsent = drop n held; sends = record { sent = take n held; wrote = wrote; rest = take-append-drop n held ∙ sym (append-nil held) } }
+pub Stops-flushing : (a b : Option (List ℕ)) (held text : List ℕ) (n : ℕ) → Appends a b (take n text) → held ≡ text → Stops a held b []
+Stops-flushing a b held text n wrote is = record {
+  unsent = drop n text;
+  sends = record { sent = take n text; wrote = wrote; rest = take-append-drop n text ∙ sym is ∙ sym (append-nil held) };
+}
 
 -- what holds anyway holds on an error
 pub OnErr-any : {T E P : Type 0} (r : Result T E) → P → OnErr r P

@@ -10,9 +10,8 @@ ghost use Rattle.someipctl_print.specs.Discovery.{view_found, discovery_in, disc
 ghost use Rattle.someipctl_print.specs.Items.{item_lines, item_len, is_faulty};
 
 use crate::discovery::put_reading;
-use crate::lines::{message_parts, put_fault, put_segment};
+use crate::lines::{put_fault, put_message_line, put_segment};
 use crate::output::{Buffer, CannotWrite};
-use crate::parts::put_parts;
 use sd_wire::{SdError, SdRead};
 use someip_wire::{Message, WireError, written_len};
 use std::io::Write;
@@ -41,7 +40,7 @@ pub fn put_item<W: Write>(
 {
     match item {
         Ok(message) => {
-            put_parts(buffer, writer, &message_parts(k, message))?;
+            put_message_line(buffer, writer, k, message)?;
             put_behind(buffer, writer, k, place + HEADER_LEN, message, found)
         }
         Err(fault) => {

@@ -1,15 +1,15 @@
 //! The lines of messages, segments and faults.
-ghost use Rattle.std.specs.Prelude.{◌≡◌, ◌&&◌, OnOk, OnErr, IfOk};
+ghost use Rattle.std.specs.Prelude.{◌≡◌, ◌&&◌, ◌+◌, ◌∷◌, ◌++◌, [], OnOk, OnErr, IfOk, codes, decimal, length};
 ghost use Rattle.std.specs.List.{flat_map};
 ghost use Rattle.someip_wire.specs.Kinds.{has_tp_flag};
 ghost use Rattle.someip_wire.specs.View.{view};
 ghost use Rattle.someipctl_print.specs.Sending.{Sends, Stops};
-ghost use Rattle.someipctl_print.specs.Parts.{part_text};
-ghost use Rattle.someipctl_print.specs.Lines.{type_name, payload_text};
+ghost use Rattle.someipctl_print.specs.Parts.{hex2, hex4, part_text};
+ghost use Rattle.someipctl_print.specs.Lines.{joined, type_name, payload_text};
 ghost use Rattle.someipctl_print.specs.Lines.{message_line, fault_line, empty_line, flag_text};
 ghost use Rattle.someipctl_print.specs.Lines.{segment_lines, has_no_tp_header};
 
-use crate::output::{Buffer, CannotWrite};
+use crate::output::{Buffer, CannotWrite, write_hex};
 use crate::parts::{Part, put_parts};
 use someip_tp::read_segment;
 use someip_wire::{Message, MessageType};
@@ -25,33 +25,99 @@ pub fn put_empty<W: Write>(buffer: &mut Buffer, writer: &mut W, k: usize) -> Res
     put_parts(buffer, writer, &[Part::Number(k), Part::Text(" empty\n")])
 }
 
-/// The line of a message of the k-th datagram.
-pub(crate) fn message_parts<'m>(k: usize, message: &Message<'m>) -> [Part<'m>; 20]
-    ensures { flat_map part_text result ≡ message_line k (view message.now) }
+/// Prints the line of a message of the k-th datagram.
+pub(crate) fn put_message_line<W: Write>(
+    buffer: &mut Buffer,
+    writer: &mut W,
+    k: usize,
+    message: &Message<'_>,
+) -> Result<(), CannotWrite>
+    ensures ok { OnOk result (Sends (W.contents writer.old) buffer.old
+        (W.contents writer.new) buffer.new (message_line k (view message.now))) }
+    ensures err { OnErr result (Stops (W.contents writer.old) buffer.old
+        (W.contents writer.new) (message_line k (view message.now))) }
 {
     let header = message.header;
+    let ids = ids_text(header.service, header.method);
+    let session = session_text(header.client, header.session);
+    let interface = interface_text(header.interface);
+    let code = code_text(header.code.0);
+    let parts = message_parts(
+        k,
+        &ids,
+        &session,
+        &interface,
+        header.kind,
+        &code,
+        message.payload,
+    );
+    put_parts(buffer, writer, &parts)
+}
+
+/// The line of a message of the k-th datagram. What has the same length in each line is there already.
+fn message_parts<'p>(
+    k: usize,
+    ids: &'p [u8],
+    session: &'p [u8],
+    interface: &'p [u8],
+    kind: MessageType,
+    code: &'p [u8],
+    payload: &'p [u8],
+) -> [Part<'p>; 9]
+    ensures { flat_map part_text result ≡ joined (decimal k ∷ ids.now
+        ∷ decimal (8 + length payload.now) ∷ session.now ∷ interface.now ∷ type_name kind
+        ∷ code.now ∷ payload_text payload.now ∷ codes "\n" ∷ []) }
+{
     [
         Part::Number(k),
-        Part::Text(" message "),
-        Part::Id(header.service),
-        Part::Text("."),
-        Part::Id(header.method),
-        Part::Text(" length "),
-        Part::Number(8 + message.payload.len()),
-        Part::Text(" client "),
-        Part::Id(header.client),
-        Part::Text(" session "),
-        Part::Id(header.session),
-        Part::Text(" interface "),
-        Part::Byte(header.interface),
-        Part::Text(" type "),
-        Part::Text(name_of_type(header.kind)),
-        Part::Text(" code "),
-        Part::Byte(header.code.0),
-        Part::Text(" payload "),
-        payload_part(message.payload),
+        Part::Raw(ids),
+        Part::Number(8 + payload.len()),
+        Part::Raw(session),
+        Part::Raw(interface),
+        Part::Text(name_of_type(kind)),
+        Part::Raw(code),
+        payload_part(payload),
         Part::Text("\n"),
     ]
+}
+
+/// What stands between the number of a message's datagram and its length.
+fn ids_text(service: u16, method: u16) -> [u8; 26]
+    ensures { result ≡ codes " message " ++ hex4 service ++ codes "." ++ hex4 method
+        ++ codes " length " }
+{
+    let mut text = *b" message 0000.0000 length ";
+    write_hex(&service.to_be_bytes(), &mut text[9..13]);
+    write_hex(&method.to_be_bytes(), &mut text[14..18]);
+    text
+}
+
+/// What stands between the length of a message and its interface version.
+fn session_text(client: u16, session: u16) -> [u8; 25]
+    ensures { result ≡ codes " client " ++ hex4 client ++ codes " session " ++ hex4 session }
+{
+    let mut text = *b" client 0000 session 0000";
+    write_hex(&client.to_be_bytes(), &mut text[8..12]);
+    write_hex(&session.to_be_bytes(), &mut text[21..25]);
+    text
+}
+
+/// What stands between the session of a message and the name of its type.
+fn interface_text(interface: u8) -> [u8; 19]
+    ensures { result ≡ codes " interface " ++ hex2 interface ++ codes " type " }
+{
+    let mut text = *b" interface 00 type ";
+    write_hex(&[interface], &mut text[11..13]);
+    text
+}
+
+/// What stands between the name of a message's type and its payload.
+fn code_text(code: u8) -> [u8; 17]
+    ensures { result ≡ codes " code " ++ hex2 code ++ codes " payload " }
+{
+    let mut text = *b" code 00 payload ";
+    write_hex(&[code], &mut text[6..8]);
+    text
 }
 
 /// Prints what stands after the line of a message whose payload begins at a place of the k-th

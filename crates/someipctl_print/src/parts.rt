@@ -1,11 +1,10 @@
 //! The parts of a line: text, numbers and hex.
-ghost use Rattle.std.specs.Prelude.{◌≡◌, ◌≤◌, ◌+◌, ◌*◌, [], length, OnOk, OnErr};
+ghost use Rattle.std.specs.Prelude.{◌≡◌, OnOk, OnErr};
 ghost use Rattle.std.specs.List.{flat_map};
-ghost use Rattle.hex.specs.Hex.{encode_lower};
 ghost use Rattle.someipctl_print.specs.Sending.{Sends, Stops};
-ghost use Rattle.someipctl_print.specs.Parts.{part_text};
+ghost use Rattle.someipctl_print.specs.Parts.{hex2, hex4, part_text};
 
-use crate::output::{Buffer, CannotWrite};
+use crate::output::{Buffer, CannotWrite, write_hex};
 use std::io::Write;
 
 /// A part of a line.
@@ -13,6 +12,8 @@ use std::io::Write;
 pub enum Part<'p> {
     /// Text as it is.
     Text(&'p str),
+    /// Bytes as they are.
+    Raw(&'p [u8]),
     /// A number in decimal digits.
     Number(usize),
     /// An ID of 16 bits as four lower-case hex digits.
@@ -22,12 +23,6 @@ pub enum Part<'p> {
     /// Bytes as two lower-case hex digits each.
     Hex(&'p [u8]),
 }
-
-/// How many bytes are turned into hex at once.
-const HEX_BYTES: usize = 64;
-
-/// The digits of so many bytes.
-const HEX_DIGITS: usize = 2 * HEX_BYTES;
 
 /// Prints the parts of a line, one after the other.
 pub fn put_parts<W: Write>(
@@ -46,6 +41,7 @@ pub fn put_parts<W: Write>(
     Ok(())
 }
 
+#[inline(always)]
 fn put_part<W: Write>(
     buffer: &mut Buffer,
     writer: &mut W,
@@ -58,47 +54,33 @@ fn put_part<W: Write>(
 {
     match part {
         Part::Text(text) => buffer.put(writer, text.as_bytes()),
+        Part::Raw(bytes) => buffer.put(writer, bytes),
         Part::Number(number) => {
             let mut digits = itoa::Buffer::new();
             buffer.put(writer, digits.format(number).as_bytes())
         }
-        Part::Id(id) => put_few_in_hex(buffer, writer, &id.to_be_bytes()),
-        Part::Byte(byte) => put_few_in_hex(buffer, writer, &[byte]),
-        Part::Hex(bytes) => put_hex(buffer, writer, bytes),
+        Part::Id(id) => buffer.put(writer, &digits_of_id(id)),
+        Part::Byte(byte) => buffer.put(writer, &digits_of_byte(byte)),
+        Part::Hex(bytes) => buffer.put_hex(writer, bytes),
     }
 }
 
-/// Prints bytes in hex, however many they are.
-fn put_hex<W: Write>(buffer: &mut Buffer, writer: &mut W, bytes: &[u8]) -> Result<(), CannotWrite>
-    ensures ok { OnOk result (Sends (W.contents writer.old) buffer.old
-        (W.contents writer.new) buffer.new (encode_lower bytes.now)) }
-    ensures err { OnErr result (Stops (W.contents writer.old) buffer.old
-        (W.contents writer.new) (encode_lower bytes.now)) }
+/// An ID as four hex digits.
+#[inline(always)]
+fn digits_of_id(id: u16) -> [u8; 4]
+    ensures { result ≡ hex4 id }
 {
-    let mut rest = bytes;
-    while rest.len() > HEX_BYTES {
-        let (front, others) = rest.split_at(HEX_BYTES);
-        put_few_in_hex(buffer, writer, front)?;
-        rest = others;
-    }
-    put_few_in_hex(buffer, writer, rest)
+    let mut digits = [0; 4];
+    write_hex(&id.to_be_bytes(), &mut digits);
+    digits
 }
 
-fn put_few_in_hex<W: Write>(
-    buffer: &mut Buffer,
-    writer: &mut W,
-    bytes: &[u8],
-) -> Result<(), CannotWrite>
-    requires { length bytes.now ≤ HEX_BYTES }
-    ensures ok { OnOk result (Sends (W.contents writer.old) buffer.old
-        (W.contents writer.new) buffer.new (encode_lower bytes.now)) }
-    ensures err { OnErr result (Stops (W.contents writer.old) buffer.old
-        (W.contents writer.new) (encode_lower bytes.now)) }
+/// A byte as two hex digits.
+#[inline(always)]
+fn digits_of_byte(byte: u8) -> [u8; 2]
+    ensures { result ≡ hex2 byte }
 {
-    let mut digits = [0; HEX_DIGITS];
-    let text = &mut digits[..2 * bytes.len()];
-    if hex::encode_to_slice(bytes, text).is_err() {
-        unreachable!()
-    }
-    buffer.put(writer, text)
+    let mut digits = [0; 2];
+    write_hex(&[byte], &mut digits);
+    digits
 }

@@ -11,16 +11,16 @@ put_behind-requires g c =
     let same : view_found c.args.found ≡ discovery_in (Ok (view c.in-Ok.message)) = c.requires.found ∙ ap (λ i. discovery_in (view_item i)) c.in-Ok.is in
     room_for (view c.in-Ok.message) c.args.place _ (view_found c.args.found) same (rw c.in-Ok.is at c.requires.room)
 
-pub returns-in_err-put_parts-in-Ok-clause-err : goal.returns-in_err-put_parts-in-Ok-clause-err
-returns-in_err-put_parts-in-Ok-clause-err g c =
-    rw c.in-Ok.is (OnErr-any c.from_residual.result (Stops-before _ _ _ _ _ (rw c.message_parts.ensures at c.in_err-put_parts-in-Ok.ensures.err)))
+pub returns-in_err-put_message_line-in-Ok-clause-err : goal.returns-in_err-put_message_line-in-Ok-clause-err
+returns-in_err-put_message_line-in-Ok-clause-err g c =
+    rw c.in-Ok.is (OnErr-any c.from_residual.result (Stops-before _ _ _ _ _ c.in_err-put_message_line-in-Ok.ensures.err))
 
-pub returns-in_ok-put_parts-in-Ok-clause-ok : goal.returns-in_ok-put_parts-in-Ok-clause-ok
-returns-in_ok-put_parts-in-Ok-clause-ok g c =
+pub returns-in_ok-put_message_line-in-Ok-clause-ok : goal.returns-in_ok-put_message_line-in-Ok-clause-ok
+returns-in_ok-put_message_line-in-Ok-clause-ok g c =
     let same : view_found c.args.found ≡ discovery_in (Ok (view c.in-Ok.message)) = c.requires.found ∙ ap (λ i. discovery_in (view_item i)) c.in-Ok.is in
-    rw c.in-Ok.is (on_ok_weaker c.put_behind.result (Sends-trans _ _ _ _ _ _ _ _ (rw c.message_parts.ensures at c.in_ok-put_parts-in-Ok.ensures.ok)) (rw same at c.put_behind.ensures.ok))
+    rw c.in-Ok.is (on_ok_weaker c.put_behind.result (Sends-trans _ _ _ _ _ _ _ _ c.in_ok-put_message_line-in-Ok.ensures.ok) (rw same at c.put_behind.ensures.ok))
 
-pub returns-in_ok-put_parts-in-Ok-clause-err : goal.returns-in_ok-put_parts-in-Ok-clause-err
-returns-in_ok-put_parts-in-Ok-clause-err g c =
+pub returns-in_ok-put_message_line-in-Ok-clause-err : goal.returns-in_ok-put_message_line-in-Ok-clause-err
+returns-in_ok-put_message_line-in-Ok-clause-err g c =
     let same : view_found c.args.found ≡ discovery_in (Ok (view c.in-Ok.message)) = c.requires.found ∙ ap (λ i. discovery_in (view_item i)) c.in-Ok.is in
-    rw c.in-Ok.is (on_err_weaker c.put_behind.result (Stops-after _ _ _ _ _ _ _ (rw c.message_parts.ensures at c.in_ok-put_parts-in-Ok.ensures.ok)) (rw same at c.put_behind.ensures.err))
+    rw c.in-Ok.is (on_err_weaker c.put_behind.result (Stops-after _ _ _ _ _ _ _ c.in_ok-put_message_line-in-Ok.ensures.ok) (rw same at c.put_behind.ensures.err))
