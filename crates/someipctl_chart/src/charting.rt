@@ -9,7 +9,7 @@ use crate::drawing::{Picture, svg_of};
 use crate::rows::{Rows, step_texts};
 use someip_tp::IntervalPool;
 use someip_world::{Setup, Step, Trace, read_schedule, run};
-use someipctl_commands::read_all;
+use someipctl_inputs::read_all;
 use someipctl_print::write_text;
 use someipctl_run::RunFault;
 use std::alloc::{AllocError, Global};

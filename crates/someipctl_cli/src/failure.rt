@@ -6,12 +6,12 @@ ghost use Rattle.someipctl_cli.specs.Failures.{failure_of_ports, failure_of_reco
 
 use recording::RecordingError;
 use someip_world::{SetupError, StepFault};
-use someipctl_commands::ReadFault;
 use someipctl_commands::payload::PayloadRefusal;
 use someipctl_commands::ports::PortsError;
 use someipctl_commands::recordings::RecordingFault;
 use someipctl_commands::show::ShowError;
 use someipctl_commands::vectors::VectorsError;
+use someipctl_inputs::ReadFault;
 use someipctl_run::{ExpectedFault, RunFault, SetupFault, SetupRefusal};
 use thiserror::Error;
 

@@ -3,7 +3,7 @@ ghost use Rattle.someipctl_cli.specs.Failures.{Answers};
 
 use crate::command::LineError;
 use crate::failure::Failure;
-use someipctl_commands::Outcome;
+use someipctl_inputs::Outcome;
 use someipctl_print::{CannotWrite, write_text};
 use std::io::Write;
 

@@ -32,14 +32,14 @@ use Rattle.std.proofs.KnownBytes.{Appends-nil}
 use Rattle.someipctl_print.specs.Sending.{Stops}
 use Rattle.someipctl_print.proofs.SendingLemmas.{IsSending, IsSending-start}
 use Rattle.someipctl_commands.specs.ShownText.{has_fault}
-use Rattle.someipctl_commands.specs.declared.input.ReadFault.{ReadFault}
-use Rattle.someipctl_commands.specs.declared.input.ReadFault.TheVariants as inputs
+use Rattle.someipctl_inputs.specs.declared.input.ReadFault.{ReadFault}
+use Rattle.someipctl_inputs.specs.declared.input.ReadFault.TheVariants as inputs
 use Rattle.someipctl_commands.specs.declared.recordings.ShownRecording.{ShownRecording}
 use Rattle.someipctl_commands.specs.declared.recordings.PrintFault.{PrintFault}
 use Rattle.someipctl_commands.specs.declared.recordings.PrintFault.TheVariants as prints
 use Rattle.someipctl_commands.specs.declared.recordings.RecordingFault.{RecordingFault}
 use Rattle.someipctl_commands.specs.declared.recordings.RecordingFault.TheVariants.{BadRecording, CannotRead, CannotWrite, OutOfMemory}
-use Rattle.someipctl_commands.proofs.ShowResultLemmas.{WasLeft-read}
+use Rattle.someipctl_inputs.proofs.InputLemmas.{WasLeft-read}
 
 -- ---- a file holds no more records than bytes
 

@@ -1,13 +1,14 @@
 -- From what was read and written to what `show` promises.
 use Rattle.std.proofs.Common.{◌≡◌, ℕ, List, [], ◌∷◌, map, Option, Some, None, Vec, Global, refl, ap, ◌∙◌}
 use Rattle.std.specs.Prelude.{IfSome}
-use Rattle.someipctl_commands.specs.declared.outcome.Outcome.{Outcome}
+use Rattle.someipctl_inputs.specs.declared.outcome.Outcome.{Outcome}
 use Rattle.someipctl_commands.specs.declared.show.ShowError.{ShowError}
 use Rattle.someipctl_commands.specs.declared.show.ShowError.TheVariants.{BadHex, CannotRead, CannotWrite, OutOfMemory}
 use Rattle.someipctl_commands.specs.Capture.{captured_datagrams}
 use Rattle.someipctl_print.specs.Sending.{Stops}
 use Rattle.someipctl_commands.specs.ShownText.{shown_text}
-use Rattle.someipctl_commands.specs.ShowResult.{SaysDatagrams, WasLeft, Shows, ShowsBeginning, RefusesShow}
+use Rattle.someipctl_commands.specs.ShowResult.{SaysDatagrams, Shows, ShowsBeginning, RefusesShow}
+use Rattle.someipctl_inputs.proofs.InputLemmas.{WasLeft-read}
 use Rattle.someipctl_commands.proofs.ShownTextLemmas.{bytes_of_each}
 
 map_some : (datagrams : List (Vec ℕ Global)) → map (λ (t : List ℕ). Some t) (bytes_of_each datagrams) ≡ map (λ d. Some d.items) datagrams
@@ -29,11 +30,6 @@ shows_beginning text datagrams a b is stops = record {
   wrote = stops.sends.wrote;
   beginning = stops.sends.rest;
 }
-
--- what holds of the text that was read holds of what the reader had left
-pub WasLeft-read : (input : Option (List ℕ)) (text capture : List ℕ) → IfSome input (λ known. text ≡ known) → capture ≡ text → WasLeft input capture
-WasLeft-read None text capture read is = tt
-WasLeft-read (Some known) text capture read is = is ∙ read
 
 pub Shows-read : (input : Option (List ℕ)) (text : List ℕ) (outcome : Outcome) (a b : Option (List ℕ)) → IfSome input (λ known. text ≡ known) → Shows (Some text) outcome a b → Shows input outcome a b
 Shows-read input text outcome a b read s = record {

@@ -1,5 +1,4 @@
 pub mod Capture
-pub mod Outcomes
 pub mod Readings
 pub mod ShownText
 pub mod ShowResult

@@ -7,8 +7,8 @@ use Rattle.recording.specs.declared.Time.{Time}
 use Rattle.recording.specs.declared.Endpoint.{Endpoint}
 use Rattle.recording.specs.Packets.{DatagramValue, datagram, other}
 use Rattle.recording.specs.Records.{Item}
-use Rattle.someipctl_commands.specs.declared.outcome.Outcome.{Outcome}
-use Rattle.someipctl_commands.specs.Outcomes.{fault_outcome}
+use Rattle.someipctl_inputs.specs.declared.outcome.Outcome.{Outcome}
+use Rattle.someipctl_inputs.specs.Outcomes.{fault_outcome}
 use Rattle.someipctl_commands.specs.ShownText.{datagram_text, has_fault}
 use Rattle.someipctl_print.specs.Words.{spaced}
 

@@ -10,11 +10,11 @@ use Rattle.someipctl_commands.specs.declared.recordings.RecordingFault.{Recordin
 use Rattle.someipctl_commands.specs.declared.recordings.RecordingFault.TheVariants.{BadRecording, CannotRead, CannotWrite, OutOfMemory}
 use Rattle.someipctl_commands.specs.declared.recordings.PrintFault.{PrintFault}
 use Rattle.someipctl_commands.specs.declared.recordings.PrintFault.TheVariants as prints
-use Rattle.someipctl_commands.specs.declared.input.ReadFault.{ReadFault}
-use Rattle.someipctl_commands.specs.declared.input.ReadFault.TheVariants as inputs
+use Rattle.someipctl_inputs.specs.declared.input.ReadFault.{ReadFault}
+use Rattle.someipctl_inputs.specs.declared.input.ReadFault.TheVariants as inputs
 use Rattle.someipctl_commands.specs.LeftOut.{left_out_of}
 use Rattle.someipctl_commands.specs.RecordedText.{asked_of, recorded_from, recorded_outcome}
-use Rattle.someipctl_commands.specs.ShowResult.{WasLeft}
+use Rattle.someipctl_inputs.specs.Inputs.{WasLeft}
 
 -- the ports behind a reference
 abbrev pub view_ports : Option (Bor (List ℕ)) → Option (List ℕ)

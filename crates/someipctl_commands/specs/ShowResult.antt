@@ -1,23 +1,20 @@
 -- What `show` does with a capture.
-use Rattle.std.specs.Prelude.{ℕ, ◌≡◌, List, ◌++◌, map, Option, Some, IfSome}
+use Rattle.std.specs.Prelude.{ℕ, ◌≡◌, List, ◌++◌, map, Option, Some}
 use Rattle.std.specs.Io.KnownBytes.{Appends, Keeps}
-use Rattle.someipctl_commands.specs.declared.outcome.Outcome.{Outcome}
+use Rattle.someipctl_inputs.specs.declared.outcome.Outcome.{Outcome}
 use Rattle.someipctl_commands.specs.declared.capture.CaptureError.{CaptureError}
 use Rattle.someipctl_commands.specs.declared.capture.CaptureError.TheVariants as captures
-use Rattle.someipctl_commands.specs.declared.input.ReadFault.{ReadFault}
-use Rattle.someipctl_commands.specs.declared.input.ReadFault.TheVariants as inputs
+use Rattle.someipctl_inputs.specs.declared.input.ReadFault.{ReadFault}
+use Rattle.someipctl_inputs.specs.declared.input.ReadFault.TheVariants as inputs
 use Rattle.someipctl_commands.specs.declared.show.ShowError.{ShowError}
 use Rattle.someipctl_commands.specs.declared.show.ShowError.TheVariants.{BadHex, CannotRead, CannotWrite, OutOfMemory}
 use Rattle.someipctl_commands.specs.Capture.{captured_datagrams, first_bad}
+use Rattle.someipctl_inputs.specs.Inputs.{WasLeft}
 use Rattle.someipctl_commands.specs.ShownText.{shown_text, shown_outcome}
 
 -- the capture says these datagrams, in order: none of its lines is bad
 abbrev pub SaysDatagrams : List ℕ → List (List ℕ) → Type 0
 SaysDatagrams capture datagrams = map (λ datagram. Some datagram) datagrams ≡ captured_datagrams capture
-
--- the capture is what the reader had left, where that is known
-abbrev pub WasLeft : Option (List ℕ) → List ℕ → Type 0
-WasLeft input capture = IfSome input (λ known. capture ≡ known)
 
 -- the text of the capture was written whole, and the outcome says whether a fault is in it
 pub record Shows (input : Option (List ℕ)) (outcome : Outcome) (before after : Option (List ℕ)) : Type 0 where

@@ -2,8 +2,8 @@
 use Rattle.std.specs.Prelude.{ℕ, ◌+◌, Bool, List, [], ◌∷◌, ◌++◌}
 use Rattle.std.specs.List.{list_any}
 use Rattle.someip_wire.specs.Reading.{items_of}
-use Rattle.someipctl_commands.specs.declared.outcome.Outcome.{Outcome}
-use Rattle.someipctl_commands.specs.Outcomes.{fault_outcome}
+use Rattle.someipctl_inputs.specs.declared.outcome.Outcome.{Outcome}
+use Rattle.someipctl_inputs.specs.Outcomes.{fault_outcome}
 use Rattle.someipctl_print.specs.Lines.{empty_line}
 use Rattle.someipctl_print.specs.Items.{lines_from, is_faulty}
 

@@ -5,16 +5,13 @@
 //! - [`payload`]: the value that bytes have by a shape;
 //! - [`vectors`]: whether what is printed is what a file expects;
 //! - [`read_capture`]: the datagrams of a capture;
-//! - [`Outcome`]: how a command that did its work ended;
 //! - [`laws`]: what the definitions behind the contracts promise.
 #![tactic(auto)]
 
 mod capture;
 mod heads;
-mod input;
 pub mod laws;
 mod left_out;
-mod outcome;
 pub mod payload;
 pub mod ports;
 mod readings;
@@ -24,6 +21,4 @@ mod vector_lines;
 pub mod vectors;
 
 pub use capture::{CaptureError, read_capture};
-pub use input::{ReadFault, read_all};
 pub use left_out::LeftOut;
-pub use outcome::Outcome;

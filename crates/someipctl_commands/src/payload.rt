@@ -6,9 +6,9 @@ ghost use Rattle.someip_payload_codec.specs.View.{form};
 ghost use Rattle.someipctl_commands.specs.Payload.{argument_bytes, refusal_of_shape};
 ghost use Rattle.someipctl_commands.specs.Payload.{ShowsPayload, RefusesPayload, Told};
 
-use crate::outcome::Outcome;
 use hex::FromHexError;
 use someip_payload::{PayloadError, Shape, ShapeTextError, decode, read_shape};
+use someipctl_inputs::Outcome;
 use someipctl_print::write_text;
 use std::alloc::{AllocError, Global};
 use std::io::Write;

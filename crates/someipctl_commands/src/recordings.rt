@@ -14,12 +14,11 @@ ghost use Rattle.someipctl_commands.specs.RecordingResult.{fault_among, fault_of
 ghost use Rattle.someipctl_commands.specs.RecordingResult.{records_in, view_ports};
 
 use crate::heads::put_with_heads;
-use crate::input::{ReadFault, read_all};
 use crate::left_out::LeftOut;
-use crate::outcome::Outcome;
 use crate::readings::read_datagram;
 use crate::show::put_datagram;
 use recording::{Datagram, Record, Recording, RecordingError};
+use someipctl_inputs::{Outcome, ReadFault, read_all};
 use someipctl_print::{Buffer, CannotWrite};
 use std::alloc::{AllocError, Global};
 use std::io::{Read, Write};

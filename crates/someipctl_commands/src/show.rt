@@ -12,11 +12,10 @@ ghost use Rattle.someipctl_commands.specs.ShowResult.{Shows, RefusesShow};
 ghost use Rattle.someipctl_commands.specs.ShowResult.{error_of_capture, error_of_input};
 
 use crate::capture::{CaptureError, read_capture};
-use crate::input::{ReadFault, read_all};
-use crate::outcome::Outcome;
 use crate::readings::{next_reading, read_ahead, read_datagram};
 use sd_wire::{SdError, SdRead};
 use someip_wire::Messages;
+use someipctl_inputs::{Outcome, ReadFault, read_all};
 use someipctl_print::{Buffer, item_len, put_empty, put_item};
 use std::alloc::{AllocError, Global};
 use std::io::{Read, Write};

@@ -12,11 +12,10 @@ ghost use Rattle.someipctl_commands.specs.Vectors.{count_passed, error_of_file, 
 ghost use Rattle.someipctl_commands.specs.Vectors.{vectors_in, verdict_line, verdict_lines, verdicts_outcome};
 ghost use Rattle.someipctl_commands.specs.Vectors.{verdicts_text};
 
-use crate::input::{ReadFault, read_all};
-use crate::outcome::Outcome;
 use crate::payload::read_text;
 use crate::show::text_of_datagram;
 use crate::vector_lines::{LineFault, Question, VectorLine, line_of};
+use someipctl_inputs::{Outcome, ReadFault, read_all};
 use someipctl_print::{Buffer, Part, put_parts};
 use std::alloc::{AllocError, AllocFailed, Global};
 use std::io::{Read, Write};

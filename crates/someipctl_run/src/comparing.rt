@@ -17,7 +17,7 @@ use crate::running::trace_of;
 use crate::step_lines::{line_of_step, lines_of_steps};
 use crate::trace_lines::{came_by_part, number_after, put_marked_line, put_verdict};
 use someip_world::{Line, Reuse, Setup, SetupNode};
-use someipctl_commands::{Outcome, read_all};
+use someipctl_inputs::{Outcome, read_all};
 use someipctl_print::{Buffer, CannotWrite, Part, put_parts};
 use std::alloc::{AllocError, Global};
 use std::io::{Read, Write};

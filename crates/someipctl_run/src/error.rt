@@ -6,7 +6,7 @@ ghost use Rattle.someipctl_run.specs.Faults.{expected_fault_of_input, fault_of_i
 ghost use Rattle.someipctl_run.specs.Faults.{fault_of_schedule, setup_fault_of_input};
 
 use someip_world::{RunError, ScheduleError, SetupError, StepFault};
-use someipctl_commands::ReadFault;
+use someipctl_inputs::ReadFault;
 use std::alloc::{AllocError, AllocFailed};
 use thiserror::Error;
 

@@ -13,7 +13,7 @@ use crate::step_lines::lines_to_show;
 use crate::trace_lines::{put_lines, put_verdict};
 use someip_tp::IntervalPool;
 use someip_world::{Line, Reuse, Setup, SetupNode, Trace, read_schedule, run};
-use someipctl_commands::read_all;
+use someipctl_inputs::read_all;
 use someipctl_print::{Buffer, CannotWrite};
 use std::alloc::Global;
 use std::io::{Read, Write};

@@ -2,7 +2,8 @@
 use crate::slow::{Limits, SlowWriter};
 use someipctl_commands::payload::{PayloadRefusal, payload};
 use someipctl_commands::show::{ShowError, show};
-use someipctl_commands::{Outcome, laws, read_capture};
+use someipctl_commands::{laws, read_capture};
+use someipctl_inputs::Outcome;
 use std::alloc::{AllocError, Global};
 
 /// Whether a capture over a writer with these limits ends so, and a beginning of a text of this length was taken.

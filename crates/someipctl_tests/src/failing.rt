@@ -3,10 +3,10 @@ use crate::cli::is_told;
 use crate::slow::{Limits, SlowReader, SlowWriter};
 use rows::{Command, End, READINGS, RUNS, Row};
 use someipctl_cli::Failure;
-use someipctl_commands::Outcome;
 use someipctl_commands::payload::payload;
 use someipctl_commands::show::show;
 use someipctl_commands::vectors::vectors;
+use someipctl_inputs::Outcome;
 use someipctl_run::{
     TraceForm, compare_schedule, read_expected, read_setup, run_schedule, run_schedule_in_form,
 };

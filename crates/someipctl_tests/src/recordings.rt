@@ -4,9 +4,10 @@ use crate::cli::is_told;
 use crate::slow::{Limits, SlowWriter};
 use recording::RecordingError;
 use someipctl_cli::Failure;
+use someipctl_commands::LeftOut;
 use someipctl_commands::ports::PortsError;
 use someipctl_commands::recordings::{RecordingFault, show_recording};
-use someipctl_commands::{LeftOut, Outcome};
+use someipctl_inputs::Outcome;
 use std::alloc::Global;
 
 /// Counts, in the order of the kinds, and what is told of them.

@@ -1,5 +1,6 @@
 //! Reading an input whole.
-ghost use Rattle.std.specs.Prelude.{◌≡◌, IfOk, IfSome};
+ghost use Rattle.std.specs.Prelude.{IfOk};
+ghost use Rattle.someipctl_inputs.specs.Inputs.{WasLeft};
 
 use std::alloc::Global;
 use std::io::{ErrorKind, Read};
@@ -18,8 +19,7 @@ pub enum ReadFault {
 
 /// All that the reader has left.
 pub fn read_all<R: Read>(alloc: Global, reader: &mut R) -> Result<Vec<u8>, ReadFault>
-    ensures { IfOk result (λ bytes.
-        IfSome (R.remaining reader.old) (λ input. bytes.items ≡ input)) }
+    ensures { IfOk result (λ bytes. WasLeft (R.remaining reader.old) bytes.items) }
 {
     let mut bytes = Vec::new(alloc);
     match reader.read_to_end(&mut bytes) {

@@ -1,7 +1,7 @@
 -- How a command ended.
 use Rattle.std.specs.Prelude.{ℕ, Bool, if◌then◌else◌}
-use Rattle.someipctl_commands.specs.declared.outcome.Outcome.{Outcome}
-use Rattle.someipctl_commands.specs.declared.outcome.Outcome.TheVariants.{Done, FaultShown}
+use Rattle.someipctl_inputs.specs.declared.outcome.Outcome.{Outcome}
+use Rattle.someipctl_inputs.specs.declared.outcome.Outcome.TheVariants.{Done, FaultShown}
 
 -- the outcome where a fault was shown, or none
 abbrev pub fault_outcome : Bool → Outcome

@@ -1,6 +1,6 @@
 //! How a command that did its work ended.
 ghost use Rattle.std.specs.Prelude.{◌≡◌};
-ghost use Rattle.someipctl_commands.specs.Outcomes.{fault_outcome, status_of};
+ghost use Rattle.someipctl_inputs.specs.Outcomes.{fault_outcome, status_of};
 
 /// How a command that did its work ended.
 #[derive(Clone, Copy, Debug, PartialEq, Eq)]
