@@ -162,6 +162,7 @@ fn put_records<W: Write>(
     let Ok(mut recording) = Recording::open(alloc, file) else {
         return Err(PrintFault::OutOfMemory);
     };
+    let mut lines = Buffer::new(alloc)?;
     let mut fault_shown = false;
     let mut k = 0;
     while let Some(item) = recording.next() {
@@ -172,7 +173,7 @@ fn put_records<W: Write>(
             continue;
         };
         k += 1;
-        fault_shown |= put_recorded(alloc, buffer, writer, k, &datagram, endpoints)?;
+        fault_shown |= put_recorded(alloc, buffer, writer, k, &datagram, endpoints, &mut lines)?;
     }
     Ok(Outcome::of(fault_shown))
 }
@@ -203,7 +204,8 @@ fn is_asked(ports: Option<&[u16]>, datagram: &Datagram<'_>) -> bool
     }
 }
 
-/// Prints the text of the k-th datagram that is asked for, and says whether a fault is in it.
+/// Prints the text of the k-th datagram that is asked for, and says whether a fault is in it. `lines` is
+/// a buffer for lines that get a time and endpoints.
 fn put_recorded<W: Write>(
     alloc: Global,
     buffer: &mut Buffer,
@@ -211,7 +213,10 @@ fn put_recorded<W: Write>(
     k: usize,
     datagram: &Datagram<'_>,
     endpoints: bool,
+    lines: &mut Buffer,
 ) -> Result<bool, PrintFault>
+    requires { lines.old ≡ [] }
+    ensures empty { OnOk result (lines.new ≡ []) }
     ensures ok { OnOk result (Sends (W.contents writer.old) buffer.old (W.contents writer.new)
         buffer.new (recorded_text endpoints k (view_datagram datagram.now))) }
     ensures faulty { IfOk result (λ faulty. faulty ≡ has_fault datagram.now.payload.now) }
@@ -219,7 +224,7 @@ fn put_recorded<W: Write>(
         (recorded_text endpoints k (view_datagram datagram.now))) }
 {
     if endpoints {
-        put_headed(alloc, buffer, writer, k, datagram)
+        put_headed(alloc, buffer, writer, k, datagram, lines)
     } else {
         put_payload(alloc, buffer, writer, k, datagram.payload)
     }
@@ -232,26 +237,35 @@ fn put_headed<W: Write>(
     writer: &mut W,
     k: usize,
     datagram: &Datagram<'_>,
+    lines: &mut Buffer,
 ) -> Result<bool, PrintFault>
+    requires { lines.old ≡ [] }
+    ensures empty { OnOk result (lines.new ≡ []) }
     ensures ok { OnOk result (Sends (W.contents writer.old) buffer.old (W.contents writer.new)
         buffer.new (recorded_text true k (view_datagram datagram.now))) }
     ensures faulty { IfOk result (λ faulty. faulty ≡ has_fault datagram.now.payload.now) }
     ensures err { OnErr result (Stops (W.contents writer.old) buffer.old (W.contents writer.new)
         (recorded_text true k (view_datagram datagram.now))) }
 {
-    let (text, faulty) = text_of(alloc, k, datagram.payload)?;
+    let (text, faulty) = text_of(alloc, lines, k, datagram.payload)?;
     put_with_heads(buffer, writer, datagram, &text)?;
     Ok(faulty)
 }
 
-/// The text of the k-th datagram, and whether a fault is in it.
-fn text_of(alloc: Global, k: usize, payload: &[u8]) -> Result<(Vec<u8>, bool), AllocError>
+/// The text of the k-th datagram, and whether a fault is in it, through an empty buffer.
+fn text_of(
+    alloc: Global,
+    buffer: &mut Buffer,
+    k: usize,
+    payload: &[u8],
+) -> Result<(Vec<u8>, bool), AllocError>
+    requires { buffer.old ≡ [] }
+    ensures empty { OnOk result (buffer.new ≡ []) }
     ensures text { IfOk result (λ r. r.0.items ≡ datagram_text k payload.now) }
     ensures faulty { IfOk result (λ r. r.1 ≡ has_fault payload.now) }
 {
     let mut text = Vec::new(alloc);
-    let mut buffer = Buffer::new(alloc)?;
-    let faulty = put_payload(alloc, &mut buffer, &mut text, k, payload).map_err(|_| AllocError)?;
+    let faulty = put_payload(alloc, buffer, &mut text, k, payload).map_err(|_| AllocError)?;
     buffer.flush(&mut text).map_err(|_| AllocError)?;
     Ok((text, faulty))
 }

@@ -14,18 +14,23 @@ use Rattle.someipctl_commands.proofs.recordings.put_records.Goals as goal
 pub returns-in_default-clause-err : goal.returns-in_default-clause-err
 returns-in_default-clause-err g c = Stops-none _ _ _
 
+pub returns-in_err-lines-clause-err : goal.returns-in_err-lines-clause-err
+returns-in_err-lines-clause-err g c = OnErr-any c.from_residual.result (Stops-none _ _ _)
+
 pub returns-in_default-item-clause-err : goal.returns-in_default-item-clause-err
 returns-in_default-item-clause-err g c = IsSending-last_stop _ _ _ _ _ _ _ c.loop-item.invariant.0 (Stops-none _ _ _)
 
 pub loop-item-init : goal.loop-item-init
-loop-item-init g c = begins c.args.endpoints (view_ports c.args.ports) c.args.file.now c.in-Ok.recording _ _ c.in-Ok.ensures.read
+loop-item-init g c =
+    let first = begins c.args.endpoints (view_ports c.args.ports) c.args.file.now c.in-Ok.recording (g.W.Write.contents c.args.writer.now) c.args.buffer.now c.in-Ok.ensures.read in
+    (first.0, first.1, first.2, c.in_ok-lines.ensures)
 
 pub returns-in_err-fault_shown-clause-err : goal.returns-in_err-fault_shown-clause-err
 returns-in_err-fault_shown-clause-err g c =
     let first : c.loop-item.recording ≡ Ok (view_record c.in-Ok-item.found) ∷ c.next.new.self =
     subst (λ (i : Result Record RecordingError). IfOk i (λ r. c.loop-item.recording ≡ Ok (view_record r) ∷ c.next.new.self)) c.in-Ok-item.is c.in-Some.ensures.record in
     let next = next_asked (view_ports c.args.ports) c.loop-item.recording c.next.new.self _ _ first c.in-Some-asked_in.ensures in
-    OnErr-any c.from_residual.result (IsSending-stop _ _ _ _ _ _ _ _ _ c.loop-item.invariant.0 (ap (recorded_from c.args.endpoints (c.loop-item.k + 1)) next) c.in_err-fault_shown.ensures.err)
+    OnErr-any c.from_residual-in_err-fault_shown.result (IsSending-stop _ _ _ _ _ _ _ _ _ c.loop-item.invariant.0 (ap (recorded_from c.args.endpoints (c.loop-item.k + 1)) next) c.in_err-fault_shown.ensures.err)
 
 pub loop-item-preserved : goal.loop-item-preserved
 loop-item-preserved g c =
@@ -37,4 +42,5 @@ loop-item-preserved g c =
       IsSending-more _ _ _ _ _ _ _ _ _ _ c.loop-item.invariant.0 (ap (recorded_from c.args.endpoints (c.loop-item.k + 1)) next) c.in_ok-fault_shown.ensures.ok,
       rw c.in_ok-fault_shown.ensures.faulty (any_more (λ d. has_fault d.payload) c.loop-item.fault_shown _ _ _ _ next c.loop-item.invariant.1),
       omega (arith, less, room),
+      c.in_ok-fault_shown.ensures.empty,
     )
