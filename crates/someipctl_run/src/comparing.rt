@@ -85,6 +85,7 @@ fn compare_text<W: Write>(
     let mut buffer = Buffer::new(alloc)?;
     let found = first_mismatch(
         alloc,
+        &mut buffer,
         form,
         &step_lines,
         setup.nodes(),
@@ -101,9 +102,10 @@ fn compare_text<W: Write>(
     }
 }
 
-/// The first difference between a trace in a form and a text.
+/// The first difference between a trace in a form and a text, through an empty buffer.
 fn first_mismatch<'e>(
     alloc: Global,
+    buffer: &mut Buffer,
     form: TraceForm,
     step_lines: &[usize],
     nodes: &[SetupNode],
@@ -111,39 +113,44 @@ fn first_mismatch<'e>(
     verdict: Reuse,
     expected: &'e [u8],
 ) -> Result<Option<Mismatch<'e>>, AllocError>
-    ensures { IfOk result (λ found. MatchOption found
+    requires { buffer.old ≡ [] }
+    ensures empty { OnOk result (buffer.new ≡ []) }
+    ensures found { IfOk result (λ found. MatchOption found
         (expected.now
         ≡ printed_text (printed_lines form step_lines.now nodes.now lines.now verdict))
         (λ mismatch. FirstDiffer (printed_lines form step_lines.now nodes.now lines.now verdict)
         expected.now (view_mismatch mismatch))) }
 {
-    let rest = match compare_lines(alloc, form, step_lines, nodes, lines, expected)? {
+    let rest = match compare_lines(alloc, buffer, form, step_lines, nodes, lines, expected)? {
         Compared::Same(rest) => rest,
         Compared::Differs(mismatch) => return Ok(Some(mismatch)),
     };
-    let text = text_of_verdict(alloc, form.shown(step_lines), verdict)?;
+    let text = text_of_verdict(alloc, buffer, form.shown(step_lines), verdict)?;
     match take_line(rest, None, text) {
         Compared::Same(rest) => Ok(left_over(rest)),
         Compared::Differs(mismatch) => Ok(Some(mismatch)),
     }
 }
 
-/// What the lines of a trace leave of a text, or the first difference.
+/// What the lines of a trace leave of a text, or the first difference, through an empty buffer.
 fn compare_lines<'e>(
     alloc: Global,
+    buffer: &mut Buffer,
     form: TraceForm,
     step_lines: &[usize],
     nodes: &[SetupNode],
     lines: &[Line],
     expected: &'e [u8],
 ) -> Result<Compared<'e>, AllocError>
-    ensures { IfOk result
+    requires { buffer.old ≡ [] }
+    ensures empty { OnOk result (buffer.new ≡ []) }
+    ensures compared { IfOk result
         (ComparedFrom (printed_from form step_lines.now nodes.now 1 lines.now) expected.now) }
 {
     let mut number = 1;
     let mut rest = expected;
     for line in lines {
-        let text = text_of_line(alloc, form.shown(step_lines), nodes, number, line)?;
+        let text = text_of_line(alloc, buffer, form.shown(step_lines), nodes, number, line)?;
         match take_line(rest, line_of_step(step_lines, line.step), text) {
             Compared::Same(others) => rest = others,
             Compared::Differs(mismatch) => return Ok(Compared::Differs(mismatch)),
@@ -208,38 +215,40 @@ fn line_len(text: &[u8]) -> usize
     end
 }
 
-/// The text of a line of a trace.
+/// The text of a line of a trace, through an empty buffer.
 fn text_of_line(
     alloc: Global,
+    buffer: &mut Buffer,
     step_lines: Option<&[usize]>,
     nodes: &[SetupNode],
     number: usize,
     line: &Line,
 ) -> Result<Vec<u8>, AllocError>
-    ensures { IfOk result (λ text.
+    requires { buffer.old ≡ [] }
+    ensures empty { OnOk result (buffer.new ≡ []) }
+    ensures text { IfOk result (λ text.
         text.items ≡ marked_line (pointed step_lines.entry) nodes.now number line.now) }
 {
     let mut text = Vec::new(alloc);
-    let mut buffer = Buffer::new(alloc)?;
-    put_marked_line(&mut buffer, &mut text, step_lines, nodes, number, line).map_err(
-        |_| AllocError,
-    )?;
+    put_marked_line(buffer, &mut text, step_lines, nodes, number, line).map_err(|_| AllocError)?;
     buffer.flush(&mut text).map_err(|_| AllocError)?;
     Ok(text)
 }
 
-/// The text of the verdict.
+/// The text of the verdict, through an empty buffer.
 fn text_of_verdict(
     alloc: Global,
+    buffer: &mut Buffer,
     step_lines: Option<&[usize]>,
     verdict: Reuse,
 ) -> Result<Vec<u8>, AllocError>
-    ensures { IfOk result (λ text.
+    requires { buffer.old ≡ [] }
+    ensures empty { OnOk result (buffer.new ≡ []) }
+    ensures text { IfOk result (λ text.
         text.items ≡ marked_verdict (pointed step_lines.entry) verdict) }
 {
     let mut text = Vec::new(alloc);
-    let mut buffer = Buffer::new(alloc)?;
-    put_verdict(&mut buffer, &mut text, step_lines, verdict).map_err(|_| AllocError)?;
+    put_verdict(buffer, &mut text, step_lines, verdict).map_err(|_| AllocError)?;
     buffer.flush(&mut text).map_err(|_| AllocError)?;
     Ok(text)
 }

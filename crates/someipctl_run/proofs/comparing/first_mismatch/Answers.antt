@@ -5,11 +5,11 @@ use Rattle.someipctl_run.proofs.ComparingLemmas.{ends_all}
 use Rattle.someipctl_run.proofs.ExpectedLemmas.{last_line}
 use Rattle.someipctl_run.proofs.comparing.first_mismatch.Goals as goal
 
-pub returns-in-Same-take_line : goal.returns-in-Same-take_line
-returns-in-Same-take_line c =
+pub returns-in-Same-take_line-clause-found : goal.returns-in-Same-take_line-clause-found
+returns-in-Same-take_line-clause-found c =
     let front = printed_from c.args.form c.args.step_lines.now c.args.nodes.now 1 c.args.lines.now in
     let last : PrintedLine = record { came_by = None; text = marked_verdict (shown_lines c.args.form c.args.step_lines.now) c.args.verdict } in
     ends_all (front ++ last ∷ []) c.args.expected.now c.in-Same-take_line.rest.now c.left_over.result
-    (last_line front last c.args.expected.now c.in-Same.rest.now c.in-Same-take_line.rest.now (rw c.in-Same.is at c.in_ok-rest.ensures)
-    (rw (c.in_ok-text.ensures, c.shown.ensures) at (rw c.in-Same-take_line.is at c.take_line.ensures)))
+    (last_line front last c.args.expected.now c.in-Same.rest.now c.in-Same-take_line.rest.now (rw c.in-Same.is at c.in_ok-rest.ensures.compared)
+    (rw (c.in_ok-text.ensures.text, c.shown.ensures) at (rw c.in-Same-take_line.is at c.take_line.ensures)))
     c.left_over.ensures
