@@ -1,0 +1,127 @@
+-- From what a call of a node comes to, to what its number tells.
+use Rattle.std.proofs.Common.{◌≡◌, refl, sym, subst, ℕ}
+use Rattle.std.specs.Prelude.{List, Option, None, Some, IsSomeAnd}
+use Rattle.someip_world_setup.specs.Readings.{tree_of}
+use Rattle.someip_c_node.specs.declared.outcome.Outcome.{Outcome}
+use Rattle.someip_c_node.specs.declared.outcome.Outcome.TheVariants.{Done, Closed, Held, OutputsWait, NothingLeft, BufferTooSmall, NothingDue, NotText, NotToml, Missing, WrongKind, OutOfRange, UnknownKey, Clash, NoSuchNode, BadConfig, BadDelay, ClockPast, NotWanted, Failed, OutOfMemory, NotOffered, Busy, TooLong, UnknownToken, NotPending, BadErrorCode, UnknownEvent, NotSubscribed}
+use Rattle.someip_c_node.specs.Calls.{CNodeView}
+use Rattle.someip_c_node.specs.Outcomes.{number_of, outcome_of}
+use Rattle.someip_c_node.specs.Starts.{IsNotStarted, IsStarted}
+use Rattle.someip_node_rules.specs.History.{History}
+use Rattle.someip_node_rules.specs.Steps.{StandsFor}
+use Rattle.someip_node_rules.specs.Waking.{IsNextDue}
+use Rattle.someip_c.specs.Handles.{Asks, Closes, OnNode, Starts, StartsTo, Tells}
+
+-- the number of an outcome tells it
+pub decodes : (o : Outcome) → outcome_of (number_of o) ≡ Some o
+decodes Done = refl
+decodes Closed = refl
+decodes Held = refl
+decodes OutputsWait = refl
+decodes NothingLeft = refl
+decodes BufferTooSmall = refl
+decodes NothingDue = refl
+decodes NotText = refl
+decodes NotToml = refl
+decodes Missing = refl
+decodes WrongKind = refl
+decodes OutOfRange = refl
+decodes UnknownKey = refl
+decodes Clash = refl
+decodes NoSuchNode = refl
+decodes BadConfig = refl
+decodes BadDelay = refl
+decodes ClockPast = refl
+decodes NotWanted = refl
+decodes Failed = refl
+decodes OutOfMemory = refl
+decodes NotOffered = refl
+decodes Busy = refl
+decodes TooLong = refl
+decodes UnknownToken = refl
+decodes NotPending = refl
+decodes BadErrorCode = refl
+decodes UnknownEvent = refl
+decodes NotSubscribed = refl
+
+pub tells : (P : Outcome → Type 0) (o : Outcome) → P o → Tells (number_of o) P
+tells P o p = subst (λ x. IsSomeAnd x P) (sym (decodes o)) p
+
+-- what a handle's node did
+pub on_node : (old : Option CNodeView) (does : CNodeView → Outcome → CNodeView → Type 0) (number : ℕ) (new : Option CNodeView) (c : CNodeView) (o : Outcome) (c' : CNodeView)
+    → old ≡ Some c → number ≡ number_of o → new ≡ Some c' → does c o c' → OnNode old does number new
+on_node old does number new c o c' was is now d =
+    subst (λ v. OnNode v does number new) (sym was) (subst (λ n. OnNode (Some c) does n new) (sym is)
+    (subst (λ v. OnNode (Some c) does (number_of o) v) (sym now) (tells (λ outcome. does c outcome c') o d)))
+
+-- and that it has none
+pub on_none : (old : Option CNodeView) (does : CNodeView → Outcome → CNodeView → Type 0) (number : ℕ) (new : Option CNodeView)
+    → old ≡ None → number ≡ number_of Closed → new ≡ None → OnNode old does number new
+on_none old does number new was is now = subst (λ v. OnNode v does number new) (sym was) (is, now)
+
+-- ---- starts
+
+nothing_faulty : {X : Type 0} (tree : Option X) → IsSomeAnd tree (λ _. ⊥) → ⊥
+nothing_faulty None f = f
+nothing_faulty (Some d) f = f
+
+-- a start that was refused
+pub not_started : (text name : List ℕ) (delay : ℕ) (o : Outcome) (new : Option CNodeView) → new ≡ None → IsNotStarted text name delay o → StartsTo text name delay o new
+not_started text name delay Done new none i = absurd (nothing_faulty (tree_of text) i.1.1)
+not_started text name delay Closed new none i = (i, none)
+not_started text name delay Held new none i = (i, none)
+not_started text name delay OutputsWait new none i = (i, none)
+not_started text name delay NothingLeft new none i = (i, none)
+not_started text name delay BufferTooSmall new none i = (i, none)
+not_started text name delay NothingDue new none i = (i, none)
+not_started text name delay NotText new none i = (i, none)
+not_started text name delay NotToml new none i = (i, none)
+not_started text name delay Missing new none i = (i, none)
+not_started text name delay WrongKind new none i = (i, none)
+not_started text name delay OutOfRange new none i = (i, none)
+not_started text name delay UnknownKey new none i = (i, none)
+not_started text name delay Clash new none i = (i, none)
+not_started text name delay NoSuchNode new none i = (i, none)
+not_started text name delay BadConfig new none i = (i, none)
+not_started text name delay BadDelay new none i = (i, none)
+not_started text name delay ClockPast new none i = (i, none)
+not_started text name delay NotWanted new none i = (i, none)
+not_started text name delay Failed new none i = (i, none)
+not_started text name delay OutOfMemory new none i = (i, none)
+not_started text name delay NotOffered new none i = (i, none)
+not_started text name delay Busy new none i = (i, none)
+not_started text name delay TooLong new none i = (i, none)
+not_started text name delay UnknownToken new none i = (i, none)
+not_started text name delay NotPending new none i = (i, none)
+not_started text name delay BadErrorCode new none i = (i, none)
+not_started text name delay UnknownEvent new none i = (i, none)
+not_started text name delay NotSubscribed new none i = (i, none)
+
+pub starts : (old : Option CNodeView) (text name : List ℕ) (delay number : ℕ) (new : Option CNodeView) (o : Outcome)
+    → old ≡ None → number ≡ number_of o → StartsTo text name delay o new → Starts old text name delay number new
+starts old text name delay number new o was is s =
+    subst (λ v. Starts v text name delay number new) (sym was) (subst (λ n. Starts None text name delay n new) (sym is)
+    (tells (λ outcome. StartsTo text name delay outcome new) o s))
+
+pub held : (old : Option CNodeView) (text name : List ℕ) (delay number : ℕ) (new : Option CNodeView) (c : CNodeView)
+    → old ≡ Some c → number ≡ number_of Held → new ≡ Some c → Starts old text name delay number new
+held old text name delay number new c was is now = subst (λ v. Starts v text name delay number new) (sym was) (is, now)
+
+-- ---- ends
+
+pub closes : (old : Option CNodeView) (number : ℕ) (c : CNodeView) → old ≡ Some c → number ≡ number_of Done → Closes old number
+closes old number c was is = subst (λ v. Closes v number) (sym was) is
+
+pub closes_none : (old : Option CNodeView) (number : ℕ) → old ≡ None → number ≡ number_of Closed → Closes old number
+closes_none old number was is = subst (λ v. Closes v number) (sym was) is
+
+-- ---- a node that was lent
+
+-- what a handle's node did, while it was lent
+pub on_lent : (old : Option CNodeView) (does : CNodeView → Outcome → CNodeView → Type 0) (number : ℕ) (new : Option CNodeView) (c lent : CNodeView) (o : Outcome) (c' : CNodeView)
+    → old ≡ Some c → lent ≡ c → number ≡ number_of o → new ≡ Some c' → does lent o c' → OnNode old does number new
+on_lent old does number new c lent o c' was same is now d = on_node old does number new c o c' was is now (subst (λ v. does v o c') same d)
+
+-- something is due
+pub asks : (before due : ℕ) (lent : CNodeView) → ((h : History) → StandsFor lent.node h → IsNextDue h due) → (lent.node.tables ≡ None → Some due ≡ None) → Asks before due lent Done lent
+asks before due lent is failed = (refl, (is, (λ without. absurd (subst (λ o. IsSomeAnd o (λ _. Unit {0})) (failed without) tt))))

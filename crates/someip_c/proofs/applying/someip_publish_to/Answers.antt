@@ -1,0 +1,14 @@
+use Rattle.std.proofs.Common.{subst}
+use Rattle.someip_node_rules.specs.Inputs as input
+use Rattle.someip_c_node.specs.Calls.{Calls}
+use Rattle.someip_c_node.specs.Records.{socket_of}
+use Rattle.someip_c.specs.Handles.{instance_of}
+use Rattle.someip_c.proofs.HandleLemmas.{on_lent}
+use Rattle.someip_c.proofs.applying.someip_publish_to.Goals as goal
+
+pub returns-in-Some : goal.returns-in-Some
+returns-in-Some c = record {
+  done = on_lent c.args.handle.now.place.value (Calls (input.PublishTo (instance_of c.args.service c.args.instance) c.args.eventgroup (socket_of c.args.endpoint.now) c.args.event c.args.payload.now)) c.number.result c.hold.new.self.place.value c.in-Some.node.value c.deref_mut.result.now c.publish_to-outcome.result c.publish_to-outcome.new.self
+      c.in-Some.ensures.some c.deref_mut.ensures.value c.number.ensures c.hold.ensures
+      (subst (λ v. Calls (input.PublishTo v.instance v.id (socket_of c.args.endpoint.now) c.args.event c.args.payload.now) c.deref_mut.result.now c.publish_to-outcome.result c.publish_to-outcome.new.self) c.group.ensures (subst (λ v. Calls (input.PublishTo c.group.result.instance c.group.result.id v c.args.event c.args.payload.now) c.deref_mut.result.now c.publish_to-outcome.result c.publish_to-outcome.new.self) c.socket.ensures (c.publish_to-outcome.ensures)));
+}

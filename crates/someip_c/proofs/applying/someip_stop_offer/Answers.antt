@@ -1,0 +1,12 @@
+use Rattle.someip_node_rules.specs.Inputs as input
+use Rattle.someip_c_node.specs.Calls.{Calls}
+use Rattle.someip_c.specs.Handles.{instance_of}
+use Rattle.someip_c.proofs.HandleLemmas.{on_lent}
+use Rattle.someip_c.proofs.applying.someip_stop_offer.Goals as goal
+
+pub returns-in-Some : goal.returns-in-Some
+returns-in-Some c = record {
+  done = on_lent c.args.handle.now.place.value (Calls (input.StopOffer (instance_of c.args.service c.args.instance))) c.number.result c.hold.new.self.place.value c.in-Some.node.value c.deref_mut.result.now c.stop_offer-outcome.result c.stop_offer-outcome.new.self
+      c.in-Some.ensures.some c.deref_mut.ensures.value c.number.ensures c.hold.ensures
+      (c.stop_offer-outcome.ensures);
+}

@@ -1,0 +1,13 @@
+use Rattle.std.proofs.Common.{subst}
+use Rattle.someip_node_rules.specs.Inputs as input
+use Rattle.someip_c_node.specs.Calls.{Calls}
+use Rattle.someip_c.specs.Handles.{group_of}
+use Rattle.someip_c.proofs.HandleLemmas.{on_lent}
+use Rattle.someip_c.proofs.applying.someip_subscribe.Goals as goal
+
+pub returns-in-Some : goal.returns-in-Some
+returns-in-Some c = record {
+  done = on_lent c.args.handle.now.place.value (Calls (input.Subscribe (group_of c.args.service c.args.instance c.args.eventgroup))) c.number.result c.hold.new.self.place.value c.in-Some.node.value c.deref_mut.result.now c.subscribe-outcome.result c.subscribe-outcome.new.self
+      c.in-Some.ensures.some c.deref_mut.ensures.value c.number.ensures c.hold.ensures
+      (subst (λ v. Calls (input.Subscribe v) c.deref_mut.result.now c.subscribe-outcome.result c.subscribe-outcome.new.self) c.group.ensures (c.subscribe-outcome.ensures));
+}

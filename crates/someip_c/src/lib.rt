@@ -1,0 +1,14 @@
+//! A SOME/IP node for C: a static library, with `include/someip.h`.
+//!
+//! Each export is a call of `someip_c_node`, through a [`Handle`] that C keeps; its number tells the
+//! outcome. What the header says of pointers and lengths is the caller's to keep: nothing can check it.
+#![tactic(auto)]
+
+mod applying;
+mod handle;
+mod lives;
+mod place;
+mod receiving;
+
+pub use handle::Handle;
+pub use place::Place;
