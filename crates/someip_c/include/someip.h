@@ -143,7 +143,7 @@ typedef struct {
 
 /* ---- the life of a node ---- */
 
-/* Starts the node of a name in a setup (TOML, docs/FORMATS.md), and gives it to the handle, which must
+/* Starts the node of a name in a setup (TOML, docs/RUNNING.md), and gives it to the handle, which must
  * have none. Its first Offers and Finds go out delay_ms after this: draw it at random, anew for each start
  * and restart, between the setup's initial_min and initial_max. The setup's own `delay` is not used.
  * HELD, NOT_TEXT, NOT_TOML to CLASH, NO_SUCH_NODE, BAD_DELAY, OUT_OF_MEMORY; the handle is then as before. */

@@ -5,11 +5,12 @@ use someip_world::Line;
 use someipctl_run::told_text;
 use std::alloc::{AllocError, Global};
 
-/// Whether an output prints itself as its line of a trace tells it, where datagrams have numbers beside.
+/// Whether an output prints itself as its line of a trace tells it, where each word stands behind a space and
+/// datagrams have numbers beside.
 pub fn prints_its_line(alloc: Global, line: &Line, output: &Output) -> Result<bool, AllocError> {
-    let printed = format!(in alloc; "{output}\n")?;
-    let expected = match printed.as_str().strip_prefix("sent ") {
-        Some(rest) => format!(in alloc; "sent 1 {rest}")?,
+    let printed = format!(in alloc; " {output}\n")?;
+    let expected = match printed.as_str().strip_prefix(" sent ") {
+        Some(rest) => format!(in alloc; " sent 1 {rest}")?,
         None => printed,
     };
     let told = told_text(alloc, 1, &line.told)?;
