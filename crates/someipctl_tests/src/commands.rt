@@ -122,6 +122,7 @@ fn laws_hold() {
     laws::what_lines_say();
     laws::what_vector_lines_say();
     laws::messages_begin_behind_others();
+    laws::recordings_print_what_show_prints();
 }
 
 /// Captures, and the bytes of each of their datagrams.
