@@ -12,7 +12,7 @@
  *     someip_close(&node);
  *
  * What the library keeps, and is proved: each function does what its comment says, for any bytes and
- * numbers; it reads and writes no memory but what it is given and what it asks the allocator for; it
+ * numbers (which of MISSING, WRONG_KIND and OUT_OF_RANGE a setup is refused as is tested alone); it reads and writes no memory but what it is given and what it asks the allocator for; it
  * always returns.
  *
  * What the caller keeps, which nothing can check:
