@@ -37,10 +37,11 @@ abbrev pub offset_of : ByteOrder → Option (List ℕ) → ℕ
 offset_of order (Some value) = if length value == 8 then number64 order value else 0
 offset_of order None = 0
 
--- the options `if_tsresol` and `if_tsoffset`
+-- the resolution of an interface: what its first option `if_tsresol` says, if that has one byte, and else microseconds
 abbrev pub resolution_in : ByteOrder → List ℕ → ℕ
 resolution_in order options = resolution_of (option_in order 9 options)
 
+-- the offset of an interface: what its first option `if_tsoffset` says, if that has 8 bytes, and else none
 abbrev pub offset_in : ByteOrder → List ℕ → ℕ
 offset_in order options = offset_of order (option_in order 14 options)
 

@@ -19,6 +19,7 @@ Item = Result RecordValue RecordingError
 
 -- ---- one packet or block: how long it is, what it says, and the format and the interfaces behind it
 
+-- how many bytes the packet or the block at the front has
 abbrev pub part_len : Format → List ℕ → ℕ
 part_len (Classic c) bytes = packet_len c bytes
 part_len (Blocks order) bytes = block_len order bytes
@@ -33,10 +34,13 @@ abbrev pub part_meaning : Format → List Interface → ℕ → List ℕ → Mea
 part_meaning (Classic c) interfaces p bytes = or_fault (packet_fault c p bytes) (Ok (Some (packet_record c bytes)))
 part_meaning (Blocks order) interfaces p bytes = or_fault (block_fault order p bytes) (meaning_of interfaces p (block_in order bytes))
 
+-- the format behind the packet or the block at the front: the same, but for the order of numbers that the head of a
+-- section tells
 abbrev pub format_after : Format → List ℕ → Format
 format_after (Classic c) bytes = Classic c
 format_after (Blocks order) bytes = Blocks (order_in order bytes)
 
+-- the interfaces behind the packet or the block at the front: a packet of classic pcap changes none
 abbrev pub section_after : Format → List Interface → List ℕ → List Interface
 section_after (Classic c) interfaces bytes = interfaces
 section_after (Blocks order) interfaces bytes = interfaces_after interfaces (block_in order bytes)

@@ -42,6 +42,7 @@ abbrev pub timed_of : ℕ → BlockValue → Option Interface → Meaning
 timed_of p b None = Err (UnknownInterface p)
 timed_of p b (Some i) = Ok (Some (record_of (Some (block_time i b)) i.link (slice_range b.body 20 (captured_end b))))
 
+-- what a packet with a time says, of the interface of an index, unless its body is too short for the captured bytes
 abbrev pub timed_record : List Interface → ℕ → BlockValue → ℕ → Meaning
 timed_record interfaces p b index =
     if nat_lt (length b.body) (captured_end b) then Err (BlockLength p)
@@ -54,11 +55,14 @@ timed_record interfaces p b index =
 abbrev pub captured_len : ℕ → ℕ → ℕ → ℕ
 captured_len snap original room = if snap == 0 then min original room else min (min original room) snap
 
+-- the record of a packet without a time of an interface, if the section has it
 abbrev pub simple_of : ℕ → BlockValue → Option Interface → Meaning
 simple_of p b None = Err (UnknownInterface p)
 simple_of p b (Some i) =
     Ok (Some (record_of None i.link (slice_range b.body 4 (4 + captured_len i.snap (number32 b.order b.body 0) (length b.body - 4)))))
 
+-- what a simple packet says: it has no time, and at most the snap length of the section's first interface, if that has
+-- one
 abbrev pub simple_record : List Interface → ℕ → BlockValue → Meaning
 simple_record interfaces p b = simple_of p b (slice_get interfaces 0)
 
@@ -88,5 +92,7 @@ interfaces_by SimplePacket interfaces b = interfaces
 interfaces_by EnhancedPacket interfaces b = interfaces
 interfaces_by Other interfaces b = interfaces
 
+-- the interfaces of the section after a block: none after the head of a section, and one more after an interface
+-- description
 abbrev pub interfaces_after : List Interface → BlockValue → List Interface
 interfaces_after interfaces b = interfaces_by b.kind interfaces b

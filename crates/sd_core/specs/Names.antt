@@ -3,6 +3,7 @@ use Rattle.std.specs.Prelude.{ℕ, List, codes}
 use Rattle.sd_core.specs.declared.error.Cause.{Cause}
 use Rattle.sd_core.specs.declared.error.Cause.TheVariants.{NotOffered, WrongMajor, UnknownEventgroup, NoEndpoint, Full}
 
+-- the name of the cause of a Nack
 abbrev pub cause_name : Cause → List ℕ
 cause_name NotOffered = codes "NotOffered"
 cause_name WrongMajor = codes "WrongMajor"

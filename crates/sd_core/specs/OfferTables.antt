@@ -10,7 +10,7 @@ use Rattle.sd_core.specs.declared.version.Version.{Version}
 use Rattle.sd_core.specs.declared.version.Sought.{Sought}
 use Rattle.sd_core.specs.declared.phases.Phases.{Phases}
 use Rattle.sd_core.specs.declared.sending.Sending.{Sending}
-use Rattle.sd_core.specs.declared.offers.Place.{Place}
+use Rattle.sd_core.specs.declared.offers.Offering.{Offering}
 use Rattle.sd_core.specs.Keys.{instance_cmp, coded_instance}
 use Rattle.sd_core.specs.Shown.{shown, map_values}
 use Rattle.sd_core.specs.Sendings.{first_at, has_sent, sent_if_due, coded_sending}
@@ -20,14 +20,15 @@ pub record OfferTable : Type 0 where
   pub versions : FinMap instance_cmp Version
   pub up : FinMap instance_cmp Sending
 
--- what the places of the instances show
-abbrev pub offers_of : FinMap instance_cmp Place → OfferTable
-offers_of places = record { versions = map_values (λ p. p.version) places; up = shown (λ p. p.sending) places }
+-- what the table of the instances shows
+abbrev pub offers_of : FinMap instance_cmp Offering → OfferTable
+offers_of offerings = record { versions = map_values (λ o. o.version) offerings; up = shown (λ o. o.sending) offerings }
 
--- every instance is up, and sends its first Offer after a delay
+-- every instance is up, and this is when it sends its first Offer
 abbrev pub started_at : Sending → OfferTable → OfferTable
 started_at first offers = record { versions = offers.versions; up = map_values (λ _. first) offers.versions }
 
+-- the node starts: every instance is up, and sends its first Offer after the initial delay
 abbrev pub started : ℕ → OfferTable → OfferTable
 started delay offers = started_at (first_at delay) offers
 

@@ -1,14 +1,14 @@
--- What the places of instances wait for.
+-- What the instances that are offered or wanted wait for.
 use Rattle.std.specs.Prelude.{ℕ, Option}
 use Rattle.std.specs.Option.{option_and_then, option_map}
 use Rattle.someip_tables.specs.Deadlines.{millis_of}
 use Rattle.someip_tables.specs.Waits.{earlier}
-use Rattle.sd_core.specs.declared.offers.Place.{Place}
+use Rattle.sd_core.specs.declared.offers.Offering.{Offering}
 use Rattle.sd_core.specs.declared.want.Want.{Want}
 
 -- an instance that is offered waits for its next Offer, while it is up
-abbrev pub place_moment : Place → Option ℕ
-place_moment p = option_map (λ s. s.due) p.sending
+abbrev pub offering_moment : Offering → Option ℕ
+offering_moment o = option_map (λ s. s.due) o.sending
 
 -- a wanted instance waits for what comes first: that its known offer passes, or its next Find
 abbrev pub want_moment : Want → Option ℕ

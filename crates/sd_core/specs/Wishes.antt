@@ -50,6 +50,7 @@ standing now Unwished = None
 standing now Waiting = None
 standing now (Begun beginning) = if is_over now beginning then None else Some beginning
 
+-- a subscription stands that was begun at this peer
 abbrev pub stands_with : ℕ → Ipv4Addr → Stage → Bool
 stands_with now peer stage = option_map_or (is_with peer) (standing now stage) false
 
@@ -63,21 +64,24 @@ is_subscribed now stage = option_map_or (λ beginning. is_some beginning.until) 
 abbrev pub first_wish : Wish
 first_wish = record { stage = Unwished; next_counter = 0 }
 
+-- what is kept of an eventgroup, and where nothing is, that it was never wished
 abbrev pub wish_of : Option Wish → Wish
 wish_of None = first_wish
 wish_of (Some wish) = wish
 
+-- the wish stands
 abbrev pub is_wished : Stage → Bool
 is_wished Unwished = false
 is_wished Waiting = true
 is_wished (Begun beginning) = true
 
--- the wish stands from now on
+-- how far a wish is that stands from now on: as far as it was where it stood before, and else it waits
 abbrev pub stage_wished : Stage → Stage
 stage_wished Unwished = Waiting
 stage_wished Waiting = Waiting
 stage_wished (Begun beginning) = Begun beginning
 
+-- the wish stands from now on; a subscription that was begun goes on, and so does the counter
 abbrev pub wished : Wish → Wish
 wished wish = record wish { stage = stage_wished wish.stage }
 
@@ -114,9 +118,11 @@ sent_at_once now (Some peer) wish = counter_in (subscribing now peer wish).stage
 
 -- ---- an Offer of a wanted instance
 
+-- an Offer of an instance brings about a Subscribe of an eventgroup of it, if the wish of the eventgroup stands
 abbrev pub is_renewed_by : InstanceId → Eventgroup → Wish → Bool
 is_renewed_by instance eventgroup wish = eq_by_cmp instance_cmp eventgroup.instance instance && is_wished wish.stage
 
+-- the wish of an eventgroup once an Offer counted: a Subscribe went out, where the Offer brings one about
 abbrev pub offered_wish : ℕ → InstanceId → Ipv4Addr → Eventgroup → Wish → Wish
 offered_wish now instance peer eventgroup wish = if is_renewed_by instance eventgroup wish then subscribing now peer wish else wish
 
@@ -147,9 +153,12 @@ stage_acked until Unwished = Unwished
 stage_acked until Waiting = Waiting
 stage_acked until (Begun beginning) = Begun (record beginning { until = Some until })
 
+-- an Ack came: where it answers the subscription that stands, the client is subscribed until the TTL of this Ack has
+-- passed, be it sooner or later than before
 abbrev pub acked_wish : ℕ → SubscribeAnswer → ℕ → Wish → Wish
 acked_wish now answer ttl wish = if is_answered now answer wish.stage then record wish { stage = stage_acked (deadline_after now ttl) wish.stage } else wish
 
+-- a Nack came: where it answers the subscription that stands, that subscription ends; the wish stands
 abbrev pub nacked_wish : ℕ → SubscribeAnswer → Wish → Wish
 nacked_wish now answer wish = if is_answered now answer wish.stage then record wish { stage = Waiting } else wish
 
@@ -169,10 +178,11 @@ has_begun test (Begun beginning) = test beginning
 abbrev pub begun_where : (Eventgroup → Beginning → Bool) → Wishes → Wishes
 begun_where test wishes = retain wishes (λ eventgroup wish. has_begun (test eventgroup) wish.stage)
 
--- their subscriptions end; the wishes stand
+-- a subscription that passes the test ends; the wish stands
 abbrev pub ended_wish : (Beginning → Bool) → Wish → Wish
 ended_wish test wish = if has_begun test wish.stage then record wish { stage = Waiting } else wish
 
+-- the subscriptions that pass a test end; the wishes stand
 abbrev pub ended_where : (Eventgroup → Beginning → Bool) → Wishes → Wishes
 ended_where test wishes = each_changed (λ eventgroup wish. ended_wish (test eventgroup) wish) wishes
 

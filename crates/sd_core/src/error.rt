@@ -21,7 +21,7 @@ pub enum Cause {
     /// The Subscribe has no IPv4 UDP endpoint option.
     #[error("NoEndpoint")]
     NoEndpoint,
-    /// The eventgroup has as many live subscriptions as it may have.
+    /// The eventgroup has as many live subscriptions as it may have, this one not among them.
     #[error("Full")]
     Full,
 }

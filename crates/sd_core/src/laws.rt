@@ -29,8 +29,8 @@ pub fn offers_go_out_at_their_moments()
         → IsFalse (sends_offer phases from n (started delay offers) instance) }
 {}
 
-/// A wanted instance that was searched for sends its Finds at the moments of its Offers up to the
-/// last repetition, and at no other; and none from an Offer that counts on.
+/// A wanted instance that was searched for sends its Finds at the moments at which an offered one sends
+/// its Offers up to the last repetition, and at no other; and none from an Offer that counts on.
 pub fn finds_go_out_at_their_moments()
     ensures moments { (phases : Phases) (delay from n : ℕ) (table : SeekTable)
         (instance : InstanceId) → from ≤ delay

@@ -8,7 +8,7 @@ ghost use Rattle.std.specs.Option.{option_map, option_map_or};
 ghost use Rattle.sd_core.specs.Sendings.{has_sent, after_sending, due_at};
 ghost use Rattle.sd_core.specs.OfferTables.{offers_of, started, started_at, after_tick};
 ghost use Rattle.sd_core.specs.OfferTables.{answering, without};
-ghost use Rattle.sd_core.specs.Waiting.{place_moment};
+ghost use Rattle.sd_core.specs.Waiting.{offering_moment};
 
 use crate::chosen::keys_where;
 use crate::keys::InstanceId;
@@ -21,14 +21,14 @@ use std::marker::Model;
 
 /// An instance that the node may offer: its version, and when it sends its next Offer while it is up.
 #[derive(Clone, Copy, Debug, PartialEq, Eq)]
-struct Place {
+struct Offering {
     version: Version,
     sending: Option<Sending>,
 }
 
-impl Place {
-    /// The place once its Offer went out.
-    fn after_sending(&self, phases: Phases, now: Moment) -> Place
+impl Offering {
+    /// The instance once its Offer went out.
+    fn after_sending(&self, phases: Phases, now: Moment) -> Offering
         ensures { result ≡ record {
           version = self.now.version;
           sending = option_map (after_sending phases now) self.now.sending;
@@ -38,7 +38,7 @@ impl Place {
             Some(sending) => Some(sending.after_sending(phases, now)),
             None => None,
         };
-        Place {
+        Offering {
             version: self.version,
             sending,
         }
@@ -46,8 +46,8 @@ impl Place {
 }
 
 /// While it is up, it waits for its next Offer.
-impl Waits for Place {
-    ghost moment = { place_moment };
+impl Waits for Offering {
+    ghost moment = { offering_moment };
 
     fn waits_for(&self) -> Option<u64> {
         match self.sending {
@@ -61,13 +61,13 @@ impl Waits for Place {
 /// Discovery Protocol, "Startup behavior"). A contract sees the versions of the instances, and the
 /// map of those that are up.
 ///
-/// An instance keeps its place while it is down, so that [`Offers::start`] takes no memory. The moments
-/// of the Offers stand in order beside the places, so that [`Offers::tick`] looks only at those that
-/// are due.
+/// An instance stays in the table while it is down, so that [`Offers::start`] takes no memory. The
+/// moments of the Offers stand in order beside the instances, so that [`Offers::tick`] looks only at
+/// those that are due.
 #[derive(Drop)]
 pub struct Offers {
     alloc: Global,
-    places: TimedMap<InstanceId, Place>,
+    offerings: TimedMap<InstanceId, Offering>,
 }
 
 impl Model for Offers {
@@ -79,7 +79,7 @@ impl Model for Offers {
 
     ghost coded = { coded_offers };
 
-    ghost view = { λ o. offers_of (map_of instance_cmp o.places) };
+    ghost view = { λ o. offers_of (map_of instance_cmp o.offerings) };
 }
 
 impl Offers {
@@ -89,7 +89,7 @@ impl Offers {
     {
         Offers {
             alloc,
-            places: TimedMap::new(alloc),
+            offerings: TimedMap::new(alloc),
         }
     }
 
@@ -103,11 +103,11 @@ impl Offers {
         ensures err { OnErr result (self.new ≡ self.old) }
         ensures grows { OnErr result (finite.get self.old.versions instance ≡ None) }
     {
-        let place = Place {
+        let offering = Offering {
             version,
             sending: None,
         };
-        self.places.insert(instance, place)
+        self.offerings.insert(instance, offering)
     }
 
     /// Starts every instance, as if none had sent an Offer: the first goes out at this many
@@ -115,7 +115,7 @@ impl Offers {
     pub fn start(&mut self, delay: u32)
         ensures { self.new ≡ started delay self.old }
     {
-        start_all(&mut self.places, Sending::first_at(delay));
+        start_all(&mut self.offerings, Sending::first_at(delay));
     }
 
     /// The instances that send an Offer now, by rising instance: each that is up and due sends one,
@@ -128,9 +128,9 @@ impl Offers {
         ensures err { OnErr result (self.new ≡ self.old) }
         ensures grows { OnErr result (due_at now self.old.up ≢ finite.empty) }
     {
-        let due = self.places.due_keys(self.alloc, now)?;
-        self.places
-            .change_those(&due, |_, place| place.after_sending(phases, now));
+        let due = self.offerings.due_keys(self.alloc, now)?;
+        self.offerings
+            .change_those(&due, |_, offering| offering.after_sending(phases, now));
         Ok(due)
     }
 
@@ -139,7 +139,7 @@ impl Offers {
     pub fn next_due(&self) -> Option<u64>
         ensures { HoldsFrom result (λ now. due_at now self.now.up ≢ finite.empty) }
     {
-        self.places.first_due()
+        self.offerings.first_due()
     }
 
     /// The instances that answer a Find, by rising instance: those that it asks for, that are up and
@@ -149,8 +149,8 @@ impl Offers {
         ensures found { IfOk result (λ found. found.items ≡ finite.keys (answering sought self.now)) }
         ensures grows { OnErr result (answering sought self.now ≢ finite.empty) }
     {
-        keys_where(self.places.held(), self.alloc, |instance, place| {
-            sought.fits(instance, &place.version) && has_sent(&place.sending)
+        keys_where(self.offerings.held(), self.alloc, |instance, offering| {
+            sought.fits(instance, &offering.version) && has_sent(&offering.sending)
         })
     }
 
@@ -159,27 +159,27 @@ impl Offers {
         ensures was_up { result ≡ is_some (finite.get self.old.up instance) }
         ensures down { self.new ≡ without instance self.old }
     {
-        take_down(&mut self.places, instance)
+        take_down(&mut self.offerings, instance)
     }
 
     /// Whether an instance is up.
     pub fn is_up(&self, instance: InstanceId) -> bool
         ensures { result ≡ is_some (finite.get self.now.up instance) }
     {
-        match self.places.get(&instance) {
-            Some(place) => place.sending.is_some(),
+        match self.offerings.get(&instance) {
+            Some(offering) => offering.sending.is_some(),
             None => false,
         }
     }
 }
 
 /// Gives every instance this next Offer.
-fn start_all(places: &mut TimedMap<InstanceId, Place>, first: Sending)
-    ensures { offers_of (map_of instance_cmp places.new)
-        ≡ started_at first (offers_of (map_of instance_cmp places.old)) }
+fn start_all(offerings: &mut TimedMap<InstanceId, Offering>, first: Sending)
+    ensures { offers_of (map_of instance_cmp offerings.new)
+        ≡ started_at first (offers_of (map_of instance_cmp offerings.old)) }
 {
-    places.change_all(|_, place| Place {
-        version: place.version,
+    offerings.change_all(|_, offering| Offering {
+        version: offering.version,
         sending: Some(first),
     });
 }
@@ -194,19 +194,19 @@ fn has_sent(sending: &Option<Sending>) -> bool
 }
 
 /// Takes an instance down, if there is such an instance, and says whether it was up.
-fn take_down(places: &mut TimedMap<InstanceId, Place>, instance: InstanceId) -> bool
+fn take_down(offerings: &mut TimedMap<InstanceId, Offering>, instance: InstanceId) -> bool
     ensures was_up { result
-        ≡ is_some (finite.get (offers_of (map_of instance_cmp places.old)).up instance) }
-    ensures down { offers_of (map_of instance_cmp places.new)
-        ≡ without instance (offers_of (map_of instance_cmp places.old)) }
+        ≡ is_some (finite.get (offers_of (map_of instance_cmp offerings.old)).up instance) }
+    ensures down { offers_of (map_of instance_cmp offerings.new)
+        ≡ without instance (offers_of (map_of instance_cmp offerings.old)) }
 {
-    let Some(place) = places.get(&instance).copied() else {
+    let Some(offering) = offerings.get(&instance).copied() else {
         return false;
     };
-    let down = Place {
-        version: place.version,
+    let down = Offering {
+        version: offering.version,
         sending: None,
     };
-    places.replace(instance, down);
-    place.sending.is_some()
+    offerings.replace(instance, down);
+    offering.sending.is_some()
 }

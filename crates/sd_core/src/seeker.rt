@@ -39,9 +39,9 @@ pub struct Ticked {
 /// "Startup behavior"). A contract sees a map of each of the three.
 ///
 /// Whoever moves the clock calls [`Seeker::tick`] with it, which tells the offers whose time has
-/// passed: until then they are kept, and count for nothing. An instance keeps its place while nothing
+/// passed: until then they are kept, and count for nothing. An instance stays in the table while nothing
 /// is known of it, so that [`Seeker::start`] and [`Seeker::offer`] take no memory. The moments at which
-/// an offer passes or a Find goes out stand in order beside the places, so that `tick` looks only at
+/// an offer passes or a Find goes out stand in order beside the instances, so that `tick` looks only at
 /// those that have come.
 #[derive(Drop)]
 pub struct Seeker {

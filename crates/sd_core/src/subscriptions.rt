@@ -34,7 +34,7 @@ use std::net::Ipv4Addr;
 /// [`Subscriptions::unwant`]. Whoever moves the clock calls `tick` with it: what has passed and was not
 /// yet told is no subscription to an Ack, a Nack or an Offer.
 ///
-/// An eventgroup that is wished no more keeps its place, since its counter goes on.
+/// An eventgroup that is wished no more stays in the table, since its counter goes on.
 ///
 /// Beside the wishes stand the moments at which the times of their Acks pass, in order, and the wishes of
 /// an instance stand together. So a call looks at the wishes that it concerns; only
@@ -42,7 +42,7 @@ use std::net::Ipv4Addr;
 #[derive(Drop)]
 pub struct Subscriptions {
     alloc: Global,
-    places: WishTable,
+    wishes: WishTable,
 }
 
 impl Model for Subscriptions {
@@ -54,7 +54,7 @@ impl Model for Subscriptions {
 
     ghost coded = { coded_wishes };
 
-    ghost view = { λ s. map_of eventgroup_cmp s.places };
+    ghost view = { λ s. map_of eventgroup_cmp s.wishes };
 }
 
 impl Subscriptions {
@@ -64,7 +64,7 @@ impl Subscriptions {
     {
         Subscriptions {
             alloc,
-            places: TimedMap::new(alloc),
+            wishes: TimedMap::new(alloc),
         }
     }
 
@@ -72,7 +72,7 @@ impl Subscriptions {
     pub fn clear(&mut self)
         ensures { self.new ≡ finite.empty }
     {
-        self.places.clear();
+        self.wishes.clear();
     }
 
     /// Wishes an eventgroup. If an offer of its instance is known, from this peer, a Subscribe goes out
@@ -94,8 +94,8 @@ impl Subscriptions {
         ensures err { OnErr result (self.new ≡ self.old) }
         ensures grows { OnErr result (finite.get self.old eventgroup ≡ None) }
     {
-        let wish = wish_in(&self.places, &eventgroup).wanted(now, peer);
-        self.places.insert(eventgroup, wish)?;
+        let wish = wish_in(&self.wishes, &eventgroup).wanted(now, peer);
+        self.wishes.insert(eventgroup, wish)?;
         Ok(match peer {
             Some(_) => wish.stage.counter(),
             None => None,
@@ -109,7 +109,7 @@ impl Subscriptions {
             ≡ option_and_then (λ wish. standing now wish.stage) (finite.get self.old eventgroup) }
         ensures unwished { self.new ≡ changed_at eventgroup unwished self.old }
     {
-        take_back(&mut self.places, eventgroup, now)
+        take_back(&mut self.wishes, eventgroup, now)
     }
 
     /// An Offer of a wanted instance counted, from this peer: the answer is the Subscribes that go out
@@ -129,9 +129,9 @@ impl Subscriptions {
         ensures err { OnErr result (self.new ≡ self.old) }
         ensures grows { OnErr result (subscribes now instance peer self.old ≢ []) }
     {
-        let wished = wished_of(&self.places, self.alloc, instance)?;
-        let sent = subscribes(&self.places, self.alloc, instance, peer, now)?;
-        self.places
+        let wished = wished_of(&self.wishes, self.alloc, instance)?;
+        let sent = subscribes(&self.wishes, self.alloc, instance, peer, now)?;
+        self.wishes
             .change_those(&wished, |_, wish| wish.subscribing(now, peer));
         Ok(sent)
     }
@@ -145,7 +145,7 @@ impl Subscriptions {
         ensures acked { self.new
             ≡ changed_at answer.eventgroup (acked_wish now answer ttl) self.old }
     {
-        take_ack(&mut self.places, &answer, ttl, now)
+        take_ack(&mut self.wishes, &answer, ttl, now)
     }
 
     /// Takes a Nack: if it answers the subscription that stands, that ends, and the answer is true.
@@ -155,7 +155,7 @@ impl Subscriptions {
             (wish_of (finite.get self.old answer.eventgroup)).stage }
         ensures nacked { self.new ≡ changed_at answer.eventgroup (nacked_wish now answer) self.old }
     {
-        take_nack(&mut self.places, &answer, now)
+        take_nack(&mut self.wishes, &answer, now)
     }
 
     /// The known offer of an instance ended by a StopOffer: the subscriptions that were begun there end,
@@ -172,7 +172,7 @@ impl Subscriptions {
             (λ eventgroup beginning. eq_by_cmp instance_cmp eventgroup.instance instance) self.old
             ≢ finite.empty) }
     {
-        end(&mut self.places, self.alloc, Ending::Offer(instance), &[])
+        end(&mut self.wishes, self.alloc, Ending::Offer(instance), &[])
     }
 
     /// A peer began again: the subscriptions that were begun there end, and are told by rising service,
@@ -188,7 +188,7 @@ impl Subscriptions {
         ensures grows { OnErr result
             (begun_where (λ eventgroup beginning. is_with peer beginning) self.old ≢ finite.empty) }
     {
-        end(&mut self.places, self.alloc, Ending::Reboot(peer), &[])
+        end(&mut self.wishes, self.alloc, Ending::Reboot(peer), &[])
     }
 
     /// A moment came: the subscriptions end whose Ack's time has passed, and those of these instances,
@@ -209,7 +209,7 @@ impl Subscriptions {
         ensures grows { OnErr result
             (begun_where (ends_at now instances.now) self.old ≢ finite.empty) }
     {
-        end(&mut self.places, self.alloc, Ending::Time(now), instances)
+        end(&mut self.wishes, self.alloc, Ending::Time(now), instances)
     }
 
     /// When the time of an Ack next passes, in milliseconds since the node's start: at the first moment at
@@ -218,7 +218,7 @@ impl Subscriptions {
         ensures { HoldsFrom result (λ now.
             begun_where (λ eventgroup beginning. is_over now beginning) self.now ≢ finite.empty) }
     {
-        self.places.first_due()
+        self.wishes.first_due()
     }
 
     /// Whether the client is subscribed: the server acknowledged the subscription that stands, and the
@@ -227,7 +227,7 @@ impl Subscriptions {
         ensures { result
             ≡ is_subscribed now (wish_of (finite.get self.now eventgroup.now)).stage }
     {
-        wish_in(&self.places, eventgroup).stage.is_subscribed(now)
+        wish_in(&self.wishes, eventgroup).stage.is_subscribed(now)
     }
 }
 

@@ -1,5 +1,5 @@
 -- A table of peers as a map.
-use Rattle.std.proofs.Common.{◌≡◌, ℕ, ◌+◌, ◌<◌, ◌≤◌, nat_lt, Bool, true, false, cond, ◌||◌, Option, is_some, Result, Ok, Err, sym, ap, ap₂, ◌∙◌, arith}
+use Rattle.std.proofs.Common.{◌≡◌, ℕ, ◌+◌, ◌<◌, ◌≤◌, nat_lt, Bool, true, false, cond, ◌||◌, Option, is_some, Result, Ok, Err, sym, ap₂, ◌∙◌, arith}
 use Rattle.std.proofs.lemmas.Bool.{ltb-true}
 use Rattle.sd_session.specs.declared.error.SessionError.{SessionError}
 use Rattle.sd_session.specs.declared.error.SessionError.TheVariants.{PeersFull, OutOfMemory}

@@ -1,5 +1,5 @@
 -- Session IDs and the Reboot flag (SOME/IP Service Discovery Protocol, "Session ID", "Reboot flag", "Detection of reboots").
-use Rattle.std.specs.Prelude.{ℕ, zero, suc, ◌+◌, ◌==◌, nat_le, Bool, true, false, not, ◌&&◌, ◌||◌, if◌then◌else◌}
+use Rattle.std.specs.Prelude.{ℕ, zero, suc, ◌+◌, ◌==◌, nat_le, Bool, true, not, ◌&&◌, ◌||◌, if◌then◌else◌}
 use Rattle.sd_session.specs.declared.stamp.Stamp.{Stamp}
 
 -- the session after a session: FFFF is followed by 1, and 0 is never given

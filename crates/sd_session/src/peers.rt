@@ -165,7 +165,7 @@ fn enter(
         (map_of address_cmp peers.new.entries) }
 {
     let known = peers.get(&peer).copied();
-    if !has_place(known, peers.len(), limit) {
+    if !has_room(known, peers.len(), limit) {
         return Err(SessionError::PeersFull);
     }
     let (seen, stamps) = judge(stamps_or_none(known), channel, stamp);
@@ -175,8 +175,8 @@ fn enter(
     }
 }
 
-/// Whether there is a place for a peer among so many: it is known, or they are fewer than the limit.
-fn has_place(known: Option<Stamps>, peers: usize, limit: usize) -> bool
+/// Whether there is room for a peer among so many: it is known, or they are fewer than the limit.
+fn has_room(known: Option<Stamps>, peers: usize, limit: usize) -> bool
     ensures { result ≡ is_some known || nat_lt peers limit }
 {
     known.is_some() || peers < limit

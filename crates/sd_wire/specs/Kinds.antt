@@ -27,23 +27,26 @@ has_type_ack Ack = true
 abbrev pub is_find : ServiceEntry → Bool
 is_find e = has_type_find e.kind
 
--- an Offer, and one with TTL 0
+-- an Offer: an entry of its type, with a TTL above 0
 abbrev pub is_offer : ServiceEntry → Bool
 is_offer e = has_type_offer e.kind && nat_lt 0 e.ttl
 
+-- a StopOffer: an entry of the type of an Offer, with TTL 0
 abbrev pub is_stop_offer : ServiceEntry → Bool
 is_stop_offer e = has_type_offer e.kind && e.ttl == 0
 
--- a Subscribe, and one with TTL 0
+-- a Subscribe: an entry of its type, with a TTL above 0
 abbrev pub is_subscribe : EventgroupEntry → Bool
 is_subscribe e = has_type_subscribe e.kind && nat_lt 0 e.ttl
 
+-- a StopSubscribe: an entry of the type of a Subscribe, with TTL 0
 abbrev pub is_stop_subscribe : EventgroupEntry → Bool
 is_stop_subscribe e = has_type_subscribe e.kind && e.ttl == 0
 
--- an Ack, and one with TTL 0
+-- an Ack: an entry of its type, with a TTL above 0
 abbrev pub is_ack : EventgroupEntry → Bool
 is_ack e = has_type_ack e.kind && nat_lt 0 e.ttl
 
+-- a Nack: an entry of the type of an Ack, with TTL 0
 abbrev pub is_nack : EventgroupEntry → Bool
 is_nack e = has_type_ack e.kind && e.ttl == 0

@@ -30,6 +30,7 @@ pub record SpellsHead (head : EntryHead) (runs : Runs) (bytes : List ℕ) : Type
 abbrev pub passes_pool : List SdOption → ℕ → ℕ → Bool
 passes_pool pool index count = nat_lt 0 count && nat_lt (length pool) (index + count)
 
+-- an entry has a bad run: one of its two runs passes the pool
 abbrev pub has_bad_run : List SdOption → Runs → Bool
 has_bad_run pool runs = passes_pool pool runs.index1 runs.count1 || passes_pool pool runs.index2 runs.count2
 

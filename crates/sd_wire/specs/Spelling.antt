@@ -38,17 +38,20 @@ option_bytes r s (Multicast6 e) = ipv6_bytes 0x16 r s e
 option_bytes r s (SdEndpoint6 e) = ipv6_bytes 0x26 r s e
 option_bytes r s (Raw o) = number16 (length o.bytes) ++ o.kind ∷ o.bytes
 
--- the numbers of an endpoint fit their fields
+-- the numbers of an IPv4 endpoint fit their fields
 pub record Ipv4Fits (e : Ipv4Endpoint) : Type 0 where
   pub address : IsIpv4Addr (v4_ip e.socket)
   pub protocol : e.protocol.0 < 2 ^ 8
   pub port : v4_port e.socket < 2 ^ 16
 
+-- the numbers of an IPv6 endpoint fit their fields
 pub record Ipv6Fits (e : Ipv6Endpoint) : Type 0 where
   pub address : IsIpv6Addr e.address
   pub protocol : e.protocol.0 < 2 ^ 8
   pub port : e.port < 2 ^ 16
 
+-- a raw option fits its fields: its type has no layout, and its bytes are at least one, and no more than its length can
+-- say
 pub record RawFits (o : RawValue) : Type 0 where
   pub kind : o.kind < 2 ^ 8
   pub raw : IsRaw o.kind o.bytes
@@ -72,6 +75,7 @@ pub record Runs : Type 0 where
   pub count1 : ℕ
   pub count2 : ℕ
 
+-- the indexes of an entry's two runs, and how many options they have, fit their fields
 pub record RunsFit (r : Runs) : Type 0 where
   pub index1 : r.index1 < 2 ^ 8
   pub index2 : r.index2 < 2 ^ 8
@@ -102,7 +106,7 @@ entry_bytes reserved runs (Eventgroup e) =
     common_bytes (eventgroup_type e.kind) runs e.service e.instance e.major e.ttl
     ++ number16 (16 * reserved + e.counter) ++ number16 e.eventgroup
 
--- the numbers of an entry fit their fields
+-- the numbers of a service entry fit their fields
 pub record ServiceFits (e : ServiceEntry) : Type 0 where
   pub service : e.service < 2 ^ 16
   pub instance : e.instance < 2 ^ 16
@@ -110,6 +114,7 @@ pub record ServiceFits (e : ServiceEntry) : Type 0 where
   pub ttl : e.ttl < 2 ^ 24
   pub minor : e.minor < 2 ^ 32
 
+-- the numbers of an eventgroup entry fit their fields
 pub record EventgroupFits (e : EventgroupEntry) : Type 0 where
   pub service : e.service < 2 ^ 16
   pub instance : e.instance < 2 ^ 16
@@ -118,6 +123,7 @@ pub record EventgroupFits (e : EventgroupEntry) : Type 0 where
   pub counter : e.counter < 16
   pub eventgroup : e.eventgroup < 2 ^ 16
 
+-- the numbers of an entry fit their fields, but for those of its runs
 abbrev pub HeadFits : EntryHead → Type 0
 HeadFits (Service e) = ServiceFits e
 HeadFits (Eventgroup e) = EventgroupFits e

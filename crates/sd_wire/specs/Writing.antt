@@ -17,6 +17,7 @@ HoldsAt pool run index = selected pool index (length run) ≡ run
 abbrev pub IsLeast : List SdOption → List SdOption → ℕ → Type 0
 IsLeast pool run index = HoldsAt pool run index × ((i : ℕ) → i < index → HoldsAt pool run i → ⊥)
 
+-- the pool holds the run in one piece at no index
 abbrev pub IsNowhere : List SdOption → List SdOption → Type 0
 IsNowhere pool run = (i : ℕ) → HoldsAt pool run i → ⊥
 

@@ -6,7 +6,7 @@ use Rattle.someip_c_node.specs.declared.outcome.Outcome.{Outcome}
 use Rattle.someip_c_node.specs.declared.outcome.Outcome.TheVariants.{Done, Closed, Held, OutputsWait, NothingLeft, BufferTooSmall, NothingDue, NotText, NotToml, Missing, WrongKind, OutOfRange, UnknownKey, Clash, NoSuchNode, BadConfig, BadDelay, ClockPast, NotWanted, Failed, OutOfMemory, NotOffered, Busy, TooLong, UnknownToken, NotPending, BadErrorCode, UnknownEvent, NotSubscribed}
 use Rattle.someip_c_node.specs.Calls.{CNodeView}
 use Rattle.someip_c_node.specs.Outcomes.{number_of, outcome_of}
-use Rattle.someip_c_node.specs.Starts.{IsNotStarted, IsStarted}
+use Rattle.someip_c_node.specs.Starts.{IsNotStarted}
 use Rattle.someip_node_rules.specs.History.{History}
 use Rattle.someip_node_rules.specs.Steps.{StandsFor}
 use Rattle.someip_node_rules.specs.Waking.{IsNextDue}

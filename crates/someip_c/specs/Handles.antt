@@ -7,13 +7,11 @@ use Rattle.someip_rpc.specs.declared.call.CallKind.TheVariants.{Request, Request
 use Rattle.someip_rpc.specs.declared.request.Reply.{Reply}
 use Rattle.someip_rpc.specs.declared.request.Reply.TheVariants.{Error, Response}
 use Rattle.someip_node_rules.specs.History.{History}
-use Rattle.someip_node_rules.specs.Inputs.{Input}
 use Rattle.someip_node_rules.specs.Steps.{NodeView, StandsFor}
 use Rattle.someip_node_rules.specs.Waking.{IsNextDue, NothingIsDue}
 use Rattle.someip_c_node.specs.declared.outcome.Outcome.{Outcome}
-use Rattle.someip_c_node.specs.declared.outcome.Outcome.TheVariants.{Closed, Done, Held, NothingDue, OutOfMemory}
-use Rattle.someip_c_node.specs.declared.record.OutputRecord.{OutputRecord}
-use Rattle.someip_c_node.specs.Calls.{CNodeView, Calls, Takes}
+use Rattle.someip_c_node.specs.declared.outcome.Outcome.TheVariants.{Closed, Done, Held, NothingDue}
+use Rattle.someip_c_node.specs.Calls.{CNodeView}
 use Rattle.someip_c_node.specs.Outcomes.{number_of, outcome_of}
 use Rattle.someip_c_node.specs.Starts.{IsNotStarted, IsStarted}
 

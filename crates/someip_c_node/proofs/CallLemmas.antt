@@ -1,5 +1,5 @@
 -- From what a node gives to what its call comes to.
-use Rattle.std.proofs.Common.{◌≡◌, ◌∙◌, refl, sym, ap, subst, ℕ, List, [], ◌∷◌}
+use Rattle.std.proofs.Common.{◌≡◌, ◌∙◌, refl, sym, ap, subst, List, []}
 use Rattle.std.specs.Prelude.{◌≢◌, Result, Ok, Err}
 use Rattle.std.specs.Global.{Vec}
 use Rattle.someip_node_rules.specs.declared.error.NodeError.{NodeError}
@@ -8,7 +8,7 @@ use Rattle.someip_node_rules.specs.declared.output.Output.{Output}
 use Rattle.someip_node_rules.specs.History.{History}
 use Rattle.someip_node_rules.specs.Inputs.{Input}
 use Rattle.someip_node_rules.specs.Plans.{Work}
-use Rattle.someip_node_rules.specs.Steps.{GivesStep, NodeView, Reacts, StandsFor, StaysFailed, TakesNoMemory, step}
+use Rattle.someip_node_rules.specs.Steps.{GivesStep, NodeView, Reacts, StaysFailed, TakesNoMemory, step}
 use Rattle.someip_c_node.specs.declared.outcome.Outcome.{Outcome}
 use Rattle.someip_c_node.specs.declared.outcome.Outcome.TheVariants.{Done, Failed, OutOfMemory, OutputsWait}
 use Rattle.someip_c_node.specs.Calls.{CNodeView, Calls, ComesTo, Keeps, NeedsNoMemory}

@@ -1,5 +1,5 @@
 -- The configuration of a name, from the setup that was read.
-use Rattle.std.proofs.Common.{◌≡◌, ◌∙◌, refl, sym, ap, subst, ℕ, List, [], ◌∷◌}
+use Rattle.std.proofs.Common.{◌≡◌, ◌∙◌, sym, ap, subst, ℕ, List}
 use Rattle.std.specs.Prelude.{true, Option, None, Some, IsSomeAnd, Result, Ok, Err, IfOk, IfErr}
 use Rattle.someip_node_rules.specs.Copies.{IsCopy}
 use Rattle.someip_node_rules.specs.GoodConfigs.{is_good}

@@ -1,5 +1,5 @@
 -- A copy of a configuration has the same values, and is as good.
-use Rattle.std.proofs.Common.{◌≡◌, ◌∙◌, arith, refl, sym, ap, ℕ, List, [], ◌∷◌, length}
+use Rattle.std.proofs.Common.{◌≡◌, ◌∙◌, arith, refl, ap, ℕ, List, [], ◌∷◌, length}
 use Rattle.std.specs.Prelude.{Bool, not, ◌&&◌, ◌==◌, map}
 use Prim.Native.Nat.{suc}
 use Rattle.std.specs.List.{AllZip, list_all}

@@ -1,9 +1,9 @@
 -- The node of a name, among the nodes that were made of a setup.
-use Rattle.std.proofs.Common.{◌≡◌, arith, ◌∙◌, refl, sym, ap, subst, ℕ, List, [], ◌∷◌}
+use Rattle.std.proofs.Common.{◌≡◌, arith, refl, sym, ap, subst, ℕ, List, [], ◌∷◌}
 use Prim.Native.Nat.{suc}
 use Rattle.std.proofs.Math.Seq.{drop-cons}
 use Rattle.std.specs.List.{All, slice_index_or}
-use Rattle.std.specs.Prelude.{◌<◌, ◌+◌, drop, length, Bool, true, false, bytes_eq, string_bytes, map, if◌then◌else◌, Option, None, Some, IsSomeAnd}
+use Rattle.std.specs.Prelude.{◌<◌, drop, length, Bool, true, false, bytes_eq, string_bytes, map, if◌then◌else◌, Option, None, Some, IsSomeAnd}
 use Rattle.someip_node_rules.specs.declared.config.Common.{Common}
 use Rattle.someip_world_setup.specs.Made.{config_made, config_view, made_view, node_made}
 use Rattle.someip_world_setup.specs.Values.{NodeValue}

@@ -1,11 +1,11 @@
 -- What the calls of a node come to, whose outputs are taken one after the other.
-use Rattle.std.specs.Prelude.{◌≡◌, ◌≢◌, ◌≤◌, ◌<◌, ◌++◌, true, false, ℕ, List, [], ◌∷◌, length, drop, Option, None, Some, Result, Ok, Err}
+use Rattle.std.specs.Prelude.{◌≡◌, ◌≢◌, ◌≤◌, ◌<◌, ◌++◌, true, false, ℕ, List, [], ◌∷◌, length, drop, None, Result, Ok, Err}
 use Rattle.std.specs.Global.{Vec}
 use Rattle.someip_node_rules.specs.declared.error.NodeError.{NodeError}
 use Rattle.someip_node_rules.specs.declared.output.Output.{Output}
 use Rattle.someip_node_rules.specs.GoodConfigs.{is_good_delay}
 use Rattle.someip_node_rules.specs.History.{History, start_of}
-use Rattle.someip_node_rules.specs.Inputs.{Input, Tick}
+use Rattle.someip_node_rules.specs.Inputs.{Input}
 use Rattle.someip_node_rules.specs.Plans.{Work}
 use Rattle.someip_node_rules.specs.Steps.{NodeView, StandsFor, HasFailed, step}
 use Rattle.someip_c_node.specs.declared.outcome.Outcome.{Outcome}
@@ -68,16 +68,19 @@ abbrev pub TakesOf : List Output → CNodeView → OutputRecord → List ℕ →
 TakesOf [] old record' space outcome new told bytes = (outcome ≡ NothingLeft) × ((new ≡ old) × ((told ≡ record') × (bytes ≡ space)))
 TakesOf (output ∷ rest) old record' space outcome new told bytes = TakesFirst output rest old.node space outcome new told bytes
 
+-- taking an output of a node: the first that waits is taken where its bytes fit, and waits on where they do not;
+-- where none waits nothing changes
 abbrev pub Takes : CNodeView → OutputRecord → List ℕ → Outcome → CNodeView → OutputRecord → List ℕ → Type 0
 Takes old = TakesOf old.waiting old
 
 -- ---- restarts
 
+-- the node's life begins anew, or the delay is outside the range that the configuration gives, and nothing changes
 abbrev pub RestartsTo : ℕ → CNodeView → Outcome → CNodeView → Type 0
 RestartsTo delay old Done new = (is_good_delay old.node.config delay ≡ true) × ((new.waiting ≡ []) × StandsFor new.node (start_of old.node.config delay))
 RestartsTo delay old BadDelay new = (is_good_delay old.node.config delay ≡ false) × (new ≡ old)
 RestartsTo delay old outcome new = ⊥
 
--- its life begins anew, or the delay is outside the range that the configuration gives
+-- a restart of a node: while outputs wait it is refused, and else its life begins anew, if the delay is good
 abbrev pub Restarts : ℕ → CNodeView → Outcome → CNodeView → Type 0
 Restarts delay old outcome new = WaitsFirst old outcome new × (old.waiting ≡ [] → RestartsTo delay old outcome new)

@@ -1,5 +1,5 @@
 -- How calls end, and the numbers that tell it.
-use Rattle.std.specs.Prelude.{ℕ, List, [], ◌∷◌, Option, None, Some}
+use Rattle.std.specs.Prelude.{ℕ, List, [], ◌∷◌, Option}
 use Rattle.std.specs.List.{slice_get}
 use Rattle.someip_rpc.specs.declared.error.RpcError.TheVariants as rpc
 use Rattle.someip_node_rules.specs.declared.error.NodeError.{NodeError}

@@ -1,5 +1,5 @@
 -- The start of a node, by a setup's text and a name.
-use Rattle.std.specs.Prelude.{◌≡◌, ℕ, true, false, List, [], Option, None, Some, IsSomeAnd, IsUtf8}
+use Rattle.std.specs.Prelude.{◌≡◌, ℕ, true, false, List, [], IsSomeAnd, IsUtf8}
 use Rattle.someip_node_rules.specs.GoodConfigs.{is_good_delay, is_within}
 use Rattle.someip_node_rules.specs.History.{start_of}
 use Rattle.someip_node_rules.specs.Steps.{StandsFor}

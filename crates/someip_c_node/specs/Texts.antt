@@ -1,5 +1,5 @@
 -- The configuration of a node that a setup's text names.
-use Rattle.std.specs.Prelude.{◌≡◌, ℕ, true, false, bytes_eq, string_bytes, List, [], ◌∷◌, if◌then◌else◌, Option, None, Some, IsSomeAnd}
+use Rattle.std.specs.Prelude.{◌≡◌, ℕ, true, bytes_eq, string_bytes, List, [], ◌∷◌, if◌then◌else◌, Option, None, Some, IsSomeAnd}
 use Rattle.toml.specs.Data.{Data}
 use Rattle.someip_node_rules.specs.Copies.{IsCopy}
 use Rattle.someip_node_rules.specs.declared.config.Config.{Config}

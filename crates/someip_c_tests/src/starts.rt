@@ -4,7 +4,7 @@ use someip_c_node::{Outcome, started};
 use std::alloc::Global;
 use std::test::Fail;
 
-/// A setup of one node, `a`, whose first delay is from 10 to 100 milliseconds.
+/// A setup of one node, `a`, whose initial delay is from 10 to 100 milliseconds.
 pub(crate) const ONE: &[u8] =
     b"group = \"239.0.0.1\"\n[[node]]\nname = \"a\"\naddress = \"192.168.0.1\"\nclient_id = 1\nclient_port = 40000\n";
 

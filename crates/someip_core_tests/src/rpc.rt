@@ -9,7 +9,7 @@ use someip_rpc::{
 };
 use someip_tables::Moment;
 use someip_wire::{Header, Message, MessageType, ReturnCode};
-use std::alloc::Global;
+use std::alloc::{AllocError, Global};
 use std::collections::BTreeSet;
 use std::net::{Ipv4Addr, SocketAddrV4};
 
@@ -311,7 +311,7 @@ fn session_of_call(core: &mut ClientCore, kind: CallKind) -> Option<u16> {
 }
 
 /// Whether these calls are told, in this order.
-fn are_calls(ended: Result<BTreeSet<CallKey>, RpcError>, wanted: &[CallKey]) -> bool {
+fn are_calls(ended: Result<BTreeSet<CallKey>, AllocError>, wanted: &[CallKey]) -> bool {
     match ended {
         Ok(mut calls) => takes_all(&mut calls, wanted),
         Err(_) => false,

@@ -1,5 +1,5 @@
 -- A moment at which nothing is given brings nothing, and one that brings nothing gives nothing.
-use Rattle.std.proofs.Common.{◌≡◌, ◌≢◌, ℕ, ◌+◌, ◌<◌, ◌^◌, nat_lt, Bool, true, false, cond, if◌then◌else◌, ◌||◌, IsTrue, List, [], ◌∷◌, ◌++◌, map, length, take, drop, Option, None, Some, Result, Ok, Err, IfErr, IfSome, IfNone, refl, ap, sym, subst, ◌∙◌, arith}
+use Rattle.std.proofs.Common.{◌≡◌, ◌≢◌, ℕ, ◌+◌, ◌<◌, ◌^◌, nat_lt, Bool, true, false, cond, if◌then◌else◌, ◌||◌, List, [], ◌∷◌, ◌++◌, map, length, take, drop, Option, None, Some, Result, Ok, Err, IfErr, IfSome, IfNone, refl, ap, sym, subst, ◌∙◌, arith}
 use Rattle.std.proofs.lemmas.Bool.{ltb-true, ltb-false}
 use Rattle.std.specs.Option.{is_some, option_map_or}
 use Rattle.std.specs.List.{flat_map, list_any}
@@ -11,9 +11,7 @@ use Rattle.std.specs.FinMap.{FinMap, IsAntisymmetric, find, get-from_entries}
 use Rattle.std.specs.Map.{lookup}
 use Rattle.std.specs.BTreeMap.{is_at}
 use Rattle.someip_tables.specs.declared.lasting.Lasting.{Lasting}
-use Rattle.someip_tables.specs.Lastings.{expired}
 use Rattle.someip_tables.specs.Retained.{kept_if, retain}
-use Rattle.someip_tables.specs.Tables.{map_of}
 use Rattle.someip_tables.proofs.Entries.{own_test, same_by_test, get-retain}
 use Rattle.sd_wire.specs.Fronts.{front_lengths, fronts_of, lengths_of_fronts, longest_front}
 use Rattle.sd_wire.specs.Values.{EntryValue}
@@ -30,7 +28,6 @@ use Rattle.sd_core.specs.SeekTables.{KnowsWanted}
 use Rattle.sd_core.specs.Sendings.{due_at}
 use Rattle.sd_core.specs.Wishes.{begun_where, has_begun, wish_of}
 use Rattle.someip_node_rules.specs.Calls.{due_entries, find_of, lapsed, ticks, timed_out}
-use Rattle.someip_node_rules.specs.declared.output.Output.{Output}
 use Rattle.someip_node_rules.specs.declared.output.Output.TheVariants.{TimedOut}
 use Rattle.someip_node_rules.specs.declared.error.NodeError.{NodeError}
 use Rattle.someip_node_rules.specs.declared.error.NodeError.TheVariants.{ClockPast, OutOfMemory}
@@ -42,9 +39,8 @@ use Rattle.someip_node_rules.specs.Inputs.{Tick, tick_plan}
 use Rattle.someip_node_rules.specs.Lives.{has_its_offer}
 use Rattle.someip_node_rules.specs.OfferQuestions.{offering_at}
 use Rattle.someip_node_rules.specs.Outcomes.{endings, endings_of}
-use Rattle.someip_node_rules.specs.Outputs.{written}
 use Rattle.someip_node_engine.specs.Passings.{BringsFirstAfter, BringsNothing, NeverBrings}
-use Rattle.someip_node_rules.specs.Plans.{Announces, Plan, Work, act, does, each, rule, run}
+use Rattle.someip_node_rules.specs.Plans.{Announces, Work, does, each, rule, run}
 use Rattle.someip_node_rules.specs.Receivers.{message_plan_to, messages_plan_to}
 use Rattle.someip_node_rules.specs.SeekQuestions.{finding_at, known_offer_at}
 use Rattle.someip_node_rules.specs.Setups.{wanted_instances}

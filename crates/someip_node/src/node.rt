@@ -1,5 +1,5 @@
 //! A node: its tables, unless memory ran out.
-ghost use Rattle.std.specs.Prelude.{◌≡◌, OnOk, OnErr, IfOk, IfErr, IfSome, IfNone, Err, None, true, false};
+ghost use Rattle.std.specs.Prelude.{◌≡◌, OnOk, OnErr, IfOk, IfErr, IfSome, IfNone, Err, None, [], true, false};
 ghost use Rattle.someip_node.specs.Finishings.{given_or_error, is_fatal};
 ghost use Rattle.someip_node_rules.specs.GoodConfigs.{is_good, is_good_delay};
 ghost use Rattle.someip_node_rules.specs.History.{History, answers_of, start_of};
@@ -142,10 +142,7 @@ impl<R: Reassembly> Node<R> {
         ensures reacts { Reacts self.old (input.Datagram from to bytes.now) result self.new }
         ensures failed { StaysFailed self.old result self.new }
     {
-        if self.failed {
-            return Err(NodeError::Failed);
-        }
-        let mut giving = Giving::new(self.alloc);
+        let mut giving = begin(self.failed, self.alloc)?;
         let done = self.engine.take_datagram(from, to, bytes, &mut giving);
         finish(&mut self.failed, done, giving)
     }
@@ -161,10 +158,7 @@ impl<R: Reassembly> Node<R> {
         ensures quiet { TakesNoMemory self.old (input.Tick ms) result }
         ensures failed { StaysFailed self.old result self.new }
     {
-        if self.failed {
-            return Err(NodeError::Failed);
-        }
-        let mut giving = Giving::new(self.alloc);
+        let mut giving = begin(self.failed, self.alloc)?;
         let done = self.engine.take_tick(ms, &mut giving);
         finish(&mut self.failed, done, giving)
     }
@@ -207,10 +201,7 @@ impl<R: Reassembly> Node<R> {
             result self.new }
         ensures failed { StaysFailed self.old result self.new }
     {
-        if self.failed {
-            return Err(NodeError::Failed);
-        }
-        let mut giving = Giving::new(self.alloc);
+        let mut giving = begin(self.failed, self.alloc)?;
         let done = self
             .engine
             .call(kind, instance, method, payload, &mut giving);
@@ -232,10 +223,7 @@ impl<R: Reassembly> Node<R> {
         ensures reacts { Reacts self.old (input.Answer token reply payload.now) result self.new }
         ensures failed { StaysFailed self.old result self.new }
     {
-        if self.failed {
-            return Err(NodeError::Failed);
-        }
-        let mut giving = Giving::new(self.alloc);
+        let mut giving = begin(self.failed, self.alloc)?;
         let done = self.engine.answer(token, reply, payload, &mut giving);
         finish(&mut self.failed, done, giving)
     }
@@ -255,10 +243,7 @@ impl<R: Reassembly> Node<R> {
         ensures reacts { Reacts self.old (input.Publish instance event payload.now) result self.new }
         ensures failed { StaysFailed self.old result self.new }
     {
-        if self.failed {
-            return Err(NodeError::Failed);
-        }
-        let mut giving = Giving::new(self.alloc);
+        let mut giving = begin(self.failed, self.alloc)?;
         let done = self.engine.publish(instance, event, payload, &mut giving);
         finish(&mut self.failed, done, giving)
     }
@@ -281,10 +266,7 @@ impl<R: Reassembly> Node<R> {
             (input.PublishTo instance eventgroup endpoint event payload.now) result self.new }
         ensures failed { StaysFailed self.old result self.new }
     {
-        if self.failed {
-            return Err(NodeError::Failed);
-        }
-        let mut giving = Giving::new(self.alloc);
+        let mut giving = begin(self.failed, self.alloc)?;
         let done = self.engine.publish_to(
             instance,
             eventgroup,
@@ -305,10 +287,7 @@ impl<R: Reassembly> Node<R> {
         ensures reacts { Reacts self.old (input.Subscribe eventgroup) result self.new }
         ensures failed { StaysFailed self.old result self.new }
     {
-        if self.failed {
-            return Err(NodeError::Failed);
-        }
-        let mut giving = Giving::new(self.alloc);
+        let mut giving = begin(self.failed, self.alloc)?;
         let done = self.engine.subscribe_to(eventgroup, &mut giving);
         finish(&mut self.failed, done, giving)
     }
@@ -322,10 +301,7 @@ impl<R: Reassembly> Node<R> {
         ensures reacts { Reacts self.old (input.Unsubscribe eventgroup) result self.new }
         ensures failed { StaysFailed self.old result self.new }
     {
-        if self.failed {
-            return Err(NodeError::Failed);
-        }
-        let mut giving = Giving::new(self.alloc);
+        let mut giving = begin(self.failed, self.alloc)?;
         let done = self.engine.unsubscribe_from(eventgroup, &mut giving);
         finish(&mut self.failed, done, giving)
     }
@@ -339,13 +315,23 @@ impl<R: Reassembly> Node<R> {
         ensures reacts { Reacts self.old (input.StopOffer instance) result self.new }
         ensures failed { StaysFailed self.old result self.new }
     {
-        if self.failed {
-            return Err(NodeError::Failed);
-        }
-        let mut giving = Giving::new(self.alloc);
+        let mut giving = begin(self.failed, self.alloc)?;
         let done = self.engine.stop_offering(instance, &mut giving);
         finish(&mut self.failed, done, giving)
     }
+}
+
+/// Begins a call, which has given nothing yet. A node that failed takes none.
+fn begin(failed: bool, alloc: Global) -> Result<Giving, NodeError>
+    ensures works { OnOk result (failed ≡ false) }
+    ensures outputs { IfOk result (λ giving. giving.outputs.items ≡ []) }
+    ensures replies { IfOk result (λ giving. giving.replies.items ≡ []) }
+    ensures failed { IfErr result (λ error. (error ≡ fault.Failed) × (failed ≡ true)) }
+{
+    if failed {
+        return Err(NodeError::Failed);
+    }
+    Ok(Giving::new(alloc))
 }
 
 /// Ends a call: what it gives, or its error. Once memory ran out the node has failed.

@@ -1,10 +1,9 @@
 -- What a moment brings, as the rule of the clock says it.
-use Rattle.std.proofs.Common.{◌≡◌, ℕ, ◌+◌, List, [], ◌∷◌, ◌++◌, map, length, refl, sym, ap, ◌∙◌}
-use Rattle.std.proofs.Common.{Bool, true, false, IsTrue, IsFalse}
+use Rattle.std.proofs.Common.{◌≡◌, ℕ, ◌+◌, List, [], ◌∷◌, ◌++◌, map, refl, sym, ap, ◌∙◌}
+use Rattle.std.proofs.Common.{Bool, IsTrue, IsFalse}
 use Rattle.sd_wire.specs.Fronts.{front_lengths}
 use Rattle.someip_node_rules.specs.Entries.{fronts}
 use Rattle.std.proofs.lemmas.List.{append-nil}
-use Rattle.std.specs.FinMap as finite
 use Rattle.sd_core.specs.declared.keys.InstanceId.{InstanceId}
 use Rattle.someip_node_rules.specs.declared.config.Config.{Config}
 use Rattle.someip_node_rules.specs.Outcomes.{endings}
@@ -30,7 +29,6 @@ use Rattle.someip_node_rules.specs.Plans.{plain, run}
 use Rattle.someip_node_rules.specs.Receivers.{messages_plan_to}
 use Rattle.someip_node_engine.specs.Working.{told_all, working}
 use Rattle.someip_node_rules.specs.declared.output.Output.{Output}
-use Rattle.someip_node_rules.specs.declared.output.Output.TheVariants.{TimedOut}
 use Rattle.someip_node_engine.specs.declared.passed.Passed.{Passed}
 use Rattle.someip_node_rules.specs.Calls.{due_entries, lapsed, ticks, timed_out}
 use Rattle.someip_node_rules.specs.Items.{changed, Ticked}

@@ -1,5 +1,5 @@
 -- A rule was done: what it meets is in the tables, and what it gives is among the outputs.
-use Rattle.std.proofs.Common.{◌≡◌, List, [], ◌++◌, refl, sym, ap, ◌∙◌}
+use Rattle.std.proofs.Common.{◌≡◌, List, [], ◌++◌, refl}
 use Rattle.std.specs.List.{flat_map, fold}
 use Rattle.std.proofs.lemmas.List.{append-nil}
 use Rattle.sd_wire.specs.Values.{EntryValue}

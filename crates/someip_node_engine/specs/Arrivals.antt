@@ -1,11 +1,11 @@
 -- What is given of what the parts of a node say of a message.
-use Rattle.std.specs.Prelude.{ℕ, List, [], ◌∷◌, Option, None, Some, Result, Ok, Err}
+use Rattle.std.specs.Prelude.{ℕ, Bool, true, false, List, [], ◌∷◌, Option, None, Some, Result, Ok, Err}
 use Rattle.someip_wire.specs.declared.header.Header.{Header}
 use Rattle.someip_tp.specs.declared.error.TpError.{TpError}
 use Rattle.someip_tp.specs.declared.key.ReassemblyKey.{ReassemblyKey}
 use Rattle.someip_tp.specs.declared.reassembly.Offered.{Offered}
 use Rattle.someip_tp.specs.declared.reassembly.Offered.TheVariants.{Part, Whole}
-use Rattle.someip_tp.specs.Offers.{Offer, offer, parts_less}
+use Rattle.someip_tp.specs.SegmentOffers.{SegmentOffer, offer, parts_less}
 use Rattle.someip_tp.specs.Parts.{Parts}
 use Rattle.sd_core.specs.declared.keys.InstanceId.{InstanceId}
 use Rattle.someip_rpc.specs.declared.error.DropCause.{DropCause}
@@ -18,8 +18,23 @@ use Rattle.someip_node_rules.specs.declared.output.Output.TheVariants.{Answered,
 use Rattle.someip_node_engine.specs.declared.received_payload.ReceivedPayload.{ReceivedPayload}
 use Rattle.someip_node_engine.specs.declared.received_payload.ReceivedPayload.TheVariants.{Lent, Reassembled}
 use Rattle.someip_node_engine.specs.declared.segments.OfferedSegment.{OfferedSegment}
+use Rattle.someip_node_rules.specs.declared.target.Target.{Target}
+use Rattle.someip_node_rules.specs.declared.target.Target.TheVariants as target
 use Rattle.someip_node_rules.specs.Messages.{handed_up}
 use Rattle.someip_node_rules.specs.Outputs.{Given, Sends, Tells}
+
+-- ---- targets
+
+-- something is reached at a target
+abbrev pub is_reached : Target → Bool
+is_reached target.Nowhere = false
+is_reached _ = true
+
+-- messages of the application come to a target: to the client or to an instance
+abbrev pub is_of_application : Target → Bool
+is_of_application target.Client = true
+is_of_application (target.Instance instance) = true
+is_of_application _ = false
 
 -- the payload of a message that came
 abbrev pub payload_bytes : ReceivedPayload → List ℕ
@@ -49,7 +64,7 @@ given_of_event header payload None = Dropped NotSubscribed ∷ []
 -- ---- segments
 
 -- the offer of a segment to the store
-abbrev pub segment_offer : OfferedSegment → Offer
+abbrev pub segment_offer : OfferedSegment → SegmentOffer
 segment_offer s = offer s.key s.offset s.more s.bytes.now
 
 -- the parts once a segment was judged, and the message that it made whole was taken

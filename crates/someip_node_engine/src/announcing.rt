@@ -211,7 +211,8 @@ fn discovery_payload(alloc: Global, reboot: bool, entries: &[Entry]) -> Result<V
     let mut payload = Vec::new(alloc);
     match write_sd(&SdMessage { flags, entries }, &mut payload) {
         Err(SdError::OutOfMemory) => Err(AllocError),
-        // Entries with too many options have no bytes. A node sends none.
+        // Entries with too many options have no bytes. A node sends none of these: the law
+        // `what_is_given_fits` of someip_node_laws.
         _ => Ok(payload),
     }
 }

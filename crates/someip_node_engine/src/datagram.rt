@@ -1,8 +1,8 @@
 //! Datagrams that come.
-ghost use Rattle.std.specs.Prelude.{◌≡◌, OnOk};
+ghost use Rattle.std.specs.Prelude.{◌≡◌, true, OnOk};
 ghost use Rattle.someip_wire.specs.Reading.{items_of};
 ghost use Rattle.someip_wire.specs.View.{view, view_item};
-ghost use Rattle.someip_node_engine.specs.Arrivals.{payload_bytes};
+ghost use Rattle.someip_node_engine.specs.Arrivals.{is_of_application, is_reached, payload_bytes};
 ghost use Rattle.someip_node_rules.specs.Handling.{client_plan, datagram_plan, instance_target};
 ghost use Rattle.someip_node_rules.specs.Handling.{item_plan, items_plan, message_at_plan, message_plan};
 ghost use Rattle.someip_node_rules.specs.Handling.{own_target, target_of, target_plan, whole_plan};
@@ -133,6 +133,7 @@ impl<R: Reassembly> Engine<R> {
         bytes: &[u8],
         giving: &mut Giving,
     ) -> Result<(), AllocError>
+        requires reached { is_reached target ≡ true }
         ensures work { OnOk result (working self.new giving.new
             ≡ run plain (items_plan target from to (items_of bytes.now))
             (working self.old giving.old)) }
@@ -153,6 +154,7 @@ impl<R: Reassembly> Engine<R> {
         item: &Result<Message<'_>, WireError>,
         giving: &mut Giving,
     ) -> Result<(), AllocError>
+        requires reached { is_reached target ≡ true }
         ensures work { OnOk result (working self.new giving.new
             ≡ run plain (item_plan target from to (view_item item.now))
             (working self.old giving.old)) }
@@ -178,6 +180,7 @@ impl<R: Reassembly> Engine<R> {
         message: &Message<'_>,
         giving: &mut Giving,
     ) -> Result<(), AllocError>
+        requires reached { is_reached target ≡ true }
         ensures work { OnOk result (working self.new giving.new
             ≡ run plain (message_at_plan target from to (view message.now))
             (working self.old giving.old)) }
@@ -185,7 +188,10 @@ impl<R: Reassembly> Engine<R> {
     {
         match target {
             Target::Discovery(channel) => self.discovery_came(*from.ip(), channel, message, giving),
-            target => self.message(target, from, to, message, giving),
+            Target::Client | Target::Instance(_) => {
+                self.message(target, from, to, message, giving)
+            }
+            Target::Nowhere => unreachable!(),
         }
     }
 
@@ -198,6 +204,7 @@ impl<R: Reassembly> Engine<R> {
         message: &Message<'_>,
         giving: &mut Giving,
     ) -> Result<(), AllocError>
+        requires of_application { is_of_application target ≡ true }
         ensures work { OnOk result (working self.new giving.new
             ≡ run plain (message_plan target from to (view message.now))
             (working self.old giving.old)) }
@@ -220,6 +227,7 @@ impl<R: Reassembly> Engine<R> {
         payload: ReceivedPayload<'_>,
         giving: &mut Giving,
     ) -> Result<(), AllocError>
+        requires of_application { is_of_application target ≡ true }
         ensures work { OnOk result (working self.new giving.new
             ≡ run plain (whole_plan target from header.now (payload_bytes payload.entry))
             (working self.old giving.old)) }
@@ -230,7 +238,7 @@ impl<R: Reassembly> Engine<R> {
                 instance, from, header, payload, giving,
             ),
             Target::Client => self.to_client(from, header, payload, giving),
-            Target::Discovery(_) | Target::Nowhere => Ok(()),
+            Target::Discovery(_) | Target::Nowhere => unreachable!(),
         }
     }
 

@@ -51,7 +51,8 @@ impl<R: Reassembly> Engine<R> {
         }
     }
 
-    /// All that was learned from a peer ends, since it began again.
+    /// The known offers of a peer that began again end, the node's subscriptions at it, and those that it
+    /// made at the node. Calls and requests that wait stay, and so does what has come of messages.
     fn forget_peer(&mut self, peer: Ipv4Addr, outputs: &mut Vec<Output>) -> Result<(), AllocError>
         ensures tables { OnOk result (self.new ≡ changed self.old (PeerRebooted peer)) }
         ensures outputs { OnOk result (outputs.new.items

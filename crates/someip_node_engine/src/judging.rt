@@ -151,19 +151,17 @@ fn are_good_offers(config: &Config) -> bool
 }
 
 /// Whether a node may subscribe to an eventgroup so.
-fn is_good_group(eventgroup: u16, events: &BTreeSet<u16>) -> bool
-    ensures { result ≡ good.is_good_group (eventgroup, events.now) }
+fn is_good_eventgroup(eventgroup: u16, events: &BTreeSet<u16>) -> bool
+    ensures { result ≡ good.is_good_eventgroup (eventgroup, events.now) }
 {
     is_good_id(eventgroup) && are_good_events(events)
 }
 
 /// Whether a node may subscribe to eventgroups so.
-fn are_good_groups(groups: &BTreeMap<u16, BTreeSet<u16>>) -> bool
-    ensures { result ≡ list_all good.is_good_group groups.now.entries }
+fn are_good_eventgroups(groups: &BTreeMap<u16, BTreeSet<u16>>) -> bool
+    ensures { result ≡ list_all good.is_good_eventgroup groups.now.entries }
 {
-    groups
-        .iter()
-        .all(|(eventgroup, events)| is_good_group(*eventgroup, events))
+    groups.iter().all(|(eventgroup, events)| is_good_eventgroup(*eventgroup, events))
 }
 
 /// Whether a node may want an instance so.
@@ -173,7 +171,7 @@ fn is_good_want(instance: &InstanceId, want: &WantedService) -> bool
     is_good_instance(instance)
         && want.major <= 0xfe
         && want.ttl != Ttl::ZERO
-        && are_good_groups(&want.groups)
+        && are_good_eventgroups(&want.groups)
 }
 
 /// Whether a node may want its instances so.

@@ -1,10 +1,10 @@
 //! Segments that come.
 ghost use Rattle.std.specs.Prelude.{◌≡◌, ◌++◌, ◌%◌, true, is_ok, IfOk, OnOk, OnErr};
 ghost use Rattle.someip_tp.specs.Keys.{segment_key};
-ghost use Rattle.someip_tp.specs.Offers.{judgement, message_at, parts_after, parts_less};
+ghost use Rattle.someip_tp.specs.SegmentOffers.{judgement, message_at, parts_after, parts_less};
 ghost use Rattle.someip_tp.specs.Parts.{NoneAfter};
 ghost use Rattle.someip_tp.specs.TpHeader.{segment_in};
-ghost use Rattle.someip_node_engine.specs.Arrivals.{segment_offer, refused_as, parts_once_taken};
+ghost use Rattle.someip_node_engine.specs.Arrivals.{is_of_application, segment_offer, refused_as, parts_once_taken};
 ghost use Rattle.someip_node_rules.specs.Handling.{completed_plan, segment_plan};
 ghost use Rattle.someip_node_rules.specs.Messages.{completed, completed_by};
 ghost use Rattle.someip_node_rules.specs.Plans.{act, plain, run, TakesSegment};
@@ -44,6 +44,7 @@ impl<R: Reassembly> Engine<R> {
         payload: &[u8],
         giving: &mut Giving,
     ) -> Result<(), AllocError>
+        requires of_application { is_of_application target ≡ true }
         ensures work { OnOk result (working self.new giving.new
             ≡ run plain (segment_plan target from to header.now (segment_in payload.now))
             (working self.old giving.old)) }
@@ -100,6 +101,7 @@ impl<R: Reassembly> Engine<R> {
         whole: Option<Payload>,
         giving: &mut Giving,
     ) -> Result<(), AllocError>
+        requires of_application { is_of_application target ≡ true }
         ensures work { OnOk result (working self.new giving.new
             ≡ run plain (completed_plan target from header.now whole)
             (working self.old giving.old)) }

@@ -1,8 +1,6 @@
 //! The clock of a node.
 ghost use Rattle.std.specs.Prelude.{◌≡◌, ◌≢◌, ◌↔◌, ◌+◌, ◌++◌, map, IfErr, IfOk, IsTrue, OnErr, OnOk};
 ghost use Rattle.std.specs.List.{flat_map};
-ghost use Rattle.std.specs.FinMap as finite;
-ghost use Rattle.someip_tables.specs.Lastings.{expired, unexpired};
 ghost use Rattle.sd_wire.specs.Values.{view_entry};
 ghost use Rattle.someip_node_rules.specs.Calls.{find_of};
 ghost use Rattle.someip_node_engine.specs.Handled.{Handled};
@@ -27,10 +25,10 @@ use crate::passed::Passed;
 use sd_core::InstanceId;
 use sd_wire::Entry;
 use someip_node_rules::{NodeError, Output, Receiver};
-use someip_rpc::{CallKey, ClientCore};
+use someip_rpc::CallKey;
 use someip_tables::Moment;
 use someip_tp::Reassembly;
-use std::alloc::{AllocError, Global};
+use std::alloc::AllocError;
 use std::collections::BTreeSet;
 
 impl<R: Reassembly> Engine<R> {
@@ -93,7 +91,7 @@ impl<R: Reassembly> Engine<R> {
     {
         let phases = self.config.common.phases;
         let wanted = self.seeker.tick(now, phases)?;
-        let calls = end_calls(&mut self.client, now)?;
+        let calls = self.client.tick(now)?;
         let lapsed = self.subscriptions.tick(now, &wanted.ended)?;
         let offers = self.offers.tick(now, phases)?;
         self.subscribers.tick(now);
@@ -165,19 +163,6 @@ impl Passed {
             && self.lapsed.is_empty()
             && self.offers.is_empty()
             && self.finds.is_empty()
-    }
-}
-
-/// Ends the calls whose time has passed.
-fn end_calls(client: &mut ClientCore, now: Moment) -> Result<BTreeSet<CallKey>, AllocError>
-    ensures calls { IfOk result (λ calls. calls.keys ≡ finite.keys (expired now client.old.pending)) }
-    ensures ended { OnOk result (client.new
-        ≡ record client.old { pending = unexpired now client.old.pending }) }
-    ensures grows { OnErr result (expired now client.old.pending ≢ finite.empty) }
-{
-    match client.tick(now) {
-        Ok(calls) => Ok(calls),
-        Err(_) => Err(AllocError),
     }
 }
 

@@ -3,12 +3,10 @@ use Rattle.std.proofs.Common.{◌≡◌, inl, inr, ℕ, ◌<◌, ◌^◌, List, 
 use Rattle.std.specs.Prelude.{IfSome}
 use Rattle.std.specs.List.{AllByRecursion, Contains}
 use Rattle.std.specs.Option.{option_map_or}
-use Rattle.std.specs.Net.Addr.{IsIpv4Addr}
 use Rattle.std.specs.Net.Socket.{IsSocketAddrV4}
 use Rattle.std.specs.declared.net.socket_addr.SocketAddrV4.{SocketAddrV4}
 use Rattle.std.proofs.lemmas.Map.Views.{IfSome-get}
 use Rattle.sd_wire.specs.declared.entry.EventgroupEntry.{EventgroupEntry}
-use Rattle.sd_wire.specs.declared.endpoint.Ipv4Endpoint.{Ipv4Endpoint}
 use Rattle.sd_wire.specs.Fronts.{HasOneEndpointAtMost}
 use Rattle.sd_wire.specs.Spelling.{EventgroupFits, Ipv4Fits}
 use Rattle.sd_wire.specs.Splitting.{FitsDatagram}
@@ -24,14 +22,13 @@ use Rattle.someip_node_rules.specs.declared.config.Config.{Config}
 use Rattle.someip_node_rules.specs.declared.config.OfferedService.{OfferedService}
 use Rattle.someip_node_rules.specs.declared.config.WantedService.{WantedService}
 use Rattle.someip_node_rules.specs.Entries.{ack_entry, find_entry, offer_entry, subscribe_entry}
-use Rattle.someip_node_laws.specs.Fitting.{FitsConfig, FitsHistory, FitsItem, FitsOffer, FitsWant}
+use Rattle.someip_node_laws.specs.Fitting.{FitsConfig, FitsHistory, FitsOffer, FitsWant}
 use Rattle.someip_node_rules.specs.History.{History, answers_of}
 use Rattle.someip_node_rules.specs.Plans.{Rule, TakesFind, TakesOffer, TakesSubscribe}
 use Rattle.someip_node_rules.specs.Replies.{IsDue, IsFindOf, IsOfferOf, IsReply, IsSubscribeOf}
 use Rattle.someip_node_rules.specs.Setups.{client_endpoint, offered_as, wanted_as}
-use Rattle.someip_node_rules.specs.Tables.{Tables}
 use Rattle.someip_node_laws.proofs.FitItems.{FitsSubscribe, subscribes_fit}
-use Rattle.someip_node_rules.proofs.MemberLemmas.{all_weaker, at_member}
+use Rattle.someip_node_rules.proofs.MemberLemmas.{at_member}
 
 -- an entry fits its fields, and has no option or one endpoint
 abbrev pub FitsEntry : EntryValue → Type 0

@@ -1,5 +1,5 @@
 -- Numbers that are the last of their width, and the next ones.
-use Rattle.std.proofs.Common.{◌≡◌, ℕ, ◌+◌, ◌<◌, ◌^◌, true, List, [], ◌∷◌, arith, drop, Ok, refl, sym, subst}
+use Rattle.std.proofs.Common.{ℕ, ◌+◌, true, List, [], ◌∷◌, arith, drop, Ok, refl, sym, subst}
 use Rattle.std.specs.List.{Contains}
 use Rattle.std.specs.BTreeMap.{BTreeMap}
 use Rattle.std.specs.BTreeSet.{BTreeSet}
@@ -11,7 +11,6 @@ use Rattle.someip_wire.proofs.DatagramLemmas.{items_from-message}
 use Rattle.sd_wire.proofs.FieldLemmas.{IsBytes-literal}
 use Rattle.someip_node_laws.specs.Fitting.{FitsOffer, FitsPacket, FitsWire}
 use Rattle.someip_node_rules.specs.Outputs.{Announces}
-use Rattle.someip_node_rules.specs.Packets.{Packet, HasMessage}
 use Rattle.someip_node_laws.specs.WorkedExamples.{asking, instance, service}
 use Rattle.someip_node_laws.proofs.FitEntries.{front_none}
 use Rattle.someip_node_laws.proofs.FitPackets.{bytes_fit}

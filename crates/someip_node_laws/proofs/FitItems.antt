@@ -24,7 +24,6 @@ use Rattle.sd_core.specs.declared.wish.Stage.{Stage}
 use Rattle.sd_core.specs.declared.wish.Stage.TheVariants.{Begun, Unwished as NotWished, Waiting}
 use Rattle.sd_core.specs.declared.wish.Wish.{Wish}
 use Rattle.sd_core.specs.EventgroupOrder.{eventgroups_total, exact_eventgroups}
-use Rattle.sd_core.specs.Eventgroups.{eventgroup_cmp}
 use Rattle.sd_core.specs.Keys.{instance_cmp}
 use Rattle.sd_core.specs.Wishes.{begun_at, counter_in, is_over, is_renewed_by, is_with, sent_at_once, standing, stands_with, subscribe_of, subscribes, subscribing, wish_of}
 use Rattle.someip_rpc.specs.declared.ids.MessageId.{MessageId}

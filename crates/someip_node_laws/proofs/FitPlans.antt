@@ -1,7 +1,6 @@
 -- Each rule that an input brings about fits, and so does what it leaves.
-use Rattle.std.proofs.Common.{◌≡◌, ℕ, ◌+◌, arith, ◌<◌, ◌^◌, Bool, true, false, not, List, [], ◌∷◌, Option, None, Some, Result, Ok, Err, refl, sym, subst}
+use Rattle.std.proofs.Common.{◌≡◌, ℕ, ◌+◌, arith, ◌<◌, ◌^◌, Bool, true, not, List, [], ◌∷◌, Option, None, Some, Result, Ok, Err, refl, sym, subst}
 use Rattle.std.specs.List.{AllByRecursion, Contains}
-use Rattle.std.specs.Option.{option_map_or}
 use Rattle.std.specs.FinMap as finite
 use Rattle.std.proofs.lemmas.Bool.{cond_both}
 use Rattle.std.specs.Net.Socket.{v4_ip}
@@ -15,7 +14,7 @@ use Rattle.someip_wire.specs.Reading.{items_of}
 use Rattle.someip_wire.specs.Spelling.{Fits, MessageValue}
 use Rattle.someip_tp.specs.declared.error.TpError.{TpError}
 use Rattle.someip_tp.specs.Keys.{segment_key}
-use Rattle.someip_tp.specs.Offers.{Offer, offer}
+use Rattle.someip_tp.specs.SegmentOffers.{offer}
 use Rattle.someip_tp.specs.TpHeader.{segment_in}
 use Rattle.sd_wire.specs.declared.entry.EntryHead.{EntryHead}
 use Rattle.sd_wire.specs.declared.entry.EntryHead.TheVariants.{Service, Eventgroup}
@@ -52,7 +51,7 @@ use Rattle.someip_node_rules.specs.Outputs.{Given}
 use Rattle.someip_node_rules.specs.Inputs.{Input, Datagram, Tick, Call, Answer, Publish, PublishTo, Subscribe, Unsubscribe, StopOffer, peer_plan, plan_of, stop_subscribe_plan}
 use Rattle.someip_node_rules.specs.Items.{Item}
 use Rattle.someip_node_rules.specs.Messages as messages
-use Rattle.someip_node_rules.specs.Packets.{Packet, HasDiscovery, HasEntry, HasMessage}
+use Rattle.someip_node_rules.specs.Packets.{Packet, HasDiscovery, HasMessage}
 use Rattle.someip_node_rules.specs.Plans.{Plan, Rule, Work, does, each, rule, run}
 use Rattle.someip_node_rules.specs.Receivers.{message_plan_to, messages_plan_to}
 use Rattle.someip_node_rules.specs.Replies.{IsDue, IsReply}

@@ -1,13 +1,11 @@
 -- What a rule gives and meets fits, where what it is about does.
-use Rattle.std.proofs.Common.{◌≡◌, ◌≢◌, inl, inr, ℕ, zero, suc, ◌+◌, ◌<◌, ◌^◌, Bool, true, false, cond, not, eqb, ◌&&◌, List, [], ◌∷◌, length, arith, Option, None, Some, refl, sym, ap, subst, ◌∙◌}
+use Rattle.std.proofs.Common.{◌≡◌, ◌≢◌, ℕ, zero, suc, ◌+◌, ◌<◌, ◌^◌, Bool, true, false, cond, not, eqb, ◌&&◌, List, [], length, arith, Option, None, Some, refl, sym, subst, ◌∙◌}
 use Rattle.std.specs.Prelude.{IsFalse}
 use Rattle.std.specs.List.{AllByRecursion, flat_map}
 use Rattle.std.specs.Option.{option_map_or}
-use Rattle.std.specs.FinMap as finite
 use Rattle.std.proofs.lemmas.Bool.{eqb-false, eqb-true}
 use Rattle.std.specs.declared.net.socket_addr.SocketAddrV4.{SocketAddrV4}
 use Rattle.someip_wire.specs.declared.header.Header.{Header}
-use Rattle.someip_wire.specs.declared.header.MessageType.{MessageType}
 use Rattle.someip_wire.specs.declared.header.MessageType.TheVariants as kinds
 use Rattle.someip_wire.specs.Spelling.{Fits, MessageValue}
 use Rattle.sd_wire.specs.Spelling.{EventgroupFits}
@@ -32,7 +30,7 @@ use Rattle.someip_node_rules.specs.declared.config.WantedService.{WantedService}
 use Rattle.someip_node_rules.specs.CallQuestions.{times_published}
 use Rattle.someip_node_rules.specs.Calls.{call_of, session_of}
 use Rattle.someip_node_rules.specs.DiscoveryQuestions.{group_addressed, messages_to}
-use Rattle.someip_node_laws.specs.Fitting.{FitsConfig, FitsHistory, FitsItem, FitsPayload, FitsWire}
+use Rattle.someip_node_laws.specs.Fitting.{FitsHistory, FitsItem, FitsPayload, FitsWire}
 use Rattle.someip_node_rules.specs.Handling.{is_discovery, is_notification}
 use Rattle.someip_node_rules.specs.History.{History, answers_of}
 use Rattle.someip_node_rules.specs.Items as items
@@ -44,7 +42,7 @@ use Rattle.someip_node_rules.specs.Outputs.{Given}
 use Rattle.someip_node_rules.specs.Plans.{Rule, Announces, Answers, Calls, Publishes, PublishesTo, RepliesTo, TakesRequest, TakesSubscribe, Wishes, rule}
 use Rattle.someip_node_rules.specs.Sending.{IsAnnounced, IsAnswerTo, IsCallTo, IsErrorTo, IsEventTo, IsSent}
 use Rattle.someip_node_rules.specs.Setups.{wanted_as}
-use Rattle.someip_node_rules.specs.Tables.{Tables, waiting_calls}
+use Rattle.someip_node_rules.specs.Tables.{waiting_calls}
 use Rattle.someip_node_laws.proofs.FitEntries.{FitsFront, offer_fits, want_fits}
 use Rattle.someip_node_laws.proofs.FitItems.{after_last_fits, free_fits, request_fits, session_after_fits}
 use Rattle.someip_node_rules.proofs.MeetingLemmas.{rule_noted}

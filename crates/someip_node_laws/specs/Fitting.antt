@@ -1,10 +1,9 @@
 -- Which numbers fit the fields of messages: those that a node is set up with, those that it takes and those that it met, and
 -- what it gives.
-use Rattle.std.specs.Prelude.{◌≡◌, ◌≢◌, ◌+◌, ◌<◌, ◌^◌, ℕ, IsFalse, List, [], length}
+use Rattle.std.specs.Prelude.{◌≢◌, ◌+◌, ◌<◌, ◌^◌, ℕ, IsFalse, List, [], length}
 use Rattle.std.specs.List.{AllByRecursion}
 use Rattle.std.specs.Net.Addr.{IsIpv4Addr}
 use Rattle.std.specs.Net.Socket.{IsSocketAddrV4}
-use Rattle.someip_wire.specs.declared.header.Header.{Header}
 use Rattle.someip_wire.specs.declared.header.MessageType.TheVariants as kinds
 use Rattle.someip_wire.specs.Spelling.{Fits, MessageValue}
 use Rattle.sd_wire.specs.declared.entry.EntryHead.{EntryHead}

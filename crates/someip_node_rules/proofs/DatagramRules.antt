@@ -14,7 +14,7 @@ use Rattle.someip_wire.specs.Reading.{items_of}
 use Rattle.someip_wire.specs.Spelling.{MessageValue}
 use Rattle.someip_tp.specs.declared.error.TpError.{TpError}
 use Rattle.someip_tp.specs.Keys.{segment_key}
-use Rattle.someip_tp.specs.Offers.{Offer, offer}
+use Rattle.someip_tp.specs.SegmentOffers.{SegmentOffer, offer}
 use Rattle.someip_tp.specs.TpHeader.{segment_in}
 use Rattle.sd_wire.specs.declared.entry.EntryHead.{EntryHead}
 use Rattle.sd_wire.specs.declared.entry.EntryHead.TheVariants.{Service, Eventgroup}
@@ -76,7 +76,7 @@ module _ (h : History) (p : Packet) where
   whole_allowed (Discovery channel) at header payload ds w came = tt
   whole_allowed Nowhere at header payload ds w came = tt
 
-  completed_allowed : (goal : Target) → target_of h.config p.to ≡ goal → (m : MessageValue) (o : Offer)
+  completed_allowed : (goal : Target) → target_of h.config p.to ≡ goal → (m : MessageValue) (o : SegmentOffer)
       → HasSegment p (record m.header { kind = without_tp_flag m.header.kind }) o → (ds : List Done) (before : Work History)
       → (whole : Option (List ℕ)) → messages.completed o (answers_of before.state) ≡ whole
       → Allowed (ds ++ record { by = TakesSegment o; before = before } ∷ []) (completed_plan goal p.from m.header whole) (does historic (messages.segment o) before)
@@ -91,7 +91,7 @@ module _ (h : History) (p : Packet) where
       → Allowed ds (segment_plan goal p.from p.to m.header read) w
   segment_allowed goal at m stands flagged (Err fault) is ds w = tt
   segment_allowed goal at m stands flagged (Ok r) is ds w =
-      let o : Offer = offer (segment_key p.from p.to m.header) r.0 r.1 r.2 in
+      let o : SegmentOffer = offer (segment_key p.from p.to m.header) r.0 r.1 r.2 in
       let s : HasSegment p (record m.header { kind = without_tp_flag m.header.kind }) o = record { message = m; stands = stands; flagged = flagged; whole = refl; read = r; reads = is; offered = refl } in
       ((record m.header { kind = without_tp_flag m.header.kind }, s), λ _. completed_allowed goal at m o s ds w (messages.completed o (answers_of w.state)) refl)
 

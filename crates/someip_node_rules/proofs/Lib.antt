@@ -20,3 +20,5 @@ pub mod MeaningLemmas
 pub mod MeetingLemmas
 pub mod KeyCounts
 pub mod SubscriberLimitLemmas
+pub mod HexTexts
+pub mod OutputTexts

@@ -14,7 +14,7 @@ use Rattle.someip_tables.specs.Lastings.{expired}
 use Rattle.someip_tp.specs.declared.error.TpError.{TpError}
 use Rattle.someip_tp.specs.declared.reassembly.Offered.{Offered}
 use Rattle.someip_tp.specs.declared.reassembly.Offered.TheVariants.{Part, Whole}
-use Rattle.someip_tp.specs.Offers.{Offer}
+use Rattle.someip_tp.specs.SegmentOffers.{SegmentOffer}
 use Rattle.someip_tp.specs.Sent.{PieceValue, sent}
 use Rattle.sd_wire.specs.declared.entry.EventgroupEntry.{EventgroupEntry}
 use Rattle.sd_session.specs.declared.peers.Seen.{Seen}
@@ -93,7 +93,7 @@ module _ (t : Tables) where
   abbrev Meant : Rule → Outcome → Type 0
   Meant r o = AllByRecursion (λ given. Means given r t) o.given
 
-  segment_meant : (o : Offer) (result : Result Offered TpError) → Meant (TakesSegment o) (segment_by o result)
+  segment_meant : (o : SegmentOffer) (result : Result Offered TpError) → Meant (TakesSegment o) (segment_by o result)
   segment_meant o (Ok Part) = tt
   segment_meant o (Ok Whole) = tt
   segment_meant o (Err refusal) = (tt, tt)

@@ -12,7 +12,7 @@ use Rattle.someip_wire.specs.declared.header.MessageType.TheVariants as kinds
 use Rattle.someip_tp.specs.declared.error.TpError.{TpError}
 use Rattle.someip_tp.specs.declared.reassembly.Offered.{Offered}
 use Rattle.someip_tp.specs.declared.reassembly.Offered.TheVariants.{Part, Whole}
-use Rattle.someip_tp.specs.Offers.{Offer, judgement}
+use Rattle.someip_tp.specs.SegmentOffers.{SegmentOffer, judgement}
 use Rattle.sd_wire.specs.declared.entry.EventgroupEntry.{EventgroupEntry}
 use Rattle.sd_session.specs.declared.peers.Seen.{Seen}
 use Rattle.sd_session.specs.declared.peers.Seen.TheVariants.{Same}
@@ -60,7 +60,7 @@ module _ (t : Tables) where
   abbrev pub Noted : Rule → Outcome → Type 0
   Noted r o = AllByRecursion (λ item. IsMet item r t) o.items
 
-  segment_noted : (o : Offer) (result : Result Offered TpError) → judgement (limits_of t.config) t.clock o t.parts ≡ result → Noted (TakesSegment o) (segment_by o result)
+  segment_noted : (o : SegmentOffer) (result : Result Offered TpError) → judgement (limits_of t.config) t.clock o t.parts ≡ result → Noted (TakesSegment o) (segment_by o result)
   segment_noted o (Ok Part) is = (refl, tt)
   segment_noted o (Ok Whole) is = (refl, ((o, refl, is, refl), tt))
   segment_noted o (Err refusal) is = (refl, tt)

@@ -11,7 +11,7 @@ use Rattle.someip_wire.specs.declared.header.MessageType.TheVariants as kinds
 use Rattle.someip_tp.specs.declared.error.TpError.{TpError}
 use Rattle.someip_tp.specs.declared.reassembly.Offered.{Offered}
 use Rattle.someip_tp.specs.declared.reassembly.Offered.TheVariants.{Part, Whole}
-use Rattle.someip_tp.specs.Offers.{Offer}
+use Rattle.someip_tp.specs.SegmentOffers.{SegmentOffer}
 use Rattle.sd_wire.specs.Fronts.{front_lengths}
 use Rattle.sd_wire.specs.Values.{EntryValue}
 use Rattle.sd_session.specs.declared.peers.Seen.{Seen}
@@ -54,7 +54,7 @@ module _ (P : EntryValue → Type 0) where
   abbrev Replies : Outcome → Type 0
   Replies o = AllByRecursion P o.replies
 
-  pub segment_replies : (o : Offer) (r : Result Offered TpError) → Replies (segment_by o r)
+  pub segment_replies : (o : SegmentOffer) (r : Result Offered TpError) → Replies (segment_by o r)
   segment_replies o (Ok Part) = tt
   segment_replies o (Ok Whole) = tt
   segment_replies o (Err refusal) = tt

@@ -36,9 +36,8 @@ use Rattle.someip_node_rules.specs.Items.{Item, PeerRebooted, OfferStopped, Subs
 use Rattle.someip_node_rules.specs.Learning.{eventgroup_in}
 use Rattle.someip_node_rules.specs.Lives.{is_live}
 use Rattle.someip_node_rules.specs.Meetings.{IsMet}
-use Rattle.someip_node_rules.specs.Plans.{Plan, rest, act, both, asks, replying, Rule, TakesSubscribe, Work, does, plain, rule, run}
+use Rattle.someip_node_rules.specs.Plans.{Plan, rest, act, both, asks, replying, Rule, TakesSubscribe, Work, plain, rule, run}
 use Rattle.someip_node_rules.specs.Setups.{offered_as}
-use Rattle.someip_node_rules.specs.Starts.{started_tables}
 use Rattle.someip_node_rules.specs.Steps.{unless_refused, work_on}
 use Rattle.someip_node_rules.specs.SubscriberLimits.{AreWithinLimits, most_subscribers}
 use Rattle.someip_node_rules.specs.SubscriberQuestions.{subscribers_in}

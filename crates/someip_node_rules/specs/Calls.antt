@@ -1,12 +1,11 @@
 -- The rules of what the application asks of a node, and of its clock (SOME/IP Protocol, "Request/Response Communication",
 -- "Notification Events"; SOME/IP Service Discovery Protocol, "Startup behavior", "Publish/Subscribe").
-use Rattle.std.specs.Prelude.{ℕ, zero, suc, ◌+◌, ◌==◌, nat_lt, Bool, false, not, if◌then◌else◌, List, [], ◌∷◌, ◌++◌, length, map, Option, None, Some}
+use Rattle.std.specs.Prelude.{ℕ, zero, suc, ◌+◌, nat_lt, if◌then◌else◌, List, [], ◌∷◌, ◌++◌, length, map, Option, None, Some}
 use Rattle.std.specs.List.{flat_map, list_any}
 use Rattle.std.specs.Option.{option_map, option_map_or, option_and_then}
 use Rattle.std.specs.Ordering.{eq_by_cmp, nat_cmp}
 use Rattle.std.specs.FinMap as finite
 use Rattle.std.specs.BTreeMap as tree
-use Rattle.std.specs.BTreeSet.{BTreeSet}
 use Rattle.std.specs.declared.net.ipv4_addr.Ipv4Addr.{Ipv4Addr}
 use Rattle.std.specs.declared.net.socket_addr.SocketAddrV4.{SocketAddrV4}
 use Rattle.someip_wire.specs.Spelling.{MessageValue}
@@ -24,7 +23,6 @@ use Rattle.someip_rpc.specs.declared.call.Call.{Call}
 use Rattle.someip_rpc.specs.declared.call.CallKind.{CallKind}
 use Rattle.someip_rpc.specs.declared.error.RpcError.{RpcError}
 use Rattle.someip_rpc.specs.declared.error.RpcError.TheVariants.{NotOffered}
-use Rattle.someip_rpc.specs.declared.ids.CallKey.{CallKey}
 use Rattle.someip_rpc.specs.declared.ids.MessageId.{MessageId}
 use Rattle.someip_rpc.specs.declared.publication.Subscriber.{Subscriber}
 use Rattle.someip_rpc.specs.declared.request.Asked.{Asked}
@@ -36,7 +34,6 @@ use Rattle.someip_rpc.specs.Servers.{answer_refusal, code_of_reply, kind_of_repl
 use Rattle.someip_rpc.specs.Sessions.{next_of, next_session}
 use Rattle.someip_node_rules.specs.declared.config.Config.{Config}
 use Rattle.someip_node_rules.specs.declared.config.OfferedService.{OfferedService}
-use Rattle.someip_node_rules.specs.declared.config.WantedService.{WantedService}
 use Rattle.someip_node_rules.specs.declared.error.NodeError.{NodeError}
 use Rattle.someip_node_rules.specs.declared.error.NodeError.TheVariants.{ClockPast, NotWanted, Rpc}
 use Rattle.someip_node_rules.specs.declared.output.Output.{Output}
@@ -45,7 +42,7 @@ use Rattle.someip_node_rules.specs.Entries.{find_entry, offer_entry, subscribe_e
 use Rattle.someip_node_rules.specs.Items.{Answered, Called, GroupAddressed, OfferStopped, PeerAddressed, Published, Ticked, Unwished, Wished}
 use Rattle.someip_node_rules.specs.Learning.{subscribe_to}
 use Rattle.someip_node_rules.specs.Outcomes.{Outcome, endings, meets, nothing}
-use Rattle.someip_node_rules.specs.Outputs.{Given, Announces, Sends, Tells}
+use Rattle.someip_node_rules.specs.Outputs.{Announces, Sends, Tells}
 use Rattle.someip_node_rules.specs.Setups.{client_endpoint, client_rules, discovery_endpoint, discovery_port, group_endpoint, is_wanted_eventgroup, offered_as, wanted_as, wanted_instances}
 use Rattle.someip_node_rules.specs.Subscribing.{offer_of}
 use Rattle.someip_node_rules.specs.Tables.{Tables, is_up, known_endpoint, known_peer, live_subscribers, passed_instances, stamp_for, waiting_calls}
@@ -124,6 +121,7 @@ first_free pending message session = first_free_of (finite.len pending) pending 
 abbrev pub session_of : Call → Tables → ℕ
 session_of call t = first_free (waiting_calls t) call.message (next_of t.client.sessions call.message)
 
+-- a refusal of a call, an answer or a publication, as the node tells it
 abbrev pub as_node_error : Option RpcError → Option NodeError
 as_node_error = option_map Rpc
 
@@ -132,9 +130,11 @@ abbrev pub call_refusal_of : CallKind → InstanceId → ℕ → Tables → Opti
 call_refusal_of kind instance size t =
     as_node_error (call_refusal (client_rules t.config) kind size (known_endpoint t instance) (waiting_calls t))
 
+-- why a call with a payload is refused, if it is
 abbrev pub calling_refusal : CallKind → InstanceId → List ℕ → Tables → Option NodeError
 calling_refusal kind instance payload t = call_refusal_of kind instance (length payload) t
 
+-- a call at an endpoint, with the next session that does not wait: it tells that session, and then its message goes out
 abbrev pub calls_at : Call → List ℕ → SocketAddrV4 → Tables → Outcome
 calls_at call payload peer t = record {
   items = Called call peer (session_of call t) ∷ [];
@@ -151,10 +151,12 @@ calls kind instance method payload t =
 
 -- ---- answers
 
+-- why the answer to the request of a token is refused, if it is
 abbrev pub answering_refusal : ℕ → Reply → List ℕ → Tables → Option NodeError
 answering_refusal token reply payload t =
     as_node_error (answer_refusal t.config.common.message_limit reply (length payload) (finite.get t.server.requests token))
 
+-- the request of a token is answered: the message goes from the instance's endpoint to the one that asked
 abbrev pub answers_request : ℕ → Reply → List ℕ → Asked → Outcome
 answers_request token reply payload request = record {
   items = Answered token ∷ [];
@@ -163,7 +165,7 @@ answers_request token reply payload request = record {
   replies = [];
 }
 
--- a request is answered
+-- the request of a token is answered, if it waits
 abbrev pub answers : ℕ → Reply → List ℕ → Tables → Outcome
 answers token reply payload t = option_map_or (answers_request token reply payload) (finite.get t.server.requests token) nothing
 
@@ -180,11 +182,13 @@ event_message service event payload t = record {
 abbrev pub eventgroups_of : OfferedService → ℕ → List ℕ
 eventgroups_of service event = option_map_or (λ groups. groups.keys) (tree.get nat_cmp service.rules.events event) []
 
+-- why a publication is refused, if it is
 abbrev pub publishing_refusal : InstanceId → ℕ → List ℕ → Tables → Option NodeError
 publishing_refusal instance event payload t =
     option_map_or (λ service. as_node_error (publish_refusal service.rules (is_up t instance) t.config.common.message_limit event (length payload)))
     (offered_as t.config instance) (Some (Rpc NotOffered))
 
+-- an event of an instance with this set-up goes to each live endpoint of its eventgroups once, with its next session
 abbrev pub publishes_by : InstanceId → OfferedService → ℕ → List ℕ → Tables → Outcome
 publishes_by instance service event payload t = record {
   items = Published (event_of service.rules event) ∷ [];
@@ -207,12 +211,14 @@ subscriber_at instance eventgroup endpoint t = record {
   is_live = list_any (eq_by_cmp endpoint_cmp endpoint) (endpoints_of instance (eventgroup ∷ []) (live_subscribers t));
 }
 
+-- why a publication to one endpoint is refused, if it is
 abbrev pub publishing_to_refusal : InstanceId → ℕ → SocketAddrV4 → ℕ → List ℕ → Tables → Option NodeError
 publishing_to_refusal instance eventgroup endpoint event payload t =
     option_map_or (λ service. as_node_error (publish_to_refusal service.rules (is_up t instance) t.config.common.message_limit
     (subscriber_at instance eventgroup endpoint t) event (length payload)))
     (offered_as t.config instance) (Some (Rpc NotOffered))
 
+-- an event of an instance with this set-up goes to one endpoint, with its next session
 abbrev pub publishes_to_by : OfferedService → SocketAddrV4 → ℕ → List ℕ → Tables → Outcome
 publishes_to_by service endpoint event payload t = record {
   items = Published (event_of service.rules event) ∷ [];
@@ -227,6 +233,7 @@ publishes_to instance endpoint event payload t =
 
 -- ---- wishes
 
+-- why a wish is refused, or taking it back: the node does not want the eventgroup
 abbrev pub wishing_refusal : Eventgroup → Tables → Option NodeError
 wishing_refusal eventgroup t = if is_wanted_eventgroup t.config eventgroup then None else Some NotWanted
 
@@ -259,6 +266,7 @@ takes_back eventgroup (Some beginning) t = meets (Unwished eventgroup ∷ []) (U
 
 -- ---- offers
 
+-- why stopping an offer is refused: the instance is down, or the node does not offer it
 abbrev pub stopping_refusal : InstanceId → Tables → Option NodeError
 stopping_refusal instance t = if is_up t instance then None else Some (Rpc NotOffered)
 

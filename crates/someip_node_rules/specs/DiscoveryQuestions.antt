@@ -6,7 +6,7 @@ use Rattle.std.specs.FinMap as finite
 use Rattle.std.specs.FinMap.{FinMap}
 use Rattle.std.specs.declared.net.ipv4_addr.Ipv4Addr.{Ipv4Addr}
 use Rattle.someip_tables.specs.Endpoints.{address_cmp}
-use Rattle.someip_tp.specs.Offers.{parts_after, parts_less}
+use Rattle.someip_tp.specs.SegmentOffers.{parts_after, parts_less}
 use Rattle.someip_tp.specs.Parts.{Limits, Parts, parts_at}
 use Rattle.sd_session.specs.declared.peers.Stamps.{Stamps}
 use Rattle.sd_session.specs.declared.stamp.Stamp.{Stamp}

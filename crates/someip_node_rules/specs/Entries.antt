@@ -8,7 +8,6 @@ use Rattle.someip_wire.specs.Spelling.{MessageValue}
 use Rattle.sd_wire.specs.declared.entry.EntryHead.TheVariants.{Service, Eventgroup as OfEventgroup}
 use Rattle.sd_wire.specs.declared.entry.EventgroupEntry.{EventgroupEntry}
 use Rattle.sd_wire.specs.declared.entry.EventgroupKind.TheVariants.{Subscribe, Ack}
-use Rattle.sd_wire.specs.declared.entry.ServiceEntry.{ServiceEntry}
 use Rattle.sd_wire.specs.declared.entry.ServiceKind.TheVariants.{Find, Offer}
 use Rattle.sd_wire.specs.declared.option.SdOption.{SdOption}
 use Rattle.sd_wire.specs.declared.option.SdOption.TheVariants.{Endpoint4}

@@ -1,5 +1,5 @@
 -- Which values a node may be set up with.
-use Rattle.std.specs.Prelude.{ℕ, ◌==◌, nat_le, Bool, not, ◌&&◌, List, length}
+use Rattle.std.specs.Prelude.{ℕ, ◌==◌, nat_le, Bool, not, ◌&&◌, length}
 use Rattle.std.specs.List.{list_all, list_any}
 use Rattle.std.specs.BTreeSet.{BTreeSet, contains}
 use Rattle.std.specs.Ordering.{nat_cmp}
@@ -64,12 +64,12 @@ is_good_offer config offer =
     && list_all has_good_eventgroups offer.1.rules.events.entries && is_within 1 1024 offer.1.subscribers
 
 -- an eventgroup that a node may subscribe to
-abbrev pub is_good_group : ℕ × BTreeSet ℕ → Bool
-is_good_group group = is_good_id group.0 && list_all is_good_event group.1.keys
+abbrev pub is_good_eventgroup : ℕ × BTreeSet ℕ → Bool
+is_good_eventgroup eventgroup = is_good_id eventgroup.0 && list_all is_good_event eventgroup.1.keys
 
 -- an instance that it wants
 abbrev pub is_good_want : InstanceId × WantedService → Bool
-is_good_want want = is_good_instance want.0 && nat_le want.1.major 0xFE && not (want.1.ttl == 0) && list_all is_good_group want.1.groups.entries
+is_good_want want = is_good_instance want.0 && nat_le want.1.major 0xFE && not (want.1.ttl == 0) && list_all is_good_eventgroup want.1.groups.entries
 
 -- no two instances have one port
 abbrev pub has_own_ports : Config → Bool

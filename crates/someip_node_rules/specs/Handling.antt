@@ -1,5 +1,5 @@
 -- What a node does with a datagram: message by message, and entry by entry.
-use Rattle.std.specs.Prelude.{ℕ, ◌==◌, Bool, true, false, ◌&&◌, not, if◌then◌else◌, List, [], Option, None, Some, Result, Ok, Err}
+use Rattle.std.specs.Prelude.{ℕ, ◌==◌, Bool, true, false, ◌&&◌, not, if◌then◌else◌, List, Option, None, Some, Result, Ok, Err}
 use Rattle.std.specs.Ordering.{eq_by_cmp}
 use Rattle.std.specs.declared.net.ipv4_addr.Ipv4Addr.{Ipv4Addr}
 use Rattle.std.specs.declared.net.socket_addr.SocketAddrV4.{SocketAddrV4}
@@ -14,7 +14,7 @@ use Rattle.someip_wire.specs.Spelling.{MessageValue}
 use Rattle.someip_tables.specs.Endpoints.{address_cmp}
 use Rattle.someip_tp.specs.declared.error.TpError.{TpError}
 use Rattle.someip_tp.specs.Keys.{segment_key}
-use Rattle.someip_tp.specs.Offers.{Offer, offer}
+use Rattle.someip_tp.specs.SegmentOffers.{SegmentOffer, offer}
 use Rattle.someip_tp.specs.TpHeader.{segment_in}
 use Rattle.sd_wire.specs.declared.entry.EntryHead.{EntryHead}
 use Rattle.sd_wire.specs.declared.entry.EntryHead.TheVariants.{Service, Eventgroup}
@@ -24,10 +24,9 @@ use Rattle.sd_wire.specs.declared.error.SdError.{SdError}
 use Rattle.sd_wire.specs.Endpoints.{first_udp_endpoint, options_of}
 use Rattle.sd_wire.specs.Kinds.{is_ack, is_find, is_stop_offer, is_stop_subscribe, is_subscribe}
 use Rattle.sd_wire.specs.Program.{reading}
-use Rattle.sd_wire.specs.Values.{EntryValue, ReadValue, SdValue, good, bad_run}
+use Rattle.sd_wire.specs.Values.{ReadValue, SdValue, good, bad_run}
 use Rattle.sd_session.specs.declared.stamp.Channel.{Channel}
 use Rattle.sd_session.specs.declared.stamp.Channel.TheVariants.{Multicast, Unicast}
-use Rattle.sd_session.specs.declared.stamp.Stamp.{Stamp}
 use Rattle.sd_session.specs.Peers.{may_hold}
 use Rattle.sd_core.specs.declared.keys.InstanceId.{InstanceId}
 use Rattle.someip_node_rules.specs.declared.config.Config.{Config}
@@ -38,9 +37,8 @@ use Rattle.someip_node_rules.specs.Learning.{received_offer}
 use Rattle.someip_node_rules.specs.Messages.{completed}
 use Rattle.someip_node_rules.specs.Plans.{Plan, rest, act, both, asks, replying, each, Drops, Hears, TakesAck, TakesAnswer, TakesEvent, TakesFind, TakesNack, TakesOffer, TakesRequest, TakesSegment, TakesStopOffer, TakesStopSubscribe, TakesSubscribe}
 use Rattle.someip_node_rules.specs.Receivers.{messages_plan_to}
-use Rattle.someip_node_rules.specs.Setups.{discovery_port, instance_at, limits_of}
+use Rattle.someip_node_rules.specs.Setups.{discovery_port, instance_at}
 use Rattle.someip_node_rules.specs.declared.receiver.Receiver.TheVariants.{Peer}
-use Rattle.someip_node_rules.specs.Tables.{Tables}
 
 -- ---- messages of the application
 
@@ -61,7 +59,8 @@ abbrev pub completed_plan : Target → SocketAddrV4 → Header → Option (List 
 completed_plan goal from header None = rest
 completed_plan goal from header (Some payload) = whole_plan goal from (record header { kind = without_tp_flag header.kind }) payload
 
-abbrev pub offered_plan : Target → SocketAddrV4 → Header → Offer → Plan
+-- a segment is offered, and the message that it makes whole, if it does, goes on at once
+abbrev pub offered_plan : Target → SocketAddrV4 → Header → SegmentOffer → Plan
 offered_plan goal from header o = asks (λ t. both (act (TakesSegment o)) (completed_plan goal from header (completed o t)))
 
 -- a segment comes
@@ -92,6 +91,7 @@ eventgroup_plan peer head endpoint =
     else if is_ack head then act (TakesAck peer head)
     else act (TakesNack peer head)
 
+-- an entry without a bad run, with the first endpoint over UDP among its options
 abbrev pub good_plan : Ipv4Addr → EntryHead → Option SocketAddrV4 → Plan
 good_plan peer (Service head) endpoint = service_plan peer head endpoint
 good_plan peer (Eventgroup head) endpoint = eventgroup_plan peer head endpoint
@@ -102,6 +102,7 @@ abbrev pub bad_plan : Ipv4Addr → EntryHead → Plan
 bad_plan peer (Service head) = act (Drops BadRun)
 bad_plan peer (Eventgroup head) = if is_subscribe head then act (TakesSubscribe peer head None) else act (Drops BadRun)
 
+-- an entry, without a bad run or with one
 abbrev pub entry_plan : Ipv4Addr → ReadValue → Plan
 entry_plan peer (good e) = good_plan peer e.head (first_udp_endpoint (options_of e))
 entry_plan peer (bad_run head) = bad_plan peer head
@@ -117,6 +118,7 @@ heard_plan peer channel session v =
     if not (may_hold t.config.common.peers t.peers peer) then act (Drops PeersFull)
     else both (act (Hears peer channel (record { session = session; reboot = v.flags.reboot }))) (entries_plan peer v.entries))
 
+-- the payload of a message to Service Discovery was read, or has a fault, by whose name the message is dropped
 abbrev pub reading_plan : Ipv4Addr → Channel → ℕ → Result SdValue SdError → Plan
 reading_plan peer channel session (Err fault) = act (Drops (Sd fault))
 reading_plan peer channel session (Ok v) = heard_plan peer channel session v
@@ -130,6 +132,7 @@ abbrev pub is_discovery : Header → Bool
 is_discovery h =
     (h.service == 0xFFFF) && (h.method == 0x8100) && (h.interface == 1) && is_notification h.kind && not (h.session == 0)
 
+-- a message comes to Service Discovery: it has the header of one and its payload is read, or it is dropped, `NotSd`
 abbrev pub discovery_plan : Ipv4Addr → Channel → MessageValue → Plan
 discovery_plan peer channel m =
     if is_discovery m.header then reading_plan peer channel m.header.session (reading m.payload) else act (Drops NotSd)
@@ -139,6 +142,7 @@ discovery_plan peer channel m =
 abbrev pub same_address : Ipv4Addr → Ipv4Addr → Bool
 same_address a b = eq_by_cmp address_cmp a b
 
+-- what is reached where an instance has the port: the instance, also while it is down; and nothing where none has it
 abbrev pub instance_target : Option InstanceId → Target
 instance_target None = target.Nowhere
 instance_target (Some instance) = target.Instance instance
@@ -162,13 +166,16 @@ abbrev pub message_at_plan : Target → SocketAddrV4 → SocketAddrV4 → Messag
 message_at_plan (target.Discovery channel) from to m = discovery_plan (v4_ip from) channel m
 message_at_plan goal from to m = message_plan goal from to m
 
+-- a message of a datagram comes to where it is taken; the fault that ends the datagram is dropped by name
 abbrev pub item_plan : Target → SocketAddrV4 → SocketAddrV4 → Result MessageValue WireError → Plan
 item_plan goal from to (Err fault) = act (Drops (Wire fault))
 item_plan goal from to (Ok m) = message_at_plan goal from to m
 
+-- the messages of a datagram are taken one after the other, and then its fault, if it has one
 abbrev pub items_plan : Target → SocketAddrV4 → SocketAddrV4 → List (Result MessageValue WireError) → Plan
 items_plan goal from to items = each (item_plan goal from to) items
 
+-- a datagram by what it reaches: where that is nothing it is dropped, `NoPort`, and else its messages are taken
 abbrev pub target_plan : Target → SocketAddrV4 → SocketAddrV4 → List ℕ → Plan
 target_plan target.Nowhere from to bytes = act (Drops NoPort)
 target_plan goal from to bytes = items_plan goal from to (items_of bytes)

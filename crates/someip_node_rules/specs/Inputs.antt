@@ -1,6 +1,5 @@
 -- What a node does with each input, and why it refuses one.
-use Rattle.std.specs.Prelude.{ℕ, ◌+◌, List, [], Option, None, Some}
-use Rattle.std.specs.Option.{option_map_or}
+use Rattle.std.specs.Prelude.{ℕ, ◌+◌, List, Option, None, Some}
 use Rattle.std.specs.declared.net.socket_addr.SocketAddrV4.{SocketAddrV4}
 use Rattle.sd_core.specs.declared.eventgroup.Eventgroup.{Eventgroup}
 use Rattle.sd_core.specs.declared.keys.InstanceId.{InstanceId}
@@ -61,11 +60,12 @@ abbrev pub subscribe_plan : Eventgroup → Plan
 subscribe_plan eventgroup =
     asks (λ t. both (act (Wishes eventgroup)) (peer_plan (known_peer t eventgroup.instance) (wish_entries eventgroup t)))
 
--- a wish is taken back: the server of the subscription that stands is told before
+-- the StopSubscribe of the subscription that stands goes to its server, if one stands
 abbrev pub stop_subscribe_plan : Eventgroup → Option Beginning → Tables → Plan
 stop_subscribe_plan eventgroup None t = rest
 stop_subscribe_plan eventgroup (Some beginning) t = message_plan_to (Peer beginning.peer) (stop_subscribe_of t eventgroup beginning.counter)
 
+-- a wish is taken back: the server of the subscription that stands is told before
 abbrev pub unsubscribe_plan : Eventgroup → Plan
 unsubscribe_plan eventgroup =
     asks (λ t. both (stop_subscribe_plan eventgroup (standing_of eventgroup t) t) (act (TakesBack eventgroup (standing_of eventgroup t))))

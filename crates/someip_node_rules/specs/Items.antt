@@ -1,14 +1,13 @@
 -- What a node meets, and how it changes the node's tables.
-use Rattle.std.specs.Prelude.{ℕ, ◌+◌, ◌%◌, ◌==◌, not, if◌then◌else◌, List, map}
+use Rattle.std.specs.Prelude.{ℕ, ◌+◌, not}
 use Rattle.std.specs.FinMap as finite
 use Rattle.std.specs.declared.net.ipv4_addr.Ipv4Addr.{Ipv4Addr}
 use Rattle.std.specs.declared.net.socket_addr.SocketAddrV4.{SocketAddrV4}
 use Rattle.someip_tables.specs.Deadlines.{deadline_after}
-use Rattle.someip_tables.specs.Lastings.{expired, unexpired}
-use Rattle.someip_tp.specs.declared.reassembly.Offered.TheVariants.{Part, Whole}
+use Rattle.someip_tables.specs.Lastings.{unexpired}
 use Rattle.someip_tp.specs.declared.key.ReassemblyKey.{ReassemblyKey}
-use Rattle.someip_tp.specs.Offers.{Offer, parts_after}
-use Rattle.someip_tp.specs.Offers.{parts_less}
+use Rattle.someip_tp.specs.SegmentOffers.{SegmentOffer, parts_after}
+use Rattle.someip_tp.specs.SegmentOffers.{parts_less}
 use Rattle.someip_tp.specs.Parts.{parts_at}
 use Rattle.sd_session.specs.declared.stamp.Channel.{Channel}
 use Rattle.sd_session.specs.declared.stamp.Stamp.{Stamp}
@@ -40,7 +39,7 @@ pub data Item : Type 0 where
   -- the clock went on by so many milliseconds
   Ticked : ℕ → Item
   -- a segment was offered
-  SegmentOffered : Offer → Item
+  SegmentOffered : SegmentOffer → Item
   -- the whole message under a key was taken
   MessageTaken : ReassemblyKey → Item
   -- a peer began again, and a message of a peer came on a channel

@@ -1,6 +1,6 @@
 -- The rules of what a client learns from the entries of Service Discovery: Offers, Acks and Nacks (SOME/IP Service
 -- Discovery Protocol, "Offer Service entry", "Subscribe Eventgroup Acknowledgement entry", "Detection of reboots").
-use Rattle.std.specs.Prelude.{ℕ, ◌==◌, Bool, false, not, if◌then◌else◌, List, [], ◌∷◌, map, Option, None, Some}
+use Rattle.std.specs.Prelude.{ℕ, ◌==◌, Bool, false, if◌then◌else◌, List, [], ◌∷◌, map, Option, None, Some}
 use Rattle.std.specs.List.{flat_map}
 use Rattle.std.specs.Option.{option_map_or}
 use Rattle.std.specs.Ordering.{eq_by_cmp}
@@ -51,11 +51,12 @@ reboot_endings peer t =
     endings (wanted_instances t.config) (finite.keys (known_of peer t.clock t.seek))
     (finite.keys (begun_where (λ eventgroup beginning. is_with peer beginning) t.wishes))
 
--- a message of a peer came
+-- a message of a peer came, by what it shows: a reboot is told first, and then what ends by it
 abbrev pub hearing_by : Ipv4Addr → Channel → Stamp → Seen → Tables → Outcome
 hearing_by peer channel stamp Same t = meets (PeerHeard peer channel stamp ∷ []) []
 hearing_by peer channel stamp seen_as.Rebooted t = meets (PeerRebooted peer ∷ PeerHeard peer channel stamp ∷ []) (Rebooted peer ∷ reboot_endings peer t)
 
+-- a message of a peer came on a channel: where it shows that the peer rebooted, what was learned from the peer ends
 abbrev pub hearing : Ipv4Addr → Channel → Stamp → Tables → Outcome
 hearing peer channel stamp t = hearing_by peer channel stamp (told_by channel stamp (stamps_of t.peers peer)) t
 
@@ -97,6 +98,7 @@ uncounted_by Unwanted = nothing
 uncounted_by left_out.NoEndpoint = dropped NoEndpoint
 uncounted_by left_out.OtherPeer = dropped OtherPeer
 
+-- an Offer counts, unless there is a cause why it does not
 abbrev pub offer_by : ReceivedOffer → Option Uncounted → Tables → Outcome
 offer_by offer None t = option_map_or (λ endpoint. offer_counts offer endpoint t) offer.endpoint nothing
 offer_by offer (Some cause) t = uncounted_by cause
@@ -143,6 +145,7 @@ ack_by answer ttl t =
     meets (AckCame answer ttl ∷ [])
     (ack_told answer.eventgroup answer.counter (told_by_ack t.clock answer (wish_of (finite.get t.wishes answer.eventgroup)).stage))
 
+-- the entry of an Ack comes from a peer
 abbrev pub ack : Ipv4Addr → EventgroupEntry → Tables → Outcome
 ack peer head t = ack_by (answer_in peer head t) head.ttl t
 
@@ -156,5 +159,6 @@ nack_by answer t =
     meets (NackCame answer ∷ [])
     (nack_told answer.eventgroup (is_answered t.clock answer (wish_of (finite.get t.wishes answer.eventgroup)).stage))
 
+-- the entry of a Nack comes from a peer
 abbrev pub nack : Ipv4Addr → EventgroupEntry → Tables → Outcome
 nack peer head t = nack_by (answer_in peer head t) t

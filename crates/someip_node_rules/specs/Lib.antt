@@ -27,6 +27,7 @@ pub mod Steps
 pub mod Lives
 pub mod Copies
 pub mod Names
+pub mod OutputWords
 pub mod Trails
 pub mod Packets
 pub mod Replies

@@ -6,7 +6,7 @@ use Rattle.std.specs.declared.net.socket_addr.SocketAddrV4.{SocketAddrV4}
 use Rattle.someip_wire.specs.declared.header.Header.{Header}
 use Rattle.someip_wire.specs.declared.header.MessageType.TheVariants as kinds
 use Rattle.someip_tp.specs.declared.reassembly.Offered.TheVariants.{Whole}
-use Rattle.someip_tp.specs.Offers.{Offer, judgement}
+use Rattle.someip_tp.specs.SegmentOffers.{SegmentOffer, judgement}
 use Rattle.sd_wire.specs.declared.entry.EventgroupEntry.{EventgroupEntry}
 use Rattle.sd_wire.specs.Values.{EntryValue}
 use Rattle.sd_core.specs.declared.keys.InstanceId.{InstanceId}
@@ -82,7 +82,7 @@ abbrev pub IsMet : Item → Rule → Tables → Type 0
 IsMet (items.Ticked ms) r t = r ≡ Ticks ms
 IsMet (items.SegmentOffered o) r t = r ≡ TakesSegment o
 IsMet (items.MessageTaken key) r t =
-    (o : Offer) × (r ≡ TakesSegment o) × (judgement (limits_of t.config) t.clock o t.parts ≡ Ok Whole) × (key ≡ o.key)
+    (o : SegmentOffer) × (r ≡ TakesSegment o) × (judgement (limits_of t.config) t.clock o t.parts ≡ Ok Whole) × (key ≡ o.key)
 IsMet (items.PeerRebooted peer) r t = IsRebootBy r t peer
 IsMet (items.PeerHeard peer channel stamp) r t = r ≡ Hears peer channel stamp
 IsMet (items.OfferCounted o endpoint) r t = (r ≡ TakesOffer o) × (uncounted o t.clock t.seek ≡ None) × (o.endpoint ≡ Some endpoint)

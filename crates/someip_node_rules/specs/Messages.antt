@@ -15,8 +15,7 @@ use Rattle.someip_tables.specs.Endpoints.{endpoint_cmp}
 use Rattle.someip_tp.specs.declared.error.TpError.{TpError}
 use Rattle.someip_tp.specs.declared.reassembly.Offered.{Offered}
 use Rattle.someip_tp.specs.declared.reassembly.Offered.TheVariants.{Part, Whole}
-use Rattle.someip_tp.specs.Offers.{Offer, judgement, message_at, parts_after}
-use Rattle.sd_core.specs.declared.eventgroup.Eventgroup.{Eventgroup}
+use Rattle.someip_tp.specs.SegmentOffers.{SegmentOffer, judgement, message_at, parts_after}
 use Rattle.sd_core.specs.declared.keys.InstanceId.{InstanceId}
 use Rattle.sd_core.specs.Wishes.{is_subscribed, wish_of}
 use Rattle.someip_rpc.specs.declared.error.DropCause.{DropCause}
@@ -33,7 +32,7 @@ use Rattle.someip_node_rules.specs.declared.output.Output.TheVariants.{Answered 
 use Rattle.someip_node_rules.specs.Items.{AnswerTaken, MessageTaken, Requested, SegmentOffered}
 use Rattle.someip_node_rules.specs.Outcomes.{Outcome, dropped, meets, nothing}
 use Rattle.someip_node_rules.specs.Outputs.{Sends}
-use Rattle.someip_node_rules.specs.Setups.{limits_of, offered_as, wanted_as, wanted_instances}
+use Rattle.someip_node_rules.specs.Setups.{limits_of, offered_as}
 use Rattle.someip_node_rules.specs.Tables.{Tables, is_up, known_endpoint, waiting_calls}
 
 -- ---- segments
@@ -44,17 +43,19 @@ completed_by (Ok Whole) message = message
 completed_by (Ok Part) message = None
 completed_by (Err refusal) message = None
 
-abbrev pub completed : Offer → Tables → Option (List ℕ)
+-- the message that a segment makes whole, if it does
+abbrev pub completed : SegmentOffer → Tables → Option (List ℕ)
 completed o t =
     completed_by (judgement (limits_of t.config) t.clock o t.parts) (message_at (parts_after (limits_of t.config) t.clock o t.parts) o.key)
 
 -- a segment comes: it is refused, or kept; a message that it makes whole is taken
-abbrev pub segment_by : Offer → Result Offered TpError → Outcome
+abbrev pub segment_by : SegmentOffer → Result Offered TpError → Outcome
 segment_by o (Ok Part) = meets (SegmentOffered o ∷ []) []
 segment_by o (Ok Whole) = meets (SegmentOffered o ∷ MessageTaken o.key ∷ []) []
 segment_by o (Err refusal) = record (dropped (Tp refusal)) { items = SegmentOffered o ∷ [] }
 
-abbrev pub segment : Offer → Tables → Outcome
+-- a segment comes, and is judged by the parts that the node holds: it is kept, or dropped as reassembly refuses it
+abbrev pub segment : SegmentOffer → Tables → Outcome
 segment o t = segment_by o (judgement (limits_of t.config) t.clock o t.parts)
 
 -- ---- requests
@@ -102,6 +103,7 @@ answer_by header payload None =
     meets (AnswerTaken (answered_call header) ∷ []) (AnswerOutput (answered_call header).message header.session header.code payload ∷ [])
 answer_by header payload (Some cause) = dropped (Answer cause)
 
+-- a message that is no event comes to the client from an endpoint
 abbrev pub answer : SocketAddrV4 → Header → List ℕ → Tables → Outcome
 answer from header payload t = answer_by header payload (answer_drop t.config.client_id from header (waiting_calls t))
 
@@ -109,10 +111,11 @@ answer from header payload t = answer_by header payload (answer_drop t.config.cl
 
 -- the client is subscribed to an eventgroup of an instance that has the event, by its own set-up
 abbrev pub is_subscribed_by : Tables → InstanceId → ℕ → ℕ × BTreeSet ℕ → Bool
-is_subscribed_by t instance event group =
-    contains nat_cmp group.1 event
-    && is_subscribed t.clock (wish_of (finite.get t.wishes (record { instance = instance; id = group.0 }))).stage
+is_subscribed_by t instance event eventgroup =
+    contains nat_cmp eventgroup.1 event
+    && is_subscribed t.clock (wish_of (finite.get t.wishes (record { instance = instance; id = eventgroup.0 }))).stage
 
+-- an event of a wanted instance is one of an eventgroup that the client is subscribed to, by its own set-up
 abbrev pub takes_event : Tables → InstanceId → WantedService → ℕ → Bool
 takes_event t instance want event = list_any (is_subscribed_by t instance event) want.groups.entries
 
@@ -128,9 +131,11 @@ is_event_of t from header want =
 abbrev pub publisher : Tables → SocketAddrV4 → Header → Option InstanceId
 publisher t from header = option_map (λ want. want.0) (find (is_event_of t from header) t.config.wants.entries)
 
+-- an event is handed up with the instance that it is of, and dropped, `NotSubscribed`, where it is of none
 abbrev pub event_by : Header → List ℕ → Option InstanceId → Outcome
 event_by header payload None = dropped NotSubscribed
 event_by header payload (Some instance) = meets [] (Event instance header.method payload ∷ [])
 
+-- an event comes to the client from an endpoint
 abbrev pub event : SocketAddrV4 → Header → List ℕ → Tables → Outcome
 event from header payload t = event_by header payload (publisher t from header)

@@ -1,5 +1,5 @@
 -- What a rule says: what the node meets by it, what it gives, and what it replies.
-use Rattle.std.specs.Prelude.{List, [], ◌∷◌, Option, None, Some, nat_le, map, filter, ◌++◌, Bool, if◌then◌else◌}
+use Rattle.std.specs.Prelude.{List, [], ◌∷◌, map, filter, ◌++◌, Bool, if◌then◌else◌}
 use Rattle.std.specs.List.{flat_map, list_any}
 use Rattle.std.specs.Ordering.{eq_by_cmp}
 use Rattle.sd_wire.specs.Values.{EntryValue}
@@ -21,9 +21,11 @@ pub record Outcome : Type 0 where
 abbrev pub nothing : Outcome
 nothing = record { items = []; given = []; replies = [] }
 
+-- the node meets items, and tells outputs
 abbrev pub meets : List Item → List Output → Outcome
 meets items told = record { items = items; given = map Tells told; replies = [] }
 
+-- what came is dropped, and the reason told
 abbrev pub dropped : DropReason → Outcome
 dropped reason = meets [] (Dropped reason ∷ [])
 
@@ -37,6 +39,7 @@ has_instance instances instance = list_any (eq_by_cmp instance_cmp instance) ins
 abbrev pub those_of : InstanceId → List Eventgroup → List Eventgroup
 those_of instance eventgroups = filter (λ g. eq_by_cmp instance_cmp g.instance instance) eventgroups
 
+-- the end of the client's subscription to each of these eventgroups is told once, in their order
 abbrev pub unsubscribed : List Eventgroup → List Output
 unsubscribed eventgroups = map Unsubscribed eventgroups
 

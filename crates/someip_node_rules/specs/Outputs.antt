@@ -1,5 +1,5 @@
 -- What a node gives, beside the bytes that it is written as.
-use Rattle.std.specs.Prelude.{ℕ, List, [], ◌∷◌, map}
+use Rattle.std.specs.Prelude.{List, [], ◌∷◌, map}
 use Rattle.std.specs.declared.net.socket_addr.SocketAddrV4.{SocketAddrV4}
 use Rattle.someip_wire.specs.Spelling.{MessageValue, spelling}
 use Rattle.someip_tp.specs.Sent.{PieceValue, piece_message, sent}

@@ -7,7 +7,7 @@ use Rattle.someip_wire.specs.Kinds.{has_tp_flag, without_tp_flag}
 use Rattle.someip_wire.specs.Reading.{items_of}
 use Rattle.someip_wire.specs.Spelling.{MessageValue}
 use Rattle.someip_tp.specs.Keys.{segment_key}
-use Rattle.someip_tp.specs.Offers.{Offer, offer}
+use Rattle.someip_tp.specs.SegmentOffers.{SegmentOffer, offer}
 use Rattle.someip_tp.specs.TpHeader.{segment_in}
 use Rattle.sd_wire.specs.declared.entry.EntryHead.TheVariants.{Service, Eventgroup}
 use Rattle.sd_wire.specs.declared.entry.EventgroupEntry.{EventgroupEntry}
@@ -39,7 +39,7 @@ pub record HasWhole (p : Packet) (header : Header) (payload : List ℕ) : Type 0
   pub whole : IsFalse (has_tp_flag header.kind)
 
 -- a segment of a message with this header stands in it, which is so offered to the parts
-pub record HasSegment (p : Packet) (header : Header) (o : Offer) : Type 0 where
+pub record HasSegment (p : Packet) (header : Header) (o : SegmentOffer) : Type 0 where
   pub message : MessageValue
   pub stands : HasMessage p message
   pub flagged : IsTrue (has_tp_flag message.header.kind)
@@ -51,7 +51,7 @@ pub record HasSegment (p : Packet) (header : Header) (o : Offer) : Type 0 where
 -- a segment of it completed a message with this header, which has this payload: of the rules that were done before, the last
 -- one took it, and the parts that were held there made it whole
 pub record Completes (p : Packet) (header : Header) (payload : List ℕ) (earlier : List Done) : Type 0 where
-  pub offer : Offer
+  pub offer : SegmentOffer
   pub segment : HasSegment p header offer
   pub before : List Done
   pub took : Done

@@ -1,7 +1,7 @@
 -- What a node is set up with, and what is asked of that.
-use Rattle.std.specs.Prelude.{ℕ, ◌==◌, Bool, false, List, map, find, Option, None, Some, is_some}
+use Rattle.std.specs.Prelude.{ℕ, Bool, false, List, map, Option, is_some}
 use Rattle.std.specs.List.{list_any}
-use Rattle.std.specs.Option.{option_map, option_map_or}
+use Rattle.std.specs.Option.{option_map_or}
 use Rattle.std.specs.Ordering.{nat_cmp}
 use Rattle.std.specs.FinMap as finite
 use Rattle.std.specs.FinMap.{FinMap}

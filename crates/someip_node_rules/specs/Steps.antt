@@ -32,6 +32,7 @@ abbrev pub unless_refused : Option NodeError → Plan → History → Result (Wo
 unless_refused (Some refusal) plan h = Err refusal
 unless_refused None plan h = Ok (run historic plan (work_on h))
 
+-- the step of an input, by the node's history: what it gives and the history after it, or why the input is refused
 abbrev pub step : History → Input → Result (Work History) NodeError
 step h input = unless_refused (refusal_of input (answers_of h)) (plan_of input) h
 

@@ -1,6 +1,6 @@
 -- The rules of what a server does with the entries of Service Discovery: Finds, Subscribes and StopSubscribes (SOME/IP
 -- Service Discovery Protocol, "Find Service entry", "Subscribe Eventgroup entry", "Stop Subscribe Eventgroup entry").
-use Rattle.std.specs.Prelude.{ℕ, ◌==◌, Bool, false, List, [], ◌∷◌, map, Option, None, Some}
+use Rattle.std.specs.Prelude.{◌==◌, Bool, false, List, [], ◌∷◌, Option, None, Some}
 use Rattle.std.specs.List.{flat_map}
 use Rattle.std.specs.Option.{option_map_or}
 use Rattle.std.specs.FinMap as finite

@@ -5,8 +5,8 @@ use Rattle.someip_payload_codec.specs.declared.error.PayloadError.TheVariants as
 use Rattle.someip_payload_codec.specs.declared.error.PayloadError.TheVariants.{TooDeep, BadShape}
 use Rattle.someip_payload_codec.specs.Data.{Form, bool, unsigned, signed, string, array, fixed, «struct», union, tagged, Forms, no_forms, form_then, Variants, no_variants, variant, Members, no_members, member_then}
 
--- how many forms lie inside each other
 abbrev mutual
+  -- how many forms lie inside each other, this one among them
   pub depth : Form → ℕ
   depth (array width most element) = depth element + 1
   depth (fixed n element) = depth element + 1
@@ -18,14 +18,17 @@ abbrev mutual
   depth (signed size) = 1
   depth (string encoding width) = 1
 
+  -- the same of the deepest of these forms, and 0 of none
   pub deepest : Forms → ℕ
   deepest no_forms = 0
   deepest (form_then f fs) = max (depth f) (deepest fs)
 
+  -- the same of the deepest variant of a union
   pub deepest_variant : Variants → ℕ
   deepest_variant no_variants = 0
   deepest_variant (variant n f vs) = max (depth f) (deepest_variant vs)
 
+  -- the same of the deepest member of a tagged structure
   pub deepest_member : Members → ℕ
   deepest_member no_members = 0
   deepest_member (member_then id optional f ms) = max (depth f) (deepest_member ms)

@@ -50,6 +50,7 @@ abbrev pub FaultInFixed : (Data → List ℕ → Type 0) → (View → Type 0) �
 FaultInFixed P In n w =
     (ds : Items) × (text rest : List ℕ) × (w.bytes ≡ text ++ rest) × Each P ds text × (count ds < n) × In (skip (length text) w)
 
+-- so many bytes pass the window, which is `Truncated` of the outermost one and `LengthMismatch` of a body
 abbrev pub FaultInNumber : ℕ → View → PayloadError → Type 0
 FaultInNumber len w e = (length w.bytes < len) × (e ≡ short_at w)
 
@@ -127,6 +128,7 @@ unfoldable mutual
       Picks (n == id) (Picks (has_wire_type f t) (FaultBy (width_in t f) f e v) (e ≡ WrongWireType place)) (FaultBehindTag ms ss t id place e v)
   FaultBehindTag _ ss t id place e v = FaultInSkipped t e v
 
+-- the first fault of reading a value of the form
 abbrev pub FaultIn : Form → PayloadError → View → Type 0
 FaultIn f = FaultBy (own_width f) f
 

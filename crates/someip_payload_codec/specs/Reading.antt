@@ -30,14 +30,17 @@ short_at w = if w.is_body then LengthMismatch w.place else Truncated w.place
 abbrev pub skip : ℕ → View → View
 skip n w = record { is_body = w.is_body; place = w.place + n; bytes = drop n w.bytes }
 
+-- so many bytes, and what is left after them
 abbrev pub front_at : ℕ → View → Result (List ℕ × View) PayloadError
 front_at n w = if nat_lt (length w.bytes) n then Err (short_at w) else Ok (take n w.bytes, skip n w)
 
+-- the number of a size, and what is left after it
 unfoldable pub number_at : Size → View → Result (ℕ × View) PayloadError
 number_at size w = do
   front ← front_at (byte_len (width_of size)) w
   Ok (from_be_bytes (width_of size) front.0, front.1)
 
+-- the signed number that a number of the size stands for in two's complement
 abbrev pub signed_of : Size → ℕ → ℤ
 signed_of size n = cast_signed (width_of size) n
 
@@ -63,12 +66,14 @@ without_mark bytes = if has_mark bytes then drop 3 bytes else bytes
 abbrev pub is_ended : List ℕ → Bool
 is_ended xs = nat_lt 0 (length xs) && (slice_index xs (length xs - 1) == 0)
 
+-- the text of a body in UTF-8: what stands between a byte order mark, if there is one, and the zero at the end
 unfoldable pub utf8_at : ℕ → List ℕ → Result (List ℕ) PayloadError
 utf8_at place body =
     if is_ended body
     then (if is_utf8 (without_mark (take (length body - 1) body)) then Ok (without_mark (take (length body - 1) body)) else Err (BadText place))
     else Err (NoTerminator place)
 
+-- the unit of two bytes, of which the first is the higher, or the lower
 abbrev pub unit_of : Bool → ℕ → ℕ → ℕ
 unit_of true a b = a * 256 + b
 unit_of false a b = b * 256 + a
@@ -87,6 +92,8 @@ is_little body = nat_lt 1 (length body) && ((slice_index body 0 == 0xFF) && (sli
 abbrev pub inner : List ℕ → List ℕ
 inner units = drop 1 (take (length units - 1) units)
 
+-- the text of units of UTF-16: what stands between the byte order mark and the zero at the end, if its surrogates are
+-- paired
 unfoldable pub utf16_in : ℕ → List ℕ → Result (List ℕ) PayloadError
 utf16_in place units =
     if is_ended units

@@ -34,6 +34,7 @@ pub record TaggedItem : Type 0 where
   pub id : ℕ
   pub bytes : List ℕ
 
+-- an item: its tag, and what stands behind it
 abbrev pub item_bytes : TaggedItem → List ℕ
 item_bytes i = number S16 (tag_number i.reserved i.wire_type i.id) ++ i.bytes
 
@@ -87,11 +88,13 @@ same_size S64 S8 = false
 same_size S64 S16 = false
 same_size S64 S32 = false
 
+-- a basic value of this size stands behind the tag
 abbrev pub is_basic : Size → WireType → Bool
 is_basic size (Basic s) = same_size size s
 is_basic size OwnLength = false
 is_basic size (Length width) = false
 
+-- a length field stands behind the tag
 abbrev pub is_length : WireType → Bool
 is_length (Basic size) = false
 is_length OwnLength = true
@@ -131,10 +134,12 @@ wire_type_of («struct» None fs) = OwnLength
 
 -- ---- what a tag's number says
 
+-- the wire type of a number of three bits, by the standard's table
 abbrev pub wire_type_in : ℕ → WireType
 wire_type_in k =
     if k == 0 then Basic S8 else if k == 1 then Basic S16 else if k == 2 then Basic S32 else if k == 3 then Basic S64
     else if k == 4 then OwnLength else if k == 5 then Length W8 else if k == 6 then Length W16 else Length W32
 
+-- the wire type and the Data ID that a tag says; its highest bit is reserved, and not looked at
 abbrev pub tag_in : ℕ → Tag
 tag_in n = record { wire_type = wire_type_in (n / 2 ^ 12 % 8); id = n % 2 ^ 12 }

@@ -33,6 +33,7 @@ count_slots no_slots = 0
 count_slots (present d ss) = count_slots ss + 1
 count_slots (absent ss) = count_slots ss + 1
 
+-- a number, unless it is too large for its size
 unfoldable pub number_text : Size → ℕ → Result (List ℕ) PayloadError
 number_text size n = if nat_lt n (limit_of size) then Ok (number size n) else Err (NotOfShape 0)
 
@@ -43,13 +44,16 @@ half_of S16 = 2 ^ 15
 half_of S32 = 2 ^ 31
 half_of S64 = 2 ^ 63
 
+-- a signed number is in the range of the size
 abbrev pub is_signed : Size → ℤ → Bool
 is_signed size (pos n) = nat_lt n (half_of size)
 is_signed size (negsuc n) = nat_lt n (half_of size)
 
+-- a signed number in two's complement, unless it is out of the range of its size
 unfoldable pub signed_text : Size → ℤ → Result (List ℕ) PayloadError
 signed_text size z = if is_signed size z then Ok (number size (cast_unsigned (width_of size) z)) else Err (NotOfShape 0)
 
+-- a body after its length field, unless it is longer than that can say: `TooLong`
 unfoldable pub body_text : Width → List ℕ → Result (List ℕ) PayloadError
 body_text width body = if nat_lt (length body) (limit_of (size_of width)) then Ok (framed width body) else Err (TooLong 0)
 
@@ -58,6 +62,7 @@ unfoldable pub text_body : Encoding → List ℕ → List ℕ
 text_body Utf8 s = utf8_mark ++ (s ++ 0 ∷ [])
 text_body Utf16 s = flat_map (unit_bytes true) (units_of_text (chars s))
 
+-- the texts of the elements one after the other
 unfoldable pub each_text : (Data → Result (List ℕ) PayloadError) → Items → Result (List ℕ) PayloadError
 each_text one no_items = Ok []
 each_text one (item d ds) = one d >>= λ first. each_text one ds >>= λ others. Ok (first ++ others)
@@ -66,6 +71,7 @@ each_text one (item d ds) = one d >>= λ first. each_text one ds >>= λ others. 
 unfoldable pub array_text : Width → ℕ → (Data → Result (List ℕ) PayloadError) → Items → Result (List ℕ) PayloadError
 array_text width most one ds = if nat_lt most (count ds) then Err (TooMany 0) else (each_text one ds >>= body_text width)
 
+-- the elements, if there are exactly so many
 unfoldable pub fixed_text : ℕ → (Data → Result (List ℕ) PayloadError) → Items → Result (List ℕ) PayloadError
 fixed_text n one ds = if count ds == n then each_text one ds else Err (NotOfShape 0)
 
@@ -91,6 +97,7 @@ unfoldable pub absent_text : Bool → Result (List ℕ) PayloadError
 absent_text optional = if optional then Ok [] else Err (NotOfShape 0)
 
 unfoldable mutual
+  -- the text of a value of the form, or the first fault from left to right
   pub text_of : Form → Data → Result (List ℕ) PayloadError
   text_of bool (truth b) = Ok (number S8 (bit_of b))
   text_of (unsigned size) (uint n) = number_text size n
@@ -104,6 +111,7 @@ unfoldable mutual
   text_of (tagged width ms) (slotted ss) = if count_slots ss == count_members ms then (slots_text ms ss >>= body_text width) else Err (NotOfShape 0)
   text_of _ _ = Err (NotOfShape 0)
 
+  -- the texts of the members one after the other
   pub members_text : Forms → Items → Result (List ℕ) PayloadError
   members_text (form_then f fs) (item d ds) = text_of f d >>= λ first. members_text fs ds >>= λ others. Ok (first ++ others)
   members_text _ _ = Ok []
@@ -124,6 +132,7 @@ abbrev pub member_text : OneMember → Option Data → Result (List ℕ) Payload
 member_text m None = absent_text m.optional
 member_text m (Some d) = item_text m.form m.id (text_of m.form d)
 
+-- the one text of a value of the form, or the first fault: that of the form itself before those of the value
 unfoldable pub encoded : Form → Data → Result (List ℕ) PayloadError
 encoded f d = checked f >>= λ _. text_of f d
 

@@ -1,14 +1,14 @@
 -- The requests that wait, as a map.
-use Rattle.std.proofs.Common.{◌≡◌, ℕ, ◌+◌, ◌==◌, ◌<◌, ◌≤◌, nat_le, Bool, true, false, cond, ◌||◌, Option, None, Some, refl, sym, ap, ◌∙◌, arith}
+use Rattle.std.proofs.Common.{◌≡◌, ℕ, ◌+◌, ◌<◌, ◌≤◌, nat_le, Bool, true, false, cond, ◌||◌, Option, None, Some, refl, ap, ◌∙◌, arith}
 use Rattle.std.specs.Option.{is_some}
 use Rattle.std.specs.Ordering.{nat_cmp, eq_by_cmp}
 use Rattle.std.specs.Cmp.{nat_cmp_total}
-use Rattle.std.specs.FinMap.{FinMap, nat_cmp-IsAntisymmetric, get, insert, remove, len, empty, get-empty, len-empty, get-insert, get-remove}
+use Rattle.std.specs.FinMap.{nat_cmp-IsAntisymmetric, get, insert, remove, len, empty, get-empty, len-empty, get-insert, get-remove}
 use Rattle.std.proofs.lemmas.Bool.Decides.{nat_tests}
 use Rattle.someip_tables.proofs.Entries.{same_by_test}
 use Rattle.someip_tables.proofs.MapLaws.{len-insert-≤, len-remove-≤}
 use Rattle.someip_rpc.specs.declared.request.Asked.{Asked}
-use Rattle.someip_rpc.specs.Requests.{OpenRequests, has_no_place}
+use Rattle.someip_rpc.specs.Requests.{OpenRequests, has_no_room}
 
 -- 1024 requests wait at most, all of them under tokens that were given
 abbrev pub AreOpen : OpenRequests → ℕ → Type 0
@@ -24,8 +24,8 @@ first_false false b is = refl
 first_false true b is = is
 
 -- there is a place
-pub has_place : (requests : OpenRequests) (next : ℕ) → has_no_place requests next ≡ false → len requests < 1024
-has_place requests next is =
+pub has_room : (requests : OpenRequests) (next : ℕ) → has_no_room requests next ≡ false → len requests < 1024
+has_room requests next is =
     let few : nat_le 1024 (len requests) ≡ false = first_false _ _ is in
     grind (arith, nat_tests)
 
@@ -34,9 +34,9 @@ absent_after : (requests : OpenRequests) (next token : ℕ) (request : Asked) (b
 absent_after requests next token request true is given none = let same : token ≡ next = same_by_test nat_cmp-IsAntisymmetric token next is in absurd (omega arith)
 absent_after requests next token request false is given none = none
 
-pub one_more_open : (old new : OpenRequests) (next : ℕ) (request : Asked) → has_no_place old next ≡ false → AreOpen old next → new ≡ insert old next request → AreOpen new (next + 1)
+pub one_more_open : (old new : OpenRequests) (next : ℕ) (request : Asked) → has_no_room old next ≡ false → AreOpen old next → new ≡ insert old next request → AreOpen new (next + 1)
 one_more_open old new next request place are is =
-    let below = has_place old next place in
+    let below = has_room old next place in
     let le = len-insert-≤ nat_cmp_total nat_cmp-IsAntisymmetric old next request in
     let same : len new ≡ len (insert old next request) = ap len is in (
       omega arith,

@@ -37,7 +37,7 @@ abbrev pub waits : CallKind → Bool
 waits Request = true
 waits RequestNoReturn = false
 
--- there is no place for a call that waits: 1024 do so already
+-- there is no room for a call that waits: 1024 do so already
 abbrev pub is_full : CallKind → Pending → Bool
 is_full Request live = nat_le 1024 (finite.len live)
 is_full RequestNoReturn live = false

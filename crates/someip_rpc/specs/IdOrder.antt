@@ -6,7 +6,6 @@ use Rattle.std.specs.Cmp.{IsTotalOrder, nat_cmp_total}
 use Rattle.std.proofs.lemmas.Cmp.{on_total, then_total}
 use Rattle.std.proofs.lemmas.Map.Lookups.{CmpEqualImpliesEq, exact_pairs, exact_unsigned}
 use Rattle.someip_rpc.specs.declared.ids.MessageId.{MessageId}
-use Rattle.someip_rpc.specs.declared.ids.EventId.{EventId}
 use Rattle.someip_rpc.specs.Ids.{message_cmp, call_cmp, event_cmp}
 
 pub messages_total : IsTotalOrder message_cmp

@@ -59,13 +59,13 @@ abbrev pub is_known_method : ServiceRules → ℕ → Bool
 is_known_method rules method = is_declared rules kinds.Request method || is_declared rules kinds.RequestNoReturn method
 
 -- no further request can wait: 1024 do so already, or all tokens were given, the last of which is two below 2 to the 64th
-abbrev pub has_no_place : OpenRequests → ℕ → Bool
-has_no_place requests next = nat_le 1024 (finite.len requests) || (next == 0xFFFFFFFFFFFFFFFF)
+abbrev pub has_no_room : OpenRequests → ℕ → Bool
+has_no_room requests next = nat_le 1024 (finite.len requests) || (next == 0xFFFFFFFFFFFFFFFF)
 
 -- a message of this type has to wait for its answer, and cannot
-abbrev pub lacks_place : MessageType → OpenRequests → ℕ → Bool
-lacks_place kinds.Request requests next = has_no_place requests next
-lacks_place _ requests next = false
+abbrev pub lacks_room : MessageType → OpenRequests → ℕ → Bool
+lacks_room kinds.Request requests next = has_no_room requests next
+lacks_room _ requests next = false
 
 -- the first check of an instance, which may be up or not, that a REQUEST or REQUEST_NO_RETURN fails
 abbrev pub request_fault : ServiceRules → Bool → Header → OpenRequests → ℕ → Option RequestFault
@@ -74,7 +74,7 @@ request_fault rules up header requests next =
     else if not (header.interface == rules.major) then Some WrongInterface
     else if not (is_known_method rules header.method) then Some UnknownMethod
     else if not (is_declared rules header.kind header.method) then Some WrongType
-    else if lacks_place header.kind requests next then Some NotReady
+    else if lacks_room header.kind requests next then Some NotReady
     else None
 
 -- the Return Code that tells a failed check

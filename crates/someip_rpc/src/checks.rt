@@ -1,6 +1,6 @@
 //! The checks of an instance on what comes to it.
 ghost use Rattle.std.specs.Prelude.{◌≡◌, Some, None};
-ghost use Rattle.someip_rpc.specs.Requests.{is_declared, is_known_method, has_no_place, lacks_place};
+ghost use Rattle.someip_rpc.specs.Requests.{is_declared, is_known_method, has_no_room, lacks_room};
 ghost use Rattle.someip_rpc.specs.Requests.{request_fault};
 
 use crate::open::OpenRequests;
@@ -29,7 +29,7 @@ pub(crate) fn request_fault(
         Some(RequestFault::UnknownMethod)
     } else if !is_declared(rules, header.kind, header.method) {
         Some(RequestFault::WrongType)
-    } else if lacks_place(header.kind, requests, next) {
+    } else if lacks_room(header.kind, requests, next) {
         Some(RequestFault::NotReady)
     } else {
         None
@@ -56,18 +56,18 @@ fn is_known_method(rules: &ServiceRules, method: u16) -> bool
 }
 
 /// Whether no further request can wait. The number of a token never repeats in a life.
-fn has_no_place(requests: &OpenRequests, next: u64) -> bool
-    ensures { result ≡ has_no_place requests.now next }
+fn has_no_room(requests: &OpenRequests, next: u64) -> bool
+    ensures { result ≡ has_no_room requests.now next }
 {
     requests.len() >= MOST_OPEN || next == u64::MAX
 }
 
 /// Whether a message of this type has to wait for its answer, and cannot.
-fn lacks_place(kind: MessageType, requests: &OpenRequests, next: u64) -> bool
-    ensures { result ≡ lacks_place kind requests.now next }
+fn lacks_room(kind: MessageType, requests: &OpenRequests, next: u64) -> bool
+    ensures { result ≡ lacks_room kind requests.now next }
 {
     match kind {
-        MessageType::Request => has_no_place(requests, next),
+        MessageType::Request => has_no_room(requests, next),
         _ => false,
     }
 }

@@ -18,7 +18,7 @@ use crate::pending::{Pending, first_free, is_awaited, is_full, wait};
 use crate::sessions::{last_session, put_session, session_after_last};
 use someip_tables::{DeadlineMap, Moment};
 use someip_wire::{Header, Message, MessageType, ReturnCode};
-use std::alloc::Global;
+use std::alloc::{AllocError, Global};
 use std::collections::{BTreeMap, BTreeSet};
 use std::marker::Model;
 use std::net::SocketAddrV4;
@@ -156,14 +156,13 @@ impl ClientCore {
         self.pending.first_deadline()
     }
 
-    /// Ends the calls whose time has passed, and tells them, by rising Message ID and session. Without
-    /// any it takes no memory.
-    pub fn tick(&mut self, now: Moment) -> Result<BTreeSet<CallKey>, RpcError>
+    /// Ends the calls whose time has passed, and tells them, by rising Message ID and session. It is
+    /// refused for memory alone, which it takes only where there are any; then all is as it was.
+    pub fn tick(&mut self, now: Moment) -> Result<BTreeSet<CallKey>, AllocError>
         ensures told { IfOk result (λ calls. calls.keys
             ≡ finite.keys (expired now self.old.pending)) }
         ensures ended { OnOk result (self.new
             ≡ record self.old { pending = unexpired now self.old.pending }) }
-        ensures err { IfErr result (λ error. error ≡ RpcError.OutOfMemory) }
         ensures grows { OnErr result (expired now self.old.pending ≢ finite.empty) }
         ensures unchanged { OnErr result (self.new ≡ self.old) }
     {

@@ -31,8 +31,8 @@ pub fn faults_have_codes()
     ensures not_ready { fault_code NotReady ≡ 0x04 }
 {}
 
-/// An instance that is down takes nothing, and what is neither REQUEST nor REQUEST_NO_RETURN is
-/// dropped before any check.
+/// An instance that is down takes nothing: each request to it is `UnknownService`. A RESPONSE or a
+/// NOTIFICATION that comes to an instance is dropped as `WrongType`, whatever the checks say.
 pub fn what_is_no_request_is_dropped()
     ensures down { (rules : ServiceRules) (header : Header) (requests : OpenRequests) (next : ℕ)
         → request_fault rules false header requests next ≡ Some UnknownService }

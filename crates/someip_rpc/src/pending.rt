@@ -20,7 +20,7 @@ const MOST_PENDING: usize = 1024;
 /// The table of calls that wait for an answer.
 pub(crate) type Pending = DeadlineMap<CallKey, Awaited>;
 
-/// Whether there is no place for a call of this kind. Entries are only counted one by one where the
+/// Whether there is no room for a call of this kind. Entries are only counted one by one where the
 /// table has its greatest size.
 pub(crate) fn is_full(pending: &Pending, kind: CallKind, now: Moment) -> bool
     ensures { result ≡ is_full kind (unexpired now (map_of call_cmp pending.now)) }

@@ -9,7 +9,7 @@ ghost use Rattle.someip_rpc.specs.Calls.{or_memory};
 ghost use Rattle.someip_rpc.specs.Events.{event_header, event_of, next_session_of, published};
 ghost use Rattle.someip_rpc.specs.Events.{publish_refusal, publish_to_refusal};
 ghost use Rattle.someip_rpc.specs.Requests.{BecomesOf, IsErrorOf, answer_header, asked};
-ghost use Rattle.someip_rpc.specs.Requests.{has_no_place, request_fault};
+ghost use Rattle.someip_rpc.specs.Requests.{has_no_room, request_fault};
 ghost use Rattle.someip_rpc.specs.Servers.{after_arrival, answer_refusal, unasked};
 ghost use Rattle.someip_rpc.specs.Servers.{code_of_reply, kind_of_reply, is_bad_error};
 
@@ -119,7 +119,7 @@ impl ServerCore {
 
     /// Lets a request wait under the next token.
     fn hand_up(&mut self, request: Asked) -> Result<Arrived, RpcError>
-        requires { has_no_place self.old.requests self.old.next ≡ false }
+        requires { has_no_room self.old.requests self.old.next ≡ false }
         ensures token { IfOk result (λ arrived. arrived ≡ Arrived.Request self.old.next) }
         ensures waits { OnOk result (self.new
             ≡ after_arrival request (Arrived.Request self.old.next) self.old) }

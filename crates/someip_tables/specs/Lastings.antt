@@ -18,10 +18,11 @@ until_of (Some lasting) = Some lasting.until
 abbrev pub unless_passed : {V : Type 0} → ℕ → Option (Lasting V) → Option (Lasting V)
 unless_passed now = kept_if (λ lasting. not (has_passed now lasting.until))
 
--- the entries whose deadline has passed, and those whose has not
+-- the entries whose deadline has passed at a moment
 abbrev pub expired : {K V : Type 0} {R : K → K → Ordering} → ℕ → FinMap R (Lasting V) → FinMap R (Lasting V)
 expired now m = retain m (λ _ lasting. has_passed now lasting.until)
 
+-- the entries whose deadline has not passed at a moment
 abbrev pub unexpired : {K V : Type 0} {R : K → K → Ordering} → ℕ → FinMap R (Lasting V) → FinMap R (Lasting V)
 unexpired now m = retain m (λ _ lasting. not (has_passed now lasting.until))
 

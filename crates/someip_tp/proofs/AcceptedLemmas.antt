@@ -18,12 +18,12 @@ use Rattle.someip_tp.specs.Segments.{SegmentValue, segment_at, segment_header, s
 use Rattle.someip_tp.specs.TpHeader.{segment_in}
 use Rattle.someip_tp.specs.Sent.{segments_of}
 use Rattle.someip_tp.specs.Parts.{Limits, Part, Parts, parts_at}
-use Rattle.someip_tp.specs.Offers.{Offer, offer, judgement, kept, parts_after, part_under, no_part, with_offer, is_unaligned, is_too_long, conflicts, message_of, message_at, parts_less}
-use Rattle.someip_tp.specs.Pieces.{byte_at}
+use Rattle.someip_tp.specs.SegmentOffers.{SegmentOffer, offer, judgement, kept, parts_after, part_under, no_part, with_offer, is_unaligned, is_too_long, conflicts, message_of, message_at, parts_less}
+use Rattle.someip_tp.specs.Slices.{byte_at}
 use Rattle.someip_tp.specs.Calls.{parts_after_call, parts_through}
 use Rattle.someip_tp.specs.Accepted.{IsSegmentOf, HoldsOnly, where_it_stands, accepted_after, accepted_through}
 use Rattle.someip_tp.proofs.Placed.{over, get-added}
-use Rattle.someip_tp.proofs.PieceLemmas.{byte_within}
+use Rattle.someip_tp.proofs.SliceLemmas.{byte_within}
 use Rattle.someip_tp.proofs.KeyOrder.{keys_total, same_from_test}
 use Rattle.someip_tp.proofs.SegmentsLemmas.{are_segments}
 use Rattle.someip_tp.proofs.SegmentTexts.{read_as_sent}
@@ -96,7 +96,7 @@ begins payload = record {
   total = λ total known. absurd (cc);
 }
 
-pub accepts : (m : MessageValue) (part : Part) (now : ℕ) (o : Offer) → HoldsOnly m.payload part → IsSegmentOf m o → HoldsOnly m.payload (with_offer part now o)
+pub accepts : (m : MessageValue) (part : Part) (now : ℕ) (o : SegmentOffer) → HoldsOnly m.payload part → IsSegmentOf m o → HoldsOnly m.payload (with_offer part now o)
 accepts m part now o holds is = record { bytes = bytes; total = λ total. known total o.more refl }
   where
     at : IsAt m is.0
@@ -104,7 +104,7 @@ accepts m part now o holds is = record { bytes = bytes; total = λ total. known 
 
     pick : (place b : ℕ) (x : Option ℕ) → byte_at o.offset o.bytes place ≡ x → over x (get part.bytes place) ≡ Some b → slice_get m.payload place ≡ Some b
     pick place b None none held = holds.bytes place b held
-    pick place b (Some c) some held = segment_byte m is.0 at place b (sym (ap (λ (x : Offer). byte_at x.offset x.bytes place) is.2) ∙ some ∙ held)
+    pick place b (Some c) some held = segment_byte m is.0 at place b (sym (ap (λ (x : SegmentOffer). byte_at x.offset x.bytes place) is.2) ∙ some ∙ held)
 
     bytes : (place b : ℕ) → get (with_offer part now o).bytes place ≡ Some b → slice_get m.payload place ≡ Some b
     bytes place b held = pick place b (byte_at o.offset o.bytes place) refl (sym (get-added part.bytes o.offset o.bytes place) ∙ held)
@@ -113,7 +113,7 @@ accepts m part now o holds is = record { bytes = bytes; total = λ total. known 
     known total true more tells = holds.total total tells
     known total false last tells =
         let same : o.offset + length o.bytes ≡ total = cc in
-        sym same ∙ ap (λ (x : Offer). x.offset + length x.bytes) is.2 ∙ last_ends m is.0 at (sym (ap (λ (x : Offer). x.more) is.2) ∙ last)
+        sym same ∙ ap (λ (x : SegmentOffer). x.offset + length x.bytes) is.2 ∙ last_ends m is.0 at (sym (ap (λ (x : SegmentOffer). x.more) is.2) ∙ last)
 
 pub whole_is_payload : (payload : List ℕ) (part : Part) (message : List ℕ) → HoldsOnly payload part → message_of part ≡ Some message → message ≡ payload
 whole_is_payload payload part message holds is =
@@ -124,11 +124,11 @@ whole_is_payload payload part message holds is =
 -- ---- any calls
 
 -- where all that was accepted into the part under a key are segments of the message, it holds nothing else
-abbrev Told : MessageValue → ReassemblyKey → List Offer → Parts → Type 0
+abbrev Told : MessageValue → ReassemblyKey → List SegmentOffer → Parts → Type 0
 Told m key accepted parts = AllByRecursion (IsSegmentOf m) accepted → (part : Part) → get parts key ≡ Some part → HoldsOnly m.payload part
 
 -- a part that still stands is as it was
-survives : (m : MessageValue) (key : ReassemblyKey) (accepted : List Offer) (parts next : Parts) → Told m key accepted parts → ((part : Part) → get next key ≡ Some part → get parts key ≡ Some part)
+survives : (m : MessageValue) (key : ReassemblyKey) (accepted : List SegmentOffer) (parts next : Parts) → Told m key accepted parts → ((part : Part) → get next key ≡ Some part → get parts key ≡ Some part)
     → Told m key (where_it_stands (get next key) accepted) next
 survives m key accepted parts next told same all part is = cases (get next key) refl all is
   where
@@ -137,7 +137,7 @@ survives m key accepted parts next told same all part is = cases (get next key) 
     cases (Some p) some all is = told all part (same part (some ∙ is))
 
 -- a segment is accepted into the part that is left, or begins one
-joined : (m : MessageValue) (key : ReassemblyKey) (accepted : List Offer) (left next : Parts) (now : ℕ) (o : Offer) → Told m key (where_it_stands (get left key) accepted) left
+joined : (m : MessageValue) (key : ReassemblyKey) (accepted : List SegmentOffer) (left next : Parts) (now : ℕ) (o : SegmentOffer) → Told m key (where_it_stands (get left key) accepted) left
     → get next key ≡ Some (with_offer (part_under left key) now o) → Told m key (o ∷ where_it_stands (get left key) accepted) next
 joined m key accepted left next now o told there all part is =
     let same : with_offer (part_under left key) now o ≡ part = cc (sym there ∙ is) in
@@ -147,7 +147,7 @@ joined m key accepted left next now o told there all part is =
     before None none = begins m.payload
     before (Some p) some = told all.1 p some
 
-offered_by_tests : (m : MessageValue) (key : ReassemblyKey) (accepted : List Offer) (parts left : Parts) (now : ℕ) (o : Offer) → Told m key accepted parts
+offered_by_tests : (m : MessageValue) (key : ReassemblyKey) (accepted : List SegmentOffer) (parts left : Parts) (now : ℕ) (o : SegmentOffer) → Told m key accepted parts
     → ((part : Part) → get left key ≡ Some part → get parts key ≡ Some part) → (unaligned long full clash same : Bool) → same_key key o.key ≡ same
     → Told m key
     (if is_ok (judged_by unaligned long full clash now o left) && same then o ∷ where_it_stands (get left key) accepted else where_it_stands (get (kept (judged_by unaligned long full clash now o left) now o left) key) accepted)
@@ -175,7 +175,7 @@ less_same parts k key part is = cases (is_some (message_at parts k)) is
     cases true is = removed_same (same_key key k) (get parts key) part (sym (get-remove keys_total parts k key) ∙ is)
     cases false is = is
 
-one_call : (limits : Limits) (m : MessageValue) (key : ReassemblyKey) (c : TpCall) (parts : Parts) (accepted : List Offer) → Told m key accepted parts
+one_call : (limits : Limits) (m : MessageValue) (key : ReassemblyKey) (c : TpCall) (parts : Parts) (accepted : List SegmentOffer) → Told m key accepted parts
     → Told m key (accepted_after limits key c parts accepted) (parts_after_call limits c parts)
 unfolding judgement parts_after
 one_call limits m key (call.Offer k offset more bytes now) parts accepted told =
@@ -187,7 +187,7 @@ one_call limits m key (call.Take k) parts accepted told = survives m key accepte
 one_call limits m key (call.Expire now) parts accepted told = survives m key accepted parts (parts_at limits now parts) told (λ part is. left_same limits now parts key part is)
 one_call limits m key call.Clear parts accepted told = λ all part is. no_value (get empty key) part (get-empty key_cmp key) is
 
-through : (limits : Limits) (m : MessageValue) (key : ReassemblyKey) (calls : List TpCall) (parts : Parts) (accepted : List Offer) → Told m key accepted parts
+through : (limits : Limits) (m : MessageValue) (key : ReassemblyKey) (calls : List TpCall) (parts : Parts) (accepted : List SegmentOffer) → Told m key accepted parts
     → Told m key (accepted_through limits key calls parts accepted) (parts_through limits calls parts)
 through limits m key [] parts accepted told = told
 through limits m key (c ∷ calls) parts accepted told =

@@ -17,14 +17,14 @@ use Rattle.someip_tables.specs.Retained.{kept_if as passed}
 use Rattle.someip_tp.specs.Segments.{SegmentValue, segment_at, segment_header}
 use Rattle.someip_tp.specs.Sent.{segments_of}
 use Rattle.someip_tp.specs.Parts.{Limits, Part, Parts, is_gone, parts_at}
-use Rattle.someip_tp.specs.Offers.{Offer, offer, placed, passes, differ, kept, parts_after, part_under, no_part, with_offer, total_of, is_unaligned, is_too_long, conflicts, message_of, message_at, parts_less}
-use Rattle.someip_tp.specs.Pieces.{byte_at}
+use Rattle.someip_tp.specs.SegmentOffers.{SegmentOffer, offer, placed, passes, differ, kept, parts_after, part_under, no_part, with_offer, total_of, is_unaligned, is_too_long, conflicts, message_of, message_at, parts_less}
+use Rattle.someip_tp.specs.Slices.{byte_at}
 use Rattle.someip_tp.specs.Wholes.{IsWhole}
 use Rattle.someip_tp.specs.Calls.{parts_through}
 use Rattle.someip_tp.specs.Accepted.{offered_segment, IsSegmentOf, HoldsOnly}
 use Rattle.someip_tp.specs.Arrivals.{offered_under, StandsThrough, AllArrive}
 use Rattle.someip_tp.proofs.Placed.{over, get-added, none_differs}
-use Rattle.someip_tp.proofs.PieceLemmas.{byte_from}
+use Rattle.someip_tp.proofs.SliceLemmas.{byte_from}
 use Rattle.someip_tp.proofs.PartialLemmas.{any_place, no_place_passes}
 use Rattle.someip_tp.proofs.KeyOrder.{keys_total, exact_keys, same_from_test, test_from_same}
 use Rattle.someip_tables.proofs.Entries.{get-retain}
@@ -47,7 +47,7 @@ unaligned_not rest = cases (nat_lt 1392 (length rest)) refl
     cases false test = refl
 
 -- what a segment is to its message
-record IsOwn (m : MessageValue) (o : Offer) : Type 0 where
+record IsOwn (m : MessageValue) (o : SegmentOffer) : Type 0 where
   aligned : is_unaligned o ≡ false
   within : o.offset + length o.bytes ≤ length m.payload
   byte : (place b : ℕ) → byte_at o.offset o.bytes place ≡ Some b → slice_get m.payload place ≡ Some b
@@ -68,7 +68,7 @@ own_segment m key s at = record {
   last = last_ends m s at;
 }
 
-is_own : (m : MessageValue) (o : Offer) → IsSegmentOf m o → IsOwn m o
+is_own : (m : MessageValue) (o : SegmentOffer) → IsSegmentOf m o → IsOwn m o
 is_own m o is = subst (IsOwn m) (sym is.2) (own_segment m o.key is.0 (segment_is m is.0 is.1))
 
 -- ---- it contradicts nothing
@@ -76,7 +76,7 @@ is_own m o is = subst (IsOwn m) (sym is.2) (own_segment m o.key is.0 (segment_is
 none_of_four : (a b c d : Bool) → a ≡ false → b ≡ false → c ≡ false → d ≡ false → (((a || b) || c) || d) ≡ false
 none_of_four a b c d p q r s = rw (p, q, r, s) refl
 
-agrees : (m : MessageValue) (part : Part) (o : Offer) → HoldsOnly m.payload part → IsOwn m o → conflicts part o ≡ false
+agrees : (m : MessageValue) (part : Part) (o : SegmentOffer) → HoldsOnly m.payload part → IsOwn m o → conflicts part o ≡ false
 agrees m part o holds own = none_of_four _ _ _ _ same (inside part.total refl) (told part.total refl) (held o.more refl)
   where
     same : list_any (λ e. differ (get part.bytes e.0) (Some e.1)) (placed o.offset o.bytes) ≡ false
@@ -115,7 +115,7 @@ agrees m part o holds own = none_of_four _ _ _ _ same (inside part.total refl) (
     held true more = refl
     held false last = no_place_passes (nat_le (o.offset + length o.bytes)) part.bytes (λ place some. below last place (get part.bytes place) refl some)
 
-by_tests : (unaligned long full clash : Bool) (now : ℕ) (o : Offer) (left : Parts) → unaligned ≡ false → long ≡ false → full ≡ false → clash ≡ false
+by_tests : (unaligned long full clash : Bool) (now : ℕ) (o : SegmentOffer) (left : Parts) → unaligned ≡ false → long ≡ false → full ≡ false → clash ≡ false
     → kept (judged_by unaligned long full clash now o left) now o left ≡ insert left o.key (with_offer (part_under left o.key) now o)
 by_tests true long full clash now o left p q r s = absurd cc
 by_tests false true full clash now o left p q r s = absurd cc
@@ -124,7 +124,7 @@ by_tests false false false true now o left p q r s = absurd cc
 by_tests false false false false now o left p q r s = refl
 
 -- so it is accepted
-joins : (limits : Limits) (m : MessageValue) (now : ℕ) (o : Offer) (parts : Parts) → IsOwn m o → length m.payload ≤ limits.limit
+joins : (limits : Limits) (m : MessageValue) (now : ℕ) (o : SegmentOffer) (parts : Parts) → IsOwn m o → length m.payload ≤ limits.limit
     → (is_none (get (parts_at limits now parts) o.key) && nat_le limits.slots (len (parts_at limits now parts))) ≡ false → HoldsOnly m.payload (part_under (parts_at limits now parts) o.key)
     → get (parts_after limits now o parts) o.key ≡ Some (with_offer (part_under (parts_at limits now parts) o.key) now o)
 unfolding parts_after
@@ -139,16 +139,16 @@ joins limits m now o parts own short room holds =
 -- ---- what a part has of the segments that were accepted
 
 -- each byte of the segment, and the total, if it is the last one
-abbrev Has : MessageValue → Part → Offer → Type 0
+abbrev Has : MessageValue → Part → SegmentOffer → Type 0
 Has m part o = ((place b : ℕ) → byte_at o.offset o.bytes place ≡ Some b → get part.bytes place ≡ Some b) × (o.more ≡ false → part.total ≡ Some (length m.payload))
 
-has_own : (m : MessageValue) (part : Part) (now : ℕ) (o : Offer) → IsOwn m o → Has m (with_offer part now o) o
+has_own : (m : MessageValue) (part : Part) (now : ℕ) (o : SegmentOffer) → IsOwn m o → Has m (with_offer part now o) o
 has_own m part now o own = (
   (λ place b is. get-added part.bytes o.offset o.bytes place ∙ ap (λ x. over x (get part.bytes place)) is),
   (λ last. ap (λ more. cond more part.total (cond more None (Some (o.offset + length o.bytes)))) last ∙ ap Some (own.last last)),
 )
 
-has_older : (m : MessageValue) (part : Part) (now : ℕ) (o older : Offer) → HoldsOnly m.payload part → IsOwn m o → Has m part older → Has m (with_offer part now o) older
+has_older : (m : MessageValue) (part : Part) (now : ℕ) (o older : SegmentOffer) → HoldsOnly m.payload part → IsOwn m o → Has m part older → Has m (with_offer part now o) older
 has_older m part now o older holds own has = (
   (λ place b is. get-added part.bytes o.offset o.bytes place ∙ pick place b (has.0 place b is) (byte_at o.offset o.bytes place) refl),
   (λ last. total (has.1 last) o.more refl),
@@ -162,11 +162,11 @@ has_older m part now o older holds own has = (
     total known true more = known
     total known false last = ap Some (own.last last)
 
-older_all : (m : MessageValue) (part : Part) (now : ℕ) (o : Offer) (seen : List Offer) → HoldsOnly m.payload part → IsOwn m o → AllByRecursion (Has m part) seen → AllByRecursion (Has m (with_offer part now o)) seen
+older_all : (m : MessageValue) (part : Part) (now : ℕ) (o : SegmentOffer) (seen : List SegmentOffer) → HoldsOnly m.payload part → IsOwn m o → AllByRecursion (Has m part) seen → AllByRecursion (Has m (with_offer part now o)) seen
 older_all m part now o [] holds own has = tt
 older_all m part now o (x ∷ seen) holds own has = (has_older m part now o x holds own has.0, older_all m part now o seen holds own has.1)
 
-all_push : (P : Offer → Type 0) (xs : List Offer) (x : Offer) → AllByRecursion P xs → P x → AllByRecursion P (xs ++ x ∷ [])
+all_push : (P : SegmentOffer → Type 0) (xs : List SegmentOffer) (x : SegmentOffer) → AllByRecursion P xs → P x → AllByRecursion P (xs ++ x ∷ [])
 all_push P [] x all one = (one, tt)
 all_push P (y ∷ xs) x all one = (all.0, all_push P xs x all.1 one)
 
@@ -174,7 +174,7 @@ all_push P (y ∷ xs) x all one = (all.0, all_push P xs x all.1 one)
 
 -- the part under the key holds the payload's bytes alone, each of those of the segments seen, and its last one came at
 -- the moment
-record Holding (m : MessageValue) (key : ReassemblyKey) (last : ℕ) (seen : List Offer) (parts : Parts) : Type 0 where
+record Holding (m : MessageValue) (key : ReassemblyKey) (last : ℕ) (seen : List SegmentOffer) (parts : Parts) : Type 0 where
   part : Part
   there : get parts key ≡ Some part
   holds : HoldsOnly m.payload part
@@ -190,11 +190,11 @@ stays limits now parts key part there young =
     ∙ ap (λ t. cond (not t) (Some part) None) test
 
 -- the same part where others change
-unchanged : (m : MessageValue) (key : ReassemblyKey) (last : ℕ) (seen : List Offer) (parts next : Parts) (h : Holding m key last seen parts) → get next key ≡ Some h.part → Holding m key last seen next
+unchanged : (m : MessageValue) (key : ReassemblyKey) (last : ℕ) (seen : List SegmentOffer) (parts next : Parts) (h : Holding m key last seen parts) → get next key ≡ Some h.part → Holding m key last seen next
 unchanged m key last seen parts next h there = record { part = h.part; there = there; holds = h.holds; at = h.at; has = h.has }
 
 -- a segment of the message more
-one_more : (limits : Limits) (m : MessageValue) (now last : ℕ) (o : Offer) (seen : List Offer) (parts : Parts) → IsSegmentOf m o → length m.payload ≤ limits.limit → now < last + limits.timeout
+one_more : (limits : Limits) (m : MessageValue) (now last : ℕ) (o : SegmentOffer) (seen : List SegmentOffer) (parts : Parts) → IsSegmentOf m o → length m.payload ≤ limits.limit → now < last + limits.timeout
     → Holding m o.key last seen parts → Holding m o.key now (seen ++ o ∷ []) (parts_after limits now o parts)
 one_more limits m now last o seen parts is short young h =
     let left = parts_at limits now parts in
@@ -212,7 +212,7 @@ one_more limits m now last o seen parts is short young h =
     }
 
 -- the first segment
-first_one : (limits : Limits) (m : MessageValue) (now : ℕ) (o : Offer) (parts : Parts) → IsSegmentOf m o → length m.payload ≤ limits.limit → get parts o.key ≡ None → len parts < limits.slots
+first_one : (limits : Limits) (m : MessageValue) (now : ℕ) (o : SegmentOffer) (parts : Parts) → IsSegmentOf m o → length m.payload ≤ limits.limit → get parts o.key ≡ None → len parts < limits.slots
     → Holding m o.key now (o ∷ []) (parts_after limits now o parts)
 first_one limits m now o parts is short none free =
     let left = parts_at limits now parts in
@@ -248,7 +248,7 @@ first_one limits m now o parts is short none free =
 
 -- ---- the other calls
 
-other_by_tests : (unaligned long full clash : Bool) (now : ℕ) (o : Offer) (left : Parts) (key : ReassemblyKey) (part : Part) → same_key key o.key ≡ false → get left key ≡ Some part
+other_by_tests : (unaligned long full clash : Bool) (now : ℕ) (o : SegmentOffer) (left : Parts) (key : ReassemblyKey) (part : Part) → same_key key o.key ≡ false → get left key ≡ Some part
     → get (kept (judged_by unaligned long full clash now o left) now o left) key ≡ Some part
 other_by_tests true long full clash now o left key part other there = there
 other_by_tests false true full clash now o left key part other there = there
@@ -259,7 +259,7 @@ other_by_tests false false false false now o left key part other there =
     get-insert keys_total left o.key (with_offer (part_under left o.key) now o) key ∙ ap (λ t. cond t (Some (with_offer (part_under left o.key) now o)) (get left key)) other ∙ there
 
 -- a segment of another key
-other_offer : (limits : Limits) (now : ℕ) (o : Offer) (parts : Parts) (key : ReassemblyKey) (part : Part) → same_key key o.key ≡ false → get (parts_at limits now parts) key ≡ Some part
+other_offer : (limits : Limits) (now : ℕ) (o : SegmentOffer) (parts : Parts) (key : ReassemblyKey) (part : Part) → same_key key o.key ≡ false → get (parts_at limits now parts) key ≡ Some part
     → get (parts_after limits now o parts) key ≡ Some part
 unfolding parts_after
 other_offer limits now o parts key part other there =
@@ -281,15 +281,15 @@ other_take parts k key part other there = cases (is_some (message_at parts k))
 
 -- ---- all calls
 
-abbrev Ends : MessageValue → ReassemblyKey → List Offer → Parts → Type 0
+abbrev Ends : MessageValue → ReassemblyKey → List SegmentOffer → Parts → Type 0
 Ends m key seen parts = (last : ℕ) × Holding m key last seen parts
 
-run : (limits : Limits) (m : MessageValue) (key : ReassemblyKey) (last : ℕ) (calls : List TpCall) (seen : List Offer) (parts : Parts) → length m.payload ≤ limits.limit
+run : (limits : Limits) (m : MessageValue) (key : ReassemblyKey) (last : ℕ) (calls : List TpCall) (seen : List SegmentOffer) (parts : Parts) → length m.payload ≤ limits.limit
     → AllByRecursion (IsSegmentOf m) (offered_under key calls) → StandsThrough limits key last calls → Holding m key last seen parts
     → Ends m key (seen ++ offered_under key calls) (parts_through limits calls parts)
-run limits m key last [] seen parts short own steady h = (last, subst (λ (t : List Offer). Holding m key last t parts) (sym (append-nil seen)) h)
+run limits m key last [] seen parts short own steady h = (last, subst (λ (t : List SegmentOffer). Holding m key last t parts) (sym (append-nil seen)) h)
 run limits m key last (call.Offer k offset more bytes now ∷ calls) seen parts short own steady h =
-    let o : Offer = offer k offset more bytes.now in
+    let o : SegmentOffer = offer k offset more bytes.now in
     let next = parts_after limits now o parts in
     let rest = offered_under key calls in
     let P : Bool → Type 0 = λ b. same_key key k ≡ b → AllByRecursion (IsSegmentOf m) (if b then o ∷ rest else rest) → StandsThrough limits key (if b then now else last) calls
@@ -298,7 +298,7 @@ run limits m key last (call.Offer k offset more bytes now ∷ calls) seen parts 
       | true ↦ λ test own steady_on.
           let one : key ≡ k = same_from_test key k test in
           let more_seen : Holding m k now (seen ++ o ∷ []) next = one_more limits m now last o seen parts own.0 short steady.0 (subst (λ q. Holding m q last seen parts) one h) in
-          subst (λ (t : List Offer). Ends m key t (parts_through limits calls next)) (append_assoc seen (o ∷ []) rest)
+          subst (λ (t : List SegmentOffer). Ends m key t (parts_through limits calls next)) (append_assoc seen (o ∷ []) rest)
           (run limits m key now calls (seen ++ o ∷ []) next short own.1 steady_on (subst (λ q. Holding m q now (seen ++ o ∷ []) next) (sym one) more_seen))
       | false ↦ λ test own steady_on.
           run limits m key last calls seen next short own steady_on
@@ -328,7 +328,7 @@ slice_out xs n o i below inside =
     let lt : i < length (take n (drop o xs)) = omega (arith, below, inside, length-take n (drop o xs), length-drop o xs) in
     slice_get-get_or (take n (drop o xs)) i 0 lt ∙ ap Some (rw (get_or-take n (drop o xs) i 0 below, get_or-drop) refl)
 
-whole : (m : MessageValue) (key : ReassemblyKey) (last : ℕ) (seen : List Offer) (parts : Parts) (h : Holding m key last seen parts) → 0 < length m.payload
+whole : (m : MessageValue) (key : ReassemblyKey) (last : ℕ) (seen : List SegmentOffer) (parts : Parts) (h : Holding m key last seen parts) → 0 < length m.payload
     → AllByRecursion (λ s. Contains seen (offered_segment key s)) (segments_of m) → IsWhole h.part m.payload
 whole m key last seen parts h some all = (total, λ place. bytes place (cases_lt place (length m.payload)))
   where
@@ -362,7 +362,7 @@ whole m key last seen parts h some all = (total, λ place. bytes place (cases_lt
         none None e = refl
         none (Some b) e = let short = slice_get_within m.payload place b (h.holds.bytes place b e) in absurd (omega (arith, short, past))
 
-pub all_make_it_whole : (limits : Limits) (m : MessageValue) (parts : Parts) (now : ℕ) (first : Offer) (calls : List TpCall) → get parts first.key ≡ None → len parts < limits.slots
+pub all_make_it_whole : (limits : Limits) (m : MessageValue) (parts : Parts) (now : ℕ) (first : SegmentOffer) (calls : List TpCall) → get parts first.key ≡ None → len parts < limits.slots
     → length m.payload ≤ limits.limit → AllArrive limits m now first calls → message_at (parts_through limits calls (parts_after limits now first parts)) first.key ≡ Some m.payload
 unfolding message_at
 all_make_it_whole limits m parts now first calls none free short arrive =

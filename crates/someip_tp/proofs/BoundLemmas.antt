@@ -13,15 +13,15 @@ use Rattle.someip_tp.specs.Parts.{Limits, Part, Parts, is_gone, parts_at}
 use Rattle.someip_tp.specs.declared.reassembly.Offered.{Offered}
 use Rattle.someip_tp.specs.declared.error.TpError.{TpError}
 use Rattle.someip_tp.specs.declared.error.TpError.TheVariants.{Unaligned, TooLong, Conflict, NoSlot, OutOfMemory}
-use Rattle.someip_tp.specs.Offers.{Offer as Segment, offer, part_or_whole, conflicts, is_unaligned, is_too_long, part_under, no_part, with_offer, parts_after, parts_less, message_at, kept as offer_kept}
-use Rattle.someip_tp.specs.Pieces.{byte_at}
+use Rattle.someip_tp.specs.SegmentOffers.{SegmentOffer as Segment, offer, part_or_whole, conflicts, is_unaligned, is_too_long, part_under, no_part, with_offer, parts_after, parts_less, message_at, kept as offer_kept}
+use Rattle.someip_tp.specs.Slices.{byte_at}
 use Rattle.someip_tp.specs.Wholes.{IsWithin}
 use Rattle.someip_tp.specs.declared.calls.TpCall.{TpCall}
 use Rattle.someip_tp.specs.declared.calls.TpCall.TheVariants.{Offer, Take, Expire, Clear}
 use Rattle.someip_tp.specs.Calls.{parts_after_call, parts_through}
 use Rattle.std.proofs.lemmas.Option.{slice_get_within}
 use Rattle.someip_tp.proofs.Placed.{over, get-added}
-use Rattle.someip_tp.proofs.PieceLemmas.{byte_within}
+use Rattle.someip_tp.proofs.SliceLemmas.{byte_within}
 use Rattle.someip_tp.proofs.KeyOrder.{keys_total, exact_keys}
 use Rattle.someip_tables.proofs.Entries.{own_test, get-retain}
 use Rattle.someip_tp.proofs.OfferLemmas.{offered_by}

@@ -1,5 +1,5 @@
 pub mod SegmentsLemmas
-pub mod PieceLemmas
+pub mod SliceLemmas
 pub mod Placed
 pub mod KeyOrder
 pub mod PartialLemmas

@@ -18,7 +18,7 @@ use Rattle.someip_tp.specs.declared.calls.TpCall.TheVariants as call
 use Rattle.someip_tp.specs.Keys.{key_cmp}
 use Rattle.someip_tables.specs.Retained.{kept_if as passed}
 use Rattle.someip_tp.specs.Parts.{Part, Parts, Limits, NoneAfter, is_gone, parts_at}
-use Rattle.someip_tp.specs.Offers.{Offer, offer, judged, kept, parts_after, part_under, with_offer, message_at, parts_less}
+use Rattle.someip_tp.specs.SegmentOffers.{SegmentOffer, offer, judged, kept, parts_after, part_under, with_offer, message_at, parts_less}
 use Rattle.someip_tp.specs.Calls.{MayCalls}
 use Rattle.someip_tp.specs.Moments.{IsAligned, AreInTime, moments, moment_after}
 use Rattle.someip_tables.proofs.Entries.{get-retain}
@@ -73,7 +73,7 @@ none_after-remove now key parts none q part h = cases (eq_by_cmp key_cmp q key) 
     cases true h = none_is now part h
     cases false h = none q part h
 
-none_after-kept : (r : Result Offered TpError) (at now : ℕ) (o : Offer) (parts : Parts) → now ≤ at → NoneAfter at parts → NoneAfter at (kept r now o parts)
+none_after-kept : (r : Result Offered TpError) (at now : ℕ) (o : SegmentOffer) (parts : Parts) → now ≤ at → NoneAfter at parts → NoneAfter at (kept r now o parts)
 none_after-kept (Ok offered) at now o parts le none = none_after-insert at o.key (with_offer (part_under parts o.key) now o) parts le none
 none_after-kept (Err Conflict) at now o parts le none = none_after-remove at o.key parts none
 none_after-kept (Err Unaligned) at now o parts le none = none
@@ -83,13 +83,13 @@ none_after-kept (Err OutOfMemory) at now o parts le none = none
 none_after-kept (Err NoHeader) at now o parts le none = none
 
 -- an offer at a moment, or before it
-none_after-offer_by : (at now : ℕ) (limits : Limits) (o : Offer) (parts : Parts) → now ≤ at → NoneAfter at parts → NoneAfter at (parts_after limits now o parts)
+none_after-offer_by : (at now : ℕ) (limits : Limits) (o : SegmentOffer) (parts : Parts) → now ≤ at → NoneAfter at parts → NoneAfter at (parts_after limits now o parts)
 unfolding parts_after
 none_after-offer_by at now limits o parts le none =
     let left = parts_at limits now parts in
     none_after-kept (judged limits now o left) at now o left le (none_after-parts_at at limits now parts none)
 
-pub none_after-offer : (now : ℕ) (limits : Limits) (o : Offer) (parts : Parts) → NoneAfter now parts → NoneAfter now (parts_after limits now o parts)
+pub none_after-offer : (now : ℕ) (limits : Limits) (o : SegmentOffer) (parts : Parts) → NoneAfter now parts → NoneAfter now (parts_after limits now o parts)
 none_after-offer now limits o parts none = none_after-offer_by now now limits o parts (omega arith) none
 
 pub none_after-take : (now : ℕ) (key : ReassemblyKey) (parts : Parts) → NoneAfter now parts → NoneAfter now (parts_less parts key)
@@ -229,11 +229,11 @@ may_run limits parts calls is fit = subst (MayCalls limits calls) (sym is) (in_t
 -- ---- an offer that was made
 
 -- whether memory was wanting or not
-pub none_after-offered_by : (at now : ℕ) (limits : Limits) (o : Offer) (parts left : Parts) (r : Result Offered TpError) → (r ≢ Err OutOfMemory → left ≡ parts_after limits now o parts)
+pub none_after-offered_by : (at now : ℕ) (limits : Limits) (o : SegmentOffer) (parts left : Parts) (r : Result Offered TpError) → (r ≢ Err OutOfMemory → left ≡ parts_after limits now o parts)
     → (r ≡ Err OutOfMemory → left ≡ parts_at limits now parts) → now ≤ at → NoneAfter at parts → NoneAfter at left
 none_after-offered_by at now limits o parts left r after gone le none =
     offered_by (NoneAfter at) limits now o parts left r after gone (none_after-offer_by at now limits o parts le none) (none_after-parts_at at limits now parts none)
 
-pub none_after-offered : (now : ℕ) (limits : Limits) (o : Offer) (parts left : Parts) (r : Result Offered TpError) → (r ≢ Err OutOfMemory → left ≡ parts_after limits now o parts)
+pub none_after-offered : (now : ℕ) (limits : Limits) (o : SegmentOffer) (parts left : Parts) (r : Result Offered TpError) → (r ≢ Err OutOfMemory → left ≡ parts_after limits now o parts)
     → (r ≡ Err OutOfMemory → left ≡ parts_at limits now parts) → NoneAfter now parts → NoneAfter now left
 none_after-offered now limits o parts left r after gone none = none_after-offered_by now now limits o parts left r after gone (omega arith) none

@@ -7,11 +7,11 @@ use Rattle.someip_tp.specs.declared.reassembly.Offered.TheVariants.{Part as InPa
 use Rattle.someip_tp.specs.declared.error.TpError.{TpError}
 use Rattle.someip_tp.specs.declared.error.TpError.TheVariants.{Unaligned, TooLong, Conflict, NoSlot, OutOfMemory, NoHeader}
 use Rattle.someip_tp.specs.Parts.{Limits, Part, Parts, parts_at}
-use Rattle.someip_tp.specs.Offers.{Offer, judgement, kept, parts_after, message_of, message_at, part_or_whole, with_offer, part_under, is_unaligned, is_too_long, conflicts}
+use Rattle.someip_tp.specs.SegmentOffers.{SegmentOffer, judgement, kept, parts_after, message_of, message_at, part_or_whole, with_offer, part_under, is_unaligned, is_too_long, conflicts}
 use Rattle.someip_tp.proofs.KeyOrder.{keys_total, test_from_same}
 
 -- what is true of the parts after the offer, and of those that are left at its moment, is true of what it leaves
-pub offered_by : (P : Parts → Type 0) (limits : Limits) (now : ℕ) (o : Offer) (parts left : Parts) (r : Result Offered TpError) → (r ≢ Err OutOfMemory → left ≡ parts_after limits now o parts)
+pub offered_by : (P : Parts → Type 0) (limits : Limits) (now : ℕ) (o : SegmentOffer) (parts left : Parts) (r : Result Offered TpError) → (r ≢ Err OutOfMemory → left ≡ parts_after limits now o parts)
     → (r ≡ Err OutOfMemory → left ≡ parts_at limits now parts) → P (parts_after limits now o parts) → P (parts_at limits now parts) → P left
 offered_by P limits now o parts left r after gone kept_so gone_so = cases r after gone
   where
@@ -26,16 +26,16 @@ offered_by P limits now o parts left r after gone kept_so gone_so = cases r afte
 
 -- ---- whole
 
-there : (left : Parts) (o : Offer) (p : Part) → get (insert left o.key p) o.key ≡ Some p
+there : (left : Parts) (o : SegmentOffer) (p : Part) → get (insert left o.key p) o.key ≡ Some p
 there left o p = get-insert keys_total left o.key p o.key ∙ ap (λ t. cond t (Some p) (get left o.key)) (test_from_same o.key o.key refl)
 
 -- the judgement, by its four tests
-abbrev pub judged_by : (unaligned long full clash : Bool) → ℕ → Offer → Parts → Result Offered TpError
+abbrev pub judged_by : (unaligned long full clash : Bool) → ℕ → SegmentOffer → Parts → Result Offered TpError
 judged_by unaligned long full clash now o left =
     if unaligned then Err Unaligned else (if long then Err TooLong else (if full then Err NoSlot else (if clash then Err Conflict else Ok (part_or_whole (with_offer (part_under left o.key) now o)))))
 
 -- an accepted segment is in its part
-accepted_by : (unaligned long full clash : Bool) (now : ℕ) (o : Offer) (left : Parts) (offered : Offered) → judged_by unaligned long full clash now o left ≡ Ok offered
+accepted_by : (unaligned long full clash : Bool) (now : ℕ) (o : SegmentOffer) (left : Parts) (offered : Offered) → judged_by unaligned long full clash now o left ≡ Ok offered
     → (option_and_then message_of (get (kept (judged_by unaligned long full clash now o left) now o left) o.key) ≡ message_of (with_offer (part_under left o.key) now o))
     × (part_or_whole (with_offer (part_under left o.key) now o) ≡ offered)
 accepted_by true long full clash now o left offered h = absurd cc
@@ -44,7 +44,7 @@ accepted_by false false true clash now o left offered h = absurd cc
 accepted_by false false false true now o left offered h = absurd cc
 accepted_by false false false false now o left offered h = (ap (option_and_then message_of) (there left o (with_offer (part_under left o.key) now o)), cc)
 
-accepted : (limits : Limits) (now : ℕ) (o : Offer) (parts : Parts) (offered : Offered) → judgement limits now o parts ≡ Ok offered
+accepted : (limits : Limits) (now : ℕ) (o : SegmentOffer) (parts : Parts) (offered : Offered) → judgement limits now o parts ≡ Ok offered
     → (message_at (parts_after limits now o parts) o.key ≡ message_of (with_offer (part_under (parts_at limits now parts) o.key) now o))
     × (part_or_whole (with_offer (part_under (parts_at limits now parts) o.key) now o) ≡ offered)
 unfolding judgement parts_after message_at
@@ -60,12 +60,12 @@ told_part : (m : Option (List ℕ)) → (if is_some m then Whole else InPart) �
 told_part (Some message) h = absurd cc
 told_part None h = refl
 
-pub whole_is_there : (limits : Limits) (now : ℕ) (o : Offer) (parts : Parts) → judgement limits now o parts ≡ Ok Whole → is_some (message_at (parts_after limits now o parts) o.key) ≡ true
+pub whole_is_there : (limits : Limits) (now : ℕ) (o : SegmentOffer) (parts : Parts) → judgement limits now o parts ≡ Ok Whole → is_some (message_at (parts_after limits now o parts) o.key) ≡ true
 whole_is_there limits now o parts h =
     let a = accepted limits now o parts Whole h in
     ap is_some a.0 ∙ told_whole (message_of (with_offer (part_under (parts_at limits now parts) o.key) now o)) a.1
 
-pub part_is_none : (limits : Limits) (now : ℕ) (o : Offer) (parts : Parts) → judgement limits now o parts ≡ Ok InPart → message_at (parts_after limits now o parts) o.key ≡ None
+pub part_is_none : (limits : Limits) (now : ℕ) (o : SegmentOffer) (parts : Parts) → judgement limits now o parts ≡ Ok InPart → message_at (parts_after limits now o parts) o.key ≡ None
 part_is_none limits now o parts h =
     let a = accepted limits now o parts InPart h in
     a.0 ∙ told_part (message_of (with_offer (part_under (parts_at limits now parts) o.key) now o)) a.1

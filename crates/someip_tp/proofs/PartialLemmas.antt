@@ -15,11 +15,11 @@ use Rattle.std.proofs.Math.Bool.{and-false}
 use Rattle.std.proofs.lemmas.Option.{slice_get_within, slice_get-get_or, unwrap_or-slice_get}
 use Rattle.someip_tables.proofs.Entries.{same_by_test, own_test}
 use Rattle.someip_tp.specs.Parts.{Part}
-use Rattle.someip_tp.specs.Offers.{Offer, placed, added, passes, differ, total_of, conflicts, message_of, are_exactly_below}
-use Rattle.someip_tp.specs.declared.pieces.Piece.{Piece}
-use Rattle.someip_tp.specs.Pieces.{byte_at, bytes_in, end_of, AreOneText, IsFront, AreFront, AppendsFront}
+use Rattle.someip_tp.specs.SegmentOffers.{SegmentOffer, placed, added, passes, differ, total_of, conflicts, message_of, are_exactly_below}
+use Rattle.someip_tp.specs.declared.slices.Slice.{Slice}
+use Rattle.someip_tp.specs.Slices.{byte_at, bytes_in, end_of, AreOneText, IsFront, AreFront, AppendsFront}
 use Rattle.someip_tp.proofs.Placed.{or_false, over, get-added}
-use Rattle.someip_tp.proofs.PieceLemmas.{piece_with, get-bytes_in, byte_within, byte_from}
+use Rattle.someip_tp.proofs.SliceLemmas.{slice_with, get-bytes_in, byte_within, byte_from}
 
 -- the places of a slice that pass a total
 pub any_place : (total offset : ℕ) (bs : List ℕ) → list_any (nat_le total) (map (λ (e : ℕ × ℕ). e.0) (placed offset bs)) ≡ (nat_lt 0 (length bs) && nat_lt total (offset + length bs))
@@ -63,9 +63,9 @@ both_hold : (a b : Bool) → (a && b) ≡ true → (a ≡ true) × (b ≡ true)
 both_hold true b h = (refl, h)
 both_hold false b h = cc
 
-pub reached_by : (pieces : List Piece) (i : ℕ) (p : Piece) (total : ℕ) → i < length pieces → p ≡ get_or pieces i p → AreOneText pieces
-    → (nat_lt 0 (length p.bytes.items) && nat_lt total (end_of p)) ≡ true → list_any (nat_le total) (keys (bytes_in pieces)) ≡ true
-reached_by pieces i p total lt is one reaches =
+pub reached_by : (slices : List Slice) (i : ℕ) (p : Slice) (total : ℕ) → i < length slices → p ≡ get_or slices i p → AreOneText slices
+    → (nat_lt 0 (length p.bytes.items) && nat_lt total (end_of p)) ≡ true → list_any (nat_le total) (keys (bytes_in slices)) ≡ true
+reached_by slices i p total lt is one reaches =
     let tests = both_hold (nat_lt 0 (length p.bytes.items)) (nat_lt total (end_of p)) reaches in
     let filled : 0 < length p.bytes.items = grind (arith, nat_tests, tests.0) in
     let past : total < end_of p = grind (arith, nat_tests, tests.1) in
@@ -73,21 +73,21 @@ reached_by pieces i p total lt is one reaches =
     let there : p.offset ≤ place = omega (arith, filled) in
     let inside : place < end_of p = omega (arith, filled) in
     let this = slice_get-get_or p.bytes.items (place - p.offset) 0 (omega (arith, filled)) in
-    let held : get (bytes_in pieces) place ≡ Some (get_or p.bytes.items (place - p.offset) 0) =
-    one i p lt place _ (ap (λ (x : Piece). byte_at x.offset x.bytes.items place) (sym is) ∙ byte_from p.offset p.bytes.items place _ there this) in
-    a_place_passes (nat_le total) (bytes_in pieces) place (ap is_some held) (grind (arith, nat_tests, past))
+    let held : get (bytes_in slices) place ≡ Some (get_or p.bytes.items (place - p.offset) 0) =
+    one i p lt place _ (ap (λ (x : Slice). byte_at x.offset x.bytes.items place) (sym is) ∙ byte_from p.offset p.bytes.items place _ there this) in
+    a_place_passes (nat_le total) (bytes_in slices) place (ap is_some held) (grind (arith, nat_tests, past))
 
-pub not_reached : (pieces : List Piece) (total : ℕ) → ((k : ℕ) (d : Piece) → k < length pieces → (nat_lt 0 (length (get_or pieces k d).bytes.items) && nat_lt total (end_of (get_or pieces k d))) ≡ false)
-    → list_any (nat_le total) (keys (bytes_in pieces)) ≡ false
-not_reached pieces total none = no_place_passes (nat_le total) (bytes_in pieces) (λ place held. cases place (get (bytes_in pieces) place) refl held)
+pub not_reached : (slices : List Slice) (total : ℕ) → ((k : ℕ) (d : Slice) → k < length slices → (nat_lt 0 (length (get_or slices k d).bytes.items) && nat_lt total (end_of (get_or slices k d))) ≡ false)
+    → list_any (nat_le total) (keys (bytes_in slices)) ≡ false
+not_reached slices total none = no_place_passes (nat_le total) (bytes_in slices) (λ place held. cases place (get (bytes_in slices) place) refl held)
   where
-    cases : (place : ℕ) (o : Option ℕ) → get (bytes_in pieces) place ≡ o → is_some o ≡ true → nat_le total place ≡ false
+    cases : (place : ℕ) (o : Option ℕ) → get (bytes_in slices) place ≡ o → is_some o ≡ true → nat_le total place ≡ false
     cases place None is held = cc
     cases place (Some a) is held =
-        piece_with pieces place a (sym (get-bytes_in pieces place) ∙ is) (λ k p lt at this.
+        slice_with slices place a (sym (get-bytes_in slices place) ∙ is) (λ k p lt at this.
         let inside = byte_within p.offset p.bytes.items place a this in
         let short = slice_get_within p.bytes.items (place - p.offset) a inside.1 in
-        let test = ap (λ (x : Piece). nat_lt 0 (length x.bytes.items) && nat_lt total (end_of x)) (sym at) ∙ none k p lt in
+        let test = ap (λ (x : Slice). nat_lt 0 (length x.bytes.items) && nat_lt total (end_of x)) (sym at) ∙ none k p lt in
         let filled : nat_lt 0 (length p.bytes.items) ≡ true = grind (arith, nat_tests, short) in
         let not_past : nat_lt total (end_of p) ≡ false = rw filled at test in
         grind (arith, nat_tests, not_past, short, inside.0))
@@ -95,7 +95,7 @@ not_reached pieces total none = no_place_passes (nat_le total) (bytes_in pieces)
 -- ---- a segment that contradicts nothing
 
 -- the four ways in which a segment may contradict a part, none of which is so
-pub no_conflict : (part : Part) (o : Offer) → conflicts part o ≡ false
+pub no_conflict : (part : Part) (o : SegmentOffer) → conflicts part o ≡ false
     → (list_any (λ e. differ (get part.bytes e.0) (Some e.1)) (placed o.offset o.bytes) ≡ false)
     × (passes part.total (map (λ (e : ℕ × ℕ). e.0) (placed o.offset o.bytes)) ≡ false)
     × (differ part.total (total_of o) ≡ false)
@@ -141,7 +141,7 @@ old_byte_below known offset false bs bytes total place none below held is =
     let lt = not_past (offset + length bs) place bytes none held in
     omega (arith, same, lt)
 
-pub below_still : (part : Part) (o : Offer) (bytes : FinMap nat_cmp ℕ) → bytes ≡ added part.bytes (placed o.offset o.bytes) → conflicts part o ≡ false
+pub below_still : (part : Part) (o : SegmentOffer) (bytes : FinMap nat_cmp ℕ) → bytes ≡ added part.bytes (placed o.offset o.bytes) → conflicts part o ≡ false
     → ((total place : ℕ) → part.total ≡ Some total → is_some (get part.bytes place) ≡ true → place < total)
     → (total place : ℕ) → (if o.more then part.total else Some (o.offset + length o.bytes)) ≡ Some total → is_some (get bytes place) ≡ true → place < total
 below_still part o bytes is h below total place known held =

@@ -7,8 +7,8 @@ use Rattle.std.proofs.lemmas.Bool.Decides.{nat_tests}
 use Rattle.std.proofs.lemmas.Grind.{common_steps}
 use Rattle.std.specs.Ordering.{nat_cmp}
 use Rattle.std.specs.FinMap.{FinMap, get, insert, gets}
-use Rattle.someip_tp.specs.Offers.{placed, added, differ}
-use Rattle.someip_tp.specs.Pieces.{byte_at, Agree}
+use Rattle.someip_tp.specs.SegmentOffers.{placed, added, differ}
+use Rattle.someip_tp.specs.Slices.{byte_at, Agree}
 
 pub or_false : (a b : Bool) → (a || b) ≡ false → (a ≡ false) × (b ≡ false)
 or_false true b p = cc

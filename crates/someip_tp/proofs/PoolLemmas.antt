@@ -6,7 +6,7 @@ use Rattle.std.specs.List.{list_any}
 use Rattle.std.proofs.lemmas.Bool.Decides.{nat_tests}
 use Rattle.std.proofs.lemmas.Bool.{eqb-true}
 use Rattle.std.proofs.lemmas.Option.{same_Some}
-use Rattle.someip_tp.specs.Offers.{Offer, placed, conflicts, passes, differ, total_of}
+use Rattle.someip_tp.specs.SegmentOffers.{SegmentOffer, placed, conflicts, passes, differ, total_of}
 use Rattle.someip_tp.specs.declared.pool.room.Room.{Room}
 use Rattle.someip_tp.specs.declared.pool.part.RoomPart.TheInside.{Inside}
 use Rattle.someip_tp.specs.Rooms.{held_bytes, Continues, IsConsistent}
@@ -23,7 +23,7 @@ pub record Fit (p : Inside) (offset : ℕ) (more : Bool) (len : ℕ) : Type 0 wh
   -- the last slice tells the total that is known
   pub agrees : (total : ℕ) → p.total ≡ Some total → more ≡ false → total ≡ offset + len
 
-pub fit_of : (p : Inside) (o : Offer) → IsConsistent p.room → conflicts (view_part p).entry.1 o ≡ false → Fit p o.offset o.more (length o.bytes)
+pub fit_of : (p : Inside) (o : SegmentOffer) → IsConsistent p.room → conflicts (view_part p).entry.1 o ≡ false → Fit p o.offset o.more (length o.bytes)
 fit_of p o ok fits =
     let none = no_conflict (view_part p).entry.1 o fits in
     record {

@@ -17,7 +17,7 @@ use Rattle.someip_tp.specs.RoomParts.{PartInRoom}
 use Rattle.someip_tp.specs.Pools.{entries_of}
 use Rattle.someip_tp.specs.Stores.{StandsAt, parts_of_entries}
 use Rattle.someip_tp.specs.Parts.{is_gone}
-use Rattle.someip_tp.specs.Offers.{Offer, with_offer, message_of, message_at, parts_less, part_under}
+use Rattle.someip_tp.specs.SegmentOffers.{SegmentOffer, with_offer, message_of, message_at, parts_less, part_under}
 use Rattle.someip_tp.proofs.KeyOrder.{same_from_test}
 use Rattle.someip_tp.proofs.StoreLemmas.{stands, message_there, entry_under, parts_less_whole, changed_parts, count_is}
 
@@ -170,7 +170,7 @@ freed_parts key es new i distinct at is whole = ap parts_of_entries (freed key e
 pub changed_entries : (ps : List PartInRoom) (i : ℕ) (n : PartInRoom) → entries_of (set ps i n) ≡ set (entries_of ps) i n.entry
 changed_entries ps i n = map-set (λ (p : PartInRoom). p.entry) ps i n
 
-pub parts_once_changed : (key : ReassemblyKey) (now : ℕ) (o : Offer) (ps : List PartInRoom) (i : ℕ) (p n : PartInRoom) → are_distinct key_cmp (entries_of ps) ≡ true → StandsAt key (entries_of ps) (Some i) → p ≡ get_or ps i p
+pub parts_once_changed : (key : ReassemblyKey) (now : ℕ) (o : SegmentOffer) (ps : List PartInRoom) (i : ℕ) (p n : PartInRoom) → are_distinct key_cmp (entries_of ps) ≡ true → StandsAt key (entries_of ps) (Some i) → p ≡ get_or ps i p
     → n.entry ≡ (p.entry.0, with_offer p.entry.1 now o)
     → parts_of_entries (entries_of (set ps i n)) ≡ insert (parts_of_entries (entries_of ps)) key (with_offer (part_under (parts_of_entries (entries_of ps)) key) now o)
 parts_once_changed key now o ps i p n distinct at is new =

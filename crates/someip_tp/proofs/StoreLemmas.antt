@@ -14,7 +14,7 @@ use Rattle.someip_tp.specs.declared.reassembly.Offered.{Offered}
 use Rattle.someip_tp.specs.declared.error.TpError.{TpError}
 use Rattle.someip_tp.specs.declared.error.TpError.TheVariants.{Unaligned, TooLong, Conflict, NoSlot, OutOfMemory, NoHeader}
 use Rattle.std.specs.Result.{is_ok, OnErr}
-use Rattle.someip_tp.specs.Offers.{Offer, judged, judgement, kept, parts_after, judged_among, part_or_whole, part_under, no_part, conflicts, passes, total_of, with_offer, message_of, message_at, parts_less}
+use Rattle.someip_tp.specs.SegmentOffers.{SegmentOffer, judged, judgement, kept, parts_after, judged_among, part_or_whole, part_under, no_part, conflicts, passes, total_of, with_offer, message_of, message_at, parts_less}
 use Rattle.someip_tp.specs.Partials.{Entry}
 use Rattle.someip_tp.specs.Stores.{StandsAt, Acts, parts_of_entries}
 use Rattle.someip_tp.proofs.Placed.{none_differs}
@@ -128,7 +128,7 @@ changed_distinct es i e n distinct lt is same = distinct-set n.0 n.1 es i distin
 pub entry_under : (key : ReassemblyKey) (es : List Entry) (i : ℕ) (e : Entry) → are_distinct key_cmp es ≡ true → StandsAt key es (Some i) → e ≡ get_or es i e → part_under (parts_of_entries es) key ≡ e.1
 entry_under key es i e distinct at is = part_under_there key es i e distinct at ∙ sym (ap (λ (x : Entry). x.1) is)
 
-pub changed_parts : (key : ReassemblyKey) (now : ℕ) (o : Offer) (es : List Entry) (i : ℕ) (e n : Entry) → are_distinct key_cmp es ≡ true → StandsAt key es (Some i) → e ≡ get_or es i e
+pub changed_parts : (key : ReassemblyKey) (now : ℕ) (o : SegmentOffer) (es : List Entry) (i : ℕ) (e n : Entry) → are_distinct key_cmp es ≡ true → StandsAt key es (Some i) → e ≡ get_or es i e
     → n ≡ (e.0, with_offer e.1 now o) → parts_of_entries (set es i n) ≡ insert (parts_of_entries es) key (with_offer (part_under (parts_of_entries es) key) now o)
 changed_parts key now o es i e n distinct at is new =
     let same : n.0 ≡ e.0 = ap (λ (x : Entry). x.0) new in
@@ -144,7 +144,7 @@ pushed_distinct key es n distinct none own = entries.distinct-push keys_total ex
 pub pushed_parts : (key : ReassemblyKey) (part : Part) (es : List Entry) (n : Entry) → StandsAt key es None → n ≡ (key, part) → parts_of_entries (es ++ n ∷ []) ≡ insert (parts_of_entries es) key part
 pushed_parts key part es n none is = ap (λ (x : Entry). parts_of_entries (es ++ x ∷ [])) is ∙ from_entries_push keys_total exact_keys es key part none
 
-pub nothing_conflicts : (o : Offer) → conflicts no_part o ≡ false
+pub nothing_conflicts : (o : SegmentOffer) → conflicts no_part o ≡ false
 nothing_conflicts o =
     rw (none_differs (get empty) o.offset o.bytes (λ place a b h k. nothing place a h), last (total_of o)) refl
   where
@@ -181,36 +181,36 @@ count_is es distinct = entries.len-from_entries keys_total exact_keys es distinc
 
 -- ---- how a segment is judged
 
-pub judged_conflict : (slots now : ℕ) (o : Offer) (parts : Parts) (part : Part) → get parts o.key ≡ Some part → conflicts (part_under parts o.key) o ≡ true → Err Conflict ≡ judged_among slots now o parts
+pub judged_conflict : (slots now : ℕ) (o : SegmentOffer) (parts : Parts) (part : Part) → get parts o.key ≡ Some part → conflicts (part_under parts o.key) o ≡ true → Err Conflict ≡ judged_among slots now o parts
 judged_conflict slots now o parts part there clash =
     let known : is_none (get parts o.key) ≡ false = ap is_none there in
     rw (known, clash) refl
 
-pub judged_fit : (slots now : ℕ) (o : Offer) (parts : Parts) (part : Part) → get parts o.key ≡ Some part → conflicts (part_under parts o.key) o ≡ false
+pub judged_fit : (slots now : ℕ) (o : SegmentOffer) (parts : Parts) (part : Part) → get parts o.key ≡ Some part → conflicts (part_under parts o.key) o ≡ false
     → Ok (part_or_whole (with_offer (part_under parts o.key) now o)) ≡ judged_among slots now o parts
 judged_fit slots now o parts part there fits =
     let known : is_none (get parts o.key) ≡ false = ap is_none there in
     rw (known, fits) refl
 
-pub judged_full : (slots now : ℕ) (o : Offer) (parts : Parts) → get parts o.key ≡ None → nat_le slots (len parts) ≡ true → Err NoSlot ≡ judged_among slots now o parts
+pub judged_full : (slots now : ℕ) (o : SegmentOffer) (parts : Parts) → get parts o.key ≡ None → nat_le slots (len parts) ≡ true → Err NoSlot ≡ judged_among slots now o parts
 judged_full slots now o parts none full =
     let new : is_none (get parts o.key) ≡ true = ap is_none none in
     rw (new, full) refl
 
-pub judged_new : (slots now : ℕ) (o : Offer) (parts : Parts) → get parts o.key ≡ None → nat_le slots (len parts) ≡ false → Ok (part_or_whole (with_offer no_part now o)) ≡ judged_among slots now o parts
+pub judged_new : (slots now : ℕ) (o : SegmentOffer) (parts : Parts) → get parts o.key ≡ None → nat_le slots (len parts) ≡ false → Ok (part_or_whole (with_offer no_part now o)) ≡ judged_among slots now o parts
 judged_new slots now o parts none room =
     let new : is_none (get parts o.key) ≡ true = ap is_none none in
     let empty_part : part_under parts o.key ≡ no_part = ap (λ p. unwrap_or p no_part) none in
     rw (new, room, empty_part, nothing_conflicts o) refl
 
-pub ok_acts : (judgement : Result Offered TpError) (now : ℕ) (o : Offer) (old new : Parts) (r : Result Offered TpError) (offered : Offered) → r ≡ Ok offered → Ok offered ≡ judgement
+pub ok_acts : (judgement : Result Offered TpError) (now : ℕ) (o : SegmentOffer) (old new : Parts) (r : Result Offered TpError) (offered : Offered) → r ≡ Ok offered → Ok offered ≡ judgement
     → new ≡ insert old o.key (with_offer (part_under old o.key) now o) → Acts judgement now o old r new
 ok_acts judgement now o old new r offered is told changed = subst (λ x. Acts judgement now o old x new) (sym is) (told, changed)
 
-pub wanting_acts : (judgement : Result Offered TpError) (now : ℕ) (o : Offer) (old new : Parts) (r : Result Offered TpError) (offered : Offered) → r ≡ Err OutOfMemory → Ok offered ≡ judgement → new ≡ old → Acts judgement now o old r new
+pub wanting_acts : (judgement : Result Offered TpError) (now : ℕ) (o : SegmentOffer) (old new : Parts) (r : Result Offered TpError) (offered : Offered) → r ≡ Err OutOfMemory → Ok offered ≡ judgement → new ≡ old → Acts judgement now o old r new
 wanting_acts judgement now o old new r offered is told same = subst (λ x. Acts judgement now o old x new) (sym is) (ap is_ok (sym told), same)
 
-pub no_part_under : (key : ReassemblyKey) (now : ℕ) (o : Offer) (parts : Parts) → get parts key ≡ None → insert parts key (with_offer no_part now o) ≡ insert parts key (with_offer (part_under parts key) now o)
+pub no_part_under : (key : ReassemblyKey) (now : ℕ) (o : SegmentOffer) (parts : Parts) → get parts key ≡ None → insert parts key (with_offer no_part now o) ≡ insert parts key (with_offer (part_under parts key) now o)
 no_part_under key now o parts none = ap (λ p. insert parts key (with_offer p now o)) (sym (ap (λ p. unwrap_or p no_part) none))
 
 -- ---- a message is taken
@@ -239,7 +239,7 @@ nothing_appended bytes (Some m) none = cc
 
 -- ---- what an act says
 
-pub acts_judged : (judgement : Result Offered TpError) (now : ℕ) (o : Offer) (old new : Parts) (r : Result Offered TpError) → Acts judgement now o old r new → r ≢ Err OutOfMemory → (r ≡ judgement) × (new ≡ kept r now o old)
+pub acts_judged : (judgement : Result Offered TpError) (now : ℕ) (o : SegmentOffer) (old new : Parts) (r : Result Offered TpError) → Acts judgement now o old r new → r ≢ Err OutOfMemory → (r ≡ judgement) × (new ≡ kept r now o old)
 acts_judged judgement now o old new (Ok x) acts apart = acts
 acts_judged judgement now o old new (Err Unaligned) acts apart = acts
 acts_judged judgement now o old new (Err TooLong) acts apart = acts
@@ -248,22 +248,22 @@ acts_judged judgement now o old new (Err NoSlot) acts apart = acts
 acts_judged judgement now o old new (Err NoHeader) acts apart = acts
 acts_judged judgement now o old new (Err OutOfMemory) acts apart = absurd (apart refl)
 
-pub acts_wanting : (judgement : Result Offered TpError) (now : ℕ) (o : Offer) (old new : Parts) (r : Result Offered TpError) → Acts judgement now o old r new → r ≡ Err OutOfMemory → (is_ok judgement ≡ true) × (new ≡ old)
+pub acts_wanting : (judgement : Result Offered TpError) (now : ℕ) (o : SegmentOffer) (old new : Parts) (r : Result Offered TpError) → Acts judgement now o old r new → r ≡ Err OutOfMemory → (is_ok judgement ≡ true) × (new ≡ old)
 acts_wanting judgement now o old new r acts is = subst (λ x. Acts judgement now o old x new) is acts
 
-pub judged_so : (limits : Limits) (now : ℕ) (o : Offer) (parts left new : Parts) (r : Result Offered TpError) → left ≡ parts_at limits now parts → Acts (judged limits now o left) now o left r new → r ≢ Err OutOfMemory
+pub judged_so : (limits : Limits) (now : ℕ) (o : SegmentOffer) (parts left new : Parts) (r : Result Offered TpError) → left ≡ parts_at limits now parts → Acts (judged limits now o left) now o left r new → r ≢ Err OutOfMemory
     → r ≡ judgement limits now o parts
 unfolding judgement
 judged_so limits now o parts left new r is acts apart = (acts_judged _ now o left new r acts apart).0 ∙ ap (judged limits now o) is
 
-pub changed_so : (limits : Limits) (now : ℕ) (o : Offer) (parts left new : Parts) (r : Result Offered TpError) → left ≡ parts_at limits now parts → Acts (judged limits now o left) now o left r new → r ≢ Err OutOfMemory
+pub changed_so : (limits : Limits) (now : ℕ) (o : SegmentOffer) (parts left new : Parts) (r : Result Offered TpError) → left ≡ parts_at limits now parts → Acts (judged limits now o left) now o left r new → r ≢ Err OutOfMemory
     → new ≡ parts_after limits now o parts
 unfolding parts_after
 changed_so limits now o parts left new r is acts apart =
     let both = acts_judged _ now o left new r acts apart in
     both.1 ∙ (ap (λ x. kept x now o left) both.0 ∙ ap (λ ps. kept (judged limits now o ps) now o ps) is)
 
-pub wanting_so : (limits : Limits) (now : ℕ) (o : Offer) (parts left new : Parts) (r : Result Offered TpError) → left ≡ parts_at limits now parts → Acts (judged limits now o left) now o left r new → r ≡ Err OutOfMemory
+pub wanting_so : (limits : Limits) (now : ℕ) (o : SegmentOffer) (parts left new : Parts) (r : Result Offered TpError) → left ≡ parts_at limits now parts → Acts (judged limits now o left) now o left r new → r ≡ Err OutOfMemory
     → (is_ok (judgement limits now o parts) ≡ true) × (new ≡ parts_at limits now parts)
 unfolding judgement
 wanting_so limits now o parts left new r is acts wanting =

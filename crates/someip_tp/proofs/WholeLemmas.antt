@@ -9,8 +9,8 @@ use Rattle.std.proofs.lemmas.Option.{slice_get_past, slice_get_within, slice_get
 use Rattle.std.specs.Ordering.{nat_cmp}
 use Rattle.std.specs.FinMap.{FinMap, get, keys, contains_key}
 use Rattle.someip_tp.specs.Parts.{Part}
-use Rattle.someip_tp.specs.Offers.{message_of, are_exactly_below}
-use Rattle.someip_tp.specs.Pieces.{AreFront}
+use Rattle.someip_tp.specs.SegmentOffers.{message_of, are_exactly_below}
+use Rattle.someip_tp.specs.Slices.{AreFront}
 use Rattle.someip_tp.specs.Wholes.{IsWhole}
 use Rattle.someip_tp.proofs.PartialLemmas.{not_all_in_range, a_place_passes, whole_is, message_is, front_length}
 

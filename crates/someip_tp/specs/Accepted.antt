@@ -9,15 +9,15 @@ use Rattle.someip_tp.specs.Keys.{same_key}
 use Rattle.someip_tp.specs.Segments.{SegmentValue}
 use Rattle.someip_tp.specs.Sent.{segments_of}
 use Rattle.someip_tp.specs.Parts.{Limits, Part, Parts, parts_at}
-use Rattle.someip_tp.specs.Offers.{Offer, offer, judgement, parts_after}
+use Rattle.someip_tp.specs.SegmentOffers.{SegmentOffer, offer, judgement, parts_after}
 use Rattle.someip_tp.specs.Calls.{parts_after_call}
 
 -- a segment as it is offered under a key
-abbrev pub offered_segment : ReassemblyKey → SegmentValue → Offer
+abbrev pub offered_segment : ReassemblyKey → SegmentValue → SegmentOffer
 offered_segment key s = offer key s.offset s.more s.slice
 
 -- what is offered is a segment of the message
-abbrev pub IsSegmentOf : MessageValue → Offer → Type 0
+abbrev pub IsSegmentOf : MessageValue → SegmentOffer → Type 0
 IsSegmentOf m o = (s : SegmentValue) × Contains (segments_of m) s × (o ≡ offered_segment o.key s)
 
 -- a part holds no byte but the payload's own, each at its place, and knows no total but the payload's length
@@ -26,13 +26,13 @@ pub record HoldsOnly (payload : List ℕ) (part : Part) : Type 0 where
   pub total : (total : ℕ) → part.total ≡ Some total → total ≡ length payload
 
 -- the segments of a part, where it still stands: a part that is no more takes its segments with it
-abbrev pub where_it_stands : Option Part → List Offer → List Offer
+abbrev pub where_it_stands : Option Part → List SegmentOffer → List SegmentOffer
 where_it_stands None accepted = []
 where_it_stands (Some part) accepted = accepted
 
 -- the segments that were accepted into the part that stands under a key, the latest first, once a call was made of a
 -- store with these parts
-abbrev pub accepted_after : Limits → ReassemblyKey → TpCall → Parts → List Offer → List Offer
+abbrev pub accepted_after : Limits → ReassemblyKey → TpCall → Parts → List SegmentOffer → List SegmentOffer
 accepted_after limits key (OfferCall k offset more bytes now) parts accepted =
     let o = offer k offset more bytes.now in
     if is_ok (judgement limits now o parts) && same_key key k then o ∷ where_it_stands (get (parts_at limits now parts) key) accepted
@@ -42,7 +42,7 @@ accepted_after limits key (Expire now) parts accepted = where_it_stands (get (pa
 accepted_after limits key Clear parts accepted = []
 
 -- the same, once calls were made in order
-abbrev pub accepted_through : Limits → ReassemblyKey → List TpCall → Parts → List Offer → List Offer
+abbrev pub accepted_through : Limits → ReassemblyKey → List TpCall → Parts → List SegmentOffer → List SegmentOffer
 accepted_through limits key [] parts accepted = accepted
 accepted_through limits key (call ∷ calls) parts accepted =
     accepted_through limits key calls (parts_after_call limits call parts) (accepted_after limits key call parts accepted)

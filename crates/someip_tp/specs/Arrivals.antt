@@ -8,11 +8,11 @@ use Rattle.someip_tp.specs.declared.calls.TpCall.TheVariants.{Offer as OfferCall
 use Rattle.someip_tp.specs.Keys.{same_key}
 use Rattle.someip_tp.specs.Sent.{segments_of}
 use Rattle.someip_tp.specs.Parts.{Limits}
-use Rattle.someip_tp.specs.Offers.{Offer, offer}
+use Rattle.someip_tp.specs.SegmentOffers.{SegmentOffer, offer}
 use Rattle.someip_tp.specs.Accepted.{offered_segment, IsSegmentOf}
 
 -- the segments that calls offer under a key, in order
-abbrev pub offered_under : ReassemblyKey → List TpCall → List Offer
+abbrev pub offered_under : ReassemblyKey → List TpCall → List SegmentOffer
 offered_under key [] = []
 offered_under key (OfferCall k offset more bytes now ∷ calls) = if same_key key k then offer k offset more bytes.now ∷ offered_under key calls else offered_under key calls
 offered_under key (Take k ∷ calls) = offered_under key calls
@@ -30,7 +30,7 @@ StandsThrough limits key last (Clear ∷ calls) = ⊥
 
 -- all segments of a message arrive under a key, in any order and any of them repeated: a first one at a moment, and
 -- the others by the calls after it
-pub record AllArrive (limits : Limits) (m : MessageValue) (now : ℕ) (first : Offer) (calls : List TpCall) : Type 0 where
+pub record AllArrive (limits : Limits) (m : MessageValue) (now : ℕ) (first : SegmentOffer) (calls : List TpCall) : Type 0 where
   pub own : AllByRecursion (IsSegmentOf m) (first ∷ offered_under first.key calls)
   pub all : AllByRecursion (λ s. Contains (first ∷ offered_under first.key calls) (offered_segment first.key s)) (segments_of m)
   pub steady : StandsThrough limits first.key now calls

@@ -4,8 +4,8 @@ pub mod Segments
 pub mod Sent
 pub mod Keys
 pub mod Parts
-pub mod Offers
-pub mod Pieces
+pub mod SegmentOffers
+pub mod Slices
 pub mod Partials
 pub mod Stores
 pub mod Calls

@@ -6,7 +6,7 @@ use Rattle.someip_tp.specs.declared.key.ReassemblyKey.{ReassemblyKey}
 use Rattle.someip_tp.specs.declared.partial.Partial.TheInside.{Inside}
 use Rattle.someip_tp.specs.Keys.{coded_key}
 use Rattle.someip_tp.specs.Parts.{Part, coded_part}
-use Rattle.someip_tp.specs.Pieces.{bytes_in, AreOneText, AreInOrder}
+use Rattle.someip_tp.specs.Slices.{bytes_in, AreOneText, AreInOrder}
 
 -- a part under its key
 abbrev pub Entry : Type 0
@@ -17,10 +17,10 @@ coded_entry = coded× coded_key coded_part
 
 -- what contracts see of a partial
 abbrev pub view_partial : Inside → Entry
-view_partial p = (p.key, record { bytes = bytes_in p.pieces.items; total = p.total; last = p.last })
+view_partial p = (p.key, record { bytes = bytes_in p.slices.items; total = p.total; last = p.last })
 
 -- what is true of every partial: its slices have one byte at a place, stand in order, and lie below its total
 pub record IsSound (p : Inside) : Type 0 where
-  pub one_text : AreOneText p.pieces.items
-  pub in_order : AreInOrder p.pieces.items
-  pub below : (total place : ℕ) → p.total ≡ Some total → IsSome (get (bytes_in p.pieces.items) place) → place < total
+  pub one_text : AreOneText p.slices.items
+  pub in_order : AreInOrder p.slices.items
+  pub below : (total place : ℕ) → p.total ≡ Some total → IsSome (get (bytes_in p.slices.items) place) → place < total

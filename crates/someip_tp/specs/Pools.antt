@@ -43,7 +43,7 @@ pub record IsFree (places : ℕ) (room : Room) : Type 0 where
   pub limit : room.limit ≡ places
 
 -- what is true of the slots of a pool: the keys of the parts rise, all rooms have the places that a message may have,
--- the parts and the free rooms are as many as there are slots, for each of both there is a place in its list, and no part
+-- the parts and the free rooms are as many as there are slots, the list of each has room for that many, and no part
 -- had its last segment before a moment that is kept
 pub record ArePooled (slots : Slots) : Type 0 where
   pub rising : AreRising (entries_in slots)

@@ -10,7 +10,7 @@ use Rattle.someip_tp.specs.declared.error.TpError.TheVariants.{OutOfMemory}
 use Rattle.someip_tp.specs.Keys.{key_cmp, same_key}
 use Rattle.someip_tp.specs.Parts.{Limits, Parts, coded_parts, coded_limits}
 use Rattle.someip_tp.specs.declared.partials.Arrived.{Arrived}
-use Rattle.someip_tp.specs.Offers.{Offer, offer, judged_among, judged, kept}
+use Rattle.someip_tp.specs.SegmentOffers.{SegmentOffer, offer, judged_among, judged, kept}
 use Rattle.someip_tp.specs.Partials.{Entry}
 
 -- the parts, and what bounds them
@@ -22,7 +22,7 @@ abbrev pub coded_store : Coded Store
 coded_store = code_by (Parts × Limits) (coded× coded_parts coded_limits) (λ s. (s.parts, s.limits)) (λ c. record { parts = c.0; limits = c.1 }) (λ _. refl)
 
 -- the segment that arrived
-abbrev pub segment_arrived : Arrived → Offer
+abbrev pub segment_arrived : Arrived → SegmentOffer
 segment_arrived a = offer a.key a.offset a.more a.bytes.now
 
 -- the parts with these entries
@@ -35,14 +35,14 @@ StandsAt key entries (Some i) = (i < length entries) × ((d : Entry) → same_ke
 StandsAt key entries None = find key_cmp key entries ≡ None
 
 -- a segment was judged so, and the parts changed so; where memory runs out it was to be accepted, and is not kept
-abbrev pub Acts : Result Offered TpError → ℕ → Offer → Parts → Result Offered TpError → Parts → Type 0
+abbrev pub Acts : Result Offered TpError → ℕ → SegmentOffer → Parts → Result Offered TpError → Parts → Type 0
 Acts judgement now o old (Err OutOfMemory) new = (is_ok judgement ≡ true) × (new ≡ old)
 Acts judgement now o old result new = (result ≡ judgement) × (new ≡ kept result now o old)
 
 -- a segment of fit length was offered to the parts that are left
-abbrev pub OffersAmong : ℕ → ℕ → Offer → Parts → Result Offered TpError → Parts → Type 0
+abbrev pub OffersAmong : ℕ → ℕ → SegmentOffer → Parts → Result Offered TpError → Parts → Type 0
 OffersAmong slots now o old result new = Acts (judged_among slots now o old) now o old result new
 
 -- a segment was offered to the parts that are left
-abbrev pub Offers : Limits → ℕ → Offer → Parts → Result Offered TpError → Parts → Type 0
+abbrev pub Offers : Limits → ℕ → SegmentOffer → Parts → Result Offered TpError → Parts → Type 0
 Offers limits now o old result new = Acts (judged limits now o old) now o old result new

@@ -17,8 +17,8 @@ ghost use Rattle.someip_tp.specs.TpHeader.{segment_in};
 ghost use Rattle.someip_tp.specs.Segments.{SegmentValue, segment_message};
 ghost use Rattle.someip_tp.specs.Sent.{piece_message, segments_of, sent};
 ghost use Rattle.someip_tp.specs.Parts.{Limits, Part, Parts, parts_at};
-ghost use Rattle.someip_tp.specs.Offers.{Offer, judgement, parts_after, message_of, message_at};
-ghost use Rattle.someip_tp.specs.Offers.{parts_less, no_part, with_offer};
+ghost use Rattle.someip_tp.specs.SegmentOffers.{SegmentOffer, judgement, parts_after, message_of, message_at};
+ghost use Rattle.someip_tp.specs.SegmentOffers.{parts_less, no_part, with_offer};
 ghost use Rattle.someip_tp.specs.Arrivals.{AllArrive};
 ghost use Rattle.someip_tp.specs.Accepted.{HoldsOnly, IsSegmentOf, accepted_through};
 ghost use Rattle.someip_tp.specs.Blocks.{IsInterval};
@@ -67,7 +67,7 @@ pub fn a_message_is_the_bytes_of_a_whole_part()
 /// message's, what can be taken under that key is its payload.
 pub fn a_part_of_one_message_gives_its_payload()
     ensures begins { (payload : List ℕ) → HoldsOnly payload no_part }
-    ensures accepts { (message : MessageValue) (part : Part) (now : ℕ) (segment : Offer)
+    ensures accepts { (message : MessageValue) (part : Part) (now : ℕ) (segment : SegmentOffer)
         → HoldsOnly message.payload part → IsSegmentOf message segment
         → HoldsOnly message.payload (with_offer part now segment) }
     ensures whole { (payload : List ℕ) (part : Part) (bytes : List ℕ)
@@ -84,7 +84,7 @@ pub fn a_part_of_one_message_gives_its_payload()
 /// nothing, as long as each comes less than the timeout after the one before, the store is told no
 /// later moment, and the part is neither taken nor dropped.
 pub fn all_segments_of_a_message_make_it_whole()
-    ensures { (limits : Limits) (message : MessageValue) (parts : Parts) (now : ℕ) (first : Offer)
+    ensures { (limits : Limits) (message : MessageValue) (parts : Parts) (now : ℕ) (first : SegmentOffer)
         (calls : List TpCall)
         → get parts first.key ≡ None → len parts < limits.slots
         → length message.payload ≤ limits.limit
@@ -96,10 +96,10 @@ pub fn all_segments_of_a_message_make_it_whole()
 /// An accepted segment answers `Whole` where it leaves a message that can be taken under its key, and
 /// `Part` where it leaves none.
 pub fn what_an_offer_makes_whole_can_be_taken()
-    ensures whole { (limits : Limits) (now : ℕ) (segment : Offer) (parts : Parts)
+    ensures whole { (limits : Limits) (now : ℕ) (segment : SegmentOffer) (parts : Parts)
         → judgement limits now segment parts ≡ Ok Whole
         → is_some (message_at (parts_after limits now segment parts) segment.key) ≡ true }
-    ensures part { (limits : Limits) (now : ℕ) (segment : Offer) (parts : Parts)
+    ensures part { (limits : Limits) (now : ℕ) (segment : SegmentOffer) (parts : Parts)
         → judgement limits now segment parts ≡ Ok InPart
         → message_at (parts_after limits now segment parts) segment.key ≡ None }
 {}
@@ -116,10 +116,10 @@ pub fn parts_stay_within_limits()
 /// afterwards.
 pub fn each_call_keeps_parts_within_limits()
     ensures none { (limits : Limits) → IsWithin limits map.empty }
-    ensures offer { (limits : Limits) (now : ℕ) (segment : Offer) (parts : Parts)
+    ensures offer { (limits : Limits) (now : ℕ) (segment : SegmentOffer) (parts : Parts)
         → IsWithin limits parts → IsWithin limits (parts_after limits now segment parts) }
     // The same of the parts that are left by a call of `offer`, which may have run out of memory.
-    ensures offered { (limits : Limits) (now : ℕ) (segment : Offer) (parts left : Parts)
+    ensures offered { (limits : Limits) (now : ℕ) (segment : SegmentOffer) (parts left : Parts)
         (result : Result Offered TpError)
         → (result ≢ Err OutOfMemory → left ≡ parts_after limits now segment parts)
         → (result ≡ Err OutOfMemory → left ≡ parts_at limits now parts)

@@ -8,7 +8,7 @@
 //! - [`read_segment`]: what the payload of a segment says;
 //! - [`Reassembly`]: what a store of messages that have come in part promises, under a
 //!   [`ReassemblyKey`] each;
-//! - [`SegmentList`]: its plain body;
+//! - [`IntervalPool`]: its body in memory that is reserved once, and [`SegmentList`], its plain one;
 //! - [`run_calls`]: a list of calls of any body;
 //! - [`laws`]: what the definitions behind the contracts promise, whatever body keeps them.
 #![tactic(auto)]
@@ -21,13 +21,13 @@ pub mod laws;
 mod moments;
 mod partial;
 mod partials;
-mod pieces;
 mod pool;
 mod reassembly;
 mod segment;
 mod segment_list;
 mod segments;
 mod sent;
+mod slices;
 
 pub use appending::{append_message, append_piece, append_segment};
 pub use calls::{TpAnswer, TpCall, run_calls};

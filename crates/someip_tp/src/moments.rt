@@ -6,7 +6,7 @@ ghost use Rattle.someip_tp.specs.declared.calls.TpCall.{TpCall};
 ghost use Rattle.someip_tp.specs.declared.error.TpError.{TpError};
 ghost use Rattle.someip_tp.specs.declared.reassembly.Offered.{Offered};
 ghost use Rattle.someip_tp.specs.Parts.{Limits, Parts, NoneAfter, parts_at};
-ghost use Rattle.someip_tp.specs.Offers.{Offer, parts_after, parts_less};
+ghost use Rattle.someip_tp.specs.SegmentOffers.{SegmentOffer, parts_after, parts_less};
 ghost use Rattle.someip_tp.specs.Calls.{MayCalls};
 ghost use Rattle.someip_tp.specs.Moments.{AreInTime, moment_after};
 
@@ -59,10 +59,10 @@ pub fn no_part_is_ahead_of_its_caller()
     ensures none { (now : ℕ) → NoneAfter now map.empty }
     ensures later { (now next : ℕ) (parts : Parts) → now ≤ next → NoneAfter now parts
         → NoneAfter next parts }
-    ensures offer { (now : ℕ) (limits : Limits) (segment : Offer) (parts : Parts)
+    ensures offer { (now : ℕ) (limits : Limits) (segment : SegmentOffer) (parts : Parts)
         → NoneAfter now parts → NoneAfter now (parts_after limits now segment parts) }
     // The same of the parts that are left by a call of `offer`, which may have run out of memory.
-    ensures offered { (now : ℕ) (limits : Limits) (segment : Offer) (parts left : Parts)
+    ensures offered { (now : ℕ) (limits : Limits) (segment : SegmentOffer) (parts left : Parts)
         (result : Result Offered TpError)
         → (result ≢ Err TpError.OutOfMemory → left ≡ parts_after limits now segment parts)
         → (result ≡ Err TpError.OutOfMemory → left ≡ parts_at limits now parts)

@@ -3,11 +3,11 @@ ghost use Rattle.std.specs.Prelude.{◌≡◌, ◌+◌, ◌++◌, ◌<◌, if◌
 ghost use Rattle.std.specs.FinMap.{get, keys};
 ghost use Rattle.someip_tp.specs.Keys.{same_key};
 ghost use Rattle.someip_tp.specs.Parts.{is_gone};
-ghost use Rattle.someip_tp.specs.Offers.{offer, no_part, placed, added, passes, differ, conflicts, with_offer, message_of};
-ghost use Rattle.someip_tp.specs.Pieces.{bytes_in, byte_at, AreOneText, AreInOrder, Agree};
+ghost use Rattle.someip_tp.specs.SegmentOffers.{offer, no_part, placed, added, passes, differ, conflicts, with_offer, message_of};
+ghost use Rattle.someip_tp.specs.Slices.{bytes_in, byte_at, AreOneText, AreInOrder, Agree};
 
 use crate::key::{ReassemblyKey, is_same};
-use crate::pieces::{Piece, append_front, clash, covered, place_for, reach};
+use crate::slices::{Slice, append_front, clash, covered, index_for, reach};
 use std::alloc::{AllocError, Global};
 use std::marker::Model;
 
@@ -16,7 +16,7 @@ use std::marker::Model;
 #[derive(Drop)]
 pub(crate) struct Partial {
     key: ReassemblyKey,
-    pieces: Vec<Piece>,
+    slices: Vec<Slice>,
     total: Option<usize>,
     last: u64,
 }
@@ -40,7 +40,7 @@ impl Partial {
     {
         Partial {
             key,
-            pieces: Vec::new(alloc),
+            slices: Vec::new(alloc),
             total: None,
             last: 0,
         }
@@ -68,10 +68,10 @@ impl Partial {
         ensures { result ≡ conflicts self.now.1 (offer self.now.0 offset more bytes.now) }
     {
         let told = total_of(offset, more, bytes);
-        clash(&self.pieces, offset, bytes)
+        clash(&self.slices, offset, bytes)
             || passes(self.total, offset, bytes)
             || differ(self.total, told)
-            || reach(&self.pieces, told)
+            || reach(&self.slices, told)
     }
 
     /// Keeps the slice of a segment that contradicts nothing.
@@ -88,7 +88,7 @@ impl Partial {
             ≡ (self.old.0, with_offer self.old.1 now (offer self.old.0 offset more bytes.now))) }
         ensures err { OnErr result (self.new ≡ self.old) }
     {
-        put(&mut self.pieces, alloc, offset, bytes)?;
+        put(&mut self.slices, alloc, offset, bytes)?;
         self.total = total_with(self.total, offset, more, bytes);
         self.last = now;
         Ok(())
@@ -99,7 +99,7 @@ impl Partial {
         ensures { result ≡ is_some (message_of self.now.1) }
     {
         match self.total {
-            Some(total) => covered(&self.pieces) == total,
+            Some(total) => covered(&self.slices) == total,
             None => false,
         }
     }
@@ -111,7 +111,7 @@ impl Partial {
             (bytes.new.items ≡ bytes.old.items ++ unwrap_or (message_of self.now.1) []) }
         ensures err { OnErr result (bytes.new.items ≡ bytes.old.items) }
     {
-        append_front(&self.pieces, bytes)
+        append_front(&self.slices, bytes)
     }
 }
 
@@ -162,23 +162,23 @@ pub(crate) fn differ(known: Option<usize>, told: Option<usize>) -> bool
     }
 }
 
-/// Puts a slice among the pieces, at its place.
-fn put(pieces: &mut Vec<Piece>, alloc: Global, offset: u32, bytes: &[u8]) -> Result<(), AllocError>
-    requires one_text { AreOneText pieces.old.items }
-    requires in_order { AreInOrder pieces.old.items }
-    requires agree { Agree (get (bytes_in pieces.old.items)) (byte_at offset bytes.now) }
-    ensures one_text { AreOneText pieces.new.items }
-    ensures in_order { AreInOrder pieces.new.items }
+/// Puts a slice among those that were accepted, by its offset.
+fn put(slices: &mut Vec<Slice>, alloc: Global, offset: u32, bytes: &[u8]) -> Result<(), AllocError>
+    requires one_text { AreOneText slices.old.items }
+    requires in_order { AreInOrder slices.old.items }
+    requires agree { Agree (get (bytes_in slices.old.items)) (byte_at offset bytes.now) }
+    ensures one_text { AreOneText slices.new.items }
+    ensures in_order { AreInOrder slices.new.items }
     ensures ok { OnOk result
-        (bytes_in pieces.new.items ≡ added (bytes_in pieces.old.items) (placed offset bytes.now)) }
-    ensures err { OnErr result (pieces.new.items ≡ pieces.old.items) }
+        (bytes_in slices.new.items ≡ added (bytes_in slices.old.items) (placed offset bytes.now)) }
+    ensures err { OnErr result (slices.new.items ≡ slices.old.items) }
 {
     let mut kept = Vec::new(alloc);
     kept.extend_from_slice(bytes)?;
-    let at = place_for(pieces, offset);
-    pieces.insert(
+    let at = index_for(slices, offset);
+    slices.insert(
         at,
-        Piece {
+        Slice {
             offset,
             bytes: kept,
         },

@@ -5,7 +5,7 @@ ghost use Rattle.std.specs.FinMap as map;
 ghost use Rattle.someip_tables.specs.Distinct.{are_distinct};
 ghost use Rattle.someip_tp.specs.Keys.{key_cmp, same_key};
 ghost use Rattle.someip_tp.specs.Parts.{is_gone};
-ghost use Rattle.someip_tp.specs.Offers.{no_part, part_under, conflicts, with_offer, part_or_whole, message_at, parts_less};
+ghost use Rattle.someip_tp.specs.SegmentOffers.{no_part, part_under, conflicts, with_offer, part_or_whole, message_at, parts_less};
 ghost use Rattle.someip_tp.specs.Stores.{StandsAt, Offers, OffersAmong, segment_arrived, parts_of_entries};
 
 use crate::error::TpError;

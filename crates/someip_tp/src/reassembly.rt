@@ -2,7 +2,7 @@
 ghost use Rattle.std.specs.Prelude.{◌≡◌, ◌≢◌, ◌≤◌, ◌++◌, ◌%◌, ℕ, [], IfOk, IfErr, OnOk, OnErr, is_ok, is_some, unwrap_or, true};
 ghost use Rattle.std.specs.FinMap as map;
 ghost use Rattle.someip_tp.specs.Parts.{Limits, NoneAfter, parts_at};
-ghost use Rattle.someip_tp.specs.Offers.{offer, judgement, parts_after, message_at, parts_less};
+ghost use Rattle.someip_tp.specs.SegmentOffers.{offer, judgement, parts_after, message_at, parts_less};
 
 use crate::error::TpError;
 use crate::key::ReassemblyKey;

@@ -63,14 +63,14 @@ pub(crate) fn perform<R: Reassembly>(
             ..
         } => publish(alloc, node, *instance, *event, payload),
         Step::PublishTo {
-            group,
+            eventgroup,
             to,
             event,
             payload,
             ..
-        } => publish_to(alloc, node, *group, *to, *event, payload),
-        Step::Subscribe { group, .. } => given(node.subscribe(*group)),
-        Step::Unsubscribe { group, .. } => given(node.unsubscribe(*group)),
+        } => publish_to(alloc, node, *eventgroup, *to, *event, payload),
+        Step::Subscribe { eventgroup, .. } => given(node.subscribe(*eventgroup)),
+        Step::Unsubscribe { eventgroup, .. } => given(node.unsubscribe(*eventgroup)),
         Step::StopOffer { instance, .. } => given(node.stop_offer(*instance)),
         Step::Restart { delay, .. } => restart(alloc, node, *delay),
     }
@@ -193,18 +193,24 @@ fn publish<R: Reassembly>(
 fn publish_to<R: Reassembly>(
     alloc: Global,
     node: &mut Node<R>,
-    group: Eventgroup,
+    eventgroup: Eventgroup,
     to: SocketAddrV4,
     event: u16,
     payload: &StepPayload,
 ) -> Result<Vec<Output>, StepError>
     ensures { (h : History) → StandsFor node.old h → Performs h
         (unless_long h.config payload.now
-        (input.PublishTo group.instance group.id to event payload.now))
+        (input.PublishTo eventgroup.instance eventgroup.id to event payload.now))
         result node.new }
 {
     let payload = payload_within(alloc, node.config(), payload)?;
-    given(node.publish_to(group.instance, group.id, to, event, payload.as_slice()))
+    given(node.publish_to(
+        eventgroup.instance,
+        eventgroup.id,
+        to,
+        event,
+        payload.as_slice(),
+    ))
 }
 
 /// Starts the node again.

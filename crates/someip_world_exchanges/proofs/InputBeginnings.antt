@@ -16,7 +16,7 @@ use Rattle.someip_wire.specs.Reading.{items_of}
 use Rattle.someip_wire.specs.Spelling.{MessageValue}
 use Rattle.someip_tp.specs.declared.error.TpError.{TpError}
 use Rattle.someip_tp.specs.Keys.{segment_key}
-use Rattle.someip_tp.specs.Offers.{Offer, offer}
+use Rattle.someip_tp.specs.SegmentOffers.{SegmentOffer, offer}
 use Rattle.someip_tp.specs.TpHeader.{segment_in}
 use Rattle.sd_wire.specs.declared.entry.EntryHead.{EntryHead}
 use Rattle.sd_wire.specs.declared.entry.EntryHead.TheVariants as heads
@@ -139,7 +139,7 @@ module _ (q : Eventgroup) where
   speaking_segment : (goal : Target) (from to : SocketAddrV4) (header : Header) (read : Result (ℕ × Bool × List ℕ) TpError) → Speaking q (segment_plan goal from to header read)
   speaking_segment goal from to header (Err fault) = speaking_act q (plans.Drops _) refl refl refl
   speaking_segment goal from to header (Ok r) =
-      let o : Offer = offer (segment_key from to header) r.0 r.1 r.2 in
+      let o : SegmentOffer = offer (segment_key from to header) r.0 r.1 r.2 in
       speaking_asks (λ t. both (act (plans.TakesSegment o)) (completed_plan goal from header (completed o t)))
       (λ t. speaking_both q (act (plans.TakesSegment o)) (completed_plan goal from header (completed o t)) (speaking_act q (plans.TakesSegment o) refl refl refl) (speaking_completed goal from header (completed o t)))
 

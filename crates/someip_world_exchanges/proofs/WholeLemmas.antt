@@ -12,7 +12,7 @@ use Rattle.someip_wire.specs.Spelling.{Fits, MessageValue, spelling}
 use Rattle.someip_tp.specs.Segments.{SegmentValue, segment_header, segments_within}
 use Rattle.someip_tp.specs.Sent.{PieceValue, Alone, InSegment, is_long, piece_message, segments_of, sent}
 use Rattle.someip_tp.proofs.SentLemmas.{all_fit}
-use Rattle.someip_tp.specs.Offers.{Offer}
+use Rattle.someip_tp.specs.SegmentOffers.{SegmentOffer}
 use Rattle.someip_rpc.specs.declared.call.CallKind.{CallKind}
 use Rattle.someip_rpc.specs.declared.call.CallKind.TheVariants as calls
 use Rattle.someip_rpc.specs.declared.request.Reply.{Reply}
@@ -176,7 +176,7 @@ pub record IsGivenInSegments (p : Packet) (given : Given) : Type 0 where
   pub is : given ≡ Sends p.from p.to message
   pub long : is_long message.payload ≡ true
 
-module _ (h : History) (input : Input) (p : Packet) (header : Header) (o : Offer) (segment : HasSegment p header o) (config : Config) (goal : IsForApplication (target_of config p.to)) where
+module _ (h : History) (input : Input) (p : Packet) (header : Header) (o : SegmentOffer) (segment : HasSegment p header o) (config : Config) (goal : IsForApplication (target_of config p.to)) where
   pub given_in_segments : (given : Given) → GivenBy h input given → FitsWire given → Contains (written given) (Sent p.from p.to p.bytes) → IsGivenInSegments p given
   given_in_segments (Announces from to stamp entries) by fits among =
       let one : Sent p.from p.to p.bytes ≡ Sent from to (spelling (discovery_message stamp entries)) =

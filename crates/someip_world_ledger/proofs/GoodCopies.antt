@@ -12,7 +12,7 @@ use Rattle.someip_node_rules.specs.Copies.{IsCopy, IsCopyOfOffer, IsCopyOfWant}
 use Rattle.someip_node_rules.specs.declared.config.Config.{Config}
 use Rattle.someip_node_rules.specs.declared.config.OfferedService.{OfferedService}
 use Rattle.someip_node_rules.specs.declared.config.WantedService.{WantedService}
-use Rattle.someip_node_rules.specs.GoodConfigs.{are_good_methods, has_good_eventgroups, has_own_ports, is_good, is_good_common, is_good_group, is_good_instance, is_good_offer, is_good_port, is_good_want, is_within}
+use Rattle.someip_node_rules.specs.GoodConfigs.{are_good_methods, has_good_eventgroups, has_own_ports, is_good, is_good_common, is_good_eventgroup, is_good_instance, is_good_offer, is_good_port, is_good_want, is_within}
 use Rattle.someip_node_rules.specs.Handling.{same_address}
 use Rattle.someip_world_setup.specs.declared.setup_node.SetupNode.{SetupNode}
 use Rattle.someip_world_rules.specs.Runs.{AreCopies}
@@ -58,7 +58,7 @@ offer_test address port instance offer events =
     && list_all has_good_eventgroups events && is_within 1 1024 offer.subscribers
 
 abbrev want_test : InstanceId → WantedService → List (ℕ × BTreeSet ℕ) → Bool
-want_test instance want groups = is_good_instance instance && nat_le want.major 0xFE && not (want.ttl == 0) && list_all is_good_group groups
+want_test instance want groups = is_good_instance instance && nat_le want.major 0xFE && not (want.ttl == 0) && list_all is_good_eventgroup groups
 
 same_want : (a b : InstanceId × WantedService) → CopiesWant a b → is_good_want b ≡ is_good_want a
 same_want a b is = λ i. want_test (is.0 i) (is.1.0 i) (is.1.1 i)

@@ -71,7 +71,7 @@ abbrev pub payload_of : Step → Option (List ℕ)
 payload_of (steps.Call node kind instance method payload) = Some payload
 payload_of (steps.Answer node token reply payload) = Some payload
 payload_of (steps.Publish node instance event payload) = Some payload
-payload_of (steps.PublishTo node group to event payload) = Some payload
+payload_of (steps.PublishTo node eventgroup to event payload) = Some payload
 payload_of step = None
 
 -- one that goes in segments
@@ -163,7 +163,7 @@ publication_of config life instance event = option_map (λ service. publication_
 
 abbrev pub publication_in : Config → LifeKept → Step → Option Publication
 publication_in config life (steps.Publish node instance event payload) = publication_of config life instance event
-publication_in config life (steps.PublishTo node group to event payload) = publication_of config life group.instance event
+publication_in config life (steps.PublishTo node eventgroup to event payload) = publication_of config life eventgroup.instance event
 publication_in config life step = None
 
 -- it takes its key, whether it is sent to anybody or not

@@ -35,12 +35,11 @@ pub(crate) fn publication_in(config: &Config, life: &Life, step: &Step) -> Optio
             event,
             ..
         } => publication_of(config, life, *instance, *event),
-        Step::PublishTo { group, event, .. } => publication_of(
-            config,
-            life,
-            group.instance,
-            *event,
-        ),
+        Step::PublishTo {
+            eventgroup,
+            event,
+            ..
+        } => publication_of(config, life, eventgroup.instance, *event),
         _ => None,
     }
 }

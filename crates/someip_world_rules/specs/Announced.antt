@@ -37,9 +37,9 @@ FitsStep (Deliver number node) = Unit {0}
 FitsStep (Call node kind instance method payload) = (instance.service < 2 ^ 16) × (method < 2 ^ 16)
 FitsStep (Answer node token reply payload) = code_of_reply reply < 2 ^ 8
 FitsStep (Publish node instance event payload) = event < 2 ^ 16
-FitsStep (PublishTo node group to event payload) = event < 2 ^ 16
-FitsStep (Subscribe node group) = group.id < 2 ^ 16
-FitsStep (Unsubscribe node group) = group.id < 2 ^ 16
+FitsStep (PublishTo node eventgroup to event payload) = event < 2 ^ 16
+FitsStep (Subscribe node eventgroup) = eventgroup.id < 2 ^ 16
+FitsStep (Unsubscribe node eventgroup) = eventgroup.id < 2 ^ 16
 FitsStep (StopOffer node instance) = Unit {0}
 FitsStep (Restart node delay) = Unit {0}
 

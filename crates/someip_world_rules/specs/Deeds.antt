@@ -53,10 +53,10 @@ deed_of h lines (Deliver number node) = delivery h.config (datagram_at lines num
 deed_of h lines (Call node kind instance method payload) = unless_long h.config payload (input.Call kind instance method payload)
 deed_of h lines (Answer node token reply payload) = unless_long h.config payload (input.Answer token reply payload)
 deed_of h lines (Publish node instance event payload) = unless_long h.config payload (input.Publish instance event payload)
-deed_of h lines (PublishTo node group to event payload) =
-    unless_long h.config payload (input.PublishTo group.instance group.id to event payload)
-deed_of h lines (Subscribe node group) = Ok (Takes (input.Subscribe group))
-deed_of h lines (Unsubscribe node group) = Ok (Takes (input.Unsubscribe group))
+deed_of h lines (PublishTo node eventgroup to event payload) =
+    unless_long h.config payload (input.PublishTo eventgroup.instance eventgroup.id to event payload)
+deed_of h lines (Subscribe node eventgroup) = Ok (Takes (input.Subscribe eventgroup))
+deed_of h lines (Unsubscribe node eventgroup) = Ok (Takes (input.Unsubscribe eventgroup))
 deed_of h lines (StopOffer node instance) = Ok (Takes (input.StopOffer instance))
 deed_of h lines (Restart node delay) = restart_deed h.config delay
 

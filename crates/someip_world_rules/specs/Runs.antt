@@ -30,6 +30,7 @@ abbrev pub started_nodes : List SetupNode → List Config → List History
 started_nodes (node ∷ nodes) (config ∷ configs) = start_of config node.delay ∷ started_nodes nodes configs
 started_nodes nodes configs = []
 
+-- the world before the first step: every node was started, and nothing was told
 abbrev pub world_of : List SetupNode → List Config → World
 world_of nodes configs = record { histories = started_nodes nodes configs; lines = [] }
 
@@ -66,6 +67,7 @@ abbrev pub happens_at : ℕ → World → Step → ℕ → Option History → Re
 happens_at index w s place None = Err UnknownNode
 happens_at index w s place (Some h) = unless_bad index place w h (deed_of h w.lines s)
 
+-- the same at the place of the node that the step names, or `UnknownNode` where the setup has no such node
 abbrev pub happens_to : ℕ → World → Step → Option ℕ → Result World StepFault
 happens_to index w s None = Err UnknownNode
 happens_to index w s (Some place) = happens_at index w s place (slice_get w.histories place)

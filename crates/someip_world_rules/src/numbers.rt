@@ -51,7 +51,9 @@ fn step_fits(step: &Step)
         }
         Step::Answer { reply, .. } => reply_fits(*reply),
         Step::Publish { event, .. } | Step::PublishTo { event, .. } => number_fits(*event),
-        Step::Subscribe { group, .. } | Step::Unsubscribe { group, .. } => number_fits(group.id),
+        Step::Subscribe { eventgroup, .. } | Step::Unsubscribe { eventgroup, .. } => number_fits(
+            eventgroup.id,
+        ),
         Step::Tick { .. } | Step::Deliver { .. } | Step::StopOffer { .. } | Step::Restart { .. } =>
             {}
     }

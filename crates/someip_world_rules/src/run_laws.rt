@@ -67,12 +67,12 @@ pub fn publications_go_to_each_live_endpoint_once()
         (inputs.Publish instance event payload)
         (λ h done. IsPublished h instance event payload done) }
     ensures to_one { (nodes : List SetupNode) (configs : List Config) (steps : List Step)
-        (lines : List Line) (i : ℕ) (node : List ℕ) (group : Eventgroup) (to : SocketAddrV4)
+        (lines : List Line) (i : ℕ) (node : List ℕ) (eventgroup : Eventgroup) (to : SocketAddrV4)
         (event : ℕ) (payload : List ℕ) → run_of nodes configs steps ≡ Ok lines
-        → slice_get steps i ≡ Some (PublishTo node group to event payload)
-        → TakesIt nodes configs steps lines i (PublishTo node group to event payload)
-        (inputs.PublishTo group.instance group.id to event payload)
-        (λ h done. IsPublishedTo h group.instance group.id to event payload done) }
+        → slice_get steps i ≡ Some (PublishTo node eventgroup to event payload)
+        → TakesIt nodes configs steps lines i (PublishTo node eventgroup to event payload)
+        (inputs.PublishTo eventgroup.instance eventgroup.id to event payload)
+        (λ h done. IsPublishedTo h eventgroup.instance eventgroup.id to event payload done) }
 {}
 
 /// Each datagram that is told of after some steps of a run was sent by the step whose line tells of it, in

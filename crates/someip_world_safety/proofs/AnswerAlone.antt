@@ -13,7 +13,7 @@ use Rattle.someip_wire.specs.Spelling.{MessageValue}
 use Rattle.someip_tp.specs.declared.error.TpError.{TpError}
 use Rattle.someip_tp.specs.declared.reassembly.Offered.{Offered}
 use Rattle.someip_tp.specs.declared.reassembly.Offered.TheVariants.{Part, Whole}
-use Rattle.someip_tp.specs.Offers.{Offer, judgement, message_at, offer, parts_after}
+use Rattle.someip_tp.specs.SegmentOffers.{SegmentOffer, judgement, message_at, offer, parts_after}
 use Rattle.someip_tp.specs.Keys.{segment_key}
 use Rattle.someip_tp.specs.TpHeader.{segment_in}
 use Rattle.sd_wire.specs.Values.{EntryValue}
@@ -87,7 +87,7 @@ module _ (message : MessageId) (session : ℕ) (code : ReturnCode) (bytes : List
       by_kind kinds.TpError = as_answer
 
   -- a segment gives nothing where it completes a message, and else its refusal at most
-  segment_alone : (from : SocketAddrV4) (header : Header) (o : Offer) (judged : Result Offered TpError) (whole : Option (List ℕ)) (state : History) (replies : List EntryValue)
+  segment_alone : (from : SocketAddrV4) (header : Header) (o : SegmentOffer) (judged : Result Offered TpError) (whole : Option (List ℕ)) (state : History) (replies : List EntryValue)
       → Alone (run historic (completed_plan target.Client from header (completed_by judged whole)) (record { state = state; outputs = flat_map written (segment_by o judged).given; replies = replies })).outputs
   segment_alone from header o (Ok Whole) (Some payload) state replies =
       client_alone from (record header { kind = without_tp_flag header.kind }) payload (without_tp_flag header.kind) (record { state = state; outputs = []; replies = replies }) refl
@@ -102,7 +102,7 @@ module _ (message : MessageId) (session : ℕ) (code : ReturnCode) (bytes : List
       by_read : (r : Result (ℕ × Bool × List ℕ) TpError) → Alone (run historic (segment_plan target.Client from to m.header r) (work_on h)).outputs
       by_read (Err fault) = one_alone _
       by_read (Ok r) =
-          let o : Offer = offer (segment_key from to m.header) r.0 r.1 r.2 in
+          let o : SegmentOffer = offer (segment_key from to m.header) r.0 r.1 r.2 in
           let t : Tables = answers_of h in
           let w : Work History = plans.does historic (plans.rule (plans.TakesSegment o)) (work_on h) in
           segment_alone from m.header o (judgement (limits_of t.config) t.clock o t.parts) (message_at (parts_after (limits_of t.config) t.clock o t.parts) o.key) w.state w.replies

@@ -6,7 +6,7 @@ use Rattle.someip_wire.specs.declared.header.Header.{Header}
 use Rattle.someip_tp.specs.declared.error.TpError.{TpError}
 use Rattle.someip_tp.specs.declared.reassembly.Offered.{Offered}
 use Rattle.someip_tp.specs.declared.reassembly.Offered.TheVariants.{Part, Whole}
-use Rattle.someip_tp.specs.Offers.{judgement, message_at, parts_after}
+use Rattle.someip_tp.specs.SegmentOffers.{judgement, message_at, parts_after}
 use Rattle.someip_tp.specs.Parts.{Limits}
 use Rattle.someip_node_rules.specs.declared.config.Config.{Config}
 use Rattle.someip_node_rules.specs.DiscoveryQuestions.{parts_in}

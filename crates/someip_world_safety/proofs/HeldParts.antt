@@ -8,7 +8,7 @@ use Rattle.someip_wire.specs.declared.header.Header.{Header}
 use Rattle.someip_wire.specs.Spelling.{MessageValue}
 use Rattle.someip_tp.specs.declared.key.ReassemblyKey.{ReassemblyKey}
 use Rattle.someip_tp.specs.Accepted.{HoldsOnly}
-use Rattle.someip_tp.specs.Offers.{Offer, message_at, parts_after}
+use Rattle.someip_tp.specs.SegmentOffers.{SegmentOffer, message_at, parts_after}
 use Rattle.someip_tp.specs.Parts.{Limits, Part, parts_at}
 use Rattle.someip_tp.proofs.BoundLemmas.{left_same}
 use Rattle.someip_node_rules.specs.declared.config.Config.{Config}
@@ -79,13 +79,13 @@ module _ (nodes : List SetupNode) (configs : List Config) (ss : List Step) where
     source = (sent_before nodes configs ss n came.sent d came.delivers).1
 
     -- a segment in the datagram is one of a message that was given
-    pub of_message : (header : Header) (o : Offer) → HasSegment p header o → IsOfMessage p header o source.given
+    pub of_message : (header : Header) (o : SegmentOffer) → HasSegment p header o → IsOfMessage p header o source.given
     of_message header o segment =
         segment_given p header o segment source.does.turn.history source.does.input source.given source.by
         (fits came.sent source.does.step source.does.turn source.does.input source.given source.does.takes source.by) source.among
 
     -- a segment of a message arrives in the step
-    abbrev arrives : (header : Header) (o : Offer) (g : IsOfMessage p header o source.given) → Arrives nodes configs ss n place now g.message (plain_key o.key)
+    abbrev arrives : (header : Header) (o : SegmentOffer) (g : IsOfMessage p header o source.given) → Arrives nodes configs ss n place now g.message (plain_key o.key)
     arrives header o g = record {
       sent = came.sent;
       datagram = d;
@@ -105,7 +105,7 @@ module _ (nodes : List SetupNode) (configs : List Config) (ss : List Step) where
         Now : (m : MessageValue) → source.given ≡ outputs.Sends p.from p.to m → Arrives nodes configs ss n place part.last m (plain_key key) → HoldsOnly m.payload part → InStep key part
 
       -- a part that has time holds only bytes of the message of which a segment comes: else the delivery breaks clean reuse
-      same_payload : (header : Header) (o : Offer) (g : IsOfMessage p header o source.given) (part : Part) → now < part.last + limits.timeout → InStep o.key part → HoldsOnly g.message.payload part
+      same_payload : (header : Header) (o : SegmentOffer) (g : IsOfMessage p header o source.given) (part : Part) → now < part.last + limits.timeout → InStep o.key part → HoldsOnly g.message.payload part
       same_payload header o g part time (Before held) = cases (bytes_eq held.message.payload g.message.payload) refl
         where
           cases : (b : Bool) → bytes_eq held.message.payload g.message.payload ≡ b → HoldsOnly g.message.payload part
@@ -139,7 +139,7 @@ module _ (nodes : List SetupNode) (configs : List Config) (ss : List Step) where
         pub parts : (key : ReassemblyKey) (part : Part) → get (parts_in limits met_items) key ≡ Some part → InStep key part
 
       -- the parts that are left when a segment comes hold only bytes of its message
-      left_holds : (its : List Item) → Holding its → (header : Header) (o : Offer) (g : IsOfMessage p header o source.given) (part : Part) → get (parts_at limits (clock_at its) (parts_in limits its)) o.key ≡ Some part
+      left_holds : (its : List Item) → Holding its → (header : Header) (o : SegmentOffer) (g : IsOfMessage p header o source.given) (part : Part) → get (parts_at limits (clock_at its) (parts_in limits its)) o.key ≡ Some part
           → HoldsOnly g.message.payload part
       left_holds its old header o g part is =
           let time = left_in_time limits (clock_at its) (parts_in limits its) o.key part is in
@@ -147,7 +147,7 @@ module _ (nodes : List SetupNode) (configs : List Config) (ss : List Step) where
           (old.parts o.key part (left_same limits (clock_at its) (parts_in limits its) o.key part is))
 
       -- after a segment of the datagram was offered, all parts are so
-      after_segment : (its : List Item) → Holding its → (header : Header) (o : Offer) → HasSegment p header o → (key : ReassemblyKey) (part : Part)
+      after_segment : (its : List Item) → Holding its → (header : Header) (o : SegmentOffer) → HasSegment p header o → (key : ReassemblyKey) (part : Part)
           → get (parts_after limits (clock_at its) o (parts_in limits its)) key ≡ Some part → InStep key part
       after_segment its old header o segment key part is = cases (offered_parts limits (clock_at its) o (parts_in limits its) key part is)
         where
@@ -188,7 +188,7 @@ module _ (nodes : List SetupNode) (configs : List Config) (ss : List Step) where
       holding_first = record { clock = refl; parts = λ key part stands. Before (was key part stands) }
 
       -- a message that a segment makes whole is the one that was given
-      pub whole_given : (its : List Item) → Holding its → (header : Header) (o : Offer) (segment : HasSegment p header o) (payload : List ℕ)
+      pub whole_given : (its : List Item) → Holding its → (header : Header) (o : SegmentOffer) (segment : HasSegment p header o) (payload : List ℕ)
           → message_at (parts_after limits (clock_at its) o (parts_in limits its)) o.key ≡ Some payload → payload ≡ (of_message header o segment).message.payload
       whole_given its old header o segment payload whole =
           whole_payload (parts_after limits (clock_at its) o (parts_in limits its)) o.key (of_message header o segment).message.payload payload

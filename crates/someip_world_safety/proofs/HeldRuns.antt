@@ -5,7 +5,7 @@ use Rattle.std.specs.List.{AllByRecursion}
 use Rattle.std.proofs.lemmas.Bool.{eqb-true, eqb-false}
 use Rattle.someip_tp.specs.declared.key.ReassemblyKey.{ReassemblyKey}
 use Rattle.someip_tp.specs.Keys.{key_cmp}
-use Rattle.someip_tp.specs.Offers.{Offer}
+use Rattle.someip_tp.specs.SegmentOffers.{SegmentOffer}
 use Rattle.someip_tp.specs.Parts.{Limits, Part}
 use Rattle.someip_node_rules.specs.declared.config.Config.{Config}
 use Rattle.someip_node_rules.specs.declared.error.NodeError.{NodeError}
@@ -43,7 +43,7 @@ use Rattle.someip_world_safety.proofs.PartWalks.{no_new_parts}
 none_held : {Q : Type 0} (key : ReassemblyKey) (part : Part) → get (empty {X = Part} {R = key_cmp}) key ≡ Some part → Q
 none_held key part is = let none = get-empty {X = Part} key_cmp key in absurd cc
 
-module _ (h : History) (earlier : List Done) (o : Offer) where
+module _ (h : History) (earlier : List Done) (o : SegmentOffer) where
   -- an input other than a datagram brings about no rule that takes a segment
   no_segment : (input : Input) → ((p : Packet) → input ≡ inputs.Datagram p.from p.to p.bytes → ⊥) → Brings h input (TakesSegment o) earlier → ⊥
   no_segment (inputs.Datagram from to bytes) none brings = none (record { from = from; to = to; bytes = bytes }) refl
@@ -63,7 +63,7 @@ module _ (h : History) (earlier : List Done) (o : Offer) where
 -- where the input is no datagram, only parts stand after the step that stood before
 module _ (h : History) (input : Input) (none : (p : Packet) → input ≡ inputs.Datagram p.from p.to p.bytes → ⊥) (limits : Limits) (key : ReassemblyKey) (part : Part) where
   -- no item that is met offers a segment
-  no_offer : (item : Item) → MetBy h input item → (o : Offer) → item ≡ items.SegmentOffered o → ⊥
+  no_offer : (item : Item) → MetBy h input item → (o : SegmentOffer) → item ≡ items.SegmentOffered o → ⊥
   no_offer item by o is =
       let offered : MetBy h input (items.SegmentOffered o) = subst (MetBy h input) is by in
       no_segment h offered.brought.earlier o input none (subst (λ r. Brings h input r offered.brought.earlier) offered.holds offered.brought.brings)

@@ -9,7 +9,7 @@ use Rattle.someip_tables.proofs.Entries.{get-retain}
 use Rattle.someip_tp.specs.declared.key.ReassemblyKey.{ReassemblyKey}
 use Rattle.someip_tp.specs.Accepted.{HoldsOnly, IsSegmentOf}
 use Rattle.someip_tp.specs.Keys.{same_key}
-use Rattle.someip_tp.specs.Offers.{Offer, conflicts, is_too_long, is_unaligned, kept, message_at, message_of, no_part, part_under, parts_after, parts_less, with_offer}
+use Rattle.someip_tp.specs.SegmentOffers.{SegmentOffer, conflicts, is_too_long, is_unaligned, kept, message_at, message_of, no_part, part_under, parts_after, parts_less, with_offer}
 use Rattle.someip_tp.specs.Parts.{Limits, Part, Parts, is_gone, parts_at}
 use Rattle.someip_tp.proofs.AcceptedLemmas.{accepts, begins, whole_is_payload}
 use Rattle.someip_tp.proofs.BoundLemmas.{left_same, removed_same}
@@ -51,7 +51,7 @@ less_same parts k key part is = cases (is_some (message_at parts k)) is
 -- ---- items
 
 -- after an item that offers no segment only parts stand that stood before
-pub no_new_parts : (limits : Limits) (item : Item) (now : ℕ) (parts : Parts) (key : ReassemblyKey) (part : Part) → ((o : Offer) → item ≡ items.SegmentOffered o → ⊥) → get (parts_by limits item now parts) key ≡ Some part
+pub no_new_parts : (limits : Limits) (item : Item) (now : ℕ) (parts : Parts) (key : ReassemblyKey) (part : Part) → ((o : SegmentOffer) → item ≡ items.SegmentOffered o → ⊥) → get (parts_by limits item now parts) key ≡ Some part
     → get parts key ≡ Some part
 no_new_parts limits (items.Ticked ms) now parts key part none is = left_same limits (now + ms) parts key part is
 no_new_parts limits (items.SegmentOffered o) now parts key part none is = absurd (none o refl)
@@ -61,18 +61,18 @@ no_new_parts limits item now parts key part none is = is
 -- ---- a segment that was offered
 
 -- a part is the one with a segment that was accepted
-pub record IsJoined (now : ℕ) (o : Offer) (left : Parts) (key : ReassemblyKey) (part : Part) : Type 0 where
+pub record IsJoined (now : ℕ) (o : SegmentOffer) (left : Parts) (key : ReassemblyKey) (part : Part) : Type 0 where
   pub same : key ≡ o.key
   pub is : part ≡ with_offer (part_under left o.key) now o
 
 -- what stands under a key once a part was put under one
-inserted : (now : ℕ) (o : Offer) (left : Parts) (key : ReassemblyKey) (part : Part) (same : Bool) → same_key key o.key ≡ same → cond same (Some (with_offer (part_under left o.key) now o)) (get left key) ≡ Some part
+inserted : (now : ℕ) (o : SegmentOffer) (left : Parts) (key : ReassemblyKey) (part : Part) (same : Bool) → same_key key o.key ≡ same → cond same (Some (with_offer (part_under left o.key) now o)) (get left key) ≡ Some part
     → (get left key ≡ Some part) ⊎ IsJoined now o left key part
 inserted now o left key part true test is = inr (record { same = same_from_test key o.key test; is = cc })
 inserted now o left key part false test is = inl is
 
 -- by the four tests of a segment
-offered_by_tests : (now : ℕ) (o : Offer) (left : Parts) (key : ReassemblyKey) (part : Part) (unaligned long full clash : Bool) → get (kept (judged_by unaligned long full clash now o left) now o left) key ≡ Some part
+offered_by_tests : (now : ℕ) (o : SegmentOffer) (left : Parts) (key : ReassemblyKey) (part : Part) (unaligned long full clash : Bool) → get (kept (judged_by unaligned long full clash now o left) now o left) key ≡ Some part
     → (get left key ≡ Some part) ⊎ IsJoined now o left key part
 offered_by_tests now o left key part true long full clash is = inl is
 offered_by_tests now o left key part false true full clash is = inl is
@@ -82,7 +82,7 @@ offered_by_tests now o left key part false false false false is =
     inserted now o left key part (same_key key o.key) refl (sym (get-insert keys_total left o.key (with_offer (part_under left o.key) now o) key) ∙ is)
 
 -- a part that stands after a segment was offered was left before, or has the segment
-pub offered_parts : (limits : Limits) (now : ℕ) (o : Offer) (parts : Parts) (key : ReassemblyKey) (part : Part) → get (parts_after limits now o parts) key ≡ Some part
+pub offered_parts : (limits : Limits) (now : ℕ) (o : SegmentOffer) (parts : Parts) (key : ReassemblyKey) (part : Part) → get (parts_after limits now o parts) key ≡ Some part
     → (get (parts_at limits now parts) key ≡ Some part) ⊎ IsJoined now o (parts_at limits now parts) key part
 unfolding parts_after
 offered_parts limits now o parts key part is =
@@ -90,7 +90,7 @@ offered_parts limits now o parts key part is =
     offered_by_tests now o left key part (is_unaligned o) (is_too_long limits.limit o) (is_none (get left o.key) && nat_le limits.slots (len left)) (conflicts (part_under left o.key) o) is
 
 -- where the part under the key of a segment held only bytes of its message, it does with the segment too
-pub joined_holds : (now : ℕ) (o : Offer) (m : MessageValue) (left : Parts) (key : ReassemblyKey) (part : Part) → IsSegmentOf m o → ((part : Part) → get left o.key ≡ Some part → HoldsOnly m.payload part)
+pub joined_holds : (now : ℕ) (o : SegmentOffer) (m : MessageValue) (left : Parts) (key : ReassemblyKey) (part : Part) → IsSegmentOf m o → ((part : Part) → get left o.key ≡ Some part → HoldsOnly m.payload part)
     → IsJoined now o left key part → HoldsOnly m.payload part
 joined_holds now o m left key part segment held joined =
     subst (HoldsOnly m.payload) (sym joined.is) (accepts m (part_under left o.key) now o (before (get left o.key) refl) segment)

@@ -9,7 +9,7 @@ use Rattle.someip_wire.specs.Spelling.{Fits, MessageValue, spelling}
 use Rattle.someip_tp.specs.declared.key.ReassemblyKey.{ReassemblyKey}
 use Rattle.someip_tp.specs.Accepted.{IsSegmentOf}
 use Rattle.someip_tp.specs.Keys.{segment_key}
-use Rattle.someip_tp.specs.Offers.{Offer, offer}
+use Rattle.someip_tp.specs.SegmentOffers.{SegmentOffer, offer}
 use Rattle.someip_tp.specs.Segments.{SegmentValue, segment_header, segment_message}
 use Rattle.someip_tp.specs.Sent.{PieceValue, is_long, piece_message, segments_of, sent}
 use Rattle.someip_tp.specs.TpHeader.{segment_in}
@@ -57,7 +57,7 @@ plain_back header none = ap (λ kind. record header { kind = kind }) (flag_back 
 -- ---- what a datagram with a segment was given as
 
 -- what was given is a long message, of which the segment is one
-pub record IsOfMessage (p : Packet) (header : Header) (o : Offer) (given : Given) : Type 0 where
+pub record IsOfMessage (p : Packet) (header : Header) (o : SegmentOffer) (given : Given) : Type 0 where
   pub message : MessageValue
   pub is : given ≡ Sends p.from p.to message
   pub long : is_long message.payload ≡ true
@@ -69,7 +69,7 @@ pub record IsOfMessage (p : Packet) (header : Header) (o : Offer) (given : Given
 ok_same : {A E : Type 0} (a b : A) → Path (Result A E) (Ok a) (Ok b) → a ≡ b
 ok_same a b is = cc
 
-module _ (p : Packet) (header : Header) (o : Offer) (segment : HasSegment p header o) where
+module _ (p : Packet) (header : Header) (o : SegmentOffer) (segment : HasSegment p header o) where
   -- a datagram that is a piece of a message brings a segment of it
   of_piece : (m : MessageValue) → Fits m → has_tp_flag m.header.kind ≡ false → (piece : PieceValue) → Fits (piece_message piece) → IsSegment m piece → p.bytes ≡ spelling (piece_message piece)
       → (given : Given) → given ≡ Sends p.from p.to m → IsOfMessage p header o given
@@ -84,7 +84,7 @@ module _ (p : Packet) (header : Header) (o : Offer) (segment : HasSegment p head
       let read : segment.read ≡ (s.offset, s.more, s.slice) = ok_same segment.read (s.offset, s.more, s.slice) (sym reads ∙ ap (λ x. segment_in x.payload) same ∙ own) in
       let head : segment.message.header ≡ segment_header m.header = ap (λ x. x.header) same ∙ ap (λ (x : SegmentValue). x.header) (segment_is m s among).is in
       let headed : header ≡ m.header = segment.whole ∙ ap plain_header head ∙ plain_back m.header none in
-      let key : o.key ≡ segment_key p.from p.to segment.message.header = ap (λ (x : Offer). x.key) segment.offered in
+      let key : o.key ≡ segment_key p.from p.to segment.message.header = ap (λ (x : SegmentOffer). x.key) segment.offered in
       record {
         message = m;
         is = is;

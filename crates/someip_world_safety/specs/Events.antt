@@ -37,7 +37,7 @@ module _ (nodes : List SetupNode) (configs : List Config) (steps : List Step) wh
     pub at : offer.rules.endpoint ≡ from
     pub how :
         (does.input ≡ Publish instance message.method payload)
-        ⊎ ((group : ℕ) × (does.input ≡ PublishTo instance group to message.method payload))
+        ⊎ ((eventgroup : ℕ) × (does.input ≡ PublishTo instance eventgroup to message.method payload))
     pub live : IsLiveAt does.turn.history instance (eventgroups_of offer message.method) to
     pub given : MessageValue
     pub gave : Contains (given_by (trail_of does.turn.history does.input)) (Sends from to given)

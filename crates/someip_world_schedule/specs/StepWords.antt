@@ -62,11 +62,12 @@ method_in word = do
   id ← id_in word
   if nat_lt id 0x8000 then Some id else None
 
--- the byte of two hex digits
+-- the byte of a list that has no other
 abbrev pub byte_of : List ℕ → Option ℕ
 byte_of (byte ∷ []) = Some byte
 byte_of others = None
 
+-- the byte of two hex digits
 abbrev pub byte_in : List ℕ → Option ℕ
 byte_in word = result_ok (decode_sized word 1) >>= byte_of
 
@@ -86,6 +87,7 @@ is_name_byte b = (nat_le 0x61 b && nat_le b 0x7a) || is_digit b
 abbrev pub is_name : List ℕ → Bool
 is_name word = nat_le 1 (length word) && nat_le (length word) 16 && list_all is_name_byte word
 
+-- NODE: a word that is a node's name
 abbrev pub name_in : List ℕ → Option (List ℕ)
 name_in word = if is_name word then Some word else None
 
@@ -100,8 +102,8 @@ instance_in word = do
   Some (record { service = service; instance = instance })
 
 -- SERVICE.INSTANCE, and the Eventgroup ID
-abbrev pub group_in : List ℕ → List ℕ → Option Eventgroup
-group_in word group = do
+abbrev pub eventgroup_in : List ℕ → List ℕ → Option Eventgroup
+eventgroup_in word group = do
   instance ← instance_in word
   id ← id_in group
   Some (record { instance = instance; id = id })
@@ -137,13 +139,14 @@ abbrev pub hex_in : List ℕ → Option (List ℕ)
 hex_in [] = None
 hex_in (digit ∷ digits) = result_ok (decode_of (digit ∷ digits))
 
--- HH*N: N times one byte, where the word has a `*`, and else its pairs of digits
+-- HH*N: N times the byte HH, where N is at most 1048576
 abbrev pub repeated_in : List ℕ → List ℕ → Option (List ℕ)
 repeated_in digits count = do
   byte ← byte_in digits
   n ← number_in 1048577 count
   Some (replicate n byte)
 
+-- HH*N where the word has a `*`, and else its pairs of hex digits
 abbrev pub repeated_or_hex_in : List ℕ → Option (List ℕ × List ℕ) → Option (List ℕ)
 repeated_or_hex_in word (Some parts) = repeated_in parts.0 parts.1
 repeated_or_hex_in word None = hex_in word

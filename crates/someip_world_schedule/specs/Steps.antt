@@ -11,7 +11,7 @@ use Rattle.someip_world_schedule.specs.declared.step.Step.{Step}
 use Rattle.someip_world_schedule.specs.declared.step.Step.TheVariants.{Tick, Deliver, Call, Answer, Publish, PublishTo, Subscribe, Unsubscribe, StopOffer, Restart}
 use Rattle.someip_world_schedule.specs.declared.step_command.Command.{Command}
 use Rattle.someip_world_schedule.specs.declared.step_command.Command.TheVariants as commands
-use Rattle.someip_world_schedule.specs.StepWords.{◌>>=◌, number_in, id_in, method_in, code_in, name_in, instance_in, group_in, endpoint_in, payload_in}
+use Rattle.someip_world_schedule.specs.StepWords.{◌>>=◌, number_in, id_in, method_in, code_in, name_in, instance_in, eventgroup_in, endpoint_in, payload_in}
 
 -- the words of a line: what stands between spaces. Between two spaces, and at an end with a space, stands an empty word,
 -- which no step takes
@@ -99,26 +99,26 @@ publish_step words = None
 abbrev pub publish_to_step : List (List ℕ) → Option Step
 publish_to_step (node ∷ instance ∷ group ∷ endpoint ∷ event ∷ payload ∷ []) = do
   node ← name_in node
-  group ← group_in instance group
+  eventgroup ← eventgroup_in instance group
   to ← endpoint_in endpoint
   event ← id_in event
   payload ← payload_in payload
-  Some (PublishTo node group to event payload)
+  Some (PublishTo node eventgroup to event payload)
 publish_to_step words = None
 
 -- NODE SI GROUP
 abbrev pub subscribe_step : List (List ℕ) → Option Step
 subscribe_step (node ∷ instance ∷ group ∷ []) = do
   node ← name_in node
-  group ← group_in instance group
-  Some (Subscribe node group)
+  eventgroup ← eventgroup_in instance group
+  Some (Subscribe node eventgroup)
 subscribe_step words = None
 
 abbrev pub unsubscribe_step : List (List ℕ) → Option Step
 unsubscribe_step (node ∷ instance ∷ group ∷ []) = do
   node ← name_in node
-  group ← group_in instance group
-  Some (Unsubscribe node group)
+  eventgroup ← eventgroup_in instance group
+  Some (Unsubscribe node eventgroup)
 unsubscribe_step words = None
 
 -- NODE SI

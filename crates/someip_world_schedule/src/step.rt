@@ -71,9 +71,9 @@ pub enum Step {
     PublishTo {
         /// The node.
         node: NodeName,
-        /// The eventgroup that it subscribed to.
-        group: Eventgroup,
-        /// Its endpoint.
+        /// The eventgroup that the subscriber subscribed to.
+        eventgroup: Eventgroup,
+        /// The subscriber's endpoint.
         to: SocketAddrV4,
         /// Event ID.
         event: u16,
@@ -86,7 +86,7 @@ pub enum Step {
         /// The node.
         node: NodeName,
         /// The eventgroup.
-        group: Eventgroup,
+        eventgroup: Eventgroup,
     },
     /// A node gives up its subscription to an eventgroup:
     /// `unsubscribe NODE SI GROUP`.
@@ -94,7 +94,7 @@ pub enum Step {
         /// The node.
         node: NodeName,
         /// The eventgroup.
-        group: Eventgroup,
+        eventgroup: Eventgroup,
     },
     /// A node no longer offers an instance:
     /// `stop_offer NODE SI`.

@@ -10,7 +10,7 @@ use crate::step::Step;
 use crate::step_command::{Command, command_of};
 use crate::step_name::name;
 use crate::step_payload::payload;
-use crate::step_words::{WordFault, code, endpoint, group, id, instance, method, number};
+use crate::step_words::{WordFault, code, endpoint, eventgroup, id, instance, method, number};
 use someip_rpc::{CallKind, Reply};
 use std::alloc::{AllocError, Global};
 
@@ -167,17 +167,17 @@ fn publish(alloc: Global, words: &[&str]) -> Result<Step, WordFault>
 fn publish_to(alloc: Global, words: &[&str]) -> Result<Step, WordFault>
     ensures { IsReadOf (publish_to_step (map (λ w. w.now) words.now)) result }
 {
-    let [node, si, eventgroup, ep, event, bytes] = words else {
+    let [node, si, group, ep, event, bytes] = words else {
         return Err(WordFault::Bad);
     };
     let node = name(alloc, node)?;
-    let group = group(si, eventgroup).ok_or(WordFault::Bad)?;
+    let eventgroup = eventgroup(si, group).ok_or(WordFault::Bad)?;
     let to = endpoint(ep).ok_or(WordFault::Bad)?;
     let event = id(event).ok_or(WordFault::Bad)?;
     let payload = payload(alloc, bytes)?;
     Ok(Step::PublishTo {
         node,
-        group,
+        eventgroup,
         to,
         event,
         payload,
@@ -188,24 +188,24 @@ fn publish_to(alloc: Global, words: &[&str]) -> Result<Step, WordFault>
 fn subscribe(alloc: Global, words: &[&str]) -> Result<Step, WordFault>
     ensures { IsReadOf (subscribe_step (map (λ w. w.now) words.now)) result }
 {
-    let [node, si, eventgroup] = words else {
+    let [node, si, group] = words else {
         return Err(WordFault::Bad);
     };
     let node = name(alloc, node)?;
-    let group = group(si, eventgroup).ok_or(WordFault::Bad)?;
-    Ok(Step::Subscribe { node, group })
+    let eventgroup = eventgroup(si, group).ok_or(WordFault::Bad)?;
+    Ok(Step::Subscribe { node, eventgroup })
 }
 
 /// NODE SI GROUP.
 fn unsubscribe(alloc: Global, words: &[&str]) -> Result<Step, WordFault>
     ensures { IsReadOf (unsubscribe_step (map (λ w. w.now) words.now)) result }
 {
-    let [node, si, eventgroup] = words else {
+    let [node, si, group] = words else {
         return Err(WordFault::Bad);
     };
     let node = name(alloc, node)?;
-    let group = group(si, eventgroup).ok_or(WordFault::Bad)?;
-    Ok(Step::Unsubscribe { node, group })
+    let eventgroup = eventgroup(si, group).ok_or(WordFault::Bad)?;
+    Ok(Step::Unsubscribe { node, eventgroup })
 }
 
 /// NODE SI.

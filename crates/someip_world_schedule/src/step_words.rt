@@ -3,7 +3,7 @@ ghost use Rattle.std.specs.Prelude.{◌≡◌, ◌<◌, ◌^◌, Some, None, Mat
 ghost use Rattle.std.specs.List.{list_all};
 ghost use Rattle.someip_world_schedule.specs.StepWords.{IsReadOf, cut_in, is_digit, begins_plain};
 ghost use Rattle.someip_world_schedule.specs.StepWords.{is_plain, number_in, id_in, method_in};
-ghost use Rattle.someip_world_schedule.specs.StepWords.{byte_in, code_in, instance_in, group_in, address_in};
+ghost use Rattle.someip_world_schedule.specs.StepWords.{byte_in, code_in, instance_in, eventgroup_in, address_in};
 ghost use Rattle.someip_world_schedule.specs.StepWords.{endpoint_in};
 ghost use Rattle.someip_world_schedule.specs.declared.step_words.WordFault.TheVariants.{OutOfMemory};
 
@@ -144,8 +144,8 @@ pub fn instance(word: &str) -> Option<InstanceId>
 }
 
 /// SERVICE.INSTANCE and the ID of an eventgroup.
-pub fn group(word: &str, group: &str) -> Option<Eventgroup>
-    ensures { result ≡ group_in word.now group.now }
+pub fn eventgroup(word: &str, group: &str) -> Option<Eventgroup>
+    ensures { result ≡ eventgroup_in word.now group.now }
 {
     Some(Eventgroup {
         instance: instance(word)?,

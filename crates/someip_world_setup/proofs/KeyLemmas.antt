@@ -1,4 +1,4 @@
--- The keys of a table that its kind does not know.
+-- The keys of a table that its subject does not know.
 use Rattle.std.proofs.Common.{String, Global, ◌≡◌, ℕ, Bool, true, false, cond, not, ◌||◌, List, [], ◌∷◌, map, Option, Some, refl, sym, ap, ◌∙◌, string_bytes}
 use Rattle.std.specs.List.{list_any, find}
 use Rattle.std.specs.Option.{is_some}
@@ -6,7 +6,7 @@ use Rattle.std.specs.BTreeMap.{BTreeMap, keys}
 use Rattle.toml.specs.Data.{Data, Members, as_table}
 use Rattle.toml.specs.View.{members_view, table_view}
 use Rattle.toml.specs.declared.value.Value.{Value}
-use Rattle.someip_world_setup.specs.declared.unknown.Place.{Place}
+use Rattle.someip_world_setup.specs.declared.unknown.Subject.{Subject}
 use Rattle.someip_world_setup.specs.KnownKeys.{is_known_key, keys_in, keys_of_members, has_unknown}
 
 any-find : {A : Type 0} (p : A → Bool) (xs : List A) → is_some (find p xs) ≡ list_any p xs
@@ -22,9 +22,9 @@ any-keys p [] = refl
 any-keys p (e ∷ es) = ap (λ b. p (string_bytes e.0) || b) (any-keys p es)
 
 -- the first of the keys that is unknown, if one is
-pub first_decides : (place : Place) (d : Data) (m : BTreeMap (String Global) Value) (first : Option (String Global)) → Some (table_view m) ≡ as_table d → first ≡ find (λ k. not (is_known_key place (string_bytes k))) (keys m) → is_some first ≡ has_unknown place d
-first_decides place d m first is found =
+pub first_decides : (subject : Subject) (d : Data) (m : BTreeMap (String Global) Value) (first : Option (String Global)) → Some (table_view m) ≡ as_table d → first ≡ find (λ k. not (is_known_key subject (string_bytes k))) (keys m) → is_some first ≡ has_unknown subject d
+first_decides subject d m first is found =
     ap (λ (o : Option (String Global)). is_some o) found
-    ∙ any-find (λ k. not (is_known_key place (string_bytes k))) (keys m)
-    ∙ sym (any-keys (λ k. not (is_known_key place k)) m.entries)
-    ∙ ap (λ (o : Option Members). list_any (λ k. not (is_known_key place k)) (keys_in o)) is
+    ∙ any-find (λ k. not (is_known_key subject (string_bytes k))) (keys m)
+    ∙ sym (any-keys (λ k. not (is_known_key subject k)) m.entries)
+    ∙ ap (λ (o : Option Members). list_any (λ k. not (is_known_key subject k)) (keys_in o)) is

@@ -9,7 +9,7 @@ use Rattle.someip_world_setup.specs.Keys.{◌>>=◌, within, integer_at, integer
 use Rattle.someip_world_setup.specs.Lists.{found_at_each, id_of, ids_of, tables_at, tables_or_none, integers_or_none, integers_at}
 use Rattle.someip_world_setup.specs.Values.{ListedValue, OfferValue, WantValue, NodeValue, PhasesValue, SetupValue}
 use Rattle.someip_world_setup.specs.Clashes.{offered_id, wanted_id}
-use Rattle.someip_world_setup.specs.Says.{methods_at, some_ids, groups_at, said_event, said_offer, said_group, said_want, said_node, few_tables, count_or, time_or, said_phases, said_common, said_setup}
+use Rattle.someip_world_setup.specs.Says.{methods_at, some_ids, groups_at, said_event, said_offer, said_eventgroup, said_want, said_node, few_tables, count_or, time_or, said_phases, said_common, said_setup}
 
 -- ---- numbers
 
@@ -172,7 +172,7 @@ pub record WantRange (w : WantValue) : Type 0 where
   pub ttl : (w.ttl == 0) ≡ false
   pub groups : AllByRecursion GroupRange w.groups
 
-group_in : (d : Data) → IfSome (said_group d) GroupRange
+group_in : (d : Data) → IfSome (said_eventgroup d) GroupRange
 group_in d =
     then_some (IsWithin 1 0xFFFE) GroupRange _ _ (number_in (codes "id") 1 0xFFFE d) (λ id is.
     then_some (λ ids. list_all is_good_event ids ≡ true) GroupRange _ _
@@ -185,7 +185,7 @@ want_in d =
     then_some (IsWithin 1 0xFFFE) WantRange _ _ (number_in (codes "instance") 1 0xFFFE d) (λ instance b.
     then_some (IsWithin 0 0xFE) WantRange _ _ (number_in (codes "major") 0 0xFE d) (λ major c.
     then_some (IsWithin 1 0xFFFFFF) WantRange _ _ (number_in (codes "ttl") 1 0xFFFFFF d) (λ ttl e.
-    then_some _ WantRange _ _ (tables_in GroupRange said_group group_in (tables_or_none (codes "groups") d)) (λ groups f.
+    then_some _ WantRange _ _ (tables_in GroupRange said_eventgroup group_in (tables_or_none (codes "groups") d)) (λ groups f.
     let r : WantRange (record { service = service; instance = instance; major = major; ttl = ttl; groups = groups }) = record {
       id = and_from (is_good_id service) (is_good_id instance) a b;
       major = at_most 0 0xFE major c;

@@ -68,10 +68,11 @@ has_equal_wants node = has_repeat same_instance (wanted_by node)
 
 -- ---- IDs
 
--- an ID stands twice in a list, or twice among those that belong to one of it
+-- an ID stands twice in the eventgroups of an event, or in the events of an eventgroup
 abbrev pub has_equal_members : ListedValue → Bool
 has_equal_members l = has_repeat same_number l.members
 
+-- an ID stands twice in a list of events, or of eventgroups, or twice among those that belong to one of the list
 abbrev pub has_equal_ids : List ListedValue → Bool
 has_equal_ids ls = has_repeat same_number (map (λ l. l.id) ls) || list_any has_equal_members ls
 

@@ -108,8 +108,8 @@ tree_with_want d = tree_with_node (keyed (codes "want") (single d))
 abbrev pub tree_with_event : Data → Data
 tree_with_event d = tree_with_offer (keyed (codes "events") (single d))
 
-abbrev pub tree_with_group : Data → Data
-tree_with_group d = tree_with_want (keyed (codes "groups") (single d))
+abbrev pub tree_with_eventgroup : Data → Data
+tree_with_eventgroup d = tree_with_want (keyed (codes "groups") (single d))
 
 -- ---- texts
 

@@ -31,44 +31,53 @@ abbrev pub within : ℕ → ℕ → ℤ → Option ℕ
 within low high (pos n) = if nat_le low n && nat_le n high then Some n else None
 within low high (negsuc n) = None
 
--- the integer at a key, and the same where a key that is absent means its default
+-- the integer at a key
 abbrev pub integer_at : List ℕ → Data → Option ℤ
 integer_at key d = get key d >>= as_integer
 
+-- the integer that was found at a key, or its default where nothing was
 abbrev pub integer_of : ℤ → Option Data → Option ℤ
 integer_of default None = Some default
 integer_of default (Some d) = as_integer d
 
+-- the integer at a key, or its default where the key is absent
 abbrev pub integer_or : List ℕ → ℤ → Data → Option ℤ
 integer_or key default d = integer_of default (get key d)
 
--- the number at a key in a range, and the same with a default
+-- the number at a key, if it is in a range
 abbrev pub number_within : List ℕ → ℕ → ℕ → Data → Option ℕ
 number_within key low high d = integer_at key d >>= within low high
 
+-- the number at a key, or its default where the key is absent, if that is in a range: a default has to be, too
 abbrev pub number_or : List ℕ → ℤ → ℕ → ℕ → Data → Option ℕ
 number_or key default low high d = integer_or key default d >>= within low high
 
--- 1 to 16 of a to z, 0 to 9
+-- one of a to z, 0 to 9
 abbrev pub is_name_byte : ℕ → Bool
 is_name_byte b = (nat_le 97 b && nat_le b 122) || (nat_le 48 b && nat_le b 57)
 
+-- a text is a name: it has 1 to 16 of a to z, 0 to 9
 abbrev pub is_name : List ℕ → Bool
 is_name text = (nat_le 1 (length text) && nat_le (length text) 16) && list_all is_name_byte text
 
+-- a text, if it is a name
 abbrev pub checked_name : List ℕ → Option (List ℕ)
 checked_name text = if is_name text then Some text else None
 
+-- the name at the key `name` of a table, if its text is one
 abbrev pub name_at : Data → Option (List ℕ)
 name_at d = get (codes "name") d >>= as_str >>= checked_name
 
--- four decimal numbers up to 255 without leading zeros, with dots between them, and nothing after them
+-- the address that was read, if nothing stands after it
 abbrev pub whole_address : List ℕ × List ℕ → Option Ipv4Addr
 whole_address (octets, []) = Some (record { octets = octets })
 whole_address (octets, c ∷ rest) = None
 
+-- the address that a text is: four decimal numbers up to 255 without leading zeros, with dots between them, and
+-- nothing after them
 unfoldable pub address_of : List ℕ → Option Ipv4Addr
 address_of text = read_ipv4 text >>= whole_address
 
+-- the address at a key, if its text is one
 abbrev pub address_at : List ℕ → Data → Option Ipv4Addr
 address_at key d = get key d >>= as_str >>= address_of

@@ -39,7 +39,8 @@ abbrev pub IsOwed : Option SetupValue → SetupError → Type 0
 IsOwed said OutOfMemory = Unit {0}
 IsOwed said error = said ≡ None
 
--- a tree has the fault that an error tells: a key is missing, or its value of another kind or outside its range, so that no values can be read; or it has an unknown key; or the values that are read clash
+-- a tree may be refused by an error: no values can be read of it, whichever of the three that is told by; or it has an
+-- unknown key; or the values that are read clash
 abbrev pub HasFault : Data → SetupError → Type 0
 HasFault tree (Missing key) = said_setup tree ≡ None
 HasFault tree (WrongKind key) = said_setup tree ≡ None

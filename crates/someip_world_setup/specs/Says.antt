@@ -6,39 +6,48 @@ use Rattle.someip_world_setup.specs.Lists.{found_at_each, tables_at, tables_or_n
 use Rattle.someip_world_setup.specs.Values.{ListedValue, OfferValue, WantValue, NodeValue, PhasesValue, CommonValue, SetupValue}
 use Rattle.someip_node_rules.specs.GoodConfigs.{greatest_message_limit}
 
--- an ID: of a service, of an instance or of an eventgroup
+-- an ID: of a service, of an instance or of an eventgroup, from 1 to FFFE
 abbrev pub id_at : List ℕ → Data → Option ℕ
 id_at key = number_within key 1 0xFFFE
 
+-- the port at a key, from 1 to 65535
 abbrev pub port_at : List ℕ → Data → Option ℕ
 port_at key = number_within key 1 0xFFFF
 
+-- the major version of a table, from 0 to FE
 abbrev pub major_at : Data → Option ℕ
 major_at = number_within (codes "major") 0 0xFE
 
+-- the TTL of a table in seconds, from 1 to FFFFFF
 abbrev pub ttl_at : Data → Option ℕ
 ttl_at = number_within (codes "ttl") 1 0xFFFFFF
 
 -- ---- offers
 
+-- the Method IDs at a key, up to 7FFF, and none where the key is absent
 abbrev pub methods_at : List ℕ → Data → Option (List ℕ)
 methods_at key d = integers_or_none key d >>= ids_of 0 0x7FFF
 
+-- a list of IDs, if it has one at least
 abbrev pub some_ids : List ℕ → Option (List ℕ)
 some_ids ids = if length ids == 0 then None else Some ids
 
+-- the eventgroups of an event, from 1 to FFFE, one at least
 abbrev pub groups_at : Data → Option (List ℕ)
 groups_at d = integers_at (codes "groups") d >>= ids_of 1 0xFFFE >>= some_ids
 
+-- an event of an offer: its ID, from 8000 to FFFE, and its eventgroups
 abbrev pub said_event : Data → Option ListedValue
 said_event d =
     number_within (codes "id") 0x8000 0xFFFE d >>= λ id.
     groups_at d >>= λ members.
     Some (record { id = id; members = members })
 
+-- the events of an offer, and none where the key is absent
 abbrev pub events_at : Data → Option (List ListedValue)
 events_at d = tables_or_none (codes "events") d >>= found_at_each said_event
 
+-- an offer: its keys, each in its range, with its methods and events; what may be absent has its default
 abbrev pub said_offer : Data → Option OfferValue
 said_offer d =
     id_at (codes "service") d >>= λ service.
@@ -64,26 +73,30 @@ said_offer d =
       subscribers = subscribers;
     })
 
+-- the offers of a node, and none where the key is absent
 abbrev pub offers_at : Data → Option (List OfferValue)
 offers_at d = tables_or_none (codes "offer") d >>= found_at_each said_offer
 
 -- ---- wants
 
-abbrev pub said_group : Data → Option ListedValue
-said_group d =
+-- an eventgroup of a want: its ID, from 1 to FFFE, and its events, from 8000 to FFFE, which may be none
+abbrev pub said_eventgroup : Data → Option ListedValue
+said_eventgroup d =
     id_at (codes "id") d >>= λ id.
     (integers_at (codes "events") d >>= ids_of 0x8000 0xFFFE) >>= λ members.
     Some (record { id = id; members = members })
 
+-- a want: its keys, each in its range, and its eventgroups, none where their key is absent
 abbrev pub said_want : Data → Option WantValue
 said_want d =
     id_at (codes "service") d >>= λ service.
     id_at (codes "instance") d >>= λ instance.
     major_at d >>= λ major.
     ttl_at d >>= λ ttl.
-    (tables_or_none (codes "groups") d >>= found_at_each said_group) >>= λ groups.
+    (tables_or_none (codes "groups") d >>= found_at_each said_eventgroup) >>= λ groups.
     Some (record { service = service; instance = instance; major = major; ttl = ttl; groups = groups })
 
+-- the wants of a node, and none where the key is absent
 abbrev pub wants_at : Data → Option (List WantValue)
 wants_at d = tables_or_none (codes "want") d >>= found_at_each said_want
 
@@ -113,17 +126,21 @@ said_node least most d =
 abbrev pub few_tables : List Data → Option (List Data)
 few_tables ds = if (length ds == 0) || nat_le 65 (length ds) then None else Some ds
 
+-- the tables of the nodes, of which there are 1 to 64
 abbrev pub node_tables : Data → Option (List Data)
 node_tables d = tables_at (codes "node") d >>= few_tables
 
 -- ---- what all nodes share
 
+-- the time at a key in milliseconds, from 1 to an hour, or its default
 abbrev pub time_or : List ℕ → ℤ → Data → Option ℕ
 time_or key default = number_or key default 1 3600000
 
+-- the number of things at a key, from 1 to 1024, or its default
 abbrev pub count_or : List ℕ → ℤ → Data → Option ℕ
 count_or key default = number_or key default 1 1024
 
+-- the delays after the first one: keys, ranges and defaults
 abbrev pub said_phases : Data → Option PhasesValue
 said_phases d =
     number_or (codes "base") (pos 30) 1 60000 d >>= λ base.
@@ -131,6 +148,7 @@ said_phases d =
     time_or (codes "cyclic") (pos 1000) d >>= λ cyclic.
     Some (record { base = base; repetitions = repetitions; cyclic = cyclic })
 
+-- what all nodes share: keys, ranges and defaults; the greatest initial delay is not below the least
 abbrev pub said_common : Data → Option CommonValue
 said_common d =
     address_at (codes "group") d >>= λ group.
@@ -156,6 +174,7 @@ said_common d =
 
 -- ---- the setup
 
+-- the setup that a tree says: what all nodes share, and then the nodes
 abbrev pub said_setup : Data → Option SetupValue
 said_setup d =
     said_common d >>= λ common.

@@ -5,7 +5,7 @@ ghost use Rattle.std.specs.List.{All};
 ghost use Rattle.toml.specs.Data.{Data};
 ghost use Rattle.someip_node_rules.specs.GoodConfigs.{is_good, is_good_delay};
 ghost use Rattle.someip_world_setup.specs.Clashes.{has_repeat, same_number, has_clash};
-ghost use Rattle.someip_world_setup.specs.Examples.{group_address, local_address, offer_with, offer_at, want_with, node_with, alone_with, offering, beside, also_offering, wanting, keyed, tree_with_node, tree_with_offer, tree_with_want, tree_with_event, tree_with_group, text_with, two_nodes};
+ghost use Rattle.someip_world_setup.specs.Examples.{group_address, local_address, offer_with, offer_at, want_with, node_with, alone_with, offering, beside, also_offering, wanting, keyed, tree_with_node, tree_with_offer, tree_with_want, tree_with_event, tree_with_eventgroup, text_with, two_nodes};
 ghost use Rattle.someip_world_setup.specs.GoodSetups.{Network, IsGoodNetwork};
 ghost use Rattle.someip_world_setup.specs.KnownKeys.{has_unknown_key};
 ghost use Rattle.someip_world_setup.specs.Readings.{setup_of_text};
@@ -75,8 +75,8 @@ pub fn what_keys_are_known()
     ensures not_want { (d : Data) → has_unknown_key (tree_with_want (keyed (codes "minor") d)) ≡ true }
     ensures event { (d : Data) → has_unknown_key (tree_with_event (keyed (codes "groups") d)) ≡ false }
     ensures not_event { (d : Data) → has_unknown_key (tree_with_event (keyed (codes "events") d)) ≡ true }
-    ensures group { (d : Data) → has_unknown_key (tree_with_group (keyed (codes "events") d)) ≡ false }
-    ensures not_group { (d : Data) → has_unknown_key (tree_with_group (keyed (codes "groups") d)) ≡ true }
+    ensures eventgroup { (d : Data) → has_unknown_key (tree_with_eventgroup (keyed (codes "events") d)) ≡ false }
+    ensures not_eventgroup { (d : Data) → has_unknown_key (tree_with_eventgroup (keyed (codes "groups") d)) ≡ true }
 {}
 
 /// A text says its values and the defaults, and nothing where a value is out of range, a key unknown or

@@ -12,9 +12,9 @@ use crate::tables::listed_at;
 use std::alloc::Global;
 use toml::{Table, Value};
 
-/// What a table says.
+/// What a table is about.
 #[derive(Clone, Copy, Debug, PartialEq, Eq)]
-pub(crate) enum Place {
+pub(crate) enum Subject {
     /// The setup.
     Setup,
     /// A node.
@@ -26,26 +26,26 @@ pub(crate) enum Place {
     /// An event of an offer.
     Event,
     /// An eventgroup of a want.
-    Group,
+    Eventgroup,
 }
 
-/// Whether a table at a place may have a key.
-fn is_known_key(place: Place, key: &str) -> bool
-    ensures { result ≡ is_known_key place key.now }
+/// Whether a table about a subject may have a key.
+fn is_known_key(subject: Subject, key: &str) -> bool
+    ensures { result ≡ is_known_key subject key.now }
 {
-    match place {
-        Place::Setup => is_known_of_setup(key),
-        Place::Node => is_known_of_node(key),
-        Place::Offer => is_known_of_offer(key),
-        Place::Want => is_known_of_want(key),
-        Place::Event => key == "id" || key == "groups",
-        Place::Group => key == "id" || key == "events",
+    match subject {
+        Subject::Setup => is_known_of_setup(key),
+        Subject::Node => is_known_of_node(key),
+        Subject::Offer => is_known_of_offer(key),
+        Subject::Want => is_known_of_want(key),
+        Subject::Event => key == "id" || key == "groups",
+        Subject::Eventgroup => key == "id" || key == "events",
     }
 }
 
 /// Whether the setup may have a key.
 fn is_known_of_setup(key: &str) -> bool
-    ensures { result ≡ is_known_key Place.Setup key.now }
+    ensures { result ≡ is_known_key Subject.Setup key.now }
 {
     key == "group"
         || key == "initial_min"
@@ -63,7 +63,7 @@ fn is_known_of_setup(key: &str) -> bool
 
 /// Whether a node may have a key.
 fn is_known_of_node(key: &str) -> bool
-    ensures { result ≡ is_known_key Place.Node key.now }
+    ensures { result ≡ is_known_key Subject.Node key.now }
 {
     key == "name"
         || key == "address"
@@ -76,7 +76,7 @@ fn is_known_of_node(key: &str) -> bool
 
 /// Whether an offer may have a key.
 fn is_known_of_offer(key: &str) -> bool
-    ensures { result ≡ is_known_key Place.Offer key.now }
+    ensures { result ≡ is_known_key Subject.Offer key.now }
 {
     key == "service"
         || key == "instance"
@@ -92,29 +92,29 @@ fn is_known_of_offer(key: &str) -> bool
 
 /// Whether a want may have a key.
 fn is_known_of_want(key: &str) -> bool
-    ensures { result ≡ is_known_key Place.Want key.now }
+    ensures { result ≡ is_known_key Subject.Want key.now }
 {
     key == "service" || key == "instance" || key == "major" || key == "ttl" || key == "groups"
 }
 
-/// The least of the keys that a place does not know.
-fn unknown_member(members: &Table, place: Place) -> Option<&String>
+/// The least of the keys that a table about a subject may not have.
+fn unknown_member(members: &Table, subject: Subject) -> Option<&String>
     ensures { option_map (λ key. key.now) result
-        ≡ find (λ key. not (is_known_key place (string_bytes key))) (keys members.now) }
+        ≡ find (λ key. not (is_known_key subject (string_bytes key))) (keys members.now) }
 {
     members
         .keys()
-        .find(|key| !is_known_key(place, key.as_str()))
+        .find(|key| !is_known_key(subject, key.as_str()))
 }
 
 /// The least key of a table that it may not have.
-fn first_unknown(table: &Value, place: Place) -> Option<&str>
-    ensures { is_some result ≡ has_unknown place (view table.now) }
+fn first_unknown(table: &Value, subject: Subject) -> Option<&str>
+    ensures { is_some result ≡ has_unknown subject (view table.now) }
 {
     let Some(members) = table.as_table() else {
         return None;
     };
-    match unknown_member(members, place) {
+    match unknown_member(members, subject) {
         Some(key) => Some(key.as_str()),
         None => None,
     }
@@ -132,38 +132,43 @@ fn lesser<'a>(a: Option<&'a str>, b: Option<&'a str>) -> Option<&'a str>
 }
 
 /// The least unknown key of some tables.
-fn unknown_of(tables: &[Value], place: Place) -> Option<&str>
-    ensures { is_some result ≡ list_any (has_unknown place) (map view tables.now) }
+fn unknown_of(tables: &[Value], subject: Subject) -> Option<&str>
+    ensures { is_some result ≡ list_any (has_unknown subject) (map view tables.now) }
 {
     let mut least = None;
     for table in tables {
-        least = lesser(least, first_unknown(table, place));
+        least = lesser(least, first_unknown(table, subject));
     }
     least
 }
 
 /// The least unknown key of the tables that stand in lists at a key.
-fn unknown_at<'a>(tables: &'a [Value], key: &str, place: Place) -> Option<&'a str>
+fn unknown_at<'a>(tables: &'a [Value], key: &str, subject: Subject) -> Option<&'a str>
     ensures { is_some result
-        ≡ list_any (has_unknown place) (listed_in key.now (map view tables.now)) }
+        ≡ list_any (has_unknown subject) (listed_in key.now (map view tables.now)) }
 {
     let mut least = None;
     for table in tables {
-        least = lesser(least, unknown_of(listed_at(table, key), place));
+        least = lesser(least, unknown_of(listed_at(table, key), subject));
     }
     least
 }
 
 /// The least unknown key of the tables that stand in lists at one key, of tables that stand in lists at
 /// another.
-fn unknown_below<'a>(tables: &'a [Value], outer: &str, inner: &str, place: Place) -> Option<&'a str>
+fn unknown_below<'a>(
+    tables: &'a [Value],
+    outer: &str,
+    inner: &str,
+    subject: Subject,
+) -> Option<&'a str>
     ensures { is_some result
-        ≡ list_any (has_unknown place)
+        ≡ list_any (has_unknown subject)
         (listed_in inner.now (listed_in outer.now (map view tables.now))) }
 {
     let mut least = None;
     for table in tables {
-        least = lesser(least, unknown_at(listed_at(table, outer), inner, place));
+        least = lesser(least, unknown_at(listed_at(table, outer), inner, subject));
     }
     least
 }
@@ -171,26 +176,26 @@ fn unknown_below<'a>(tables: &'a [Value], outer: &str, inner: &str, place: Place
 /// The least unknown key of the offers and wants of nodes.
 fn unknown_of_instances(nodes: &[Value]) -> Option<&str>
     ensures { is_some result
-        ≡ (list_any (has_unknown Place.Offer) (listed_in (codes "offer") (map view nodes.now))
-        || list_any (has_unknown Place.Want) (listed_in (codes "want") (map view nodes.now))) }
+        ≡ (list_any (has_unknown Subject.Offer) (listed_in (codes "offer") (map view nodes.now))
+        || list_any (has_unknown Subject.Want) (listed_in (codes "want") (map view nodes.now))) }
 {
     lesser(
-        unknown_at(nodes, "offer", Place::Offer),
-        unknown_at(nodes, "want", Place::Want),
+        unknown_at(nodes, "offer", Subject::Offer),
+        unknown_at(nodes, "want", Subject::Want),
     )
 }
 
 /// The least unknown key of the events and eventgroups of nodes.
 fn unknown_of_lists(nodes: &[Value]) -> Option<&str>
     ensures { is_some result
-        ≡ (list_any (has_unknown Place.Event)
+        ≡ (list_any (has_unknown Subject.Event)
         (listed_in (codes "events") (listed_in (codes "offer") (map view nodes.now)))
-        || list_any (has_unknown Place.Group)
+        || list_any (has_unknown Subject.Eventgroup)
         (listed_in (codes "groups") (listed_in (codes "want") (map view nodes.now)))) }
 {
     lesser(
-        unknown_below(nodes, "offer", "events", Place::Event),
-        unknown_below(nodes, "want", "groups", Place::Group),
+        unknown_below(nodes, "offer", "events", Subject::Event),
+        unknown_below(nodes, "want", "groups", Subject::Eventgroup),
     )
 }
 
@@ -199,10 +204,10 @@ fn unknown_in(tree: &Value) -> Option<&str>
     ensures { is_some result ≡ has_unknown_key (view tree.now) }
 {
     let nodes = listed_at(tree, "node");
-    if let Some(key) = first_unknown(tree, Place::Setup) {
+    if let Some(key) = first_unknown(tree, Subject::Setup) {
         return Some(key);
     }
-    if let Some(key) = unknown_of(nodes, Place::Node) {
+    if let Some(key) = unknown_of(nodes, Subject::Node) {
         return Some(key);
     }
     if let Some(key) = unknown_of_instances(nodes) {

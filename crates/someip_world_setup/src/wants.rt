@@ -3,7 +3,7 @@ ghost use Rattle.std.specs.Prelude.{map};
 ghost use Rattle.toml.specs.View.{view};
 ghost use Rattle.someip_world_setup.specs.Keys.{IsAsFound};
 ghost use Rattle.someip_world_setup.specs.Lists.{found_at_each};
-ghost use Rattle.someip_world_setup.specs.Says.{said_group, said_want, wants_at};
+ghost use Rattle.someip_world_setup.specs.Says.{said_eventgroup, said_want, wants_at};
 ghost use Rattle.someip_world_setup.specs.Values.{listed_view, want_view};
 
 use crate::error::SetupError;
@@ -15,8 +15,8 @@ use std::alloc::Global;
 use toml::Value;
 
 /// An eventgroup, from 1 to FFFE, with its events, from 8000 to FFFE.
-fn group(alloc: Global, table: &Value) -> Result<Listed, SetupError>
-    ensures { IsAsFound listed_view result (said_group (view table.now)) }
+fn eventgroup(alloc: Global, table: &Value) -> Result<Listed, SetupError>
+    ensures { IsAsFound listed_view result (said_eventgroup (view table.now)) }
 {
     let id = id_at(table, "id")?;
     let members = ids(
@@ -31,11 +31,11 @@ fn group(alloc: Global, table: &Value) -> Result<Listed, SetupError>
 
 /// The eventgroups of a want.
 fn groups(alloc: Global, tables: &[Value]) -> Result<Vec<Listed>, SetupError>
-    ensures { IsAsFound (λ v. map listed_view v.items) result (found_at_each said_group (map view tables.now)) }
+    ensures { IsAsFound (λ v. map listed_view v.items) result (found_at_each said_eventgroup (map view tables.now)) }
 {
     let mut groups = Vec::new(alloc);
     for table in tables {
-        groups.push(group(alloc, table)?)?;
+        groups.push(eventgroup(alloc, table)?)?;
     }
     Ok(groups)
 }

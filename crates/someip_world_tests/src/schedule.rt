@@ -222,13 +222,13 @@ fn as_written(alloc: Global, step: &Step) -> Result<String, AllocError> {
             let node = node.as_str();
             format!(in alloc; "{node} deliver {number}")
         }
-        Step::Subscribe { node, group } => {
+        Step::Subscribe { node, eventgroup } => {
             let node = node.as_str();
-            format!(in alloc; "{node} subscribe {group:?}")
+            format!(in alloc; "{node} subscribe {eventgroup:?}")
         }
-        Step::Unsubscribe { node, group } => {
+        Step::Unsubscribe { node, eventgroup } => {
             let node = node.as_str();
-            format!(in alloc; "{node} unsubscribe {group:?}")
+            format!(in alloc; "{node} unsubscribe {eventgroup:?}")
         }
         Step::StopOffer { node, instance } => {
             let node = node.as_str();
@@ -288,7 +288,7 @@ fn as_published(alloc: Global, step: &Step) -> Result<String, AllocError> {
         }
         Step::PublishTo {
             node,
-            group,
+            eventgroup,
             to,
             event,
             payload,
@@ -296,7 +296,7 @@ fn as_published(alloc: Global, step: &Step) -> Result<String, AllocError> {
             let node = node.as_str();
             let payload = payload.to_payload(alloc)?;
             let bytes = payload.as_slice();
-            format!(in alloc; "{node} publish {group:?} {to} {event} {bytes:?}")
+            format!(in alloc; "{node} publish {eventgroup:?} {to} {event} {bytes:?}")
         }
         _ => Ok(String::new(alloc)),
     }

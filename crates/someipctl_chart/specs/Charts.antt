@@ -24,8 +24,10 @@ RefusesChart nodes text CannotRead before after = ⊥
 RefusesChart nodes text CannotWrite before after = HasTrace nodes text × (picture : List ℕ) × (n : ℕ) × Appends before after (take n picture)
 RefusesChart nodes text OutOfMemory before after = Keeps before after
 
+-- the schedule that is read has a trace, and a picture was written
 abbrev pub ChartsInput : List SetupNode → Option (List ℕ) → Option (List ℕ) → Option (List ℕ) → Type 0
 ChartsInput nodes input before after = OfInput input (λ text. Charts nodes text before after)
 
+-- what a fault says of a schedule that is read, and of what was written: nothing, if the schedule can't be read
 abbrev pub RefusesInputChart : List SetupNode → Option (List ℕ) → RunFault → Option (List ℕ) → Option (List ℕ) → Type 0
 RefusesInputChart nodes input fault before after = RefusesReading (RefusesChart nodes) input fault before after

@@ -1,6 +1,5 @@
 -- What digits of a port write.
-use Rattle.std.proofs.lemmas.Fmt.{decimal_digit, decimal-digits_value, decimal_is_IsNumeral, digits_decimal, digits_value-decimal, first_decimal}
-use Rattle.std.proofs.Common.{◌≡◌, ◌==◌, ◌&&◌, not, zero, suc, decimal, ltb-true, ne_eqb, ℕ, ◌<◌, ◌≤◌, ◌^◌, Bool, true, false, cond, nat_lt, List, [], ◌∷◌, length, get_or, Some, None, Result, Ok, Err, refl, sym, ap, ◌∙◌, arith, lt-ltb, le-ltb, le-leb, leb-true}
+use Rattle.std.proofs.Common.{◌≡◌, ◌&&◌, ℕ, ◌<◌, ◌^◌, true, cond, nat_lt, List, [], ◌∷◌, length, Some, None, Result, Ok, Err, refl, arith, lt-ltb, le-ltb, le-leb, leb-true}
 use Rattle.std.specs.List.{list_all}
 use Rattle.std.specs.Result.{OkIff, result_ok}
 use Rattle.std.specs.Str.Parse.{ParsesUnsigned, digits_value}

@@ -1,6 +1,6 @@
 -- The records of a file, what is left out of them, and the heads of lines.
-use Rattle.std.proofs.Common.{◌≡◌, ℕ, zero, suc, ◌+◌, ◌<◌, ◌≤◌, ◌==◌, Bool, true, false, cond, ◌||◌, List, [], ◌∷◌, ◌++◌, length, take, drop, Option, Some, None, is_none, map, Result, Ok, Err, option_map, refl, sym, ap, subst, ◌∙◌, append_assoc, arith}
-use Rattle.std.specs.List.{flat_map, list_any}
+use Rattle.std.proofs.Common.{◌≡◌, ℕ, zero, suc, ◌+◌, ◌<◌, ◌≤◌, ◌==◌, Bool, true, false, cond, ◌||◌, List, [], ◌∷◌, ◌++◌, length, take, drop, Option, Some, None, is_none, map, Result, Ok, Err, refl, sym, ap, subst, ◌∙◌, append_assoc, arith}
+use Rattle.std.specs.List.{list_any}
 use Rattle.std.specs.Option.{option_to_list}
 use Rattle.std.proofs.lemmas.List.{length-drop}
 use Rattle.recording.specs.declared.RecordingError.{RecordingError}
@@ -13,11 +13,10 @@ use Rattle.recording.specs.declared.format.Format.{Format}
 use Rattle.recording.specs.declared.format.Format.TheVariants.{Classic, Blocks}
 use Rattle.recording.specs.declared.interface.Interface.{Interface}
 use Rattle.recording.specs.declared.number.ByteOrder.TheVariants.{Big}
-use Rattle.recording.specs.Numbers.{number32}
 use Rattle.recording.specs.Classic.{classic_in}
-use Rattle.recording.specs.Packets.{DatagramValue, RecordValue, datagram, other}
+use Rattle.recording.specs.Packets.{DatagramValue, RecordValue}
 use Rattle.recording.specs.Sections.{Meaning}
-use Rattle.recording.specs.Records.{Item, items_of, items_from, items_within, items_after, part_meaning, part_len, format_after, section_after, classic_items}
+use Rattle.recording.specs.Records.{Item, items_of, items_from, items_within, items_after, part_meaning, classic_items}
 use Rattle.recording.specs.Spelling.{IsBytes, IsRecording}
 use Rattle.recording.proofs.RecordingLemmas.{recording_found}
 use Rattle.someipctl_commands.specs.declared.left_out.LeftOut.{LeftOut}

@@ -1,5 +1,5 @@
 -- From what was read and written to what `show` promises.
-use Rattle.std.proofs.Common.{◌≡◌, ℕ, List, [], ◌∷◌, map, Option, Some, None, Vec, Global, refl, ap, ◌∙◌}
+use Rattle.std.proofs.Common.{◌≡◌, ℕ, List, [], ◌∷◌, map, Option, Some, Vec, Global, refl, ap, ◌∙◌}
 use Rattle.std.specs.Prelude.{IfSome}
 use Rattle.someipctl_inputs.specs.declared.outcome.Outcome.{Outcome}
 use Rattle.someipctl_commands.specs.declared.show.ShowError.{ShowError}

@@ -1,4 +1,4 @@
--- Hex text of bytes in pieces.
+-- Hex text of bytes in chunks.
 use Rattle.std.proofs.Common.{◌≡◌, ◌/◌, ◌%◌, ℕ, List, [], ◌∷◌, ◌++◌, take, drop, slice_index, refl, sym, ap, ◌∙◌}
 use Rattle.std.proofs.lemmas.List.{take-append-drop}
 use Rattle.hex.specs.Hex.{encode_with, encode_lower, lower_digits}
@@ -11,7 +11,7 @@ encode_with-append t (x ∷ xs) ys = ap (λ (r : List ℕ). slice_index t (x / 1
 pub encode_lower-append : (xs ys : List ℕ) → encode_lower (xs ++ ys) ≡ encode_lower xs ++ encode_lower ys
 encode_lower-append xs ys = encode_with-append lower_digits xs ys
 
--- bytes in two pieces
+-- bytes in two chunks
 pub encode_lower-split : (front back : List ℕ) (n : ℕ) (bytes : List ℕ) → front ≡ take n bytes → back ≡ drop n bytes → encode_lower bytes ≡ encode_lower front ++ encode_lower back
 encode_lower-split front back n bytes is_front is_back =
     ap encode_lower (sym (take-append-drop n bytes)) ∙ encode_lower-append (take n bytes) (drop n bytes)

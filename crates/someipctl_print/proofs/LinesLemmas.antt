@@ -1,4 +1,4 @@
--- The line of a message in pieces, and the line behind that of a segment's message.
+-- The line of a message in parts, and the line behind that of a segment's message.
 use Rattle.std.proofs.Common.{◌≡◌, ℕ, ◌+◌, ◌<◌, ◌≤◌, Bool, true, List, [], ◌∷◌, ◌++◌, length, drop, Ok, codes, decimal, refl, ap, ◌∙◌, append_assoc, arith}
 use Rattle.std.specs.Int.{w32, to_be_bytes}
 use Rattle.std.specs.Borrow.{Bor}
@@ -10,31 +10,31 @@ use Rattle.someip_tp.specs.TpHeader.{reads_segment, tp_header_in}
 use Rattle.someipctl_print.specs.Parts.{hex4, hex2}
 use Rattle.someipctl_print.specs.Lines.{joined, type_name, payload_text, message_line, flag_text, fault_line, segment_lines}
 
--- a piece in front of others, taken apart
-piece3 : (x a b c rest others : List ℕ) → x ≡ a ++ b ++ c → rest ≡ others → x ++ rest ≡ a ++ (b ++ (c ++ others))
-piece3 x a b c rest others is same = rw (is, same) (simp append_assoc)
+-- a part in front of others, taken apart
+parts3 : (x a b c rest others : List ℕ) → x ≡ a ++ b ++ c → rest ≡ others → x ++ rest ≡ a ++ (b ++ (c ++ others))
+parts3 x a b c rest others is same = rw (is, same) (simp append_assoc)
 
-piece4 : (x a b c d rest others : List ℕ) → x ≡ a ++ b ++ c ++ d → rest ≡ others → x ++ rest ≡ a ++ (b ++ (c ++ (d ++ others)))
-piece4 x a b c d rest others is same = rw (is, same) (simp append_assoc)
+parts4 : (x a b c d rest others : List ℕ) → x ≡ a ++ b ++ c ++ d → rest ≡ others → x ++ rest ≡ a ++ (b ++ (c ++ (d ++ others)))
+parts4 x a b c d rest others is same = rw (is, same) (simp append_assoc)
 
-piece5 : (x a b c d e rest others : List ℕ) → x ≡ a ++ b ++ c ++ d ++ e → rest ≡ others → x ++ rest ≡ a ++ (b ++ (c ++ (d ++ (e ++ others))))
-piece5 x a b c d e rest others is same = rw (is, same) (simp append_assoc)
+parts5 : (x a b c d e rest others : List ℕ) → x ≡ a ++ b ++ c ++ d ++ e → rest ≡ others → x ++ rest ≡ a ++ (b ++ (c ++ (d ++ (e ++ others))))
+parts5 x a b c d e rest others is same = rw (is, same) (simp append_assoc)
 
 -- the line of a message, of which what has the same length in each line is there already
-pub message_line-pieces : (k : ℕ) (m : MessageValue) (ids session interface code : List ℕ)
+pub message_line-parts : (k : ℕ) (m : MessageValue) (ids session interface code : List ℕ)
     → ids ≡ codes " message " ++ hex4 m.header.service ++ codes "." ++ hex4 m.header.method ++ codes " length "
     → session ≡ codes " client " ++ hex4 m.header.client ++ codes " session " ++ hex4 m.header.session
     → interface ≡ codes " interface " ++ hex2 m.header.interface ++ codes " type "
     → code ≡ codes " code " ++ hex2 m.header.code.0 ++ codes " payload "
     → joined (decimal k ∷ ids ∷ decimal (8 + length m.payload) ∷ session ∷ interface ∷ type_name m.header.kind ∷ code ∷ payload_text m.payload ∷ codes "\n" ∷ []) ≡ message_line k m
-message_line-pieces k m ids session interface code i s f c =
+message_line-parts k m ids session interface code i s f c =
     ap (λ (t : List ℕ). decimal k ++ t)
-    (piece5 ids (codes " message ") (hex4 m.header.service) (codes ".") (hex4 m.header.method) (codes " length ") _ _ i
+    (parts5 ids (codes " message ") (hex4 m.header.service) (codes ".") (hex4 m.header.method) (codes " length ") _ _ i
     (ap (λ (t : List ℕ). decimal (8 + length m.payload) ++ t)
-    (piece4 session (codes " client ") (hex4 m.header.client) (codes " session ") (hex4 m.header.session) _ _ s
-    (piece3 interface (codes " interface ") (hex2 m.header.interface) (codes " type ") _ _ f
+    (parts4 session (codes " client ") (hex4 m.header.client) (codes " session ") (hex4 m.header.session) _ _ s
+    (parts3 interface (codes " interface ") (hex2 m.header.interface) (codes " type ") _ _ f
     (ap (λ (t : List ℕ). type_name m.header.kind ++ t)
-    (piece3 code (codes " code ") (hex2 m.header.code.0) (codes " payload ") (payload_text m.payload ++ codes "\n") (payload_text m.payload ++ codes "\n") c refl))))))
+    (parts3 code (codes " code ") (hex2 m.header.code.0) (codes " payload ") (payload_text m.payload ++ codes "\n") (payload_text m.payload ++ codes "\n") c refl))))))
 
 -- a segment without a TP header has its fault alone
 pub segment_lines-fault : (k place : ℕ) (m : MessageValue) → has_tp_flag m.header.kind ≡ true → length m.payload < 4 → segment_lines k place m ≡ fault_line k (codes "NoHeader") place

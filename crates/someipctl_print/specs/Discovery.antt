@@ -58,17 +58,19 @@ abbrev pub eventgroup_name : EventgroupKind → ℕ → List ℕ
 eventgroup_name Subscribe ttl = if ttl == 0 then codes "stopsubscribe" else codes "subscribe"
 eventgroup_name Ack ttl = if ttl == 0 then codes "nack" else codes "ack"
 
--- the line of an entry, up to its runs
+-- the line of a service entry, up to its runs
 abbrev pub service_text : ℕ → ServiceEntry → List ℕ
 service_text k s = joined (
     decimal k ∷ codes " " ∷ service_name s.kind s.ttl ∷ codes " " ∷ hex4 s.service ∷ codes "." ∷ hex4 s.instance
     ∷ codes " major " ∷ hex2 s.major ∷ codes " ttl " ∷ decimal s.ttl ∷ codes " minor " ∷ decimal s.minor ∷ [])
 
+-- the line of an eventgroup entry, up to its runs
 abbrev pub eventgroup_text : ℕ → EventgroupEntry → List ℕ
 eventgroup_text k g = joined (
     decimal k ∷ codes " " ∷ eventgroup_name g.kind g.ttl ∷ codes " " ∷ hex4 g.service ∷ codes "." ∷ hex4 g.instance
     ∷ codes " major " ∷ hex2 g.major ∷ codes " ttl " ∷ decimal g.ttl ∷ codes " counter " ∷ decimal g.counter ∷ codes " group " ∷ hex4 g.eventgroup ∷ [])
 
+-- the line of an entry, up to its runs
 abbrev pub head_text : ℕ → EntryHead → List ℕ
 head_text k (Service s) = service_text k s
 head_text k (Eventgroup g) = eventgroup_text k g

@@ -15,7 +15,7 @@ use Rattle.someipctl_print.specs.Lines.{joined}
 abbrev pub protocol_text : ℕ → List ℕ
 protocol_text p = if p == 0x06 then codes "tcp" else (if p == 0x11 then codes "udp" else codes "proto" ++ hex2 p)
 
--- an address and a port, and the protocol
+-- an IPv4 address and a port, and the protocol
 abbrev pub ipv4_text : Ipv4Endpoint → List ℕ
 ipv4_text e =
     let octets = ipv4_octets (v4_ip e.socket) in
@@ -23,16 +23,19 @@ ipv4_text e =
     decimal (slice_index octets 0) ∷ codes "." ∷ decimal (slice_index octets 1) ∷ codes "." ∷ decimal (slice_index octets 2) ∷ codes "." ∷ decimal (slice_index octets 3)
     ∷ codes ":" ∷ decimal (v4_port e.socket) ∷ codes " " ∷ protocol_text e.protocol.0 ∷ [])
 
+-- the bytes of an IPv6 address in hex and a port, and the protocol
 abbrev pub ipv6_octets_text : List ℕ → ℕ → ℕ → List ℕ
 ipv6_octets_text octets port protocol = joined (encode_lower octets ∷ codes ":" ∷ decimal port ∷ codes " " ∷ protocol_text protocol ∷ [])
 
+-- an IPv6 address, in 32 hex digits, and a port, and the protocol
 abbrev pub ipv6_text : Ipv6Endpoint → List ℕ
 ipv6_text e = ipv6_octets_text (ipv6_octets e.address) e.port e.protocol.0
 
--- a load balancing option, and one that is kept as it was read
+-- a load balancing option: its priority and its weight
 abbrev pub load_text : ℕ → ℕ → List ℕ
 load_text priority weight = joined (codes "load " ∷ decimal priority ∷ codes " " ∷ decimal weight ∷ [])
 
+-- an option that is kept as it was read: its type, and all bytes that its length counts
 abbrev pub raw_text : ℕ → List ℕ → List ℕ
 raw_text kind bytes = joined (codes "unknown " ∷ hex2 kind ∷ codes " " ∷ encode_lower bytes ∷ [])
 

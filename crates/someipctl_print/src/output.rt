@@ -95,7 +95,7 @@ impl Buffer {
             (W.contents writer.new) (encode_lower bytes.now)) }
     {
         if (self.room.len() - self.held) / 2 < bytes.len() {
-            return self.put_hex_in_pieces(writer, bytes);
+            return self.put_hex_in_chunks(writer, bytes);
         }
         hold_hex(&mut self.room, self.held, bytes);
         self.held += 2 * bytes.len();
@@ -105,7 +105,7 @@ impl Buffer {
     /// Prints bytes as digits, however many they are.
     #[cold]
     #[inline(never)]
-    fn put_hex_in_pieces<W: Write>(
+    fn put_hex_in_chunks<W: Write>(
         &mut self,
         writer: &mut W,
         bytes: &[u8],

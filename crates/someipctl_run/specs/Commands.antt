@@ -40,9 +40,11 @@ RefusesSetup text (setups.Refused error) = (is_utf8 text ≡ true) × TextHasFau
 RefusesSetup text setups.CannotRead = ⊥
 RefusesSetup text setups.OutOfMemory = Unit {0}
 
+-- it is the setup that the text says which the reader had left
 abbrev pub IsSetupOfInput : Option (List ℕ) → Network → Type 0
 IsSetupOfInput input network = OfInput input (λ text. IsSetupOf text network)
 
+-- what the reader had left is refused as a setup, or it could not be read, or memory ran out
 abbrev pub RefusesInput : Option (List ℕ) → SetupFault → Type 0
 RefusesInput input (setups.Refused error) = OfInput input (λ text. RefusesSetup text (setups.Refused error))
 RefusesInput input setups.CannotRead = Unit {0}

@@ -131,6 +131,7 @@ ComparesTrace form nodes expected text lines verdict Done before after =
 ComparesTrace form nodes expected text lines verdict FaultShown before after =
     (mismatch : Mismatch) × FirstDiffer (printed_lines form (lines_of_steps text) nodes lines verdict) expected mismatch × Appends before after (mismatch_text mismatch)
 
+-- a schedule has a trace, which is compared with what is expected
 abbrev pub Compares : TraceForm → List SetupNode → List ℕ → List ℕ → Outcome → Option (List ℕ) → Option (List ℕ) → Type 0
 Compares form nodes expected text outcome before after =
     (lines : List Line) × (verdict : Reuse) × IsTraceOf nodes text lines verdict × ComparesTrace form nodes expected text lines verdict outcome before after
@@ -150,8 +151,10 @@ RefusesComparing form nodes expected text CannotRead before after = ⊥
 RefusesComparing form nodes expected text CannotWrite before after = ComparesPartly form nodes expected text before after
 RefusesComparing form nodes expected text OutOfMemory before after = Keeps before after
 
+-- a schedule that is read has a trace, which is compared with what is expected
 abbrev pub ComparesInput : TraceForm → List SetupNode → List ℕ → Option (List ℕ) → Outcome → Option (List ℕ) → Option (List ℕ) → Type 0
 ComparesInput form nodes expected input outcome before after = OfInput input (λ text. Compares form nodes expected text outcome before after)
 
+-- what a fault says of a schedule that is read, and of what was written, once the setup and the expected text were read
 abbrev pub RefusesInputComparing : TraceForm → List SetupNode → List ℕ → Option (List ℕ) → RunFault → Option (List ℕ) → Option (List ℕ) → Type 0
 RefusesInputComparing form nodes expected input fault before after = RefusesReading (RefusesComparing form nodes expected) input fault before after

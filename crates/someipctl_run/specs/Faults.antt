@@ -12,22 +12,27 @@ use Rattle.someipctl_run.specs.declared.error.RunFault.TheVariants.{BadLine, Bad
 use Rattle.someipctl_run.specs.declared.error.SetupFault.{SetupFault}
 use Rattle.someipctl_run.specs.declared.error.SetupFault.TheVariants as setups
 
+-- why SETUP was not read: reading failed, or memory ran out
 abbrev pub setup_fault_of_input : ReadFault → SetupFault
 setup_fault_of_input inputs.CannotRead = setups.CannotRead
 setup_fault_of_input inputs.OutOfMemory = setups.OutOfMemory
 
+-- why TRACE was not read
 abbrev pub expected_fault_of_input : ReadFault → ExpectedFault
 expected_fault_of_input inputs.CannotRead = expected.CannotRead
 expected_fault_of_input inputs.OutOfMemory = expected.OutOfMemory
 
+-- why SCHEDULE was not read
 abbrev pub fault_of_input : ReadFault → RunFault
 fault_of_input inputs.CannotRead = CannotRead
 fault_of_input inputs.OutOfMemory = OutOfMemory
 
+-- why SCHEDULE spells no steps: a line is bad, or memory ran out
 abbrev pub fault_of_schedule : ScheduleError → RunFault
 fault_of_schedule (schedules.BadLine line) = BadLine line
 fault_of_schedule schedules.OutOfMemory = OutOfMemory
 
+-- why a schedule has no trace: a step is bad, or memory ran out
 abbrev pub fault_of_run : RunError → RunFault
 fault_of_run (runs.BadStep index fault) = BadStep index fault
 fault_of_run runs.OutOfMemory = OutOfMemory

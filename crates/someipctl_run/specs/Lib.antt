@@ -1,5 +1,4 @@
 pub mod Faults
-pub mod Words
 pub mod Outputs
 pub mod StepLines
 pub mod Traces

@@ -1,10 +1,10 @@
 //! What the lines of a trace tell, word by word.
-ghost use Rattle.std.specs.Prelude.{◌≡◌, ◌∷◌, [], IfOk, OnOk, OnErr, map};
+ghost use Rattle.std.specs.Prelude.{◌≡◌, ◌∷◌, [], IfOk, OnOk, OnErr, decimal, map};
 ghost use Rattle.someip_node_rules.specs.declared.output.Output.TheVariants as output;
 ghost use Rattle.someipctl_print.specs.Sending.{Sends, Stops};
 ghost use Rattle.someipctl_print.specs.Words.{ended, word_text};
-ghost use Rattle.someipctl_run.specs.Outputs.{output_words, told_words};
-ghost use Rattle.someipctl_run.specs.Words.{token_text};
+ghost use Rattle.someip_node_rules.specs.OutputWords.{output_words, token_word};
+ghost use Rattle.someipctl_run.specs.Outputs.{told_words};
 
 use sd_core::{Cause, Eventgroup, InstanceId};
 use sd_wire::SubscriptionCounter;
@@ -54,9 +54,9 @@ fn put_output<W: Write>(
     output: &Output,
 ) -> Result<(), CannotWrite>
     ensures ok { OnOk result (Sends (W.contents writer.old) buffer.old
-        (W.contents writer.new) buffer.new (ended (output_words number output.now))) }
+        (W.contents writer.new) buffer.new (ended (output_words (decimal number ∷ []) output.now))) }
     ensures err { OnErr result (Stops (W.contents writer.old) buffer.old
-        (W.contents writer.new) (ended (output_words number output.now))) }
+        (W.contents writer.new) (ended (output_words (decimal number ∷ []) output.now))) }
 {
     match output {
         Output::Sent { from, to, bytes } => put_end(
@@ -127,7 +127,7 @@ fn put_output<W: Write>(
 
 /// A datagram with its number.
 fn sent(number: usize, from: SocketAddrV4, to: SocketAddrV4, bytes: &[u8]) -> [Word<'_>; 5]
-    ensures { map word_text result ≡ output_words number (output.Sent from to bytes.now) }
+    ensures { map word_text result ≡ output_words (decimal number ∷ []) (output.Sent from to bytes.now) }
 {
     [
         Word::Text("sent"),
@@ -140,7 +140,7 @@ fn sent(number: usize, from: SocketAddrV4, to: SocketAddrV4, bytes: &[u8]) -> [W
 
 /// An accepted call.
 fn called(message: MessageId, session: u16) -> [Word<'static>; 3]
-    ensures { map word_text result ≡ output_words 0 (output.Called message session) }
+    ensures { map word_text result ≡ output_words [] (output.Called message session) }
 {
     [
         Word::Text("call"),
@@ -151,7 +151,7 @@ fn called(message: MessageId, session: u16) -> [Word<'static>; 3]
 
 /// A request.
 fn request(token: Option<u64>, instance: InstanceId, method: u16, payload: &[u8]) -> [Word<'_>; 5]
-    ensures { map word_text result ≡ output_words 0 (output.Request token instance method payload.now) }
+    ensures { map word_text result ≡ output_words [] (output.Request token instance method payload.now) }
 {
     [
         Word::Text("request"),
@@ -164,7 +164,7 @@ fn request(token: Option<u64>, instance: InstanceId, method: u16, payload: &[u8]
 
 /// An answer.
 fn answered(message: MessageId, session: u16, code: ReturnCode, payload: &[u8]) -> [Word<'_>; 5]
-    ensures { map word_text result ≡ output_words 0 (output.Answered message session code payload.now) }
+    ensures { map word_text result ≡ output_words [] (output.Answered message session code payload.now) }
 {
     [
         Word::Text("answer"),
@@ -177,7 +177,7 @@ fn answered(message: MessageId, session: u16, code: ReturnCode, payload: &[u8]) 
 
 /// A call without an answer.
 fn timed_out(message: MessageId, session: u16) -> [Word<'static>; 3]
-    ensures { map word_text result ≡ output_words 0 (output.TimedOut message session) }
+    ensures { map word_text result ≡ output_words [] (output.TimedOut message session) }
 {
     [
         Word::Text("timeout"),
@@ -188,7 +188,7 @@ fn timed_out(message: MessageId, session: u16) -> [Word<'static>; 3]
 
 /// An event.
 fn event_of(instance: InstanceId, id: u16, payload: &[u8]) -> [Word<'_>; 4]
-    ensures { map word_text result ≡ output_words 0 (output.Event instance id payload.now) }
+    ensures { map word_text result ≡ output_words [] (output.Event instance id payload.now) }
 {
     [
         Word::Text("event"),
@@ -200,7 +200,7 @@ fn event_of(instance: InstanceId, id: u16, payload: &[u8]) -> [Word<'_>; 4]
 
 /// A known offer.
 fn known(instance: InstanceId, endpoint: SocketAddrV4) -> [Word<'static>; 3]
-    ensures { map word_text result ≡ output_words 0 (output.Known instance endpoint) }
+    ensures { map word_text result ≡ output_words [] (output.Known instance endpoint) }
 {
     [
         Word::Text("known"),
@@ -211,7 +211,7 @@ fn known(instance: InstanceId, endpoint: SocketAddrV4) -> [Word<'static>; 3]
 
 /// The end of a known offer.
 fn gone(instance: InstanceId) -> [Word<'static>; 2]
-    ensures { map word_text result ≡ output_words 0 (output.Gone instance) }
+    ensures { map word_text result ≡ output_words [] (output.Gone instance) }
 {
     [
         Word::Text("gone"),
@@ -220,60 +220,60 @@ fn gone(instance: InstanceId) -> [Word<'static>; 2]
 }
 
 /// A subscription.
-fn subscribed(group: Eventgroup, counter: SubscriptionCounter) -> [Word<'static>; 4]
-    ensures { map word_text result ≡ output_words 0 (output.Subscribed group counter) }
+fn subscribed(eventgroup: Eventgroup, counter: SubscriptionCounter) -> [Word<'static>; 4]
+    ensures { map word_text result ≡ output_words [] (output.Subscribed eventgroup counter) }
 {
     [
         Word::Text("subscribed"),
-        Word::Ids(group.instance.service, group.instance.instance),
-        Word::Id(group.id),
+        Word::Ids(eventgroup.instance.service, eventgroup.instance.instance),
+        Word::Id(eventgroup.id),
         Word::Number(counter.number() as usize),
     ]
 }
 
 /// The end of a subscription.
-fn unsubscribed(group: Eventgroup) -> [Word<'static>; 3]
-    ensures { map word_text result ≡ output_words 0 (output.Unsubscribed group) }
+fn unsubscribed(eventgroup: Eventgroup) -> [Word<'static>; 3]
+    ensures { map word_text result ≡ output_words [] (output.Unsubscribed eventgroup) }
 {
     [
         Word::Text("unsubscribed"),
-        Word::Ids(group.instance.service, group.instance.instance),
-        Word::Id(group.id),
+        Word::Ids(eventgroup.instance.service, eventgroup.instance.instance),
+        Word::Id(eventgroup.id),
     ]
 }
 
 /// An accepted Subscribe.
 fn accepted(
-    group: Eventgroup,
+    eventgroup: Eventgroup,
     endpoint: SocketAddrV4,
     counter: SubscriptionCounter,
 ) -> [Word<'static>; 5]
-    ensures { map word_text result ≡ output_words 0 (output.Accepted group endpoint counter) }
+    ensures { map word_text result ≡ output_words [] (output.Accepted eventgroup endpoint counter) }
 {
     [
         Word::Text("accepted"),
-        Word::Ids(group.instance.service, group.instance.instance),
-        Word::Id(group.id),
+        Word::Ids(eventgroup.instance.service, eventgroup.instance.instance),
+        Word::Id(eventgroup.id),
         Word::Endpoint(endpoint),
         Word::Number(counter.number() as usize),
     ]
 }
 
 /// A refused Subscribe.
-fn nacked(group: Eventgroup, cause: Cause) -> [Word<'static>; 4]
-    ensures { map word_text result ≡ output_words 0 (output.Nacked group cause) }
+fn nacked(eventgroup: Eventgroup, cause: Cause) -> [Word<'static>; 4]
+    ensures { map word_text result ≡ output_words [] (output.Nacked eventgroup cause) }
 {
     [
         Word::Text("nacked"),
-        Word::Ids(group.instance.service, group.instance.instance),
-        Word::Id(group.id),
+        Word::Ids(eventgroup.instance.service, eventgroup.instance.instance),
+        Word::Id(eventgroup.id),
         Word::Text(cause.name()),
     ]
 }
 
 /// A peer that began again.
 fn rebooted(peer: Ipv4Addr) -> [Word<'static>; 2]
-    ensures { map word_text result ≡ output_words 0 (output.Rebooted peer) }
+    ensures { map word_text result ≡ output_words [] (output.Rebooted peer) }
 {
     [Word::Text("reboot"), Word::Address(peer)]
 }
@@ -287,7 +287,7 @@ fn named<'t>(word: &'t str, name: &'t str) -> [Word<'t>; 2]
 
 /// The number of a token, or `-` for none.
 fn token_word(token: Option<u64>) -> Word<'static>
-    ensures { word_text result ≡ token_text token }
+    ensures { word_text result ≡ token_word token }
 {
     match token {
         Some(token) => Word::Number(token as usize),

@@ -1,7 +1,7 @@
 //! Reassembly in slots that are reserved once.
 ghost use Rattle.std.specs.Prelude.{◌≡◌, ◌≢◌, ◌≤◌, ◌%◌, ℕ, Err};
 ghost use Rattle.someip_tp.specs.Parts.{NoneAfter};
-ghost use Rattle.someip_tp.specs.Offers.{offer, judgement, parts_after};
+ghost use Rattle.someip_tp.specs.SegmentOffers.{offer, judgement, parts_after};
 
 use crate::error::TpError;
 use crate::key::ReassemblyKey;
@@ -17,9 +17,9 @@ use std::marker::Model;
 /// answers `OutOfMemory`, and no peer can make it grow.
 ///
 /// A segment costs what its own bytes need, in any order of arrival: each 16 places of it are
-/// compared where they are held, and joined to the intervals beside them. Besides, an offer finds the
+/// compared where they are held, and joined to the intervals beside them. Besides, `offer` finds the
 /// part of its key by a binary search, and looks at the moment of each part only where the time of one
-/// may be over. A part that begins or goes moves those behind it by one place.
+/// may be over. A part that begins or goes moves those behind it in the list.
 #[derive(Drop)]
 pub struct IntervalPool {
     slots: Slots,

@@ -3,7 +3,7 @@ ghost use Rattle.std.specs.Prelude.{◌≡◌, ◌+◌, ◌%◌, ◌++◌, ◌�
 ghost use Rattle.std.specs.FinMap as map;
 ghost use Rattle.someip_tp.specs.Keys.{key_cmp};
 ghost use Rattle.someip_tp.specs.Parts.{is_gone};
-ghost use Rattle.someip_tp.specs.Offers.{offer, no_part, conflicts, with_offer, message_of};
+ghost use Rattle.someip_tp.specs.SegmentOffers.{offer, no_part, conflicts, with_offer, message_of};
 ghost use Rattle.someip_tp.specs.Rooms.{IsConsistent, held_bytes};
 
 use crate::key::{ReassemblyKey, compare};

@@ -4,7 +4,7 @@ ghost use Rattle.std.specs.List.{All, insert};
 ghost use Rattle.std.specs.FinMap as finite;
 ghost use Rattle.someip_tp.specs.Keys.{same_key};
 ghost use Rattle.someip_tp.specs.Parts.{is_gone};
-ghost use Rattle.someip_tp.specs.Offers.{conflicts, with_offer, part_or_whole, message_at, parts_less, is_unaligned, is_too_long};
+ghost use Rattle.someip_tp.specs.SegmentOffers.{conflicts, with_offer, part_or_whole, message_at, parts_less, is_unaligned, is_too_long};
 ghost use Rattle.someip_tp.specs.Stores.{StandsAt, Offers, OffersAmong, segment_arrived, parts_of_entries};
 ghost use Rattle.someip_tp.specs.Pools.{ArePooled, SameBounds, AreRising, GoesAt, Finds, entries_in, entries_of};
 
@@ -220,7 +220,7 @@ fn position(taken: &[RoomPart], key: &ReassemblyKey) -> Result<usize, usize>
     taken.binary_search_by(|part| part.compare(key))
 }
 
-/// Puts a part in at `i`, for which a place is reserved.
+/// Puts a part in at `i`, for which the list has room.
 fn insert_reserved(taken: &mut Vec<RoomPart>, i: usize, part: RoomPart)
     requires inside { i ≤ vec_len taken.old }
     requires room { vec_len taken.old < vec_capacity taken.old }

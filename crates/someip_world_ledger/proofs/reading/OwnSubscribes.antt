@@ -15,7 +15,7 @@ use Rattle.sd_wire.specs.Kinds.{has_type_subscribe}
 use Rattle.sd_wire.specs.Values.{EntryValue, ReadValue, good}
 use Rattle.sd_session.specs.declared.stamp.Stamp.{Stamp}
 use Rattle.someip_node_laws.specs.Fitting.{FitsWire, head_of}
-use Rattle.someip_node_rules.specs.GoodConfigs.{has_own_ports, is_good, is_good_common, is_good_group, is_good_instance, is_good_offer, is_good_port, is_good_want}
+use Rattle.someip_node_rules.specs.GoodConfigs.{has_own_ports, is_good, is_good_common, is_good_eventgroup, is_good_instance, is_good_offer, is_good_port, is_good_want}
 use Rattle.someip_node_rules.specs.Handling.{same_address}
 use Rattle.someip_node_rules.specs.History.{History, answers_of}
 use Rattle.someip_node_rules.specs.Inputs.{Input}
@@ -57,7 +57,7 @@ each_passes p (x ∷ xs) all = let parts = and_parts (p x) (list_all p xs) all i
 good_ttl : (want : InstanceId × WantedService) → is_good_want want ≡ true → want.1.ttl ≢ 0
 good_ttl want well none =
     let front = is_good_instance want.0 && nat_le want.1.major 0xFE in
-    let outer = and_parts (front && not (want.1.ttl == 0)) (list_all is_good_group want.1.groups.entries) well in
+    let outer = and_parts (front && not (want.1.ttl == 0)) (list_all is_good_eventgroup want.1.groups.entries) well in
     let inner = and_parts front (not (want.1.ttl == 0)) outer.0 in
     let gone : not (want.1.ttl == 0) ≡ false = ap (λ ttl. not (ttl == 0)) none in
     let some = inner.1 in

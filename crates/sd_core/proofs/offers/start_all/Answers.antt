@@ -8,4 +8,4 @@ use Rattle.sd_core.proofs.offers.start_all.Goals as goal
 pub returns : goal.returns
 returns c =
     ap offers_of (c.change_all.ensures (λ _ p. record { version = p.version; sending = Some c.args.first }) (λ key value answer said. search rules))
-    ∙ all_started c.args.first (map_of instance_cmp c.args.places.now)
+    ∙ all_started c.args.first (map_of instance_cmp c.args.offerings.now)

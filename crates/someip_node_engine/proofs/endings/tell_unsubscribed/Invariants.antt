@@ -1,4 +1,4 @@
-use Rattle.std.proofs.Common.{◌≡◌, ◌++◌, map, drop}
+use Rattle.std.proofs.Common.{◌≡◌, ◌++◌, drop}
 use Rattle.someip_node_rules.specs.Outcomes.{unsubscribed}
 use Rattle.someip_node_engine.proofs.endings.tell_unsubscribed.Given as goal
 

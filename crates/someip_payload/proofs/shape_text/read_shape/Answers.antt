@@ -1,7 +1,6 @@
-use Rattle.std.proofs.Common.{◌≡◌, ℕ, ◌≤◌, List, [], ◌++◌, length, drop, sym, ap, ◌∙◌, arith}
+use Rattle.std.proofs.Common.{ℕ, List, [], sym, ◌∙◌, arith}
 use Rattle.std.proofs.lemmas.Result.{err_from_is_err_and}
 use Rattle.std.proofs.lemmas.List.{append-nil}
-use Rattle.someip_payload_codec.specs.View.{form}
 use Rattle.someip_payload.proofs.shape_text.read_shape.Goals as goal
 
 pub returns-in_err-shape-clause-only : goal.returns-in_err-shape-clause-only

@@ -1,4 +1,4 @@
-use Rattle.std.proofs.Common.{◌≡◌, Some, Ok, refl, slice_range}
+use Rattle.std.proofs.Common.{Some, Ok, refl}
 use Rattle.someip_payload.specs.ShapeText.{width_text}
 use Rattle.someip_payload.proofs.Converse.{width_is}
 use Rattle.someip_payload.proofs.shape_text.width_at.Goals as goal

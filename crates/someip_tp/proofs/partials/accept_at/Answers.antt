@@ -1,6 +1,6 @@
 use Rattle.std.proofs.Common.{◌≡◌, IfOk, sym, ap, subst, ◌∙◌}
 use Rattle.std.proofs.lemmas.Result.{on_ok_weaker}
-use Rattle.someip_tp.specs.Offers.{conflicts, part_or_whole, with_offer}
+use Rattle.someip_tp.specs.SegmentOffers.{conflicts, part_or_whole, with_offer}
 use Rattle.someip_tp.specs.Stores.{segment_arrived}
 use Rattle.someip_tp.proofs.StoreLemmas.{entry_under, changed_distinct, changed_parts}
 use Rattle.someip_tp.proofs.partials.accept_at.Goals as goal

@@ -1,6 +1,6 @@
 use Rattle.std.proofs.Common.{◌≡◌, sym, ap, ◌∙◌, ◌++◌, [], unwrap_or, true}
 use Rattle.std.specs.Option.{is_some}
-use Rattle.someip_tp.specs.Offers.{message_at}
+use Rattle.someip_tp.specs.SegmentOffers.{message_at}
 use Rattle.someip_tp.specs.Stores.{parts_of_entries}
 use Rattle.someip_tp.proofs.StoreLemmas.{no_part_there, none_whole, message_there, nothing_appended, on_err_any}
 use Rattle.someip_tp.proofs.partials.append_whole.Goals as goal

@@ -1,5 +1,5 @@
 use Rattle.std.proofs.Common.{sym, ap, ◌∙◌}
-use Rattle.someip_tp.specs.Offers.{conflicts}
+use Rattle.someip_tp.specs.SegmentOffers.{conflicts}
 use Rattle.someip_tp.specs.Stores.{segment_arrived}
 use Rattle.someip_tp.proofs.StoreLemmas.{entry_under}
 use Rattle.someip_tp.proofs.partials.contradicts.Goals as goal

@@ -3,7 +3,7 @@ use Rattle.std.proofs.lemmas.Bool.Decides.{nat_tests}
 use Rattle.std.specs.FinMap.{get, len}
 use Rattle.std.proofs.lemmas.Result.{err_from_is_err_and}
 use Rattle.someip_tp.specs.Stores.{StandsAt, segment_arrived, parts_of_entries}
-use Rattle.someip_tp.specs.Offers.{judged_among}
+use Rattle.someip_tp.specs.SegmentOffers.{judged_among}
 use Rattle.someip_tp.proofs.StoreLemmas.{no_part_there, count_is, judged_full, judged_new, wanting_acts, no_part_under}
 use Rattle.someip_tp.proofs.partials.offer_among.Goals as goal
 

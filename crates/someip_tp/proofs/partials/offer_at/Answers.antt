@@ -2,7 +2,7 @@ use Rattle.std.proofs.Common.{◌≡◌, sym, ap, ◌∙◌, Ok, Err, false, tru
 use Rattle.std.proofs.lemmas.Result.{err_from_is_err_and}
 use Rattle.someip_tp.specs.Partials.{Entry}
 use Rattle.someip_tp.specs.Stores.{segment_arrived, parts_of_entries}
-use Rattle.someip_tp.specs.Offers.{judged_among, no_part, conflicts, part_under}
+use Rattle.someip_tp.specs.SegmentOffers.{judged_among, no_part, conflicts, part_under}
 use Rattle.someip_tp.proofs.StoreLemmas.{removed_distinct, removed_parts, part_there, judged_conflict, judged_fit, wanting_acts}
 use Rattle.someip_tp.proofs.partials.offer_at.Goals as goal
 

@@ -1,5 +1,5 @@
 use Rattle.std.proofs.Common.{ap, ◌∙◌}
-use Rattle.someip_tp.specs.Offers.{conflicts, with_offer, no_part}
+use Rattle.someip_tp.specs.SegmentOffers.{conflicts, with_offer, no_part}
 use Rattle.someip_tp.specs.Stores.{segment_arrived}
 use Rattle.someip_tp.proofs.StoreLemmas.{nothing_conflicts, pushed_distinct, pushed_parts}
 use Rattle.someip_tp.proofs.partials.offer_new.Goals as goal

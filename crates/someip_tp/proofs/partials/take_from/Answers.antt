@@ -1,6 +1,6 @@
 use Rattle.std.proofs.Common.{◌≡◌, sym, ap, ◌∙◌, false, true}
 use Rattle.std.specs.Option.{is_some}
-use Rattle.someip_tp.specs.Offers.{message_at}
+use Rattle.someip_tp.specs.SegmentOffers.{message_at}
 use Rattle.someip_tp.specs.Stores.{parts_of_entries}
 use Rattle.someip_tp.proofs.StoreLemmas.{removed_distinct, parts_less_whole, parts_less_none}
 use Rattle.someip_tp.proofs.partials.take_from.Goals as goal

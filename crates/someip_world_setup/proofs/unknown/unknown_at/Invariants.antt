@@ -6,4 +6,4 @@ use Rattle.someip_world_setup.proofs.FoundLemmas.{HasFound}
 use Rattle.someip_world_setup.proofs.unknown.unknown_at.Given as goal
 
 abbrev pub invariant-loop-table : goal.invariant-loop-table
-invariant-loop-table l = HasFound (λ d. list_any (has_unknown l.fn.place) (listed_at l.key d)) view (is_some l.least) l.table-index l.tables
+invariant-loop-table l = HasFound (λ d. list_any (has_unknown l.fn.subject) (listed_at l.key d)) view (is_some l.least) l.table-index l.tables

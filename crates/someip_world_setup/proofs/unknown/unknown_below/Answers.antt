@@ -8,5 +8,5 @@ use Rattle.someip_world_setup.proofs.unknown.unknown_below.Goals as goal
 
 pub returns : goal.returns
 returns c =
-    all_asked (λ d. list_any (has_unknown c.args.place) (listed_in c.args.inner.now (listed_at c.args.outer.now d))) view (is_some c.loop-table.least) c.loop-table.table-index c.args.tables.now c.loop-table-test.false c.loop-table.invariant
-    ∙ sym (list_any-below (has_unknown c.args.place) (listed_at c.args.inner.now) (listed_at c.args.outer.now) (map view c.args.tables.now))
+    all_asked (λ d. list_any (has_unknown c.args.subject) (listed_in c.args.inner.now (listed_at c.args.outer.now d))) view (is_some c.loop-table.least) c.loop-table.table-index c.args.tables.now c.loop-table-test.false c.loop-table.invariant
+    ∙ sym (list_any-below (has_unknown c.args.subject) (listed_at c.args.inner.now) (listed_at c.args.outer.now) (map view c.args.tables.now))

@@ -5,4 +5,4 @@ use Rattle.someip_world_setup.proofs.FoundLemmas.{HasFound}
 use Rattle.someip_world_setup.proofs.unknown.unknown_of.Given as goal
 
 abbrev pub invariant-loop-table : goal.invariant-loop-table
-invariant-loop-table l = HasFound (has_unknown l.fn.place) view (is_some l.least) l.table-index l.tables
+invariant-loop-table l = HasFound (has_unknown l.fn.subject) view (is_some l.least) l.table-index l.tables

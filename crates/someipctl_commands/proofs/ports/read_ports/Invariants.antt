@@ -1,5 +1,4 @@
-use Rattle.std.proofs.Common.{◌≡◌, ◌++◌, ◌||◌, Some, drop, map, is_none}
-use Rattle.std.specs.List.{list_any}
+use Rattle.std.proofs.Common.{◌≡◌, ◌++◌, Some, drop, map}
 use Rattle.someipctl_commands.specs.Ports.{port_in}
 use Rattle.someipctl_commands.proofs.ports.read_ports.Given as goal
 

@@ -8,11 +8,11 @@ use Rattle.sd_core.proofs.offers.Offers.add.Goals as goal
 
 pub returns-clause-ok : goal.returns-clause-ok
 returns-clause-ok c =
-    rw (← c.self.view_is) (on_ok_weaker c.insert.result (λ is. ap offers_of is ∙ put_down (map_of instance_cmp c.self.inside.places) c.args.instance c.args.version) c.insert.ensures.ok)
+    rw (← c.self.view_is) (on_ok_weaker c.insert.result (λ is. ap offers_of is ∙ put_down (map_of instance_cmp c.self.inside.offerings) c.args.instance c.args.version) c.insert.ensures.ok)
 
 pub returns-clause-err : goal.returns-clause-err
 returns-clause-err c = rw (← c.self.view_is) (on_err_weaker c.insert.result (λ is. ap offers_of is) c.insert.ensures.err)
 
 pub returns-clause-grows : goal.returns-clause-grows
 returns-clause-grows c =
-    rw (← c.self.view_is) (on_err_weaker c.insert.result (λ none. version_is (map_of instance_cmp c.self.inside.places) c.args.instance None none) c.insert.ensures.grows)
+    rw (← c.self.view_is) (on_err_weaker c.insert.result (λ none. version_is (map_of instance_cmp c.self.inside.offerings) c.args.instance None none) c.insert.ensures.grows)

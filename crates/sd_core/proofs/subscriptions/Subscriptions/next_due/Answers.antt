@@ -7,6 +7,6 @@ use Rattle.sd_core.proofs.subscriptions.Subscriptions.next_due.Goals as goal
 pub returns : goal.returns
 returns c = λ now.
     rw (← c.self.view_is) (
-      (λ due none. (c.first_due.ensures now).0 due (due_is now (map_of eventgroup_cmp c.self.inside.places) ∙ none)),
-      (λ some. (c.first_due.ensures now).1 (λ none. some (sym (due_is now (map_of eventgroup_cmp c.self.inside.places)) ∙ none))),
+      (λ due none. (c.first_due.ensures now).0 due (due_is now (map_of eventgroup_cmp c.self.inside.wishes) ∙ none)),
+      (λ some. (c.first_due.ensures now).1 (λ none. some (sym (due_is now (map_of eventgroup_cmp c.self.inside.wishes)) ∙ none))),
     )

@@ -8,7 +8,7 @@ use Rattle.sd_core.proofs.subscriptions.Subscriptions.offer.Goals as goal
 
 pub returns-in_err-wished-clause-grows : goal.returns-in_err-wished-clause-grows
 returns-in_err-wished-clause-grows c =
-    on_err c.from_residual.result (rw (← c.self.view_is) (wished_sent c.args.now c.args.instance c.args.peer (map_of eventgroup_cmp c.self.inside.places) c.in_err-wished.ensures.grows))
+    on_err c.from_residual.result (rw (← c.self.view_is) (wished_sent c.args.now c.args.instance c.args.peer (map_of eventgroup_cmp c.self.inside.wishes) c.in_err-wished.ensures.grows))
 
 pub returns-clause-begun : goal.returns-clause-begun
 returns-clause-begun c =

@@ -1,4 +1,3 @@
-use Rattle.std.proofs.Common.{◌≤◌, ap, subst}
 use Rattle.sd_session.proofs.PeerLemmas.{len_is}
 use Rattle.sd_session.proofs.peers.PeerTable.len.Goals as goal
 

@@ -11,17 +11,17 @@ use Rattle.someip_node.proofs.node.Node.tick.Goals as goal
 pub returns-clause-reacts : goal.returns-clause-reacts
 returns-clause-reacts g c = λ h is.
     handled_given h (Tick c.args.ms) c.self.inside.engine
-    (answers c.self.inside.failed c.self.inside.engine h c.if-self.false (c.self.view_is ∙ is))
-    c.take_tick-done.result c.new-giving.result c.take_tick-done.new.giving c.take_tick-done.new.self _ _
-    c.new-giving.ensures.outputs c.new-giving.ensures.replies c.take_tick-done.ensures.handled c.take_tick-done.ensures.config c.finish.ensures.failed c.finish.ensures.given
+    (answers c.self.inside.failed c.self.inside.engine h c.in_ok-giving.ensures.works (c.self.view_is ∙ is))
+    c.take_tick-done.result c.in_ok-giving.giving c.take_tick-done.new.giving c.take_tick-done.new.self _ _
+    c.in_ok-giving.ensures.outputs c.in_ok-giving.ensures.replies c.take_tick-done.ensures.handled c.take_tick-done.ensures.config c.finish.ensures.failed c.finish.ensures.given
 
 pub returns-clause-quiet : goal.returns-clause-quiet
 returns-clause-quiet g c = λ h done stands is none out.
-    let same = answers c.self.inside.failed c.self.inside.engine h c.if-self.false (c.self.view_is ∙ stands) in
+    let same = answers c.self.inside.failed c.self.inside.engine h c.in_ok-giving.ensures.works (c.self.view_is ∙ stands) in
     let grew = ran_out c.take_tick-done.result _ c.take_tick-done.ensures.grows (sym c.finish.ensures.given ∙ out) in
     grew.1 (subst (λ t. BringsNothing (t.clock + c.args.ms) t) (sym same) (quiet_step h c.args.ms done (subst (λ t. KnowsWanted t.seek) same grew.0) is none))
 
 pub invariant_of-self : goal.invariant_of-self
 invariant_of-self g c = λ fine.
-    handled_fits (Tick c.args.ms) c.self.inside.engine c.new-giving.result c.take_tick-done.new.self c.take_tick-done.new.giving
-    (c.self.invariant c.if-self.false) c.take_tick-done.result c.take_tick-done.ensures.handled (sym c.finish.ensures.failed ∙ fine)
+    handled_fits (Tick c.args.ms) c.self.inside.engine c.in_ok-giving.giving c.take_tick-done.new.self c.take_tick-done.new.giving
+    (c.self.invariant c.in_ok-giving.ensures.works) c.take_tick-done.result c.take_tick-done.ensures.handled (sym c.finish.ensures.failed ∙ fine)

@@ -37,7 +37,7 @@ pub returns-clause-ticked : goal.returns-clause-ticked
 returns-clause-ticked g c =
     ticked_is _ _ c.args.ms c.args.now (c.requires ∙ ap (λ t. t.clock + c.args.ms) (sym c.self.view_is)) refl refl
     (c.expire.ensures.parts ∙ ap (λ n. parts_at (g.R.Reassembly.limits c.self.inside.store) n (g.R.Reassembly.parts c.self.inside.store)) c.as_millis.ensures.value ∙ ap (λ l. parts_at l c.args.now (g.R.Reassembly.parts c.self.inside.store)) c.self.invariant.1) refl refl refl c.in_ok-offers.ensures.after
-    c.in_ok-wanted.ensures.after c.tick-4.ensures
+    c.in_ok-wanted.ensures.after c.tick-5.ensures
     (c.in_ok-lapsed.ensures.after ∙ ap (λ instances. ended_where (ends_at c.args.now instances) c.self.inside.subscriptions) (c.deref.ensures.value ∙ c.in_ok-wanted.ensures.ended)) c.in_ok-calls.ensures.ended refl
     ∙ ap (λ t. changed t (Ticked c.args.ms)) c.self.view_is
 

@@ -1,4 +1,4 @@
-use Rattle.std.proofs.Common.{◌≡◌, [], ◌∷◌, map, refl, ap, ◌∙◌, ◌++◌, rules}
+use Rattle.std.proofs.Common.{map, refl}
 use Rattle.sd_wire.specs.Values.{view_entry}
 use Rattle.someip_node_rules.specs.Calls.{replies_to}
 use Rattle.someip_node_engine.proofs.WorkLemmas.{done}

@@ -1,4 +1,3 @@
-use Rattle.std.proofs.Common.{◌≡◌, refl, sym, ap, ◌∙◌}
 use Rattle.someip_node_engine.proofs.PassingLemmas.{brings_nothing, not_both, nothing_passed, on_err, passed_told_ok}
 use Rattle.someip_node_engine.proofs.engine.Engine.tick.Goals as goal
 

@@ -1,4 +1,4 @@
-use Rattle.std.proofs.Common.{◌≡◌, Some, sym, ◌∙◌, rules}
+use Rattle.std.proofs.Common.{◌≡◌, sym, ◌∙◌, rules}
 use Rattle.std.specs.Option.{option_map}
 use Rattle.slab.specs.Slab as slab
 use Rattle.someip_rpc.proofs.OpenLemmas.{found, not_found}

@@ -1,4 +1,4 @@
-use Rattle.std.proofs.Common.{◌≡◌, ◌≢◌, ℕ, Some, None, sym, ap, ◌∙◌}
+use Rattle.std.proofs.Common.{◌≡◌, None, sym, ap, ◌∙◌}
 use Rattle.slab.specs.Slab as slab
 use Rattle.someip_rpc.proofs.OpenLemmas.{requests_put, indexes_put}
 use Rattle.someip_rpc.proofs.open.OpenRequests.insert.Goals as goal

@@ -1,4 +1,4 @@
-use Rattle.std.proofs.Common.{◌≡◌, Some, None, sym, ◌∙◌, rules}
+use Rattle.std.proofs.Common.{◌≡◌, sym, ◌∙◌, rules}
 use Rattle.someip_rpc.proofs.OpenLemmas.{requests_taken, indexes_taken, none_taken}
 use Rattle.someip_rpc.proofs.open.OpenRequests.remove.Goals as goal
 

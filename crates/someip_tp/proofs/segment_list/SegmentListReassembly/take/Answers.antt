@@ -1,6 +1,6 @@
 use Rattle.std.proofs.Common.{sym, ap, subst, ◌∙◌}
 use Rattle.someip_tp.specs.Parts.{NoneAfter}
-use Rattle.someip_tp.specs.Offers.{parts_less}
+use Rattle.someip_tp.specs.SegmentOffers.{parts_less}
 use Rattle.someip_tp.specs.Stores.{parts_of_entries}
 use Rattle.someip_tp.proofs.MomentLemmas.{none_after-take}
 use Rattle.someip_tp.proofs.segment_list.SegmentListReassembly.take.Goals as goal

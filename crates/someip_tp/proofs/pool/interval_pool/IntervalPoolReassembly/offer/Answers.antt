@@ -1,6 +1,6 @@
 use Rattle.std.proofs.Common.{◌≡◌, ap, subst, ◌∙◌}
 use Rattle.someip_tp.specs.Parts.{Limits, parts_at}
-use Rattle.someip_tp.specs.Offers.{Offer, offer}
+use Rattle.someip_tp.specs.SegmentOffers.{SegmentOffer, offer}
 use Rattle.someip_tp.specs.Stores.{Offers, parts_of_entries}
 use Rattle.someip_tp.specs.Pools.{entries_in}
 use Rattle.someip_tp.proofs.MomentLemmas.{none_after-offered_by}
@@ -12,7 +12,7 @@ pub returns-clause-judged : goal.returns-clause-judged
 returns-clause-judged c =
     let slots = c.self.inside.slots in
     let limits : Limits = record { slots = slots.count; limit = slots.limit; timeout = c.self.inside.timeout } in
-    let o : Offer = offer c.args.key c.args.offset c.args.more c.args.bytes.now in
+    let o : SegmentOffer = offer c.args.key c.args.offset c.args.more c.args.bytes.now in
     let parts = parts_of_entries (entries_in slots) in
     let left : parts_of_entries (entries_in c.free_gone.new.self) ≡ parts_at limits c.args.now parts = ap parts_of_entries c.free_gone.ensures.entries ∙ left_parts limits c.args.now (entries_in slots) (apart (entries_in slots) c.self.invariant.rising) in
     let bounds = c.free_gone.ensures.bounds in
@@ -24,7 +24,7 @@ pub returns-clause-parts : goal.returns-clause-parts
 returns-clause-parts c =
     let slots = c.self.inside.slots in
     let limits : Limits = record { slots = slots.count; limit = slots.limit; timeout = c.self.inside.timeout } in
-    let o : Offer = offer c.args.key c.args.offset c.args.more c.args.bytes.now in
+    let o : SegmentOffer = offer c.args.key c.args.offset c.args.more c.args.bytes.now in
     let parts = parts_of_entries (entries_in slots) in
     let left : parts_of_entries (entries_in c.free_gone.new.self) ≡ parts_at limits c.args.now parts = ap parts_of_entries c.free_gone.ensures.entries ∙ left_parts limits c.args.now (entries_in slots) (apart (entries_in slots) c.self.invariant.rising) in
     let bounds = c.free_gone.ensures.bounds in

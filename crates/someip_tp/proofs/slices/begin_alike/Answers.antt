@@ -1,6 +1,6 @@
 use Rattle.std.proofs.Common.{sym, ◌∙◌, arith}
-use Rattle.someip_tp.proofs.PieceLemmas.{alike_to, alike_from}
-use Rattle.someip_tp.proofs.pieces.begin_alike.Goals as goal
+use Rattle.someip_tp.proofs.SliceLemmas.{alike_to, alike_from}
+use Rattle.someip_tp.proofs.slices.begin_alike.Goals as goal
 
 pub returns : goal.returns
 returns c = (

@@ -1,6 +1,6 @@
 use Rattle.std.proofs.Common.{◌-◌, ◌≤◌, arith, refl}
-use Rattle.someip_tp.proofs.PieceLemmas.{turned, agree_to, agree_from}
-use Rattle.someip_tp.proofs.pieces.agree.Goals as goal
+use Rattle.someip_tp.proofs.SliceLemmas.{turned, agree_to, agree_from}
+use Rattle.someip_tp.proofs.slices.agree.Goals as goal
 
 pub returns-then-held_at-at : goal.returns-then-held_at-at
 returns-then-held_at-at c =

@@ -12,13 +12,13 @@ use Rattle.someip_tp.specs.declared.error.TpError.TheVariants.{Unaligned, TooLon
 use Rattle.someip_tp.specs.Parts.{Limits, Part, Parts, parts_at}
 
 -- a segment that is offered: the key of its message, its offset in bytes, More Segments, and its slice
-pub record Offer : Type 0 where
+pub record SegmentOffer : Type 0 where
   pub key : ReassemblyKey
   pub offset : ℕ
   pub more : Bool
   pub bytes : List ℕ
 
-abbrev pub offer : ReassemblyKey → ℕ → Bool → List ℕ → Offer
+abbrev pub offer : ReassemblyKey → ℕ → Bool → List ℕ → SegmentOffer
 offer key offset more bytes = record { key = key; offset = offset; more = more; bytes = bytes }
 
 -- the bytes of a slice at their places
@@ -32,7 +32,7 @@ added bytes [] = bytes
 added bytes (e ∷ es) = added (insert bytes e.0 e.1) es
 
 -- the total that a segment tells, which only the last one does
-abbrev pub total_of : Offer → Option ℕ
+abbrev pub total_of : SegmentOffer → Option ℕ
 total_of o = if o.more then None else Some (o.offset + length o.bytes)
 
 -- both are known, and differ
@@ -48,7 +48,7 @@ passes None places = false
 
 -- a segment contradicts a part: another byte is held at a place of its slice, or a place of its slice is at or past
 -- the known total, or it tells another total, or one at or below a held place
-abbrev pub conflicts : Part → Offer → Bool
+abbrev pub conflicts : Part → SegmentOffer → Bool
 conflicts part o =
     list_any (λ e. differ (get part.bytes e.0) (Some e.1)) (placed o.offset o.bytes)
     || passes part.total (map (λ e. e.0) (placed o.offset o.bytes))
@@ -64,7 +64,7 @@ abbrev pub part_under : Parts → ReassemblyKey → Part
 part_under parts key = unwrap_or (get parts key) no_part
 
 -- the part with the bytes of a segment more, its total where it tells one, accepted at this moment
-abbrev pub with_offer : Part → ℕ → Offer → Part
+abbrev pub with_offer : Part → ℕ → SegmentOffer → Part
 with_offer part now o =
     record {
       bytes = added part.bytes (placed o.offset o.bytes);
@@ -89,22 +89,22 @@ abbrev pub part_or_whole : Part → Offered
 part_or_whole part = if is_some (message_of part) then Whole else InPart
 
 -- a slice that is not the last one has a length that is no multiple of 16
-abbrev pub is_unaligned : Offer → Bool
+abbrev pub is_unaligned : SegmentOffer → Bool
 is_unaligned o = o.more && not (length o.bytes % 16 == 0)
 
 -- a segment goes past the message limit
-abbrev pub is_too_long : ℕ → Offer → Bool
+abbrev pub is_too_long : ℕ → SegmentOffer → Bool
 is_too_long limit o = nat_lt limit (o.offset + length o.bytes)
 
 -- what a segment of fit length is judged to be among the parts that are left
-abbrev pub judged_among : ℕ → ℕ → Offer → Parts → Result Offered TpError
+abbrev pub judged_among : ℕ → ℕ → SegmentOffer → Parts → Result Offered TpError
 judged_among slots now o parts =
     if is_none (get parts o.key) && nat_le slots (len parts) then Err NoSlot
     else (if conflicts (part_under parts o.key) o then Err Conflict
     else Ok (part_or_whole (with_offer (part_under parts o.key) now o)))
 
 -- what a segment is judged to be among the parts that are left
-abbrev pub judged : Limits → ℕ → Offer → Parts → Result Offered TpError
+abbrev pub judged : Limits → ℕ → SegmentOffer → Parts → Result Offered TpError
 judged limits now o parts =
     if is_unaligned o then Err Unaligned
     else (if is_too_long limits.limit o then Err TooLong
@@ -112,17 +112,17 @@ judged limits now o parts =
 
 -- the parts after that judgement: an accepted segment is in its part, a conflict ends the part, and the other refusals
 -- leave all parts
-abbrev pub kept : Result Offered TpError → ℕ → Offer → Parts → Parts
+abbrev pub kept : Result Offered TpError → ℕ → SegmentOffer → Parts → Parts
 kept (Ok offered) now o parts = insert parts o.key (with_offer (part_under parts o.key) now o)
 kept (Err Conflict) now o parts = remove parts o.key
 kept (Err refusal) now o parts = parts
 
 -- what a segment is judged to be at a moment: first the parts go whose time is over
-unfoldable pub judgement : Limits → ℕ → Offer → Parts → Result Offered TpError
+unfoldable pub judgement : Limits → ℕ → SegmentOffer → Parts → Result Offered TpError
 judgement limits now o parts = judged limits now o (parts_at limits now parts)
 
 -- the parts after a segment was offered
-unfoldable pub parts_after : Limits → ℕ → Offer → Parts → Parts
+unfoldable pub parts_after : Limits → ℕ → SegmentOffer → Parts → Parts
 parts_after limits now o parts =
     let left = parts_at limits now parts in kept (judged limits now o left) now o left
 

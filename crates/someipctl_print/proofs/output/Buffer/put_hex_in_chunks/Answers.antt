@@ -1,7 +1,7 @@
 use Rattle.std.proofs.lemmas.Result.{on_ok_weaker, on_err_weaker}
 use Rattle.someipctl_print.proofs.HexLemmas.{encode_lower-split}
 use Rattle.someipctl_print.proofs.SendingLemmas.{OnErr-any, IsSending-more, IsSending-stop, IsSending-last, IsSending-last_stop}
-use Rattle.someipctl_print.proofs.output.Buffer.put_hex_in_pieces.Goals as goal
+use Rattle.someipctl_print.proofs.output.Buffer.put_hex_in_chunks.Goals as goal
 
 pub returns-in_err-put_few_in_hex-clause-err : goal.returns-in_err-put_few_in_hex-clause-err
 returns-in_err-put_few_in_hex-clause-err g c =

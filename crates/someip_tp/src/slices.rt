@@ -2,20 +2,20 @@
 ghost use Rattle.std.specs.Prelude.{◌&&◌, nat_lt, nat_le, ◌≡◌, ◌↔◌, ◌+◌, ◌-◌, ◌≤◌, ◌<◌, ◌++◌, ◌∷◌, [], true, length, slice_get, Some, Option, ℕ, OnOk, OnErr, IfOk, take};
 ghost use Rattle.std.specs.List.{list_any, insert};
 ghost use Rattle.std.specs.FinMap.{get, keys};
-ghost use Rattle.someip_tp.specs.Offers.{differ, passes, placed};
-ghost use Rattle.someip_tp.specs.declared.pieces.Piece.{Piece};
-ghost use Rattle.someip_tp.specs.Pieces.{byte_at, bytes_in, end_of, Agree, AreOneText, AreInOrder, IsFront, AppendsFront};
+ghost use Rattle.someip_tp.specs.SegmentOffers.{differ, passes, placed};
+ghost use Rattle.someip_tp.specs.declared.slices.Slice.{Slice};
+ghost use Rattle.someip_tp.specs.Slices.{byte_at, bytes_in, end_of, Agree, AreOneText, AreInOrder, IsFront, AppendsFront};
 
 use std::alloc::AllocError;
 
 /// A slice that was accepted.
 #[derive(Drop)]
-pub(crate) struct Piece {
+pub(crate) struct Slice {
     pub(crate) offset: u32,
     pub(crate) bytes: Vec<u8>,
 }
 
-impl Piece {
+impl Slice {
     /// The place after its last byte.
     fn end(&self) -> usize
         ensures { result ≡ end_of self.now }
@@ -60,13 +60,13 @@ fn agree(held_at: u32, held: &[u8], at: u32, bytes: &[u8]) -> bool
     }
 }
 
-/// Whether a slice has another byte than the pieces at some place.
-pub(crate) fn clash(pieces: &[Piece], offset: u32, bytes: &[u8]) -> bool
-    requires { AreOneText pieces.now }
-    ensures { result ≡ list_any (λ e. differ (get (bytes_in pieces.now) e.0) (Some e.1)) (placed offset bytes.now) }
+/// Whether a slice has another byte than the accepted slices at some place.
+pub(crate) fn clash(slices: &[Slice], offset: u32, bytes: &[u8]) -> bool
+    requires { AreOneText slices.now }
+    ensures { result ≡ list_any (λ e. differ (get (bytes_in slices.now) e.0) (Some e.1)) (placed offset bytes.now) }
 {
-    for piece in pieces {
-        if !agree(piece.offset, &piece.bytes, offset, bytes) {
+    for slice in slices {
+        if !agree(slice.offset, &slice.bytes, offset, bytes) {
             return true;
         }
     }
@@ -74,22 +74,22 @@ pub(crate) fn clash(pieces: &[Piece], offset: u32, bytes: &[u8]) -> bool
 }
 
 /// Whether some byte is held at or past a total, if that is told.
-pub(crate) fn reach(pieces: &[Piece], total: Option<usize>) -> bool
-    requires { AreOneText pieces.now }
-    ensures { result ≡ passes total (keys (bytes_in pieces.now)) }
+pub(crate) fn reach(slices: &[Slice], total: Option<usize>) -> bool
+    requires { AreOneText slices.now }
+    ensures { result ≡ passes total (keys (bytes_in slices.now)) }
 {
     match total {
-        Some(total) => any_reaches(pieces, total),
+        Some(total) => any_reaches(slices, total),
         None => false,
     }
 }
 
-fn any_reaches(pieces: &[Piece], total: usize) -> bool
-    requires { AreOneText pieces.now }
-    ensures { result ≡ list_any (nat_le total) (keys (bytes_in pieces.now)) }
+fn any_reaches(slices: &[Slice], total: usize) -> bool
+    requires { AreOneText slices.now }
+    ensures { result ≡ list_any (nat_le total) (keys (bytes_in slices.now)) }
 {
-    for piece in pieces {
-        if piece.reaches(total) {
+    for slice in slices {
+        if slice.reaches(total) {
             return true;
         }
     }
@@ -97,58 +97,58 @@ fn any_reaches(pieces: &[Piece], total: usize) -> bool
 }
 
 /// How many places from the first one on are held without a gap.
-pub(crate) fn covered(pieces: &[Piece]) -> usize
-    requires { AreInOrder pieces.now }
-    ensures { IsFront (bytes_in pieces.now) result }
+pub(crate) fn covered(slices: &[Slice]) -> usize
+    requires { AreInOrder slices.now }
+    ensures { IsFront (bytes_in slices.now) result }
 {
     let mut end = 0;
-    for piece in pieces {
-        if piece.offset as usize > end {
+    for slice in slices {
+        if slice.offset as usize > end {
             return end;
         }
-        end = end.max(piece.end());
+        end = end.max(slice.end());
     }
     end
 }
 
-/// Where a piece at this offset goes, so that the offsets still rise.
-pub(crate) fn place_for(pieces: &[Piece], offset: u32) -> usize
-    requires { AreInOrder pieces.now }
-    ensures within { result ≤ length pieces.now }
-    ensures in_order { (piece : Piece) → piece.offset ≡ offset → AreInOrder (insert pieces.now result piece) }
+/// Where a slice at this offset goes among the accepted ones, so that the offsets still rise.
+pub(crate) fn index_for(slices: &[Slice], offset: u32) -> usize
+    requires { AreInOrder slices.now }
+    ensures within { result ≤ length slices.now }
+    ensures in_order { (slice : Slice) → slice.offset ≡ offset → AreInOrder (insert slices.now result slice) }
 {
-    pieces.partition_point(|piece| piece.offset <= offset)
+    slices.partition_point(|slice| slice.offset <= offset)
 }
 
 /// Appends the bytes that are held from the first place on without a gap.
-pub(crate) fn append_front(pieces: &[Piece], bytes: &mut Vec<u8>) -> Result<(), AllocError>
-    requires one_text { AreOneText pieces.now }
-    requires in_order { AreInOrder pieces.now }
-    ensures ok { OnOk result (AppendsFront (bytes_in pieces.now) bytes.old.items bytes.new.items) }
+pub(crate) fn append_front(slices: &[Slice], bytes: &mut Vec<u8>) -> Result<(), AllocError>
+    requires one_text { AreOneText slices.now }
+    requires in_order { AreInOrder slices.now }
+    ensures ok { OnOk result (AppendsFront (bytes_in slices.now) bytes.old.items bytes.new.items) }
     ensures err { OnErr result (bytes.new.items ≡ bytes.old.items) }
 {
     let before = bytes.len();
-    let appended = append_pieces(pieces, bytes);
+    let appended = append_slices(slices, bytes);
     if appended.is_err() {
         bytes.truncate(before);
     }
     appended
 }
 
-/// Appends what each piece has after those before it, up to the first gap.
-fn append_pieces(pieces: &[Piece], bytes: &mut Vec<u8>) -> Result<(), AllocError>
-    requires one_text { AreOneText pieces.now }
-    requires in_order { AreInOrder pieces.now }
-    ensures ok { OnOk result (AppendsFront (bytes_in pieces.now) bytes.old.items bytes.new.items) }
+/// Appends what each accepted slice has after those before it, up to the first gap.
+fn append_slices(slices: &[Slice], bytes: &mut Vec<u8>) -> Result<(), AllocError>
+    requires one_text { AreOneText slices.now }
+    requires in_order { AreInOrder slices.now }
+    ensures ok { OnOk result (AppendsFront (bytes_in slices.now) bytes.old.items bytes.new.items) }
     ensures err { OnErr result (take (length bytes.old.items) bytes.new.items ≡ bytes.old.items) }
 {
     let mut end = 0;
-    for piece in pieces {
-        let start = piece.offset as usize;
+    for slice in slices {
+        let start = slice.offset as usize;
         if start > end {
             return Ok(());
         }
-        let new = behind(&piece.bytes, end - start);
+        let new = behind(&slice.bytes, end - start);
         bytes.extend_from_slice(new)?;
         end += new.len();
     }
