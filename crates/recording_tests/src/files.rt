@@ -1,4 +1,4 @@
-//! Files in pieces, and what they hold.
+//! Files in chunks, and what they hold.
 use crate::items::{is_item, items_of};
 use crate::rows::Row;
 use recording::{Datagram, Endpoint, Record, RecordingError, Skipped, Time};
@@ -51,7 +51,7 @@ fn record_of(time: Option<Time>, payload: &'static [u8]) -> Record<'static> {
     })
 }
 
-/// The pieces of a file, one after the other, and what it holds.
+/// The chunks of a file, one after the other, and what it holds.
 pub(crate) struct File(
     pub(crate) &'static [&'static [u8]],
     pub(crate) &'static [Wanted],
@@ -75,11 +75,11 @@ fn are_items(found: &[Result<Record<'_>, RecordingError>], wanted: &[Wanted]) ->
     found.len() == wanted.len()
 }
 
-/// The pieces, one after the other.
-fn joined(alloc: Global, pieces: &[&[u8]]) -> Result<Vec<u8>, AllocError> {
+/// The chunks, one after the other.
+fn joined(alloc: Global, chunks: &[&[u8]]) -> Result<Vec<u8>, AllocError> {
     let mut file = Vec::new(alloc);
-    for piece in pieces {
-        file.extend_from_slice(piece)?;
+    for chunk in chunks {
+        file.extend_from_slice(chunk)?;
     }
     Ok(file)
 }

@@ -1,4 +1,4 @@
-//! The texts of shapes and values, which no clause states in full.
+//! The texts of shapes and values: the places of faults, which no clause states in full, and rows of both.
 use crate::rows::{Row, check};
 use Part::{Bool, Choose, Int, List, Nothing, Struct, Text, Uint};
 use someip_payload::{ShapeTextError, Value, read_shape};

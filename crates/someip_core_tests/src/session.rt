@@ -29,6 +29,7 @@ const PAIRS: &[(u16, bool, u16, bool, Seen)] = &[
     (9, false, 1, true, Seen::Rebooted),
     (9, false, 3, false, Seen::Same),
     (5, true, 6, true, Seen::Same),
+    (5, true, 3, true, Seen::Rebooted),
 ];
 
 /// The number of the first message that shows something else.

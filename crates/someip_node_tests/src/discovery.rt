@@ -1,12 +1,14 @@
 //! Messages of Service Discovery: bad runs, Finds, reboots, and many replies.
-use crate::acts::Act::{Datagram, Publish, PublishTo, Subscribe, Tick};
+use crate::acts::Act::{Answer, Call, Datagram, Publish, PublishTo, Subscribe, Tick};
 use crate::acts::{Port, Row};
 use crate::nodes::{
-    CLIENT, EVENTGROUP, INSTANCE, OFFERS, SD_OF_ALL, SD_OF_CLIENT, SD_OF_SERVER, WANTS, gives,
-    started,
+    CLIENT, EVENTGROUP, INSTANCE, OFFERS, SD_OF_ALL, SD_OF_CLIENT, SD_OF_SERVER, SERVER, WANTS,
+    gives, started,
 };
 use someip_node::{Node, Output};
+use someip_rpc::{CallKind, Reply};
 use someip_tp::IntervalPool;
+use someip_wire::ReturnCode;
 use std::alloc::Global;
 use std::test::Fail;
 
@@ -90,6 +92,27 @@ const BEGAN_AGAIN: &[Row] = &[
         PublishTo(EVENTGROUP, OTHER_CLIENT, 0x8001, ""),
         "refused NotSubscribed\n",
     ),
+];
+
+/// A StopSubscribe with another major version ends a subscription all the same.
+const STOPPED: &[Row] = &[
+    (
+        Datagram(SD_OF_CLIENT, SD_OF_SERVER, FIRST),
+        "accepted 1111.0001 0001 192.168.0.2:40001 0\nsent 192.168.0.1:30490 192.168.0.2:30490 ffff8100000000240000000101010200c0000000000000100700000011110001010000030000000100000000\n",
+    ),
+    (
+        Publish(INSTANCE, 0x8001, ""),
+        "sent 192.168.0.1:30509 192.168.0.2:40001 11118001000000080000000101010200\n",
+    ),
+    (
+        Datagram(
+            SD_OF_CLIENT,
+            SD_OF_SERVER,
+            "ffff8100000000300000000601010200c000000000000010060000101111000102000000000000010000000c00090400c0a8000200119c41",
+        ),
+        "",
+    ),
+    (Publish(INSTANCE, 0x8001, ""), ""),
 ];
 
 /// Subscribes of two endpoints, the greater one first.
@@ -202,6 +225,80 @@ const SERVER_BEGAN_AGAIN: &[Row] = &[
     ),
 ];
 
+/// An Ack of another major version is dropped, and one of the wanted version counts.
+const ACKED_OTHERWISE: &[Row] = &[
+    (
+        Datagram(SD_OF_SERVER, SD_OF_ALL, OFFER),
+        "known 1111.0001 192.168.0.1:30509\n",
+    ),
+    (
+        Subscribe(EVENTGROUP),
+        "sent 192.168.0.2:30490 192.168.0.1:30490 ffff8100000000300000000101010200c000000000000010060000101111000101000003000000010000000c00090400c0a8000200119c41\n",
+    ),
+    (
+        Datagram(
+            SD_OF_SERVER,
+            SD_OF_CLIENT,
+            "ffff8100000000240000000401010200c0000000000000100700000011110001020000030000000100000000",
+        ),
+        "dropped NotPending\n",
+    ),
+    (
+        Datagram(SD_OF_SERVER, SD_OF_CLIENT, ACK),
+        "subscribed 1111.0001 0001 0\n",
+    ),
+];
+
+/// An Offer with an endpoint over TCP and two over UDP: the first of these counts.
+const SEVERAL_ENDPOINTS: &[Row] = &[(
+    Datagram(
+        SD_OF_SERVER,
+        SD_OF_ALL,
+        "ffff8100000000480000000101010200c000000000000010010000301111000101000003000000000000002400090400c0a800010006772d00090400c0a800010011772e00090400c0a800010011772d",
+    ),
+    "known 1111.0001 192.168.0.1:30510\n",
+)];
+
+/// A call waits for its answer while the server begins again.
+const CALL_STAYS: &[Row] = &[
+    (
+        Datagram(SD_OF_SERVER, SD_OF_ALL, OFFER),
+        "known 1111.0001 192.168.0.1:30509\n",
+    ),
+    (
+        Call(CallKind::Request, INSTANCE, 0x0421, ""),
+        "call 1111.0421 0001\nsent 192.168.0.2:40001 192.168.0.1:30509 11110421000000080102000101010000\n",
+    ),
+    (
+        Datagram(SD_OF_SERVER, SD_OF_ALL, OFFER_ANEW),
+        "reboot 192.168.0.1\ngone 1111.0001\nknown 1111.0001 192.168.0.1:30509\n",
+    ),
+    (
+        Datagram(SERVER, CLIENT, "1111042100000009010200010101800003"),
+        "answer 1111.0421 0001 00 03\n",
+    ),
+];
+
+/// A request waits for its answer while the client begins again.
+const REQUEST_STAYS: &[Row] = &[
+    (
+        Datagram(CLIENT, SERVER, "11110421000000080102000101010000"),
+        "request 1 1111.0001 0421 -\n",
+    ),
+    (
+        Datagram(SD_OF_CLIENT, SD_OF_SERVER, FIRST),
+        "accepted 1111.0001 0001 192.168.0.2:40001 0\nsent 192.168.0.1:30490 192.168.0.2:30490 ffff8100000000240000000101010200c0000000000000100700000011110001010000030000000100000000\n",
+    ),
+    (
+        Datagram(SD_OF_CLIENT, SD_OF_SERVER, ANEW),
+        "reboot 192.168.0.2\naccepted 1111.0001 0001 192.168.0.2:40000 1\nsent 192.168.0.1:30490 192.168.0.2:30490 ffff8100000000240000000201010200c0000000000000100700000011110001010000030001000100000000\n",
+    ),
+    (
+        Answer(1, Reply::Response(ReturnCode(0)), "03"),
+        "sent 192.168.0.1:30509 192.168.0.2:40001 1111042100000009010200010101800003\n",
+    ),
+];
+
 #[test]
 fn a_subscribe_with_a_bad_run_gets_a_nack(rt: HostRuntime) -> Result<(), Fail> {
     assert!(rt; gives(rt.alloc(), OFFERS, BAD_RUN)?);
@@ -217,6 +314,12 @@ fn a_find_is_answered_after_the_first_offer(rt: HostRuntime) -> Result<(), Fail>
 #[test]
 fn a_peer_that_began_again_subscribes_anew(rt: HostRuntime) -> Result<(), Fail> {
     assert!(rt; gives(rt.alloc(), OFFERS, BEGAN_AGAIN)?);
+    Ok(())
+}
+
+#[test]
+fn a_stop_subscribe_of_another_major_counts(rt: HostRuntime) -> Result<(), Fail> {
+    assert!(rt; gives(rt.alloc(), OFFERS, STOPPED)?);
     Ok(())
 }
 
@@ -241,6 +344,30 @@ fn a_subscribe_is_refused_for_a_reason(rt: HostRuntime) -> Result<(), Fail> {
 #[test]
 fn a_server_that_began_again_is_subscribed_to_anew(rt: HostRuntime) -> Result<(), Fail> {
     assert!(rt; gives(rt.alloc(), WANTS, SERVER_BEGAN_AGAIN)?);
+    Ok(())
+}
+
+#[test]
+fn an_ack_of_another_major_is_dropped(rt: HostRuntime) -> Result<(), Fail> {
+    assert!(rt; gives(rt.alloc(), WANTS, ACKED_OTHERWISE)?);
+    Ok(())
+}
+
+#[test]
+fn the_first_endpoint_of_an_offer_counts(rt: HostRuntime) -> Result<(), Fail> {
+    assert!(rt; gives(rt.alloc(), WANTS, SEVERAL_ENDPOINTS)?);
+    Ok(())
+}
+
+#[test]
+fn a_call_waits_over_a_reboot(rt: HostRuntime) -> Result<(), Fail> {
+    assert!(rt; gives(rt.alloc(), WANTS, CALL_STAYS)?);
+    Ok(())
+}
+
+#[test]
+fn a_request_waits_over_a_reboot(rt: HostRuntime) -> Result<(), Fail> {
+    assert!(rt; gives(rt.alloc(), OFFERS, REQUEST_STAYS)?);
     Ok(())
 }
 

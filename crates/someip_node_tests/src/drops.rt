@@ -114,7 +114,7 @@ const TO_CLIENT: &[Row] = &[
 /// A message of Service Discovery without entries.
 const EMPTY: &str = "ffff8100000000140000000101010200c00000000000000000000000";
 
-/// Messages to Service Discovery of a node that tells one peer apart, which is none whose message is NotSd.
+/// Messages to Service Discovery of a node that tells one peer apart: who sent what is `NotSd` is none.
 const TO_DISCOVERY: &[Row] = &[
     (
         Datagram(
@@ -145,6 +145,22 @@ const TO_DISCOVERY: &[Row] = &[
             SD_OF_CLIENT,
             SD_OF_SERVER,
             "ffff8100000000140000000101020200c00000000000000000000000",
+        ),
+        "dropped NotSd\n",
+    ),
+    (
+        Datagram(
+            SD_OF_CLIENT,
+            SD_OF_SERVER,
+            "ffff8101000000140000000101010200c00000000000000000000000",
+        ),
+        "dropped NotSd\n",
+    ),
+    (
+        Datagram(
+            SD_OF_CLIENT,
+            SD_OF_SERVER,
+            "fffe8100000000140000000101010200c00000000000000000000000",
         ),
         "dropped NotSd\n",
     ),
@@ -203,6 +219,14 @@ const TO_DISCOVERY: &[Row] = &[
             "ffff8100000000340000000201010200c000000000000020060000001111000101000000000000010700000011110001010000030000000100000000",
         ),
         "dropped NoEndpoint\ndropped NotPending\n",
+    ),
+    (
+        Datagram(
+            SD_OF_CLIENT,
+            SD_OF_SERVER,
+            "ffff8100000000240000000301010200c0000000000000100601001011110001010000000000000100000000",
+        ),
+        "dropped BadRun\n",
     ),
     (
         Datagram(Port(3, 30490), SD_OF_SERVER, EMPTY),

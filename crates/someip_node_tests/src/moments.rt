@@ -91,7 +91,7 @@ const PHASES: &[Row] = &[
     ),
 ];
 
-/// A late moment sends one Offer, and the next is due by that moment.
+/// A late moment sends one Offer, and the next is due a delay after it.
 const LATE: &[Row] = &[
     (
         Tick(1000),

@@ -93,6 +93,11 @@ const REACHED: &[Reached] = &[
         Run::Of(&[Choice::SdEndpoint4(3, 3), Choice::Endpoint4(4, 4)]),
         Some((5, 5)),
     ),
+    Reached(
+        Run::Of(&[Choice::Endpoint4(7, 7), Choice::Endpoint4(6, 6)]),
+        NONE,
+        Some((7, 7)),
+    ),
 ];
 
 #[test]

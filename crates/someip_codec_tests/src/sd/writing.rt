@@ -234,15 +234,17 @@ const SHARED: &[Written] = &[Written {
             Run::Of(&[Choice::Numbered(2), Choice::Numbered(1)]),
             NONE,
         ),
+        Item(OFFERED, Run::Numbered(1, 1), NONE),
     ],
-    len: 72 + 24,
+    len: 88 + 24,
     parts: &[
         (9, &[0]),
         (25, &[1]),
         (41, &[0]),
         (57, &[2]),
+        (73, &[0]),
         (
-            72,
+            88,
             &[
                 0, 0, 0, 20, 0, 2, 0x77, 0, 1, 0, 2, 0x77, 0, 2, 0, 2, 0x77, 0, 2, 0, 2, 0x77, 0, 1,
             ],

@@ -209,7 +209,7 @@ const ENDPOINTS: &[Row] = &[
     (0, Live(&[2], &[(2, 39999)])),
 ];
 
-/// Each way in which a subscription ends.
+/// Ways in which a subscription ends: time, a StopSubscribe, a stopped offer.
 const ENDING: &[Row] = &[
     (0, Subscribe(ONE, ASKED, Ok(()))),
     (0, Subscribe(ONE, BESIDE, Ok(()))),

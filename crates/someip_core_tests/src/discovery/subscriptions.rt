@@ -130,7 +130,7 @@ const OFFERED: &[Row] = &[
     (1000, Offer(THIRD, 1, &[])),
 ];
 
-/// Each way in which subscriptions end.
+/// Ways in which subscriptions end: time, a StopOffer, a reboot.
 const ENDING: &[Row] = &[
     (0, Want(OF_SECOND, Some(1), Some(0))),
     (0, Want(SECOND_GROUP, Some(1), Some(0))),

@@ -59,16 +59,18 @@ fn one(alloc: Global, number: u16) -> Result<BTreeSet<u16>, AllocError> {
     Ok(numbers)
 }
 
-/// The event 8001 in the eventgroup 0001.
+/// The event 8001 in the eventgroup 0001, and 8003 in 0002.
 fn events(alloc: Global) -> Result<BTreeMap<u16, BTreeSet<u16>>, AllocError> {
-    let eventgroups = one(alloc, 1)?;
+    let first = one(alloc, 1)?;
+    let second = one(alloc, 2)?;
     let mut events = BTreeMap::new(alloc);
-    events.insert(0x8001, eventgroups)?;
+    events.insert(0x8001, first)?;
+    events.insert(0x8003, second)?;
     Ok(events)
 }
 
-/// The instance 0001 of the service 1111: the method 0421, the oneway 0422, and the event 8001 of the
-/// eventgroup 0001.
+/// The instance 0001 of the service 1111: the method 0421, the oneway 0422, and the events 8001 and
+/// 8003, each of an eventgroup of its own.
 pub(super) fn service(alloc: Global) -> Result<ServiceRules, AllocError> {
     Ok(ServiceRules {
         service: 0x1111,

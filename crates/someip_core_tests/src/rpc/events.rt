@@ -30,6 +30,7 @@ const REFUSED: &[Act] = &[
     Publish(true, 0x8001, LONG, Err(RpcError::TooLong)),
     PublishTo(true, HERE, 0x8001, LONG, Err(RpcError::TooLong)),
     PublishTo(true, (2, true), 0x8001, &[], Err(RpcError::UnknownEvent)),
+    PublishTo(true, (3, true), 0x8001, &[], Err(RpcError::UnknownEvent)),
     PublishTo(true, (1, false), 0x8001, &[], Err(RpcError::NotSubscribed)),
     MayPublish(true, 0x8001, 1400, Ok(())),
     Publish(true, 0x8001, &[], Ok(1)),
