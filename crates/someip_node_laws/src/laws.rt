@@ -1,6 +1,7 @@
 //! Laws of the definitions behind the contracts. Each is the contract of a function that does
 //! nothing: it says what holds of a node by what it met, whatever code keeps its tables.
-ghost use Rattle.std.specs.Prelude.{◌≡◌, ◌≢◌, ◌↔◌, ◌<◌, ◌*◌, ℕ, suc, IsTrue, IsFalse, List, [], ◌∷◌, ◌&&◌, not, Option, None, Some, is_some};
+ghost use Rattle.std.specs.Prelude.{◌≡◌, ◌≢◌, ◌↔◌, ◌<◌, ◌*◌, ℕ, suc, IsTrue, IsFalse, List, length, [], ◌∷◌, ◌&&◌, not, Option, None, Some, is_some};
+ghost use Rattle.std.specs.List.{flat_map};
 ghost use Rattle.std.specs.FinMap as finite;
 ghost use Rattle.std.specs.declared.net.ipv4_addr.Ipv4Addr.{Ipv4Addr};
 ghost use Rattle.std.specs.declared.net.socket_addr.SocketAddrV4.{SocketAddrV4};
@@ -20,7 +21,7 @@ ghost use Rattle.someip_tables.specs.declared.deadline.Deadline.TheVariants.{At}
 ghost use Rattle.someip_tables.specs.Lastings.{unless_passed};
 ghost use Rattle.someip_node_rules.specs.declared.config.Config.{Config};
 ghost use Rattle.someip_node_rules.specs.CallQuestions.{awaited_at, call_key, last_session_at, open_request_at, times_published};
-ghost use Rattle.someip_node_rules.specs.DiscoveryQuestions.{messages_to, stamps_at};
+ghost use Rattle.someip_node_rules.specs.DiscoveryQuestions.{group_addressed, messages_to, stamps_at};
 ghost use Rattle.someip_node_rules.specs.History.{History, answers_of, historic, met, shown_work, start_of};
 ghost use Rattle.someip_node_laws.specs.HistoryExamples.{ack_of, acked_after, begun_with, offering_endpoint, wished_eventgroup, offer_for, other_peer, offering_peer, subscribing_with, waiting_with};
 ghost use Rattle.someip_node_rules.specs.Items.{Item, AckCame, AnswerTaken, Called, NackCame, OfferCounted, OfferStopped, OfferWithdrawn, PeerRebooted, SubscriptionAccepted, SubscriptionStopped, Ticked, changed};
@@ -67,10 +68,12 @@ pub fn tables_answer_of_each_key()
         → wish_of (finite.get (answers_of h).wishes eventgroup) ≡ wish_at h.items eventgroup }
 {}
 
-/// Sessions go on from what was given: the stamp of the next message of Service Discovery to a peer by
-/// how many it was sent, the session of an event by how often it was published, and that of a call by
-/// the last one of its Message ID.
+/// Sessions go on from what was given: the stamp of the next message of Service Discovery to the group
+/// by how many it was sent, that of the next one to a peer by how many this was sent, the session of an
+/// event by how often it was published, and that of a call by the last one of its Message ID.
 pub fn sessions_go_on()
+    ensures group { (h : History)
+        → (answers_of h).multicast ≡ after_uses (length (flat_map group_addressed h.items)) }
     ensures stamps { (h : History) (peer : Ipv4Addr)
         → stamp_for (answers_of h).unicast peer ≡ after_uses (messages_to h.items peer) }
     ensures events { (h : History) (event : EventId)

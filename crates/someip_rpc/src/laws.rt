@@ -1,7 +1,8 @@
 //! Laws of the definitions behind the contracts. Each is the contract of a function that does
 //! nothing: it says what holds of calls and requests, whatever code keeps them.
-ghost use Rattle.std.specs.Prelude.{◌≡◌, ◌<◌, ◌≤◌, ℕ, true, false, Option, Some, None};
+ghost use Rattle.std.specs.Prelude.{◌≡◌, ◌≢◌, ◌<◌, ◌≤◌, ℕ, true, false, Option, Some, None};
 ghost use Rattle.someip_wire.specs.declared.header.Header.{Header};
+ghost use Rattle.someip_wire.specs.declared.header.MessageType.{MessageType};
 ghost use Rattle.someip_wire.specs.declared.header.MessageType.TheVariants as kinds;
 ghost use Rattle.someip_rpc.specs.declared.error.RpcError.TheVariants.{NotSubscribed, TooLong};
 ghost use Rattle.someip_rpc.specs.declared.ids.MessageId.{MessageId};
@@ -31,17 +32,17 @@ pub fn faults_have_codes()
     ensures not_ready { fault_code NotReady ≡ 0x04 }
 {}
 
-/// An instance that is down takes nothing: each request to it is `UnknownService`. A RESPONSE or a
-/// NOTIFICATION that comes to an instance is dropped as `WrongType`, whatever the checks say.
-pub fn what_is_no_request_is_dropped()
-    ensures down { (rules : ServiceRules) (header : Header) (requests : OpenRequests) (next : ℕ)
+/// An instance that is down takes nothing: each request to it is `UnknownService`.
+pub fn an_instance_that_is_down_takes_nothing()
+    ensures { (rules : ServiceRules) (header : Header) (requests : OpenRequests) (next : ℕ)
         → request_fault rules false header requests next ≡ Some UnknownService }
-    ensures answers { (request : Asked) (next : ℕ) (fault : Option RequestFault) (becomes : Arrived)
-        → BecomesOf request next kinds.Response fault becomes
-        → becomes ≡ arrived.Dropped WrongType }
-    ensures events { (request : Asked) (next : ℕ) (fault : Option RequestFault) (becomes : Arrived)
-        → BecomesOf request next kinds.Notification fault becomes
-        → becomes ≡ arrived.Dropped WrongType }
+{}
+
+/// What is neither REQUEST nor REQUEST_NO_RETURN is dropped as `WrongType`, whatever the checks say.
+pub fn what_is_no_request_is_dropped()
+    ensures { (kind : MessageType) (request : Asked) (next : ℕ) (fault : Option RequestFault)
+        (becomes : Arrived) → kind ≢ kinds.Request → kind ≢ kinds.RequestNoReturn
+        → BecomesOf request next kind fault becomes → becomes ≡ arrived.Dropped WrongType }
 {}
 
 /// An event of the eventgroup, of an instance that is up, is too long for one subscriber wherever its
