@@ -114,7 +114,8 @@ const TO_CLIENT: &[Row] = &[
 /// A message of Service Discovery without entries.
 const EMPTY: &str = "ffff8100000000140000000101010200c00000000000000000000000";
 
-/// Messages to Service Discovery of a node that tells one peer apart: who sent what is `NotSd` is none.
+/// Messages to Service Discovery of a node that tells one peer apart: the sender of one that is `NotSd`
+/// does not become that peer.
 const TO_DISCOVERY: &[Row] = &[
     (
         Datagram(
