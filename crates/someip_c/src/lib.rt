@@ -6,6 +6,7 @@
 
 mod applying;
 mod handle;
+pub mod laws;
 mod lives;
 mod place;
 mod receiving;

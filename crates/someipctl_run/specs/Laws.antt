@@ -5,9 +5,12 @@ use Rattle.someip_world_rules.specs.declared.line.Line.{Line}
 use Rattle.someip_world_rules.specs.declared.reuse.Reuse.{Reuse}
 use Rattle.someip_world_schedule.specs.Schedule.{lines_of, steps_of}
 use Rattle.someip_world_schedule.specs.Steps.{step_in}
+use Rattle.someip_world_setup.specs.declared.error.SetupError.TheVariants as errors
 use Rattle.someip_world_setup.specs.declared.setup_node.SetupNode.{SetupNode}
+use Rattle.someipctl_run.specs.Commands.{RefusesInput}
 use Rattle.someipctl_run.specs.StepLines.{lines_of_steps}
 use Rattle.someipctl_run.specs.Traces.{came_by_text, formed_trace, trace_text}
+use Rattle.someipctl_run.specs.declared.error.SetupFault.TheVariants as setups
 use Rattle.someipctl_run.specs.declared.form.TraceForm.TheVariants.{Plain, WithLines}
 
 -- each line of a text stands in the other one behind a word, which is a number or `-`, and a space
@@ -25,3 +28,7 @@ FormsTellOneTrace =
 -- the steps of a schedule are those that the lines on which they stand spell, in order
 abbrev pub StepsStandOnTheirLines : Type 0
 StepsStandOnTheirLines = (text : List ℕ) → map (λ number. step_in (slice_index_or (lines_of text) (number - 1) [])) (lines_of_steps text) ≡ steps_of text
+
+-- no text is refused as a setup for want of memory
+abbrev pub MemoryRefusesNoSetup : Type 0
+MemoryRefusesNoSetup = (input : Option (List ℕ)) → RefusesInput input (setups.Refused errors.OutOfMemory) → ⊥
