@@ -1,3 +1,4 @@
+pub mod AskingLemmas
 pub mod ReadingLemmas
 pub mod AddressLemmas
 pub mod MakingLemmas

@@ -6,9 +6,9 @@ use Rattle.toml.specs.Data.{Data}
 use Rattle.toml.specs.View.{view, items_of}
 use Rattle.toml.specs.declared.value.Value.{Value}
 use Rattle.someip_world_setup.specs.declared.error.SetupError.{SetupError}
-use Rattle.someip_world_setup.specs.declared.error.SetupError.TheVariants as errors
 use Rattle.someip_world_setup.specs.Keys.{TellsNotFound}
 use Rattle.someip_world_setup.specs.Lists.{found_at_each, elements}
+use Rattle.someip_world_setup.proofs.AskingLemmas.{fails_too}
 
 module _ {B : Type 0} (f : Data → Option B) where
   -- what was read so far, and then what is read of the rest
@@ -28,15 +28,6 @@ module _ {B : Type 0} (f : Data → Option B) where
       let one : with_front front (found_at_each f (map view (drop i values))) ≡ with_front (front ++ y ∷ []) (found_at_each f (map view (drop (i + 1) values))) =
       rw (drop_more values i d lt, is) (regroup front y (found_at_each f (map view (drop (i + 1) values)))) in
       sym one ∙ h
-
-  fails_too : {A C : Type 0} (e : SetupError) (o : Option A) (p : Option C) → (o ≡ None → p ≡ None) → TellsNotFound e o → TellsNotFound e p
-  fails_too errors.OutOfMemory o p then h = tt
-  fails_too errors.NotToml o p then h = absurd h
-  fails_too (errors.Missing k) o p then h = then h
-  fails_too (errors.WrongKind k) o p then h = then h
-  fails_too (errors.OutOfRange k) o p then h = then h
-  fails_too (errors.UnknownKey k) o p then h = absurd h
-  fails_too (errors.Clash k) o p then h = absurd h
 
   pub at_fault : (front : List B) (i : ℕ) (values : List Value) (d : Value) (e : SetupError) → i < length values → TellsNotFound e (f (view (get_or values i d))) → HasRead front i values → TellsNotFound e (found_at_each f (map view values))
   unfolding found_at_each

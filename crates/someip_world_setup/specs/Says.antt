@@ -79,11 +79,15 @@ offers_at d = tables_or_none (codes "offer") d >>= found_at_each said_offer
 
 -- ---- wants
 
--- an eventgroup of a want: its ID, from 1 to FFFE, and its events, from 8000 to FFFE, which may be none
+-- the events of an eventgroup, from 8000 to FFFE, which may be none
+abbrev pub group_events : Data → Option (List ℕ)
+group_events d = integers_at (codes "events") d >>= ids_of 0x8000 0xFFFE
+
+-- an eventgroup of a want: its ID, from 1 to FFFE, and its events
 abbrev pub said_eventgroup : Data → Option ListedValue
 said_eventgroup d =
     id_at (codes "id") d >>= λ id.
-    (integers_at (codes "events") d >>= ids_of 0x8000 0xFFFE) >>= λ members.
+    group_events d >>= λ members.
     Some (record { id = id; members = members })
 
 -- a want: its keys, each in its range, and its eventgroups, none where their key is absent

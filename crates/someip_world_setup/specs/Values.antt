@@ -70,8 +70,8 @@ listed_view l = record { id = l.id; members = l.members.items }
 
 abbrev pub offer_view : OfferParts → OfferValue
 offer_view o = record {
-  service = o.service;
-  instance = o.instance;
+  service = o.id.service;
+  instance = o.id.instance;
   major = o.major;
   minor = o.minor;
   ttl = o.ttl;
@@ -84,8 +84,8 @@ offer_view o = record {
 
 abbrev pub want_view : WantParts → WantValue
 want_view w = record {
-  service = w.service;
-  instance = w.instance;
+  service = w.id.service;
+  instance = w.id.instance;
   major = w.major;
   ttl = w.ttl;
   groups = map listed_view w.groups.items;

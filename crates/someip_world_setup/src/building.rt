@@ -46,8 +46,8 @@ fn offered(
     let oneways = id_set(alloc, &offer.oneways)?;
     let events = id_map(alloc, &offer.events)?;
     let rules = ServiceRules {
-        service: offer.service,
-        instance: offer.instance,
+        service: offer.id.service,
+        instance: offer.id.instance,
         major: offer.major,
         endpoint: SocketAddrV4::new(address, offer.port),
         methods,
@@ -72,7 +72,7 @@ fn offer_map(
 {
     let mut map = BTreeMap::new(alloc);
     for offer in offers {
-        map.insert(offer.id(), offered(alloc, address, offer)?)?;
+        map.insert(offer.id, offered(alloc, address, offer)?)?;
     }
     Ok(map)
 }
@@ -98,7 +98,7 @@ fn want_map(
 {
     let mut map = BTreeMap::new(alloc);
     for want in wants {
-        map.insert(want.id(), wanted(alloc, want)?)?;
+        map.insert(want.id, wanted(alloc, want)?)?;
     }
     Ok(map)
 }

@@ -65,7 +65,7 @@ fn add_offered(instances: &mut Vec<InstanceId>, offers: &[OfferParts]) -> Result
         ≡ instances.old.items ++ map offered_id (map offer_view offers.now)) }
 {
     for offer in offers {
-        instances.push(offer.id())?;
+        instances.push(offer.id)?;
     }
     Ok(())
 }
@@ -76,7 +76,7 @@ pub(crate) fn wanted(alloc: Global, node: &NodeParts) -> Result<Vec<InstanceId>,
 {
     let mut instances = Vec::new(alloc);
     for want in &node.wants {
-        instances.push(want.id())?;
+        instances.push(want.id)?;
     }
     Ok(instances)
 }

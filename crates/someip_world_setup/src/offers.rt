@@ -11,6 +11,7 @@ use crate::lists::ids;
 use crate::numbers::{count_or, id_at, integer, major_at, port_at, short, ttl_at, word_or};
 use crate::parts::{Listed, OfferParts};
 use crate::tables::{integers_at, integers_or_none, tables_or_none};
+use sd_core::InstanceId;
 use std::alloc::Global;
 use toml::Value;
 
@@ -74,8 +75,7 @@ fn offer(alloc: Global, table: &Value) -> Result<OfferParts, SetupError>
     let events = events_at(alloc, table)?;
     let subscribers = count_or(table, "subscribers", 16)?;
     Ok(OfferParts {
-        service,
-        instance,
+        id: InstanceId { service, instance },
         major,
         minor,
         ttl,

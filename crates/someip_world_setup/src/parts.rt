@@ -1,13 +1,11 @@
 //! What a setup says, in the order of its text, before clashes are judged.
-ghost use Rattle.std.specs.Prelude.{◌≡◌};
-
 use sd_core::InstanceId;
 use sd_wire::Ttl;
 use someip_node_rules::Common;
 use std::net::Ipv4Addr;
 
 /// An ID with others: an event with its eventgroups, or an eventgroup with its events.
-#[derive(Debug, Drop)]
+#[derive(Drop)]
 pub(crate) struct Listed {
     /// The ID.
     pub(crate) id: u16,
@@ -16,10 +14,10 @@ pub(crate) struct Listed {
 }
 
 /// An offer of a node.
-#[derive(Debug, Drop)]
+#[derive(Drop)]
 pub(crate) struct OfferParts {
-    pub(crate) service: u16,
-    pub(crate) instance: u16,
+    /// The instance that is offered.
+    pub(crate) id: InstanceId,
     pub(crate) major: u8,
     pub(crate) minor: u32,
     pub(crate) ttl: Ttl,
@@ -31,17 +29,17 @@ pub(crate) struct OfferParts {
 }
 
 /// A want of a node.
-#[derive(Debug, Drop)]
+#[derive(Drop)]
 pub(crate) struct WantParts {
-    pub(crate) service: u16,
-    pub(crate) instance: u16,
+    /// The instance that is wanted.
+    pub(crate) id: InstanceId,
     pub(crate) major: u8,
     pub(crate) ttl: Ttl,
     pub(crate) groups: Vec<Listed>,
 }
 
 /// A node.
-#[derive(Debug, Drop)]
+#[derive(Drop)]
 pub(crate) struct NodeParts {
     pub(crate) name: String,
     pub(crate) address: Ipv4Addr,
@@ -53,32 +51,8 @@ pub(crate) struct NodeParts {
 }
 
 /// A setup.
-#[derive(Debug, Drop)]
+#[derive(Drop)]
 pub(crate) struct SetupParts {
     pub(crate) common: Common,
     pub(crate) nodes: Vec<NodeParts>,
-}
-
-impl OfferParts {
-    /// The instance that is offered.
-    pub(crate) fn id(&self) -> InstanceId
-        ensures { result ≡ record { service = self.now.service; instance = self.now.instance } }
-    {
-        InstanceId {
-            service: self.service,
-            instance: self.instance,
-        }
-    }
-}
-
-impl WantParts {
-    /// The instance that is wanted.
-    pub(crate) fn id(&self) -> InstanceId
-        ensures { result ≡ record { service = self.now.service; instance = self.now.instance } }
-    {
-        InstanceId {
-            service: self.service,
-            instance: self.instance,
-        }
-    }
 }

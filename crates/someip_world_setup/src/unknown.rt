@@ -1,10 +1,10 @@
 //! Keys that the format does not have.
-ghost use Rattle.std.specs.Prelude.{◌≡◌, ◌||◌, not, map, codes, string_bytes};
+ghost use Rattle.std.specs.Prelude.{◌≡◌, ◌||◌, not, map, bytes_eq, codes, string_bytes};
 ghost use Rattle.std.specs.List.{list_any, find};
 ghost use Rattle.std.specs.Option.{is_some, option_map};
 ghost use Rattle.std.specs.BTreeMap.{keys};
 ghost use Rattle.toml.specs.View.{view};
-ghost use Rattle.someip_world_setup.specs.KnownKeys.{is_known_key, has_unknown, listed_at, listed_in, has_unknown_key};
+ghost use Rattle.someip_world_setup.specs.KnownKeys.{known_keys, is_known_key, has_unknown, listed_at, listed_in, has_unknown_key};
 ghost use Rattle.someip_world_setup.specs.Readings.{RefusesKey};
 
 use crate::error::SetupError;
@@ -13,7 +13,7 @@ use std::alloc::Global;
 use toml::{Table, Value};
 
 /// What a table is about.
-#[derive(Clone, Copy, Debug, PartialEq, Eq)]
+#[derive(Clone, Copy)]
 pub(crate) enum Subject {
     /// The setup.
     Setup,
@@ -29,72 +29,64 @@ pub(crate) enum Subject {
     Eventgroup,
 }
 
+/// The keys that a table about a subject may have.
+fn known_keys(subject: Subject) -> &'static [&'static str]
+    ensures { map (λ key. key.now) result.now ≡ known_keys subject }
+{
+    match subject {
+        Subject::Setup => &[
+            "group",
+            "initial_min",
+            "initial_max",
+            "base",
+            "repetitions",
+            "cyclic",
+            "message_limit",
+            "slots",
+            "peers",
+            "reassembly_timeout",
+            "call_timeout",
+            "node",
+        ],
+        Subject::Node => &[
+            "name",
+            "address",
+            "client_id",
+            "client_port",
+            "delay",
+            "offer",
+            "want",
+        ],
+        Subject::Offer => &[
+            "service",
+            "instance",
+            "major",
+            "minor",
+            "ttl",
+            "port",
+            "methods",
+            "oneways",
+            "events",
+            "subscribers",
+        ],
+        Subject::Want => &["service", "instance", "major", "ttl", "groups"],
+        Subject::Event => &["id", "groups"],
+        Subject::Eventgroup => &["id", "events"],
+    }
+}
+
+/// Whether a key is one of some.
+fn is_one_of(key: &str, keys: &[&str]) -> bool
+    ensures { result ≡ list_any (λ known. bytes_eq key.now known.now) keys.now }
+{
+    keys.iter().any(|known| key == *known)
+}
+
 /// Whether a table about a subject may have a key.
 fn is_known_key(subject: Subject, key: &str) -> bool
     ensures { result ≡ is_known_key subject key.now }
 {
-    match subject {
-        Subject::Setup => is_known_of_setup(key),
-        Subject::Node => is_known_of_node(key),
-        Subject::Offer => is_known_of_offer(key),
-        Subject::Want => is_known_of_want(key),
-        Subject::Event => key == "id" || key == "groups",
-        Subject::Eventgroup => key == "id" || key == "events",
-    }
-}
-
-/// Whether the setup may have a key.
-fn is_known_of_setup(key: &str) -> bool
-    ensures { result ≡ is_known_key Subject.Setup key.now }
-{
-    key == "group"
-        || key == "initial_min"
-        || key == "initial_max"
-        || key == "base"
-        || key == "repetitions"
-        || key == "cyclic"
-        || key == "message_limit"
-        || key == "slots"
-        || key == "peers"
-        || key == "reassembly_timeout"
-        || key == "call_timeout"
-        || key == "node"
-}
-
-/// Whether a node may have a key.
-fn is_known_of_node(key: &str) -> bool
-    ensures { result ≡ is_known_key Subject.Node key.now }
-{
-    key == "name"
-        || key == "address"
-        || key == "client_id"
-        || key == "client_port"
-        || key == "delay"
-        || key == "offer"
-        || key == "want"
-}
-
-/// Whether an offer may have a key.
-fn is_known_of_offer(key: &str) -> bool
-    ensures { result ≡ is_known_key Subject.Offer key.now }
-{
-    key == "service"
-        || key == "instance"
-        || key == "major"
-        || key == "minor"
-        || key == "ttl"
-        || key == "port"
-        || key == "methods"
-        || key == "oneways"
-        || key == "events"
-        || key == "subscribers"
-}
-
-/// Whether a want may have a key.
-fn is_known_of_want(key: &str) -> bool
-    ensures { result ≡ is_known_key Subject.Want key.now }
-{
-    key == "service" || key == "instance" || key == "major" || key == "ttl" || key == "groups"
+    is_one_of(key, known_keys(subject))
 }
 
 /// The least of the keys that a table about a subject may not have.

@@ -3,7 +3,7 @@ ghost use Rattle.std.specs.Prelude.{map};
 ghost use Rattle.toml.specs.View.{view};
 ghost use Rattle.someip_world_setup.specs.Keys.{IsAsFound};
 ghost use Rattle.someip_world_setup.specs.Lists.{found_at_each};
-ghost use Rattle.someip_world_setup.specs.Says.{said_eventgroup, said_want, wants_at};
+ghost use Rattle.someip_world_setup.specs.Says.{group_events, said_eventgroup, said_want, wants_at};
 ghost use Rattle.someip_world_setup.specs.Values.{listed_view, want_view};
 
 use crate::error::SetupError;
@@ -11,21 +11,29 @@ use crate::lists::ids;
 use crate::numbers::{id_at, major_at, ttl_at};
 use crate::parts::{Listed, WantParts};
 use crate::tables::{integers_at, tables_or_none};
+use sd_core::InstanceId;
 use std::alloc::Global;
 use toml::Value;
 
-/// An eventgroup, from 1 to FFFE, with its events, from 8000 to FFFE.
-fn eventgroup(alloc: Global, table: &Value) -> Result<Listed, SetupError>
-    ensures { IsAsFound listed_view result (said_eventgroup (view table.now)) }
+/// The events of an eventgroup, from 8000 to FFFE.
+fn group_events(alloc: Global, table: &Value) -> Result<Vec<u16>, SetupError>
+    ensures { IsAsFound (λ v. v.items) result (group_events (view table.now)) }
 {
-    let id = id_at(table, "id")?;
-    let members = ids(
+    ids(
         alloc,
         integers_at(table, "events")?,
         "events",
         0x8000,
         0xfffe,
-    )?;
+    )
+}
+
+/// An eventgroup, from 1 to FFFE, with its events.
+fn eventgroup(alloc: Global, table: &Value) -> Result<Listed, SetupError>
+    ensures { IsAsFound listed_view result (said_eventgroup (view table.now)) }
+{
+    let id = id_at(table, "id")?;
+    let members = group_events(alloc, table)?;
     Ok(Listed { id, members })
 }
 
@@ -50,8 +58,7 @@ fn want(alloc: Global, table: &Value) -> Result<WantParts, SetupError>
     let ttl = ttl_at(table)?;
     let groups = groups(alloc, tables_or_none(table, "groups")?)?;
     Ok(WantParts {
-        service,
-        instance,
+        id: InstanceId { service, instance },
         major,
         ttl,
         groups,

@@ -9,7 +9,7 @@ use Rattle.someip_world_setup.proofs.building.offer_map.Goals as goal
 pub loop-offer-preserved : goal.loop-offer-preserved
 loop-offer-preserved c =
     one_entry instance_cmp offered_view (λ x. keyed_offer c.args.address (offer_view x)) c.loop-offer.map.entries _ c.loop-offer.offer-index c.args.offers.now _ _ _ c.loop-offer-test.true c.in_ok-insert.ensures.entries
-    (c.id.ensures ∙ ap (λ (x : OfferParts). (keyed_offer c.args.address (offer_view x)).0) c.offer-item.is)
+    (ap (λ (x : OfferParts). (keyed_offer c.args.address (offer_view x)).0) c.offer-item.is)
     (c.in_ok-offered.ensures ∙ ap (λ (x : OfferParts). offer_made c.args.address (offer_view x)) c.offer-item.is)
     c.loop-offer.invariant
 

@@ -9,7 +9,7 @@ use Rattle.someip_world_setup.proofs.building.want_map.Goals as goal
 pub loop-want-preserved : goal.loop-want-preserved
 loop-want-preserved c =
     one_entry instance_cmp wanted_view (λ x. keyed_want (want_view x)) c.loop-want.map.entries _ c.loop-want.want-index c.args.wants.now _ _ _ c.loop-want-test.true c.in_ok-insert.ensures.entries
-    (c.id.ensures ∙ ap (λ (x : WantParts). (keyed_want (want_view x)).0) c.want-item.is)
+    (ap (λ (x : WantParts). (keyed_want (want_view x)).0) c.want-item.is)
     (c.in_ok-wanted.ensures ∙ ap (λ (x : WantParts). want_made (want_view x)) c.want-item.is)
     c.loop-want.invariant
 
