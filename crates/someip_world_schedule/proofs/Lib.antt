@@ -1,3 +1,4 @@
+pub mod ReadLemmas
 pub mod StepLemmas
 pub mod WordLemmas
 pub mod LineLemmas

@@ -11,6 +11,21 @@ texts words = map (λ w. w.now) words
 abbrev pub past : Bor (List ℕ)
 past = record { ref_ptr = (0, 0); now = [] }
 
+-- a list of two words
+pub two : (ws : List (Bor (List ℕ))) → length ws ≡ 2 → texts ws ≡ (get_or ws 0 past).now ∷ (get_or ws 1 past).now ∷ []
+two [] h = absurd (omega (arith, h))
+two (a ∷ []) h = absurd (omega (arith, h))
+two (a ∷ b ∷ []) h = refl
+two (a ∷ b ∷ c ∷ ws) h = absurd (omega (arith, h))
+
+-- a list of three words
+pub three : (ws : List (Bor (List ℕ))) → length ws ≡ 3 → texts ws ≡ (get_or ws 0 past).now ∷ (get_or ws 1 past).now ∷ (get_or ws 2 past).now ∷ []
+three [] h = absurd (omega (arith, h))
+three (a ∷ []) h = absurd (omega (arith, h))
+three (a ∷ b ∷ []) h = absurd (omega (arith, h))
+three (a ∷ b ∷ c ∷ []) h = refl
+three (a ∷ b ∷ c ∷ e ∷ ws) h = absurd (omega (arith, h))
+
 -- a list of four words
 pub four : (ws : List (Bor (List ℕ))) → length ws ≡ 4
     → texts ws ≡ (get_or ws 0 past).now ∷ (get_or ws 1 past).now ∷ (get_or ws 2 past).now ∷ (get_or ws 3 past).now ∷ []

@@ -9,6 +9,8 @@ use Rattle.someip_rpc.specs.declared.request.Reply.TheVariants as replies
 use Rattle.someip_wire.specs.declared.header.ReturnCode.{ReturnCode}
 use Rattle.someip_world_schedule.specs.declared.step.Step.{Step}
 use Rattle.someip_world_schedule.specs.declared.step.Step.TheVariants.{Tick, Deliver, Call, Answer, Publish, PublishTo, Subscribe, Unsubscribe, StopOffer, Restart}
+use Rattle.someip_world_schedule.specs.declared.step_reading.AnswerKind.{AnswerKind}
+use Rattle.someip_world_schedule.specs.declared.step_reading.AnswerKind.TheVariants as answers
 use Rattle.someip_world_schedule.specs.declared.step_command.Command.{Command}
 use Rattle.someip_world_schedule.specs.declared.step_command.Command.TheVariants as commands
 use Rattle.someip_world_schedule.specs.StepWords.{◌>>=◌, number_in, id_in, method_in, code_in, name_in, instance_in, eventgroup_in, endpoint_in, payload_in}
@@ -27,6 +29,21 @@ abbrev pub joined_by_blanks : List (List ℕ) → List ℕ
 joined_by_blanks [] = []
 joined_by_blanks (word ∷ []) = word
 joined_by_blanks (word ∷ next ∷ others) = word ++ 0x20 ∷ joined_by_blanks (next ∷ others)
+
+-- the word that asks for each command
+abbrev pub command_word : Command → List ℕ
+command_word commands.Tick = codes "tick"
+command_word commands.Deliver = codes "deliver"
+command_word commands.Call = codes "call"
+command_word commands.Oneway = codes "oneway"
+command_word commands.Answer = codes "answer"
+command_word commands.Error = codes "error"
+command_word commands.Publish = codes "publish"
+command_word commands.PublishTo = codes "publish_to"
+command_word commands.Subscribe = codes "subscribe"
+command_word commands.Unsubscribe = codes "unsubscribe"
+command_word commands.StopOffer = codes "stop_offer"
+command_word commands.Restart = codes "restart"
 
 -- what the first word asks for
 abbrev pub command_in : List ℕ → Option Command
@@ -74,6 +91,10 @@ call_step kind words = None
 -- how a request is answered
 abbrev pub Answered : Type 0
 Answered = ReturnCode → Reply
+
+abbrev pub answered : AnswerKind → Answered
+answered answers.Response = replies.Response
+answered answers.Error = replies.Error
 
 -- NODE T CODE PAYLOAD
 abbrev pub answer_step : Answered → List (List ℕ) → Option Step

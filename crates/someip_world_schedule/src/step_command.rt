@@ -1,9 +1,10 @@
 //! The first words of lines.
-ghost use Rattle.std.specs.Prelude.{◌≡◌};
-ghost use Rattle.someip_world_schedule.specs.Steps.{command_in};
+ghost use Rattle.std.specs.Prelude.{◌≡◌, bytes_eq};
+ghost use Rattle.std.specs.List.{find};
+ghost use Rattle.someip_world_schedule.specs.Steps.{command_in, command_word};
 
 /// What a line asks for.
-#[derive(Clone, Copy, Debug, PartialEq, Eq)]
+#[derive(Clone, Copy)]
 pub enum Command {
     /// The clock of a node goes on.
     Tick,
@@ -31,35 +32,57 @@ pub enum Command {
     Restart,
 }
 
+/// All of them.
+const COMMANDS: [Command; 12] = [
+    Command::Tick,
+    Command::Deliver,
+    Command::Call,
+    Command::Oneway,
+    Command::Answer,
+    Command::Error,
+    Command::Publish,
+    Command::PublishTo,
+    Command::Subscribe,
+    Command::Unsubscribe,
+    Command::StopOffer,
+    Command::Restart,
+];
+
+impl Command {
+    /// The word that asks for it.
+    fn word(self) -> &'static str
+        ensures { result.now ≡ command_word self }
+    {
+        match self {
+            Command::Tick => "tick",
+            Command::Deliver => "deliver",
+            Command::Call => "call",
+            Command::Oneway => "oneway",
+            Command::Answer => "answer",
+            Command::Error => "error",
+            Command::Publish => "publish",
+            Command::PublishTo => "publish_to",
+            Command::Subscribe => "subscribe",
+            Command::Unsubscribe => "unsubscribe",
+            Command::StopOffer => "stop_offer",
+            Command::Restart => "restart",
+        }
+    }
+}
+
 /// The command that a word names.
 pub fn command_of(word: &str) -> Option<Command>
     ensures { result ≡ command_in word.now }
 {
-    if word == "tick" {
-        Some(Command::Tick)
-    } else if word == "deliver" {
-        Some(Command::Deliver)
-    } else if word == "call" {
-        Some(Command::Call)
-    } else if word == "oneway" {
-        Some(Command::Oneway)
-    } else if word == "answer" {
-        Some(Command::Answer)
-    } else if word == "error" {
-        Some(Command::Error)
-    } else if word == "publish" {
-        Some(Command::Publish)
-    } else if word == "publish_to" {
-        Some(Command::PublishTo)
-    } else if word == "subscribe" {
-        Some(Command::Subscribe)
-    } else if word == "unsubscribe" {
-        Some(Command::Unsubscribe)
-    } else if word == "stop_offer" {
-        Some(Command::StopOffer)
-    } else if word == "restart" {
-        Some(Command::Restart)
-    } else {
-        None
-    }
+    named(&COMMANDS, word)
+}
+
+/// The first of some commands that a word names.
+fn named(commands: &[Command], word: &str) -> Option<Command>
+    ensures { result ≡ find (λ command. bytes_eq word.now (command_word command)) commands.now }
+{
+    commands
+        .iter()
+        .copied()
+        .find(|command| word == command.word())
 }

@@ -3,8 +3,7 @@ ghost use Rattle.std.specs.Prelude.{◌≡◌, map, IfOk};
 ghost use Rattle.someip_world_schedule.specs.StepWords.{IsReadOf};
 ghost use Rattle.someip_world_schedule.specs.Steps.{words_in, tick_step, deliver_step, call_step, answer_step};
 ghost use Rattle.someip_world_schedule.specs.Steps.{publish_step, publish_to_step, subscribe_step, unsubscribe_step};
-ghost use Rattle.someip_world_schedule.specs.Steps.{stop_offer_step, restart_step, commanded, step_of_words};
-ghost use Rattle.someip_rpc.specs.declared.request.Reply.TheVariants.{Response, Error};
+ghost use Rattle.someip_world_schedule.specs.Steps.{answered, stop_offer_step, restart_step, commanded, step_of_words};
 
 use crate::step::Step;
 use crate::step_command::{Command, command_of};
@@ -12,7 +11,27 @@ use crate::step_name::name;
 use crate::step_payload::payload;
 use crate::step_words::{WordFault, code, endpoint, eventgroup, id, instance, method, number};
 use someip_rpc::{CallKind, Reply};
+use someip_wire::ReturnCode;
 use std::alloc::{AllocError, Global};
+
+/// How a request is answered.
+#[derive(Clone, Copy)]
+enum AnswerKind {
+    Response,
+    Error,
+}
+
+impl AnswerKind {
+    /// The answer with a Return Code.
+    fn reply(self, code: ReturnCode) -> Reply
+        ensures { result ≡ answered self code }
+    {
+        match self {
+            AnswerKind::Response => Reply::Response(code),
+            AnswerKind::Error => Reply::Error(code),
+        }
+    }
+}
 
 /// The words of a line.
 fn words_of<'t>(alloc: Global, line: &'t str) -> Result<Vec<&'t str>, AllocError>
@@ -51,8 +70,8 @@ fn step_of(alloc: Global, command: Command, words: &[&str]) -> Result<Step, Word
         Command::Deliver => deliver(alloc, words),
         Command::Call => call(alloc, CallKind::Request, words),
         Command::Oneway => call(alloc, CallKind::RequestNoReturn, words),
-        Command::Answer => response(alloc, words),
-        Command::Error => error(alloc, words),
+        Command::Answer => answer(alloc, AnswerKind::Response, words),
+        Command::Error => answer(alloc, AnswerKind::Error, words),
         Command::Publish => publish(alloc, words),
         Command::PublishTo => publish_to(alloc, words),
         Command::Subscribe => subscribe(alloc, words),
@@ -106,9 +125,9 @@ fn call(alloc: Global, kind: CallKind, words: &[&str]) -> Result<Step, WordFault
     })
 }
 
-/// NODE T CODE PAYLOAD, of a RESPONSE.
-fn response(alloc: Global, words: &[&str]) -> Result<Step, WordFault>
-    ensures { IsReadOf (answer_step Response (map (λ w. w.now) words.now)) result }
+/// NODE T CODE PAYLOAD, of a RESPONSE or an ERROR.
+fn answer(alloc: Global, kind: AnswerKind, words: &[&str]) -> Result<Step, WordFault>
+    ensures { IsReadOf (answer_step (answered kind) (map (λ w. w.now) words.now)) result }
 {
     let [node, token, code_word, bytes] = words else {
         return Err(WordFault::Bad);
@@ -120,26 +139,7 @@ fn response(alloc: Global, words: &[&str]) -> Result<Step, WordFault>
     Ok(Step::Answer {
         node,
         token,
-        reply: Reply::Response(code),
-        payload,
-    })
-}
-
-/// NODE T CODE PAYLOAD, of an ERROR.
-fn error(alloc: Global, words: &[&str]) -> Result<Step, WordFault>
-    ensures { IsReadOf (answer_step Error (map (λ w. w.now) words.now)) result }
-{
-    let [node, token, code_word, bytes] = words else {
-        return Err(WordFault::Bad);
-    };
-    let node = name(alloc, node)?;
-    let token = number(token).ok_or(WordFault::Bad)?;
-    let code = code(code_word).ok_or(WordFault::Bad)?;
-    let payload = payload(alloc, bytes)?;
-    Ok(Step::Answer {
-        node,
-        token,
-        reply: Reply::Error(code),
+        reply: kind.reply(code),
         payload,
     })
 }

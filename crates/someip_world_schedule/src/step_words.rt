@@ -14,7 +14,7 @@ use std::alloc::AllocError;
 use std::net::{Ipv4Addr, SocketAddrV4};
 
 /// Why words were not read.
-#[derive(Clone, Copy, Debug, PartialEq, Eq)]
+#[derive(Clone, Copy)]
 pub enum WordFault {
     /// They stand for nothing.
     Bad,
