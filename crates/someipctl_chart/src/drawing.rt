@@ -56,15 +56,25 @@ pub(crate) fn svg_of(
     verdict: Reuse,
 ) -> Result<String, AllocError> {
     let mut text = String::new(alloc);
-    push_head(&mut text, picture)?;
-    push_steps(&mut text, picture)?;
-    push_lanes(&mut text, picture)?;
-    push_arrows(&mut text, picture)?;
-    push_crosses(alloc, &mut text, picture)?;
-    push_labels(alloc, &mut text, picture)?;
-    push_verdict(&mut text, picture, verdict)?;
-    text.push_str("</svg>\n")?;
+    push_picture(alloc, &mut text, picture, verdict)?;
     Ok(text)
+}
+
+/// Appends a picture, layer by layer.
+fn push_picture(
+    alloc: Global,
+    text: &mut String,
+    picture: &Picture<'_>,
+    verdict: Reuse,
+) -> Result<(), AllocError> {
+    push_head(text, picture)?;
+    push_steps(text, picture)?;
+    push_lanes(text, picture)?;
+    push_arrows(text, picture)?;
+    push_crosses(alloc, text, picture)?;
+    push_labels(alloc, text, picture)?;
+    push_verdict(text, picture, verdict)?;
+    text.push_str("</svg>\n")
 }
 
 /// Where the lane of a node stands.
@@ -152,14 +162,19 @@ fn push_steps(text: &mut String, picture: &Picture<'_>) -> Result<(), AllocError
         }
         push_step(text, picture, index)?;
         if let Some(node) = place_of(picture.nodes, step.node().as_str()) {
-            let (x, y) = (lane_x(node), row_y(picture.rows.of_step(index)));
-            write!(
-                text,
-                "<circle cx=\"{x}\" cy=\"{y}\" r=\"4\" fill=\"#444444\"/>\n"
-            )?;
+            push_dot(text, node, picture.rows.of_step(index))?;
         }
     }
     Ok(())
+}
+
+/// Appends a dot where a row meets the lane of a node.
+fn push_dot(text: &mut String, node: usize, row: usize) -> Result<(), AllocError> {
+    let (x, y) = (lane_x(node), row_y(row));
+    write!(
+        text,
+        "<circle cx=\"{x}\" cy=\"{y}\" r=\"4\" fill=\"#444444\"/>\n"
+    )
 }
 
 /// Appends the background of a step.
@@ -196,23 +211,32 @@ fn push_step(text: &mut String, picture: &Picture<'_>, index: usize) -> Result<(
 fn push_lanes(text: &mut String, picture: &Picture<'_>) -> Result<(), AllocError> {
     let bottom = row_top(picture.rows.count());
     for (place, node) in picture.nodes.iter().enumerate() {
-        let x = lane_x(place);
-        write!(
-            text,
-            "<line class=\"lane\" x1=\"{x}\" y1=\"{TOP}\" x2=\"{x}\" y2=\"{bottom}\"/>"
-        )?;
-        write!(
-            text,
-            "<text class=\"name\" x=\"{x}\" y=\"54\" text-anchor=\"middle\">"
-        )?;
-        push_escaped(text, node.name.as_bytes(), LETTERS)?;
-        let address = node.config.address;
-        write!(
-            text,
-            "</text><text x=\"{x}\" y=\"72\" text-anchor=\"middle\">{address}</text>\n"
-        )?;
+        push_lane(text, lane_x(place), bottom, node)?;
     }
     Ok(())
+}
+
+/// Appends the lane of a node, with its name and address.
+fn push_lane(
+    text: &mut String,
+    x: usize,
+    bottom: usize,
+    node: &SetupNode,
+) -> Result<(), AllocError> {
+    write!(
+        text,
+        "<line class=\"lane\" x1=\"{x}\" y1=\"{TOP}\" x2=\"{x}\" y2=\"{bottom}\"/>"
+    )?;
+    write!(
+        text,
+        "<text class=\"name\" x=\"{x}\" y=\"54\" text-anchor=\"middle\">"
+    )?;
+    push_escaped(text, node.name.as_bytes(), LETTERS)?;
+    let address = node.config.address;
+    write!(
+        text,
+        "</text><text x=\"{x}\" y=\"72\" text-anchor=\"middle\">{address}</text>\n"
+    )
 }
 
 /// Appends an arrow for each delivery.
@@ -230,23 +254,16 @@ fn push_arrow(text: &mut String, delivery: &Delivery) -> Result<(), AllocError> 
     let (from, to) = (lane_x(delivery.sent.node), lane_x(delivery.node));
     let (y, end) = (sent_y(delivery.sent.row), arrival_y(delivery.row));
     let number = delivery.place.saturating_add(1);
+    write!(text, "<path class=\"{class}\" d=\"M{from} {y} ")?;
     if from == to {
         let beside = from.saturating_sub(40);
-        write!(
-            text,
-            "<path class=\"{class}\" d=\"M{from} {y} C{beside} {y} {beside} {end} {to} {end}\" "
-        )?;
+        write!(text, "C{beside} {y} {beside} {end} ")?;
     } else {
-        write!(
-            text,
-            "<path class=\"{class}\" d=\"M{from} {y} L{to} {end}\" "
-        )?;
+        text.push_str("L")?;
     }
+    write!(text, "{to} {end}\" marker-end=\"url(#{class})\"/>")?;
     let (x, y) = (to.saturating_sub(10), text_y(delivery.row));
-    write!(
-        text,
-        "marker-end=\"url(#{class})\"/><text class=\"halo\" x=\"{x}\" y=\"{y}\" "
-    )?;
+    write!(text, "<text class=\"halo\" x=\"{x}\" y=\"{y}\" ")?;
     write!(text, "text-anchor=\"end\">{number}</text>\n")
 }
 
@@ -264,36 +281,45 @@ fn push_crosses(alloc: Global, text: &mut String, picture: &Picture<'_>) -> Resu
     let delivered = delivered_places(alloc, picture.deliveries)?;
     for (place, sent) in picture.sent.iter().enumerate() {
         if !delivered.contains(&place) {
-            let (x, y) = (lane_x(sent.node), row_y(sent.row));
-            write!(
-                text,
-                "<path class=\"lost\" d=\"M{x} {y} h-22 m-5 -5 l10 10 m0 -10 l-10 10\"/>\n"
-            )?;
+            push_cross(text, sent)?;
         }
     }
     Ok(())
+}
+
+/// Appends a cross beside where a datagram was sent.
+fn push_cross(text: &mut String, sent: &Sent) -> Result<(), AllocError> {
+    let (x, y) = (lane_x(sent.node), row_y(sent.row));
+    write!(
+        text,
+        "<path class=\"lost\" d=\"M{x} {y} h-22 m-5 -5 l10 10 m0 -10 l-10 10\"/>\n"
+    )
 }
 
 /// Appends what each line of the trace tells, beside the lane of its node.
 fn push_labels(alloc: Global, text: &mut String, picture: &Picture<'_>) -> Result<(), AllocError> {
     let mut number: usize = 0;
     for (index, line) in picture.lines.iter().enumerate() {
-        let x = lane_x(line.node).saturating_add(10);
-        let y = text_y(picture.rows.of_line(index));
         let label = label_of(alloc, number, &picture.lines[index..], line)?;
-        let class = if line.datagram().is_some() {
-            "halo sent"
-        } else {
-            "halo"
-        };
-        write!(text, "<text class=\"{class}\" x=\"{x}\" y=\"{y}\">")?;
-        push_escaped(text, label.as_bytes(), LETTERS)?;
-        text.push_str("</text>\n")?;
+        push_label(text, picture.rows.of_line(index), line, label.as_bytes())?;
         if line.datagram().is_some() {
             number = number.saturating_add(1);
         }
     }
     Ok(())
+}
+
+/// Appends what a line of the trace tells, in its row.
+fn push_label(text: &mut String, row: usize, line: &Line, label: &[u8]) -> Result<(), AllocError> {
+    let (x, y) = (lane_x(line.node).saturating_add(10), text_y(row));
+    let class = if line.datagram().is_some() {
+        "halo sent"
+    } else {
+        "halo"
+    };
+    write!(text, "<text class=\"{class}\" x=\"{x}\" y=\"{y}\">")?;
+    push_escaped(text, label, LETTERS)?;
+    text.push_str("</text>\n")
 }
 
 /// What a line tells, before which so many datagrams were sent: of a datagram its number and what it
@@ -305,20 +331,36 @@ fn label_of(
     line: &Line,
 ) -> Result<String, AllocError> {
     let mut label = String::new(alloc);
+    push_told(alloc, &mut label, number, lines, line)?;
+    Ok(label)
+}
+
+/// Appends what a line tells.
+fn push_told(
+    alloc: Global,
+    label: &mut String,
+    number: usize,
+    lines: &[Line],
+    line: &Line,
+) -> Result<(), AllocError> {
     match line.datagram() {
         Some(datagram) => {
             let number = number.saturating_add(1);
             write!(label, "{number} ")?;
-            push_datagram(alloc, &mut label, lines, datagram.bytes)?;
+            push_datagram(alloc, label, lines, datagram.bytes)
         }
-        None => {
-            let told = told_text(alloc, 0, &line.told)?;
-            for byte in told.iter().skip(1).filter(|byte| **byte != b'\n') {
-                label.push(*byte as char)?;
-            }
+        None => push_words(label, &told_text(alloc, 0, &line.told)?),
+    }
+}
+
+/// Appends the words of the trace, without the space and the line feed around them.
+fn push_words(label: &mut String, told: &[u8]) -> Result<(), AllocError> {
+    for byte in told.iter().skip(1) {
+        if *byte != b'\n' {
+            label.push(*byte as char)?;
         }
     }
-    Ok(label)
+    Ok(())
 }
 
 /// Appends the verdict below the lanes.

@@ -7,30 +7,18 @@ use std::alloc::{AllocError, Global};
 /// where it has none.
 #[derive(Drop)]
 pub(crate) struct Rows {
-    /// The first row of each step.
+    /// The first row of each step, and then how many rows there are.
     firsts: Vec<usize>,
     /// The row of each line.
     lines: Vec<usize>,
-    /// How many rows there are.
-    count: usize,
 }
 
 impl Rows {
     /// The rows of so many steps, and of the lines that they gave.
     pub(crate) fn new(alloc: Global, steps: usize, lines: &[Line]) -> Result<Rows, AllocError> {
-        let counts = counts_of(alloc, steps, lines)?;
-        let mut firsts = Vec::new(alloc);
-        let mut count: usize = 0;
-        for lines in &counts {
-            firsts.push(count)?;
-            count = count.saturating_add((*lines).max(1));
-        }
+        let firsts = firsts_of(alloc, steps, lines)?;
         let lines = rows_of_lines(alloc, &firsts, lines)?;
-        Ok(Rows {
-            firsts,
-            lines,
-            count,
-        })
+        Ok(Rows { firsts, lines })
     }
 
     /// The first row of the step of an index, counted from 0.
@@ -43,7 +31,7 @@ impl Rows {
         self.firsts
             .get(index.saturating_add(1))
             .copied()
-            .unwrap_or(self.count)
+            .unwrap_or(self.count())
     }
 
     /// The row of the line of an index, counted from 0.
@@ -53,8 +41,27 @@ impl Rows {
 
     /// How many rows there are.
     pub(crate) fn count(&self) -> usize {
-        self.count
+        self.firsts.last().copied().unwrap_or(0)
     }
+}
+
+/// The first row of each step, and then the row behind the last one.
+fn firsts_of(alloc: Global, steps: usize, lines: &[Line]) -> Result<Vec<usize>, AllocError> {
+    let counts = counts_of(alloc, steps, lines)?;
+    places_of(alloc, &counts)
+}
+
+/// Where each of some groups of lines begins, and where the last one ends. One without lines has a row
+/// too.
+fn places_of(alloc: Global, counts: &[usize]) -> Result<Vec<usize>, AllocError> {
+    let mut places = Vec::new(alloc);
+    let mut place: usize = 0;
+    for count in counts {
+        places.push(place)?;
+        place = place.saturating_add((*count).max(1));
+    }
+    places.push(place)?;
+    Ok(places)
 }
 
 /// How many lines each step has.
