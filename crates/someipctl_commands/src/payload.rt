@@ -68,15 +68,15 @@ pub fn read_text(
     match decode(alloc, shape, bytes) {
         Ok((value, used)) => {
             let all = bytes.len();
-            writeln!(text, "value {value}").map_err(|_| AllocError)?;
-            writeln!(text, "used {used} of {all}").map_err(|_| AllocError)?;
+            writeln!(text, "value {value}")?;
+            writeln!(text, "used {used} of {all}")?;
             Ok((text, Outcome::Done))
         }
         Err(PayloadError::OutOfMemory) => Err(AllocError),
         Err(fault) => {
             let name = fault.name();
             let place = fault.place();
-            writeln!(text, "fault {name} at {place}").map_err(|_| AllocError)?;
+            writeln!(text, "fault {name} at {place}")?;
             Ok((text, Outcome::FaultShown))
         }
     }

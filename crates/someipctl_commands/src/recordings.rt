@@ -51,7 +51,7 @@ pub struct ShownRecording {
 }
 
 /// Why a text was not printed whole.
-#[derive(Clone, Copy, Debug, PartialEq, Eq)]
+#[derive(Clone, Copy)]
 enum PrintFault {
     CannotWrite,
     OutOfMemory,

@@ -8,11 +8,12 @@
 //! > value [1,2]
 //! > used 8 of 8
 //! ```
-ghost use Rattle.std.specs.Prelude.{◌≡◌, ◌==◌, ◌++◌, ◌≤◌, List, ℕ, Err, IfOk, MatchOption, ◌≢◌};
+ghost use Rattle.std.specs.Prelude.{◌≡◌, ◌==◌, ◌++◌, ◌≤◌, List, ℕ, Err, IfOk, Some, None, MatchOption, ◌≢◌};
 ghost use Rattle.someipctl_commands.specs.declared.vector_lines.LineFault.TheVariants.{Bad, OutOfMemory};
 ghost use Rattle.someip_payload_codec.specs.Check.{depth};
 ghost use Rattle.someip_payload_codec.specs.Data.{Form};
 ghost use Rattle.someip_payload_codec.specs.View.{form};
+ghost use Rattle.someipctl_commands.specs.Payload.{argument_bytes};
 ghost use Rattle.someipctl_commands.specs.VectorLines.{AreArguments, AsksNothing, IsFoundOf, Says};
 ghost use Rattle.someipctl_commands.specs.VectorLines.{asked_by, asks, fault_of_shape, has_return};
 ghost use Rattle.someipctl_commands.specs.VectorLines.{is_left_out};
@@ -101,10 +102,7 @@ fn question_of(alloc: Global, line: &str) -> Result<Question, LineFault>
     ensures bad { result ≡ Err Bad → AsksNothing line.now }
 {
     if let Some(hex) = behind(line, "datagram ") {
-        return match bytes_of_argument(alloc, hex)? {
-            Some(bytes) => Ok(Question::Datagram(bytes)),
-            None => Err(LineFault::Bad),
-        };
+        return Ok(Question::Datagram(bytes_of_hex(alloc, hex)?));
     }
     let Some(arguments) = behind(line, "payload ") else {
         return Err(LineFault::Bad);
@@ -123,8 +121,17 @@ fn payload_arguments(alloc: Global, arguments: &str) -> Result<(Shape, Vec<u8>),
         return Err(LineFault::Bad);
     };
     let shape = read_shape(alloc, shape)?;
+    let bytes = bytes_of_hex(alloc, hex)?;
+    Ok((shape, bytes))
+}
+
+/// The bytes that HEX says.
+fn bytes_of_hex(alloc: Global, hex: &str) -> Result<Vec<u8>, LineFault>
+    ensures found { IfOk result (λ bytes. argument_bytes hex.now ≡ Some bytes.items) }
+    ensures bad { result ≡ Err Bad → argument_bytes hex.now ≡ None }
+{
     match bytes_of_argument(alloc, hex)? {
-        Some(bytes) => Ok((shape, bytes)),
+        Some(bytes) => Ok(bytes),
         None => Err(LineFault::Bad),
     }
 }

@@ -1,5 +1,5 @@
 //! The command `vectors`: whether what is printed of datagrams and payloads is what a file says.
-ghost use Rattle.std.specs.Prelude.{◌≡◌, ◌≢◌, ◌++◌, [], Some, Err, OnOk, OnErr, IfOk, IfErr, List, Bool, map, not};
+ghost use Rattle.std.specs.Prelude.{◌≡◌, ◌≢◌, ◌++◌, [], Some, Err, OnOk, OnErr, IfOk, IfErr, List, Bool, codes, map, not};
 ghost use Rattle.std.specs.List.{list_any};
 ghost use Rattle.std.specs.Str.{bytes_eq};
 ghost use Rattle.std.specs.Io.KnownBytes.{Appends};
@@ -7,7 +7,7 @@ ghost use Rattle.someipctl_commands.specs.declared.vectors.VectorsError.TheVaria
 ghost use Rattle.someipctl_commands.specs.Capture.{lines_of};
 ghost use Rattle.someipctl_print.specs.Sending.{Sends, Stops};
 ghost use Rattle.someipctl_commands.specs.VectorLines.{AreSaid, asked_by, has_vector, said_by};
-ghost use Rattle.someipctl_commands.specs.Vectors.{AreJudged, IsPrintedOf, Judges, RefusesLines, RefusesVectors};
+ghost use Rattle.someipctl_commands.specs.Vectors.{AreJudged, IsJudged, IsPrintedOf, Judges, RefusesLines, RefusesVectors};
 ghost use Rattle.someipctl_commands.specs.Vectors.{count_passed, error_of_file, expected_text, summary_line};
 ghost use Rattle.someipctl_commands.specs.Vectors.{vectors_in, verdict_line, verdict_lines, verdicts_outcome};
 ghost use Rattle.someipctl_commands.specs.Vectors.{verdicts_text};
@@ -119,11 +119,22 @@ fn judge(alloc: Global, lines: &[VectorLine<'_>]) -> Result<Vec<bool>, AllocErro
         let VectorLine::Asks(question) = line else {
             continue;
         };
-        let expected = expected_by(alloc, &lines[i + 1..])?;
-        let text = answer(alloc, question)?;
-        results.push(text == expected)?;
+        let passed = passes(alloc, question, &lines[i + 1..])?;
+        results.push(passed)?;
     }
     Ok(results)
+}
+
+/// Whether a vector passes that asks this, where these lines follow.
+fn passes(alloc: Global, question: &Question, lines: &[VectorLine<'_>]) -> Result<bool, AllocError>
+    ensures { IfOk result (IsJudged (record {
+      asked = asked_by question.now;
+      expected = expected_text (map said_by lines.now);
+    })) }
+{
+    let expected = expected_by(alloc, lines)?;
+    let text = answer(alloc, question)?;
+    Ok(text == expected)
 }
 
 /// The text that is expected by the lines in front of the next vector.
@@ -134,13 +145,19 @@ fn expected_by(alloc: Global, lines: &[VectorLine<'_>]) -> Result<Vec<u8>, Alloc
     for line in lines {
         match line {
             VectorLine::Asks(_) => break,
-            VectorLine::Expects(expected) => {
-                text.extend_from_slice(expected.as_bytes())?;
-                text.push(b'\n')?;
-            }
+            VectorLine::Expects(expected) => push_line(&mut text, expected)?,
         }
     }
     Ok(text)
+}
+
+/// Appends a line, with the line feed that ends it.
+fn push_line(text: &mut Vec<u8>, line: &str) -> Result<(), AllocError>
+    ensures { OnOk result (text.new.items ≡ text.old.items ++ (line.now ++ codes "\n")) }
+{
+    text.extend_from_slice(line.as_bytes())?;
+    text.push(b'\n')?;
+    Ok(())
 }
 
 /// The text that is printed of what a vector asks for.

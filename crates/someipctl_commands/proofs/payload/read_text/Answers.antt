@@ -4,8 +4,8 @@ use Rattle.someip_payload_codec.specs.View.{form}
 use Rattle.someipctl_commands.proofs.PayloadLemmas.{fault_told}
 use Rattle.someipctl_commands.proofs.payload.read_text.Goals as goal
 
-pub returns-in_ok-map_err-in-Err : goal.returns-in_ok-map_err-in-Err
-returns-in_ok-map_err-in-Err c =
+pub returns-in_ok-writeln-in-Err : goal.returns-in_ok-writeln-in-Err
+returns-in_ok-writeln-in-Err c =
     let other : c.in-Err.fault ≢ faults.OutOfMemory = search rules in (
       c.in-Err.fault,
       other,
