@@ -18,7 +18,7 @@ pub(crate) struct Sent {
 }
 
 /// How a datagram was delivered.
-#[derive(Clone, Copy, PartialEq, Eq)]
+#[derive(Clone, Copy)]
 pub(crate) enum Fate {
     /// For the first time, and none that its sender sent after it came before.
     Arrived,

@@ -25,6 +25,9 @@ const TOP: usize = 84;
 /// The height of a row.
 const ROW_HEIGHT: usize = 20;
 
+/// How far below its top the middle of a row is.
+const ROW_MIDDLE: usize = ROW_HEIGHT / 2;
+
 /// How many letters fit beside a lane, and before the first one.
 const LETTERS: usize = 50;
 
@@ -89,7 +92,7 @@ fn row_top(row: usize) -> usize {
 
 /// The middle of a row.
 fn row_y(row: usize) -> usize {
-    row_top(row).saturating_add(ROW_HEIGHT / 2)
+    row_top(row).saturating_add(ROW_MIDDLE)
 }
 
 /// Where the text of a row stands.

@@ -98,7 +98,9 @@ fn name_of_type(kind: MessageType) -> &'static str {
 /// Whether a message is one of Service Discovery.
 fn is_discovery(message: &Message<'_>) -> bool {
     let header = &message.header;
-    header.service == 0xffff && header.method == 0x8100 && header.kind == MessageType::Notification
+    header.service == 0xffff
+        && header.method == 0x8100
+        && matches!(header.kind, MessageType::Notification)
 }
 
 /// Appends the first entry of a message of Service Discovery, and how many others there are.
