@@ -56,6 +56,11 @@ fn endpoint(host: u8, port: u16) -> SocketAddrV4 {
     SocketAddrV4::new(address(host), port)
 }
 
+/// A port of a host, if there is one.
+fn endpoint_at(host: u8, port: Option<u16>) -> Option<SocketAddrV4> {
+    Some(endpoint(host, port?))
+}
+
 fn counter(number: u8) -> Option<SubscriptionCounter> {
     SubscriptionCounter::new(number)
 }

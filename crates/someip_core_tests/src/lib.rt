@@ -1,16 +1,33 @@
-//! Tests of the cores: tables with deadlines or moments, sessions, Service Discovery at both ends, and
-//! calls and answers.
+//! Tests of what is read and written (messages, payloads, segments and their reassembly, Service Discovery
+//! messages, recordings), and of the cores: tables with deadlines or moments, sessions, Service Discovery
+//! at both ends, and calls and answers.
 //!
-//! Tests stand over the crates that they try, since a crate is proved again with its tests.
+//! Tests stand over the crates that they try, since a crate is proved again with its tests. What is tried
+//! stands in tables of plain data, since the prover reads each line of a test, and little of a table. The
+//! rows of one kind are tried by one test, which names the table of the first wrong one.
 #![tactic(auto)]
 
 #[cfg(test)]
 mod discovery;
 #[cfg(test)]
+mod payload;
+#[cfg(test)]
+mod payload_text;
+#[cfg(test)]
+mod recordings;
+#[cfg(test)]
+mod rows;
+#[cfg(test)]
 mod rpc;
+#[cfg(test)]
+mod sd;
 #[cfg(test)]
 mod session;
 #[cfg(test)]
 mod tables;
 #[cfg(test)]
 mod timed;
+#[cfg(test)]
+mod tp;
+#[cfg(test)]
+mod wire;

@@ -332,27 +332,19 @@ fn clears(core: &mut ClientCore) -> bool {
     true
 }
 
-#[test]
-fn a_call_and_its_answer(rt: HostRuntime) {
-    assert!(rt; first_wrong(rt.alloc(), ONE_CALL).is_none());
-}
+/// Tables by their names.
+const TABLES: &[(&str, &[Row])] = &[
+    ("ONE_CALL", ONE_CALL),
+    ("DROPPED", DROPPED),
+    ("WAITING", WAITING),
+    ("ROUND", ROUND),
+    ("CROWDED", CROWDED),
+];
 
 #[test]
-fn answers_that_are_dropped(rt: HostRuntime) {
-    assert!(rt; first_wrong(rt.alloc(), DROPPED).is_none());
-}
-
-#[test]
-fn a_call_times_out(rt: HostRuntime) {
-    assert!(rt; first_wrong(rt.alloc(), WAITING).is_none());
-}
-
-#[test]
-fn sessions_go_round_what_waits(rt: HostRuntime) {
-    assert!(rt; first_wrong(rt.alloc(), ROUND).is_none());
-}
-
-#[test]
-fn calls_that_are_refused(rt: HostRuntime) {
-    assert!(rt; first_wrong(rt.alloc(), CROWDED).is_none());
+fn calls_and_their_answers(rt: HostRuntime) {
+    for (name, rows) in TABLES {
+        let wrong = first_wrong(rt.alloc(), rows);
+        assert!(rt; wrong.is_none(), "{name}: {wrong:?}");
+    }
 }

@@ -1,8 +1,8 @@
 //! Rows of sessions and of peers.
+use crate::rows::is_printed;
 use sd_session::{Channel, Counter, PeerTable, Seen, SessionError, laws};
 use std::alloc::Global;
 use std::net::Ipv4Addr;
-use std::test::Fail;
 
 /// A message of host 192.168.0.n: the channel, the session, the Reboot flag, and what it shows.
 type Row = (u8, Channel, u16, bool, Result<Seen, SessionError>);
@@ -76,43 +76,24 @@ fn sessions_wrap(rt: HostRuntime) {
     laws::reboots_by_example();
 }
 
-#[test]
-fn channels_are_told_apart(rt: HostRuntime) {
-    let mut peers = PeerTable::new(rt.alloc(), 64);
-    assert!(rt; first_wrong(&mut peers, CHANNELS).is_none());
-    assert!(rt; peers.len() == 1);
-    peers.clear();
-    assert!(rt; peers.len() == 0);
-}
-
-#[test]
-fn pairs_that_are_a_reboot(rt: HostRuntime) {
-    for (session, reboot, next, flag, seen) in PAIRS {
-        let told = seen_after(rt.alloc(), (*session, *reboot), (*next, *flag));
-        assert!(rt; told == Some(*seen));
-    }
-}
-
-#[test]
-fn a_full_table_refuses_new_peers(rt: HostRuntime) {
-    let mut peers = PeerTable::new(rt.alloc(), 1);
-    assert!(rt; first_wrong(&mut peers, CROWDED).is_none());
-}
-
 const NAMES: &[(SessionError, &str)] = &[
     (SessionError::PeersFull, "PeersFull"),
     (SessionError::OutOfMemory, "out of memory"),
 ];
 
-fn is_named(alloc: Global, error: SessionError, name: &str) -> Result<bool, Fail> {
-    let text = error.to_string(alloc)?;
-    Ok(text.as_str() == name)
-}
-
 #[test]
-fn session_errors_have_names(rt: HostRuntime) -> Result<(), Fail> {
-    for (error, name) in NAMES {
-        assert!(rt; is_named(rt.alloc(), *error, name)?);
+fn peers(rt: HostRuntime) {
+    let mut peers = PeerTable::new(rt.alloc(), 64);
+    assert!(rt; first_wrong(&mut peers, CHANNELS).is_none() && peers.len() == 1);
+    peers.clear();
+    assert!(rt; peers.len() == 0);
+    let mut full = PeerTable::new(rt.alloc(), 1);
+    assert!(rt; first_wrong(&mut full, CROWDED).is_none());
+    for (session, reboot, next, flag, seen) in PAIRS {
+        let told = seen_after(rt.alloc(), (*session, *reboot), (*next, *flag));
+        assert!(rt; told == Some(*seen), "after {session}");
     }
-    Ok(())
+    for (error, name) in NAMES {
+        assert!(rt; is_printed(rt.alloc(), error, name) == Some(true), "{name}");
+    }
 }

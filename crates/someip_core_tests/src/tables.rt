@@ -11,26 +11,18 @@ use std::net::{Ipv4Addr, SocketAddrV4};
 /// The last moment, 2^63 - 1.
 const LAST: u64 = 9223372036854775807;
 
-/// The moment so many milliseconds after another one.
-fn after(millis: u64, more: u64) -> Option<Moment> {
-    Moment::new(millis)?.after(more)
-}
+/// A number of milliseconds, so many more, and the moment after them; none where there is no such moment.
+const MOMENTS: &[(u64, u64, Option<u64>)] = &[
+    (0, LAST, Some(9223372036854775807)),
+    (LAST, 0, Some(9223372036854775807)),
+    (LAST, 1, None),
+    (9223372036854775808, 0, None),
+];
 
-/// The number of a moment, if there is such a moment.
-fn number(millis: u64) -> Option<u64> {
-    Some(Moment::new(millis)?.as_millis())
-}
-
-#[test]
-fn moments(rt: HostRuntime) {
-    let last = Moment::new(LAST);
-    assert!(rt; Moment::start().as_millis() == 0);
-    assert!(rt; number(LAST) == Some(9223372036854775807));
-    assert!(rt; Moment::new(9223372036854775808).is_none());
-    assert!(rt; Moment::start().after(LAST) == last);
-    assert!(rt; after(LAST, 0) == last);
-    assert!(rt; after(LAST, 1).is_none());
-    assert!(rt; Some(Moment::start()) < last);
+/// The number of the moment so many milliseconds after another one.
+fn after(millis: u64, more: u64) -> Option<u64> {
+    let moment = Moment::new(millis)?.after(more)?;
+    Some(moment.as_millis())
 }
 
 /// A moment, a TTL in seconds, and the deadline.
@@ -60,31 +52,24 @@ fn has_passed(deadline: Deadline, millis: u64) -> Option<bool> {
 }
 
 #[test]
-fn deadlines(rt: HostRuntime) {
+fn moments_and_deadlines(rt: HostRuntime) {
+    assert!(rt; Moment::start().as_millis() == 0);
+    assert!(rt; Some(Moment::start()) < Moment::new(LAST));
+    for (millis, more, moment) in MOMENTS {
+        assert!(rt; after(*millis, *more) == *moment, "{millis} {more}");
+    }
     for (millis, ttl, until) in TTLS {
-        assert!(rt; ttl_from(*millis, *ttl) == Some(*until));
+        assert!(rt; ttl_from(*millis, *ttl) == Some(*until), "{millis} {ttl}");
     }
     assert!(rt; millis_from(5, 2000) == Some(Deadline::At(2005)));
     for (until, millis, passed) in PASSED {
-        assert!(rt; has_passed(*until, *millis) == Some(*passed));
+        assert!(rt; has_passed(*until, *millis) == Some(*passed), "{millis}");
     }
 }
 
 /// Whether one key is before another, under the bound.
 fn is_before<K: Key>(a: K, b: K) -> bool {
     a < b
-}
-
-#[test]
-fn keys(rt: HostRuntime) {
-    let address = Ipv4Addr::new(192, 168, 0, 2);
-    let low = SocketAddrV4::new(address, 39999);
-    let high = SocketAddrV4::new(address, 40001);
-    assert!(rt; is_before(low, high));
-    assert!(rt; is_same_key(&low, &low) && !is_same_key(&low, &high));
-    assert!(rt; is_before(Ipv4Addr::new(9, 0, 0, 1), Ipv4Addr::new(10, 0, 0, 0)));
-    assert!(rt; is_before((1u16, high), (2u16, low)));
-    assert!(rt; is_before(1u8, 2u8) && is_before(1u32, 2u32) && is_before(1u64, 2u64));
 }
 
 /// A call of a map from u16 to u8, and what has to come of it.
@@ -261,12 +246,24 @@ fn shows_from(map: &DeadlineMap<u16, u8>, first: u16, keys: &[u16]) -> bool {
     seen.next().is_none()
 }
 
-#[test]
-fn a_map_of_deadlines(rt: HostRuntime) {
-    assert!(rt; first_wrong(rt.alloc(), STANDING).is_none());
+/// Whether keys are in the order of their parts.
+fn are_keys_in_order() -> bool {
+    let address = Ipv4Addr::new(192, 168, 0, 2);
+    let low = SocketAddrV4::new(address, 39999);
+    let high = SocketAddrV4::new(address, 40001);
+    is_before(low, high)
+        && is_same_key(&low, &low)
+        && !is_same_key(&low, &high)
+        && is_before(Ipv4Addr::new(9, 0, 0, 1), Ipv4Addr::new(10, 0, 0, 0))
+        && is_before((1u16, high), (2u16, low))
+        && is_before(1u8, 2u8)
+        && is_before(1u32, 2u32)
+        && is_before(1u64, 2u64)
 }
 
 #[test]
-fn a_map_that_changes(rt: HostRuntime) {
+fn maps_of_deadlines(rt: HostRuntime) {
+    assert!(rt; first_wrong(rt.alloc(), STANDING).is_none());
     assert!(rt; first_wrong(rt.alloc(), CHANGING).is_none());
+    assert!(rt; are_keys_in_order());
 }

@@ -4,7 +4,7 @@ use someip_tables::{Moment, TimedMap, Waits};
 use std::alloc::{AllocError, Global};
 
 /// A number, and the moment that it waits for, if it waits.
-#[derive(Clone, Copy, Debug, PartialEq, Eq)]
+#[derive(Clone, Copy)]
 struct Waiting {
     number: u8,
     at: Option<u64>,
@@ -90,12 +90,17 @@ fn comes_out(alloc: Global, map: &mut TimedMap<u16, Waiting>, act: Act) -> Optio
     match act {
         Insert(key, number, at) => Some(map.insert(key, Waiting { number, at }).is_ok()),
         Replace(key, number, at, had) => Some(map.replace(key, Waiting { number, at }) == had),
-        Get(key, number) => Some(map.get(&key).map(|waiting| waiting.number) == number),
+        Get(key, number) => Some(number_of(map, key) == number),
         IsDue(millis, any) => Some(map.is_due(Moment::new(millis)?) == any),
         Due(millis, keys) => Some(are_keys(map.due_keys(alloc, Moment::new(millis)?), keys)),
         Shows(rows) => Some(shows(map, rows)),
         ChangeThose(_, _) | ChangeAll | Clear => Some(changes(map, act)),
     }
+}
+
+/// The number of a key.
+fn number_of(map: &TimedMap<u16, Waiting>, key: u16) -> Option<u8> {
+    Some(map.get(&key)?.number)
 }
 
 /// An act that answers nothing.

@@ -140,26 +140,6 @@ fn is_quiet(offers: &mut Offers, phases: Phases, start: u64, end: u64) -> Option
     Some(true)
 }
 
-#[test]
-fn offers_go_out_in_phases(rt: HostRuntime) {
-    assert!(rt; first_wrong(rt.alloc(), THREE, IN_PHASES).is_none());
-}
-
-#[test]
-fn offers_without_repetitions(rt: HostRuntime) {
-    assert!(rt; first_wrong(rt.alloc(), NO_REPETITIONS, CYCLIC).is_none());
-}
-
-#[test]
-fn one_late_tick_sends_one_offer(rt: HostRuntime) {
-    assert!(rt; first_wrong(rt.alloc(), THREE, LATE).is_none());
-}
-
-#[test]
-fn finds_are_answered(rt: HostRuntime) {
-    assert!(rt; first_wrong(rt.alloc(), THREE, FINDS).is_none());
-}
-
 /// What is asked for, by service, instance, major and minor version, and whether that fits the first
 /// instance in version 1.7.
 const FITS: &[(u16, u16, u8, u32, bool)] = &[
@@ -186,7 +166,11 @@ fn fits(service: u16, instance: u16, major: u8, minor: u32) -> bool {
 }
 
 #[test]
-fn any_values_one_by_one(rt: HostRuntime) {
+fn offers(rt: HostRuntime) {
+    assert!(rt; first_wrong(rt.alloc(), THREE, IN_PHASES).is_none());
+    assert!(rt; first_wrong(rt.alloc(), NO_REPETITIONS, CYCLIC).is_none());
+    assert!(rt; first_wrong(rt.alloc(), THREE, LATE).is_none());
+    assert!(rt; first_wrong(rt.alloc(), THREE, FINDS).is_none());
     for (service, instance, major, minor, fit) in FITS {
         assert!(rt; fits(*service, *instance, *major, *minor) == *fit);
     }

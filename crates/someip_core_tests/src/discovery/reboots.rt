@@ -97,14 +97,23 @@ fn first_unheard(
     None
 }
 
+/// Whether what was learned from the server that begins again ends, and nothing else.
+fn ends_alone(
+    peers: &mut PeerTable,
+    seeker: &mut Seeker,
+    subscriptions: &mut Subscriptions,
+) -> bool {
+    wants(seeker, subscriptions, FIRST)
+        && wants(seeker, subscriptions, SECOND)
+        && first_unheard(peers, seeker, subscriptions).is_none()
+        && seeker.known(FIRST, Moment::start()).is_none()
+        && seeker.known(SECOND, Moment::start()).is_some()
+}
+
 #[test]
 fn a_reboot_ends_what_was_learned_from_that_server(rt: HostRuntime) {
     let mut peers = PeerTable::new(rt.alloc(), 64);
     let mut seeker = Seeker::new(rt.alloc());
     let mut subscriptions = Subscriptions::new(rt.alloc());
-    assert!(rt; wants(&mut seeker, &mut subscriptions, FIRST));
-    assert!(rt; wants(&mut seeker, &mut subscriptions, SECOND));
-    assert!(rt; first_unheard(&mut peers, &mut seeker, &mut subscriptions).is_none());
-    assert!(rt; seeker.known(FIRST, Moment::start()).is_none());
-    assert!(rt; seeker.known(SECOND, Moment::start()).is_some());
+    assert!(rt; ends_alone(&mut peers, &mut seeker, &mut subscriptions));
 }

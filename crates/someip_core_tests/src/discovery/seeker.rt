@@ -1,5 +1,7 @@
 //! Rows of finds and of offers that are known.
-use super::{FIRST, NO_REPETITIONS, SECOND, THIRD, THREE, address, are_instances, endpoint};
+use super::{
+    FIRST, NO_REPETITIONS, SECOND, THIRD, THREE, address, are_instances, endpoint, endpoint_at,
+};
 use Act::{Add, Known, Offer, QuietUntil, Reboot, Start, Stop, Tick};
 use sd_core::{Counted, InstanceId, KnownOffer, Phases, ReceivedOffer, Seeker, Ticked, Uncounted};
 use sd_wire::Ttl;
@@ -319,7 +321,7 @@ fn received(offered: Offered) -> Option<ReceivedOffer> {
         instance: offered.instance,
         major: offered.major,
         ttl: Ttl::new(offered.ttl)?,
-        endpoint: offered.port.map(|port| endpoint(1, port)),
+        endpoint: endpoint_at(1, offered.port),
         peer: address(offered.by),
     })
 }
@@ -333,41 +335,13 @@ fn known_at(known: Option<(u8, u16)>) -> Option<KnownOffer> {
 }
 
 #[test]
-fn finds_go_out_in_the_repetition_phase(rt: HostRuntime) {
+fn finds_and_known_offers(rt: HostRuntime) {
     assert!(rt; first_wrong(rt.alloc(), THREE, IN_PHASES).is_none());
-}
-
-#[test]
-fn finds_end_when_an_offer_is_known(rt: HostRuntime) {
     assert!(rt; first_wrong(rt.alloc(), THREE, FOUND).is_none());
-}
-
-#[test]
-fn one_late_tick_sends_one_find(rt: HostRuntime) {
     assert!(rt; first_wrong(rt.alloc(), THREE, LATE).is_none());
-}
-
-#[test]
-fn finds_without_repetitions(rt: HostRuntime) {
     assert!(rt; first_wrong(rt.alloc(), NO_REPETITIONS, ONCE).is_none());
-}
-
-#[test]
-fn offers_count_or_do_not(rt: HostRuntime) {
     assert!(rt; first_wrong(rt.alloc(), THREE, COUNTED).is_none());
-}
-
-#[test]
-fn an_offer_passes_at_its_moment(rt: HostRuntime) {
     assert!(rt; first_wrong(rt.alloc(), THREE, PASSING).is_none());
-}
-
-#[test]
-fn a_stop_offer_ends_an_offer(rt: HostRuntime) {
     assert!(rt; first_wrong(rt.alloc(), THREE, STOPPED).is_none());
-}
-
-#[test]
-fn offers_end_together(rt: HostRuntime) {
     assert!(rt; first_wrong(rt.alloc(), THREE, TOGETHER).is_none());
 }

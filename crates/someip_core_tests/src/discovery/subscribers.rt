@@ -1,5 +1,6 @@
 //! Rows of subscriptions at their server.
-use super::{FIRST, SECOND, address, counter, endpoint};
+use super::{FIRST, SECOND, address, counter, endpoint, endpoint_at};
+use crate::rows::is_printed;
 use Act::{Clear, IsLive, Live, Reboot, Stop, StopOffer, Subscribe, Tick};
 use sd_core::{
     Cause, InstanceId, Subscribe as Request, SubscribeError, SubscribeRules, Subscribers,
@@ -11,7 +12,6 @@ use someip_tables::Moment;
 use std::alloc::{AllocError, Global};
 use std::collections::BTreeSet;
 use std::net::SocketAddrV4;
-use std::test::Fail;
 
 /// What a host asks for. Its endpoint is a port of its own.
 #[derive(Clone, Copy)]
@@ -87,14 +87,45 @@ const BESIDE: Asked = Asked {
 
 const FULL: Result<(), SubscribeError> = Err(SubscribeError::Nack(Cause::Full));
 
-/// A TTL in seconds, a moment, and how many endpoints are live then of a subscription that began at 0.
-const LASTING: &[(u32, u64, usize)] = &[
-    (3, 2999, 1),
-    (3, 3000, 0),
-    (0xff_ffff, 3000, 1),
-    (0xff_ffff, 9223372036854775807, 1),
-    (0xff_fffe, 16_777_213_999, 1),
-    (0xff_fffe, 16_777_214_000, 0),
+/// A subscription for 3 seconds.
+const SHORT: &[Row] = &[
+    (0, Subscribe(ONE, ASKED, Ok(()))),
+    (2999, Live(&[1], &[(2, 40001)])),
+    (3000, Live(&[1], &[])),
+];
+
+/// One until the next reboot.
+const UNTIL_REBOOT: &[Row] = &[
+    (
+        0,
+        Subscribe(
+            ONE,
+            Asked {
+                ttl: 0xff_ffff,
+                ..ASKED
+            },
+            Ok(()),
+        ),
+    ),
+    (3000, Live(&[1], &[(2, 40001)])),
+    (9223372036854775807, Live(&[1], &[(2, 40001)])),
+];
+
+/// One for as long as can be told.
+const LONGEST: &[Row] = &[
+    (
+        0,
+        Subscribe(
+            ONE,
+            Asked {
+                ttl: 0xff_fffe,
+                ..ASKED
+            },
+            Ok(()),
+        ),
+    ),
+    (16_777_213_999, Live(&[1], &[(2, 40001)])),
+    (16_777_214_000, Live(&[1], &[])),
 ];
 
 /// Two hosts, of which one may be subscribed at a time.
@@ -291,7 +322,7 @@ fn request(asked: Asked) -> Option<Request> {
         instance: asked.instance,
         eventgroup: asked.eventgroup,
         peer: address(asked.host),
-        endpoint: asked.port.map(|port| endpoint(asked.host, port)),
+        endpoint: endpoint_at(asked.host, asked.port),
         counter: counter(asked.counter)?,
         ttl: Ttl::new(asked.ttl)?,
     })
@@ -345,54 +376,6 @@ fn takes_all(endpoints: &mut BTreeSet<SocketAddrV4>, ports: &[(u8, u16)]) -> boo
     endpoints.is_empty()
 }
 
-/// How many endpoints are live at a moment of a subscription with this TTL that began at 0.
-fn live_at(alloc: Global, ttl: u32, millis: u64) -> Option<usize> {
-    let mut subscribers = Subscribers::new(alloc);
-    left_of(&mut subscribers, Asked { ttl, ..ASKED }, millis)
-}
-
-fn left_of(subscribers: &mut Subscribers, asked: Asked, millis: u64) -> Option<usize> {
-    if comes_out(subscribers, 0, Subscribe(ONE, asked, Ok(()))) == Some(true) {
-        count(subscribers.live(FIRST, &[1], Moment::new(millis)?))
-    } else {
-        None
-    }
-}
-
-fn count(live: Result<BTreeSet<SocketAddrV4>, AllocError>) -> Option<usize> {
-    match live {
-        Ok(endpoints) => Some(endpoints.len()),
-        Err(_) => None,
-    }
-}
-
-#[test]
-fn subscriptions_last_for_their_ttl(rt: HostRuntime) {
-    for (ttl, millis, live) in LASTING {
-        assert!(rt; live_at(rt.alloc(), *ttl, *millis) == Some(*live));
-    }
-}
-
-#[test]
-fn an_eventgroup_is_full(rt: HostRuntime) {
-    assert!(rt; first_wrong(rt.alloc(), CROWDED).is_none());
-}
-
-#[test]
-fn the_first_cause_is_told(rt: HostRuntime) {
-    assert!(rt; first_wrong(rt.alloc(), REFUSED).is_none());
-}
-
-#[test]
-fn endpoints_are_told_once_and_in_order(rt: HostRuntime) {
-    assert!(rt; first_wrong(rt.alloc(), ENDPOINTS).is_none());
-}
-
-#[test]
-fn subscriptions_end(rt: HostRuntime) {
-    assert!(rt; first_wrong(rt.alloc(), ENDING).is_none());
-}
-
 /// The number of the first message that shows something else of its host, or that the server does not take
 /// as it has to.
 fn first_unheard(peers: &mut PeerTable, subscribers: &mut Subscribers) -> Option<usize> {
@@ -403,14 +386,6 @@ fn first_unheard(peers: &mut PeerTable, subscribers: &mut Subscribers) -> Option
         }
     }
     None
-}
-
-#[test]
-fn a_reboot_ends_what_came_from_that_peer(rt: HostRuntime) {
-    let mut peers = PeerTable::new(rt.alloc(), 64);
-    let mut subscribers = Subscribers::new(rt.alloc());
-    assert!(rt; first_unheard(&mut peers, &mut subscribers).is_none());
-    assert!(rt; comes_out(&mut subscribers, 0, Live(&[1], &[(3, 40001)])) == Some(true));
 }
 
 const NAMES: &[(SubscribeError, &str)] = &[
@@ -425,15 +400,32 @@ const NAMES: &[(SubscribeError, &str)] = &[
     (SubscribeError::OutOfMemory, "out of memory"),
 ];
 
-fn is_named(alloc: Global, error: SubscribeError, name: &str) -> Result<bool, Fail> {
-    let text = error.to_string(alloc)?;
-    Ok(text.as_str() == name)
+/// Tables by their names.
+const TABLES: &[(&str, &[Row])] = &[
+    ("SHORT", SHORT),
+    ("UNTIL_REBOOT", UNTIL_REBOOT),
+    ("LONGEST", LONGEST),
+    ("CROWDED", CROWDED),
+    ("REFUSED", REFUSED),
+    ("ENDPOINTS", ENDPOINTS),
+    ("ENDING", ENDING),
+];
+
+#[test]
+fn subscriptions_at_a_server(rt: HostRuntime) {
+    for (name, rows) in TABLES {
+        let wrong = first_wrong(rt.alloc(), rows);
+        assert!(rt; wrong.is_none(), "{name}: {wrong:?}");
+    }
+    for (error, name) in NAMES {
+        assert!(rt; is_printed(rt.alloc(), error, name) == Some(true), "{name}");
+    }
 }
 
 #[test]
-fn causes_have_names(rt: HostRuntime) -> Result<(), Fail> {
-    for (error, name) in NAMES {
-        assert!(rt; is_named(rt.alloc(), *error, name)?);
-    }
-    Ok(())
+fn a_reboot_ends_what_came_from_that_peer(rt: HostRuntime) {
+    let mut peers = PeerTable::new(rt.alloc(), 64);
+    let mut subscribers = Subscribers::new(rt.alloc());
+    assert!(rt; first_unheard(&mut peers, &mut subscribers).is_none());
+    assert!(rt; comes_out(&mut subscribers, 0, Live(&[1], &[(3, 40001)])) == Some(true));
 }

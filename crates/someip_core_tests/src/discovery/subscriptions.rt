@@ -7,6 +7,7 @@ use sd_core::{
 use sd_wire::{SubscriptionCounter, Ttl};
 use someip_tables::{Deadline, Moment};
 use std::alloc::{AllocError, Global};
+use std::net::Ipv4Addr;
 
 /// What a host says of an eventgroup.
 #[derive(Clone, Copy)]
@@ -85,21 +86,76 @@ const ANEW: &[Row] = &[
 ];
 
 /// Answers each of which is another one in one part.
-const OTHERS: &[Said] = &[
-    Said { counter: 1, ..GOOD },
-    Said { host: 9, ..GOOD },
-    Said {
-        has_wanted_major: false,
-        ..GOOD
-    },
-    Said {
-        eventgroup: SECOND_GROUP,
-        ..GOOD
-    },
-    Said {
-        eventgroup: OF_SECOND,
-        ..GOOD
-    },
+const OTHERS: &[Row] = &[
+    (0, Want(GROUP, Some(1), Some(0))),
+    (100, Ack(Said { counter: 1, ..GOOD }, 5, Acked::NotPending)),
+    (100, Nack(Said { counter: 1, ..GOOD }, false)),
+    (100, Ack(Said { host: 9, ..GOOD }, 5, Acked::NotPending)),
+    (100, Nack(Said { host: 9, ..GOOD }, false)),
+    (
+        100,
+        Ack(
+            Said {
+                has_wanted_major: false,
+                ..GOOD
+            },
+            5,
+            Acked::NotPending,
+        ),
+    ),
+    (
+        100,
+        Nack(
+            Said {
+                has_wanted_major: false,
+                ..GOOD
+            },
+            false,
+        ),
+    ),
+    (
+        100,
+        Ack(
+            Said {
+                eventgroup: SECOND_GROUP,
+                ..GOOD
+            },
+            5,
+            Acked::NotPending,
+        ),
+    ),
+    (
+        100,
+        Nack(
+            Said {
+                eventgroup: SECOND_GROUP,
+                ..GOOD
+            },
+            false,
+        ),
+    ),
+    (
+        100,
+        Ack(
+            Said {
+                eventgroup: OF_SECOND,
+                ..GOOD
+            },
+            5,
+            Acked::NotPending,
+        ),
+    ),
+    (
+        100,
+        Nack(
+            Said {
+                eventgroup: OF_SECOND,
+                ..GOOD
+            },
+            false,
+        ),
+    ),
+    (100, IsSubscribed(GROUP, false)),
 ];
 
 /// Acks that come one after the other.
@@ -215,7 +271,12 @@ fn wants(
     sent: Option<u8>,
 ) -> Option<bool> {
     let wanted = counter_of(sent)?;
-    Some(subscriptions.want(eventgroup, host.map(address), now) == Ok(wanted))
+    Some(subscriptions.want(eventgroup, address_at(host), now) == Ok(wanted))
+}
+
+/// The address of a host, if there is one.
+fn address_at(host: Option<u8>) -> Option<Ipv4Addr> {
+    Some(address(host?))
 }
 
 /// The counter with this number, if there is a number; none where there is no such counter.
@@ -304,50 +365,22 @@ fn takes_turns(subscriptions: &mut Subscriptions) -> bool {
     true
 }
 
+/// Tables by their names.
+const TABLES: &[(&str, &[Row])] = &[
+    ("OTHERS", OTHERS),
+    ("LATEST", LATEST),
+    ("OFFERED", OFFERED),
+    ("ENDING", ENDING),
+    ("TAKEN_BACK", TAKEN_BACK),
+];
+
 #[test]
-fn counters_go_on(rt: HostRuntime) {
+fn subscriptions_of_a_client(rt: HostRuntime) {
     let mut subscriptions = Subscriptions::new(rt.alloc());
     assert!(rt; takes_turns(&mut subscriptions));
     assert!(rt; first_wrong_of(&mut subscriptions, ANEW).is_none());
-}
-
-/// Whether an answer is none to what stands.
-fn is_not_pending(subscriptions: &mut Subscriptions, other: Said) -> bool {
-    let rows = [
-        (100, Ack(other, 5, Acked::NotPending)),
-        (100, Nack(other, false)),
-    ];
-    first_wrong_of(subscriptions, &rows).is_none()
-}
-
-#[test]
-fn acks_are_compared(rt: HostRuntime) {
-    let mut subscriptions = Subscriptions::new(rt.alloc());
-    let wish = Want(GROUP, Some(1), Some(0));
-    assert!(rt; comes_out(&mut subscriptions, 0, wish) == Some(true));
-    for other in OTHERS {
-        assert!(rt; is_not_pending(&mut subscriptions, *other));
+    for (name, rows) in TABLES {
+        let wrong = first_wrong(rt.alloc(), rows);
+        assert!(rt; wrong.is_none(), "{name}: {wrong:?}");
     }
-    let none = IsSubscribed(GROUP, false);
-    assert!(rt; comes_out(&mut subscriptions, 100, none) == Some(true));
-}
-
-#[test]
-fn the_latest_ack_decides(rt: HostRuntime) {
-    assert!(rt; first_wrong(rt.alloc(), LATEST).is_none());
-}
-
-#[test]
-fn offers_begin_and_renew(rt: HostRuntime) {
-    assert!(rt; first_wrong(rt.alloc(), OFFERED).is_none());
-}
-
-#[test]
-fn subscriptions_end(rt: HostRuntime) {
-    assert!(rt; first_wrong(rt.alloc(), ENDING).is_none());
-}
-
-#[test]
-fn a_wish_is_taken_back(rt: HostRuntime) {
-    assert!(rt; first_wrong(rt.alloc(), TAKEN_BACK).is_none());
 }

@@ -1,15 +1,13 @@
 //! Rows of events.
 use super::LONG;
 use super::acts::Act::{self, Clear, MayPublish, Publish, PublishMany, PublishTo};
-use super::acts::first_wrong;
 use someip_rpc::RpcError;
-use std::test::Fail;
 
 /// A live subscriber of the eventgroup 0001.
 const HERE: (u16, bool) = (1, true);
 
 /// Publications until the sessions wrap, and a new start.
-const COUNTED: &[Act] = &[
+pub(super) const COUNTED: &[Act] = &[
     Publish(true, 0x8001, &[0x2a], Ok(1)),
     PublishTo(true, HERE, 0x8001, &[], Ok(2)),
     PublishMany(65533),
@@ -19,7 +17,7 @@ const COUNTED: &[Act] = &[
 ];
 
 /// Publications that have every cause from one on, and the first that takes a session.
-const REFUSED: &[Act] = &[
+pub(super) const REFUSED: &[Act] = &[
     MayPublish(false, 0x8002, 1401, Err(RpcError::NotOffered)),
     Publish(false, 0x8002, LONG, Err(RpcError::NotOffered)),
     PublishTo(false, HERE, 0x8002, LONG, Err(RpcError::NotOffered)),
@@ -35,15 +33,3 @@ const REFUSED: &[Act] = &[
     MayPublish(true, 0x8001, 1400, Ok(())),
     Publish(true, 0x8001, &[], Ok(1)),
 ];
-
-#[test]
-fn an_event_counts_its_sessions(rt: HostRuntime) -> Result<(), Fail> {
-    assert!(rt; first_wrong(rt.alloc(), COUNTED)?.is_none());
-    Ok(())
-}
-
-#[test]
-fn events_that_are_refused(rt: HostRuntime) -> Result<(), Fail> {
-    assert!(rt; first_wrong(rt.alloc(), REFUSED)?.is_none());
-    Ok(())
-}

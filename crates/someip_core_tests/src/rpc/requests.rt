@@ -1,7 +1,7 @@
 //! Rows of requests, and of their answers.
 use super::acts::Act::{self, Answer, Arrive, ArriveMany, Clear, Open};
 use super::acts::{Becomes, REQUEST, first_wrong, service};
-use super::{KEY, LONG, REFUSED, call, client, rules, server};
+use super::{KEY, LONG, REFUSED, call, client, events, rules, server};
 use someip_rpc::{
     Arrived, CallKind, ClientCore, Outgoing, Reply, RequestFault, RpcError, ServerCore,
 };
@@ -196,33 +196,23 @@ const CROWDED: &[Act] = &[
     Arrive(true, REQUEST, Becomes::Request(1)),
 ];
 
-#[test]
-fn a_request_and_its_answer(rt: HostRuntime) -> Result<(), Fail> {
-    assert!(rt; first_wrong(rt.alloc(), ANSWERED)?.is_none());
-    Ok(())
-}
+/// Tables by their names; those of events stand in a file of their own.
+const TABLES: &[(&str, &[Act])] = &[
+    ("ANSWERED", ANSWERED),
+    ("UNANSWERED", UNANSWERED),
+    ("FAULTY", FAULTY),
+    ("DROPPED", DROPPED),
+    ("CROWDED", CROWDED),
+    ("events::COUNTED", events::COUNTED),
+    ("events::REFUSED", events::REFUSED),
+];
 
 #[test]
-fn answers_that_are_refused(rt: HostRuntime) -> Result<(), Fail> {
-    assert!(rt; first_wrong(rt.alloc(), UNANSWERED)?.is_none());
-    Ok(())
-}
-
-#[test]
-fn requests_that_are_refused(rt: HostRuntime) -> Result<(), Fail> {
-    assert!(rt; first_wrong(rt.alloc(), FAULTY)?.is_none());
-    Ok(())
-}
-
-#[test]
-fn messages_that_are_dropped(rt: HostRuntime) -> Result<(), Fail> {
-    assert!(rt; first_wrong(rt.alloc(), DROPPED)?.is_none());
-    Ok(())
-}
-
-#[test]
-fn open_requests_fill_up(rt: HostRuntime) -> Result<(), Fail> {
-    assert!(rt; first_wrong(rt.alloc(), CROWDED)?.is_none());
+fn requests_and_events(rt: HostRuntime) -> Result<(), Fail> {
+    for (name, acts) in TABLES {
+        let wrong = first_wrong(rt.alloc(), acts)?;
+        assert!(rt; wrong.is_none(), "{name}: {wrong:?}");
+    }
     Ok(())
 }
 

@@ -1,0 +1,25 @@
+//! The rows of recordings: what is read from files, and from the packets in them.
+use crate::rows::check;
+use recording::laws;
+
+mod errors;
+mod files;
+mod items;
+mod packets;
+mod pcap;
+mod pcapng;
+
+#[test]
+fn recordings(rt: HostRuntime) {
+    check(&rt, rt.alloc(), "PACKETS", packets::PACKETS);
+    check(&rt, rt.alloc(), "pcap FILES", pcap::FILES);
+    check(&rt, rt.alloc(), "pcapng FILES", pcapng::FILES);
+    check(&rt, rt.alloc(), "PRINTED", errors::PRINTED);
+}
+
+#[test]
+fn laws_hold() {
+    laws::worked_recordings();
+    laws::each_recording_is_read_in_one_way();
+    laws::a_packet_gives_the_datagram_that_it_carries();
+}
