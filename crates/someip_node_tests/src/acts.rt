@@ -4,9 +4,8 @@ use someip_node::{Node, NodeError, Output};
 use someip_rpc::{CallKind, Reply};
 use someip_tp::IntervalPool;
 use std::alloc::Global;
-use std::fmt::Write;
+use std::fmt::Display;
 use std::net::{Ipv4Addr, SocketAddrV4};
-use std::test::Fail;
 
 /// A host, where 0 is the multicast group and n the address 192.168.0.n, and a port.
 #[derive(Clone, Copy)]
@@ -31,8 +30,8 @@ pub(crate) enum Act {
     Datagram(Port, Port, &'static str),
     /// So many milliseconds pass.
     Tick(u64),
-    /// It is asked when a tick next gives something.
-    NextDue,
+    /// It is asked in how many milliseconds a tick next gives something, and answers this.
+    NextDue(Option<u64>),
     /// A method of an instance is called.
     Call(CallKind, InstanceId, u16, &'static str),
     /// The request under a token is answered.
@@ -51,6 +50,55 @@ pub(crate) enum Act {
     Restart(u32),
 }
 
+impl Act {
+    /// The datagram or the payload, in hex.
+    fn hex(self) -> &'static str {
+        match self {
+            Act::Datagram(_, _, hex)
+            | Act::Call(_, _, _, hex)
+            | Act::Answer(_, _, hex)
+            | Act::Publish(_, _, hex)
+            | Act::PublishTo(_, _, _, hex) => hex,
+            _ => "",
+        }
+    }
+
+    /// What a node answers, where the datagram or the payload is these bytes.
+    fn outputs(
+        self,
+        alloc: Global,
+        node: &mut Node<IntervalPool>,
+        bytes: &[u8],
+    ) -> Result<Vec<Output>, NodeError> {
+        match self {
+            Act::Datagram(from, to, _) => node.on_datagram(from.endpoint(), to.endpoint(), bytes),
+            Act::Tick(ms) => node.tick(ms),
+            Act::NextDue(_) => Ok(Vec::new(alloc)),
+            Act::Call(kind, of, method, _) => node.call(kind, of, method, bytes),
+            Act::Answer(token, reply, _) => node.answer(token, reply, bytes),
+            Act::Publish(of, event, _) => node.publish(of, event, bytes),
+            Act::PublishTo(of, to, event, _) => {
+                node.publish_to(of.instance, of.id, to.endpoint(), event, bytes)
+            }
+            Act::Subscribe(eventgroup) => node.subscribe(eventgroup),
+            Act::Unsubscribe(eventgroup) => node.unsubscribe(eventgroup),
+            Act::StopOffer(instance) => node.stop_offer(instance),
+            Act::Restart(delay) => restarted(alloc, node, delay),
+        }
+    }
+}
+
+fn restarted(
+    alloc: Global,
+    node: &mut Node<IntervalPool>,
+    delay: u32,
+) -> Result<Vec<Output>, NodeError> {
+    match node.restart(delay) {
+        Ok(()) => Ok(Vec::new(alloc)),
+        Err(refusal) => Err(refusal),
+    }
+}
+
 /// What is done, and the lines that the node gives for it.
 pub(crate) type Row = (Act, &'static str);
 
@@ -59,159 +107,53 @@ pub(crate) fn first_wrong(
     alloc: Global,
     node: &mut Node<IntervalPool>,
     rows: &[Row],
-) -> Result<Option<usize>, Fail> {
+) -> Option<usize> {
     for (index, (act, lines)) in rows.iter().enumerate() {
-        if given(alloc, node, *act)?.as_str() != *lines {
-            return Ok(Some(index));
+        if comes_out(alloc, node, *act, lines) != Some(true) {
+            return Some(index);
         }
     }
-    Ok(None)
+    None
 }
 
-/// The lines that a node gives for what is done to it. Each call of a node has a function of its own below:
-/// so the prover meets one call at a time.
-pub(crate) fn given(
+/// Whether a node gives these lines for what is done to it; none where memory is wanting, or the hex is
+/// none.
+pub(crate) fn comes_out(
     alloc: Global,
     node: &mut Node<IntervalPool>,
     act: Act,
-) -> Result<String, Fail> {
-    match act {
-        Act::Datagram(from, to, bytes) => on_datagram(alloc, node, from, to, bytes),
-        Act::Tick(ms) => tick(alloc, node, ms),
-        Act::NextDue => next_due(alloc, node),
-        Act::Call(kind, of, method, payload) => call(alloc, node, kind, of, method, payload),
-        Act::Answer(token, reply, payload) => answer(alloc, node, token, reply, payload),
-        Act::Publish(of, event, payload) => publish(alloc, node, of, event, payload),
-        Act::PublishTo(of, to, event, payload) => publish_to(alloc, node, of, to, event, payload),
-        Act::Subscribe(eventgroup) => subscribe(alloc, node, eventgroup),
-        Act::Unsubscribe(eventgroup) => unsubscribe(alloc, node, eventgroup),
-        Act::StopOffer(instance) => stop_offer(alloc, node, instance),
-        Act::Restart(delay) => restart(alloc, node, delay),
+    lines: &str,
+) -> Option<bool> {
+    if let Act::NextDue(due) = act {
+        return Some(node.next_due() == due);
+    }
+    let bytes = hex::decode(alloc, act.hex()).ok()?;
+    Some(is_told(alloc, &act.outputs(alloc, node, &bytes), lines))
+}
+
+/// Whether an answer is told by these lines: those of the outputs, or the name of the refusal.
+pub(crate) fn is_told(alloc: Global, answer: &Result<Vec<Output>, NodeError>, lines: &str) -> bool {
+    match answer {
+        Ok(outputs) => rest_after_all(alloc, outputs, lines) == Some(""),
+        Err(refusal) => match lines.strip_prefix("refused ") {
+            Some(line) => rest_after(alloc, refusal, line) == Some(""),
+            None => false,
+        },
     }
 }
 
-fn on_datagram(
-    alloc: Global,
-    node: &mut Node<IntervalPool>,
-    from: Port,
-    to: Port,
-    bytes: &str,
-) -> Result<String, Fail> {
-    let bytes = hex::decode(alloc, bytes)?;
-    lines_of(
-        alloc,
-        node.on_datagram(from.endpoint(), to.endpoint(), &bytes),
-    )
-}
-
-fn tick(alloc: Global, node: &mut Node<IntervalPool>, ms: u64) -> Result<String, Fail> {
-    lines_of(alloc, node.tick(ms))
-}
-
-fn next_due(alloc: Global, node: &Node<IntervalPool>) -> Result<String, Fail> {
-    let mut text = String::new(alloc);
-    match node.next_due() {
-        Some(ms) => writeln!(text, "due {ms}")?,
-        None => writeln!(text, "due -")?,
-    }
-    Ok(text)
-}
-
-fn call(
-    alloc: Global,
-    node: &mut Node<IntervalPool>,
-    kind: CallKind,
-    instance: InstanceId,
-    method: u16,
-    payload: &str,
-) -> Result<String, Fail> {
-    let payload = hex::decode(alloc, payload)?;
-    lines_of(alloc, node.call(kind, instance, method, &payload))
-}
-
-fn answer(
-    alloc: Global,
-    node: &mut Node<IntervalPool>,
-    token: u64,
-    reply: Reply,
-    payload: &str,
-) -> Result<String, Fail> {
-    let payload = hex::decode(alloc, payload)?;
-    lines_of(alloc, node.answer(token, reply, &payload))
-}
-
-fn publish(
-    alloc: Global,
-    node: &mut Node<IntervalPool>,
-    instance: InstanceId,
-    event: u16,
-    payload: &str,
-) -> Result<String, Fail> {
-    let payload = hex::decode(alloc, payload)?;
-    lines_of(alloc, node.publish(instance, event, &payload))
-}
-
-fn publish_to(
-    alloc: Global,
-    node: &mut Node<IntervalPool>,
-    of: Eventgroup,
-    to: Port,
-    event: u16,
-    payload: &str,
-) -> Result<String, Fail> {
-    let payload = hex::decode(alloc, payload)?;
-    let outputs = node.publish_to(of.instance, of.id, to.endpoint(), event, &payload);
-    lines_of(alloc, outputs)
-}
-
-fn subscribe(
-    alloc: Global,
-    node: &mut Node<IntervalPool>,
-    eventgroup: Eventgroup,
-) -> Result<String, Fail> {
-    lines_of(alloc, node.subscribe(eventgroup))
-}
-
-fn unsubscribe(
-    alloc: Global,
-    node: &mut Node<IntervalPool>,
-    eventgroup: Eventgroup,
-) -> Result<String, Fail> {
-    lines_of(alloc, node.unsubscribe(eventgroup))
-}
-
-fn stop_offer(
-    alloc: Global,
-    node: &mut Node<IntervalPool>,
-    instance: InstanceId,
-) -> Result<String, Fail> {
-    lines_of(alloc, node.stop_offer(instance))
-}
-
-fn restart(alloc: Global, node: &mut Node<IntervalPool>, delay: u32) -> Result<String, Fail> {
-    let mut text = String::new(alloc);
-    if let Err(refusal) = node.restart(delay) {
-        writeln!(text, "refused {refusal}")?;
-    }
-    Ok(text)
-}
-
-/// The lines of what a node gives, or the name of its refusal.
-pub(crate) fn lines_of(
-    alloc: Global,
-    outputs: Result<Vec<Output>, NodeError>,
-) -> Result<String, Fail> {
-    let mut text = String::new(alloc);
-    match outputs {
-        Ok(outputs) => write_lines(&mut text, &outputs)?,
-        Err(refusal) => writeln!(text, "refused {refusal}")?,
-    }
-    Ok(text)
-}
-
-fn write_lines(text: &mut String, outputs: &[Output]) -> Result<(), Fail> {
+/// The lines behind those of all these outputs, if theirs come first.
+fn rest_after_all<'a>(alloc: Global, outputs: &[Output], lines: &'a str) -> Option<&'a str> {
+    let mut rest = lines;
     for output in outputs {
-        writeln!(text, "{output}")?;
+        rest = rest_after(alloc, output, rest)?;
     }
-    Ok(())
+    Some(rest)
+}
+
+/// The lines behind the line of this, if that comes first.
+fn rest_after<'a, D: Display>(alloc: Global, told: &D, lines: &'a str) -> Option<&'a str> {
+    let line = told.to_string(alloc).ok()?;
+    let rest = lines.strip_prefix(line.as_str())?;
+    rest.strip_prefix('\n')
 }

@@ -7,7 +7,6 @@ use someip_node::{Common, Config, Node, NodeError};
 use someip_tp::IntervalPool;
 use std::alloc::Global;
 use std::net::SocketAddrV4;
-use std::test::Fail;
 
 /// What is other than usual in a start of a node.
 #[derive(Clone, Copy)]
@@ -112,14 +111,19 @@ const CLOCK: &[Row] = &[
 ];
 
 /// The number of the first of these starts that ends otherwise.
-fn first_wrong_start(alloc: Global, rows: &[(Start, Refusal)]) -> Result<Option<usize>, Fail> {
+fn first_wrong_start(alloc: Global, rows: &[(Start, Refusal)]) -> Option<usize> {
     for (index, (start, expected)) in rows.iter().enumerate() {
-        let refused = refusal(alloc, changed_config(alloc, *start)?, delay_of(*start));
-        if refused != *expected {
-            return Ok(Some(index));
+        if refusal_of(alloc, *start) != Some(*expected) {
+            return Some(index);
         }
     }
-    Ok(None)
+    None
+}
+
+/// Why a start is refused, if it is; none where its configuration cannot be made.
+fn refusal_of(alloc: Global, start: Start) -> Option<Refusal> {
+    let config = changed_config(alloc, start)?;
+    Some(refusal(alloc, config, delay_of(start)))
 }
 
 /// Why a node is not started.
@@ -138,37 +142,42 @@ fn delay_of(start: Start) -> u32 {
 }
 
 /// The configuration of a start.
-fn changed_config(alloc: Global, start: Start) -> Result<Config, Fail> {
+fn changed_config(alloc: Global, start: Start) -> Option<Config> {
+    let mut config = config_of(alloc, setup_of(start))?;
+    change(&mut config, start);
+    Some(config)
+}
+
+/// The setup of a start.
+fn setup_of(start: Start) -> &'static str {
     match start {
-        Start::Delay(_) => config_of(alloc, OFFERS),
-        Start::Port(port) => Ok(with_port(config_of(alloc, OFFERS)?, 1, port)),
-        Start::SecondPort(port) => Ok(with_port(config_of(alloc, OFFERS_TWO)?, 2, port)),
-        other => Ok(client_with(config_of(alloc, WANTS)?, other)),
+        Start::Delay(_) | Start::Port(_) => OFFERS,
+        Start::SecondPort(_) => OFFERS_TWO,
+        _ => WANTS,
     }
 }
 
-/// The configuration with another port of this instance.
-fn with_port(config: Config, instance: u16, port: u16) -> Config {
-    let mut changed = config;
+/// Changes what is other than usual.
+fn change(config: &mut Config, start: Start) {
+    match start {
+        Start::Delay(_) => {}
+        Start::Port(port) => change_port(config, 1, port),
+        Start::SecondPort(port) => change_port(config, 2, port),
+        Start::ClientPort(port) => config.client_port = port,
+        Start::AddressOfGroup => config.address = config.common.group,
+        shared => config.common = changed_common(config.common, shared),
+    }
+}
+
+/// Changes the port of this instance.
+fn change_port(config: &mut Config, instance: u16, port: u16) {
     let place = InstanceId {
         service: 0x1111,
         instance,
     };
-    if let Some(offer) = changed.offers.get_mut(&place) {
+    if let Some(offer) = config.offers.get_mut(&place) {
         offer.rules.endpoint = SocketAddrV4::new(*offer.rules.endpoint.ip(), port);
     }
-    changed
-}
-
-/// The configuration with another value.
-fn client_with(config: Config, value: Start) -> Config {
-    let mut changed = config;
-    match value {
-        Start::ClientPort(port) => changed.client_port = port,
-        Start::AddressOfGroup => changed.address = changed.common.group,
-        shared => changed.common = changed_common(changed.common, shared),
-    }
-    changed
 }
 
 /// The values that all nodes share, with another one.
@@ -186,32 +195,11 @@ fn changed_common(common: Common, value: Start) -> Common {
     changed
 }
 
-/// Whether all these starts end as they say.
-fn starts_end(alloc: Global, rows: &[(Start, Refusal)]) -> Result<bool, Fail> {
-    Ok(first_wrong_start(alloc, rows)?.is_none())
-}
-
 #[test]
-fn delays_are_judged(rt: HostRuntime) -> Result<(), Fail> {
-    assert!(rt; starts_end(rt.alloc(), DELAYS)?);
-    assert!(rt; gives(rt.alloc(), OFFERS, RESTARTS)?);
-    Ok(())
-}
-
-#[test]
-fn the_clock_has_a_bound(rt: HostRuntime) -> Result<(), Fail> {
-    assert!(rt; gives(rt.alloc(), OFFERS, CLOCK)?);
-    Ok(())
-}
-
-#[test]
-fn ports_are_judged(rt: HostRuntime) -> Result<(), Fail> {
-    assert!(rt; starts_end(rt.alloc(), PORTS)?);
-    Ok(())
-}
-
-#[test]
-fn values_outside_their_range_are_refused(rt: HostRuntime) -> Result<(), Fail> {
-    assert!(rt; starts_end(rt.alloc(), VALUES)?);
-    Ok(())
+fn starts_that_are_judged(rt: HostRuntime) {
+    assert!(rt; first_wrong_start(rt.alloc(), DELAYS).is_none());
+    assert!(rt; first_wrong_start(rt.alloc(), PORTS).is_none());
+    assert!(rt; first_wrong_start(rt.alloc(), VALUES).is_none());
+    assert!(rt; gives(rt.alloc(), OFFERS, RESTARTS));
+    assert!(rt; gives(rt.alloc(), OFFERS, CLOCK));
 }

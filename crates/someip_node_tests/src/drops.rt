@@ -2,7 +2,6 @@
 use crate::acts::Act::{Datagram, Tick};
 use crate::acts::{Port, Row};
 use crate::nodes::{CLIENT, NARROW, SD_OF_ALL, SD_OF_CLIENT, SD_OF_SERVER, SERVER, WANTS, gives};
-use std::test::Fail;
 
 /// Datagrams to the instance.
 const TO_INSTANCE: &[Row] = &[
@@ -285,31 +284,10 @@ const OFFERS: &[Row] = &[
 ];
 
 #[test]
-fn messages_to_an_instance_that_are_dropped(rt: HostRuntime) -> Result<(), Fail> {
-    assert!(rt; gives(rt.alloc(), NARROW, TO_INSTANCE)?);
-    Ok(())
-}
-
-#[test]
-fn messages_to_a_client_that_are_dropped(rt: HostRuntime) -> Result<(), Fail> {
-    assert!(rt; gives(rt.alloc(), NARROW, TO_CLIENT)?);
-    Ok(())
-}
-
-#[test]
-fn messages_of_discovery_that_are_dropped(rt: HostRuntime) -> Result<(), Fail> {
-    assert!(rt; gives(rt.alloc(), NARROW, TO_DISCOVERY)?);
-    Ok(())
-}
-
-#[test]
-fn datagrams_that_are_dropped(rt: HostRuntime) -> Result<(), Fail> {
-    assert!(rt; gives(rt.alloc(), NARROW, ASTRAY)?);
-    Ok(())
-}
-
-#[test]
-fn an_offer_of_another_peer_is_dropped(rt: HostRuntime) -> Result<(), Fail> {
-    assert!(rt; gives(rt.alloc(), WANTS, OFFERS)?);
-    Ok(())
+fn drops(rt: HostRuntime) {
+    assert!(rt; gives(rt.alloc(), NARROW, TO_INSTANCE));
+    assert!(rt; gives(rt.alloc(), NARROW, TO_CLIENT));
+    assert!(rt; gives(rt.alloc(), NARROW, TO_DISCOVERY));
+    assert!(rt; gives(rt.alloc(), NARROW, ASTRAY));
+    assert!(rt; gives(rt.alloc(), WANTS, OFFERS));
 }

@@ -1,12 +1,11 @@
 //! Two nodes in one process, whose datagrams are carried by hand. docs/EMBEDDING.md shows this text.
-use crate::acts::lines_of;
+use crate::acts::is_told;
 use crate::nodes::{INSTANCE, OFFERS, WANTS, started};
 use someip_node::{Node, NodeError, Output};
 use someip_rpc::{CallKind, Reply};
 use someip_tp::IntervalPool;
 use someip_wire::ReturnCode;
 use std::alloc::Global;
-use std::test::Fail;
 
 /// Carries the datagrams among some outputs to a node, and answers what that gives.
 fn carry(
@@ -78,26 +77,24 @@ fn run(
     }
 }
 
-/// The lines of that. Each node has a function that owns it, since a function that has to drop two takes
-/// the prover far longer.
-fn last_lines(alloc: Global) -> Result<String, Fail> {
-    let mut server = started(alloc, OFFERS)?;
-    last_lines_with(alloc, &mut server)
+/// Whether that is told by these lines. Each node has a function that owns it, since a function that has to
+/// drop two takes the prover far longer.
+fn last_is(alloc: Global, lines: &str) -> bool {
+    match started(alloc, OFFERS) {
+        Some(mut server) => last_with_is(alloc, &mut server, lines),
+        None => false,
+    }
 }
 
 /// The same with this server.
-fn last_lines_with(alloc: Global, server: &mut Node<IntervalPool>) -> Result<String, Fail> {
-    let mut client = started(alloc, WANTS)?;
-    lines_of(alloc, run(alloc, server, &mut client))
-}
-
-/// Whether these are those lines.
-fn last_is(alloc: Global, lines: &str) -> Result<bool, Fail> {
-    Ok(last_lines(alloc)?.as_str() == lines)
+fn last_with_is(alloc: Global, server: &mut Node<IntervalPool>, lines: &str) -> bool {
+    match started(alloc, WANTS) {
+        Some(mut client) => is_told(alloc, &run(alloc, server, &mut client), lines),
+        None => false,
+    }
 }
 
 #[test]
-fn two_nodes_in_one_process(rt: HostRuntime) -> Result<(), Fail> {
-    assert!(rt; last_is(rt.alloc(), "answer 1111.0421 0001 00 03\n")?);
-    Ok(())
+fn two_nodes_in_one_process(rt: HostRuntime) {
+    assert!(rt; last_is(rt.alloc(), "answer 1111.0421 0001 00 03\n"));
 }

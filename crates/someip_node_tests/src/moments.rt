@@ -6,7 +6,6 @@ use crate::nodes::{
 };
 use sd_core::{Eventgroup, InstanceId};
 use someip_rpc::CallKind;
-use std::test::Fail;
 
 /// Another instance, which is wanted.
 const OTHER: InstanceId = InstanceId {
@@ -131,25 +130,9 @@ const WAITING: &[Row] = &[
 ];
 
 #[test]
-fn calls_end_before_offers_and_subscriptions(rt: HostRuntime) -> Result<(), Fail> {
-    assert!(rt; gives(rt.alloc(), OFFERS_AND_WANTS, AT_ONCE)?);
-    Ok(())
-}
-
-#[test]
-fn offers_go_out_in_phases(rt: HostRuntime) -> Result<(), Fail> {
-    assert!(rt; gives(rt.alloc(), OFFERS, PHASES)?);
-    Ok(())
-}
-
-#[test]
-fn a_late_tick_sends_one_offer(rt: HostRuntime) -> Result<(), Fail> {
-    assert!(rt; gives(rt.alloc(), OFFERS, LATE)?);
-    Ok(())
-}
-
-#[test]
-fn a_call_times_out_at_its_deadline(rt: HostRuntime) -> Result<(), Fail> {
-    assert!(rt; gives(rt.alloc(), WANTS, WAITING)?);
-    Ok(())
+fn moments_in_order(rt: HostRuntime) {
+    assert!(rt; gives(rt.alloc(), OFFERS_AND_WANTS, AT_ONCE));
+    assert!(rt; gives(rt.alloc(), OFFERS, PHASES));
+    assert!(rt; gives(rt.alloc(), OFFERS, LATE));
+    assert!(rt; gives(rt.alloc(), WANTS, WAITING));
 }

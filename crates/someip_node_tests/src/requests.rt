@@ -1,13 +1,12 @@
 //! Requests and their answers.
 use crate::acts::Act::{Answer, Call, Datagram, Publish, PublishTo, StopOffer};
-use crate::acts::{Row, first_wrong, given};
+use crate::acts::{Row, first_wrong};
 use crate::nodes::{CLIENT, EVENTGROUP, INSTANCE, OFFERS, SERVER, gives, started};
 use someip_node::Node;
 use someip_rpc::{CallKind, Reply};
 use someip_tp::IntervalPool;
 use someip_wire::ReturnCode;
 use std::alloc::Global;
-use std::test::Fail;
 
 /// A request of the method 0421.
 const REQUEST: &str = "11110421000000080102000101010000";
@@ -106,42 +105,39 @@ const ONE_MORE: &[Row] = &[(
     "sent 192.168.0.1:30509 192.168.0.2:40001 11110421000000080102000101018104\n",
 )];
 
-/// Lets so many requests come.
-fn ask(alloc: Global, node: &mut Node<IntervalPool>, times: usize) -> Result<(), Fail> {
+/// Lets so many requests come: whether each is handed up.
+fn are_taken(node: &mut Node<IntervalPool>, times: usize) -> bool {
     for _ in 0..times {
-        given(alloc, node, Datagram(CLIENT, SERVER, REQUEST))?;
+        if !is_taken(node) {
+            return false;
+        }
     }
-    Ok(())
+    true
+}
+
+/// Whether one request comes and is handed up.
+fn is_taken(node: &mut Node<IntervalPool>) -> bool {
+    let bytes = [0x11, 0x11, 0x04, 0x21, 0, 0, 0, 8, 1, 2, 0, 1, 1, 1, 0, 0];
+    match node.on_datagram(CLIENT.endpoint(), SERVER.endpoint(), &bytes) {
+        Ok(outputs) => outputs.len() == 1,
+        Err(_) => false,
+    }
+}
+
+/// Whether the node that offers gives the lines of these rows while 1024 requests are open.
+fn gives_while_full(alloc: Global, rows: &[Row]) -> bool {
+    match started(alloc, OFFERS) {
+        Some(mut node) => {
+            are_taken(&mut node, 1024) && first_wrong(alloc, &mut node, rows).is_none()
+        }
+        None => false,
+    }
 }
 
 #[test]
-fn requests_are_taken(rt: HostRuntime) -> Result<(), Fail> {
-    assert!(rt; gives(rt.alloc(), OFFERS, ASKED)?);
-    Ok(())
-}
-
-#[test]
-fn requests_are_answered(rt: HostRuntime) -> Result<(), Fail> {
-    assert!(rt; gives(rt.alloc(), OFFERS, ANSWERED)?);
-    Ok(())
-}
-
-#[test]
-fn an_instance_that_is_down_keeps_its_port(rt: HostRuntime) -> Result<(), Fail> {
-    assert!(rt; gives(rt.alloc(), OFFERS, DOWN)?);
-    Ok(())
-}
-
-/// The number of the first of these rows for which the node that offers gives other lines, while 1024
-/// requests are open.
-fn first_wrong_of_full(alloc: Global, rows: &[Row]) -> Result<Option<usize>, Fail> {
-    let mut node = started(alloc, OFFERS)?;
-    ask(alloc, &mut node, 1024)?;
-    first_wrong(alloc, &mut node, rows)
-}
-
-#[test]
-fn the_1025th_open_request_is_not_ready(rt: HostRuntime) -> Result<(), Fail> {
-    assert!(rt; first_wrong_of_full(rt.alloc(), ONE_MORE)?.is_none());
-    Ok(())
+fn requests_and_their_answers(rt: HostRuntime) {
+    assert!(rt; gives(rt.alloc(), OFFERS, ASKED));
+    assert!(rt; gives(rt.alloc(), OFFERS, ANSWERED));
+    assert!(rt; gives(rt.alloc(), OFFERS, DOWN));
+    assert!(rt; gives_while_full(rt.alloc(), ONE_MORE));
 }

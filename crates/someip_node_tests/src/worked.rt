@@ -8,7 +8,6 @@ use crate::nodes::{
 use sd_core::Eventgroup;
 use someip_rpc::{CallKind, Reply};
 use someip_wire::ReturnCode;
-use std::test::Fail;
 
 /// The Offer of the server.
 const OFFER: &str =
@@ -104,13 +103,7 @@ const AT_CLIENT: &[Row] = &[
 ];
 
 #[test]
-fn the_server_of_the_worked_run(rt: HostRuntime) -> Result<(), Fail> {
-    assert!(rt; gives(rt.alloc(), OFFERS, AT_SERVER)?);
-    Ok(())
-}
-
-#[test]
-fn the_client_of_the_worked_run(rt: HostRuntime) -> Result<(), Fail> {
-    assert!(rt; gives(rt.alloc(), WANTS, AT_CLIENT)?);
-    Ok(())
+fn the_worked_run(rt: HostRuntime) {
+    assert!(rt; gives(rt.alloc(), OFFERS, AT_SERVER));
+    assert!(rt; gives(rt.alloc(), WANTS, AT_CLIENT));
 }

@@ -5,7 +5,6 @@ use someip_c_node::{CNode, Endpoint, Outcome, OutputRecord, started};
 use someip_rpc::{CallKind, Reply};
 use someip_wire::ReturnCode;
 use std::alloc::Global;
-use std::test::Fail;
 
 /// A server with a method and an event, and its client.
 const PAIR: &[u8] = b"group = \"239.0.0.1\"
@@ -80,19 +79,33 @@ fn carry(node: &mut CNode, other: &mut CNode) -> Outcome {
     }
 }
 
-/// The server offers, and the client calls its method: the kinds of what each gives, and the answer.
-fn call(server: &mut CNode, client: &mut CNode) -> Result<OutputRecord, Outcome> {
-    let mut buffer = [0; 16];
+/// The server offers, and the client comes to know of it.
+fn offer(server: &mut CNode, client: &mut CNode) -> Result<OutputRecord, Outcome> {
     done(server.tick(10))?;
     done(carry(server, client))?;
-    taken(client, &mut buffer)?;
+    taken(client, &mut [0; 16])
+}
+
+/// The client calls its method: the request that the server is told of.
+fn request(server: &mut CNode, client: &mut CNode) -> Result<OutputRecord, Outcome> {
     done(client.call(CallKind::Request, INSTANCE, 0x0421, &[1, 2]))?;
-    taken(client, &mut buffer)?;
+    taken(client, &mut [0; 16])?;
     done(carry(client, server))?;
-    let request = taken(server, &mut buffer)?;
-    done(server.answer(request.token, Reply::Response(ReturnCode::E_OK), &[3]))?;
+    taken(server, &mut [0; 16])
+}
+
+/// The server answers the request under a token: what the client is told.
+fn answer(server: &mut CNode, client: &mut CNode, token: u64) -> Result<OutputRecord, Outcome> {
+    done(server.answer(token, Reply::Response(ReturnCode::E_OK), &[3]))?;
     done(carry(server, client))?;
-    taken(client, &mut buffer)
+    taken(client, &mut [0; 16])
+}
+
+/// The server offers, and the client calls its method: what the client is told last.
+fn call(server: &mut CNode, client: &mut CNode) -> Result<OutputRecord, Outcome> {
+    offer(server, client)?;
+    let told = request(server, client)?;
+    answer(server, client, told.token)
 }
 
 /// Whether it was done.
@@ -116,53 +129,54 @@ fn answered(alloc: Global) -> Result<OutputRecord, Outcome> {
     answered_by(alloc, &mut server)
 }
 
-#[test]
-fn a_call_is_answered(rt: HostRuntime) -> Result<(), Fail> {
-    let answer = answered(rt.alloc());
-    assert!(rt;
-        answer
-            == Ok(OutputRecord {
-                kind: 4,
-                payload_length: 1,
-                service: 0x1111,
-                member: 0x0421,
-                session: 1,
-                ..NOTHING
-            })
-    );
-    Ok(())
+/// Whether the client is told of the answer last.
+fn is_answered(alloc: Global) -> bool {
+    let answer = OutputRecord {
+        kind: 4,
+        payload_length: 1,
+        service: 0x1111,
+        member: 0x0421,
+        session: 1,
+        ..NOTHING
+    };
+    answered(alloc) == Ok(answer)
 }
 
-/// What taking an output comes to where the buffer has three bytes.
-fn small_take(node: &mut CNode) -> Outcome {
+/// What taking an output comes to where the buffer has so many bytes.
+fn take_into(node: &mut CNode, buffer: &mut [u8]) -> Outcome {
     let mut record = NOTHING;
-    node.take(&mut record, &mut [0; 3])
+    node.take(&mut record, buffer)
 }
 
 /// What a server answers to a call before its outputs are taken, to a buffer that is too small, and last.
-fn refusals(alloc: Global) -> Result<[Outcome; 4], Outcome> {
-    let mut server = started(alloc, PAIR, b"server", 10)?;
+fn refusals_of(server: &mut CNode) -> [Outcome; 6] {
     let mut buffer = [0; 1500];
-    let early = server.tick(9);
-    done(server.tick(1))?;
-    let waiting = server.stop_offer(INSTANCE);
-    let small = small_take(&mut server);
-    taken(&mut server, &mut buffer)?;
-    let mut record = NOTHING;
-    let last = server.take(&mut record, &mut buffer);
-    Ok([early, waiting, small, last])
+    [
+        server.tick(9),
+        server.tick(1),
+        server.stop_offer(INSTANCE),
+        take_into(server, &mut [0; 3]),
+        take_into(server, &mut buffer),
+        take_into(server, &mut buffer),
+    ]
+}
+
+/// The same of a server at its start.
+fn refusals(alloc: Global) -> Result<[Outcome; 6], Outcome> {
+    let mut server = started(alloc, PAIR, b"server", 10)?;
+    Ok(refusals_of(&mut server))
 }
 
 #[test]
-fn outputs_wait_until_they_are_taken(rt: HostRuntime) -> Result<(), Fail> {
-    let told = refusals(rt.alloc());
-    assert!(rt;
-        told == Ok([
-            Outcome::Done,
-            Outcome::OutputsWait,
-            Outcome::BufferTooSmall,
-            Outcome::NothingLeft,
-        ])
-    );
-    Ok(())
+fn nodes_are_carried_by_hand(rt: HostRuntime) {
+    assert!(rt; is_answered(rt.alloc()));
+    let wanted = [
+        Outcome::Done,
+        Outcome::Done,
+        Outcome::OutputsWait,
+        Outcome::BufferTooSmall,
+        Outcome::Done,
+        Outcome::NothingLeft,
+    ];
+    assert!(rt; refusals(rt.alloc()) == Ok(wanted));
 }

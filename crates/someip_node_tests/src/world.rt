@@ -1,0 +1,68 @@
+//! Short runs over two nodes. Traces as they are printed are tested with the command `run`.
+use someip_node::Output;
+use someip_tp::SegmentList;
+use someip_world::{Line, RunError, Setup, StepFault, Told, Trace, read_schedule, run};
+use std::alloc::Global;
+
+/// A node that offers an instance, and one that wants it.
+const TWO: &str = "group = \"239.0.0.1\"
+[[node]]
+name = \"a\"
+address = \"192.168.0.1\"
+client_id = 0x0101
+client_port = 40000
+[[node.offer]]
+service = 0x1111
+instance = 1
+major = 1
+ttl = 3
+port = 30509
+[[node]]
+name = \"b\"
+address = \"192.168.0.2\"
+client_id = 0x0102
+client_port = 40001
+[[node.want]]
+service = 0x1111
+instance = 1
+major = 1
+ttl = 3
+";
+
+/// What a schedule over the two nodes comes to, if both can be read.
+fn ran(alloc: Global, schedule: &str) -> Option<Result<Trace, RunError>> {
+    let setup = Setup::read(alloc, TWO).ok()?;
+    ran_over(alloc, &setup, schedule)
+}
+
+fn ran_over(alloc: Global, setup: &Setup, schedule: &str) -> Option<Result<Trace, RunError>> {
+    let steps = read_schedule(alloc, schedule.as_bytes()).ok()?;
+    Some(run::<SegmentList>(alloc, setup, &steps))
+}
+
+/// Whether a line tells in a step, of a node, that an offer is known.
+fn is_known(line: &Line, step: usize, node: usize) -> bool {
+    line.step == step && line.node == node && matches!(&line.told, Told::Gave(Output::Known { .. }))
+}
+
+/// Whether a run has two lines, of which the second tells that the offer is known.
+fn finds_the_offer(alloc: Global) -> bool {
+    match ran(alloc, "tick a 10\ndeliver 1 b\n") {
+        Some(Ok(trace)) => trace.lines.len() == 2 && is_known(&trace.lines[1], 2, 1),
+        _ => false,
+    }
+}
+
+/// Whether the first bad step of a run is named.
+fn names_the_bad_step(alloc: Global) -> bool {
+    match ran(alloc, "tick a 10\ndeliver 2 b\n") {
+        Some(Err(error)) => error == RunError::BadStep(2, StepFault::NoSuchDatagram),
+        _ => false,
+    }
+}
+
+#[test]
+fn short_runs(rt: HostRuntime) {
+    assert!(rt; finds_the_offer(rt.alloc()));
+    assert!(rt; names_the_bad_step(rt.alloc()));
+}
