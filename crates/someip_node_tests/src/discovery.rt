@@ -1,15 +1,12 @@
 //! Messages of Service Discovery: bad runs, Finds, reboots, and many replies.
-use crate::acts::Act::{Answer, Call, Datagram, Publish, PublishTo, Subscribe, Tick};
-use crate::acts::{Port, Row};
+use crate::acts::Act::{Answer, Call, Datagram, Publish, PublishTo, Repeated, Subscribe, Tick};
+use crate::acts::{Port, Repeats, Row};
 use crate::nodes::{
     CLIENT, EVENTGROUP, INSTANCE, OFFERS, SD_OF_ALL, SD_OF_CLIENT, SD_OF_SERVER, SERVER, WANTS,
-    gives, started,
+    gives,
 };
-use someip_node::{Node, Output};
 use someip_rpc::{CallKind, Reply};
-use someip_tp::IntervalPool;
 use someip_wire::ReturnCode;
-use std::alloc::{AllocError, Global};
 
 /// A Subscribe with a bad run.
 const BAD_RUN: &[Row] = &[(
@@ -298,52 +295,21 @@ const REQUEST_STAYS: &[Row] = &[
     ),
 ];
 
-/// The front of a message with 87 Subscribes, each of them, and what follows: one endpoint.
-const MANY_FRONT: &str = "ffff8100000005900000000101010200c000000000000570";
-
-const ONE_OF_MANY: &str = "06000010111100010100000300000001";
-
-const MANY_END: &str = "0000000c00090400c0a8000200119c41";
-
-/// The text of the message, in hex.
-fn many_subscribes(alloc: Global) -> Result<String, AllocError> {
-    let mut text = String::from_str(alloc, MANY_FRONT)?;
-    for _ in 0..87 {
-        text.push_str(ONE_OF_MANY)?;
-    }
-    text.push_str(MANY_END)?;
-    Ok(text)
-}
-
-/// How many datagrams are among some outputs.
-fn count_sent(outputs: &[Output]) -> usize {
-    let mut count = 0usize;
-    for output in outputs {
-        if matches!(output, Output::Sent { .. }) {
-            count = count.saturating_add(1);
-        }
-    }
-    count
-}
-
-/// How many outputs the node that offers gives for it, and how many of them are datagrams.
-fn many_replies(alloc: Global) -> Option<(usize, usize)> {
-    let text = many_subscribes(alloc).ok()?;
-    let bytes = hex::decode(alloc, text.as_str()).ok()?;
-    replies_to(alloc, &bytes)
-}
-
-fn replies_to(alloc: Global, bytes: &[u8]) -> Option<(usize, usize)> {
-    let mut node = started(alloc, OFFERS)?;
-    counts(&mut node, bytes)
-}
-
-fn counts(node: &mut Node<IntervalPool>, bytes: &[u8]) -> Option<(usize, usize)> {
-    match node.on_datagram(SD_OF_CLIENT.endpoint(), SD_OF_SERVER.endpoint(), bytes) {
-        Ok(outputs) => Some((outputs.len(), count_sent(&outputs))),
-        Err(_) => None,
-    }
-}
+/// A message with 87 Subscribes of one endpoint: its replies go in two messages.
+const MANY: &[Row] = &[(
+    Repeated(
+        SD_OF_CLIENT,
+        SD_OF_SERVER,
+        Repeats {
+            front: "ffff8100000005900000000101010200c000000000000570",
+            part: "06000010111100010100000300000001",
+            times: 87,
+            end: "0000000c00090400c0a8000200119c41",
+        },
+        (89, 2),
+    ),
+    "",
+)];
 
 #[test]
 fn messages_of_discovery(rt: HostRuntime) {
@@ -359,5 +325,5 @@ fn messages_of_discovery(rt: HostRuntime) {
     assert!(rt; gives(rt.alloc(), WANTS, SEVERAL_ENDPOINTS));
     assert!(rt; gives(rt.alloc(), WANTS, CALL_STAYS));
     assert!(rt; gives(rt.alloc(), OFFERS, REQUEST_STAYS));
-    assert!(rt; many_replies(rt.alloc()) == Some((89, 2)));
+    assert!(rt; gives(rt.alloc(), OFFERS, MANY));
 }

@@ -1,12 +1,9 @@
 //! Requests and their answers.
-use crate::acts::Act::{Answer, Call, Datagram, Publish, PublishTo, StopOffer};
-use crate::acts::{Row, first_wrong};
-use crate::nodes::{CLIENT, EVENTGROUP, INSTANCE, OFFERS, SERVER, gives, started};
-use someip_node::Node;
+use crate::acts::Act::{Answer, Call, Datagram, Often, Publish, PublishTo, StopOffer};
+use crate::acts::Row;
+use crate::nodes::{CLIENT, EVENTGROUP, INSTANCE, OFFERS, SERVER, gives};
 use someip_rpc::{CallKind, Reply};
-use someip_tp::IntervalPool;
 use someip_wire::ReturnCode;
-use std::alloc::Global;
 
 /// A request of the method 0421.
 const REQUEST: &str = "11110421000000080102000101010000";
@@ -100,44 +97,18 @@ const DOWN: &[Row] = &[
 ];
 
 /// A request while 1024 are open.
-const ONE_MORE: &[Row] = &[(
-    Datagram(CLIENT, SERVER, REQUEST),
-    "sent 192.168.0.1:30509 192.168.0.2:40001 11110421000000080102000101018104\n",
-)];
-
-/// Lets so many requests come: whether each is handed up.
-fn are_taken(node: &mut Node<IntervalPool>, times: usize) -> bool {
-    for _ in 0..times {
-        if !is_taken(node) {
-            return false;
-        }
-    }
-    true
-}
-
-/// Whether one request comes and is handed up.
-fn is_taken(node: &mut Node<IntervalPool>) -> bool {
-    let bytes = [0x11, 0x11, 0x04, 0x21, 0, 0, 0, 8, 1, 2, 0, 1, 1, 1, 0, 0];
-    match node.on_datagram(CLIENT.endpoint(), SERVER.endpoint(), &bytes) {
-        Ok(outputs) => outputs.len() == 1,
-        Err(_) => false,
-    }
-}
-
-/// Whether the node that offers gives the lines of these rows while 1024 requests are open.
-fn gives_while_full(alloc: Global, rows: &[Row]) -> bool {
-    match started(alloc, OFFERS) {
-        Some(mut node) => {
-            are_taken(&mut node, 1024) && first_wrong(alloc, &mut node, rows).is_none()
-        }
-        None => false,
-    }
-}
+const ONE_MORE: &[Row] = &[
+    (Often(1024, CLIENT, SERVER, REQUEST), ""),
+    (
+        Datagram(CLIENT, SERVER, REQUEST),
+        "sent 192.168.0.1:30509 192.168.0.2:40001 11110421000000080102000101018104\n",
+    ),
+];
 
 #[test]
 fn requests_and_their_answers(rt: HostRuntime) {
     assert!(rt; gives(rt.alloc(), OFFERS, ASKED));
     assert!(rt; gives(rt.alloc(), OFFERS, ANSWERED));
     assert!(rt; gives(rt.alloc(), OFFERS, DOWN));
-    assert!(rt; gives_while_full(rt.alloc(), ONE_MORE));
+    assert!(rt; gives(rt.alloc(), OFFERS, ONE_MORE));
 }
