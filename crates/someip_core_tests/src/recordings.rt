@@ -10,10 +10,22 @@ mod pcap;
 mod pcapng;
 
 #[test]
-fn recordings(rt: HostRuntime) {
+fn packets_give_datagrams(rt: HostRuntime) {
     check(&rt, rt.alloc(), "PACKETS", packets::PACKETS);
+}
+
+#[test]
+fn classic_files(rt: HostRuntime) {
     check(&rt, rt.alloc(), "pcap FILES", pcap::FILES);
+}
+
+#[test]
+fn block_files(rt: HostRuntime) {
     check(&rt, rt.alloc(), "pcapng FILES", pcapng::FILES);
+}
+
+#[test]
+fn errors_are_printed(rt: HostRuntime) {
     check(&rt, rt.alloc(), "PRINTED", errors::PRINTED);
 }
 
