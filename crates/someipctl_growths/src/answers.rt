@@ -32,22 +32,27 @@ impl Answers {
 
     /// Ends the text of an answer.
     pub(crate) fn close(&mut self) -> fmt::Result {
-        if self.ends.len() == MOST {
-            return Err(fmt::Error);
-        }
         let end = self.text.len();
-        self.ends.push(end).map_err(|_| fmt::Error)
+        if self.ends.len() < MOST && self.ends.push(end).is_ok() {
+            Ok(())
+        } else {
+            Err(fmt::Error)
+        }
     }
 
-    /// How many texts have ended.
-    pub(crate) fn len(&self) -> usize {
-        self.ends.len()
+    /// The text of the answer that has not ended yet.
+    pub(crate) fn last(&self) -> &[u8] {
+        let start = match self.ends.last() {
+            Some(end) => *end,
+            None => 0,
+        };
+        self.text.get(start..).unwrap_or(&[])
     }
 
     /// The text of an answer, if it has ended.
-    pub(crate) fn get(&self, index: usize) -> Option<&[u8]> {
-        let end = *self.ends.get(index)?;
-        let start = match index.checked_sub(1) {
+    pub(crate) fn get(&self, place: usize) -> Option<&[u8]> {
+        let end = *self.ends.get(place)?;
+        let start = match place.checked_sub(1) {
             Some(before) => *self.ends.get(before)?,
             None => 0,
         };
@@ -57,11 +62,11 @@ impl Answers {
 
 impl fmt::Write for Answers {
     fn write_str(&mut self, text: &str) -> fmt::Result {
-        if ROOM.saturating_sub(self.text.len()) < text.len() {
-            return Err(fmt::Error);
+        let has_room = ROOM.saturating_sub(self.text.len()) >= text.len();
+        if has_room && self.text.extend_from_slice(text.as_bytes()).is_ok() {
+            Ok(())
+        } else {
+            Err(fmt::Error)
         }
-        self.text
-            .extend_from_slice(text.as_bytes())
-            .map_err(|_| fmt::Error)
     }
 }

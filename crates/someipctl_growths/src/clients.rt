@@ -1,16 +1,16 @@
 //! The calls of a client, and their answers.
 use crate::answers::Answers;
 use crate::sweep::Subject;
-use crate::told::{Told, Trouble, tell, tell_value};
+use crate::tables::timed;
+use crate::told::{Trouble, tell, tell_value};
 use Act::{Answered, Call, Clear, Pending, Tick};
 use someip_rpc::{Call as Called, CallKind, ClientCore, ClientRules, MessageId};
-use someip_tables::Moment;
 use someip_wire::{Header, MessageType, ReturnCode};
 use std::alloc::{AllocError, Global};
 use std::net::{Ipv4Addr, SocketAddrV4};
 
 /// What is done with a client. Its message limit is 1400, and a call waits for 2 seconds.
-#[derive(Clone, Copy, Debug)]
+#[derive(Clone, Copy)]
 pub(crate) enum Act {
     /// A method is called with a payload of so many bytes, while its service is offered or not.
     Call(CallKind, u16, usize, bool),
@@ -57,42 +57,6 @@ const WITHOUT_MEMORY: usize = 12;
 /// What each payload is a front of.
 const PAYLOAD: &[u8] = &[7; 1401];
 
-#[derive(Drop)]
-pub(crate) struct ClientSubject(ClientCore);
-
-impl ClientSubject {
-    fn act_at(&mut self, now: Moment, act: Act, answers: &mut Answers) -> Result<Told, Trouble> {
-        match act {
-            Call(kind, method, len, is_offered) => {
-                self.call(now, call(kind, method), len, is_offered, answers)
-            }
-            Answered(method, session) => {
-                let header = answer(method, session);
-                tell_value(answers, &self.0.on_answer(&rules(), server(), &header, now))
-            }
-            Tick => tell(answers, &self.0.tick(now)),
-            Pending => tell_value(answers, &self.0.pending_calls()),
-            Clear => {
-                self.0.clear();
-                Ok(Told::Answered)
-            }
-        }
-    }
-
-    fn call(
-        &mut self,
-        now: Moment,
-        call: Called,
-        len: usize,
-        is_offered: bool,
-        answers: &mut Answers,
-    ) -> Result<Told, Trouble> {
-        let payload = PAYLOAD.get(..len).unwrap_or(PAYLOAD);
-        let offer = is_offered.then_some(server());
-        tell(answers, &self.0.call(&rules(), call, payload, offer, now))
-    }
-}
-
 fn server() -> SocketAddrV4 {
     SocketAddrV4::new(Ipv4Addr::new(192, 168, 0, 1), 30509)
 }
@@ -130,25 +94,38 @@ fn answer(method: u16, session: u16) -> Header {
     }
 }
 
-impl Subject for ClientSubject {
-    type Act = (u64, Act);
+impl Subject for ClientCore {
+    const ACTS: usize = ACTS.len();
 
-    fn make(alloc: Global) -> Result<ClientSubject, AllocError> {
-        Ok(ClientSubject(ClientCore::new(alloc)))
+    const WITHOUT_MEMORY: usize = WITHOUT_MEMORY;
+
+    fn make(alloc: Global) -> Result<ClientCore, AllocError> {
+        Ok(ClientCore::new(alloc))
     }
 
-    fn acts() -> &'static [(u64, Act)] {
-        ACTS
-    }
-
-    fn without_memory() -> usize {
-        WITHOUT_MEMORY
-    }
-
-    fn act(&mut self, act: (u64, Act), answers: &mut Answers) -> Result<Told, Trouble> {
-        match Moment::new(act.0) {
-            Some(now) => self.act_at(now, act.1, answers),
-            None => tell_value(answers, &"no moment"),
+    fn perform(&mut self, place: usize, answers: &mut Answers) -> Result<(), Trouble> {
+        let Some((now, act)) = timed(ACTS, place) else {
+            return tell_value(answers, &"no act");
+        };
+        match act {
+            Call(kind, method, len, is_offered) => {
+                let payload = PAYLOAD.get(..len).unwrap_or(PAYLOAD);
+                let offer = if is_offered { Some(server()) } else { None };
+                tell(
+                    answers,
+                    &self.call(&rules(), call(kind, method), payload, offer, now),
+                )
+            }
+            Answered(method, session) => {
+                let header = answer(method, session);
+                tell_value(answers, &self.on_answer(&rules(), server(), &header, now))
+            }
+            Tick => tell(answers, &self.tick(now)),
+            Pending => tell_value(answers, &self.pending_calls()),
+            Clear => {
+                self.clear();
+                Ok(())
+            }
         }
     }
 }

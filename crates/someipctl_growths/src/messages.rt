@@ -1,13 +1,13 @@
 //! Messages of Service Discovery.
 use crate::answers::Answers;
 use crate::sweep::Subject;
-use crate::told::{Told, Trouble, tell, tell_value};
+use crate::told::{Trouble, tell, tell_value};
 use Act::{Bytes, Read, Split, Write};
 use sd_wire::{Entry, ReadEntry, SdFlags, SdMessage, read_sd, split_entries, write_sd};
 use std::alloc::{AllocError, Global};
 
 /// What is done with entries, and with the bytes that they are written to.
-#[derive(Clone, Copy, Debug)]
+#[derive(Clone, Copy)]
 pub(crate) enum Act {
     /// A message is read from these bytes.
     Read(&'static [u8]),
@@ -82,7 +82,7 @@ fn append_good(entries: &mut Vec<Entry>, read: Vec<ReadEntry>) -> Result<(), All
 }
 
 impl Messages {
-    fn write(&mut self, answers: &mut Answers) -> Result<Told, Trouble> {
+    fn write(&mut self, answers: &mut Answers) -> Result<(), Trouble> {
         if self.entries.len() > 65535 {
             return tell_value(answers, &"too many entries");
         }
@@ -100,7 +100,9 @@ impl Messages {
 }
 
 impl Subject for Messages {
-    type Act = Act;
+    const ACTS: usize = ACTS.len();
+
+    const WITHOUT_MEMORY: usize = 0;
 
     fn make(alloc: Global) -> Result<Messages, AllocError> {
         Ok(Messages {
@@ -110,20 +112,13 @@ impl Subject for Messages {
         })
     }
 
-    fn acts() -> &'static [Act] {
-        ACTS
-    }
-
-    fn without_memory() -> usize {
-        0
-    }
-
-    fn act(&mut self, act: Act, answers: &mut Answers) -> Result<Told, Trouble> {
-        match act {
-            Read(bytes) => tell(answers, &read_sd(self.alloc, bytes)),
-            Write => self.write(answers),
-            Split => tell(answers, &split_entries(self.alloc, &self.entries)),
-            Bytes => tell_value(answers, &self.bytes),
+    fn perform(&mut self, place: usize, answers: &mut Answers) -> Result<(), Trouble> {
+        match ACTS.get(place) {
+            Some(Read(bytes)) => tell(answers, &read_sd(self.alloc, bytes)),
+            Some(Write) => self.write(answers),
+            Some(Split) => tell(answers, &split_entries(self.alloc, &self.entries)),
+            Some(Bytes) => tell_value(answers, &self.bytes),
+            None => tell_value(answers, &"no act"),
         }
     }
 }

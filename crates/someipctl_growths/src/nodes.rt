@@ -3,8 +3,7 @@
 //! A node that was refused memory gives nothing, and answers to every other call that it failed, until it is
 //! started again. Then it does all once more, as a new node does.
 use crate::answers::Answers;
-use crate::sweep::Subject;
-use crate::told::{Told, Trouble, tell_refusal, tell_value};
+use crate::told::{Trouble, tell_refusal, tell_value};
 use Act::{
     Answer, AnswerLong, Call, Datagram, Long, Publish, PublishTo, Restart, Start, StopOffer,
     Subscribe, Tick, Unsubscribe,
@@ -19,14 +18,11 @@ use std::alloc::{AllocError, Global};
 use std::fmt::Write;
 use std::net::{Ipv4Addr, SocketAddrV4};
 
-mod client;
-mod server;
-
-pub(crate) use client::ClientNode;
-pub(crate) use server::ServerNode;
+pub(crate) mod client;
+pub(crate) mod server;
 
 /// A host, where 0 is the multicast group and n the address 192.168.0.n, and a port.
-#[derive(Clone, Copy, Debug)]
+#[derive(Clone, Copy)]
 pub(crate) struct Port(u8, u16);
 
 impl Port {
@@ -41,7 +37,7 @@ impl Port {
 }
 
 /// What is done with a node. Datagrams are in hex.
-#[derive(Clone, Copy, Debug)]
+#[derive(Clone, Copy)]
 pub(crate) enum Act {
     /// It starts.
     Start,
@@ -96,19 +92,22 @@ const LONG_PAYLOAD: &[u8] = &[0xbb; 3000];
 /// What the slice of each segment that comes is a front of.
 const LONG_SLICE: &[u8] = &[0xaa; 1392];
 
-/// A node, once it is started, and what it is started with.
+/// A node, once it is started, what it is started with, and what is done with it.
 #[derive(Drop)]
-struct Kept {
+struct NodeSubject {
     alloc: Global,
+    acts: &'static [Act],
     setup: Setup,
     node: Option<Node<IntervalPool>>,
 }
 
-impl Kept {
-    fn new(alloc: Global, setup: &str) -> Result<Kept, AllocError> {
+impl NodeSubject {
+    /// No node yet, and the setup of one.
+    fn new(alloc: Global, acts: &'static [Act], setup: &str) -> Result<NodeSubject, AllocError> {
         match Setup::read(alloc, setup) {
-            Ok(setup) => Ok(Kept {
+            Ok(setup) => Ok(NodeSubject {
                 alloc,
+                acts,
                 setup,
                 node: None,
             }),
@@ -124,40 +123,42 @@ impl Kept {
         }
     }
 
-    fn act(&mut self, act: Act, answers: &mut Answers) -> Result<Told, Trouble> {
-        match (act, &mut self.node) {
-            (Start, _) => self.start(answers),
-            (_, None) => tell_value(answers, &"no node"),
-            (_, Some(node)) => match done(self.alloc, node, act)? {
-                Ok(outputs) => tell_outputs(answers, &outputs),
-                Err(refusal) => tell_refusal(answers, &refusal),
-            },
+    /// Does the act at a place, and writes down its answer.
+    fn perform(&mut self, place: usize, answers: &mut Answers) -> Result<(), Trouble> {
+        match (self.acts.get(place), &mut self.node) {
+            (Some(Start), _) => self.start(answers),
+            (Some(act), Some(node)) => {
+                let bytes = datagram_of(self.alloc, *act)?;
+                tell_outputs(answers, &done(self.alloc, node, *act, &bytes))
+            }
+            _ => tell_value(answers, &"no node"),
         }
     }
 
-    fn start(&mut self, answers: &mut Answers) -> Result<Told, Trouble> {
+    fn start(&mut self, answers: &mut Answers) -> Result<(), Trouble> {
         match Node::start(self.alloc, self.config()?, 10) {
             Ok(node) => {
                 self.node = Some(node);
-                Ok(Told::Answered)
+                Ok(())
             }
             Err(refusal) => tell_refusal(answers, &refusal),
         }
     }
 
-    /// The index with which it goes on after the act of an index was refused memory: a start with itself; any
+    /// The place at which it goes on after the act at a place was refused memory: a start with itself; any
     /// other with the act behind the start, once the node failed for every call and was started again.
-    fn resume(&mut self, acts: &[Act], refused: usize) -> Result<Option<usize>, Trouble> {
-        let Some(node) = &mut self.node else {
-            return Ok(Some(refused));
-        };
-        if let Some(Restart(_)) = acts.get(refused) {
-            return Ok(None);
-        }
-        if fails_for_all(self.alloc, node, acts)? && node.restart(10).is_ok() {
-            Ok(Some(1))
-        } else {
-            Ok(None)
+    fn resume(&mut self, refused: usize) -> Result<Option<usize>, Trouble> {
+        match (self.acts.get(refused), &mut self.node) {
+            (_, None) => Ok(Some(refused)),
+            (Some(Restart(_)), _) => Ok(None),
+            (_, Some(node)) => {
+                let fails = fails_for_all(self.alloc, node, self.acts)?;
+                Ok(if fails && node.restart(10).is_ok() {
+                    Some(1)
+                } else {
+                    None
+                })
+            }
         }
     }
 }
@@ -169,37 +170,60 @@ fn fails_for_all(
     acts: &[Act],
 ) -> Result<bool, Trouble> {
     for act in acts {
-        let is_start = matches!(act, Start | Restart(_));
-        if !is_start && done(alloc, node, *act)?.err() != Some(NodeError::Failed) {
-            return Ok(false);
+        if !matches!(act, Start | Restart(_)) {
+            let bytes = datagram_of(alloc, *act)?;
+            if !matches!(done(alloc, node, *act, &bytes), Err(NodeError::Failed)) {
+                return Ok(false);
+            }
         }
     }
     Ok(true)
 }
 
-/// What a node answers to an act. Each kind of them has a function of its own, so that the prover meets one
-/// call at a time.
+/// The bytes of the datagram that comes, if one does.
+fn datagram_of(alloc: Global, act: Act) -> Result<Vec<u8>, Trouble> {
+    match act {
+        Datagram(_, _, hex) => bytes_of(alloc, hex, 0),
+        Long(_, _, hex, len) => bytes_of(alloc, hex, len),
+        _ => Ok(Vec::new(alloc)),
+    }
+}
+
+/// The bytes of hex digits, and so many bytes of a slice.
+fn bytes_of(alloc: Global, hex: &str, len: usize) -> Result<Vec<u8>, Trouble> {
+    let Ok(mut bytes) = hex::decode(alloc, hex) else {
+        return Err(Trouble::OutOfMemory);
+    };
+    bytes.extend_from_slice(LONG_SLICE.get(..len).unwrap_or(LONG_SLICE))?;
+    Ok(bytes)
+}
+
+/// What a node answers to an act, with the bytes of the datagram that comes.
 fn done(
     alloc: Global,
     node: &mut Node<IntervalPool>,
     act: Act,
-) -> Result<Result<Vec<Output>, NodeError>, Trouble> {
+    bytes: &[u8],
+) -> Result<Vec<Output>, NodeError> {
     match act {
-        Datagram(from, to, hex) => arrives(alloc, node, from, to, hex, 0),
-        Long(from, to, hex, len) => arrives(alloc, node, from, to, hex, len),
-        Tick(ms) => Ok(node.tick(ms)),
-        Call(kind, method, payload) => Ok(node.call(kind, INSTANCE, method, payload)),
-        Answer(token, reply, payload) => Ok(node.answer(token, reply, payload)),
-        AnswerLong(token) => Ok(node.answer(token, OK, LONG_PAYLOAD)),
-        Publish(event, payload) => Ok(node.publish(INSTANCE, event, payload)),
+        Datagram(from, to, _) => node.on_datagram(from.endpoint(), to.endpoint(), bytes),
+        Long(from, to, _, _) => node.on_datagram(from.endpoint(), to.endpoint(), bytes),
+        Tick(ms) => node.tick(ms),
+        Call(kind, method, payload) => node.call(kind, INSTANCE, method, payload),
+        Answer(token, reply, payload) => node.answer(token, reply, payload),
+        AnswerLong(token) => node.answer(token, OK, LONG_PAYLOAD),
+        Publish(event, payload) => node.publish(INSTANCE, event, payload),
         PublishTo(id, to, event, payload) => {
-            Ok(node.publish_to(INSTANCE, id, to.endpoint(), event, payload))
+            node.publish_to(INSTANCE, id, to.endpoint(), event, payload)
         }
-        Subscribe(id) => Ok(node.subscribe(group(id))),
-        Unsubscribe(id) => Ok(node.unsubscribe(group(id))),
-        StopOffer => Ok(node.stop_offer(INSTANCE)),
-        Restart(delay) => Ok(node.restart(delay).map(|_| Vec::new(alloc))),
-        Start => Ok(Ok(Vec::new(alloc))),
+        Subscribe(id) => node.subscribe(group(id)),
+        Unsubscribe(id) => node.unsubscribe(group(id)),
+        StopOffer => node.stop_offer(INSTANCE),
+        Restart(delay) => match node.restart(delay) {
+            Ok(()) => Ok(Vec::new(alloc)),
+            Err(refusal) => Err(refusal),
+        },
+        Start => Ok(Vec::new(alloc)),
     }
 }
 
@@ -210,23 +234,18 @@ fn group(id: u16) -> Eventgroup {
     }
 }
 
-fn arrives(
-    alloc: Global,
-    node: &mut Node<IntervalPool>,
-    from: Port,
-    to: Port,
-    hex: &str,
-    len: usize,
-) -> Result<Result<Vec<Output>, NodeError>, Trouble> {
-    let mut bytes = hex::decode(alloc, hex).map_err(|_| Trouble::OutOfMemory)?;
-    bytes.extend_from_slice(LONG_SLICE.get(..len).unwrap_or(LONG_SLICE))?;
-    Ok(node.on_datagram(from.endpoint(), to.endpoint(), &bytes))
-}
-
-/// Writes down what a node gave, a line each.
-fn tell_outputs(answers: &mut Answers, outputs: &[Output]) -> Result<Told, Trouble> {
-    for output in outputs {
-        writeln!(answers, "{output}")?;
+/// Writes down what a node gave, a line each, or its refusal.
+fn tell_outputs(
+    answers: &mut Answers,
+    outcome: &Result<Vec<Output>, NodeError>,
+) -> Result<(), Trouble> {
+    match outcome {
+        Ok(outputs) => {
+            for output in outputs {
+                writeln!(answers, "{output}")?;
+            }
+            Ok(())
+        }
+        Err(refusal) => tell_refusal(answers, refusal),
     }
-    Ok(Told::Answered)
 }

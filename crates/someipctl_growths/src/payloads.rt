@@ -1,14 +1,14 @@
 //! Shapes and values of payloads.
 use crate::answers::Answers;
 use crate::sweep::Subject;
-use crate::told::{Told, Trouble, tell, tell_refusal, tell_value};
+use crate::told::{Trouble, tell, tell_refusal, tell_value};
 use Act::{Bytes, Check, Decode, Encode, ReadShape};
 use someip_payload::{Shape, Value, check_shape, decode, encode, read_shape};
 use std::alloc::{AllocError, Global};
 use std::fmt::Write;
 
 /// What is done with a shape, a value, and the bytes that values are written to.
-#[derive(Clone, Copy, Debug)]
+#[derive(Clone, Copy)]
 pub(crate) enum Act {
     /// A shape is read from this text.
     ReadShape(&'static str),
@@ -71,40 +71,40 @@ pub(crate) struct Payloads {
 }
 
 impl Payloads {
-    fn read_shape(&mut self, text: &str, answers: &mut Answers) -> Result<Told, Trouble> {
+    fn read_shape(&mut self, text: &str, answers: &mut Answers) -> Result<(), Trouble> {
         match read_shape(self.alloc, text) {
             Ok(shape) => {
-                let told = tell_value(answers, &shape)?;
+                tell_value(answers, &shape)?;
                 self.shape = Some(shape);
-                Ok(told)
+                Ok(())
             }
             Err(refusal) => tell_refusal(answers, &refusal),
         }
     }
 
-    fn check(&self, answers: &mut Answers) -> Result<Told, Trouble> {
+    fn check(&self, answers: &mut Answers) -> Result<(), Trouble> {
         match &self.shape {
             Some(shape) => tell(answers, &check_shape(self.alloc, shape)),
             None => tell_value(answers, &"no shape"),
         }
     }
 
-    fn decode(&mut self, bytes: &[u8], answers: &mut Answers) -> Result<Told, Trouble> {
+    fn decode(&mut self, bytes: &[u8], answers: &mut Answers) -> Result<(), Trouble> {
         let Some(shape) = &self.shape else {
             return tell_value(answers, &"no shape");
         };
         match decode(self.alloc, shape, bytes) {
             Ok((value, len)) => {
                 write!(answers, "{len} ")?;
-                let told = tell_value(answers, &value)?;
+                tell_value(answers, &value)?;
                 self.value = Some(value);
-                Ok(told)
+                Ok(())
             }
             Err(refusal) => tell_refusal(answers, &refusal),
         }
     }
 
-    fn encode(&mut self, answers: &mut Answers) -> Result<Told, Trouble> {
+    fn encode(&mut self, answers: &mut Answers) -> Result<(), Trouble> {
         let (Some(shape), Some(value)) = (&self.shape, &self.value) else {
             return tell_value(answers, &"no value");
         };
@@ -118,7 +118,9 @@ impl Payloads {
 }
 
 impl Subject for Payloads {
-    type Act = Act;
+    const ACTS: usize = ACTS.len();
+
+    const WITHOUT_MEMORY: usize = 0;
 
     fn make(alloc: Global) -> Result<Payloads, AllocError> {
         Ok(Payloads {
@@ -129,21 +131,14 @@ impl Subject for Payloads {
         })
     }
 
-    fn acts() -> &'static [Act] {
-        ACTS
-    }
-
-    fn without_memory() -> usize {
-        0
-    }
-
-    fn act(&mut self, act: Act, answers: &mut Answers) -> Result<Told, Trouble> {
-        match act {
-            ReadShape(text) => self.read_shape(text, answers),
-            Check => self.check(answers),
-            Decode(bytes) => self.decode(bytes, answers),
-            Encode => self.encode(answers),
-            Bytes => tell_value(answers, &self.bytes),
+    fn perform(&mut self, place: usize, answers: &mut Answers) -> Result<(), Trouble> {
+        match ACTS.get(place) {
+            Some(ReadShape(text)) => self.read_shape(text, answers),
+            Some(Check) => self.check(answers),
+            Some(Decode(bytes)) => self.decode(bytes, answers),
+            Some(Encode) => self.encode(answers),
+            Some(Bytes) => tell_value(answers, &self.bytes),
+            None => tell_value(answers, &"no act"),
         }
     }
 }

@@ -3,7 +3,7 @@ ghost use Rattle.someip_tp.specs.Parts.{NoneAfter};
 
 use crate::answers::Answers;
 use crate::sweep::Subject;
-use crate::told::{Told, Trouble, tell, tell_refusal, tell_value};
+use crate::told::{Trouble, tell, tell_refusal, tell_value};
 use Act::{Bytes, Clear, Expire, Make, Offer, Pass, Take};
 use someip_tp::{IntervalPool, Offered, Reassembly, ReassemblyKey, SegmentList, TpError};
 use someip_wire::{Header, MessageType, ReturnCode};
@@ -11,7 +11,7 @@ use std::alloc::{AllocError, Global};
 use std::net::{Ipv4Addr, SocketAddrV4};
 
 /// What is done with a store of two slots.
-#[derive(Clone, Copy, Debug)]
+#[derive(Clone, Copy)]
 pub(crate) enum Act {
     /// It is made.
     Make,
@@ -96,7 +96,7 @@ struct Kept<R: Reassembly> {
 
 /// A store, once it is made, and the bytes that were taken from it.
 #[derive(Drop)]
-struct Store<R: Reassembly> {
+pub(crate) struct Store<R: Reassembly> {
     alloc: Global,
     kept: Option<Kept<R>>,
     bytes: Vec<u8>,
@@ -135,8 +135,11 @@ impl<R: Reassembly> Store<R> {
         }
     }
 
-    fn act(&mut self, act: Act, answers: &mut Answers) -> Result<Told, Trouble> {
-        match (act, &mut self.kept) {
+    fn act(&mut self, place: usize, answers: &mut Answers) -> Result<(), Trouble> {
+        let Some(act) = ACTS.get(place) else {
+            return tell_value(answers, &"no act");
+        };
+        match (*act, &mut self.kept) {
             (Make, _) => self.make(answers),
             (Bytes, _) => tell_value(answers, &self.bytes),
             (_, None) => tell_value(answers, &"no store"),
@@ -153,24 +156,24 @@ impl<R: Reassembly> Store<R> {
             }
             (Pass(millis), Some(kept)) => {
                 kept.pass(millis);
-                Ok(Told::Answered)
+                Ok(())
             }
             (Expire, Some(kept)) => {
                 kept.store.expire(kept.now);
-                Ok(Told::Answered)
+                Ok(())
             }
             (Clear, Some(kept)) => {
                 kept.store.clear();
-                Ok(Told::Answered)
+                Ok(())
             }
         }
     }
 
-    fn make(&mut self, answers: &mut Answers) -> Result<Told, Trouble> {
+    fn make(&mut self, answers: &mut Answers) -> Result<(), Trouble> {
         match Kept::make(self.alloc) {
             Ok(kept) => {
                 self.kept = Some(kept);
-                Ok(Told::Answered)
+                Ok(())
             }
             Err(refusal) => tell_refusal(answers, &refusal),
         }
@@ -195,50 +198,30 @@ fn key(session: u16) -> ReassemblyKey {
     )
 }
 
-/// The sweep of `SegmentList`.
-#[derive(Drop)]
-pub(crate) struct Lists(Store<SegmentList>);
+impl Subject for Store<SegmentList> {
+    const ACTS: usize = ACTS.len();
 
-/// The sweep of `IntervalPool`.
-#[derive(Drop)]
-pub(crate) struct Pools(Store<IntervalPool>);
+    const WITHOUT_MEMORY: usize = WITHOUT_MEMORY;
 
-impl Subject for Lists {
-    type Act = Act;
-
-    fn make(alloc: Global) -> Result<Lists, AllocError> {
-        Ok(Lists(Store::new(alloc)))
+    fn make(alloc: Global) -> Result<Store<SegmentList>, AllocError> {
+        Ok(Store::new(alloc))
     }
 
-    fn acts() -> &'static [Act] {
-        ACTS
-    }
-
-    fn without_memory() -> usize {
-        WITHOUT_MEMORY
-    }
-
-    fn act(&mut self, act: Act, answers: &mut Answers) -> Result<Told, Trouble> {
-        self.0.act(act, answers)
+    fn perform(&mut self, place: usize, answers: &mut Answers) -> Result<(), Trouble> {
+        self.act(place, answers)
     }
 }
 
-impl Subject for Pools {
-    type Act = Act;
+impl Subject for Store<IntervalPool> {
+    const ACTS: usize = ACTS.len();
 
-    fn make(alloc: Global) -> Result<Pools, AllocError> {
-        Ok(Pools(Store::new(alloc)))
+    const WITHOUT_MEMORY: usize = WITHOUT_MEMORY_OF_POOL;
+
+    fn make(alloc: Global) -> Result<Store<IntervalPool>, AllocError> {
+        Ok(Store::new(alloc))
     }
 
-    fn acts() -> &'static [Act] {
-        ACTS
-    }
-
-    fn without_memory() -> usize {
-        WITHOUT_MEMORY_OF_POOL
-    }
-
-    fn act(&mut self, act: Act, answers: &mut Answers) -> Result<Told, Trouble> {
-        self.0.act(act, answers)
+    fn perform(&mut self, place: usize, answers: &mut Answers) -> Result<(), Trouble> {
+        self.act(place, answers)
     }
 }

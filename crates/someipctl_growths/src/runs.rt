@@ -1,15 +1,15 @@
 //! Setups, schedules and runs.
 use crate::answers::Answers;
 use crate::sweep::Subject;
-use crate::told::{Told, Trouble, tell_refusal, tell_value};
+use crate::told::{Trouble, tell_refusal, tell_value};
 use Act::{ReadSchedule, ReadSetup, RunOverList, RunOverPool};
 use someip_tp::{IntervalPool, Reassembly, SegmentList};
-use someip_world::{Line, RunError, Setup, Step, Told as Gave, Trace, read_schedule, run};
+use someip_world::{Line, RunError, Setup, Step, Told, Trace, read_schedule, run};
 use std::alloc::{AllocError, Global};
 use std::fmt::Write;
 
 /// What is done with a setup and a schedule.
-#[derive(Clone, Copy, Debug)]
+#[derive(Clone, Copy)]
 pub(crate) enum Act {
     /// A setup is read.
     ReadSetup(&'static str),
@@ -100,29 +100,29 @@ pub(crate) struct Runs {
 }
 
 impl Runs {
-    fn read_setup(&mut self, text: &str, answers: &mut Answers) -> Result<Told, Trouble> {
+    fn read_setup(&mut self, text: &str, answers: &mut Answers) -> Result<(), Trouble> {
         match Setup::read(self.alloc, text) {
             Ok(setup) => {
-                let told = tell_value(answers, &setup)?;
+                tell_value(answers, &setup)?;
                 self.setup = Some(setup);
-                Ok(told)
+                Ok(())
             }
             Err(refusal) => tell_refusal(answers, &refusal),
         }
     }
 
-    fn read_schedule(&mut self, text: &str, answers: &mut Answers) -> Result<Told, Trouble> {
+    fn read_schedule(&mut self, text: &str, answers: &mut Answers) -> Result<(), Trouble> {
         match read_schedule(self.alloc, text.as_bytes()) {
             Ok(steps) => {
-                let told = tell_value(answers, &steps.len())?;
+                tell_value(answers, &steps.len())?;
                 self.steps = Some(steps);
-                Ok(told)
+                Ok(())
             }
             Err(refusal) => tell_refusal(answers, &refusal),
         }
     }
 
-    fn run<R: Reassembly>(&self, answers: &mut Answers) -> Result<Told, Trouble> {
+    fn run<R: Reassembly>(&self, answers: &mut Answers) -> Result<(), Trouble> {
         let (Some(setup), Some(steps)) = (&self.setup, &self.steps) else {
             return tell_value(answers, &"nothing to run");
         };
@@ -131,7 +131,7 @@ impl Runs {
 }
 
 /// Writes down what a run came to.
-fn tell_trace(answers: &mut Answers, ran: Result<Trace, RunError>) -> Result<Told, Trouble> {
+fn tell_trace(answers: &mut Answers, ran: Result<Trace, RunError>) -> Result<(), Trouble> {
     match ran {
         Ok(trace) => {
             write_lines(answers, &trace.lines)?;
@@ -145,15 +145,17 @@ fn write_lines(answers: &mut Answers, lines: &[Line]) -> Result<(), Trouble> {
     for line in lines {
         write!(answers, "{} {} ", line.step, line.node)?;
         match &line.told {
-            Gave::Gave(output) => writeln!(answers, "{output}")?,
-            Gave::Refused(refusal) => writeln!(answers, "refused {refusal}")?,
+            Told::Gave(output) => writeln!(answers, "{output}")?,
+            Told::Refused(refusal) => writeln!(answers, "refused {refusal}")?,
         }
     }
     Ok(())
 }
 
 impl Subject for Runs {
-    type Act = Act;
+    const ACTS: usize = ACTS.len();
+
+    const WITHOUT_MEMORY: usize = 0;
 
     fn make(alloc: Global) -> Result<Runs, AllocError> {
         Ok(Runs {
@@ -163,20 +165,13 @@ impl Subject for Runs {
         })
     }
 
-    fn acts() -> &'static [Act] {
-        ACTS
-    }
-
-    fn without_memory() -> usize {
-        0
-    }
-
-    fn act(&mut self, act: Act, answers: &mut Answers) -> Result<Told, Trouble> {
-        match act {
-            ReadSetup(text) => self.read_setup(text, answers),
-            ReadSchedule(text) => self.read_schedule(text, answers),
-            RunOverPool => self.run::<IntervalPool>(answers),
-            RunOverList => self.run::<SegmentList>(answers),
+    fn perform(&mut self, place: usize, answers: &mut Answers) -> Result<(), Trouble> {
+        match ACTS.get(place) {
+            Some(ReadSetup(text)) => self.read_setup(text, answers),
+            Some(ReadSchedule(text)) => self.read_schedule(text, answers),
+            Some(RunOverPool) => self.run::<IntervalPool>(answers),
+            Some(RunOverList) => self.run::<SegmentList>(answers),
+            None => tell_value(answers, &"no act"),
         }
     }
 }

@@ -1,7 +1,7 @@
 //! The requests and the events of a server.
 use crate::answers::Answers;
 use crate::sweep::Subject;
-use crate::told::{Told, Trouble, tell, tell_value};
+use crate::told::{Trouble, tell, tell_value};
 use Act::{Answer, Arrive, Clear, Open, Publish, PublishTo};
 use someip_rpc::{Reply, ServerCore, ServiceRules, Subscriber};
 use someip_wire::{Header, MessageType, ReturnCode};
@@ -10,7 +10,7 @@ use std::collections::{BTreeMap, BTreeSet};
 use std::net::{Ipv4Addr, SocketAddrV4};
 
 /// What is done with a server of one instance, which is up. Its message limit is 1400.
-#[derive(Clone, Copy, Debug)]
+#[derive(Clone, Copy)]
 pub(crate) enum Act {
     /// A message of a type comes to a method.
     Arrive(MessageType, u16),
@@ -70,24 +70,15 @@ const WITHOUT_MEMORY: usize = 18;
 /// What each payload is a front of.
 const PAYLOAD: &[u8] = &[7; 1401];
 
+/// A server, and what it serves.
 #[derive(Drop)]
-pub(crate) struct ServerSubject {
+pub(crate) struct Server {
     core: ServerCore,
     service: ServiceRules,
 }
 
-impl ServerSubject {
-    fn answer(
-        &mut self,
-        token: u64,
-        reply: Reply,
-        len: usize,
-        answers: &mut Answers,
-    ) -> Result<Told, Trouble> {
-        tell(answers, &self.core.answer(token, reply, payload(len), 1400))
-    }
-
-    fn publish(&mut self, event: u16, len: usize, answers: &mut Answers) -> Result<Told, Trouble> {
+impl Server {
+    fn publish(&mut self, event: u16, len: usize, answers: &mut Answers) -> Result<(), Trouble> {
         let published = self
             .core
             .publish(&self.service, true, 1400, event, payload(len));
@@ -100,7 +91,7 @@ impl ServerSubject {
         event: u16,
         len: usize,
         answers: &mut Answers,
-    ) -> Result<Told, Trouble> {
+    ) -> Result<(), Trouble> {
         let subscriber = Subscriber {
             eventgroup: 1,
             endpoint: client(),
@@ -142,12 +133,14 @@ fn one(alloc: Global, number: u16) -> Result<BTreeSet<u16>, AllocError> {
     Ok(numbers)
 }
 
-/// The events 8001 and 8003 of the eventgroup 1, and 8002 of the eventgroup 2.
+/// Events, each with its eventgroup.
+const EVENTS: &[(u16, u16)] = &[(0x8001, 1), (0x8002, 2), (0x8003, 1)];
+
 fn events(alloc: Global) -> Result<BTreeMap<u16, BTreeSet<u16>>, AllocError> {
     let mut events = BTreeMap::new(alloc);
-    for (event, eventgroup) in [(0x8001, 1), (0x8002, 2), (0x8003, 1)] {
-        let eventgroups = one(alloc, eventgroup)?;
-        events.insert(event, eventgroups)?;
+    for (event, eventgroup) in EVENTS {
+        let eventgroups = one(alloc, *eventgroup)?;
+        events.insert(*event, eventgroups)?;
     }
     Ok(events)
 }
@@ -164,26 +157,23 @@ fn service(alloc: Global) -> Result<ServiceRules, AllocError> {
     })
 }
 
-impl Subject for ServerSubject {
-    type Act = Act;
+impl Subject for Server {
+    const ACTS: usize = ACTS.len();
 
-    fn make(alloc: Global) -> Result<ServerSubject, AllocError> {
-        Ok(ServerSubject {
+    const WITHOUT_MEMORY: usize = WITHOUT_MEMORY;
+
+    fn make(alloc: Global) -> Result<Server, AllocError> {
+        Ok(Server {
             core: ServerCore::new(alloc),
             service: service(alloc)?,
         })
     }
 
-    fn acts() -> &'static [Act] {
-        ACTS
-    }
-
-    fn without_memory() -> usize {
-        WITHOUT_MEMORY
-    }
-
-    fn act(&mut self, act: Act, answers: &mut Answers) -> Result<Told, Trouble> {
-        match act {
+    fn perform(&mut self, place: usize, answers: &mut Answers) -> Result<(), Trouble> {
+        let Some(act) = ACTS.get(place) else {
+            return tell_value(answers, &"no act");
+        };
+        match *act {
             Arrive(kind, method) => {
                 let header = header(kind, method);
                 tell(
@@ -191,13 +181,15 @@ impl Subject for ServerSubject {
                     &self.core.on_request(&self.service, true, client(), &header),
                 )
             }
-            Answer(token, reply, len) => self.answer(token, reply, len, answers),
+            Answer(token, reply, len) => {
+                tell(answers, &self.core.answer(token, reply, payload(len), 1400))
+            }
             Open => tell_value(answers, &self.core.open_requests()),
             Publish(event, len) => self.publish(event, len, answers),
             PublishTo(is_live, event, len) => self.publish_to(is_live, event, len, answers),
             Clear => {
                 self.core.clear();
-                Ok(Told::Answered)
+                Ok(())
             }
         }
     }

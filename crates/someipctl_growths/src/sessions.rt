@@ -1,7 +1,7 @@
 //! The peers of a node, and sessions.
 use crate::answers::Answers;
 use crate::sweep::Subject;
-use crate::told::{Told, Trouble, tell, tell_value};
+use crate::told::{Trouble, tell, tell_value};
 use Act::{Next, Saw};
 use Channel::{Multicast, Unicast};
 use sd_session::{Channel, Counter, PeerTable};
@@ -9,7 +9,7 @@ use std::alloc::{AllocError, Global};
 use std::net::Ipv4Addr;
 
 /// What is done with a table of 12 peers, and with a counter.
-#[derive(Clone, Copy, Debug)]
+#[derive(Clone, Copy)]
 pub(crate) enum Act {
     /// A message of the host 192.168.0.n comes: the channel, the session and the Reboot flag.
     Saw(u8, Channel, u16, bool),
@@ -54,7 +54,9 @@ pub(crate) struct Sessions {
 }
 
 impl Subject for Sessions {
-    type Act = Act;
+    const ACTS: usize = ACTS.len();
+
+    const WITHOUT_MEMORY: usize = WITHOUT_MEMORY;
 
     fn make(alloc: Global) -> Result<Sessions, AllocError> {
         Ok(Sessions {
@@ -63,16 +65,11 @@ impl Subject for Sessions {
         })
     }
 
-    fn acts() -> &'static [Act] {
-        ACTS
-    }
-
-    fn without_memory() -> usize {
-        WITHOUT_MEMORY
-    }
-
-    fn act(&mut self, act: Act, answers: &mut Answers) -> Result<Told, Trouble> {
-        match act {
+    fn perform(&mut self, place: usize, answers: &mut Answers) -> Result<(), Trouble> {
+        let Some(act) = ACTS.get(place) else {
+            return tell_value(answers, &"no act");
+        };
+        match *act {
             Saw(host, channel, session, reboot) => {
                 let peer = Ipv4Addr::new(192, 168, 0, host);
                 tell(answers, &self.peers.saw(peer, channel, session, reboot))

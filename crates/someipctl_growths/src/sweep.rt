@@ -1,28 +1,24 @@
 //! A sweep: the acts of a subject, three times in one process, of which one growth of memory may be refused.
 use crate::answers::Answers;
-use crate::told::{Told, Trouble};
+use crate::told::{Trouble, is_of_memory};
 use std::alloc::{AllocError, Global};
-use std::fmt;
-use std::fmt::{Debug, Write};
+use std::mem;
 
-/// What is swept: acts that are done with a value, one after the other, each of which has an answer.
+/// What is swept: a value, and acts that are done with it, one after the other, each of which has an answer.
 pub(crate) trait Subject: Drop {
-    /// What is done with it.
-    type Act: Copy + Debug + 'static;
+    /// How many acts there are.
+    const ACTS: usize;
+
+    /// How many of them, those at the end, take no memory.
+    const WITHOUT_MEMORY: usize;
 
     /// A new one, with which no act was done yet.
     fn make(alloc: Global) -> Result<Self, AllocError>;
 
-    /// The acts, in order.
-    fn acts() -> &'static [Self::Act];
+    /// Does the act at a place, and writes down its answer.
+    fn perform(&mut self, place: usize, answers: &mut Answers) -> Result<(), Trouble>;
 
-    /// How many of the acts, those at the end, take no memory.
-    fn without_memory() -> usize;
-
-    /// Does an act, and writes down its answer.
-    fn act(&mut self, act: Self::Act, answers: &mut Answers) -> Result<Told, Trouble>;
-
-    /// Brings the subject back after the act of an index was refused memory: the index of the act with which
+    /// Brings the subject back after the act at a place was refused memory: the place of the act with which
     /// it goes on, or none where it is not as it has to be then.
     fn resume(&mut self, refused: usize) -> Result<Option<usize>, Trouble> {
         Ok(Some(refused))
@@ -30,7 +26,7 @@ pub(crate) trait Subject: Drop {
 }
 
 /// What becomes of an act that was refused memory.
-#[derive(Clone, Copy, PartialEq, Eq)]
+#[derive(Clone, Copy)]
 pub(crate) enum After {
     /// It is done again, once the subject is brought back.
     Again,
@@ -47,21 +43,21 @@ pub(crate) struct Plan {
     pub(crate) is_whole: bool,
 }
 
-/// How a sweep ended.
-#[derive(Clone, Copy, PartialEq, Eq)]
+/// How a sweep ended. Acts are told by their places.
+#[derive(Clone, Copy)]
 pub(crate) enum Ended {
     /// No growth was refused to an act.
     Unrefused,
     /// A growth was refused outside what is judged: to the first pass, or to the third.
     Unjudged,
-    /// The act of this index was refused memory, and all was as it has to be.
+    /// This act was refused memory, and all was as it has to be.
     Refused(usize),
-    /// The act of this index answered otherwise than it has to.
+    /// This act answered otherwise than it has to.
     Wrong(usize),
 }
 
 /// Where a pass stopped.
-#[derive(Clone, Copy, PartialEq, Eq)]
+#[derive(Clone, Copy)]
 enum Stop {
     /// At its end.
     End,
@@ -71,181 +67,171 @@ enum Stop {
     Wrong(usize),
 }
 
-/// The answers that are expected, the one that came, and those of another subject, or the act where a pass stopped.
+/// A sweep, with the answers that are expected, the one that came, and those of another subject.
 #[derive(Drop)]
 pub(crate) struct Sweep {
-    plan: Plan,
     alloc: Global,
+    plan: Plan,
     expected: Answers,
     given: Answers,
     others: Answers,
 }
 
 impl Sweep {
+    /// A sweep of no subject yet.
     pub(crate) fn new(alloc: Global, plan: Plan) -> Result<Sweep, AllocError> {
         Ok(Sweep {
-            plan,
             alloc,
+            plan,
             expected: Answers::new(alloc)?,
             given: Answers::new(alloc)?,
             others: Answers::new(alloc)?,
         })
     }
 
-    /// The act that was found wrong, what it has to answer, and what it answered.
-    pub(crate) fn wrong(&self, act: usize) -> [Option<&[u8]>; 3] {
-        [
-            self.others.get(0),
-            self.expected.get(act),
-            self.given.get(0),
-        ]
+    /// How many acts are done.
+    fn acts<S: Subject>(&self) -> usize {
+        if self.plan.is_whole {
+            S::ACTS
+        } else {
+            S::ACTS.saturating_sub(S::WITHOUT_MEMORY)
+        }
+    }
+
+    /// What the act that was found wrong has to answer.
+    pub(crate) fn expected(&self, act: usize) -> Option<&[u8]> {
+        self.expected.get(act)
+    }
+
+    /// What it answered.
+    pub(crate) fn given(&self) -> &[u8] {
+        self.given.last()
     }
 
     /// Sweeps a subject: a pass for the answers that are expected, one that is judged, and one more.
     pub(crate) fn run<S: Subject>(&mut self) -> Result<Ended, Trouble> {
-        let mut subject = S::make(self.alloc)?;
-        let acts = self.acts_of::<S>();
-        if expect(&mut subject, acts, None, &mut self.expected)? != Stop::End {
+        if let Stop::Refused(_) = expect::<S>(
+            self.alloc,
+            self.acts::<S>(),
+            None,
+            &mut self.expected,
+        )? {
             return Ok(Ended::Unjudged);
         }
-        let ended = self.judged::<S>(acts)?;
-        if matches!(ended, Ended::Wrong(_)) {
-            return Ok(ended);
-        }
-        let mut subject = S::make(self.alloc)?;
-        let last = self.compare(&mut subject, 0, acts)?;
-        Ok(concluded(ended, last))
-    }
-
-    /// How many acts are done.
-    fn acts_of<S: Subject>(&self) -> usize {
-        let all = S::acts().len();
-        if self.plan.is_whole {
-            all
-        } else {
-            all.saturating_sub(S::without_memory())
+        match self.judged::<S>()? {
+            Ended::Wrong(act) => Ok(Ended::Wrong(act)),
+            ended => self.conclude::<S>(ended),
         }
     }
 
     /// The pass that is judged.
-    fn judged<S: Subject>(&mut self, acts: usize) -> Result<Ended, Trouble> {
+    fn judged<S: Subject>(&mut self) -> Result<Ended, Trouble> {
         let mut subject = S::make(self.alloc)?;
-        match self.compare(&mut subject, 0, acts)? {
+        match self.compare(&mut subject, 0)? {
             Stop::End => Ok(Ended::Unrefused),
             Stop::Wrong(act) => Ok(Ended::Wrong(act)),
-            Stop::Refused(act) => {
-                let rest = match self.plan.after {
-                    After::Again => self.go_on(&mut subject, act, acts)?,
-                    After::LeftOut => self.leave_out(&mut subject, act, acts)?,
-                };
-                Ok(after_refusal(act, rest))
-            }
+            Stop::Refused(act) => self.judge_refusal(&mut subject, act),
         }
     }
 
-    /// Does the acts from an index on, up to the first one whose answer is not the expected one.
-    fn compare<S: Subject>(
+    /// Goes on behind an act that was refused memory. No other growth is refused, so nothing else may answer
+    /// that memory ran out.
+    fn judge_refusal<S: Subject>(
         &mut self,
         subject: &mut S,
-        start: usize,
-        acts: usize,
-    ) -> Result<Stop, Trouble> {
-        for (index, act) in S::acts().iter().enumerate().take(acts).skip(start) {
+        refused: usize,
+    ) -> Result<Ended, Trouble> {
+        let rest = match self.plan.after {
+            After::Again => self.go_on(subject, refused)?,
+            After::LeftOut => self.leave_out(subject, refused)?,
+        };
+        match rest {
+            Stop::End => Ok(Ended::Refused(refused)),
+            Stop::Refused(act) | Stop::Wrong(act) => Ok(Ended::Wrong(act)),
+        }
+    }
+
+    /// How the sweep ended whose judged pass found nothing, by where the last pass stops.
+    fn conclude<S: Subject>(&mut self, judged: Ended) -> Result<Ended, Trouble> {
+        let mut subject = S::make(self.alloc)?;
+        match (self.compare(&mut subject, 0)?, judged) {
+            (Stop::End, _) => Ok(judged),
+            (Stop::Refused(_), Ended::Unrefused) => Ok(Ended::Unjudged),
+            (Stop::Refused(act) | Stop::Wrong(act), _) => Ok(Ended::Wrong(act)),
+        }
+    }
+
+    /// Does the acts from a place on, up to the first one whose answer is not the expected one.
+    fn compare<S: Subject>(&mut self, subject: &mut S, start: usize) -> Result<Stop, Trouble> {
+        for place in start..self.acts::<S>() {
             self.given.clear();
-            let told = subject.act(*act, &mut self.given)?;
-            self.given.close()?;
-            if told == Told::OutOfMemory {
-                self.name(act)?;
-                return Ok(Stop::Refused(index));
+            subject.perform(place, &mut self.given)?;
+            let given = self.given.last();
+            if is_of_memory(given) {
+                return Ok(Stop::Refused(place));
             }
-            if self.given.get(0) != self.expected.get(index) {
-                self.name(act)?;
-                return Ok(Stop::Wrong(index));
+            if self.expected.get(place) != Some(given) {
+                return Ok(Stop::Wrong(place));
             }
         }
         Ok(Stop::End)
     }
 
-    /// Writes down which act a pass stopped at.
-    fn name<A: Debug>(&mut self, act: &A) -> fmt::Result {
-        self.others.clear();
-        write!(self.others, "{act:?}")?;
-        self.others.close()
-    }
-
     /// Brings back a subject of which an act was refused memory, and goes on with it.
-    fn go_on<S: Subject>(
-        &mut self,
-        subject: &mut S,
-        refused: usize,
-        acts: usize,
-    ) -> Result<Stop, Trouble> {
+    fn go_on<S: Subject>(&mut self, subject: &mut S, refused: usize) -> Result<Stop, Trouble> {
         match subject.resume(refused)? {
-            Some(start) => self.compare(subject, start, acts),
+            Some(start) => self.compare(subject, start),
             None => Ok(Stop::Wrong(refused)),
         }
     }
 
     /// Goes on without the act that was refused memory: the answers are those of another subject, with which
     /// the act was not done.
-    fn leave_out<S: Subject>(
+    fn leave_out<S: Subject>(&mut self, subject: &mut S, refused: usize) -> Result<Stop, Trouble> {
+        self.others.clear();
+        match expect::<S>(
+            self.alloc,
+            self.acts::<S>(),
+            Some(refused),
+            &mut self.others,
+        )? {
+            Stop::End => self.compare_with_others(subject, refused.saturating_add(1)),
+            stop => Ok(stop),
+        }
+    }
+
+    /// As `compare`, with the answers of the other subject, which stay the expected ones where one is wrong.
+    fn compare_with_others<S: Subject>(
         &mut self,
         subject: &mut S,
-        refused: usize,
-        acts: usize,
+        start: usize,
     ) -> Result<Stop, Trouble> {
-        let mut other = S::make(self.alloc)?;
-        self.others.clear();
-        let begun = expect(&mut other, acts, Some(refused), &mut self.others)?;
-        if begun != Stop::End {
-            return Ok(begun);
-        }
-        std::mem::swap(&mut self.expected, &mut self.others);
-        let rest = self.compare(subject, refused.saturating_add(1), acts)?;
-        if rest == Stop::End {
-            std::mem::swap(&mut self.expected, &mut self.others);
+        mem::swap(&mut self.expected, &mut self.others);
+        let rest = self.compare(subject, start)?;
+        if let Stop::End = rest {
+            mem::swap(&mut self.expected, &mut self.others);
         }
         Ok(rest)
     }
 }
 
-/// Does all acts, but for one that may be left out, and writes down their answers, up to the first one that
-/// memory ran out for.
+/// Does all acts with a new subject, but for one that may be left out, and writes down their answers, up to the
+/// first one that memory ran out for.
 fn expect<S: Subject>(
-    subject: &mut S,
+    alloc: Global,
     acts: usize,
     left_out: Option<usize>,
     answers: &mut Answers,
 ) -> Result<Stop, Trouble> {
-    for (index, act) in S::acts().iter().enumerate().take(acts) {
-        if Some(index) != left_out && subject.act(*act, answers)? == Told::OutOfMemory {
-            return Ok(Stop::Refused(index));
+    let mut subject = S::make(alloc)?;
+    for place in 0..acts {
+        if left_out != Some(place) {
+            subject.perform(place, answers)?;
+        }
+        if is_of_memory(answers.last()) {
+            return Ok(Stop::Refused(place));
         }
         answers.close()?;
     }
     Ok(Stop::End)
-}
-
-/// How the judged pass ended in which an act was refused memory, by where what came after it stopped. No
-/// other growth is refused, so nothing else may answer that memory ran out.
-fn after_refusal(refused: usize, rest: Stop) -> Ended {
-    match rest {
-        Stop::End => Ended::Refused(refused),
-        Stop::Refused(act) | Stop::Wrong(act) => Ended::Wrong(act),
-    }
-}
-
-/// How a sweep ended whose judged pass found nothing, by where the last pass stopped.
-fn concluded(judged: Ended, last: Stop) -> Ended {
-    match last {
-        Stop::End => judged,
-        Stop::Wrong(act) => Ended::Wrong(act),
-        Stop::Refused(act) => {
-            if judged == Ended::Unrefused {
-                Ended::Unjudged
-            } else {
-                Ended::Wrong(act)
-            }
-        }
-    }
 }

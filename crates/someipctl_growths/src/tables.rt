@@ -1,17 +1,19 @@
 //! The tables of Service Discovery. An act stands beside its moment in milliseconds, and hosts are told by the
 //! last byte of their address.
 use sd_core::{InstanceId, Phases};
+use someip_tables::Moment;
 use std::net::{Ipv4Addr, SocketAddrV4};
 
-mod offers;
-mod seeker;
-mod subscribers;
-mod subscriptions;
+pub(crate) mod offers;
+pub(crate) mod seeker;
+pub(crate) mod subscribers;
+pub(crate) mod subscriptions;
 
-pub(crate) use offers::OffersSubject;
-pub(crate) use seeker::SeekerSubject;
-pub(crate) use subscribers::SubscribersSubject;
-pub(crate) use subscriptions::SubscriptionsSubject;
+/// The act at a place, and its moment.
+pub(crate) fn timed<A: Copy>(acts: &[(u64, A)], place: usize) -> Option<(Moment, A)> {
+    let (millis, act) = acts.get(place)?;
+    Some((Moment::new(*millis)?, *act))
+}
 
 /// An instance of the service 1111.
 fn instance(number: u16) -> InstanceId {

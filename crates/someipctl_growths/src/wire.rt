@@ -3,7 +3,7 @@ ghost use Rattle.std.specs.Prelude.{◌+◌, ◌<◌, ◌^◌, length};
 
 use crate::answers::Answers;
 use crate::sweep::Subject;
-use crate::told::{Told, Trouble, tell_value};
+use crate::told::{Trouble, tell_value};
 use Act::{Datagram, Message, Pieces, Segment, Segments, Write};
 use someip_tp::{Segments as SegmentsOf, Sent, read_segment};
 use someip_wire::{
@@ -14,7 +14,7 @@ use std::alloc::{AllocError, Global};
 use std::fmt::Write as _;
 
 /// What is done with bytes, and with a message of so many bytes of payload.
-#[derive(Clone, Copy, Debug)]
+#[derive(Clone, Copy)]
 pub(crate) enum Act {
     /// A message is read from these bytes.
     Message(&'static [u8]),
@@ -56,21 +56,14 @@ const WITHOUT_MEMORY: usize = 12;
 /// What each payload is a front of.
 const PAYLOAD: &[u8] = &[7; 5880];
 
-/// Room to write a message to.
-#[derive(Drop)]
-pub(crate) struct Wire {
-    room: [u8; 200],
-}
-
-impl Wire {
-    fn write(&mut self, len: usize, answers: &mut Answers) -> Result<Told, Trouble> {
-        let message = message(len);
-        if message.payload.len() > 100 || written_len(&message) > self.room.len() {
-            return tell_value(answers, &"no room");
-        }
-        let written = write_message(&message, &mut self.room);
-        tell_value(answers, &self.room.get(..written))
+fn tell_written(answers: &mut Answers, len: usize) -> Result<(), Trouble> {
+    let message = message(len);
+    let mut room = [0; 200];
+    if message.payload.len() > 100 || written_len(&message) > room.len() {
+        return tell_value(answers, &"no room");
     }
+    let written = write_message(&message, &mut room);
+    tell_value(answers, &room.get(..written))
 }
 
 /// A message with a payload of so many bytes.
@@ -91,47 +84,48 @@ fn message(len: usize) -> WireMessage<'static>
     }
 }
 
-fn tell_messages(answers: &mut Answers, datagram: &[u8]) -> Result<Told, Trouble> {
+fn tell_messages(answers: &mut Answers, datagram: &[u8]) -> Result<(), Trouble> {
     for read in Messages::new(datagram) {
         write!(answers, "{read:?} ")?;
     }
-    Ok(Told::Answered)
+    Ok(())
 }
 
-fn tell_segments(answers: &mut Answers, len: usize) -> Result<Told, Trouble> {
+fn tell_segments(answers: &mut Answers, len: usize) -> Result<(), Trouble> {
     for segment in SegmentsOf::new(&message(len)) {
         write!(answers, "{} {} ", segment.tp_header(), segment.slice.len())?;
     }
-    Ok(Told::Answered)
+    Ok(())
 }
 
-fn tell_pieces(answers: &mut Answers, len: usize) -> Result<Told, Trouble> {
+fn tell_pieces(answers: &mut Answers, len: usize) -> Result<(), Trouble> {
     for piece in Sent::new(&message(len)) {
         write!(answers, "{piece:?} ")?;
     }
-    Ok(Told::Answered)
+    Ok(())
 }
 
+/// What has no state.
+#[derive(Drop)]
+pub(crate) struct Wire;
+
 impl Subject for Wire {
-    type Act = Act;
+    const ACTS: usize = ACTS.len();
+
+    const WITHOUT_MEMORY: usize = WITHOUT_MEMORY;
 
     fn make(_alloc: Global) -> Result<Wire, AllocError> {
-        Ok(Wire { room: [0; 200] })
+        Ok(Wire)
     }
 
-    fn acts() -> &'static [Act] {
-        ACTS
-    }
-
-    fn without_memory() -> usize {
-        WITHOUT_MEMORY
-    }
-
-    fn act(&mut self, act: Act, answers: &mut Answers) -> Result<Told, Trouble> {
-        match act {
+    fn perform(&mut self, place: usize, answers: &mut Answers) -> Result<(), Trouble> {
+        let Some(act) = ACTS.get(place) else {
+            return tell_value(answers, &"no act");
+        };
+        match *act {
             Message(bytes) => tell_value(answers, &read_message(bytes)),
             Datagram(bytes) => tell_messages(answers, bytes),
-            Write(len) => self.write(len, answers),
+            Write(len) => tell_written(answers, len),
             Segment(bytes) => tell_value(answers, &read_segment(bytes)),
             Segments(len) => tell_segments(answers, len),
             Pieces(len) => tell_pieces(answers, len),

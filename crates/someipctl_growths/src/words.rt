@@ -1,18 +1,20 @@
 //! What the words of the program ask for, and how it ends.
-use crate::clients::ClientSubject;
 use crate::messages::Messages;
-use crate::nodes::{ClientNode, ServerNode};
+use crate::nodes::client::ClientNode;
+use crate::nodes::server::ServerNode;
 use crate::payloads::Payloads;
-use crate::reassembly::{Lists, Pools};
+use crate::reassembly::Store;
 use crate::runs::Runs;
-use crate::servers::ServerSubject;
+use crate::servers::Server;
 use crate::sessions::Sessions;
 use crate::sweep::{After, Ended, Plan, Sweep};
-use crate::tables::{OffersSubject, SeekerSubject, SubscribersSubject, SubscriptionsSubject};
 use crate::told::Trouble;
 use crate::wire::Wire;
+use sd_core::{Offers, Seeker, Subscribers, Subscriptions};
+use someip_rpc::ClientCore;
+use someip_tp::{IntervalPool, SegmentList};
 use std::rt::Env;
-use std::{env, str};
+use std::{env, io, str};
 
 /// The names of the sweeps.
 const NAMES: &[&str] = &[
@@ -45,10 +47,10 @@ pub(crate) fn run<R: Env + Print + AllocGlobal>(rt: &R) -> u8 {
     let Some(words) = words_of(rt) else {
         return RIGHT;
     };
-    match plan_of(&words) {
-        Some(("all", plan)) => sweep_all(rt, plan),
-        Some((name, plan)) => sweep_one(rt, plan, name),
-        None => NO_SWEEP,
+    match (plan_of(&words), name_of(&words)) {
+        (Some(plan), "all") => sweep_all(rt, plan),
+        (Some(plan), name) => sweep_one(rt, name, plan),
+        (None, _) => NO_SWEEP,
     }
 }
 
@@ -59,19 +61,42 @@ fn sweep_all<R: Print + AllocGlobal>(rt: &R, plan: Plan) -> u8 {
         if print!(rt; "{name} ").is_err() {
             return FINDING;
         }
-        greatest = greatest.max(sweep_one(rt, plan, name));
+        greatest = greatest.max(sweep_one(rt, name, plan));
     }
     greatest
 }
 
 /// Does the sweep with a name, and gives the exit status.
-fn sweep_one<R: Print + AllocGlobal>(rt: &R, plan: Plan, name: &str) -> u8 {
-    match Sweep::new(rt.alloc(), plan) {
-        Ok(mut sweep) => {
-            let ended = sweep_by_name(&mut sweep, name);
-            status_of(rt, &sweep, ended)
-        }
-        Err(_) => RIGHT,
+fn sweep_one<R: Print + AllocGlobal>(rt: &R, name: &str, plan: Plan) -> u8 {
+    let Ok(mut sweep) = Sweep::new(rt.alloc(), plan) else {
+        return RIGHT;
+    };
+    let ended = sweep_named(&mut sweep, name);
+    match tell_ended(rt, &sweep, ended) {
+        Ok(()) => status_of(ended),
+        Err(_) => FINDING,
+    }
+}
+
+/// How the sweep with a name ended.
+fn sweep_named(sweep: &mut Sweep, name: &str) -> Result<Ended, Trouble> {
+    match name {
+        "wire" => sweep.run::<Wire>(),
+        "segment-list" => sweep.run::<Store<SegmentList>>(),
+        "interval-pool" => sweep.run::<Store<IntervalPool>>(),
+        "payloads" => sweep.run::<Payloads>(),
+        "messages" => sweep.run::<Messages>(),
+        "sessions" => sweep.run::<Sessions>(),
+        "offers" => sweep.run::<Offers>(),
+        "seeker" => sweep.run::<Seeker>(),
+        "subscribers" => sweep.run::<Subscribers>(),
+        "subscriptions" => sweep.run::<Subscriptions>(),
+        "client" => sweep.run::<ClientCore>(),
+        "server" => sweep.run::<Server>(),
+        "server-node" => sweep.run::<ServerNode>(),
+        "client-node" => sweep.run::<ClientNode>(),
+        "runs" => sweep.run::<Runs>(),
+        _ => Err(Trouble::NoSweep),
     }
 }
 
@@ -83,8 +108,16 @@ fn words_of<R: Env + AllocGlobal>(rt: &R) -> Option<Vec<String>> {
     }
 }
 
-/// The name of a sweep, and what it does.
-fn plan_of(words: &[String]) -> Option<(&str, Plan)> {
+/// The name of a sweep.
+fn name_of(words: &[String]) -> &str {
+    match words.get(1) {
+        Some(name) => name.as_str(),
+        None => "",
+    }
+}
+
+/// What a sweep does.
+fn plan_of(words: &[String]) -> Option<Plan> {
     let after = match words.get(2)?.as_str() {
         "again" => After::Again,
         "left-out" => After::LeftOut,
@@ -95,58 +128,33 @@ fn plan_of(words: &[String]) -> Option<(&str, Plan)> {
         "bare" => false,
         _ => return None,
     };
-    Some((words.get(1)?.as_str(), Plan { after, is_whole }))
+    Some(Plan { after, is_whole })
 }
 
-/// How the sweep with a name ended; none where no sweep has it.
-fn sweep_by_name(sweep: &mut Sweep, name: &str) -> Result<Option<Ended>, Trouble> {
-    let ended = match name {
-        "wire" => sweep.run::<Wire>(),
-        "segment-list" => sweep.run::<Lists>(),
-        "interval-pool" => sweep.run::<Pools>(),
-        "payloads" => sweep.run::<Payloads>(),
-        "messages" => sweep.run::<Messages>(),
-        "sessions" => sweep.run::<Sessions>(),
-        "offers" => sweep.run::<OffersSubject>(),
-        "seeker" => sweep.run::<SeekerSubject>(),
-        "subscribers" => sweep.run::<SubscribersSubject>(),
-        "subscriptions" => sweep.run::<SubscriptionsSubject>(),
-        "client" => sweep.run::<ClientSubject>(),
-        "server" => sweep.run::<ServerSubject>(),
-        "server-node" => sweep.run::<ServerNode>(),
-        "client-node" => sweep.run::<ClientNode>(),
-        "runs" => sweep.run::<Runs>(),
-        _ => return Ok(None),
-    };
-    ended.map(Some)
-}
-
-/// Prints how a sweep ended, and gives the exit status.
-fn status_of<R: Print>(rt: &R, sweep: &Sweep, ended: Result<Option<Ended>, Trouble>) -> u8 {
-    let (status, printed) = match ended {
-        Ok(Some(Ended::Unrefused)) => (RIGHT, println!(rt; "unrefused")),
-        Ok(Some(Ended::Unjudged)) | Err(Trouble::OutOfMemory) => (RIGHT, println!(rt; "unjudged")),
-        Ok(Some(Ended::Refused(act))) => (RIGHT, println!(rt; "refused {act}")),
-        Ok(Some(Ended::Wrong(act))) => (FINDING, tell_wrong(rt, sweep, act)),
-        Ok(None) => (NO_SWEEP, println!(rt; "no sweep")),
-        Err(Trouble::NoRoom) => (NO_SWEEP, println!(rt; "no room")),
-    };
-    match printed {
-        Ok(()) => status,
-        Err(_) => FINDING,
+/// The exit status of a sweep.
+fn status_of(ended: Result<Ended, Trouble>) -> u8 {
+    match ended {
+        Ok(Ended::Wrong(_)) => FINDING,
+        Err(Trouble::NoSweep | Trouble::NoRoom) => NO_SWEEP,
+        _ => RIGHT,
     }
 }
 
-/// Prints an act, what it has to answer, and what it answered.
-fn tell_wrong<R: Print>(rt: &R, sweep: &Sweep, act: usize) -> std::io::Result<()> {
-    let [name, expected, given] = sweep.wrong(act);
-    let (name, expected, given) = (text_of(name), text_of(expected), text_of(given));
-    println!(rt; "act {act}, {name}: expected {expected}, answered {given}")
+/// Prints how a sweep ended.
+fn tell_ended<R: Print>(rt: &R, sweep: &Sweep, ended: Result<Ended, Trouble>) -> io::Result<()> {
+    match ended {
+        Ok(Ended::Unrefused) => println!(rt; "unrefused"),
+        Ok(Ended::Unjudged) | Err(Trouble::OutOfMemory) => println!(rt; "unjudged"),
+        Ok(Ended::Refused(act)) => println!(rt; "refused {act}"),
+        Ok(Ended::Wrong(act)) => tell_wrong(rt, sweep, act),
+        Err(Trouble::NoSweep) => println!(rt; "no sweep"),
+        Err(Trouble::NoRoom) => println!(rt; "no room"),
+    }
 }
 
-fn text_of(bytes: Option<&[u8]>) -> &str {
-    match bytes {
-        Some(bytes) => str::from_utf8(bytes).unwrap_or("no text"),
-        None => "nothing",
-    }
+/// Prints the place of an act, what it has to answer, and what it answered.
+fn tell_wrong<R: Print>(rt: &R, sweep: &Sweep, act: usize) -> io::Result<()> {
+    let expected = str::from_utf8(sweep.expected(act).unwrap_or(b"nothing")).unwrap_or("no text");
+    let given = str::from_utf8(sweep.given()).unwrap_or("no text");
+    println!(rt; "act {act}: expected {expected}, answered {given}")
 }

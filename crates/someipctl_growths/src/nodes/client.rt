@@ -3,10 +3,10 @@ use super::Act::{
     Answer, Call, Datagram, Long, Publish, PublishTo, Restart, Start, StopOffer, Subscribe, Tick,
     Unsubscribe,
 };
-use super::{Act, CLIENT, Kept, OK, SD_OF_ALL, SD_OF_CLIENT, SD_OF_SERVER, SERVER};
+use super::{Act, CLIENT, NodeSubject, OK, SD_OF_ALL, SD_OF_CLIENT, SD_OF_SERVER, SERVER};
 use crate::answers::Answers;
 use crate::sweep::Subject;
-use crate::told::{Told, Trouble};
+use crate::told::Trouble;
 use someip_rpc::CallKind;
 use std::alloc::{AllocError, Global};
 
@@ -101,29 +101,24 @@ const ACTS: &[Act] = &[
 
 const WITHOUT_MEMORY: usize = 12;
 
+/// The node.
 #[derive(Drop)]
-pub(crate) struct ClientNode(Kept);
+pub(crate) struct ClientNode(NodeSubject);
 
 impl Subject for ClientNode {
-    type Act = Act;
+    const ACTS: usize = ACTS.len();
+
+    const WITHOUT_MEMORY: usize = WITHOUT_MEMORY;
 
     fn make(alloc: Global) -> Result<ClientNode, AllocError> {
-        Ok(ClientNode(Kept::new(alloc, SETUP)?))
+        Ok(ClientNode(NodeSubject::new(alloc, ACTS, SETUP)?))
     }
 
-    fn acts() -> &'static [Act] {
-        ACTS
-    }
-
-    fn without_memory() -> usize {
-        WITHOUT_MEMORY
-    }
-
-    fn act(&mut self, act: Act, answers: &mut Answers) -> Result<Told, Trouble> {
-        self.0.act(act, answers)
+    fn perform(&mut self, place: usize, answers: &mut Answers) -> Result<(), Trouble> {
+        self.0.perform(place, answers)
     }
 
     fn resume(&mut self, refused: usize) -> Result<Option<usize>, Trouble> {
-        self.0.resume(ACTS, refused)
+        self.0.resume(refused)
     }
 }

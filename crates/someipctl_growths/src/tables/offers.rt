@@ -1,15 +1,14 @@
 //! The instances that a node offers.
-use super::{PHASES, instance};
+use super::{PHASES, instance, timed};
 use crate::answers::Answers;
 use crate::sweep::Subject;
-use crate::told::{Told, Trouble, tell, tell_value};
+use crate::told::{Trouble, tell, tell_value};
 use Act::{Add, Find, IsUp, Start, Stop, Tick};
 use sd_core::{Offers, Sought, Version};
-use someip_tables::Moment;
 use std::alloc::{AllocError, Global};
 
 /// What is done with the offers.
-#[derive(Clone, Copy, Debug)]
+#[derive(Clone, Copy)]
 pub(crate) enum Act {
     /// An instance is added, in version 1.0.
     Add(u16),
@@ -55,29 +54,8 @@ const ACTS: &[(u64, Act)] = &[
 
 const WITHOUT_MEMORY: usize = 7;
 
-#[derive(Drop)]
-pub(crate) struct OffersSubject(Offers);
-
-impl OffersSubject {
-    fn act_at(&mut self, now: Moment, act: Act, answers: &mut Answers) -> Result<Told, Trouble> {
-        match act {
-            Add(number) => self.add(number, answers),
-            Start(delay) => {
-                self.0.start(delay);
-                Ok(Told::Answered)
-            }
-            Tick => tell(answers, &self.0.tick(now, PHASES)),
-            Find(number) => tell(answers, &self.0.find(sought(number))),
-            Stop(number) => tell_value(answers, &self.0.stop(instance(number))),
-            IsUp(number) => tell_value(answers, &self.0.is_up(instance(number))),
-        }
-    }
-
-    fn add(&mut self, number: u16, answers: &mut Answers) -> Result<Told, Trouble> {
-        let version = Version { major: 1, minor: 0 };
-        tell(answers, &self.0.add(instance(number), version))
-    }
-}
+/// The version in which instances are added.
+const VERSION: Version = Version { major: 1, minor: 0 };
 
 /// What asks for an instance, or for any, in any version.
 fn sought(number: u16) -> Sought {
@@ -89,25 +67,29 @@ fn sought(number: u16) -> Sought {
     }
 }
 
-impl Subject for OffersSubject {
-    type Act = (u64, Act);
+impl Subject for Offers {
+    const ACTS: usize = ACTS.len();
 
-    fn make(alloc: Global) -> Result<OffersSubject, AllocError> {
-        Ok(OffersSubject(Offers::new(alloc)))
+    const WITHOUT_MEMORY: usize = WITHOUT_MEMORY;
+
+    fn make(alloc: Global) -> Result<Offers, AllocError> {
+        Ok(Offers::new(alloc))
     }
 
-    fn acts() -> &'static [(u64, Act)] {
-        ACTS
-    }
-
-    fn without_memory() -> usize {
-        WITHOUT_MEMORY
-    }
-
-    fn act(&mut self, act: (u64, Act), answers: &mut Answers) -> Result<Told, Trouble> {
-        match Moment::new(act.0) {
-            Some(now) => self.act_at(now, act.1, answers),
-            None => tell_value(answers, &"no moment"),
+    fn perform(&mut self, place: usize, answers: &mut Answers) -> Result<(), Trouble> {
+        let Some((now, act)) = timed(ACTS, place) else {
+            return tell_value(answers, &"no act");
+        };
+        match act {
+            Add(number) => tell(answers, &self.add(instance(number), VERSION)),
+            Start(delay) => {
+                self.start(delay);
+                Ok(())
+            }
+            Tick => tell(answers, &self.tick(now, PHASES)),
+            Find(number) => tell(answers, &self.find(sought(number))),
+            Stop(number) => tell_value(answers, &self.stop(instance(number))),
+            IsUp(number) => tell_value(answers, &self.is_up(instance(number))),
         }
     }
 }

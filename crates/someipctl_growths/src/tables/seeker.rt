@@ -1,17 +1,16 @@
 //! The offers that a node looks for, and those that it knows.
-use super::{PHASES, address, endpoint, instance};
+use super::{PHASES, address, endpoint, instance, timed};
 use crate::answers::Answers;
 use crate::sweep::Subject;
-use crate::told::{Told, Trouble, tell, tell_refusal, tell_value};
+use crate::told::{Trouble, tell, tell_refusal, tell_value};
 use Act::{Add, Known, Offer, Reboot, Start, Stop, Tick};
-use sd_core::{ReceivedOffer, Seeker};
+use sd_core::{ReceivedOffer, Seeker, Ticked};
 use sd_wire::Ttl;
-use someip_tables::Moment;
 use std::alloc::{AllocError, Global};
 use std::fmt::Write;
 
 /// What is done with the seeker.
-#[derive(Clone, Copy, Debug)]
+#[derive(Clone, Copy)]
 pub(crate) enum Act {
     /// An instance is wanted, in major version 1.
     Add(u16),
@@ -64,44 +63,13 @@ const ACTS: &[(u64, Act)] = &[
 
 const WITHOUT_MEMORY: usize = 11;
 
-#[derive(Drop)]
-pub(crate) struct SeekerSubject(Seeker);
-
-impl SeekerSubject {
-    fn act_at(&mut self, now: Moment, act: Act, answers: &mut Answers) -> Result<Told, Trouble> {
-        match act {
-            Add(number) => tell(answers, &self.0.add(instance(number), 1)),
-            Start(delay) => {
-                self.0.start(delay);
-                Ok(Told::Answered)
-            }
-            Tick => self.tick(now, answers),
-            Offer(number, host, ttl, has_endpoint) => match received(
-                number,
-                host,
-                ttl,
-                has_endpoint,
-            ) {
-                Some(offer) => tell_value(answers, &self.0.offer(&offer, now)),
-                None => tell_value(answers, &"no TTL"),
-            },
-            Stop(number, host) => {
-                let ended = self.0.stop(instance(number), 1, address(host), now);
-                tell_value(answers, &ended)
-            }
-            Reboot(host) => tell(answers, &self.0.peer_reboot(address(host), now)),
-            Known(number) => tell_value(answers, &self.0.known(instance(number), now)),
+fn tell_ticked(answers: &mut Answers, ticked: &Result<Ticked, AllocError>) -> Result<(), Trouble> {
+    match ticked {
+        Ok(ticked) => {
+            write!(answers, "ended {:?} ", ticked.ended)?;
+            tell_value(answers, &ticked.finds)
         }
-    }
-
-    fn tick(&mut self, now: Moment, answers: &mut Answers) -> Result<Told, Trouble> {
-        match self.0.tick(now, PHASES) {
-            Ok(ticked) => {
-                write!(answers, "ended {:?} ", ticked.ended)?;
-                tell_value(answers, &ticked.finds)
-            }
-            Err(refusal) => tell_refusal(answers, &refusal),
-        }
+        Err(refusal) => tell_refusal(answers, refusal),
     }
 }
 
@@ -111,30 +79,49 @@ fn received(number: u16, host: u8, ttl: u32, has_endpoint: bool) -> Option<Recei
         instance: instance(number),
         major: 1,
         ttl: Ttl::new(ttl)?,
-        endpoint: has_endpoint.then_some(endpoint(host, 30509)),
+        endpoint: if has_endpoint {
+            Some(endpoint(host, 30509))
+        } else {
+            None
+        },
         peer: address(host),
     })
 }
 
-impl Subject for SeekerSubject {
-    type Act = (u64, Act);
+impl Subject for Seeker {
+    const ACTS: usize = ACTS.len();
 
-    fn make(alloc: Global) -> Result<SeekerSubject, AllocError> {
-        Ok(SeekerSubject(Seeker::new(alloc)))
+    const WITHOUT_MEMORY: usize = WITHOUT_MEMORY;
+
+    fn make(alloc: Global) -> Result<Seeker, AllocError> {
+        Ok(Seeker::new(alloc))
     }
 
-    fn acts() -> &'static [(u64, Act)] {
-        ACTS
-    }
-
-    fn without_memory() -> usize {
-        WITHOUT_MEMORY
-    }
-
-    fn act(&mut self, act: (u64, Act), answers: &mut Answers) -> Result<Told, Trouble> {
-        match Moment::new(act.0) {
-            Some(now) => self.act_at(now, act.1, answers),
-            None => tell_value(answers, &"no moment"),
+    fn perform(&mut self, place: usize, answers: &mut Answers) -> Result<(), Trouble> {
+        let Some((now, act)) = timed(ACTS, place) else {
+            return tell_value(answers, &"no act");
+        };
+        match act {
+            Add(number) => tell(answers, &self.add(instance(number), 1)),
+            Start(delay) => {
+                self.start(delay);
+                Ok(())
+            }
+            Tick => tell_ticked(answers, &self.tick(now, PHASES)),
+            Offer(number, host, ttl, has_endpoint) => match received(
+                number,
+                host,
+                ttl,
+                has_endpoint,
+            ) {
+                Some(offer) => tell_value(answers, &self.offer(&offer, now)),
+                None => tell_value(answers, &"no TTL"),
+            },
+            Stop(number, host) => {
+                tell_value(answers, &self.stop(instance(number), 1, address(host), now))
+            }
+            Reboot(host) => tell(answers, &self.peer_reboot(address(host), now)),
+            Known(number) => tell_value(answers, &self.known(instance(number), now)),
         }
     }
 }

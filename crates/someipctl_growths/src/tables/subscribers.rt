@@ -1,8 +1,8 @@
 //! The subscriptions at their server.
-use super::{address, endpoint, instance};
+use super::{address, endpoint, instance, timed};
 use crate::answers::Answers;
 use crate::sweep::Subject;
-use crate::told::{Told, Trouble, tell, tell_value};
+use crate::told::{Trouble, tell, tell_value};
 use Act::{Clear, IsLive, Live, Reboot, Stop, StopOffer, Subscribe, Tick};
 use sd_core::{Subscribe as Request, SubscribeRules, Subscribers, Subscription};
 use sd_wire::{SubscriptionCounter, Ttl};
@@ -10,7 +10,7 @@ use someip_tables::Moment;
 use std::alloc::{AllocError, Global};
 
 /// What is done with the subscribers.
-#[derive(Clone, Copy, Debug)]
+#[derive(Clone, Copy)]
 pub(crate) enum Act {
     /// A Subscribe comes to a server that knows this of it: the eventgroup of the instance 1, the host, with an
     /// endpoint or without one, and the TTL in seconds.
@@ -95,44 +95,14 @@ const ACTS: &[(u64, Act)] = &[
 
 const WITHOUT_MEMORY: usize = 14;
 
-#[derive(Drop)]
-pub(crate) struct SubscribersSubject(Subscribers);
-
-impl SubscribersSubject {
-    fn act_at(&mut self, now: Moment, act: Act, answers: &mut Answers) -> Result<Told, Trouble> {
-        match act {
-            Subscribe(rules, eventgroup, host, has_endpoint, ttl) => {
-                match request(eventgroup, host, has_endpoint, ttl) {
-                    Some(request) => tell(answers, &self.0.subscribe(rules, request, now)),
-                    None => tell_value(answers, &"no TTL"),
-                }
-            }
-            Stop(eventgroup, host) => match subscription(eventgroup, host) {
-                Some(subscription) => tell_value(answers, &self.0.stop(subscription, now)),
-                None => tell_value(answers, &"no counter"),
-            },
-            Live(eventgroups) => tell(answers, &self.0.live(instance(1), eventgroups, now)),
-            IsLive(eventgroup, host) => {
-                let endpoint = endpoint(host, 40001);
-                let is_live = self.0.is_live(instance(1), eventgroup, endpoint, now);
-                tell_value(answers, &is_live)
-            }
-            StopOffer(_) | Reboot(_) | Tick | Clear => {
-                self.end(now, act);
-                Ok(Told::Answered)
-            }
-        }
-    }
-
-    /// Does an act that answers nothing.
-    fn end(&mut self, now: Moment, act: Act) {
-        match act {
-            StopOffer(number) => self.0.stop_offer(instance(number)),
-            Reboot(host) => self.0.peer_reboot(address(host)),
-            Tick => self.0.tick(now),
-            Clear => self.0.clear(),
-            _ => {}
-        }
+/// Does an act that answers nothing.
+fn end(subscribers: &mut Subscribers, now: Moment, act: Act) {
+    match act {
+        StopOffer(number) => subscribers.stop_offer(instance(number)),
+        Reboot(host) => subscribers.peer_reboot(address(host)),
+        Tick => subscribers.tick(now),
+        Clear => subscribers.clear(),
+        _ => {}
     }
 }
 
@@ -142,7 +112,11 @@ fn request(eventgroup: u16, host: u8, has_endpoint: bool, ttl: u32) -> Option<Re
         instance: instance(1),
         eventgroup,
         peer: address(host),
-        endpoint: has_endpoint.then_some(endpoint(host, 40001)),
+        endpoint: if has_endpoint {
+            Some(endpoint(host, 40001))
+        } else {
+            None
+        },
         counter: SubscriptionCounter::new(0)?,
         ttl: Ttl::new(ttl)?,
     })
@@ -159,25 +133,42 @@ fn subscription(eventgroup: u16, host: u8) -> Option<Subscription> {
     })
 }
 
-impl Subject for SubscribersSubject {
-    type Act = (u64, Act);
+impl Subject for Subscribers {
+    const ACTS: usize = ACTS.len();
 
-    fn make(alloc: Global) -> Result<SubscribersSubject, AllocError> {
-        Ok(SubscribersSubject(Subscribers::new(alloc)))
+    const WITHOUT_MEMORY: usize = WITHOUT_MEMORY;
+
+    fn make(alloc: Global) -> Result<Subscribers, AllocError> {
+        Ok(Subscribers::new(alloc))
     }
 
-    fn acts() -> &'static [(u64, Act)] {
-        ACTS
-    }
-
-    fn without_memory() -> usize {
-        WITHOUT_MEMORY
-    }
-
-    fn act(&mut self, act: (u64, Act), answers: &mut Answers) -> Result<Told, Trouble> {
-        match Moment::new(act.0) {
-            Some(now) => self.act_at(now, act.1, answers),
-            None => tell_value(answers, &"no moment"),
+    fn perform(&mut self, place: usize, answers: &mut Answers) -> Result<(), Trouble> {
+        let Some((now, act)) = timed(ACTS, place) else {
+            return tell_value(answers, &"no act");
+        };
+        match act {
+            Subscribe(rules, eventgroup, host, has_endpoint, ttl) => {
+                match request(eventgroup, host, has_endpoint, ttl) {
+                    Some(request) => tell(answers, &self.subscribe(rules, request, now)),
+                    None => tell_value(answers, &"no TTL"),
+                }
+            }
+            Stop(eventgroup, host) => match subscription(eventgroup, host) {
+                Some(subscription) => tell_value(answers, &self.stop(subscription, now)),
+                None => tell_value(answers, &"no counter"),
+            },
+            Live(eventgroups) => tell(answers, &self.live(instance(1), eventgroups, now)),
+            IsLive(eventgroup, host) => {
+                let endpoint = endpoint(host, 40001);
+                tell_value(
+                    answers,
+                    &self.is_live(instance(1), eventgroup, endpoint, now),
+                )
+            }
+            StopOffer(_) | Reboot(_) | Tick | Clear => {
+                end(self, now, act);
+                Ok(())
+            }
         }
     }
 }

@@ -1,19 +1,19 @@
 //! The subscriptions of a client.
-use super::{address, instance};
+use super::{address, instance, timed};
 use crate::answers::Answers;
 use crate::sweep::Subject;
-use crate::told::{Told, Trouble, tell, tell_value};
+use crate::told::{Trouble, tell, tell_value};
 use Act::{Ack, Clear, IsSubscribed, Nack, Offer, Reboot, Stop, Tick, Unwant, Want};
 use sd_core::{Eventgroup, SubscribeAnswer, Subscriptions};
 use sd_wire::{SubscriptionCounter, Ttl};
-use someip_tables::Moment;
 use std::alloc::{AllocError, Global};
+use std::net::Ipv4Addr;
 
 /// The instance of an eventgroup of the service 1111, and its number.
 type Group = (u16, u16);
 
 /// What is done with the subscriptions.
-#[derive(Clone, Copy, Debug)]
+#[derive(Clone, Copy)]
 pub(crate) enum Act {
     /// An eventgroup is wished, whose instance is offered by a host or by none.
     Want(Group, Option<u8>),
@@ -74,50 +74,11 @@ const ACTS: &[(u64, Act)] = &[
 
 const WITHOUT_MEMORY: usize = 13;
 
-#[derive(Drop)]
-pub(crate) struct SubscriptionsSubject(Subscriptions);
-
-impl SubscriptionsSubject {
-    fn act_at(&mut self, now: Moment, act: Act, answers: &mut Answers) -> Result<Told, Trouble> {
-        match act {
-            Want(group, host) => {
-                let wanted = self.0.want(eventgroup(group), host.map(address), now);
-                tell(answers, &wanted)
-            }
-            Unwant(group) => tell_value(answers, &self.0.unwant(eventgroup(group), now)),
-            Offer(number, host) => {
-                tell(answers, &self.0.offer(instance(number), address(host), now))
-            }
-            Ack(group, host, ttl) => self.ack(now, group, host, ttl, answers),
-            Nack(group, host) => match answer(group, host) {
-                Some(nack) => tell_value(answers, &self.0.nack(nack, now)),
-                None => tell_value(answers, &"no counter"),
-            },
-            Stop(number) => tell(answers, &self.0.stop(instance(number))),
-            Reboot(host) => tell(answers, &self.0.peer_reboot(address(host))),
-            Tick => tell(answers, &self.0.tick(now, &[])),
-            IsSubscribed(group) => {
-                tell_value(answers, &self.0.is_subscribed(&eventgroup(group), now))
-            }
-            Clear => {
-                self.0.clear();
-                Ok(Told::Answered)
-            }
-        }
-    }
-
-    fn ack(
-        &mut self,
-        now: Moment,
-        group: Group,
-        host: u8,
-        ttl: u32,
-        answers: &mut Answers,
-    ) -> Result<Told, Trouble> {
-        match (answer(group, host), Ttl::new(ttl)) {
-            (Some(ack), Some(ttl)) => tell_value(answers, &self.0.ack(ack, ttl, now)),
-            _ => tell_value(answers, &"no TTL"),
-        }
+/// The address of the host that offers an instance, if one does.
+fn offered_by(host: Option<u8>) -> Option<Ipv4Addr> {
+    match host {
+        Some(host) => Some(address(host)),
+        None => None,
     }
 }
 
@@ -138,25 +99,48 @@ fn answer(group: Group, host: u8) -> Option<SubscribeAnswer> {
     })
 }
 
-impl Subject for SubscriptionsSubject {
-    type Act = (u64, Act);
+impl Subject for Subscriptions {
+    const ACTS: usize = ACTS.len();
 
-    fn make(alloc: Global) -> Result<SubscriptionsSubject, AllocError> {
-        Ok(SubscriptionsSubject(Subscriptions::new(alloc)))
+    const WITHOUT_MEMORY: usize = WITHOUT_MEMORY;
+
+    fn make(alloc: Global) -> Result<Subscriptions, AllocError> {
+        Ok(Subscriptions::new(alloc))
     }
 
-    fn acts() -> &'static [(u64, Act)] {
-        ACTS
-    }
-
-    fn without_memory() -> usize {
-        WITHOUT_MEMORY
-    }
-
-    fn act(&mut self, act: (u64, Act), answers: &mut Answers) -> Result<Told, Trouble> {
-        match Moment::new(act.0) {
-            Some(now) => self.act_at(now, act.1, answers),
-            None => tell_value(answers, &"no moment"),
+    fn perform(&mut self, place: usize, answers: &mut Answers) -> Result<(), Trouble> {
+        let Some((now, act)) = timed(ACTS, place) else {
+            return tell_value(answers, &"no act");
+        };
+        match act {
+            Want(group, host) => {
+                tell(
+                    answers,
+                    &self.want(eventgroup(group), offered_by(host), now),
+                )
+            }
+            Unwant(group) => tell_value(answers, &self.unwant(eventgroup(group), now)),
+            Offer(number, host) => {
+                tell(answers, &self.offer(instance(number), address(host), now))
+            }
+            Ack(group, host, ttl) => match (answer(group, host), Ttl::new(ttl)) {
+                (Some(ack), Some(ttl)) => tell_value(answers, &self.ack(ack, ttl, now)),
+                _ => tell_value(answers, &"no TTL"),
+            },
+            Nack(group, host) => match answer(group, host) {
+                Some(nack) => tell_value(answers, &self.nack(nack, now)),
+                None => tell_value(answers, &"no counter"),
+            },
+            Stop(number) => tell(answers, &self.stop(instance(number))),
+            Reboot(host) => tell(answers, &self.peer_reboot(address(host))),
+            Tick => tell(answers, &self.tick(now, &[])),
+            IsSubscribed(group) => {
+                tell_value(answers, &self.is_subscribed(&eventgroup(group), now))
+            }
+            Clear => {
+                self.clear();
+                Ok(())
+            }
         }
     }
 }
