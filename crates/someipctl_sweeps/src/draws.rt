@@ -2,7 +2,7 @@
 
 /// A linear congruential generator: each draw multiplies the state by 6364136223846793005 and adds
 /// 1442695040888963407, modulo 2^64. The first state is the seed.
-#[derive(Debug, Drop)]
+#[derive(Drop)]
 pub struct Draws {
     state: u64,
 }
@@ -22,17 +22,17 @@ impl Draws {
         (self.state >> 33).checked_rem(bound).unwrap_or(0)
     }
 
-    /// The first of two where the next number below 16 is not 0, and else the second.
-    pub fn mostly<T: Copy + Drop>(&mut self, often: T, seldom: T) -> T {
-        if self.below(16) == 0 { seldom } else { often }
+    /// Whether the next number below 16 is 0: then the second of two is drawn, and else the first.
+    pub fn is_seldom(&mut self) -> bool {
+        self.below(16) == 0
     }
 
-    /// The item that the next number below their count names, or the fallback where there is none.
-    pub fn one_of<T: Copy + Drop>(&mut self, items: &[T], fallback: T) -> T {
-        let place = self.below(items.len() as u64);
-        match items.get(place as usize) {
-            Some(item) => *item,
-            None => fallback,
+    /// The word that the next number below their count names.
+    pub fn one_of(&mut self, words: &[&'static str]) -> &'static str {
+        let place = self.below(words.len() as u64);
+        match words.get(place as usize) {
+            Some(word) => *word,
+            None => "",
         }
     }
 }

@@ -1,40 +1,45 @@
 //! Why a sweep could not be made.
 
-use std::alloc::{AllocError, AllocFailed};
-use std::io;
-use thiserror::Error;
+use std::alloc::AllocError;
+use std::{fmt, io};
 
 /// Why a sweep could not be made. What a sweep finds wrong with the stack is none of these.
-#[derive(Clone, Copy, Debug, PartialEq, Eq, Error)]
+#[derive(Clone, Copy)]
 pub enum SweepError {
     /// A word is neither the name of a sweep nor the number of a schedule.
-    #[error("usage: someipctl_sweeps [schedules] [inputs] [fronts] [NUMBER]")]
     Usage,
     /// A file of the data could not be read.
-    #[error("cannot read the data")]
     CannotRead,
     /// The line of this number of the vectors, counted from 1, begins none.
-    #[error("line {0}: bad vector")]
     BadVector(usize),
     /// The setup has no node that is needed.
-    #[error("bad setup")]
     BadSetup,
     /// Writing to standard output failed.
-    #[error("cannot write")]
     CannotWrite,
     /// Memory ran out.
-    #[error("out of memory")]
     OutOfMemory,
+}
+
+impl fmt::Display for SweepError {
+    fn fmt<W: fmt::Write>(&self, f: &mut fmt::Formatter<W>) -> fmt::Result {
+        match self {
+            SweepError::Usage => {
+                write!(
+                    f,
+                    "usage: someipctl_sweeps [schedules] [inputs] [fronts] [NUMBER]"
+                )
+            }
+            SweepError::CannotRead => write!(f, "cannot read the data"),
+            SweepError::BadVector(number) => write!(f, "line {number}: bad vector"),
+            SweepError::BadSetup => write!(f, "bad setup"),
+            SweepError::CannotWrite => write!(f, "cannot write"),
+            SweepError::OutOfMemory => write!(f, "out of memory"),
+        }
+    }
 }
 
 impl From<AllocError> for SweepError {
     fn from(_error: AllocError) -> SweepError {
-        SweepError::OutOfMemory
-    }
-}
-
-impl<T: Drop> From<AllocFailed<T>> for SweepError {
-    fn from(_error: AllocFailed<T>) -> SweepError {
         SweepError::OutOfMemory
     }
 }

@@ -22,20 +22,7 @@ impl Findings {
     /// Adds a finding: an input, and what is wrong with what the stack makes of it.
     pub fn add<I: Display, W: Display>(&mut self, input: &I, wrong: &W) -> Result<(), AllocError> {
         let line = format!(in self.alloc; "{input}: {wrong}")?;
-        self.lines.push(line)?;
-        Ok(())
-    }
-
-    /// Adds a finding where a judgement of an input is one.
-    pub fn judge<I: Display, W: Display + Drop>(
-        &mut self,
-        input: &I,
-        judgement: Result<(), W>,
-    ) -> Result<(), AllocError> {
-        match judgement {
-            Ok(()) => Ok(()),
-            Err(wrong) => self.add(input, &wrong),
-        }
+        Ok(self.lines.push(line)?)
     }
 
     /// The lines, in the order in which they were added.

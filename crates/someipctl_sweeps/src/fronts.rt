@@ -1,23 +1,20 @@
 //! The sweep over the fronts of a message.
 
-use crate::error::SweepError;
 use crate::findings::Findings;
-use crate::report::Report;
 use crate::worked::OFFER;
 use someipctl_commands::show::text_of_datagram;
 use std::alloc::{AllocError, Global};
 
-/// Shows each proper front of the worked Offer but the empty one: it is a fault at its end.
-pub fn sweep(alloc: Global) -> Result<Report, SweepError> {
-    let mut findings = Findings::new(alloc);
+/// Shows each proper front of the worked Offer but the empty one: it is a fault at its end. It gives what was
+/// done, with its counts.
+pub fn sweep(alloc: Global, findings: &mut Findings) -> Result<String, AllocError> {
     let whole = OFFER.len();
     for len in 1..whole {
-        if !is_fault(alloc, OFFER.get(..len).unwrap_or(&OFFER))? {
+        if !is_fault(alloc, OFFER.get(..len).unwrap_or(OFFER))? {
             findings.add(&format_args!("front of {len}"), &"shown otherwise")?;
         }
     }
-    let done = format!(in alloc; "fronts: those of a message of {whole} bytes")?;
-    Ok(Report { done, findings })
+    format!(in alloc; "fronts: those of a message of {whole} bytes")
 }
 
 /// Whether a front is shown as a fault at its end.

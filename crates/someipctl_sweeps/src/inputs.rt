@@ -2,6 +2,7 @@
 
 mod change;
 mod discovery;
+mod input;
 mod messages;
 mod node;
 mod payloads;
@@ -11,9 +12,9 @@ mod wrong;
 
 use crate::error::SweepError;
 use crate::findings::Findings;
-use crate::report::Report;
 use change::Change;
 use discovery::judge_discovery;
+use input::{Input, Origin};
 use messages::judge_datagram;
 use node::judge_node;
 use payloads::judge_payload;
@@ -21,57 +22,17 @@ use someip_node::Config;
 use someip_payload::Shape;
 use someip_wire::Messages;
 use someip_world::Setup;
-use std::alloc::Global;
-use std::fmt;
-use trial::{PASTS, Trial, WAYS, Way};
+use std::alloc::{AllocError, Global};
+use trial::{Past, Trial, WAYS, Way};
 use vectors::{Vector, read_vectors};
+use wrong::InputWrong;
 
-/// What an input is made of.
-#[derive(Clone, Copy, Debug)]
-enum Origin {
-    /// The vector of this number, counted from 1.
-    Vector(usize),
-    /// The payload of a message of that vector, by itself; messages count from 1.
-    PayloadOf(usize, usize),
-}
-
-/// An input.
-#[derive(Clone, Copy, Debug)]
-struct Input {
-    origin: Origin,
-    change: Change,
-}
-
-impl fmt::Display for Input {
-    fn fmt<W: fmt::Write>(&self, f: &mut fmt::Formatter<W>) -> fmt::Result {
-        let change = self.change;
-        match self.origin {
-            Origin::Vector(number) => write!(f, "vector {number} {change}"),
-            Origin::PayloadOf(number, message) => {
-                write!(
-                    f,
-                    "payload of message {message} of vector {number} {change}"
-                )
-            }
-        }
-    }
-}
-
-/// How many inputs were tried.
-#[derive(Clone, Copy, Debug, Default)]
-struct Tally {
-    cuts: usize,
-    bytes: usize,
-    trials: usize,
-}
-
-impl Tally {
-    fn count(&mut self, change: Change) {
-        match change {
-            Change::Cut(_) => self.cuts = self.cuts.saturating_add(1),
-            Change::Byte(_, _) => self.bytes = self.bytes.saturating_add(1),
-        }
-    }
+/// What bytes are read as.
+#[derive(Clone, Copy)]
+enum Reading<'s> {
+    Datagram,
+    Discovery,
+    Payload(&'s Shape),
 }
 
 /// The sweep, as far as it has come.
@@ -80,128 +41,176 @@ struct Inputs<'s> {
     alloc: Global,
     /// The configuration of the nodes that get the datagrams.
     config: &'s Config,
-    tally: Tally,
-    findings: Findings,
+    findings: &'s mut Findings,
+    /// How many inputs are cut.
+    cuts: usize,
+    /// How many have a changed byte.
+    bytes: usize,
+    /// How many datagrams were handed to nodes.
+    trials: usize,
 }
 
 /// Cuts and changes the vectors of a file, and judges what is made of each input. The second node of the
-/// setup is the one that gets the datagrams.
-pub fn sweep(alloc: Global, setup: &Setup, text: &str) -> Result<Report, SweepError> {
+/// setup is the one that gets the datagrams. It gives what was done, with its counts.
+pub fn sweep(
+    alloc: Global,
+    setup: &Setup,
+    text: &str,
+    findings: &mut Findings,
+) -> Result<String, SweepError> {
+    let Some(node) = setup.nodes().get(1) else {
+        return Err(SweepError::BadSetup);
+    };
     let vectors = read_vectors(alloc, text)?;
-    let node = setup.nodes().get(1).ok_or(SweepError::BadSetup)?;
     let mut inputs = Inputs {
         alloc,
         config: &node.config,
-        tally: Tally::default(),
-        findings: Findings::new(alloc),
+        findings,
+        cuts: 0,
+        bytes: 0,
+        trials: 0,
     };
-    for (index, vector) in vectors.iter().enumerate() {
-        inputs.sweep_vector(index.saturating_add(1), vector)?;
-    }
-    inputs.into_report(vectors.len())
+    inputs.sweep_vectors(&vectors)?;
+    Ok(inputs.text(vectors.len())?)
 }
 
 impl Inputs<'_> {
-    fn sweep_vector(&mut self, number: usize, vector: &Vector) -> Result<(), SweepError> {
-        match vector {
-            Vector::Datagram(bytes) => {
-                self.sweep_datagram(number, bytes)?;
-                self.sweep_messages(number, bytes)
-            }
-            Vector::Payload(shape, bytes) => self.sweep_payload(number, shape, bytes),
-        }
-    }
-
-    fn sweep_datagram(&mut self, number: usize, whole: &[u8]) -> Result<(), SweepError> {
-        let origin = Origin::Vector(number);
-        for change in Change::all(self.alloc, whole.len())?.iter() {
-            let change = *change;
-            let bytes = change.of(self.alloc, whole)?;
-            let input = Input { origin, change };
-            self.tally.count(change);
-            let judgement = judge_datagram(self.alloc, &bytes, whole, change.front());
-            self.findings.judge(&input, judgement)?;
-            self.try_ways(input, &bytes)?;
+    fn sweep_vectors(&mut self, vectors: &[Vector]) -> Result<(), AllocError> {
+        for (index, vector) in vectors.iter().enumerate() {
+            self.sweep_vector(index.saturating_add(1), vector)?;
         }
         Ok(())
     }
 
+    fn sweep_vector(&mut self, number: usize, vector: &Vector) -> Result<(), AllocError> {
+        let origin = Origin::Vector(number);
+        match vector {
+            Vector::Datagram(bytes) => {
+                self.sweep_changes(origin, Reading::Datagram, bytes)?;
+                self.sweep_messages(number, bytes)
+            }
+            Vector::Payload(shape, bytes) => {
+                self.sweep_changes(origin, Reading::Payload(shape), bytes)
+            }
+        }
+    }
+
+    /// Reads the payload of each message of a vector, cut and changed, as Service Discovery.
+    fn sweep_messages(&mut self, number: usize, whole: &[u8]) -> Result<(), AllocError> {
+        let mut message = 0usize;
+        for item in Messages::new(whole) {
+            message = message.saturating_add(1);
+            if let Ok(read) = item {
+                let origin = Origin::PayloadOf(number, message);
+                self.sweep_changes(origin, Reading::Discovery, read.payload)?;
+            }
+        }
+        Ok(())
+    }
+
+    /// Judges what is made of each change of bytes.
+    fn sweep_changes(
+        &mut self,
+        origin: Origin,
+        reading: Reading<'_>,
+        whole: &[u8],
+    ) -> Result<(), AllocError> {
+        for change in Change::all(self.alloc, whole.len())?.iter() {
+            let input = Input {
+                origin,
+                change: *change,
+            };
+            self.count(*change);
+            self.sweep_input(input, reading, whole)?;
+        }
+        Ok(())
+    }
+
+    fn count(&mut self, change: Change) {
+        match change {
+            Change::Cut(_) => self.cuts = self.cuts.saturating_add(1),
+            Change::Byte(_, _) => self.bytes = self.bytes.saturating_add(1),
+        }
+    }
+
+    /// Judges what is made of an input, and hands it to nodes if it is a datagram.
+    fn sweep_input(
+        &mut self,
+        input: Input,
+        reading: Reading<'_>,
+        whole: &[u8],
+    ) -> Result<(), AllocError> {
+        let bytes = input.change.of(self.alloc, whole)?;
+        if let Err(wrong) = judge(self.alloc, reading, &bytes, whole, input.change.front()) {
+            self.findings.add(&input, &wrong)?;
+        }
+        match reading {
+            Reading::Datagram => self.try_datagram(input, &bytes),
+            Reading::Discovery | Reading::Payload(_) => Ok(()),
+        }
+    }
+
     /// Hands a datagram to nodes by each way.
-    fn try_ways(&mut self, input: Input, bytes: &[u8]) -> Result<(), SweepError> {
-        for way in WAYS.iter() {
+    fn try_datagram(&mut self, input: Input, bytes: &[u8]) -> Result<(), AllocError> {
+        for way in WAYS {
             self.try_way(input, *way, bytes)?;
         }
         Ok(())
     }
 
     /// Hands a datagram by a way to a node of each past.
-    fn try_way(&mut self, input: Input, way: Way, bytes: &[u8]) -> Result<(), SweepError> {
-        for past in PASTS.iter() {
-            let trial = Trial { way, past: *past };
-            self.tally.trials = self.tally.trials.saturating_add(1);
-            if let Err(wrong) = judge_node(self.alloc, self.config, trial, bytes) {
-                self.findings.add(&format_args!("{input} {trial}"), &wrong)?;
-            }
-        }
-        Ok(())
+    fn try_way(&mut self, input: Input, way: Way, bytes: &[u8]) -> Result<(), AllocError> {
+        self.try_node(
+            input,
+            Trial {
+                way,
+                past: Past::New,
+            },
+            bytes,
+        )?;
+        self.try_node(
+            input,
+            Trial {
+                way,
+                past: Past::Worked,
+            },
+            bytes,
+        )
     }
 
-    /// Reads the payload of each message of a vector, cut and changed, as Service Discovery.
-    fn sweep_messages(&mut self, number: usize, whole: &[u8]) -> Result<(), SweepError> {
-        let mut number_of_message = 0usize;
-        for item in Messages::new(whole) {
-            number_of_message = number_of_message.saturating_add(1);
-            if let Ok(message) = item {
-                let origin = Origin::PayloadOf(number, number_of_message);
-                self.sweep_discovery(origin, message.payload)?;
-            }
+    fn try_node(&mut self, input: Input, trial: Trial, bytes: &[u8]) -> Result<(), AllocError> {
+        self.trials = self.trials.saturating_add(1);
+        match judge_node(self.alloc, self.config, trial, bytes) {
+            Ok(()) => Ok(()),
+            Err(wrong) => self.findings.add(&format_args!("{input} {trial}"), &wrong),
         }
-        Ok(())
     }
 
-    fn sweep_discovery(&mut self, origin: Origin, whole: &[u8]) -> Result<(), SweepError> {
-        for change in Change::all(self.alloc, whole.len())?.iter() {
-            let change = *change;
-            let bytes = change.of(self.alloc, whole)?;
-            self.tally.count(change);
-            let judgement = judge_discovery(self.alloc, &bytes);
-            self.findings.judge(&Input { origin, change }, judgement)?;
-        }
-        Ok(())
-    }
-
-    fn sweep_payload(
-        &mut self,
-        number: usize,
-        shape: &Shape,
-        whole: &[u8],
-    ) -> Result<(), SweepError> {
-        let origin = Origin::Vector(number);
-        for change in Change::all(self.alloc, whole.len())?.iter() {
-            let change = *change;
-            let bytes = change.of(self.alloc, whole)?;
-            self.tally.count(change);
-            let judgement = judge_payload(self.alloc, shape, &bytes);
-            self.findings.judge(&Input { origin, change }, judgement)?;
-        }
-        Ok(())
-    }
-
-    fn into_report(self, vectors: usize) -> Result<Report, SweepError> {
+    /// What was done.
+    fn text(&self, vectors: usize) -> Result<String, AllocError> {
         let Inputs {
-            alloc,
-            config: _,
-            tally,
-            findings,
-        } = self;
-        let Tally {
             cuts,
             bytes,
             trials,
-        } = tally;
-        let done = format!(in alloc;
+            ..
+        } = self;
+        format!(in self.alloc;
             "inputs: {vectors} vectors, {cuts} cuts, {bytes} changed bytes, {trials} datagrams to nodes"
-        )?;
-        Ok(Report { done, findings })
+        )
+    }
+}
+
+/// Judges what is read of bytes that a change made of whole ones, of which it left a front as it was.
+fn judge(
+    alloc: Global,
+    reading: Reading<'_>,
+    bytes: &[u8],
+    whole: &[u8],
+    front: usize,
+) -> Result<(), InputWrong> {
+    match reading {
+        Reading::Datagram => judge_datagram(alloc, bytes, whole, front),
+        Reading::Discovery => judge_discovery(alloc, bytes),
+        Reading::Payload(shape) => judge_payload(alloc, shape, bytes),
     }
 }

@@ -8,7 +8,6 @@ mod error;
 mod findings;
 mod fronts;
 mod inputs;
-mod report;
 mod schedules;
 mod sweeping;
 mod worked;

@@ -12,75 +12,69 @@ mod wrong;
 
 use crate::error::SweepError;
 use crate::findings::Findings;
-use crate::report::Report;
 use judging::judge;
 use reached::Reached;
 use schedule::{STEPS, Schedule};
 use someip_world::Setup;
 use std::alloc::{AllocError, Global};
-use std::fmt;
 use wrong::ScheduleWrong;
 
 /// How many schedules are drawn: the first is that of the seed 1.
 const SCHEDULES: u64 = 1000;
 
-/// The name of a schedule: its seed.
-#[derive(Clone, Copy, Debug)]
-struct Seed(u64);
-
-impl fmt::Display for Seed {
-    fn fmt<W: fmt::Write>(&self, f: &mut fmt::Formatter<W>) -> fmt::Result {
-        write!(f, "schedule {}", self.0)
-    }
-}
-
-/// Draws and judges all schedules over a setup.
-pub fn sweep(alloc: Global, setup: &Setup) -> Result<Report, SweepError> {
-    let mut findings = Findings::new(alloc);
+/// Draws and judges all schedules over a setup. It gives what was done, with its counts.
+pub fn sweep(alloc: Global, setup: &Setup, findings: &mut Findings) -> Result<String, AllocError> {
     let mut reached = Reached::new(alloc)?;
     for seed in 1..=SCHEDULES {
-        let judgement = judge_seed(alloc, setup, seed, &mut reached);
-        findings.judge(&Seed(seed), judgement)?;
+        if let Err(wrong) = judge_seed(alloc, setup, seed, &mut reached) {
+            findings.add(&format_args!("schedule {seed}"), &wrong)?;
+        }
     }
-    find_missed(alloc, &reached, &mut findings)?;
-    let done = format!(in alloc; "schedules: {SCHEDULES} of {STEPS} steps")?;
-    Ok(Report { done, findings })
+    find_missed(&reached, findings)?;
+    format!(in alloc; "schedules: {SCHEDULES} of {STEPS} steps")
 }
 
-/// Draws and judges the schedule of a seed, and counts what it reaches.
+/// Draws and judges the schedule of a seed, and notes what it reaches.
 fn judge_seed(
     alloc: Global,
     setup: &Setup,
     seed: u64,
     reached: &mut Reached,
 ) -> Result<(), ScheduleWrong> {
-    let mut schedule = Schedule::new(alloc, setup)?;
-    schedule.draw(alloc, setup, seed)?;
-    reached.count(&schedule);
+    let mut schedule = Schedule::new(alloc, setup, seed)?;
+    schedule.draw()?;
+    reached.note(&schedule);
     judge(alloc, setup.nodes(), &schedule)
 }
 
 /// The lines of the schedule of a seed, and what is wrong with it after them, if something is.
 pub fn text_of(alloc: Global, setup: &Setup, seed: u64) -> Result<String, SweepError> {
-    let mut schedule = match Schedule::new(alloc, setup) {
-        Ok(schedule) => schedule,
-        Err(_) => return Err(SweepError::OutOfMemory),
-    };
-    let text = match schedule.draw(alloc, setup, seed) {
-        Ok(()) => schedule.text.clone()?,
-        Err(wrong) => format!(in alloc; "{}# {wrong}\n", schedule.text)?,
-    };
-    Ok(text)
+    match Schedule::new(alloc, setup, seed) {
+        Ok(mut schedule) => {
+            let drawn = schedule.draw();
+            Ok(text_with(alloc, &schedule.text, drawn)?)
+        }
+        Err(_) => Err(SweepError::OutOfMemory),
+    }
+}
+
+fn text_with(
+    alloc: Global,
+    text: &String,
+    drawn: Result<(), ScheduleWrong>,
+) -> Result<String, AllocError> {
+    match drawn {
+        Ok(()) => text.clone(),
+        Err(wrong) => format!(in alloc; "{text}# {wrong}\n"),
+    }
 }
 
 /// A finding for each milestone that no schedule reached.
-fn find_missed(
-    alloc: Global,
-    reached: &Reached,
-    findings: &mut Findings,
-) -> Result<(), AllocError> {
-    for milestone in reached.missed(alloc)?.iter() {
-        findings.add(&"schedules", &format_args!("none has {milestone}"))?;
+fn find_missed(reached: &Reached, findings: &mut Findings) -> Result<(), AllocError> {
+    for milestone in reached.milestones() {
+        if !milestone.is_reached {
+            findings.add(&"schedules", &format_args!("none has {}", milestone.name))?;
+        }
     }
     Ok(())
 }

@@ -1,12 +1,12 @@
 //! What the program's words ask for, one after the other.
 
 use crate::error::SweepError;
-use crate::report::Report;
+use crate::findings::Findings;
 use crate::{fronts, inputs, schedules};
 use someip_world::Setup;
 use std::alloc::Global;
 use std::rt::{Env, Files};
-use std::{env, fs};
+use std::{env, fs, io};
 
 /// The file of the setup.
 const SETUP: &str = "two.toml";
@@ -14,61 +14,54 @@ const SETUP: &str = "two.toml";
 /// The file of the vectors.
 const VECTORS: &str = "all.txt";
 
-/// What a word asks for.
-#[derive(Clone, Copy, Debug)]
-enum Sweep {
-    /// Schedules that are drawn.
-    Schedules,
-    /// Vectors that are cut and changed.
-    Inputs,
-    /// Fronts of a message.
-    Fronts,
-    /// No sweep: the lines of the schedule of a number.
-    LinesOf(u64),
-}
-
-impl Sweep {
-    /// What a word asks for.
-    fn of_word(word: &str) -> Option<Sweep> {
-        match word {
-            "schedules" => Some(Sweep::Schedules),
-            "inputs" => Some(Sweep::Inputs),
-            "fronts" => Some(Sweep::Fronts),
-            number => number.parse::<u64>().ok().map(Sweep::LinesOf),
-        }
-    }
-}
-
 /// Does what the program's words ask for, and prints what each comes to. It answers whether nothing was found.
 pub fn sweep_all<R: Files + Env + Print + AllocGlobal>(rt: &R) -> Result<bool, SweepError> {
     let setup = read_setup(rt)?;
     let mut is_clean = true;
     for word in env::args(rt)?.skip(1) {
-        let sweep = Sweep::of_word(word.as_str()).ok_or(SweepError::Usage)?;
-        is_clean = make(rt, sweep, &setup)? && is_clean;
+        is_clean = sweep(rt, word.as_str(), &setup)? && is_clean;
     }
     Ok(is_clean)
 }
 
-/// Makes a sweep, and prints what it comes to. It answers whether nothing was found.
-fn make<R: Files + Print + AllocGlobal>(
+/// Makes the sweep of a word, and prints what it comes to. A number asks for the lines of its schedule. It answers
+/// whether nothing was found.
+fn sweep<R: Files + Print + AllocGlobal>(
     rt: &R,
-    sweep: Sweep,
+    word: &str,
     setup: &Setup,
 ) -> Result<bool, SweepError> {
-    match sweep {
-        Sweep::Schedules => print(rt, &schedules::sweep(rt.alloc(), setup)?),
-        Sweep::Inputs => {
-            let text = read_text(rt, VECTORS)?;
-            print(rt, &inputs::sweep(rt.alloc(), setup, text.as_str())?)
-        }
-        Sweep::Fronts => print(rt, &fronts::sweep(rt.alloc())?),
-        Sweep::LinesOf(seed) => {
-            let text = schedules::text_of(rt.alloc(), setup, seed)?;
-            print!(rt; "{text}")?;
-            Ok(true)
-        }
-    }
+    let mut findings = Findings::new(rt.alloc());
+    let done = match word {
+        "schedules" => schedules::sweep(rt.alloc(), setup, &mut findings)?,
+        "inputs" => sweep_inputs(rt, setup, &mut findings)?,
+        "fronts" => fronts::sweep(rt.alloc(), &mut findings)?,
+        number => return print_schedule(rt, number, setup),
+    };
+    Ok(print(rt, done.as_str(), findings.lines())?)
+}
+
+fn sweep_inputs<R: Files + AllocGlobal>(
+    rt: &R,
+    setup: &Setup,
+    findings: &mut Findings,
+) -> Result<String, SweepError> {
+    let text = read_text(rt, VECTORS)?;
+    inputs::sweep(rt.alloc(), setup, text.as_str(), findings)
+}
+
+/// Prints the lines of the schedule of a number.
+fn print_schedule<R: Print + AllocGlobal>(
+    rt: &R,
+    number: &str,
+    setup: &Setup,
+) -> Result<bool, SweepError> {
+    let Ok(seed) = number.parse::<u64>() else {
+        return Err(SweepError::Usage);
+    };
+    let text = schedules::text_of(rt.alloc(), setup, seed)?;
+    print!(rt; "{text}")?;
+    Ok(true)
 }
 
 /// The setup that all sweeps share.
@@ -94,10 +87,14 @@ fn read_text<R: Files + AllocGlobal>(rt: &R, path: &str) -> Result<String, Sweep
 
 /// Prints what a sweep comes to: a line with its counts, and one for each finding. It answers whether there
 /// is none.
-fn print<R: Print>(rt: &R, report: &Report) -> Result<bool, SweepError> {
-    println!(rt; "{report}")?;
-    for line in report.findings.lines() {
-        println!(rt; "{line}")?;
+fn print<R: Print>(rt: &R, done: &str, findings: &[String]) -> io::Result<bool> {
+    match findings.len() {
+        0 => println!(rt; "{done}, no finding")?,
+        1 => println!(rt; "{done}, 1 finding")?,
+        count => println!(rt; "{done}, {count} findings")?,
     }
-    Ok(report.findings.lines().is_empty())
+    for finding in findings {
+        println!(rt; "{finding}")?;
+    }
+    Ok(findings.is_empty())
 }

@@ -1,19 +1,19 @@
 //! Datagrams of the worked run, `examples/runs/two.txt`, that come to the node which wants.
 
 /// The Offer.
-pub const OFFER: [u8; 56] = [
+pub const OFFER: &[u8] = &[
     0xff, 0xff, 0x81, 0, 0, 0, 0, 0x30, 0, 0, 0, 1, 1, 1, 2, 0, 0xc0, 0, 0, 0, 0, 0, 0, 0x10, 0x01,
     0, 0, 0x10, 0x11, 0x11, 0, 0x01, 0x01, 0, 0, 0x03, 0, 0, 0, 0, 0, 0, 0, 0x0c, 0, 0x09, 0x04, 0,
     0xc0, 0xa8, 0, 0x01, 0, 0x11, 0x77, 0x2d,
 ];
 
 /// The answer to its call.
-pub const ANSWER: [u8; 17] = [
+pub const ANSWER: &[u8] = &[
     0x11, 0x11, 0x04, 0x21, 0, 0, 0, 9, 1, 2, 0, 1, 1, 1, 0x80, 0, 3,
 ];
 
 /// The Ack of its Subscribe.
-pub const ACK: [u8; 44] = [
+pub const ACK: &[u8] = &[
     0xff, 0xff, 0x81, 0, 0, 0, 0, 0x24, 0, 0, 0, 1, 1, 1, 2, 0, 0xc0, 0, 0, 0, 0, 0, 0, 0x10, 0x07,
     0, 0, 0, 0x11, 0x11, 0, 0x01, 0x01, 0, 0, 0x03, 0, 0, 0, 0x01, 0, 0, 0, 0,
 ];

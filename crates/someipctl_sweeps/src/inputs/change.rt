@@ -1,27 +1,17 @@
 //! How inputs are made of bytes.
 
 use std::alloc::{AllocError, Global};
-use std::fmt;
 
 /// The bytes that others are changed to.
 const BYTES: [u8; 4] = [0x00, 0x7f, 0x80, 0xff];
 
 /// How an input is made of bytes.
-#[derive(Clone, Copy, Debug, PartialEq, Eq)]
+#[derive(Clone, Copy)]
 pub enum Change {
     /// The first so many of them.
     Cut(usize),
     /// All, with that at a place as another byte.
     Byte(usize, u8),
-}
-
-impl fmt::Display for Change {
-    fn fmt<W: fmt::Write>(&self, f: &mut fmt::Formatter<W>) -> fmt::Result {
-        match self {
-            Change::Cut(len) => write!(f, "cut to {len}"),
-            Change::Byte(place, byte) => write!(f, "byte {place} as {byte:02x}"),
-        }
-    }
 }
 
 impl Change {

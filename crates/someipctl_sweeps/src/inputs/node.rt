@@ -18,6 +18,26 @@ const METHOD: u16 = 0x0421;
 /// The payload of the calls.
 const PAYLOAD: [u8; 2] = [1, 2];
 
+/// What is done with a node.
+#[derive(Clone, Copy)]
+enum Act {
+    /// A datagram comes from a port to a port.
+    Datagram(Port, Port, &'static [u8]),
+    /// The method is called.
+    Call,
+    /// The eventgroup is wished.
+    Subscribe,
+}
+
+/// What the node did in the first nine steps of the worked run.
+const WORKED: &[Act] = &[
+    Act::Datagram(Port::SD_OF_SERVER, Port::SD_OF_ALL, OFFER),
+    Act::Call,
+    Act::Datagram(Port::SERVER, Port::CLIENT, ANSWER),
+    Act::Subscribe,
+    Act::Datagram(Port::SD_OF_SERVER, Port::SD_OF_CLIENT, ACK),
+];
+
 /// Hands a datagram to a node of this configuration by a trial, and then judges its answer to a call.
 pub fn judge_node(
     alloc: Global,
@@ -26,60 +46,58 @@ pub fn judge_node(
     bytes: &[u8],
 ) -> Result<(), InputWrong> {
     let mut node = started(alloc, config)?;
-    if let Past::Worked = trial.past {
-        work(&mut node).map_err(InputWrong::Refused)?;
+    match trial.past {
+        Past::New => {}
+        Past::Worked => work(&mut node)?,
     }
-    let outputs = carry(&mut node, trial.way.from, trial.way.to, bytes).map_err(
-        InputWrong::Refused,
-    )?;
-    let known = known_after(trial.past.known(), &outputs);
-    judge_call(call(&mut node), known, trial.past.next_session())
+    judge_datagram(&mut node, trial, bytes)
 }
 
 /// A node of this configuration, at its start.
 fn started(alloc: Global, config: &Config) -> Result<Node<IntervalPool>, InputWrong> {
     let config = config.clone()?;
-    Node::start(alloc, config, DELAY).map_err(InputWrong::Refused)
+    Ok(Node::start(alloc, config, DELAY)?)
 }
 
-/// Takes the node through what it did in the first nine steps of the worked run.
+/// Takes the node through what it did in the worked run.
 fn work(node: &mut Node<IntervalPool>) -> Result<(), NodeError> {
-    carry(node, Port::SD_OF_SERVER, Port::SD_OF_ALL, &OFFER)?;
-    call(node)?;
-    carry(node, Port::SERVER, Port::CLIENT, &ANSWER)?;
-    subscribe(node)?;
-    carry(node, Port::SD_OF_SERVER, Port::SD_OF_CLIENT, &ACK)?;
+    for act in WORKED {
+        take(node, *act)?;
+    }
     Ok(())
 }
 
-fn carry(
+fn take(node: &mut Node<IntervalPool>, act: Act) -> Result<Vec<Output>, NodeError> {
+    match act {
+        Act::Datagram(from, to, bytes) => node.on_datagram(from.endpoint(), to.endpoint(), bytes),
+        Act::Call => node.call(CallKind::Request, INSTANCE, METHOD, &PAYLOAD),
+        Act::Subscribe => node.subscribe(EVENTGROUP),
+    }
+}
+
+/// Hands a datagram to a node by a trial, and then judges its answer to a call.
+fn judge_datagram(
     node: &mut Node<IntervalPool>,
-    from: Port,
-    to: Port,
+    trial: Trial,
     bytes: &[u8],
-) -> Result<Vec<Output>, NodeError> {
-    node.on_datagram(from.endpoint(), to.endpoint(), bytes)
-}
-
-fn call(node: &mut Node<IntervalPool>) -> Result<Vec<Output>, NodeError> {
-    node.call(CallKind::Request, INSTANCE, METHOD, &PAYLOAD)
-}
-
-fn subscribe(node: &mut Node<IntervalPool>) -> Result<Vec<Output>, NodeError> {
-    node.subscribe(EVENTGROUP)
+) -> Result<(), InputWrong> {
+    let way = trial.way;
+    let outputs = node.on_datagram(way.from.endpoint(), way.to.endpoint(), bytes)?;
+    let known = known_after(trial.past.known(), &outputs);
+    judge_call(node, known, trial.past.next_session())
 }
 
 /// The answer to a call is the one that is owed where the instance is known there: a request with this
 /// session goes to it, and where it is known nowhere the call is refused.
 fn judge_call(
-    answer: Result<Vec<Output>, NodeError>,
+    node: &mut Node<IntervalPool>,
     known: Option<SocketAddrV4>,
     session: u16,
 ) -> Result<(), InputWrong> {
-    let is_owed = match (answer, known) {
-        (Ok(outputs), Some(to)) => is_request(&outputs, to, session),
-        (Err(NodeError::Rpc(RpcError::NotOffered)), None) => true,
-        _ => false,
+    let is_owed = match take(node, Act::Call) {
+        Ok(outputs) => is_request(&outputs, known, session),
+        Err(NodeError::Rpc(RpcError::NotOffered)) => known.is_none(),
+        Err(_) => false,
     };
     if is_owed {
         Ok(())
@@ -88,8 +106,8 @@ fn judge_call(
     }
 }
 
-/// Whether outputs tell that a request with this session goes there.
-fn is_request(outputs: &[Output], known: SocketAddrV4, session: u16) -> bool {
+/// Whether outputs tell that a request with this session goes where the instance is known.
+fn is_request(outputs: &[Output], known: Option<SocketAddrV4>, session: u16) -> bool {
     match outputs {
         [
             Output::Called {
@@ -99,7 +117,7 @@ fn is_request(outputs: &[Output], known: SocketAddrV4, session: u16) -> bool {
             Output::Sent { from, to, bytes },
         ] => {
             let is_called = *message == METHOD_ID && *called == session;
-            let is_addressed = *from == Port::CLIENT.endpoint() && *to == known;
+            let is_addressed = *from == Port::CLIENT.endpoint() && Some(*to) == known;
             is_called && is_addressed && bytes.as_slice() == request(session).as_slice()
         }
         _ => false,

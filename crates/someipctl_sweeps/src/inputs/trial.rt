@@ -18,7 +18,7 @@ pub const EVENTGROUP: Eventgroup = Eventgroup {
 };
 
 /// A host, where 0 is the multicast group and n the address 192.168.0.n, and a port.
-#[derive(Clone, Copy, Debug)]
+#[derive(Clone, Copy)]
 pub struct Port(u8, u16);
 
 impl Port {
@@ -45,7 +45,7 @@ impl Port {
 }
 
 /// By which way a datagram comes.
-#[derive(Clone, Copy, Debug)]
+#[derive(Clone, Copy)]
 pub struct Way {
     /// From where.
     pub from: Port,
@@ -54,7 +54,7 @@ pub struct Way {
 }
 
 /// The ways: from the two endpoints of the node that offers, to the three of the node that wants.
-pub const WAYS: [Way; 6] = [
+pub const WAYS: &[Way] = &[
     Way {
         from: Port::SD_OF_SERVER,
         to: Port::SD_OF_CLIENT,
@@ -82,7 +82,7 @@ pub const WAYS: [Way; 6] = [
 ];
 
 /// What the node went through before.
-#[derive(Clone, Copy, Debug)]
+#[derive(Clone, Copy)]
 pub enum Past {
     /// Nothing.
     New,
@@ -90,10 +90,14 @@ pub enum Past {
     Worked,
 }
 
-/// Both.
-pub const PASTS: [Past; 2] = [Past::New, Past::Worked];
-
 impl Past {
+    fn name(self) -> &'static str {
+        match self {
+            Past::New => "New",
+            Past::Worked => "Worked",
+        }
+    }
+
     /// Where the node knows the instance.
     pub fn known(self) -> Option<SocketAddrV4> {
         match self {
@@ -127,7 +131,7 @@ pub fn known_after(before: Option<SocketAddrV4>, outputs: &[Output]) -> Option<S
 }
 
 /// A way to a node.
-#[derive(Clone, Copy, Debug)]
+#[derive(Clone, Copy)]
 pub struct Trial {
     /// By which way the datagram comes.
     pub way: Way,
@@ -139,6 +143,7 @@ impl fmt::Display for Trial {
     fn fmt<W: fmt::Write>(&self, f: &mut fmt::Formatter<W>) -> fmt::Result {
         let from = self.way.from.endpoint();
         let to = self.way.to.endpoint();
-        write!(f, "from {from} to {to}, node {:?}", self.past)
+        let past = self.past.name();
+        write!(f, "from {from} to {to}, node {past}")
     }
 }

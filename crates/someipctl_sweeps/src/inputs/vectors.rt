@@ -14,64 +14,50 @@ pub enum Vector {
     Payload(Shape, Vec<u8>),
 }
 
-/// Why a line is no vector.
-#[derive(Clone, Copy, Debug)]
-enum LineFault {
-    Bad,
-    OutOfMemory,
-}
-
-impl From<AllocError> for LineFault {
-    fn from(_error: AllocError) -> LineFault {
-        LineFault::OutOfMemory
-    }
-}
-
 /// Reads the lines that begin vectors, `datagram HEX` or `payload SHAPE HEX`. Others are left out.
 pub fn read_vectors(alloc: Global, text: &str) -> Result<Vec<Vector>, SweepError> {
     let mut vectors = Vec::new(alloc);
     for (index, line) in text.lines().enumerate() {
-        match vector_of(alloc, line) {
-            Ok(Some(vector)) => vectors.push(vector)?,
-            Ok(None) => {}
-            Err(LineFault::Bad) => return Err(SweepError::BadVector(index.saturating_add(1))),
-            Err(LineFault::OutOfMemory) => return Err(SweepError::OutOfMemory),
+        if let Some(vector) = vector_of(alloc, line, index.saturating_add(1))? {
+            push(&mut vectors, vector)?;
         }
     }
     Ok(vectors)
 }
 
-/// The vector that a line begins, if it begins one.
-fn vector_of(alloc: Global, line: &str) -> Result<Option<Vector>, LineFault> {
+fn push(vectors: &mut Vec<Vector>, vector: Vector) -> Result<(), AllocError> {
+    Ok(vectors.push(vector)?)
+}
+
+/// The vector that the line of a number begins, if it begins one.
+fn vector_of(alloc: Global, line: &str, number: usize) -> Result<Option<Vector>, SweepError> {
     if let Some(hex) = line.strip_prefix("datagram ") {
-        return Ok(Some(Vector::Datagram(bytes_of(alloc, hex)?)));
+        return Ok(Some(Vector::Datagram(bytes_of(alloc, hex, number)?)));
     }
     let Some(arguments) = line.strip_prefix("payload ") else {
         return Ok(None);
     };
-    let Some((shape, hex)) = arguments.split_once(' ') else {
-        return Err(LineFault::Bad);
-    };
-    let shape = shape_of(alloc, shape)?;
-    Ok(Some(Vector::Payload(shape, bytes_of(alloc, hex)?)))
+    match arguments.split_once(' ') {
+        Some((shape, hex)) => Ok(Some(payload_of(alloc, shape, hex, number)?)),
+        None => Err(SweepError::BadVector(number)),
+    }
 }
 
-fn shape_of(alloc: Global, text: &str) -> Result<Shape, LineFault> {
-    match read_shape(alloc, text) {
-        Ok(shape) => Ok(shape),
-        Err(ShapeTextError::BadShape(_)) => Err(LineFault::Bad),
-        Err(ShapeTextError::OutOfMemory) => Err(LineFault::OutOfMemory),
+fn payload_of(alloc: Global, shape: &str, hex: &str, number: usize) -> Result<Vector, SweepError> {
+    let bytes = bytes_of(alloc, hex, number)?;
+    match read_shape(alloc, shape) {
+        Ok(shape) => Ok(Vector::Payload(shape, bytes)),
+        Err(ShapeTextError::BadShape(_)) => Err(SweepError::BadVector(number)),
+        Err(ShapeTextError::OutOfMemory) => Err(SweepError::OutOfMemory),
     }
 }
 
 /// The bytes of hex digits, where `-` stands for none.
-fn bytes_of(alloc: Global, hex: &str) -> Result<Vec<u8>, LineFault> {
-    if hex == "-" {
-        return Ok(Vec::new(alloc));
-    }
-    match hex::decode(alloc, hex) {
+fn bytes_of(alloc: Global, hex: &str, number: usize) -> Result<Vec<u8>, SweepError> {
+    let digits = if hex == "-" { "" } else { hex };
+    match hex::decode(alloc, digits) {
         Ok(bytes) => Ok(bytes),
-        Err(FromHexError::OutOfMemory) => Err(LineFault::OutOfMemory),
-        Err(_) => Err(LineFault::Bad),
+        Err(FromHexError::OutOfMemory) => Err(SweepError::OutOfMemory),
+        Err(_) => Err(SweepError::BadVector(number)),
     }
 }

@@ -1,36 +1,45 @@
 //! What is wrong with an answer to an input.
 
 use someip_node::NodeError;
-use std::alloc::{AllocError, AllocFailed};
-use thiserror::Error;
+use std::alloc::AllocError;
+use std::fmt;
 
 /// What is wrong with what the stack makes of an input.
-#[derive(Clone, Copy, Debug, PartialEq, Eq, Error)]
+#[derive(Clone, Copy)]
 pub enum InputWrong {
     /// A fault, or an end, lies past the end of what was given.
-    #[error("a place past the end")]
     PastEnd,
     /// What was read cannot be written.
-    #[error("what was read is not written")]
     NotWritten,
     /// What was read, written and read again is not the same.
-    #[error("what was written is not read as it was")]
     NotReadAgain,
     /// The messages before the change are not those of the vector.
-    #[error("the messages before the change are read otherwise")]
     OtherFront,
     /// The message at the front and the first of the datagram are not the same.
-    #[error("the first message is read in two ways")]
     TwoFirsts,
     /// The node refuses a datagram, which it never may.
-    #[error("the node refuses the datagram: {0}")]
     Refused(NodeError),
     /// The node's answer to a call is not the one that it owes.
-    #[error("the node answers a call otherwise")]
     OtherAnswer,
     /// Memory ran out.
-    #[error("out of memory")]
     OutOfMemory,
+}
+
+impl fmt::Display for InputWrong {
+    fn fmt<W: fmt::Write>(&self, f: &mut fmt::Formatter<W>) -> fmt::Result {
+        match self {
+            InputWrong::PastEnd => write!(f, "a place past the end"),
+            InputWrong::NotWritten => write!(f, "what was read is not written"),
+            InputWrong::NotReadAgain => write!(f, "what was written is not read as it was"),
+            InputWrong::OtherFront => {
+                write!(f, "the messages before the change are read otherwise")
+            }
+            InputWrong::TwoFirsts => write!(f, "the first message is read in two ways"),
+            InputWrong::Refused(error) => write!(f, "the node refuses the datagram: {error}"),
+            InputWrong::OtherAnswer => write!(f, "the node answers a call otherwise"),
+            InputWrong::OutOfMemory => write!(f, "out of memory"),
+        }
+    }
 }
 
 impl From<AllocError> for InputWrong {
@@ -39,9 +48,9 @@ impl From<AllocError> for InputWrong {
     }
 }
 
-impl<T: Drop> From<AllocFailed<T>> for InputWrong {
-    fn from(_error: AllocFailed<T>) -> InputWrong {
-        InputWrong::OutOfMemory
+impl From<NodeError> for InputWrong {
+    fn from(error: NodeError) -> InputWrong {
+        InputWrong::Refused(error)
     }
 }
 

@@ -10,15 +10,32 @@ use someip_world_rules::place_of;
 use std::alloc::{AllocError, Global};
 
 /// Judges the run of a schedule over the nodes of a setup by its lines alone.
-pub fn judge(alloc: Global, nodes: &[SetupNode], schedule: &Schedule) -> Result<(), ScheduleWrong> {
-    let mut lives = lives_of(alloc, nodes)?;
+pub fn judge(
+    alloc: Global,
+    nodes: &[SetupNode],
+    schedule: &Schedule<'_>,
+) -> Result<(), ScheduleWrong> {
     let lines = schedule.trace.lines.as_slice();
+    judge_texts(alloc, lines)?;
     let senders = senders_in(alloc, lines)?;
+    let mut lives = lives_of(alloc, nodes)?;
     for (place, step) in schedule.steps.iter().enumerate() {
         let node = place_of(nodes, step.node().as_str()).unwrap_or(0);
         if let Some(life) = lives.get_mut(node) {
             take_step(life, step, node, &senders);
-            take_lines(alloc, life, step, place.saturating_add(1), lines)?;
+            take_lines(life, step, place.saturating_add(1), lines)?;
+        }
+    }
+    Ok(())
+}
+
+/// Each output has the text of its line.
+fn judge_texts(alloc: Global, lines: &[Line]) -> Result<(), ScheduleWrong> {
+    for line in lines {
+        if let Told::Gave(output) = &line.told
+            && !prints_its_line(alloc, line, output)?
+        {
+            return Err(ScheduleWrong::TwoTexts(line.step));
         }
     }
     Ok(())
@@ -50,7 +67,7 @@ fn take_step(life: &mut Life, step: &Step, node: usize, senders: &[usize]) {
         Step::Restart { .. } => life.begin_anew(),
         Step::Deliver { number, .. } => {
             let sender = senders.get(number.saturating_sub(1) as usize);
-            if sender.is_some_and(|sender| *sender != node) {
+            if *sender.unwrap_or(&node) != node {
                 life.hear();
             }
         }
@@ -58,9 +75,8 @@ fn take_step(life: &mut Life, step: &Step, node: usize, senders: &[usize]) {
     }
 }
 
-/// Takes the lines of a step, each of which has the text of its output. Only the step's own node gives something in it.
+/// Takes the lines of a step. Only the step's own node gives something in it.
 fn take_lines(
-    alloc: Global,
     life: &mut Life,
     step: &Step,
     index: usize,
@@ -71,9 +87,6 @@ fn take_lines(
             && let Told::Gave(output) = &line.told
         {
             life.take(step, index, output)?;
-            if !prints_its_line(alloc, line, output)? {
-                return Err(ScheduleWrong::TwoTexts(index));
-            }
         }
     }
     Ok(())

@@ -1,21 +1,37 @@
 //! What lines tell of a node, without a word on how nodes work.
 
 use crate::schedules::wrong::ScheduleWrong;
-use sd_core::Eventgroup;
+use sd_core::{Eventgroup, InstanceId};
 use someip_node::Output;
-use someip_rpc::{CallKey, CallKind};
+use someip_rpc::{CallKey, CallKind, MessageId};
 use someip_world::Step;
 use std::alloc::{AllocError, Global};
+
+/// A call that asked for an answer.
+#[derive(Clone, Copy)]
+struct Call {
+    key: CallKey,
+    /// Whether nothing was handed up for it yet.
+    waits: bool,
+}
+
+/// A subscription.
+#[derive(Clone, Copy)]
+struct Subscription {
+    eventgroup: Eventgroup,
+    /// Whether it has not ended.
+    is_live: bool,
+}
 
 /// What lines tell of a node in its present life.
 #[derive(Drop)]
 pub struct Life {
     /// Whether a datagram of another node was delivered to it.
     has_heard: bool,
-    /// Its calls that wait for an answer.
-    calls: Vec<CallKey>,
-    /// The eventgroups that it is subscribed to.
-    groups: Vec<Eventgroup>,
+    /// Its calls.
+    calls: Vec<Call>,
+    /// Its subscriptions.
+    subscriptions: Vec<Subscription>,
 }
 
 impl Life {
@@ -24,7 +40,7 @@ impl Life {
         Life {
             has_heard: false,
             calls: Vec::new(alloc),
-            groups: Vec::new(alloc),
+            subscriptions: Vec::new(alloc),
         }
     }
 
@@ -32,7 +48,7 @@ impl Life {
     pub fn begin_anew(&mut self) {
         self.has_heard = false;
         self.calls.clear();
-        self.groups.clear();
+        self.subscriptions.clear();
     }
 
     /// A datagram of another node is delivered.
@@ -52,12 +68,7 @@ impl Life {
         }
         match output {
             Output::Called { message, session } => {
-                let call = CallKey {
-                    message: *message,
-                    session: *session,
-                };
-                self.take_call(step, call)?;
-                Ok(())
+                Ok(self.take_call(step, key(*message, *session))?)
             }
             Output::Answered {
                 message,
@@ -65,55 +76,72 @@ impl Life {
                 ..
             }
             | Output::TimedOut { message, session } => {
-                let call = CallKey {
-                    message: *message,
-                    session: *session,
-                };
-                self.end_call(index, call)
+                self.end_call(index, key(*message, *session))
             }
-            _ => self.take_event(index, output),
-        }
-    }
-
-    /// Takes what the node gave of events and subscriptions.
-    fn take_event(&mut self, index: usize, output: &Output) -> Result<(), ScheduleWrong> {
-        match output {
-            Output::Subscribed { eventgroup, .. } => self.groups.push(*eventgroup)?,
+            Output::Subscribed { eventgroup, .. } => Ok(self.subscribe(*eventgroup)?),
             Output::Unsubscribed { eventgroup } => {
-                let ended = *eventgroup;
-                self.groups.retain(|group| *group != ended);
+                self.unsubscribe(*eventgroup);
+                Ok(())
             }
-            Output::Event { instance, .. } => {
-                let of = *instance;
-                if !self.groups.iter().any(|group| group.instance == of) {
-                    return Err(ScheduleWrong::NotSubscribed(index));
-                }
+            Output::Event { instance, .. } if !self.is_subscribed(*instance) => {
+                Err(ScheduleWrong::NotSubscribed(index))
             }
-            _ => {}
+            _ => Ok(()),
         }
-        Ok(())
     }
 
     /// A call waits from now on, if its step asked for an answer.
-    fn take_call(&mut self, step: &Step, call: CallKey) -> Result<(), AllocError> {
-        if let Step::Call {
-            kind: CallKind::Request,
-            ..
-        } = step
-        {
-            self.calls.push(call)?;
+    fn take_call(&mut self, step: &Step, key: CallKey) -> Result<(), AllocError> {
+        match step {
+            Step::Call {
+                kind: CallKind::Request,
+                ..
+            } => Ok(self.calls.push(Call { key, waits: true })?),
+            _ => Ok(()),
         }
-        Ok(())
     }
 
-    /// A call waits no more.
-    fn end_call(&mut self, index: usize, ended: CallKey) -> Result<(), ScheduleWrong> {
-        if !self.calls.contains(&ended) {
-            return Err(ScheduleWrong::NoCall(index));
+    /// The calls of a key wait no more.
+    fn end_call(&mut self, index: usize, key: CallKey) -> Result<(), ScheduleWrong> {
+        let mut outcome = Err(ScheduleWrong::NoCall(index));
+        for call in self.calls.iter_mut() {
+            if call.waits && call.key == key {
+                call.waits = false;
+                outcome = Ok(());
+            }
         }
-        self.calls.retain(|call| *call != ended);
-        Ok(())
+        outcome
     }
+
+    fn subscribe(&mut self, eventgroup: Eventgroup) -> Result<(), AllocError> {
+        let subscription = Subscription {
+            eventgroup,
+            is_live: true,
+        };
+        Ok(self.subscriptions.push(subscription)?)
+    }
+
+    fn unsubscribe(&mut self, eventgroup: Eventgroup) {
+        for subscription in self.subscriptions.iter_mut() {
+            if subscription.eventgroup == eventgroup {
+                subscription.is_live = false;
+            }
+        }
+    }
+
+    /// Whether the node is subscribed to an eventgroup of an instance.
+    fn is_subscribed(&self, instance: InstanceId) -> bool {
+        for subscription in self.subscriptions.iter() {
+            if subscription.is_live && subscription.eventgroup.instance == instance {
+                return true;
+            }
+        }
+        false
+    }
+}
+
+fn key(message: MessageId, session: u16) -> CallKey {
+    CallKey { message, session }
 }
 
 /// Whether only a datagram of a peer can bring an output about.

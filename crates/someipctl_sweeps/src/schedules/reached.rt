@@ -1,220 +1,165 @@
 //! What the schedules reach together.
 
 use crate::schedules::schedule::Schedule;
-use someip_node::{Output, Payload};
+use someip_node::Output;
 use someip_rpc::{CallKind, Reply};
 use someip_world::{Line, Step, Told};
 use std::alloc::{AllocError, Global};
-use std::fmt;
 
-/// Something that at least one schedule has to reach: a step of a kind that is not refused, or something
-/// that a node gives.
-#[derive(Clone, Copy, Debug, PartialEq, Eq)]
-pub enum Milestone {
-    Tick,
-    Deliver,
-    Call,
-    Oneway,
-    Answer,
-    Error,
-    Publish,
-    PublishTo,
-    Subscribe,
-    Unsubscribe,
-    StopOffer,
-    Restart,
-    Called,
-    Requested,
-    Answered,
-    TimedOut,
-    Event,
-    Known,
-    Gone,
-    Subscribed,
-    Unsubscribed,
-    Accepted,
-    Nacked,
-    Rebooted,
-    Dropped,
-    Sent,
-    /// A payload that came in segments was handed up.
-    LongHandedUp,
-}
-
-/// All of them.
-const MILESTONES: [Milestone; 27] = [
-    Milestone::Tick,
-    Milestone::Deliver,
-    Milestone::Call,
-    Milestone::Oneway,
-    Milestone::Answer,
-    Milestone::Error,
-    Milestone::Publish,
-    Milestone::PublishTo,
-    Milestone::Subscribe,
-    Milestone::Unsubscribe,
-    Milestone::StopOffer,
-    Milestone::Restart,
-    Milestone::Called,
-    Milestone::Requested,
-    Milestone::Answered,
-    Milestone::TimedOut,
-    Milestone::Event,
-    Milestone::Known,
-    Milestone::Gone,
-    Milestone::Subscribed,
-    Milestone::Unsubscribed,
-    Milestone::Accepted,
-    Milestone::Nacked,
-    Milestone::Rebooted,
-    Milestone::Dropped,
-    Milestone::Sent,
-    Milestone::LongHandedUp,
+/// What is to be reached: each kind of step that is not refused, each kind of output, and a payload that came in
+/// segments and was handed up.
+const NAMES: &[&str] = &[
+    "Tick",
+    "Deliver",
+    "Call",
+    "Oneway",
+    "Answer",
+    "Error",
+    "Publish",
+    "PublishTo",
+    "Subscribe",
+    "Unsubscribe",
+    "StopOffer",
+    "Restart",
+    "Called",
+    "Requested",
+    "Answered",
+    "TimedOut",
+    "Event",
+    "Known",
+    "Gone",
+    "Subscribed",
+    "Unsubscribed",
+    "Accepted",
+    "Nacked",
+    "Rebooted",
+    "Dropped",
+    "Sent",
+    "LongHandedUp",
 ];
 
-impl fmt::Display for Milestone {
-    fn fmt<W: fmt::Write>(&self, f: &mut fmt::Formatter<W>) -> fmt::Result {
-        write!(f, "{self:?}")
+/// The name of the kind of a step.
+fn name_of_step(step: &Step) -> &'static str {
+    match step {
+        Step::Tick { .. } => "Tick",
+        Step::Deliver { .. } => "Deliver",
+        Step::Call { kind, .. } => match kind {
+            CallKind::Request => "Call",
+            CallKind::RequestNoReturn => "Oneway",
+        },
+        Step::Answer { reply, .. } => match reply {
+            Reply::Response(_) => "Answer",
+            Reply::Error(_) => "Error",
+        },
+        Step::Publish { .. } => "Publish",
+        Step::PublishTo { .. } => "PublishTo",
+        Step::Subscribe { .. } => "Subscribe",
+        Step::Unsubscribe { .. } => "Unsubscribe",
+        Step::StopOffer { .. } => "StopOffer",
+        Step::Restart { .. } => "Restart",
     }
 }
 
-impl Milestone {
-    /// The kind of a step.
-    fn of_step(step: &Step) -> Milestone {
-        match step {
-            Step::Tick { .. } => Milestone::Tick,
-            Step::Deliver { .. } => Milestone::Deliver,
-            Step::Call {
-                kind: CallKind::Request,
-                ..
-            } => Milestone::Call,
-            Step::Call {
-                kind: CallKind::RequestNoReturn,
-                ..
-            } => Milestone::Oneway,
-            Step::Answer {
-                reply: Reply::Response(_),
-                ..
-            } => Milestone::Answer,
-            Step::Answer {
-                reply: Reply::Error(_),
-                ..
-            } => Milestone::Error,
-            Step::Publish { .. } => Milestone::Publish,
-            Step::PublishTo { .. } => Milestone::PublishTo,
-            Step::Subscribe { .. } => Milestone::Subscribe,
-            Step::Unsubscribe { .. } => Milestone::Unsubscribe,
-            Step::StopOffer { .. } => Milestone::StopOffer,
-            Step::Restart { .. } => Milestone::Restart,
-        }
-    }
-
-    /// The kind of what a node gives.
-    fn of_output(output: &Output) -> Milestone {
-        match output {
-            Output::Sent { .. } => Milestone::Sent,
-            Output::Called { .. } => Milestone::Called,
-            Output::Request { .. } => Milestone::Requested,
-            Output::Answered { .. } => Milestone::Answered,
-            Output::TimedOut { .. } => Milestone::TimedOut,
-            Output::Event { .. } => Milestone::Event,
-            Output::Known { .. } => Milestone::Known,
-            Output::Gone { .. } => Milestone::Gone,
-            Output::Subscribed { .. } => Milestone::Subscribed,
-            Output::Unsubscribed { .. } => Milestone::Unsubscribed,
-            Output::Accepted { .. } => Milestone::Accepted,
-            Output::Nacked { .. } => Milestone::Nacked,
-            Output::Rebooted { .. } => Milestone::Rebooted,
-            Output::Dropped { .. } => Milestone::Dropped,
-        }
+/// The name of the kind of what a node gives.
+fn name_of_output(output: &Output) -> &'static str {
+    match output {
+        Output::Sent { .. } => "Sent",
+        Output::Called { .. } => "Called",
+        Output::Request { .. } => "Requested",
+        Output::Answered { .. } => "Answered",
+        Output::TimedOut { .. } => "TimedOut",
+        Output::Event { .. } => "Event",
+        Output::Known { .. } => "Known",
+        Output::Gone { .. } => "Gone",
+        Output::Subscribed { .. } => "Subscribed",
+        Output::Unsubscribed { .. } => "Unsubscribed",
+        Output::Accepted { .. } => "Accepted",
+        Output::Nacked { .. } => "Nacked",
+        Output::Rebooted { .. } => "Rebooted",
+        Output::Dropped { .. } => "Dropped",
     }
 }
 
-/// How often a milestone was reached.
-#[derive(Clone, Copy, Debug)]
-struct Count {
-    milestone: Milestone,
-    times: u64,
+/// Whether an output hands up a payload that is too long to come in one message.
+fn is_long(output: &Output) -> bool {
+    match output {
+        Output::Request { payload, .. }
+        | Output::Answered { payload, .. }
+        | Output::Event { payload, .. } => payload.as_slice().len() > 1400,
+        _ => false,
+    }
 }
 
-/// How often each milestone was reached.
+/// Something that is to be reached.
+#[derive(Clone, Copy)]
+pub struct Milestone {
+    /// Its name.
+    pub name: &'static str,
+    /// Whether it was reached.
+    pub is_reached: bool,
+}
+
+/// What was reached.
 #[derive(Drop)]
 pub struct Reached {
-    counts: Vec<Count>,
+    milestones: Vec<Milestone>,
 }
 
 impl Reached {
     /// None was reached.
     pub fn new(alloc: Global) -> Result<Reached, AllocError> {
-        let mut counts = Vec::new(alloc);
-        for milestone in MILESTONES.iter() {
-            let milestone = *milestone;
-            counts.push(Count {
-                milestone,
-                times: 0,
+        let mut milestones = Vec::new(alloc);
+        for name in NAMES {
+            milestones.push(Milestone {
+                name: *name,
+                is_reached: false,
             })?;
         }
-        Ok(Reached { counts })
+        Ok(Reached { milestones })
     }
 
-    /// Counts what a schedule and its run reach.
-    pub fn count(&mut self, schedule: &Schedule) {
+    /// Notes what a schedule and its run reach.
+    pub fn note(&mut self, schedule: &Schedule<'_>) {
         let lines = schedule.trace.lines.as_slice();
         for (place, step) in schedule.steps.iter().enumerate() {
             if !is_refused(lines, place.saturating_add(1)) {
-                self.add(Milestone::of_step(step));
+                self.reach(name_of_step(step));
             }
         }
-        self.count_lines(lines);
+        self.note_lines(lines);
     }
 
-    fn count_lines(&mut self, lines: &[Line]) {
+    fn note_lines(&mut self, lines: &[Line]) {
         for line in lines {
             if let Told::Gave(output) = &line.told {
-                self.add(Milestone::of_output(output));
-                if handed_up(output).is_some_and(is_long) {
-                    self.add(Milestone::LongHandedUp);
+                self.reach(name_of_output(output));
+                if is_long(output) {
+                    self.reach("LongHandedUp");
                 }
             }
         }
     }
 
-    fn add(&mut self, milestone: Milestone) {
-        for count in self.counts.iter_mut() {
-            if count.milestone == milestone {
-                count.times = count.times.saturating_add(1);
+    fn reach(&mut self, name: &str) {
+        for milestone in self.milestones.iter_mut() {
+            if milestone.name == name {
+                milestone.is_reached = true;
             }
         }
     }
 
-    /// Those that were never reached.
-    pub fn missed(&self, alloc: Global) -> Result<Vec<Milestone>, AllocError> {
-        let mut missed = Vec::new(alloc);
-        for count in self.counts.iter() {
-            if count.times == 0 {
-                missed.push(count.milestone)?;
-            }
-        }
-        Ok(missed)
+    /// All of them.
+    pub fn milestones(&self) -> &[Milestone] {
+        self.milestones.as_slice()
     }
 }
 
 /// Whether the node refuses the step of an index.
 fn is_refused(lines: &[Line], index: usize) -> bool {
-    lines.iter().any(|line| line.step == index && matches!(&line.told, Told::Refused(_)))
-}
-
-/// The payload that an output hands up.
-fn handed_up(output: &Output) -> Option<&Payload> {
-    match output {
-        Output::Request { payload, .. }
-        | Output::Answered { payload, .. }
-        | Output::Event { payload, .. } => Some(payload),
-        _ => None,
+    for line in lines {
+        if line.step == index && matches!(&line.told, Told::Refused(_)) {
+            return true;
+        }
     }
-}
-
-/// Whether a payload is too long to come in one message.
-fn is_long(payload: &Payload) -> bool {
-    payload.as_slice().len() > 1400
+    false
 }

@@ -7,7 +7,7 @@ use crate::schedules::wrong::ScheduleWrong;
 use someip_tp::IntervalPool;
 use someip_world::{Setup, Step, Trace, read_schedule, run};
 use someip_world_rules::place_of;
-use std::alloc::Global;
+use std::alloc::{AllocError, Global};
 
 /// How many rounds a schedule has.
 const ROUNDS: usize = 10;
@@ -18,9 +18,13 @@ const STEPS_OF_ROUND: usize = 5;
 /// How many steps a schedule has.
 pub const STEPS: usize = ROUNDS * STEPS_OF_ROUND;
 
-/// A schedule that was drawn, and what its run gave.
+/// A schedule that is drawn, and what its run gave.
 #[derive(Drop)]
-pub struct Schedule {
+pub struct Schedule<'s> {
+    alloc: Global,
+    setup: &'s Setup,
+    draws: Draws,
+    world: World,
     /// The lines of its steps.
     pub text: String,
     /// The steps.
@@ -29,65 +33,65 @@ pub struct Schedule {
     pub trace: Trace,
 }
 
-impl Schedule {
-    /// A schedule without steps, whose run gives nothing.
-    pub fn new(alloc: Global, setup: &Setup) -> Result<Schedule, ScheduleWrong> {
-        let steps = Vec::new(alloc);
-        let trace = run::<IntervalPool>(alloc, setup, &steps)?;
+impl<'s> Schedule<'s> {
+    /// The schedule of a seed over a setup, without steps so far: its run gives nothing.
+    pub fn new(alloc: Global, setup: &'s Setup, seed: u64) -> Result<Schedule<'s>, ScheduleWrong> {
         Ok(Schedule {
+            alloc,
+            setup,
+            draws: Draws::new(seed),
+            world: World::new(alloc),
             text: String::new(alloc),
-            steps,
-            trace,
+            steps: Vec::new(alloc),
+            trace: run::<IntervalPool>(alloc, setup, &[])?,
         })
     }
 
-    /// Draws the steps of a seed over a setup, round by round. The steps of a round are drawn with regard to
-    /// the lines that the rounds before it gave, for which those are run. Where something is wrong, the
-    /// lines that were drawn until then stand in the text.
-    pub fn draw(&mut self, alloc: Global, setup: &Setup, seed: u64) -> Result<(), ScheduleWrong> {
-        let mut draws = Draws::new(seed);
-        let mut world = World::new(alloc);
+    /// Draws the steps, round by round. Where something is wrong, the lines that were drawn until then stand
+    /// in the text.
+    pub fn draw(&mut self) -> Result<(), ScheduleWrong> {
         for _round in 0..ROUNDS {
-            self.draw_round(alloc, setup, &mut draws, &mut world)?;
-            self.trace = run::<IntervalPool>(alloc, setup, &self.steps)?;
-            world.take_lines(&self.trace.lines)?;
+            self.draw_round()?;
         }
         Ok(())
     }
 
-    /// Draws the steps of a round.
-    fn draw_round(
-        &mut self,
-        alloc: Global,
-        setup: &Setup,
-        draws: &mut Draws,
-        world: &mut World,
-    ) -> Result<(), ScheduleWrong> {
+    /// Draws the steps of a round. They are drawn with regard to the lines that the rounds before it gave, for
+    /// which those are run.
+    fn draw_round(&mut self) -> Result<(), ScheduleWrong> {
         for _step in 0..STEPS_OF_ROUND {
-            let line = draw_line(alloc, draws, world, setup.nodes())?;
-            self.push(alloc, line.as_str())?;
-            self.tell_step(setup, world);
+            self.draw_step()?;
         }
+        self.trace = run::<IntervalPool>(self.alloc, self.setup, &self.steps)?;
+        Ok(self.world.take_lines(&self.trace.lines)?)
+    }
+
+    fn draw_step(&mut self) -> Result<(), ScheduleWrong> {
+        let nodes = self.setup.nodes();
+        let line = draw_line(self.alloc, &mut self.draws, &self.world, nodes)?;
+        self.push(line.as_str())?;
+        self.tell_step();
         Ok(())
     }
 
     /// Adds the step of a line.
-    fn push(&mut self, alloc: Global, line: &str) -> Result<(), ScheduleWrong> {
-        self.text.push_str(line)?;
-        self.text.push('\n')?;
-        let mut steps = read_schedule(alloc, line.as_bytes()).map_err(|_| ScheduleWrong::BadLine)?;
-        if steps.len() != 1 {
-            return Err(ScheduleWrong::BadLine);
+    fn push(&mut self, line: &str) -> Result<(), ScheduleWrong> {
+        writeln!(self.text, "{line}")?;
+        match read_schedule(self.alloc, line.as_bytes()) {
+            Ok(mut steps) if steps.len() == 1 => Ok(self.append(&mut steps)?),
+            _ => Err(ScheduleWrong::BadLine),
         }
-        self.steps.append(&mut steps)?;
-        Ok(())
     }
 
-    /// Tells a world of the last step.
-    fn tell_step(&self, setup: &Setup, world: &mut World) {
+    fn append(&mut self, steps: &mut Vec<Step>) -> Result<(), AllocError> {
+        self.steps.append(steps)
+    }
+
+    /// Tells the world of the last step.
+    fn tell_step(&mut self) {
         if let Some(step) = self.steps.last() {
-            let node = place_of(setup.nodes(), step.node().as_str()).unwrap_or(0);
-            world.take_step(step, node);
+            let node = place_of(self.setup.nodes(), step.node().as_str()).unwrap_or(0);
+            self.world.take_step(step, node);
         }
     }
 }

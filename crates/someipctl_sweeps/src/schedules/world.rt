@@ -6,23 +6,25 @@ use std::alloc::{AllocError, Global};
 use std::net::SocketAddrV4;
 
 /// A datagram that was sent.
-#[derive(Clone, Copy, Debug)]
+#[derive(Clone, Copy)]
 pub struct Sent {
     /// The place in the setup of the node that sent it.
     pub sender: usize,
     /// Where it was sent to.
     pub to: SocketAddrV4,
     /// Whether a step has delivered it.
-    pub is_delivered: bool,
+    is_delivered: bool,
 }
 
-/// A request that waits for its answer, as far as the steps tell.
-#[derive(Clone, Copy, Debug, PartialEq, Eq)]
-pub struct Open {
+/// A request that was handed up for an answer.
+#[derive(Clone, Copy)]
+struct Request {
     /// The place in the setup of the node that handed it up.
-    pub node: usize,
+    node: usize,
     /// What its answer names.
-    pub token: u64,
+    token: u64,
+    /// Whether it waits, as far as the steps tell.
+    is_open: bool,
 }
 
 /// What the lines of a run so far tell.
@@ -30,8 +32,8 @@ pub struct Open {
 pub struct World {
     /// The datagrams that were sent, of which the first has the number 1.
     pub sent: Vec<Sent>,
-    /// The requests that wait, in the order in which they came.
-    pub open: Vec<Open>,
+    /// The requests, in the order in which they came.
+    requests: Vec<Request>,
     /// How many lines were taken.
     taken: usize,
 }
@@ -41,7 +43,7 @@ impl World {
     pub fn new(alloc: Global) -> World {
         World {
             sent: Vec::new(alloc),
-            open: Vec::new(alloc),
+            requests: Vec::new(alloc),
             taken: 0,
         }
     }
@@ -50,8 +52,8 @@ impl World {
     pub fn take_step(&mut self, step: &Step, node: usize) {
         match step {
             Step::Deliver { number, .. } => self.note_delivery(*number),
-            Step::Restart { .. } => self.open.retain(|open| open.node != node),
-            Step::Answer { token, .. } => self.close(node, *token),
+            Step::Restart { .. } => self.close(node, None),
+            Step::Answer { token, .. } => self.close(node, Some(*token)),
             _ => {}
         }
     }
@@ -71,10 +73,13 @@ impl World {
         }
     }
 
-    /// A request of this token waits no more, also where the node refuses the answer.
-    fn close(&mut self, node: usize, token: u64) {
-        let answered = Open { node, token };
-        self.open.retain(|open| *open != answered);
+    /// The request of this token waits no more, also where the node refuses the answer; or none of the node does.
+    fn close(&mut self, node: usize, token: Option<u64>) {
+        for request in self.requests.iter_mut() {
+            if request.node == node && token.unwrap_or(request.token) == request.token {
+                request.is_open = false;
+            }
+        }
     }
 
     fn take_line(&mut self, line: &Line) -> Result<(), AllocError> {
@@ -89,9 +94,10 @@ impl World {
                     token: Some(token),
                     ..
                 },
-            ) => self.open.push(Open {
+            ) => self.requests.push(Request {
                 node: line.node,
                 token: *token,
+                is_open: true,
             })?,
             _ => {}
         }
@@ -100,19 +106,32 @@ impl World {
 
     /// The token of the first request that waits at a node.
     pub fn first_open(&self, node: usize) -> Option<u64> {
-        self.open
-            .iter()
-            .find(|open| open.node == node)
-            .map(|open| open.token)
+        for request in self.requests.iter() {
+            if request.node == node && request.is_open {
+                return Some(request.token);
+            }
+        }
+        None
     }
 
     /// The place among those sent of the first datagram that no step has delivered.
     pub fn first_undelivered(&self) -> Option<usize> {
-        self.sent.iter().position(|sent| !sent.is_delivered)
+        for (place, sent) in self.sent.iter().enumerate() {
+            if !sent.is_delivered {
+                return Some(place);
+            }
+        }
+        None
     }
 
     /// The place among those sent of the last datagram that no step has delivered.
     pub fn last_undelivered(&self) -> Option<usize> {
-        self.sent.iter().rposition(|sent| !sent.is_delivered)
+        let mut last = None;
+        for (place, sent) in self.sent.iter().enumerate() {
+            if !sent.is_delivered {
+                last = Some(place);
+            }
+        }
+        last
     }
 }

@@ -1,33 +1,46 @@
 //! What is wrong with a schedule or its run.
 
 use someip_world::RunError;
-use std::alloc::{AllocError, AllocFailed};
-use thiserror::Error;
+use std::alloc::AllocError;
+use std::fmt;
 
 /// What is wrong with a schedule that was drawn, or with its run. Steps are counted from 1.
-#[derive(Clone, Copy, Debug, PartialEq, Eq, Error)]
+#[derive(Clone, Copy)]
 pub enum ScheduleWrong {
     /// A line that was drawn is not read as one step.
-    #[error("a drawn line is no step")]
     BadLine,
     /// The run has no trace.
-    #[error("{0}")]
     NoTrace(RunError),
     /// An answer, an error or a timeout was handed up, and no call of its key waits for one.
-    #[error("step {0}: handed up for no call that waits")]
     NoCall(usize),
     /// An event was handed up by a node that is not subscribed to its instance.
-    #[error("step {0}: event without a subscription")]
     NotSubscribed(usize),
     /// Something was handed up that only a peer can bring about, and no datagram of a peer came.
-    #[error("step {0}: handed up though nothing came of a peer")]
     NothingCame(usize),
     /// An output prints itself otherwise than its line tells it.
-    #[error("step {0}: an output has two texts")]
     TwoTexts(usize),
     /// Memory ran out.
-    #[error("out of memory")]
     OutOfMemory,
+}
+
+impl fmt::Display for ScheduleWrong {
+    fn fmt<W: fmt::Write>(&self, f: &mut fmt::Formatter<W>) -> fmt::Result {
+        match self {
+            ScheduleWrong::BadLine => write!(f, "a drawn line is no step"),
+            ScheduleWrong::NoTrace(error) => write!(f, "{error}"),
+            ScheduleWrong::NoCall(step) => {
+                write!(f, "step {step}: handed up for no call that waits")
+            }
+            ScheduleWrong::NotSubscribed(step) => {
+                write!(f, "step {step}: event without a subscription")
+            }
+            ScheduleWrong::NothingCame(step) => {
+                write!(f, "step {step}: handed up though nothing came of a peer")
+            }
+            ScheduleWrong::TwoTexts(step) => write!(f, "step {step}: an output has two texts"),
+            ScheduleWrong::OutOfMemory => write!(f, "out of memory"),
+        }
+    }
 }
 
 impl From<RunError> for ScheduleWrong {
@@ -38,12 +51,6 @@ impl From<RunError> for ScheduleWrong {
 
 impl From<AllocError> for ScheduleWrong {
     fn from(_error: AllocError) -> ScheduleWrong {
-        ScheduleWrong::OutOfMemory
-    }
-}
-
-impl<T: Drop> From<AllocFailed<T>> for ScheduleWrong {
-    fn from(_error: AllocFailed<T>) -> ScheduleWrong {
         ScheduleWrong::OutOfMemory
     }
 }
