@@ -1,5 +1,5 @@
 //! Commands of `someipctl`, one a line, each run as the program runs it.
-use someipctl_cli::{Failure, run};
+use someipctl_cli::answer_aloud;
 use std::alloc::{AllocError, Global};
 use std::rt::Files;
 use std::{fs, io};
@@ -19,10 +19,7 @@ pub fn run_cases<R: Files + Print + Eprint + AllocGlobal>(rt: &R, path: &str) ->
 fn run_case<R: Files + Print + Eprint + AllocGlobal>(rt: &R, line: &str) -> io::Result<()> {
     let words = words_of(rt.alloc(), line)?;
     println!(rt; "> {line}")?;
-    let status = match run(rt, &words) {
-        Ok(outcome) => outcome.status(),
-        Err(failure) => tell(rt, failure)?,
-    };
+    let status = answer_aloud(rt, &words)?;
     println!(rt; "= {status}")
 }
 
@@ -34,15 +31,4 @@ fn words_of(alloc: Global, line: &str) -> Result<Vec<String>, AllocError> {
         words.push(String::from_str(alloc, word)?)?;
     }
     Ok(words)
-}
-
-/// Prints what the program prints to standard error, and gives the exit status.
-fn tell<R: Print>(rt: &R, failure: Failure<'_>) -> io::Result<u8> {
-    let status = failure.status();
-    match &failure {
-        // The text of a usage fault is whole lines.
-        Failure::Usage(error) => print!(rt; "{error}")?,
-        other => println!(rt; "{other}")?,
-    }
-    Ok(status)
 }

@@ -9,7 +9,7 @@ ghost use Rattle.someipctl_cli.specs.CommandLine.{asked_by_chart, asked_by_comma
 ghost use Rattle.someipctl_cli.specs.CommandLine.{asked_by_payload, asked_by_recording, asked_by_run};
 ghost use Rattle.someipctl_cli.specs.CommandLine.{asked_by_show, asked_by_vectors, chart_usage, cli, is_flag};
 ghost use Rattle.someipctl_cli.specs.CommandLine.{is_on, line, payload_usage, program, recording_usage};
-ghost use Rattle.someipctl_cli.specs.CommandLine.{requested, run_usage, show_usage, vectors_usage};
+ghost use Rattle.someipctl_cli.specs.CommandLine.{requested, required, run_usage, show_usage, vectors_usage};
 ghost use Rattle.someipctl_cli.specs.CommandLine.{flag as flag_rule, recording_options, with_byte_commands};
 ghost use Rattle.someipctl_cli.specs.CommandLine.{valued, with_file_commands, with_inputs};
 
@@ -213,13 +213,11 @@ fn payload_definition<'d>(alloc: Global) -> Result<clap::Command<'d>, AllocError
     ensures shape { IfOk result (λ command. shape_of command ≡ payload_usage) }
     ensures local { IfOk result (λ command. (out-Command command).has_globals ≡ false) }
 {
-    let shape = Arg::new(alloc, "shape").value_name("SHAPE").required(true);
-    let hex = Arg::new(alloc, "hex").value_name("HEX").required(true);
     clap::Command::new(alloc, "payload")
         .about("Reads a payload by its shape")
         .after_help(PAYLOAD_EXAMPLE)
-        .arg(shape)?
-        .arg(hex)
+        .arg(needed(alloc, "shape", "SHAPE"))?
+        .arg(needed(alloc, "hex", "HEX"))
 }
 
 fn payload_matched<'w>(matches: &ArgMatches<'w>) -> Option<Command<'w>>
@@ -258,22 +256,20 @@ fn run_definition<'d>(alloc: Global) -> Result<clap::Command<'d>, AllocError>
     ensures shape { IfOk result (λ command. shape_of command ≡ run_usage) }
     ensures local { IfOk result (λ command. (out-Command command).has_globals ≡ false) }
 {
-    let expect = valued_option(
-        alloc,
-        "expect",
-        "TRACE",
-        "Compares the trace with this file, and prints the first line that differs",
-    );
-    let lines = flag(
-        alloc,
-        "lines",
-        "Puts the line of the schedule before each line of the trace",
-    );
     let command = clap::Command::new(alloc, "run")
         .about("Runs a schedule over the nodes of a setup, and prints what they give")
         .after_help(RUN_EXAMPLE)
-        .arg(expect)?
-        .arg(lines)?;
+        .arg(valued_option(
+            alloc,
+            "expect",
+            "TRACE",
+            "Compares the trace with this file, and prints the first line that differs",
+        ))?
+        .arg(flag(
+            alloc,
+            "lines",
+            "Puts the line of the schedule before each line of the trace",
+        ))?;
     add_inputs(alloc, command)
 }
 
@@ -310,22 +306,20 @@ fn recording_options<'d>(alloc: Global) -> Result<clap::Command<'d>, AllocError>
     ensures app { IfOk result (λ command. app_of command ≡ recording_options) }
     ensures local { IfOk result (λ command. (out-Command command).has_globals ≡ false) }
 {
-    let ports = valued_option(
-        alloc,
-        "ports",
-        "PORTS",
-        "Prints only datagrams from or to one of these ports",
-    );
-    let endpoints = flag(
-        alloc,
-        "endpoints",
-        "Puts time, sender and receiver before each line",
-    );
     clap::Command::new(alloc, "recording")
         .about("Prints the messages of a recording of network traffic")
         .after_help(RECORDING_EXAMPLE)
-        .arg(ports)?
-        .arg(endpoints)
+        .arg(valued_option(
+            alloc,
+            "ports",
+            "PORTS",
+            "Prints only datagrams from or to one of these ports",
+        ))?
+        .arg(flag(
+            alloc,
+            "endpoints",
+            "Puts time, sender and receiver before each line",
+        ))
 }
 
 fn recording_matched<'w>(matches: &ArgMatches<'w>) -> Option<Command<'w>>
@@ -371,11 +365,17 @@ fn add_inputs<'d>(
     ensures app { IfOk result (λ r. app_of r ≡ with_inputs (app_of command.entry)) }
     ensures local { IfOk result (λ r. (out-Command r).has_globals ≡ false) }
 {
-    let setup = Arg::new(alloc, "setup").value_name("SETUP").required(true);
-    let schedule = Arg::new(alloc, "schedule")
-        .value_name("SCHEDULE")
-        .required(true);
-    command.arg(setup)?.arg(schedule)
+    command
+        .arg(needed(alloc, "setup", "SETUP"))?
+        .arg(needed(alloc, "schedule", "SCHEDULE"))
+}
+
+/// A positional argument that a call has to have, by its name.
+fn needed<'d>(alloc: Global, name: &'d str, value_name: &'d str) -> Arg<'d>
+    ensures rule { rule_of result ≡ required name.entry.now }
+    ensures local { result.global ≡ false }
+{
+    Arg::new(alloc, name).value_name(value_name).required(true)
 }
 
 /// An option with a value, by its name.

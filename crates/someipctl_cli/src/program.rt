@@ -20,6 +20,46 @@ use std::io::ErrorKind;
 use std::rt::{Env, Files};
 use std::{env, fs, io};
 
+/// The program: does what its arguments ask for, tells on standard error what kept it from that, and gives the
+/// exit status.
+pub fn answer<R: Env + Files + Print + Eprint + AllocGlobal>(rt: &R) -> u8 {
+    match words_of(rt) {
+        Ok(words) => answer_words(rt, &words),
+        Err(failure) => report(rt, failure),
+    }
+}
+
+/// The same of these words, of which the first is the program's name.
+fn answer_words<R: Files + Print + Eprint + AllocGlobal>(rt: &R, words: &[String]) -> u8 {
+    match run(rt, words) {
+        Ok(outcome) => outcome.status(),
+        Err(failure) => report(rt, failure),
+    }
+}
+
+/// The same of these words, but what kept it from its work is told on standard output, for a program that shows
+/// one call after the other.
+pub fn answer_aloud<R: Files + Print + Eprint + AllocGlobal>(
+    rt: &R,
+    words: &[String],
+) -> io::Result<u8> {
+    match run(rt, words) {
+        Ok(outcome) => Ok(outcome.status()),
+        Err(failure) => tell(rt, failure),
+    }
+}
+
+/// Prints what the program prints to standard error, and gives the exit status.
+fn tell<R: Print>(rt: &R, failure: Failure<'_>) -> io::Result<u8> {
+    let status = failure.status();
+    match &failure {
+        // The text of a usage fault is whole lines.
+        Failure::Usage(error) => print!(rt; "{error}")?,
+        other => println!(rt; "{other}")?,
+    }
+    Ok(status)
+}
+
 /// Prints why the program failed, and gives its exit status.
 pub fn report<R: Eprint>(rt: &R, failure: Failure<'_>) -> u8
     ensures { result ≡ status_of_failure failure.entry }
