@@ -17,7 +17,7 @@ use toml::Value;
 
 /// What a network is set up with: values in their ranges, of which none clash. [`Setup::read`] makes
 /// it.
-#[derive(Drop)]
+#[derive(Debug, Drop)]
 pub struct Setup {
     common: Common,
     nodes: Vec<SetupNode>,

@@ -3,7 +3,7 @@
 use someip_node_rules::Config;
 
 /// A node of a setup.
-#[derive(Drop)]
+#[derive(Debug, Drop)]
 pub struct SetupNode {
     /// Its name: 1 to 16 of a to z, 0 to 9.
     pub name: String,
