@@ -1,208 +1,173 @@
 //! What arguments come to, how the program ends, and the texts for standard error.
-use crate::slow::{Limits, SlowWriter};
+use crate::endings::{is_end, is_printed};
+use crate::slow::{Limits, SlowWriter, UNLIMITED};
+use recording::RecordingError;
 use rows::{ROWS, Wanted};
 use someip_world::{SetupError, StepFault};
-use someipctl_cli::{Failure, LineError, answer_error, command_of, laws, run};
+use someipctl_cli::{Failure, LineError, answer_error, command_of, run};
 use someipctl_commands::payload::PayloadRefusal;
+use someipctl_commands::ports::PortsError;
+use someipctl_commands::recordings::RecordingFault;
 use someipctl_commands::show::ShowError;
 use someipctl_commands::vectors::VectorsError;
-use someipctl_run::{RunFault, SetupFault};
+use someipctl_run::{RunFault, SetupFault, read_setup};
 use std::alloc::{AllocError, Global};
-use std::io::Write;
 
 mod rows;
 
 /// The path that a failure may name.
 const PATH: &str = "a/b.txt";
 
-/// Why the program fails.
-#[derive(Clone, Copy)]
-enum Cause {
-    Show(ShowError),
-    Vectors(VectorsError),
-    Payload(PayloadRefusal),
-    Run(RunFault),
-    /// The values at this key of a setup clash.
-    Clash(&'static str),
-    /// A setup cannot be read.
-    UnreadSetup,
-    /// A word is no text.
-    NotText,
+/// Whether a failure has this text for standard error and this exit status.
+fn is_told(alloc: Global, failure: Failure<'_>, text: &str, status: u8) -> bool {
+    is_end(alloc, Err(failure), Some(text), status)
 }
 
-/// A cause, the text for standard error and the exit status.
-type FailureRow = (Cause, &'static str, u8);
-
-const FAILURES: &[FailureRow] = &[
-    (Cause::Show(ShowError::BadHex(2)), "line 2: bad hex", 1),
-    (Cause::Show(ShowError::OutOfMemory), "out of memory", 3),
-    (Cause::Show(ShowError::CannotRead), "cannot read a/b.txt", 4),
-    (Cause::Show(ShowError::CannotWrite), "cannot write", 4),
-    (
-        Cause::Vectors(VectorsError::BadVector(3)),
-        "line 3: bad vector",
-        1,
-    ),
-    (
-        Cause::Payload(PayloadRefusal::BadShape(7)),
-        "bad shape at 7",
-        1,
-    ),
-    (Cause::Payload(PayloadRefusal::BadHex), "bad hex", 1),
-    (
-        Cause::NotText,
-        "error: a word is no UTF-8\n\nUsage: someipctl <COMMAND>",
-        2,
-    ),
-];
-
-const FAILURES_OF_RUNS: &[FailureRow] = &[
-    (Cause::Clash("port"), "setup: Clash port", 1),
-    (Cause::UnreadSetup, "cannot read a/b.txt", 4),
-    (Cause::Run(RunFault::BadLine(3)), "line 3: bad step", 1),
-    (
-        Cause::Run(RunFault::BadStep(1, StepFault::BadDelay)),
-        "step 1: BadDelay",
-        1,
-    ),
-];
-
-/// The failure of a cause.
-fn failure_of(cause: Cause) -> Failure<'static> {
-    match cause {
-        Cause::Show(error) => Failure::of_show(error, PATH),
-        Cause::Vectors(error) => Failure::of_vectors(error, PATH),
-        Cause::Payload(refusal) => Failure::of_payload(refusal),
-        Cause::Run(fault) => Failure::of_run(fault, PATH),
-        Cause::Clash(key) => Failure::of_setup(SetupFault::Refused(SetupError::Clash(key)), PATH),
-        Cause::UnreadSetup => Failure::of_setup(SetupFault::CannotRead, PATH),
-        Cause::NotText => Failure::NotText,
+/// Whether the fault of a text that is no setup is printed so by itself. The program prints it by way of its own.
+fn is_setup_fault(alloc: Global, mut text: &[u8], wanted: &str) -> bool {
+    match read_setup(alloc, &mut text).err() {
+        Some(fault) => is_printed(alloc, &fault, wanted) == Some(true),
+        None => false,
     }
 }
 
-/// Whether a failure has this text and this exit status.
-pub fn is_told(alloc: Global, failure: &Failure<'_>, text: &str, status: u8) -> bool {
-    match failure.to_string(alloc) {
-        Ok(printed) => printed.as_str() == text && failure.status() == status,
-        Err(_) => false,
-    }
-}
-
-/// The number of the first of these rows that is told otherwise.
-fn first_wrong(alloc: Global, rows: &[FailureRow]) -> Option<usize> {
-    rows.iter().position(|(cause, text, status)| !is_told(
-        alloc,
-        &failure_of(*cause),
-        text,
-        *status,
-    ))
-}
-
-/// Each failure, its text for standard error and its exit status.
+/// Each failure, its text for standard error and its exit status. The cases of the program tell of other faults of
+/// setups.
 #[test]
 fn failures_have_texts_and_statuses(rt: HostRuntime) {
-    let wrong = first_wrong(rt.alloc(), FAILURES);
-    assert!(rt; wrong.is_none(), "{wrong:?}");
+    let alloc = rt.alloc();
+    let bad_hex = Failure::of_show(ShowError::BadHex(2), PATH);
+    assert!(rt; is_told(alloc, bad_hex, "line 2: bad hex", 1));
+    let no_memory = Failure::of_show(ShowError::OutOfMemory, PATH);
+    assert!(rt; is_told(alloc, no_memory, "out of memory", 3));
+    let unread = Failure::of_show(ShowError::CannotRead, PATH);
+    assert!(rt; is_told(alloc, unread, "cannot read a/b.txt", 4));
+    let unwritten = Failure::of_show(ShowError::CannotWrite, PATH);
+    assert!(rt; is_told(alloc, unwritten, "cannot write", 4));
+    let bad_vector = Failure::of_vectors(VectorsError::BadVector(3), PATH);
+    assert!(rt; is_told(alloc, bad_vector, "line 3: bad vector", 1));
+    let bad_shape = Failure::of_payload(PayloadRefusal::BadShape(7));
+    assert!(rt; is_told(alloc, bad_shape, "bad shape at 7", 1));
+    let bad_payload = Failure::of_payload(PayloadRefusal::BadHex);
+    assert!(rt; is_told(alloc, bad_payload, "bad hex", 1));
+    let usage = "error: a word is no UTF-8\n\nUsage: someipctl <COMMAND>";
+    assert!(rt; is_told(alloc, Failure::NotText, usage, 2));
 }
 
-/// Each failure of a run, its text for standard error and its exit status.
+/// Each failure of a setup, a run or a recording, its text for standard error and its exit status.
 #[test]
-fn failures_of_runs_have_texts_and_statuses(rt: HostRuntime) {
-    let wrong = first_wrong(rt.alloc(), FAILURES_OF_RUNS);
-    assert!(rt; wrong.is_none(), "{wrong:?}");
+fn failures_of_runs_and_recordings_have_texts_and_statuses(rt: HostRuntime) {
+    let alloc = rt.alloc();
+    assert!(rt; is_setup_fault(alloc, b"group = \n", "setup: NotToml -"));
+    let clash = Failure::of_setup(SetupFault::Refused(SetupError::Clash("port")), PATH);
+    assert!(rt; is_told(alloc, clash, "setup: Clash port", 1));
+    let unread = Failure::of_setup(SetupFault::CannotRead, PATH);
+    assert!(rt; is_told(alloc, unread, "cannot read a/b.txt", 4));
+    let bad_line = Failure::of_run(RunFault::BadLine(3), PATH);
+    assert!(rt; is_told(alloc, bad_line, "line 3: bad step", 1));
+    let bad_step = Failure::of_run(RunFault::BadStep(1, StepFault::BadDelay), PATH);
+    assert!(rt; is_told(alloc, bad_step, "step 1: BadDelay", 1));
+    let block = RecordingFault::BadRecording(RecordingError::BlockLength(28));
+    let bad_recording = Failure::of_recording(block, "x");
+    assert!(rt; is_told(alloc, bad_recording, "recording: BlockLength at 28", 1));
+    let unread = Failure::of_recording(RecordingFault::CannotRead, "x");
+    assert!(rt; is_told(alloc, unread, "cannot read x", 4));
+    let ports = Failure::of_ports(PortsError::BadPorts, "0");
+    let usage =
+        "error: invalid value '0' for '--ports <PORTS>': ports are numbers from 1 to 65535 with commas between them\n\nUsage: someipctl recording [OPTIONS] <FILE>";
+    assert!(rt; is_told(alloc, ports, usage, 2));
 }
 
-/// The exit status of the answer to words without a command.
-fn answered<W: Write>(alloc: Global, words: &[&str], writer: &mut W) -> Option<u8> {
-    let error = command_of(alloc, words).err()?;
-    match answer_error(error, writer) {
-        Ok(outcome) => Some(outcome.status()),
-        Err(failure) => Some(failure.status()),
-    }
+/// Whether the answer to words without a command ends with a status, and the writer took nothing, or a text that
+/// begins so.
+fn is_answered(
+    alloc: Global,
+    words: &[&str],
+    limits: Limits,
+    status: u8,
+    beginning: &[u8],
+) -> bool {
+    let mut writer = SlowWriter::new(alloc, limits);
+    let ended = match command_of(alloc, words) {
+        Ok(_) => false,
+        Err(error) => is_end(alloc, answer_error(error, &mut writer), None, status),
+    };
+    let taken = writer.taken.as_slice();
+    ended && taken.is_empty() == beginning.is_empty() && taken.starts_with(beginning)
 }
 
-/// Whether words without a command end with a status and print nothing, or a text that begins so.
-fn is_answered(alloc: Global, words: &[&str], status: u8, beginning: &[u8]) -> bool {
-    let mut out = Vec::new(alloc);
-    answered(alloc, words, &mut out) == Some(status)
-        && out.is_empty() == beginning.is_empty()
-        && out.starts_with(beginning)
-}
-
-/// Whether help that cannot be written is told.
-fn is_unwritten(alloc: Global) -> bool {
-    let limits = Limits {
+/// Help is printed, and told where it cannot be; a fault of usage is not printed.
+#[test]
+fn help_is_printed_and_usage_is_not(rt: HostRuntime) {
+    let alloc = rt.alloc();
+    let help = b"Prints the messages of a capture, one a line\n\nUsage: ";
+    let broken = Limits {
         most: 1,
         fails_at: 0,
         takes_nothing: false,
     };
-    let mut writer = SlowWriter::new(alloc, limits);
-    answered(alloc, &["someipctl", "help", "show"], &mut writer) == Some(4)
+    assert!(rt; is_answered(alloc, &["someipctl", "help", "show"], UNLIMITED, 0, help));
+    assert!(rt; is_answered(alloc, &["someipctl", "help", "show"], broken, 4, b""));
+    assert!(rt; is_answered(alloc, &["someipctl", "list"], UNLIMITED, 2, b""));
+    assert!(rt; is_answered(alloc, &["someipctl"], UNLIMITED, 2, b""));
 }
 
-#[test]
-fn help_is_printed_and_usage_is_not(rt: HostRuntime) {
-    let help = b"Prints the messages of a capture, one a line\n\nUsage: ".as_slice();
-    let holds = is_answered(rt.alloc(), &["someipctl", "help", "show"], 0, help)
-        && is_unwritten(rt.alloc())
-        && is_answered(rt.alloc(), &["someipctl", "list"], 2, b"")
-        && is_answered(rt.alloc(), &["someipctl"], 2, b"");
-    assert!(rt; holds);
+/// The words of a line.
+fn words_of(alloc: Global, line: &str) -> Result<Vec<String>, AllocError> {
+    let mut words = Vec::new(alloc);
+    for word in line.split(' ') {
+        words.push(String::from_str(alloc, word)?)?;
+    }
+    Ok(words)
 }
 
-/// The exit status of a whole run of the program on these words.
-fn status_of_run(rt: &HostRuntime, words: &[&str]) -> Result<u8, AllocError> {
-    let mut owned = Vec::new(rt.alloc());
-    for word in words {
-        owned.push(String::from_str(rt.alloc(), word)?)?;
-    }
-    match run(rt, &owned) {
-        Ok(outcome) => Ok(outcome.status()),
-        Err(failure) => Ok(failure.status()),
-    }
+/// Whether a whole run of the program on the words of a line ends with this exit status.
+fn is_run(rt: &HostRuntime, line: &str, status: u8) -> Option<bool> {
+    let words = words_of(rt.alloc(), line).ok()?;
+    Some(is_end(rt.alloc(), run(rt, &words), None, status))
 }
 
 /// Runs of the program whose whole text is that of `clap`, and their exit statuses. Others are its cases.
 #[test]
 fn runs_end_with_a_status(rt: HostRuntime) {
-    let holds = status_of_run(&rt, &["someipctl", "help"]) == Ok(0)
-        && status_of_run(&rt, &["someipctl", "list"]) == Ok(2)
-        && status_of_run(&rt, &["someipctl"]) == Ok(2);
-    assert!(rt; holds);
-}
-
-#[test]
-fn laws_hold() {
-    laws::words_without_fault_match();
-    laws::words_show_any_capture();
-    laws::calls_by_example();
+    assert!(rt; is_run(&rt, "someipctl help", 0) == Some(true));
+    assert!(rt; is_run(&rt, "someipctl list", 2) == Some(true));
+    assert!(rt; is_run(&rt, "someipctl", 2) == Some(true));
 }
 
 /// Whether an answer that is no command is what is wanted.
-fn is_refusal(alloc: Global, error: &LineError, wanted: Wanted) -> bool {
+fn is_refusal(alloc: Global, error: &LineError, wanted: Wanted) -> Option<bool> {
     let part = match (error, wanted) {
         (LineError::Help(_), Wanted::Help(part)) => part,
         (LineError::Usage(_), Wanted::Usage(part)) => part,
-        _ => return false,
+        _ => return Some(false),
     };
-    match error.to_string(alloc) {
-        Ok(text) => text.contains(part),
-        Err(_) => false,
-    }
+    let text = error.to_string(alloc).ok()?;
+    Some(text.contains(part))
 }
 
 /// Whether words come to what is wanted.
-fn come_to(alloc: Global, words: &[&str], wanted: Wanted) -> bool {
+fn come_to(alloc: Global, words: &[&str], wanted: Wanted) -> Option<bool> {
     match command_of(alloc, words) {
-        Ok(command) => matches!(wanted, Wanted::Is(other) if other == command),
+        Ok(command) => Some(matches!(wanted, Wanted::Is(other) if other == command)),
         Err(error) => is_refusal(alloc, &error, wanted),
     }
 }
 
+/// Whether the words of a row come to what is wanted.
+fn is_right(alloc: Global, words: &str, wanted: Wanted) -> Option<bool> {
+    let words: Vec<&str> = words.split('|').collect(alloc).ok()?;
+    come_to(alloc, &words, wanted)
+}
+
 #[test]
 fn words_come_to_a_command_or_a_text(rt: HostRuntime) {
-    let wrong = ROWS
-        .iter()
-        .position(|(words, wanted)| !come_to(rt.alloc(), words, *wanted));
-    assert!(rt; wrong.is_none(), "{wrong:?}");
+    let none = Wanted::Usage("requires a subcommand but one was not provided");
+    assert!(rt; come_to(rt.alloc(), &[], none) == Some(true));
+    for (words, wanted) in ROWS {
+        assert!(rt;
+            is_right(rt.alloc(), words, *wanted) == Some(true),
+            "{words}"
+        );
+    }
 }

@@ -1,128 +1,114 @@
 //! Captures and payloads, of which no command line shows all.
-use crate::slow::{Limits, SlowWriter};
+use crate::slow::{Limits, NEVER, SlowWriter, UNLIMITED};
 use someipctl_commands::payload::{PayloadRefusal, payload};
+use someipctl_commands::read_capture;
 use someipctl_commands::show::{ShowError, show};
-use someipctl_commands::{laws, read_capture};
 use someipctl_inputs::Outcome;
 use std::alloc::{AllocError, Global};
 
-/// Whether a capture over a writer with these limits ends so, and a beginning of a text of this length was taken.
-fn is_written(
-    alloc: Global,
-    mut capture: &[u8],
-    limits: Limits,
-    wanted: Result<Outcome, ShowError>,
-    (text, length): (&str, usize),
-) -> bool {
-    let mut writer = SlowWriter::new(alloc, limits);
-    let outcome = show(alloc, &mut capture, &mut writer);
-    let taken = writer.taken.as_slice();
-    outcome == wanted && taken.len() == length && text.as_bytes().starts_with(taken)
-}
-
-/// Adds a text to another, so many times.
-fn push_times(text: &mut String, part: &str, times: u16) -> Result<(), AllocError> {
-    for _ in 0..times {
-        text.push_str(part)?;
-    }
-    Ok(())
-}
-
-/// Adds the line of a capture with a payload of so many bytes 5a.
-fn push_line(capture: &mut String, length: u16) -> Result<(), AllocError> {
-    let counted = u32::from(length) + 8;
-    write!(capture, "12340421{counted:08x}0001000101010000")?;
-    push_times(capture, "5A", length)?;
-    capture.push_str("\n")
-}
-
-/// Adds what is shown of the datagram of this number with a payload of so many bytes 5a.
-fn push_shown(text: &mut String, number: usize, length: u16) -> Result<(), AllocError> {
-    let counted = u32::from(length) + 8;
-    write!(
-        text,
-        "{number} message 1234.0421 length {counted} client 0001 session 0001 "
-    )?;
-    text.push_str("interface 01 type REQUEST code 00 payload ")?;
-    push_times(text, "5a", length)?;
-    text.push_str("\n")
-}
-
 /// Lengths of payloads at the edges of what is turned into hex and held back at once.
-const LENGTHS: [u16; 12] = [
+const LENGTHS: [usize; 12] = [
     63, 64, 65, 127, 128, 129, 8100, 8140, 8191, 8192, 8193, 20000,
 ];
 
-/// A capture with payloads of these lengths.
-fn long_capture(alloc: Global) -> Result<String, AllocError> {
-    let mut capture = String::new(alloc);
-    for length in LENGTHS {
-        push_line(&mut capture, length)?;
+/// What stands before the payload of these lengths in the lines of a capture.
+const HEADS: &str = "\
+    12340421000000470001000101010000\n\
+    12340421000000480001000101010000\n\
+    12340421000000490001000101010000\n\
+    12340421000000870001000101010000\n\
+    12340421000000880001000101010000\n\
+    12340421000000890001000101010000\n\
+    1234042100001fac0001000101010000\n\
+    1234042100001fd40001000101010000\n\
+    12340421000020070001000101010000\n\
+    12340421000020080001000101010000\n\
+    12340421000020090001000101010000\n\
+    1234042100004e280001000101010000\n\
+";
+
+/// What stands before it in the lines that are shown.
+const SHOWN_HEADS: &str = "\
+    1 message 1234.0421 length 71 client 0001 session 0001 interface 01 type REQUEST code 00 payload \n\
+    2 message 1234.0421 length 72 client 0001 session 0001 interface 01 type REQUEST code 00 payload \n\
+    3 message 1234.0421 length 73 client 0001 session 0001 interface 01 type REQUEST code 00 payload \n\
+    4 message 1234.0421 length 135 client 0001 session 0001 interface 01 type REQUEST code 00 payload \n\
+    5 message 1234.0421 length 136 client 0001 session 0001 interface 01 type REQUEST code 00 payload \n\
+    6 message 1234.0421 length 137 client 0001 session 0001 interface 01 type REQUEST code 00 payload \n\
+    7 message 1234.0421 length 8108 client 0001 session 0001 interface 01 type REQUEST code 00 payload \n\
+    8 message 1234.0421 length 8148 client 0001 session 0001 interface 01 type REQUEST code 00 payload \n\
+    9 message 1234.0421 length 8199 client 0001 session 0001 interface 01 type REQUEST code 00 payload \n\
+    10 message 1234.0421 length 8200 client 0001 session 0001 interface 01 type REQUEST code 00 payload \n\
+    11 message 1234.0421 length 8201 client 0001 session 0001 interface 01 type REQUEST code 00 payload \n\
+    12 message 1234.0421 length 20008 client 0001 session 0001 interface 01 type REQUEST code 00 payload \n\
+";
+
+/// Adds a line: what stands before a payload, and the payload, of so many of this byte.
+fn push_line(text: &mut String, head: &str, byte: &str, length: usize) -> Result<(), AllocError> {
+    text.push_str(head)?;
+    for _ in 0..length {
+        text.push_str(byte)?;
     }
-    Ok(capture)
+    text.push_str("\n")
 }
 
-/// The text that it shows.
-fn long_text(alloc: Global) -> Result<String, AllocError> {
+/// Lines with payloads of those lengths, all of this byte.
+fn lines(alloc: Global, heads: &str, byte: &str) -> Result<String, AllocError> {
     let mut text = String::new(alloc);
-    for (index, length) in LENGTHS.iter().enumerate() {
-        push_shown(&mut text, index + 1, *length)?;
+    for (head, length) in heads.lines().zip(LENGTHS) {
+        push_line(&mut text, head, byte, length)?;
     }
     Ok(text)
 }
 
-/// Whether a capture over a writer that takes so many bytes a call shows a text whole.
-fn is_whole(alloc: Global, capture: &str, text: &str, most: usize) -> bool {
-    let limits = Limits {
-        most,
-        fails_at: 60000,
-        takes_nothing: false,
-    };
-    let told = (text, text.len());
-    is_written(alloc, capture.as_bytes(), limits, Ok(Outcome::Done), told)
-}
-
-/// Whether a capture over a writer that takes nothing at a call shows a text whole, or else a beginning.
-fn is_whole_or_begun(alloc: Global, mut capture: &[u8], text: &[u8], fails_at: usize) -> bool {
-    let limits = Limits {
-        most: 5000,
-        fails_at,
-        takes_nothing: true,
-    };
+/// Whether a capture over a writer with these limits shows a text whole, or else, where a call takes nothing, a
+/// beginning.
+fn is_shown(alloc: Global, mut capture: &[u8], text: &[u8], limits: Limits) -> bool {
     let mut writer = SlowWriter::new(alloc, limits);
     let outcome = show(alloc, &mut capture, &mut writer);
     let taken = writer.taken.as_slice();
-    if outcome == Ok(Outcome::Done) {
-        taken == text
-    } else {
-        outcome == Err(ShowError::CannotWrite) && text.starts_with(taken)
+    match outcome {
+        Ok(Outcome::Done) => taken == text,
+        Err(ShowError::CannotWrite) => limits.takes_nothing && text.starts_with(taken),
+        _ => false,
     }
 }
 
-/// Whether a capture shows a text whatever its writer takes a call.
-fn shows(alloc: Global, capture: &str, text: &str) -> bool {
+/// Whether a capture shows a text whatever its writer takes a call, and whichever call takes nothing.
+fn shows(alloc: Global, capture: &[u8], text: &[u8]) -> bool {
     for fails_at in 0..40 {
-        if !is_whole_or_begun(alloc, capture.as_bytes(), text.as_bytes(), fails_at) {
+        let limits = Limits {
+            most: 5000,
+            fails_at,
+            takes_nothing: true,
+        };
+        if !is_shown(alloc, capture, text, limits) {
             return false;
         }
     }
-    is_whole(alloc, capture, text, 60000) && is_whole(alloc, capture, text, 7)
+    let few = Limits {
+        most: 7,
+        fails_at: NEVER,
+        takes_nothing: false,
+    };
+    is_shown(alloc, capture, text, few) && is_shown(alloc, capture, text, UNLIMITED)
+}
+
+/// Whether a capture shows the lines with the payloads in hex of small letters.
+fn shows_lines(alloc: Global, capture: &[u8]) -> Option<bool> {
+    let text = lines(alloc, SHOWN_HEADS, "5a").ok()?;
+    Some(shows(alloc, capture, text.as_bytes()))
+}
+
+/// Whether the capture with those payloads shows its lines.
+fn shows_long_lines(alloc: Global) -> Option<bool> {
+    let capture = lines(alloc, HEADS, "5A").ok()?;
+    shows_lines(alloc, capture.as_bytes())
 }
 
 #[test]
-fn long_texts_are_written_whole(rt: HostRuntime) -> Result<(), AllocError> {
-    let capture = long_capture(rt.alloc())?;
-    let text = long_text(rt.alloc())?;
-    assert!(rt; shows(rt.alloc(), &capture, &text));
-    Ok(())
-}
-
-#[test]
-fn laws_hold() {
-    laws::what_lines_say();
-    laws::what_vector_lines_say();
-    laws::messages_begin_behind_others();
-    laws::recordings_print_what_show_prints();
+fn long_texts_are_written_whole(rt: HostRuntime) {
+    assert!(rt; shows_long_lines(rt.alloc()) == Some(true));
 }
 
 /// Captures, and the bytes of each of their datagrams.
@@ -148,16 +134,20 @@ const CAPTURES: &[(&[u8], &[&[u8]])] = &[
     ),
 ];
 
+/// Whether datagrams have these bytes.
+fn are(datagrams: &[Vec<u8>], wanted: &[&[u8]]) -> bool {
+    for (datagram, bytes) in datagrams.iter().zip(wanted) {
+        if datagram.as_slice() != *bytes {
+            return false;
+        }
+    }
+    datagrams.len() == wanted.len()
+}
+
 /// Whether a capture has these datagrams.
 fn has_datagrams(alloc: Global, text: &[u8], wanted: &[&[u8]]) -> bool {
     match read_capture(alloc, text) {
-        Ok(datagrams) => {
-            datagrams.len() == wanted.len()
-                && datagrams
-                    .iter()
-                    .zip(wanted)
-                    .all(|(datagram, bytes)| datagram.as_slice() == *bytes)
-        }
+        Ok(datagrams) => are(&datagrams, wanted),
         Err(_) => false,
     }
 }
@@ -165,23 +155,25 @@ fn has_datagrams(alloc: Global, text: &[u8], wanted: &[&[u8]]) -> bool {
 /// Captures with a bad line are cases of the program.
 #[test]
 fn captures_are_read(rt: HostRuntime) {
-    let wrong = CAPTURES
-        .iter()
-        .position(|(text, wanted)| !has_datagrams(rt.alloc(), text, wanted));
-    assert!(rt; wrong.is_none(), "{wrong:?}");
+    for (index, (text, wanted)) in CAPTURES.iter().enumerate() {
+        assert!(rt; has_datagrams(rt.alloc(), text, wanted), "row {index}");
+    }
 }
 
-/// Whether a payload is refused so by its shape, and nothing is printed.
+/// Whether a payload is refused so by its HEX, and nothing is printed.
 fn is_payload_refused(alloc: Global, shape: &str, hex: &str) -> bool {
-    let mut out = Vec::new(alloc);
-    payload(alloc, shape, hex, &mut out) == Err(PayloadRefusal::BadHex) && out.is_empty()
+    let mut writer = SlowWriter::new(alloc, UNLIMITED);
+    let refused = matches!(
+        payload(alloc, shape, hex, &mut writer),
+        Err(PayloadRefusal::BadHex),
+    );
+    refused && writer.taken.is_empty()
 }
 
 /// HEX that is no word of a line of cases.
 #[test]
 fn payloads_are_refused(rt: HostRuntime) {
-    let holds = is_payload_refused(rt.alloc(), "u8", "00 00")
-        && is_payload_refused(rt.alloc(), "u8", "")
-        && is_payload_refused(rt.alloc(), "fixed<0,u8>", "");
-    assert!(rt; holds);
+    assert!(rt; is_payload_refused(rt.alloc(), "u8", "00 00"));
+    assert!(rt; is_payload_refused(rt.alloc(), "u8", ""));
+    assert!(rt; is_payload_refused(rt.alloc(), "fixed<0,u8>", ""));
 }

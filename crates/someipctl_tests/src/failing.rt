@@ -1,7 +1,8 @@
 //! Commands over a reader and a writer that move a byte a call, for each call of theirs that fails.
-use crate::cli::is_told;
-use crate::slow::{Limits, SlowReader, SlowWriter};
+use crate::endings::is_end;
+use crate::slow::{Limits, NEVER, SlowReader, SlowWriter};
 use rows::{Command, End, READINGS, RUNS, Row};
+use someip_world::Setup;
 use someipctl_cli::Failure;
 use someipctl_commands::payload::payload;
 use someipctl_commands::show::show;
@@ -18,70 +19,69 @@ mod rows;
 /// The path that is told of a file that cannot be read.
 const PATH: &str = "a/b.txt";
 
-/// A call that no reader and no writer here comes to.
-const NEVER: usize = 60000;
-
-/// How a call fails.
+/// What is read beside a setup.
 #[derive(Clone, Copy)]
-enum Way {
-    /// A read gives an error.
-    NotRead,
-    /// A read finds no memory.
-    NoMemory,
-    /// A write gives an error.
-    NotWritten,
-    /// A write takes nothing.
-    NothingTaken,
+enum Part {
+    /// The schedule.
+    Schedule,
+    /// The schedule, whose lines are shown in the trace.
+    ScheduleWithLines,
+    /// The trace that is expected of this schedule.
+    Trace(&'static [u8]),
 }
 
-impl Way {
-    /// How many calls a command makes of which one may fail so.
-    fn calls(self, row: &Row) -> usize {
-        match self {
-            Way::NotRead | Way::NoMemory => row.reads(),
-            Way::NotWritten | Way::NothingTaken => row.printed.len(),
-        }
+/// Reads the trace that is expected, and then compares that of a schedule.
+fn compare<R: Read>(
+    alloc: Global,
+    network: &Setup,
+    expected: &mut R,
+    mut schedule: &[u8],
+    writer: &mut SlowWriter,
+) -> Result<Outcome, Failure<'static>> {
+    let trace = match read_expected(alloc, expected) {
+        Ok(trace) => trace,
+        Err(fault) => return Err(Failure::of_expected(fault, PATH)),
+    };
+    let form = TraceForm::Plain;
+    match compare_schedule(alloc, network, form, &trace, &mut schedule, writer) {
+        Ok(outcome) => Ok(outcome),
+        Err(fault) => Err(Failure::of_run(fault, PATH)),
     }
+}
 
-    /// How the command ends where one fails.
-    fn end(self) -> End {
-        match self {
-            Way::NotRead => ("cannot read a/b.txt", 4),
-            Way::NoMemory => ("out of memory", 3),
-            Way::NotWritten | Way::NothingTaken => ("cannot write", 4),
+/// Runs a schedule over a setup, or compares its trace.
+fn run_part<R: Read>(
+    alloc: Global,
+    network: &Setup,
+    part: Part,
+    reader: &mut R,
+    writer: &mut SlowWriter,
+) -> Result<Outcome, Failure<'static>> {
+    let ran = match part {
+        Part::Schedule => run_schedule(alloc, network, reader, writer),
+        Part::ScheduleWithLines => {
+            run_schedule_in_form(alloc, network, TraceForm::WithLines, reader, writer)
         }
+        Part::Trace(schedule) => return compare(alloc, network, reader, schedule, writer),
+    };
+    match ran {
+        Ok(()) => Ok(Outcome::Done),
+        Err(fault) => Err(Failure::of_run(fault, PATH)),
     }
+}
 
-    /// How many bytes are printed where the call of this number fails.
-    fn length(self, call: usize) -> usize {
-        match self {
-            Way::NotRead | Way::NoMemory => 0,
-            Way::NotWritten | Way::NothingTaken => call,
-        }
-    }
-
-    /// A reader of the row's input, whose call of this number fails if it is reads that do.
-    fn reader(self, row: &Row, call: usize) -> SlowReader<'static> {
-        match self {
-            Way::NotRead => SlowReader::new(row.input, call, ErrorKind::Other),
-            Way::NoMemory => SlowReader::new(row.input, call, ErrorKind::OutOfMemory),
-            Way::NotWritten | Way::NothingTaken => {
-                SlowReader::new(row.input, NEVER, ErrorKind::Other)
-            }
-        }
-    }
-
-    /// The limits of a writer whose call of this number fails if it is writes that do.
-    fn limits(self, call: usize) -> Limits {
-        let fails_at = match self {
-            Way::NotRead | Way::NoMemory => NEVER,
-            Way::NotWritten | Way::NothingTaken => call,
-        };
-        Limits {
-            most: 1,
-            fails_at,
-            takes_nothing: matches!(self, Way::NothingTaken),
-        }
+/// Reads a setup, and then the part beside it. It owns the setup of all rows, since each function that has to drop
+/// one takes the prover long.
+fn run_over<S: Read, R: Read>(
+    alloc: Global,
+    setup: &mut S,
+    part: Part,
+    reader: &mut R,
+    writer: &mut SlowWriter,
+) -> Result<Outcome, Failure<'static>> {
+    match read_setup(alloc, setup) {
+        Ok(network) => run_part(alloc, &network, part, reader, writer),
+        Err(fault) => Err(Failure::of_setup(fault, PATH)),
     }
 }
 
@@ -93,76 +93,30 @@ fn perform(
     writer: &mut SlowWriter,
 ) -> Result<Outcome, Failure<'static>> {
     match command {
-        Command::Show => show(alloc, reader, writer).map_err(|error| Failure::of_show(error, PATH)),
-        Command::Vectors => {
-            vectors(alloc, reader, writer).map_err(|error| Failure::of_vectors(error, PATH))
+        Command::Show => match show(alloc, reader, writer) {
+            Ok(outcome) => Ok(outcome),
+            Err(error) => Err(Failure::of_show(error, PATH)),
+        },
+        Command::Vectors => match vectors(alloc, reader, writer) {
+            Ok(outcome) => Ok(outcome),
+            Err(error) => Err(Failure::of_vectors(error, PATH)),
+        },
+        Command::Payload(shape, hex) => match payload(alloc, shape, hex, writer) {
+            Ok(outcome) => Ok(outcome),
+            Err(refusal) => Err(Failure::of_payload(refusal)),
+        },
+        Command::RunSetup(mut schedule) => {
+            run_over(alloc, reader, Part::Schedule, &mut schedule, writer)
         }
-        Command::Payload(shape, hex) => {
-            payload(alloc, shape, hex, writer).map_err(Failure::of_payload)
+        Command::RunSchedule(mut setup) => {
+            run_over(alloc, &mut setup, Part::Schedule, reader, writer)
         }
-        Command::RunSetup(mut schedule) => run_over(alloc, reader, &mut schedule, writer),
-        Command::RunSchedule(mut setup) => run_over(alloc, &mut setup, reader, writer),
-        Command::RunWithLines(mut setup) => run_with_lines(alloc, &mut setup, reader, writer),
-        Command::Compare(mut setup, mut schedule) => {
-            compare_over(alloc, &mut setup, &mut schedule, reader, writer)
+        Command::RunWithLines(mut setup) => {
+            run_over(alloc, &mut setup, Part::ScheduleWithLines, reader, writer)
         }
-    }
-}
-
-/// Reads a setup, and then runs a schedule over it, with the lines of the schedule in the trace.
-fn run_with_lines<S: Read, R: Read>(
-    alloc: Global,
-    setup: &mut S,
-    schedule: &mut R,
-    writer: &mut SlowWriter,
-) -> Result<Outcome, Failure<'static>> {
-    let network = read_setup(alloc, setup).map_err(|fault| Failure::of_setup(fault, PATH))?;
-    run_schedule_in_form(alloc, &network, TraceForm::WithLines, schedule, writer).map_err(
-        |fault| Failure::of_run(fault, PATH),
-    )?;
-    Ok(Outcome::Done)
-}
-
-/// Reads a setup and the trace that is expected, and then compares that of a schedule.
-fn compare_over<S: Read, C: Read, R: Read>(
-    alloc: Global,
-    setup: &mut S,
-    schedule: &mut C,
-    expected: &mut R,
-    writer: &mut SlowWriter,
-) -> Result<Outcome, Failure<'static>> {
-    let network = read_setup(alloc, setup).map_err(|fault| Failure::of_setup(fault, PATH))?;
-    let expected = read_expected(alloc, expected).map_err(|fault| Failure::of_expected(
-        fault, PATH,
-    ))?;
-    compare_schedule(
-        alloc,
-        &network,
-        TraceForm::Plain,
-        &expected,
-        schedule,
-        writer,
-    )
-    .map_err(|fault| Failure::of_run(fault, PATH))
-}
-
-/// Reads a setup, and then runs a schedule over it.
-fn run_over<S: Read, R: Read>(
-    alloc: Global,
-    setup: &mut S,
-    schedule: &mut R,
-    writer: &mut SlowWriter,
-) -> Result<Outcome, Failure<'static>> {
-    let network = read_setup(alloc, setup).map_err(|fault| Failure::of_setup(fault, PATH))?;
-    run_schedule(alloc, &network, schedule, writer).map_err(|fault| Failure::of_run(fault, PATH))?;
-    Ok(Outcome::Done)
-}
-
-/// Whether a command came to this end.
-fn is_end(alloc: Global, came: &Result<Outcome, Failure<'static>>, (text, status): End) -> bool {
-    match came {
-        Ok(outcome) => text.is_empty() && outcome.status() == status,
-        Err(failure) => is_told(alloc, failure, text, status),
+        Command::Compare(mut setup, schedule) => {
+            run_over(alloc, &mut setup, Part::Trace(schedule), reader, writer)
+        }
     }
 }
 
@@ -175,88 +129,95 @@ fn comes_to(
     limits: Limits,
     (end, length): (End, usize),
 ) -> bool {
+    let (text, status) = end;
     let mut writer = SlowWriter::new(alloc, limits);
     let came = perform(alloc, row.command, reader, &mut writer);
+    let ended = is_end(alloc, came, Some(text), status);
     let taken = writer.taken.as_slice();
-    is_end(alloc, &came, end) && taken.len() == length && row.printed.as_bytes().starts_with(taken)
+    ended && taken.len() == length && row.printed.as_bytes().starts_with(taken)
 }
 
-/// Whether the call of this number, failing in this way, is told; one that is not made changes nothing.
-fn is_failure_told(alloc: Global, row: &Row, way: Way, call: usize) -> bool {
-    let wanted = if call < way.calls(row) {
-        (way.end(), way.length(call))
-    } else {
-        (row.end, row.printed.len())
+/// Whether a row's command comes to its end where reads or writes fail that are not made.
+fn is_whole(alloc: Global, row: &Row, reader: &mut SlowReader<'_>, limits: Limits) -> bool {
+    comes_to(alloc, row, reader, limits, (row.end, row.printed.len()))
+}
+
+/// Whether each read that fails by an error of this kind is told so, and nothing is printed; one that is not made
+/// changes nothing.
+fn are_reads_told(alloc: Global, row: &Row, kind: ErrorKind, end: End) -> bool {
+    let limits = Limits {
+        most: 1,
+        fails_at: NEVER,
+        takes_nothing: false,
     };
-    comes_to(
-        alloc,
-        row,
-        &mut way.reader(row, call),
-        way.limits(call),
-        wanted,
-    )
-}
-
-/// The first call of a row's command whose failure in this way is not told.
-fn first_untold(alloc: Global, row: &Row, way: Way) -> Option<usize> {
-    for call in 0..=way.calls(row) {
-        if !is_failure_told(alloc, row, way, call) {
-            return Some(call);
+    for call in 0..row.reads() {
+        let mut reader = SlowReader::new(row.input, call, kind);
+        if !comes_to(alloc, row, &mut reader, limits, (end, 0)) {
+            return false;
         }
     }
-    None
+    let mut reader = SlowReader::new(row.input, row.reads(), kind);
+    is_whole(alloc, row, &mut reader, limits)
 }
 
-/// The first row, and its first call, whose failure in this way is not told.
-fn first_wrong(alloc: Global, rows: &[Row], way: Way) -> Option<(usize, usize)> {
-    for (index, row) in rows.iter().enumerate() {
-        if let Some(call) = first_untold(alloc, row, way) {
-            return Some((index, call));
+/// Whether a row's command over a writer with these limits comes to its end, and its whole text was taken.
+fn is_taken(alloc: Global, row: &Row, limits: Limits) -> bool {
+    let mut reader = SlowReader::new(row.input, NEVER, ErrorKind::Other);
+    is_whole(alloc, row, &mut reader, limits)
+}
+
+/// Whether each write that fails is told, and what was taken before is printed; one that is not made changes nothing.
+fn are_writes_told(alloc: Global, row: &Row, takes_nothing: bool) -> bool {
+    for call in 0..row.printed.len() {
+        let mut reader = SlowReader::new(row.input, NEVER, ErrorKind::Other);
+        let limits = Limits {
+            most: 1,
+            fails_at: call,
+            takes_nothing,
+        };
+        if !comes_to(alloc, row, &mut reader, limits, (("cannot write", 4), call)) {
+            return false;
         }
     }
-    None
+    let limits = Limits {
+        most: 1,
+        fails_at: row.printed.len(),
+        takes_nothing,
+    };
+    is_taken(alloc, row, limits)
 }
 
-/// The first wrong row and call, of those in which no run is begun and then of runs.
-fn first_wrong_of_all(alloc: Global, way: Way) -> Option<(usize, usize)> {
-    first_wrong(alloc, READINGS, way).or(first_wrong(alloc, RUNS, way))
+/// Whether each call of a row's command that fails is told, in whichever way it does.
+fn is_told(alloc: Global, row: &Row) -> bool {
+    are_reads_told(alloc, row, ErrorKind::Other, ("cannot read a/b.txt", 4))
+        && are_reads_told(alloc, row, ErrorKind::OutOfMemory, ("out of memory", 3))
+        && are_writes_told(alloc, row, false)
+        && are_writes_told(alloc, row, true)
 }
 
-/// Nothing is printed, whichever read fails.
 #[test]
-fn each_read_that_fails_is_told(rt: HostRuntime) {
-    for way in [Way::NotRead, Way::NoMemory] {
-        let wrong = first_wrong_of_all(rt.alloc(), way);
-        assert!(rt; wrong.is_none(), "row and call {wrong:?}");
+fn each_call_that_fails_is_told(rt: HostRuntime) {
+    for (index, row) in READINGS.iter().enumerate() {
+        assert!(rt; is_told(rt.alloc(), row), "row {index}");
     }
 }
 
-/// What was taken before is printed, whichever write fails.
-#[test]
-fn each_write_that_fails_is_told(rt: HostRuntime) {
-    for way in [Way::NotWritten, Way::NothingTaken] {
-        let wrong = first_wrong_of_all(rt.alloc(), way);
-        assert!(rt; wrong.is_none(), "row and call {wrong:?}");
-    }
-}
-
-/// Whether a row's command over a writer that takes so many bytes a call prints its whole text.
-fn is_whole(alloc: Global, row: &Row, most: usize) -> bool {
+/// Whether a row's whole text is taken by a writer that takes so many bytes a call.
+fn is_taken_by(alloc: Global, row: &Row, most: usize) -> bool {
     let limits = Limits {
         most,
         fails_at: row.printed.len(),
         takes_nothing: false,
     };
-    let wanted = (row.end, row.printed.len());
-    let mut reader = SlowReader::new(row.input, NEVER, ErrorKind::Other);
-    comes_to(alloc, row, &mut reader, limits, wanted)
+    is_taken(alloc, row, limits)
 }
 
-/// Writers that take several bytes a call take whole texts.
+/// Each call that fails is told, and writers that take several bytes a call take whole texts.
 #[test]
-fn texts_are_taken_whole(rt: HostRuntime) {
-    for most in [7, 1000] {
-        let wrong = RUNS.iter().position(|row| !is_whole(rt.alloc(), row, most));
-        assert!(rt; wrong.is_none(), "row {wrong:?}");
+fn a_run_is_written_whole_or_its_failure_told(rt: HostRuntime) {
+    for (index, row) in RUNS.iter().enumerate() {
+        assert!(rt; is_told(rt.alloc(), row), "row {index}");
+        assert!(rt; is_taken_by(rt.alloc(), row, 7), "row {index}");
+        assert!(rt; is_taken_by(rt.alloc(), row, 1000), "row {index}");
     }
 }

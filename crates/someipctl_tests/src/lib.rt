@@ -5,8 +5,10 @@
 //!
 //! - `cli`: what words come to, and the texts and statuses of failures;
 //! - `commands`: captures and payloads;
+//! - `endings`: how what the program does ends;
 //! - `failing`: commands over a reader and a writer that fail, for each of their calls;
-//! - `run`: the text of a setup's fault;
+//! - `laws`: the laws of the commands and of the command line;
+//! - `recordings`: what is left out of a recording, and recordings that are not written whole;
 //! - `slow`: readers and writers that move few bytes a call.
 #![tactic(auto)]
 
@@ -15,10 +17,12 @@ mod cli;
 #[cfg(test)]
 mod commands;
 #[cfg(test)]
+mod endings;
+#[cfg(test)]
 mod failing;
 #[cfg(test)]
-mod recordings;
+mod laws;
 #[cfg(test)]
-mod run;
+mod recordings;
 #[cfg(test)]
 mod slow;

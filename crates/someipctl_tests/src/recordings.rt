@@ -1,11 +1,8 @@
 //! What is told of the packets that a recording gives no datagram of, and recordings that are not read or
 //! written whole.
-use crate::cli::is_told;
+use crate::endings::is_printed;
 use crate::slow::{Limits, SlowWriter};
-use recording::RecordingError;
-use someipctl_cli::Failure;
 use someipctl_commands::LeftOut;
-use someipctl_commands::ports::PortsError;
 use someipctl_commands::recordings::{RecordingFault, show_recording};
 use someipctl_inputs::Outcome;
 use std::alloc::Global;
@@ -41,16 +38,14 @@ fn is_row(alloc: Global, (counts, text): &Row) -> bool {
         cut,
         bad_udp_length,
     };
-    match left_out.to_string(alloc) {
-        Ok(told) => told.as_str() == *text && !left_out.is_empty(),
-        Err(_) => false,
-    }
+    !left_out.is_empty() && is_printed(alloc, &left_out, text) == Some(true)
 }
 
 #[test]
 fn what_is_left_out_is_told(rt: HostRuntime) {
-    let wrong = ROWS.iter().position(|row| !is_row(rt.alloc(), row));
-    assert!(rt; wrong.is_none(), "{wrong:?}");
+    for row in ROWS {
+        assert!(rt; is_row(rt.alloc(), row), "{}", row.1);
+    }
     assert!(rt; LeftOut::new().is_empty());
 }
 
@@ -71,38 +66,20 @@ fn is_written(alloc: Global, fails_at: usize) -> bool {
     };
     let mut writer = SlowWriter::new(alloc, limits);
     let mut file = FILE;
-    let shown = show_recording(alloc, &mut file, Some([10].as_slice()), true, &mut writer);
+    let shown = show_recording(alloc, &mut file, Some(&[10]), true, &mut writer);
     let taken = writer.taken.as_slice();
     match shown {
-        Ok(shown) => fails_at == TEXT.len() && taken == TEXT && shown.outcome == Outcome::Done,
-        Err(fault) => {
-            fault == RecordingFault::CannotWrite
-                && taken.len() == fails_at
-                && TEXT.starts_with(taken)
+        Ok(shown) => {
+            fails_at == TEXT.len() && taken == TEXT && matches!(shown.outcome, Outcome::Done)
         }
+        Err(RecordingFault::CannotWrite) => taken.len() == fails_at && TEXT.starts_with(taken),
+        Err(_) => false,
     }
 }
 
 #[test]
 fn recordings_are_written_as_far_as_the_writer_takes_them(rt: HostRuntime) {
-    let wrong = (0..TEXT.len() + 1).find(|call| !is_written(rt.alloc(), *call));
-    assert!(rt; wrong.is_none(), "{wrong:?}");
-}
-
-/// Each failure of a recording, its text for standard error and its exit status.
-#[test]
-fn failures_of_recordings_have_texts_and_statuses(rt: HostRuntime) {
-    let alloc = rt.alloc();
-    let bad = Failure::of_recording(
-        RecordingFault::BadRecording(RecordingError::BlockLength(28)),
-        "x",
-    );
-    let unread = Failure::of_recording(RecordingFault::CannotRead, "x");
-    let ports = Failure::of_ports(PortsError::BadPorts, "0");
-    let text =
-        "error: invalid value '0' for '--ports <PORTS>': ports are numbers from 1 to 65535 with commas between them\n\nUsage: someipctl recording [OPTIONS] <FILE>";
-    let holds = is_told(alloc, &bad, "recording: BlockLength at 28", 1)
-        && is_told(alloc, &unread, "cannot read x", 4)
-        && is_told(alloc, &ports, text, 2);
-    assert!(rt; holds);
+    for call in 0..=TEXT.len() {
+        assert!(rt; is_written(rt.alloc(), call), "call {call}");
+    }
 }

@@ -51,6 +51,16 @@ pub struct Limits {
     pub takes_nothing: bool,
 }
 
+/// A call that no reader and no writer here comes to.
+pub const NEVER: usize = 60000;
+
+/// The limits of a writer that takes whatever it is given.
+pub const UNLIMITED: Limits = Limits {
+    most: NEVER,
+    fails_at: NEVER,
+    takes_nothing: false,
+};
+
 /// Takes what its limits allow.
 #[derive(Drop)]
 pub struct SlowWriter {

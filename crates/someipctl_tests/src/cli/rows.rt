@@ -14,23 +14,23 @@ pub enum Wanted {
     Usage(&'static str),
 }
 
-/// Words, and what they come to.
-pub type Row = (&'static [&'static str], Wanted);
+/// Words with `|` between them, and what they come to.
+pub type Row = (&'static str, Wanted);
 
 pub const ROWS: &[Row] = &[
-    (&["someipctl", "vectors", "x"], Is(Vectors { file: "x" })),
-    (&["someipctl", "vectors", "-"], Is(Vectors { file: "-" })),
+    ("someipctl|vectors|x", Is(Vectors { file: "x" })),
+    ("someipctl|vectors|-", Is(Vectors { file: "-" })),
     (
-        &["someipctl", "vectors"],
+        "someipctl|vectors",
         Usage("Usage: someipctl vectors <FILE>\n"),
     ),
     (
-        &["someipctl", "vectors", "x", "y"],
+        "someipctl|vectors|x|y",
         Usage("error: unexpected argument 'y' found\n"),
     ),
-    (&["someipctl", "help", "vectors"], Help("  passed 1 of 2\n")),
+    ("someipctl|help|vectors", Help("  passed 1 of 2\n")),
     (
-        &["someipctl", "run", "x", "y"],
+        "someipctl|run|x|y",
         Is(Run {
             setup: "x",
             schedule: "y",
@@ -39,7 +39,7 @@ pub const ROWS: &[Row] = &[
         }),
     ),
     (
-        &["someipctl", "run", "--lines", "x", "--expect", "t", "y"],
+        "someipctl|run|--lines|x|--expect|t|y",
         Is(Run {
             setup: "x",
             schedule: "y",
@@ -48,19 +48,13 @@ pub const ROWS: &[Row] = &[
         }),
     ),
     (
-        &["someipctl", "run", "--expect", "x", "y"],
+        "someipctl|run|--expect|x|y",
         Usage("error: the following required arguments were not provided:\n"),
     ),
+    ("someipctl|help|run", Help("      --expect <TRACE>  ")),
+    ("someipctl|help|run", Help("      --lines           ")),
     (
-        &["someipctl", "help", "run"],
-        Help("      --expect <TRACE>  "),
-    ),
-    (
-        &["someipctl", "help", "run"],
-        Help("      --lines           "),
-    ),
-    (
-        &["someipctl", "recording", "x"],
+        "someipctl|recording|x",
         Is(Recording {
             file: "x",
             ports: None,
@@ -68,14 +62,7 @@ pub const ROWS: &[Row] = &[
         }),
     ),
     (
-        &[
-            "someipctl",
-            "recording",
-            "--endpoints",
-            "--ports",
-            "1,2",
-            "x",
-        ],
+        "someipctl|recording|--endpoints|--ports|1,2|x",
         Is(Recording {
             file: "x",
             ports: Some("1,2"),
@@ -83,7 +70,7 @@ pub const ROWS: &[Row] = &[
         }),
     ),
     (
-        &["someipctl", "recording", "x", "--ports="],
+        "someipctl|recording|x|--ports=",
         Is(Recording {
             file: "x",
             ports: Some(""),
@@ -91,113 +78,106 @@ pub const ROWS: &[Row] = &[
         }),
     ),
     (
-        &["someipctl", "recording"],
+        "someipctl|recording",
         Usage("Usage: someipctl recording <FILE>\n"),
     ),
     (
-        &["someipctl", "help", "recording"],
+        "someipctl|help|recording",
         Help("  someipctl recording --ports 30509 examples/one.pcap\n"),
     ),
     (
-        &["someipctl", "chart", "x", "y"],
+        "someipctl|chart|x|y",
         Is(Chart {
             setup: "x",
             schedule: "y",
         }),
     ),
     (
-        &["someipctl", "help", "chart"],
+        "someipctl|help|chart",
         Help("Usage: someipctl chart <SETUP> <SCHEDULE>\n"),
     ),
     (
-        &["someipctl", "run", "x"],
+        "someipctl|run|x",
         Usage("Usage: someipctl run <SETUP> <SCHEDULE>\n"),
     ),
-    (&["someipctl", "help", "run"], Help("  deliver N NODE\n")),
-    (&["someipctl", "show", "x"], Is(Show { capture: "x" })),
-    (&["someipctl", "show", "-"], Is(Show { capture: "-" })),
-    (&["someipctl", "show", ""], Is(Show { capture: "" })),
-    (&["someipctl", "show", "help"], Is(Show { capture: "help" })),
+    ("someipctl|help|run", Help("  deliver N NODE\n")),
+    ("someipctl|show|x", Is(Show { capture: "x" })),
+    ("someipctl|show|-", Is(Show { capture: "-" })),
+    ("someipctl|show|", Is(Show { capture: "" })),
+    ("someipctl|show|help", Is(Show { capture: "help" })),
+    ("someipctl|show|--|-x", Is(Show { capture: "-x" })),
+    ("other|show|a b", Is(Show { capture: "a b" })),
     (
-        &["someipctl", "show", "--", "-x"],
-        Is(Show { capture: "-x" }),
-    ),
-    (&["other", "show", "a b"], Is(Show { capture: "a b" })),
-    (
-        &["someipctl", "payload", "u8", "-"],
+        "someipctl|payload|u8|-",
         Is(Payload {
             shape: "u8",
             hex: "-",
         }),
     ),
     (
-        &["someipctl", "payload", "u8", ""],
+        "someipctl|payload|u8|",
         Is(Payload {
             shape: "u8",
             hex: "",
         }),
     ),
     (
-        &["someipctl", "payload", "u8"],
+        "someipctl|payload|u8",
         Usage("Usage: someipctl payload <SHAPE> <HEX>\n"),
     ),
     (
-        &["someipctl", "help", "payload"],
+        "someipctl|help|payload",
         Help("  someipctl payload 'array<2,u16>' 0000000400010002\n"),
     ),
     (
-        &["someipctl", "--help"],
+        "someipctl|--help",
         Help("someipctl show examples/one.txt\n"),
     ),
     (
-        &["someipctl", "-h"],
+        "someipctl|-h",
         Help("Prints the messages of a capture, one a line"),
     ),
-    (&["someipctl", "help"], Help("Usage: someipctl <COMMAND>\n")),
+    ("someipctl|help", Help("Usage: someipctl <COMMAND>\n")),
     (
-        &["someipctl", "help", "show"],
+        "someipctl|help|show",
         Help("Usage: someipctl show <CAPTURE>\n"),
     ),
     (
-        &["someipctl", "show", "--help"],
+        "someipctl|show|--help",
         Help("  12340421 00000008 00010001 01010000\n"),
     ),
     (
-        &["someipctl", "show", "-h"],
+        "someipctl|show|-h",
         Help(" type REQUEST code 00 payload -\n"),
     ),
-    (&[], Usage("requires a subcommand but one was not provided")),
-    (&["/bin/other"], Usage("Usage: someipctl <COMMAND>\n")),
+    ("/bin/other", Usage("Usage: someipctl <COMMAND>\n")),
     (
-        &["someipctl", "list"],
+        "someipctl|list",
         Usage("error: unrecognized subcommand 'list'\n"),
     ),
     (
-        &["someipctl", "help", "list"],
+        "someipctl|help|list",
         Usage("error: unrecognized subcommand 'list'\n"),
     ),
     (
-        &["someipctl", "--version"],
+        "someipctl|--version",
         Usage("error: unexpected argument '--version' found\n"),
     ),
     (
-        &["someipctl", "-V"],
+        "someipctl|-V",
         Usage("error: unexpected argument '-V' found\n"),
     ),
+    ("someipctl|show", Usage("Usage: someipctl show <CAPTURE>\n")),
     (
-        &["someipctl", "show"],
-        Usage("Usage: someipctl show <CAPTURE>\n"),
-    ),
-    (
-        &["someipctl", "show", "x", "y"],
+        "someipctl|show|x|y",
         Usage("error: unexpected argument 'y' found\n"),
     ),
     (
-        &["someipctl", "show", "-x"],
+        "someipctl|show|-x",
         Usage("error: unexpected argument '-x' found\n"),
     ),
     (
-        &["someipctl", "show", "--all", "x"],
+        "someipctl|show|--all|x",
         Usage("error: unexpected argument '--all' found\n"),
     ),
 ];
