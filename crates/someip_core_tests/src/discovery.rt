@@ -46,6 +46,22 @@ const NO_REPETITIONS: Phases = Phases {
     cyclic: 1000,
 };
 
+/// How often an Offer or a Find is repeated.
+#[derive(Clone, Copy)]
+enum Repeats {
+    Thrice,
+    Never,
+}
+
+impl Repeats {
+    fn phases(self) -> Phases {
+        match self {
+            Repeats::Thrice => THREE,
+            Repeats::Never => NO_REPETITIONS,
+        }
+    }
+}
+
 /// The address of a host.
 fn address(host: u8) -> Ipv4Addr {
     Ipv4Addr::new(192, 168, 0, host)

@@ -1,6 +1,6 @@
 //! The rows of payloads: bytes, the values that they are read as, and faults.
 use crate::rows::{Row, check, is_printed};
-use someip_payload::{PayloadError, Value, decode, encode, laws, read_shape};
+use someip_payload::{PayloadError, Shape, Value, decode, encode, laws, read_shape};
 use std::alloc::Global;
 
 mod limits;
@@ -28,14 +28,18 @@ struct Read(&'static str, &'static [u8], &'static str, usize, bool);
 
 impl Row for Read {
     fn is_right(&self, alloc: Global) -> Option<bool> {
-        let Read(shape, bytes, text, used, _) = self;
-        let (value, count) = value_of(alloc, shape, bytes)?;
-        let is_text = is_printed(alloc, &value, text) == Some(true);
-        Some(is_text && count == *used && self.is_written(alloc, &value) == Some(true))
+        let (value, count) = value_of(alloc, self.0, self.1)?;
+        self.is_read_as(alloc, &value, count)
     }
 }
 
 impl Read {
+    /// Whether the value is the one that is read from so many bytes, and is written as it should be.
+    fn is_read_as(&self, alloc: Global, value: &Value, count: usize) -> Option<bool> {
+        let is_text = is_printed(alloc, value, self.2)?;
+        Some(is_text && count == self.3 && self.is_written(alloc, value)?)
+    }
+
     /// Whether the value is written as the bytes that were read, where it is to be.
     fn is_written(&self, alloc: Global, value: &Value) -> Option<bool> {
         let written = bytes_of(alloc, self.0, value)?;
@@ -401,12 +405,15 @@ impl Row for Refused {
 impl Refused {
     /// The value is refused, and the bytes before stay as they are.
     fn is_refused(&self, alloc: Global, value: &Value) -> Option<bool> {
-        let Refused(shape, _, _, error) = self;
-        let shape = read_shape(alloc, shape).ok()?;
+        let shape = read_shape(alloc, self.0).ok()?;
+        Some(self.is_refused_by(alloc, &shape, value))
+    }
+
+    fn is_refused_by(&self, alloc: Global, shape: &Shape, value: &Value) -> bool {
         let mut out = Vec::new(alloc);
         let is_pushed = out.push(9u8).is_ok();
-        let refusal = encode(&shape, value, &mut out).err();
-        Some(is_pushed && refusal == Some(*error) && matches!(out.as_slice(), [9]))
+        let refusal = encode(shape, value, &mut out).err();
+        is_pushed && refusal == Some(self.3) && matches!(out.as_slice(), [9])
     }
 }
 
@@ -520,11 +527,23 @@ const PRINTED: &[Printed] = &[
 ];
 
 #[test]
-fn values_and_faults(rt: HostRuntime) {
+fn values(rt: HostRuntime) {
     check(&rt, rt.alloc(), "READ", READ);
+}
+
+#[test]
+fn texts_and_parts(rt: HostRuntime) {
     check(&rt, rt.alloc(), "TEXTS", TEXTS);
     check(&rt, rt.alloc(), "PARTS", PARTS);
+}
+
+#[test]
+fn faults(rt: HostRuntime) {
     check(&rt, rt.alloc(), "FAULTS", FAULTS);
+}
+
+#[test]
+fn refusals(rt: HostRuntime) {
     check(&rt, rt.alloc(), "REFUSED", REFUSED);
     check(&rt, rt.alloc(), "PRINTED", PRINTED);
     assert!(rt; PayloadError::TooMany(8).place() == 8);

@@ -1,5 +1,5 @@
 //! The texts of shapes: the places of faults, which no clause states in full, and rows.
-use crate::rows::{Row, check, is_printed};
+use crate::rows::{Printed, Row, check};
 use someip_payload::{ShapeTextError, read_shape};
 use std::alloc::{AllocError, Global};
 
@@ -281,25 +281,28 @@ const REPEATED: &[Repeated] = &[
 ];
 
 /// A fault of a text and how it is printed.
-struct PrintedFault(ShapeTextError, &'static str);
-
-impl Row for PrintedFault {
-    fn is_right(&self, alloc: Global) -> Option<bool> {
-        let PrintedFault(error, wanted) = self;
-        is_printed(alloc, error, wanted)
-    }
-}
-
-const PRINTED_FAULTS: &[PrintedFault] = &[
-    PrintedFault(ShapeTextError::BadShape(10), "bad shape at 10"),
-    PrintedFault(ShapeTextError::OutOfMemory, "out of memory"),
+const PRINTED_FAULTS: &[Printed<ShapeTextError>] = &[
+    Printed(ShapeTextError::BadShape(10), "bad shape at 10"),
+    Printed(ShapeTextError::OutOfMemory, "out of memory"),
 ];
 
 #[test]
-fn shapes_and_faults(rt: HostRuntime) {
+fn shapes(rt: HostRuntime) {
     check(&rt, rt.alloc(), "SHAPED", SHAPED);
+}
+
+#[test]
+fn faults_of_words(rt: HostRuntime) {
     check(&rt, rt.alloc(), "WORDS", WORDS);
+}
+
+#[test]
+fn faults_of_parts(rt: HostRuntime) {
     check(&rt, rt.alloc(), "PARTS", PARTS);
+}
+
+#[test]
+fn nested_shapes(rt: HostRuntime) {
     check(&rt, rt.alloc(), "BALANCED", BALANCED);
     check(&rt, rt.alloc(), "REPEATED", REPEATED);
     check(&rt, rt.alloc(), "PRINTED_FAULTS", PRINTED_FAULTS);

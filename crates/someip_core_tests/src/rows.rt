@@ -1,4 +1,5 @@
-//! Tables of rows, each of which can be tried by itself.
+//! Tables of rows, each of which can be tried by itself, and tables of steps, each of which goes on from what
+//! the one before left.
 use std::alloc::Global;
 use std::fmt::Display;
 use std::process::Abort;
@@ -16,6 +17,15 @@ pub(crate) fn is_printed<D: Display>(alloc: Global, value: &D, text: &str) -> Op
     Some(printed.as_str() == text)
 }
 
+/// A value, and its text.
+pub(crate) struct Printed<D>(pub(crate) D, pub(crate) &'static str);
+
+impl<D: Display> Row for Printed<D> {
+    fn is_right(&self, alloc: Global) -> Option<bool> {
+        is_printed(alloc, &self.0, self.1)
+    }
+}
+
 /// The number of the first row that is not right.
 fn first_wrong<R: Row>(alloc: Global, rows: &[R]) -> Option<usize> {
     for (index, row) in rows.iter().enumerate() {
@@ -30,4 +40,25 @@ fn first_wrong<R: Row>(alloc: Global, rows: &[R]) -> Option<usize> {
 pub(crate) fn check<R: Row>(rt: &impl Abort, alloc: Global, name: &str, rows: &[R]) {
     let wrong = first_wrong(alloc, rows);
     assert!(rt; wrong.is_none(), "the first wrong row of {name}: {wrong:?}");
+}
+
+/// A call of what stands, which it may change, and what has to come of it.
+pub(crate) trait Step<T> {
+    /// Whether the call comes out as the step says. It is none where memory is wanting, or where something
+    /// that the step needs cannot be made.
+    fn comes_out(&self, alloc: Global, on: &mut T) -> Option<bool>;
+}
+
+/// The number of the first step that comes out otherwise.
+pub(crate) fn first_wrong_step<T, S: Step<T>>(
+    alloc: Global,
+    on: &mut T,
+    steps: &[S],
+) -> Option<usize> {
+    for (index, step) in steps.iter().enumerate() {
+        if step.comes_out(alloc, on) != Some(true) {
+            return Some(index);
+        }
+    }
+    None
 }

@@ -2,6 +2,7 @@
 //!
 //! A row is a moment, in milliseconds, and an act: a call of the client, and what has to come of it. Each
 //! call has a function of its own, so that the prover meets one call at a time.
+use crate::rows::{Step, first_wrong_step};
 use Act::{Answered, Call, CallMany, Clear, Pending, Tick};
 use someip_rpc::{
     Call as Called, CallKey, CallKind, ClientCore, ClientRules, DropCause, MessageId, Outgoing,
@@ -35,7 +36,8 @@ enum Act {
     Clear,
 }
 
-type Row = (u64, Act);
+/// A moment, in milliseconds, and a call then.
+struct At(u64, Act);
 
 /// The method 0423 of the service 1111.
 const METHOD: MessageId = MessageId {
@@ -71,17 +73,17 @@ const REFUSED: Header = Header {
 const LONG: &[u8] = &[0; 1401];
 
 /// A call that is answered, and the same answer again.
-const ONE_CALL: &[Row] = &[
-    (0, Call(CallKind::Request, &[7], true, Ok(1))),
-    (0, Answered(30509, REFUSED, Ok(KEY))),
-    (0, Answered(30509, REFUSED, Err(DropCause::NotPending))),
+const ONE_CALL: &[At] = &[
+    At(0, Call(CallKind::Request, &[7], true, Ok(1))),
+    At(0, Answered(30509, REFUSED, Ok(KEY))),
+    At(0, Answered(30509, REFUSED, Err(DropCause::NotPending))),
 ];
 
 /// Messages that are the answer but for one part, and then the answer.
-const DROPPED: &[Row] = &[
-    (0, Call(CallKind::Request, &[], true, Ok(1))),
-    (0, Answered(30510, ANSWER, Err(DropCause::NotPending))),
-    (
+const DROPPED: &[At] = &[
+    At(0, Call(CallKind::Request, &[], true, Ok(1))),
+    At(0, Answered(30510, ANSWER, Err(DropCause::NotPending))),
+    At(
         0,
         Answered(
             30509,
@@ -92,7 +94,7 @@ const DROPPED: &[Row] = &[
             Err(DropCause::NotPending),
         ),
     ),
-    (
+    At(
         0,
         Answered(
             30509,
@@ -103,7 +105,7 @@ const DROPPED: &[Row] = &[
             Err(DropCause::NotPending),
         ),
     ),
-    (
+    At(
         0,
         Answered(
             30509,
@@ -114,7 +116,7 @@ const DROPPED: &[Row] = &[
             Err(DropCause::NotPending),
         ),
     ),
-    (
+    At(
         0,
         Answered(
             30509,
@@ -125,7 +127,7 @@ const DROPPED: &[Row] = &[
             Err(DropCause::NotPending),
         ),
     ),
-    (
+    At(
         0,
         Answered(
             30509,
@@ -136,7 +138,7 @@ const DROPPED: &[Row] = &[
             Err(DropCause::NotPending),
         ),
     ),
-    (
+    At(
         0,
         Answered(
             30509,
@@ -147,41 +149,41 @@ const DROPPED: &[Row] = &[
             Err(DropCause::WrongType),
         ),
     ),
-    (0, Answered(30509, ANSWER, Ok(KEY))),
+    At(0, Answered(30509, ANSWER, Ok(KEY))),
 ];
 
 /// A call that waits for 2000 milliseconds, and its answer then.
-const WAITING: &[Row] = &[
-    (0, Call(CallKind::Request, &[], true, Ok(1))),
-    (1999, Tick(&[])),
-    (2000, Tick(&[KEY])),
-    (2000, Answered(30509, ANSWER, Err(DropCause::NotPending))),
+const WAITING: &[At] = &[
+    At(0, Call(CallKind::Request, &[], true, Ok(1))),
+    At(1999, Tick(&[])),
+    At(2000, Tick(&[KEY])),
+    At(2000, Answered(30509, ANSWER, Err(DropCause::NotPending))),
 ];
 
 /// Calls until the sessions come round to one that waits, and a new start.
-const ROUND: &[Row] = &[
-    (0, Call(CallKind::Request, &[], true, Ok(1))),
-    (0, CallMany(CallKind::RequestNoReturn, 65534, 0xffff)),
-    (0, Call(CallKind::Request, &[], true, Ok(2))),
-    (0, Clear),
-    (0, Call(CallKind::Request, &[], true, Ok(1))),
+const ROUND: &[At] = &[
+    At(0, Call(CallKind::Request, &[], true, Ok(1))),
+    At(0, CallMany(CallKind::RequestNoReturn, 65534, 0xffff)),
+    At(0, Call(CallKind::Request, &[], true, Ok(2))),
+    At(0, Clear),
+    At(0, Call(CallKind::Request, &[], true, Ok(1))),
 ];
 
 /// Calls while 1024 wait, the worst first.
-const CROWDED: &[Row] = &[
-    (0, CallMany(CallKind::Request, 1024, 1024)),
-    (
+const CROWDED: &[At] = &[
+    At(0, CallMany(CallKind::Request, 1024, 1024)),
+    At(
         0,
         Call(CallKind::Request, LONG, false, Err(RpcError::NotOffered)),
     ),
-    (
+    At(
         0,
         Call(CallKind::Request, LONG, true, Err(RpcError::TooLong)),
     ),
-    (0, Pending(1024)),
-    (0, Call(CallKind::Request, &[], true, Err(RpcError::Busy))),
-    (0, Call(CallKind::RequestNoReturn, &[], true, Ok(1025))),
-    (2000, Call(CallKind::Request, &[], true, Ok(1026))),
+    At(0, Pending(1024)),
+    At(0, Call(CallKind::Request, &[], true, Err(RpcError::Busy))),
+    At(0, Call(CallKind::RequestNoReturn, &[], true, Ok(1025))),
+    At(2000, Call(CallKind::Request, &[], true, Ok(1026))),
 ];
 
 fn endpoint(host: u8, port: u16) -> SocketAddrV4 {
@@ -208,34 +210,27 @@ fn rules() -> ClientRules {
 }
 
 /// The number of the first of these rows that comes out otherwise.
-fn first_wrong(alloc: Global, rows: &[Row]) -> Option<usize> {
+fn first_wrong(alloc: Global, rows: &[At]) -> Option<usize> {
     let mut core = ClientCore::new(alloc);
-    first_wrong_of(&mut core, rows)
+    first_wrong_step(alloc, &mut core, rows)
 }
 
-fn first_wrong_of(core: &mut ClientCore, rows: &[Row]) -> Option<usize> {
-    for (index, (millis, act)) in rows.iter().enumerate() {
-        if comes_out(core, *millis, *act) != Some(true) {
-            return Some(index);
+impl Step<ClientCore> for At {
+    fn comes_out(&self, _alloc: Global, core: &mut ClientCore) -> Option<bool> {
+        let At(millis, act) = *self;
+        let now = Moment::new(millis)?;
+        match act {
+            Call(kind, payload, offered, given) => {
+                Some(calls(core, now, kind, payload, offered, given))
+            }
+            CallMany(kind, times, last) => Some(calls_many(core, kind, times, last)),
+            Answered(port, header, told) => Some(
+                core.on_answer(&rules(), endpoint(1, port), &header, now) == told,
+            ),
+            Tick(ended) => Some(are_calls(core.tick(now), ended)),
+            Pending(count) => Some(core.pending_calls() == count),
+            Clear => Some(clears(core)),
         }
-    }
-    None
-}
-
-/// Whether an act comes out as it says, if there is such a moment.
-fn comes_out(core: &mut ClientCore, millis: u64, act: Act) -> Option<bool> {
-    let now = Moment::new(millis)?;
-    match act {
-        Call(kind, payload, offered, given) => {
-            Some(calls(core, now, kind, payload, offered, given))
-        }
-        CallMany(kind, times, last) => Some(calls_many(core, kind, times, last)),
-        Answered(port, header, told) => Some(
-            core.on_answer(&rules(), endpoint(1, port), &header, now) == told,
-        ),
-        Tick(ended) => Some(are_calls(core.tick(now), ended)),
-        Pending(count) => Some(core.pending_calls() == count),
-        Clear => Some(clears(core)),
     }
 }
 
@@ -333,7 +328,7 @@ fn clears(core: &mut ClientCore) -> bool {
 }
 
 /// Tables by their names.
-const TABLES: &[(&str, &[Row])] = &[
+const TABLES: &[(&str, &[At])] = &[
     ("ONE_CALL", ONE_CALL),
     ("DROPPED", DROPPED),
     ("WAITING", WAITING),

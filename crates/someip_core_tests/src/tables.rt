@@ -1,4 +1,5 @@
 //! Each public call of the tables on its happy path.
+use crate::rows::{Row, Step, check, first_wrong_step};
 use Act::{
     Clear, CountFrom, DropExpired, Expired, Get, HasExpired, Insert, IsEmpty, IsUnexpired, Keep,
     KeepKeys, Len, Remove, Shows, ShowsFrom,
@@ -12,11 +13,20 @@ use std::net::{Ipv4Addr, SocketAddrV4};
 const LAST: u64 = 9223372036854775807;
 
 /// A number of milliseconds, so many more, and the moment after them; none where there is no such moment.
-const MOMENTS: &[(u64, u64, Option<u64>)] = &[
-    (0, LAST, Some(9223372036854775807)),
-    (LAST, 0, Some(9223372036854775807)),
-    (LAST, 1, None),
-    (9223372036854775808, 0, None),
+struct Later(u64, u64, Option<u64>);
+
+impl Row for Later {
+    fn is_right(&self, _alloc: Global) -> Option<bool> {
+        let Later(millis, more, moment) = *self;
+        Some(after(millis, more) == moment)
+    }
+}
+
+const MOMENTS: &[Later] = &[
+    Later(0, LAST, Some(9223372036854775807)),
+    Later(LAST, 0, Some(9223372036854775807)),
+    Later(LAST, 1, None),
+    Later(9223372036854775808, 0, None),
 ];
 
 /// The number of the moment so many milliseconds after another one.
@@ -26,45 +36,54 @@ fn after(millis: u64, more: u64) -> Option<u64> {
 }
 
 /// A moment, a TTL in seconds, and the deadline.
-const TTLS: &[(u64, u32, Deadline)] = &[
-    (5, 3, Deadline::At(3005)),
-    (5, TTL_FOREVER, Deadline::Never),
-    (LAST, 1, Deadline::At(9223372036854776807)),
+struct Lasts(u64, u32, Deadline);
+
+impl Row for Lasts {
+    fn is_right(&self, _alloc: Global) -> Option<bool> {
+        let Lasts(millis, ttl, until) = *self;
+        Some(Deadline::after_ttl(Moment::new(millis)?, ttl) == until)
+    }
+}
+
+const TTLS: &[Lasts] = &[
+    Lasts(5, 3, Deadline::At(3005)),
+    Lasts(5, TTL_FOREVER, Deadline::Never),
+    Lasts(LAST, 1, Deadline::At(9223372036854776807)),
 ];
 
 /// A deadline, a moment, and whether it has passed then.
-const PASSED: &[(Deadline, u64, bool)] = &[
-    (Deadline::At(5), 5, true),
-    (Deadline::At(6), 5, false),
-    (Deadline::Never, LAST, false),
-];
+struct Passes(Deadline, u64, bool);
 
-fn ttl_from(millis: u64, ttl: u32) -> Option<Deadline> {
-    Some(Deadline::after_ttl(Moment::new(millis)?, ttl))
+impl Row for Passes {
+    fn is_right(&self, _alloc: Global) -> Option<bool> {
+        let Passes(until, millis, has_passed) = *self;
+        Some(until.has_passed(Moment::new(millis)?) == has_passed)
+    }
 }
+
+const PASSED: &[Passes] = &[
+    Passes(Deadline::At(5), 5, true),
+    Passes(Deadline::At(6), 5, false),
+    Passes(Deadline::Never, LAST, false),
+];
 
 fn millis_from(millis: u64, more: u32) -> Option<Deadline> {
     Some(Deadline::after_millis(Moment::new(millis)?, more))
 }
 
-fn has_passed(deadline: Deadline, millis: u64) -> Option<bool> {
-    Some(deadline.has_passed(Moment::new(millis)?))
+/// Whether the first moment is 0 and before the last, and a number of milliseconds gives a deadline.
+fn are_moments() -> bool {
+    Moment::start().as_millis() == 0
+        && Some(Moment::start()) < Moment::new(LAST)
+        && millis_from(5, 2000) == Some(Deadline::At(2005))
 }
 
 #[test]
 fn moments_and_deadlines(rt: HostRuntime) {
-    assert!(rt; Moment::start().as_millis() == 0);
-    assert!(rt; Some(Moment::start()) < Moment::new(LAST));
-    for (millis, more, moment) in MOMENTS {
-        assert!(rt; after(*millis, *more) == *moment, "{millis} {more}");
-    }
-    for (millis, ttl, until) in TTLS {
-        assert!(rt; ttl_from(*millis, *ttl) == Some(*until), "{millis} {ttl}");
-    }
-    assert!(rt; millis_from(5, 2000) == Some(Deadline::At(2005)));
-    for (until, millis, passed) in PASSED {
-        assert!(rt; has_passed(*until, *millis) == Some(*passed), "{millis}");
-    }
+    check(&rt, rt.alloc(), "MOMENTS", MOMENTS);
+    check(&rt, rt.alloc(), "TTLS", TTLS);
+    check(&rt, rt.alloc(), "PASSED", PASSED);
+    assert!(rt; are_moments());
 }
 
 /// Whether one key is before another, under the bound.
@@ -160,35 +179,32 @@ const CHANGING: &[Act] = &[
 /// The number of the first of these acts that comes out otherwise.
 fn first_wrong(alloc: Global, acts: &[Act]) -> Option<usize> {
     let mut map = DeadlineMap::new(alloc);
-    first_wrong_of(alloc, &mut map, acts)
+    first_wrong_step(alloc, &mut map, acts)
 }
 
-fn first_wrong_of(alloc: Global, map: &mut DeadlineMap<u16, u8>, acts: &[Act]) -> Option<usize> {
-    for (index, act) in acts.iter().enumerate() {
-        if comes_out(alloc, map, *act) != Some(true) {
-            return Some(index);
+impl Step<DeadlineMap<u16, u8>> for Act {
+    fn comes_out(&self, alloc: Global, map: &mut DeadlineMap<u16, u8>) -> Option<bool> {
+        let at_2 = Moment::new(2000)?;
+        match *self {
+            Insert(key, value, until) => Some(map.insert(key, value, until).is_ok()),
+            Len(count) => Some(map.len() == count),
+            IsEmpty(is_empty) => Some(map.is_empty() == is_empty),
+            Get(key, found) => Some(has(map, key, found)),
+            IsUnexpired(key, is) => Some(map.get_unexpired(&key, at_2).is_some() == is),
+            CountFrom(first, count) => Some(count_from(map, first, at_2) == count),
+            HasExpired(millis, any) => Some(map.has_expired(Moment::new(millis)?) == any),
+            Expired(keys) => Some(are_keys(map.expired_keys(alloc, at_2), keys)),
+            Shows(rows) => Some(shows(map, rows)),
+            ShowsFrom(first, keys) => Some(shows_from(map, first, keys)),
+            Remove(key, held) => Some(map.remove(&key) == held),
+            DropExpired | KeepKeys(_) | Keep(_) | Clear => Some(drops(map, *self, at_2)),
         }
     }
-    None
 }
 
-/// Whether an act comes out as it says.
-fn comes_out(alloc: Global, map: &mut DeadlineMap<u16, u8>, act: Act) -> Option<bool> {
-    let at_2 = Moment::new(2000)?;
-    match act {
-        Insert(key, value, until) => Some(map.insert(key, value, until).is_ok()),
-        Len(count) => Some(map.len() == count),
-        IsEmpty(is_empty) => Some(map.is_empty() == is_empty),
-        Get(key, found) => Some(map.get(&key).copied() == found),
-        IsUnexpired(key, is) => Some(map.get_unexpired(&key, at_2).is_some() == is),
-        CountFrom(first, count) => Some(count_from(map, first, at_2) == count),
-        HasExpired(millis, any) => Some(map.has_expired(Moment::new(millis)?) == any),
-        Expired(keys) => Some(are_keys(map.expired_keys(alloc, at_2), keys)),
-        Shows(rows) => Some(shows(map, rows)),
-        ShowsFrom(first, keys) => Some(shows_from(map, first, keys)),
-        Remove(key, held) => Some(map.remove(&key) == held),
-        DropExpired | KeepKeys(_) | Keep(_) | Clear => Some(drops(map, act, at_2)),
-    }
+/// Whether a key has this.
+fn has(map: &DeadlineMap<u16, u8>, key: u16, found: Option<Lasting<u8>>) -> bool {
+    map.get(&key).copied() == found
 }
 
 /// An act that takes something out of a map and answers nothing.
@@ -261,9 +277,18 @@ fn are_keys_in_order() -> bool {
         && is_before(1u64, 2u64)
 }
 
+/// Tables by their names.
+const TABLES: &[(&str, &[Act])] = &[("STANDING", STANDING), ("CHANGING", CHANGING)];
+
 #[test]
 fn maps_of_deadlines(rt: HostRuntime) {
-    assert!(rt; first_wrong(rt.alloc(), STANDING).is_none());
-    assert!(rt; first_wrong(rt.alloc(), CHANGING).is_none());
+    for (name, acts) in TABLES {
+        let wrong = first_wrong(rt.alloc(), acts);
+        assert!(rt; wrong.is_none(), "{name}: {wrong:?}");
+    }
+}
+
+#[test]
+fn keys_are_in_order(rt: HostRuntime) {
     assert!(rt; are_keys_in_order());
 }

@@ -1,4 +1,5 @@
 //! Each public call of a map with moments on its happy path.
+use crate::rows::{Step, first_wrong_step};
 use Act::{ChangeAll, ChangeThose, Clear, Due, Get, Insert, IsDue, Replace, Shows};
 use someip_tables::{Moment, TimedMap, Waits};
 use std::alloc::{AllocError, Global};
@@ -73,28 +74,20 @@ const ACTS: &[Act] = &[
 /// The number of the first of these acts that comes out otherwise.
 fn first_wrong(alloc: Global, acts: &[Act]) -> Option<usize> {
     let mut map = TimedMap::new(alloc);
-    first_wrong_of(alloc, &mut map, acts)
+    first_wrong_step(alloc, &mut map, acts)
 }
 
-fn first_wrong_of(alloc: Global, map: &mut TimedMap<u16, Waiting>, acts: &[Act]) -> Option<usize> {
-    for (index, act) in acts.iter().enumerate() {
-        if comes_out(alloc, map, *act) != Some(true) {
-            return Some(index);
+impl Step<TimedMap<u16, Waiting>> for Act {
+    fn comes_out(&self, alloc: Global, map: &mut TimedMap<u16, Waiting>) -> Option<bool> {
+        match *self {
+            Insert(key, number, at) => Some(map.insert(key, Waiting { number, at }).is_ok()),
+            Replace(key, number, at, had) => Some(map.replace(key, Waiting { number, at }) == had),
+            Get(key, number) => Some(number_of(map, key) == number),
+            IsDue(millis, any) => Some(map.is_due(Moment::new(millis)?) == any),
+            Due(millis, keys) => Some(are_keys(map.due_keys(alloc, Moment::new(millis)?), keys)),
+            Shows(rows) => Some(shows(map, rows)),
+            ChangeThose(_, _) | ChangeAll | Clear => Some(changes(map, *self)),
         }
-    }
-    None
-}
-
-/// Whether an act comes out as it says.
-fn comes_out(alloc: Global, map: &mut TimedMap<u16, Waiting>, act: Act) -> Option<bool> {
-    match act {
-        Insert(key, number, at) => Some(map.insert(key, Waiting { number, at }).is_ok()),
-        Replace(key, number, at, had) => Some(map.replace(key, Waiting { number, at }) == had),
-        Get(key, number) => Some(number_of(map, key) == number),
-        IsDue(millis, any) => Some(map.is_due(Moment::new(millis)?) == any),
-        Due(millis, keys) => Some(are_keys(map.due_keys(alloc, Moment::new(millis)?), keys)),
-        Shows(rows) => Some(shows(map, rows)),
-        ChangeThose(_, _) | ChangeAll | Clear => Some(changes(map, act)),
     }
 }
 

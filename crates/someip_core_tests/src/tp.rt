@@ -7,11 +7,12 @@ use someip_tp::{
 use someip_wire::{Header, Message, MessageType, ReturnCode};
 use std::alloc::{AllocError, Global};
 
-mod call;
+pub(crate) mod call;
 mod keys;
 mod long;
 mod reassembly;
 mod rows;
+mod slices;
 mod texts;
 
 const HEADER: Header = Header {
@@ -25,31 +26,12 @@ const HEADER: Header = Header {
 };
 
 /// So many bytes, of which each tells its place.
-fn payload_of(alloc: Global, len: u32) -> Result<Vec<u8>, AllocError> {
+pub(crate) fn payload_of(alloc: Global, len: u32) -> Result<Vec<u8>, AllocError> {
     let mut bytes = Vec::new(alloc);
     for i in 0..len {
         bytes.push((i % 251) as u8)?;
     }
     Ok(bytes)
-}
-
-/// The TP header of each segment of a message with this payload, the length of its slice, and its Length
-/// field as it is sent.
-fn segments_of(alloc: Global, payload: &[u8]) -> Option<Vec<(u32, usize, u32)>> {
-    let message = Message {
-        header: HEADER,
-        payload,
-    };
-    let mut found = Vec::new(alloc);
-    if payload.len() < 100_000 {
-        for segment in Segments::new(&message) {
-            let length = length_field(alloc, &segment)?;
-            found
-                .push((segment.tp_header(), segment.slice.len(), length))
-                .ok()?;
-        }
-    }
-    Some(found)
 }
 
 /// The Length field of a segment as it is sent.
@@ -74,9 +56,28 @@ impl Row for InSegments {
     }
 }
 
+/// Whether the segments of a message with this payload are these.
 fn are_segments(alloc: Global, payload: &[u8], wanted: &[(u32, usize, u32)]) -> Option<bool> {
-    let found = segments_of(alloc, payload)?;
-    Some(found.as_slice() == wanted)
+    let message = Message {
+        header: HEADER,
+        payload,
+    };
+    let mut wanted = wanted.iter();
+    if payload.len() < 100_000 {
+        for segment in Segments::new(&message) {
+            if !is_segment(alloc, &segment, wanted.next()?) {
+                return Some(false);
+            }
+        }
+    }
+    Some(wanted.next().is_none())
+}
+
+fn is_segment(alloc: Global, segment: &Segment<'_>, wanted: &(u32, usize, u32)) -> bool {
+    let (tp_header, len, length) = *wanted;
+    segment.tp_header() == tp_header
+        && segment.slice.len() == len
+        && length_field(alloc, segment) == Some(length)
 }
 
 const IN_SEGMENTS: &[InSegments] = &[
@@ -123,19 +124,21 @@ fn are_appended(alloc: Global) -> bool {
     is_segment && is_message && out.as_slice() == APPENDED.as_slice()
 }
 
-/// How many bytes each piece of a message with this payload has as it is sent.
-fn sent_lengths(alloc: Global, payload: &[u8]) -> Option<Vec<usize>> {
+/// Whether the pieces of a message with this payload have so many bytes as they are sent.
+fn are_sent(alloc: Global, payload: &[u8], lengths: &[usize]) -> Option<bool> {
     let message = Message {
         header: HEADER,
         payload,
     };
-    let mut found = Vec::new(alloc);
+    let mut lengths = lengths.iter();
     if payload.len() < 100_000 {
         for piece in Sent::new(&message) {
-            found.push(sent_length(alloc, &piece)?).ok()?;
+            if sent_length(alloc, &piece)? != *lengths.next()? {
+                return Some(false);
+            }
         }
     }
-    Some(found)
+    Some(lengths.next().is_none())
 }
 
 fn sent_length(alloc: Global, piece: &SentPiece<'_>) -> Option<usize> {
@@ -151,8 +154,7 @@ impl Row for SentIn {
     fn is_right(&self, alloc: Global) -> Option<bool> {
         let SentIn(len, wanted) = self;
         let payload = payload_of(alloc, *len).ok()?;
-        let found = sent_lengths(alloc, &payload)?;
-        Some(found.as_slice() == *wanted)
+        are_sent(alloc, &payload, wanted)
     }
 }
 

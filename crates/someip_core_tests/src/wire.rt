@@ -82,17 +82,22 @@ impl Written {
             _ => None,
         }
     }
+
+    /// Whether the message is written so.
+    fn is_written(&self) -> Option<bool> {
+        let Written(message, size, bytes) = self;
+        let mut buffer = [0xee; 20];
+        let written = written_in(message, buffer.get_mut(..bytes.len())?)?;
+        Some(written == *size && buffer.get(..bytes.len()) == Some(*bytes))
+    }
 }
 
 impl Row for Written {
     fn is_right(&self, _alloc: Global) -> Option<bool> {
         let Written(message, size, bytes) = self;
-        let mut buffer = [0xee; 20];
-        let written = written_in(message, buffer.get_mut(..bytes.len())?)?;
-        let is_written = written == *size && buffer.get(..bytes.len()) == Some(*bytes);
         let is_read = read_message(bytes) == Ok((*message, *size));
         let has_header = bytes.starts_with(&self.header()?);
-        Some(is_written && is_read && has_header)
+        Some(is_read && has_header && self.is_written()?)
     }
 }
 
@@ -301,8 +306,16 @@ const DATAGRAMS: &[Datagram] = &[
 fn messages(rt: HostRuntime) {
     check(&rt, rt.alloc(), "READ", READ);
     check(&rt, rt.alloc(), "WRITTEN", WRITTEN);
+}
+
+#[test]
+fn faults_and_types(rt: HostRuntime) {
     check(&rt, rt.alloc(), "FAULTY", FAULTY);
     check(&rt, rt.alloc(), "PRINTED", PRINTED);
     check(&rt, rt.alloc(), "TYPED", TYPED);
+}
+
+#[test]
+fn datagrams(rt: HostRuntime) {
     check(&rt, rt.alloc(), "DATAGRAMS", DATAGRAMS);
 }

@@ -1,7 +1,6 @@
 //! Rows of finds and of offers that are known.
-use super::{
-    FIRST, NO_REPETITIONS, SECOND, THIRD, THREE, address, are_instances, endpoint, endpoint_at,
-};
+use super::{FIRST, Repeats, SECOND, THIRD, address, are_instances, endpoint, endpoint_at};
+use crate::rows::{Step, first_wrong_step};
 use Act::{Add, Known, Offer, QuietUntil, Reboot, Start, Stop, Tick};
 use sd_core::{Counted, InstanceId, KnownOffer, Phases, ReceivedOffer, Seeker, Ticked, Uncounted};
 use sd_wire::Ttl;
@@ -40,7 +39,8 @@ enum Act {
     Known(InstanceId, Option<(u8, u16)>),
 }
 
-type Row = (u64, Act);
+/// A moment, in milliseconds, and a call then.
+struct At(u64, Act);
 
 /// The Offer of the first instance by host 1, for 3 seconds.
 const OFFER: Offered = Offered {
@@ -64,68 +64,68 @@ const BARE: Offered = Offered {
 };
 
 /// Finds at 10, 40, 100 and 220.
-const IN_PHASES: &[Row] = &[
-    (0, Add(FIRST, 1)),
-    (0, Start(10)),
-    (0, QuietUntil(10, false)),
-    (10, Tick(&[], &[FIRST])),
-    (11, QuietUntil(40, false)),
-    (40, Tick(&[], &[FIRST])),
-    (41, QuietUntil(100, false)),
-    (100, Tick(&[], &[FIRST])),
-    (101, QuietUntil(220, false)),
-    (220, Tick(&[], &[FIRST])),
-    (221, QuietUntil(1500, false)),
+const IN_PHASES: &[At] = &[
+    At(0, Add(FIRST, 1)),
+    At(0, Start(10)),
+    At(0, QuietUntil(10, false)),
+    At(10, Tick(&[], &[FIRST])),
+    At(11, QuietUntil(40, false)),
+    At(40, Tick(&[], &[FIRST])),
+    At(41, QuietUntil(100, false)),
+    At(100, Tick(&[], &[FIRST])),
+    At(101, QuietUntil(220, false)),
+    At(220, Tick(&[], &[FIRST])),
+    At(221, QuietUntil(1500, false)),
 ];
 
 /// An Offer at 50, which passes at 3050.
-const FOUND: &[Row] = &[
-    (0, Add(FIRST, 1)),
-    (0, Start(10)),
-    (0, QuietUntil(10, false)),
-    (10, Tick(&[], &[FIRST])),
-    (10, Known(FIRST, None)),
-    (11, QuietUntil(40, false)),
-    (40, Tick(&[], &[FIRST])),
-    (40, Known(FIRST, None)),
-    (41, QuietUntil(51, false)),
-    (50, Offer(OFFER, Ok(Counted::New))),
-    (50, Known(FIRST, Some((1, 30509)))),
-    (51, QuietUntil(3050, true)),
-    (3050, Tick(&[FIRST], &[])),
-    (3050, Known(FIRST, None)),
-    (3051, QuietUntil(3500, false)),
+const FOUND: &[At] = &[
+    At(0, Add(FIRST, 1)),
+    At(0, Start(10)),
+    At(0, QuietUntil(10, false)),
+    At(10, Tick(&[], &[FIRST])),
+    At(10, Known(FIRST, None)),
+    At(11, QuietUntil(40, false)),
+    At(40, Tick(&[], &[FIRST])),
+    At(40, Known(FIRST, None)),
+    At(41, QuietUntil(51, false)),
+    At(50, Offer(OFFER, Ok(Counted::New))),
+    At(50, Known(FIRST, Some((1, 30509)))),
+    At(51, QuietUntil(3050, true)),
+    At(3050, Tick(&[FIRST], &[])),
+    At(3050, Known(FIRST, None)),
+    At(3051, QuietUntil(3500, false)),
 ];
 
 /// A tick that is late, and those after it.
-const LATE: &[Row] = &[
-    (0, Add(SECOND, 1)),
-    (0, Add(FIRST, 1)),
-    (0, Start(10)),
-    (1000, Tick(&[], &[FIRST, SECOND])),
-    (1029, Tick(&[], &[])),
-    (1030, Tick(&[], &[FIRST, SECOND])),
-    (1090, Tick(&[], &[FIRST, SECOND])),
+const LATE: &[At] = &[
+    At(0, Add(SECOND, 1)),
+    At(0, Add(FIRST, 1)),
+    At(0, Start(10)),
+    At(1000, Tick(&[], &[FIRST, SECOND])),
+    At(1029, Tick(&[], &[])),
+    At(1030, Tick(&[], &[FIRST, SECOND])),
+    At(1090, Tick(&[], &[FIRST, SECOND])),
 ];
 
 /// Without repetitions, and one more start.
-const ONCE: &[Row] = &[
-    (0, Add(FIRST, 1)),
-    (0, Start(10)),
-    (9, Tick(&[], &[])),
-    (10, Tick(&[], &[FIRST])),
-    (40, Tick(&[], &[])),
-    (1010, Tick(&[], &[])),
-    (5000, Tick(&[], &[])),
-    (5000, Start(20)),
-    (20, Tick(&[], &[FIRST])),
+const ONCE: &[At] = &[
+    At(0, Add(FIRST, 1)),
+    At(0, Start(10)),
+    At(9, Tick(&[], &[])),
+    At(10, Tick(&[], &[FIRST])),
+    At(40, Tick(&[], &[])),
+    At(1010, Tick(&[], &[])),
+    At(5000, Tick(&[], &[])),
+    At(5000, Start(20)),
+    At(20, Tick(&[], &[FIRST])),
 ];
 
 /// Offers that count, and those that do not.
-const COUNTED: &[Row] = &[
-    (0, Add(FIRST, 1)),
-    (0, Start(10)),
-    (
+const COUNTED: &[At] = &[
+    At(0, Add(FIRST, 1)),
+    At(0, Start(10)),
+    At(
         50,
         Offer(
             Offered {
@@ -135,14 +135,14 @@ const COUNTED: &[Row] = &[
             Err(Uncounted::Unwanted),
         ),
     ),
-    (
+    At(
         50,
         Offer(Offered { major: 2, ..BARE }, Err(Uncounted::Unwanted)),
     ),
-    (50, Offer(BARE, Err(Uncounted::NoEndpoint))),
-    (50, Offer(OFFER, Ok(Counted::New))),
-    (50, Offer(OFFER, Ok(Counted::Renewed))),
-    (
+    At(50, Offer(BARE, Err(Uncounted::NoEndpoint))),
+    At(50, Offer(OFFER, Ok(Counted::New))),
+    At(50, Offer(OFFER, Ok(Counted::Renewed))),
+    At(
         50,
         Offer(
             Offered {
@@ -152,8 +152,8 @@ const COUNTED: &[Row] = &[
             Ok(Counted::Moved),
         ),
     ),
-    (50, Offer(BARE, Err(Uncounted::NoEndpoint))),
-    (
+    At(50, Offer(BARE, Err(Uncounted::NoEndpoint))),
+    At(
         50,
         Offer(
             Offered {
@@ -164,47 +164,47 @@ const COUNTED: &[Row] = &[
             Err(Uncounted::OtherPeer),
         ),
     ),
-    (50, Known(FIRST, Some((1, 30510)))),
-    (50, Known(SECOND, None)),
+    At(50, Known(FIRST, Some((1, 30510)))),
+    At(50, Known(SECOND, None)),
 ];
 
 /// An offer that passes at 3050, while host 2 offers the instance too.
-const PASSING: &[Row] = &[
-    (0, Add(FIRST, 1)),
-    (0, Start(10)),
-    (50, Offer(OFFER, Ok(Counted::New))),
-    (
+const PASSING: &[At] = &[
+    At(0, Add(FIRST, 1)),
+    At(0, Start(10)),
+    At(50, Offer(OFFER, Ok(Counted::New))),
+    At(
         3049,
         Offer(Offered { by: 2, ..LASTING }, Err(Uncounted::OtherPeer)),
     ),
-    (3050, Stop(FIRST, 1, 1, false)),
-    (3050, Offer(Offered { by: 2, ..LASTING }, Ok(Counted::New))),
-    (9223372036854775807, Known(FIRST, Some((2, 30509)))),
+    At(3050, Stop(FIRST, 1, 1, false)),
+    At(3050, Offer(Offered { by: 2, ..LASTING }, Ok(Counted::New))),
+    At(9223372036854775807, Known(FIRST, Some((2, 30509)))),
 ];
 
 /// StopOffers, and a start while an offer is known.
-const STOPPED: &[Row] = &[
-    (0, Add(FIRST, 1)),
-    (50, Offer(LASTING, Ok(Counted::New))),
-    (50, Stop(SECOND, 1, 1, false)),
-    (50, Known(FIRST, Some((1, 30509)))),
-    (50, Stop(FIRST, 2, 1, false)),
-    (50, Known(FIRST, Some((1, 30509)))),
-    (50, Stop(FIRST, 1, 2, false)),
-    (50, Known(FIRST, Some((1, 30509)))),
-    (50, Stop(FIRST, 1, 1, true)),
-    (50, Known(FIRST, None)),
-    (50, Stop(FIRST, 1, 1, false)),
-    (50, Known(FIRST, None)),
-    (50, Offer(LASTING, Ok(Counted::New))),
-    (50, Start(10)),
-    (50, Known(FIRST, None)),
+const STOPPED: &[At] = &[
+    At(0, Add(FIRST, 1)),
+    At(50, Offer(LASTING, Ok(Counted::New))),
+    At(50, Stop(SECOND, 1, 1, false)),
+    At(50, Known(FIRST, Some((1, 30509)))),
+    At(50, Stop(FIRST, 2, 1, false)),
+    At(50, Known(FIRST, Some((1, 30509)))),
+    At(50, Stop(FIRST, 1, 2, false)),
+    At(50, Known(FIRST, Some((1, 30509)))),
+    At(50, Stop(FIRST, 1, 1, true)),
+    At(50, Known(FIRST, None)),
+    At(50, Stop(FIRST, 1, 1, false)),
+    At(50, Known(FIRST, None)),
+    At(50, Offer(LASTING, Ok(Counted::New))),
+    At(50, Start(10)),
+    At(50, Known(FIRST, None)),
 ];
 
 /// Three offers, one of them by host 2, which begins again.
-const TOGETHER: &[Row] = &[
-    (0, Add(THIRD, 1)),
-    (
+const TOGETHER: &[At] = &[
+    At(0, Add(THIRD, 1)),
+    At(
         50,
         Offer(
             Offered {
@@ -214,8 +214,8 @@ const TOGETHER: &[Row] = &[
             Ok(Counted::New),
         ),
     ),
-    (50, Add(SECOND, 1)),
-    (
+    At(50, Add(SECOND, 1)),
+    At(
         50,
         Offer(
             Offered {
@@ -226,43 +226,53 @@ const TOGETHER: &[Row] = &[
             Ok(Counted::New),
         ),
     ),
-    (50, Add(FIRST, 1)),
-    (50, Offer(OFFER, Ok(Counted::New))),
-    (50, Reboot(2, &[SECOND])),
-    (50, Reboot(2, &[])),
-    (3050, Tick(&[FIRST, THIRD], &[])),
-    (3050, Tick(&[], &[])),
+    At(50, Add(FIRST, 1)),
+    At(50, Offer(OFFER, Ok(Counted::New))),
+    At(50, Reboot(2, &[SECOND])),
+    At(50, Reboot(2, &[])),
+    At(3050, Tick(&[FIRST, THIRD], &[])),
+    At(3050, Tick(&[], &[])),
 ];
 
+/// The seeker, and the phases of its ticks.
+#[derive(Drop)]
+struct Seeking {
+    seeker: Seeker,
+    phases: Phases,
+}
+
 /// The number of the first of these rows that comes out otherwise.
-fn first_wrong(alloc: Global, phases: Phases, rows: &[Row]) -> Option<usize> {
-    let mut seeker = Seeker::new(alloc);
-    first_wrong_of(&mut seeker, phases, rows)
+fn first_wrong(alloc: Global, phases: Phases, rows: &[At]) -> Option<usize> {
+    let mut on = Seeking {
+        seeker: Seeker::new(alloc),
+        phases,
+    };
+    first_wrong_step(alloc, &mut on, rows)
 }
 
-fn first_wrong_of(seeker: &mut Seeker, phases: Phases, rows: &[Row]) -> Option<usize> {
-    for (index, (millis, act)) in rows.iter().enumerate() {
-        if comes_out(seeker, phases, *millis, *act) != Some(true) {
-            return Some(index);
-        }
+impl Step<Seeking> for At {
+    fn comes_out(&self, _alloc: Global, on: &mut Seeking) -> Option<bool> {
+        let At(millis, act) = *self;
+        act.comes_out(&mut on.seeker, on.phases, millis)
     }
-    None
 }
 
-/// Whether an act comes out as it says, if there is such a moment.
-fn comes_out(seeker: &mut Seeker, phases: Phases, millis: u64, act: Act) -> Option<bool> {
-    let now = Moment::new(millis)?;
-    match act {
-        Add(instance, major) => Some(seeker.add(instance, major).is_ok()),
-        Start(delay) => Some(starts(seeker, delay)),
-        Tick(ended, finds) => Some(ticks(seeker, phases, now, ended, finds)),
-        QuietUntil(end, known) => is_quiet(seeker, phases, millis, end, known),
-        Offer(offered, counted) => counts(seeker, now, offered, counted),
-        Stop(instance, major, by, ended) => {
-            Some(seeker.stop(instance, major, address(by), now) == ended)
+impl Act {
+    /// Whether the act comes out as it says, if there is such a moment.
+    fn comes_out(self, seeker: &mut Seeker, phases: Phases, millis: u64) -> Option<bool> {
+        let now = Moment::new(millis)?;
+        match self {
+            Add(instance, major) => Some(seeker.add(instance, major).is_ok()),
+            Start(delay) => Some(starts(seeker, delay)),
+            Tick(ended, finds) => Some(ticks(seeker, phases, now, ended, finds)),
+            QuietUntil(end, known) => is_quiet(seeker, phases, millis, end, known),
+            Offer(offered, counted) => counts(seeker, now, offered, counted),
+            Stop(instance, major, by, ended) => {
+                Some(seeker.stop(instance, major, address(by), now) == ended)
+            }
+            Reboot(by, ended) => Some(are_instances(seeker.peer_reboot(address(by), now), ended)),
+            Known(instance, known) => Some(seeker.known(instance, now) == known_at(known)),
         }
-        Reboot(by, ended) => Some(are_instances(seeker.peer_reboot(address(by), now), ended)),
-        Known(instance, known) => Some(seeker.known(instance, now) == known_at(known)),
     }
 }
 
@@ -334,14 +344,22 @@ fn known_at(known: Option<(u8, u16)>) -> Option<KnownOffer> {
     })
 }
 
+/// Tables by their names, and how often what goes out is repeated.
+const TABLES: &[(&str, Repeats, &[At])] = &[
+    ("IN_PHASES", Repeats::Thrice, IN_PHASES),
+    ("FOUND", Repeats::Thrice, FOUND),
+    ("LATE", Repeats::Thrice, LATE),
+    ("ONCE", Repeats::Never, ONCE),
+    ("COUNTED", Repeats::Thrice, COUNTED),
+    ("PASSING", Repeats::Thrice, PASSING),
+    ("STOPPED", Repeats::Thrice, STOPPED),
+    ("TOGETHER", Repeats::Thrice, TOGETHER),
+];
+
 #[test]
 fn finds_and_known_offers(rt: HostRuntime) {
-    assert!(rt; first_wrong(rt.alloc(), THREE, IN_PHASES).is_none());
-    assert!(rt; first_wrong(rt.alloc(), THREE, FOUND).is_none());
-    assert!(rt; first_wrong(rt.alloc(), THREE, LATE).is_none());
-    assert!(rt; first_wrong(rt.alloc(), NO_REPETITIONS, ONCE).is_none());
-    assert!(rt; first_wrong(rt.alloc(), THREE, COUNTED).is_none());
-    assert!(rt; first_wrong(rt.alloc(), THREE, PASSING).is_none());
-    assert!(rt; first_wrong(rt.alloc(), THREE, STOPPED).is_none());
-    assert!(rt; first_wrong(rt.alloc(), THREE, TOGETHER).is_none());
+    for (name, repeats, rows) in TABLES {
+        let wrong = first_wrong(rt.alloc(), repeats.phases(), rows);
+        assert!(rt; wrong.is_none(), "{name}: {wrong:?}");
+    }
 }

@@ -1,6 +1,6 @@
 //! Rows of subscriptions at their server.
 use super::{FIRST, SECOND, address, counter, endpoint, endpoint_at};
-use crate::rows::is_printed;
+use crate::rows::{Printed, Step, check, first_wrong_step};
 use Act::{Clear, IsLive, Live, Reboot, Stop, StopOffer, Subscribe, Tick};
 use sd_core::{
     Cause, InstanceId, Subscribe as Request, SubscribeError, SubscribeRules, Subscribers,
@@ -45,7 +45,8 @@ enum Act {
     IsLive(InstanceId, bool),
 }
 
-type Row = (u64, Act);
+/// A moment, in milliseconds, and a call then.
+struct At(u64, Act);
 
 /// What a server knows that accepts a subscription, one to each eventgroup at a time.
 const ONE: SubscribeRules = SubscribeRules {
@@ -88,15 +89,15 @@ const BESIDE: Asked = Asked {
 const FULL: Result<(), SubscribeError> = Err(SubscribeError::Nack(Cause::Full));
 
 /// A subscription for 3 seconds.
-const SHORT: &[Row] = &[
-    (0, Subscribe(ONE, ASKED, Ok(()))),
-    (2999, Live(&[1], &[(2, 40001)])),
-    (3000, Live(&[1], &[])),
+const SHORT: &[At] = &[
+    At(0, Subscribe(ONE, ASKED, Ok(()))),
+    At(2999, Live(&[1], &[(2, 40001)])),
+    At(3000, Live(&[1], &[])),
 ];
 
 /// One until the next reboot.
-const UNTIL_REBOOT: &[Row] = &[
-    (
+const UNTIL_REBOOT: &[At] = &[
+    At(
         0,
         Subscribe(
             ONE,
@@ -107,13 +108,13 @@ const UNTIL_REBOOT: &[Row] = &[
             Ok(()),
         ),
     ),
-    (3000, Live(&[1], &[(2, 40001)])),
-    (9223372036854775807, Live(&[1], &[(2, 40001)])),
+    At(3000, Live(&[1], &[(2, 40001)])),
+    At(9223372036854775807, Live(&[1], &[(2, 40001)])),
 ];
 
 /// One for as long as can be told.
-const LONGEST: &[Row] = &[
-    (
+const LONGEST: &[At] = &[
+    At(
         0,
         Subscribe(
             ONE,
@@ -124,19 +125,19 @@ const LONGEST: &[Row] = &[
             Ok(()),
         ),
     ),
-    (16_777_213_999, Live(&[1], &[(2, 40001)])),
-    (16_777_214_000, Live(&[1], &[])),
+    At(16_777_213_999, Live(&[1], &[(2, 40001)])),
+    At(16_777_214_000, Live(&[1], &[])),
 ];
 
 /// Two hosts, of which one may be subscribed at a time.
-const CROWDED: &[Row] = &[
-    (0, Subscribe(ONE, ASKED, Ok(()))),
-    (10, Subscribe(ONE, OTHER, FULL)),
-    (20, Subscribe(ONE, ASKED, Ok(()))),
-    (3019, Subscribe(ONE, OTHER, FULL)),
-    (3020, Subscribe(ONE, OTHER, Ok(()))),
-    (3020, Subscribe(ONE, ASKED, FULL)),
-    (
+const CROWDED: &[At] = &[
+    At(0, Subscribe(ONE, ASKED, Ok(()))),
+    At(10, Subscribe(ONE, OTHER, FULL)),
+    At(20, Subscribe(ONE, ASKED, Ok(()))),
+    At(3019, Subscribe(ONE, OTHER, FULL)),
+    At(3020, Subscribe(ONE, OTHER, Ok(()))),
+    At(3020, Subscribe(ONE, ASKED, FULL)),
+    At(
         3020,
         Subscribe(
             ONE,
@@ -150,8 +151,8 @@ const CROWDED: &[Row] = &[
 ];
 
 /// Requests that have every cause from one on.
-const REFUSED: &[Row] = &[
-    (
+const REFUSED: &[At] = &[
+    At(
         0,
         Subscribe(
             SubscribeRules {
@@ -164,7 +165,7 @@ const REFUSED: &[Row] = &[
             Err(SubscribeError::Nack(Cause::NotOffered)),
         ),
     ),
-    (
+    At(
         0,
         Subscribe(
             SubscribeRules {
@@ -176,7 +177,7 @@ const REFUSED: &[Row] = &[
             Err(SubscribeError::Nack(Cause::WrongMajor)),
         ),
     ),
-    (
+    At(
         0,
         Subscribe(
             SubscribeRules {
@@ -187,7 +188,7 @@ const REFUSED: &[Row] = &[
             Err(SubscribeError::Nack(Cause::UnknownEventgroup)),
         ),
     ),
-    (
+    At(
         0,
         Subscribe(
             CLOSED,
@@ -195,13 +196,13 @@ const REFUSED: &[Row] = &[
             Err(SubscribeError::Nack(Cause::NoEndpoint)),
         ),
     ),
-    (0, Subscribe(CLOSED, ASKED, FULL)),
+    At(0, Subscribe(CLOSED, ASKED, FULL)),
 ];
 
 /// Two subscriptions of one endpoint, and others.
-const ENDPOINTS: &[Row] = &[
-    (0, Subscribe(MANY, ASKED, Ok(()))),
-    (
+const ENDPOINTS: &[At] = &[
+    At(0, Subscribe(MANY, ASKED, Ok(()))),
+    At(
         0,
         Subscribe(
             MANY,
@@ -212,7 +213,7 @@ const ENDPOINTS: &[Row] = &[
             Ok(()),
         ),
     ),
-    (
+    At(
         0,
         Subscribe(
             MANY,
@@ -224,7 +225,7 @@ const ENDPOINTS: &[Row] = &[
             Ok(()),
         ),
     ),
-    (
+    At(
         0,
         Subscribe(
             MANY,
@@ -236,15 +237,15 @@ const ENDPOINTS: &[Row] = &[
             Ok(()),
         ),
     ),
-    (0, Live(&[2, 1], &[(1, 40003), (2, 39999), (2, 40001)])),
-    (0, Live(&[2], &[(2, 39999)])),
+    At(0, Live(&[2, 1], &[(1, 40003), (2, 39999), (2, 40001)])),
+    At(0, Live(&[2], &[(2, 39999)])),
 ];
 
 /// Ways in which a subscription ends: time, a StopSubscribe, a stopped offer.
-const ENDING: &[Row] = &[
-    (0, Subscribe(ONE, ASKED, Ok(()))),
-    (0, Subscribe(ONE, BESIDE, Ok(()))),
-    (
+const ENDING: &[At] = &[
+    At(0, Subscribe(ONE, ASKED, Ok(()))),
+    At(0, Subscribe(ONE, BESIDE, Ok(()))),
+    At(
         0,
         Stop(
             Asked {
@@ -254,64 +255,60 @@ const ENDING: &[Row] = &[
             false,
         ),
     ),
-    (3000, Stop(ASKED, false)),
-    (0, Subscribe(ONE, ASKED, Ok(()))),
-    (0, IsLive(FIRST, true)),
-    (0, Stop(ASKED, true)),
-    (0, IsLive(FIRST, false)),
-    (0, Subscribe(ONE, ASKED, Ok(()))),
-    (0, StopOffer(FIRST)),
-    (0, IsLive(FIRST, false)),
-    (0, IsLive(SECOND, true)),
-    (2999, Tick),
-    (0, IsLive(SECOND, true)),
-    (3000, Tick),
-    (0, IsLive(SECOND, false)),
-    (0, Subscribe(ONE, ASKED, Ok(()))),
-    (0, Clear),
-    (0, IsLive(FIRST, false)),
+    At(3000, Stop(ASKED, false)),
+    At(0, Subscribe(ONE, ASKED, Ok(()))),
+    At(0, IsLive(FIRST, true)),
+    At(0, Stop(ASKED, true)),
+    At(0, IsLive(FIRST, false)),
+    At(0, Subscribe(ONE, ASKED, Ok(()))),
+    At(0, StopOffer(FIRST)),
+    At(0, IsLive(FIRST, false)),
+    At(0, IsLive(SECOND, true)),
+    At(2999, Tick),
+    At(0, IsLive(SECOND, true)),
+    At(3000, Tick),
+    At(0, IsLive(SECOND, false)),
+    At(0, Subscribe(ONE, ASKED, Ok(()))),
+    At(0, Clear),
+    At(0, IsLive(FIRST, false)),
 ];
 
 /// A message of a host: its session, what that shows of the host, and what the server does then.
-const HEARD: &[(u8, u16, Seen, Act)] = &[
-    (2, 1, Seen::Same, Subscribe(MANY, ASKED, Ok(()))),
-    (3, 1, Seen::Same, Subscribe(MANY, OTHER, Ok(()))),
-    (3, 2, Seen::Same, Subscribe(MANY, OTHER, Ok(()))),
-    (2, 1, Seen::Rebooted, Reboot(2)),
+const HEARD: &[(u8, u16, Seen, At)] = &[
+    (2, 1, Seen::Same, At(0, Subscribe(MANY, ASKED, Ok(())))),
+    (3, 1, Seen::Same, At(0, Subscribe(MANY, OTHER, Ok(())))),
+    (3, 2, Seen::Same, At(0, Subscribe(MANY, OTHER, Ok(())))),
+    (2, 1, Seen::Rebooted, At(0, Reboot(2))),
 ];
 
+/// What is left then: the subscription of host 3.
+const LEFT: &[At] = &[At(0, Live(&[1], &[(3, 40001)]))];
+
 /// The number of the first of these rows that comes out otherwise.
-fn first_wrong(alloc: Global, rows: &[Row]) -> Option<usize> {
+fn first_wrong(alloc: Global, rows: &[At]) -> Option<usize> {
     let mut subscribers = Subscribers::new(alloc);
-    first_wrong_of(&mut subscribers, rows)
+    first_wrong_step(alloc, &mut subscribers, rows)
 }
 
-fn first_wrong_of(subscribers: &mut Subscribers, rows: &[Row]) -> Option<usize> {
-    for (index, (millis, act)) in rows.iter().enumerate() {
-        if comes_out(subscribers, *millis, *act) != Some(true) {
-            return Some(index);
-        }
-    }
-    None
-}
-
-/// Whether an act comes out as it says, if there is such a moment.
-fn comes_out(subscribers: &mut Subscribers, millis: u64, act: Act) -> Option<bool> {
-    let now = Moment::new(millis)?;
-    match act {
-        Subscribe(rules, asked, answer) => {
-            Some(subscribers.subscribe(rules, request(asked)?, now) == answer)
-        }
-        Stop(asked, was_live) => Some(subscribers.stop(subscription(asked)?, now) == was_live),
-        StopOffer(instance) => Some(ends_offer(subscribers, instance)),
-        Reboot(host) => Some(ends_peer(subscribers, host)),
-        Tick => Some(ticks(subscribers, now)),
-        Clear => Some(clears(subscribers)),
-        Live(eventgroups, ports) => {
-            Some(are_ports(subscribers.live(FIRST, eventgroups, now), ports))
-        }
-        IsLive(instance, is_live) => {
-            Some(subscribers.is_live(instance, 1, endpoint(2, 40001), now) == is_live)
+impl Step<Subscribers> for At {
+    fn comes_out(&self, _alloc: Global, subscribers: &mut Subscribers) -> Option<bool> {
+        let At(millis, act) = *self;
+        let now = Moment::new(millis)?;
+        match act {
+            Subscribe(rules, asked, answer) => {
+                Some(subscribers.subscribe(rules, request(asked)?, now) == answer)
+            }
+            Stop(asked, was_live) => Some(subscribers.stop(subscription(asked)?, now) == was_live),
+            StopOffer(instance) => Some(ends_offer(subscribers, instance)),
+            Reboot(host) => Some(ends_peer(subscribers, host)),
+            Tick => Some(ticks(subscribers, now)),
+            Clear => Some(clears(subscribers)),
+            Live(eventgroups, ports) => {
+                Some(are_ports(subscribers.live(FIRST, eventgroups, now), ports))
+            }
+            IsLive(instance, is_live) => {
+                Some(subscribers.is_live(instance, 1, endpoint(2, 40001), now) == is_live)
+            }
         }
     }
 }
@@ -378,30 +375,40 @@ fn takes_all(endpoints: &mut BTreeSet<SocketAddrV4>, ports: &[(u8, u16)]) -> boo
 
 /// The number of the first message that shows something else of its host, or that the server does not take
 /// as it has to.
-fn first_unheard(peers: &mut PeerTable, subscribers: &mut Subscribers) -> Option<usize> {
-    for (index, (host, session, seen, act)) in HEARD.iter().enumerate() {
-        let told = peers.saw(address(*host), Channel::Unicast, *session, true);
-        if told != Ok(*seen) || comes_out(subscribers, 0, *act) != Some(true) {
+fn first_unheard(
+    alloc: Global,
+    peers: &mut PeerTable,
+    subscribers: &mut Subscribers,
+) -> Option<usize> {
+    for (index, (host, session, seen, row)) in HEARD.iter().enumerate() {
+        if !shows(peers, *host, *session, *seen)
+            || row.comes_out(alloc, subscribers) != Some(true)
+        {
             return Some(index);
         }
     }
     None
 }
 
-const NAMES: &[(SubscribeError, &str)] = &[
-    (SubscribeError::Nack(Cause::NotOffered), "NotOffered"),
-    (SubscribeError::Nack(Cause::WrongMajor), "WrongMajor"),
-    (
+/// Whether a message with this session shows that of its host.
+fn shows(peers: &mut PeerTable, host: u8, session: u16, seen: Seen) -> bool {
+    peers.saw(address(host), Channel::Unicast, session, true) == Ok(seen)
+}
+
+const NAMES: &[Printed<SubscribeError>] = &[
+    Printed(SubscribeError::Nack(Cause::NotOffered), "NotOffered"),
+    Printed(SubscribeError::Nack(Cause::WrongMajor), "WrongMajor"),
+    Printed(
         SubscribeError::Nack(Cause::UnknownEventgroup),
         "UnknownEventgroup",
     ),
-    (SubscribeError::Nack(Cause::NoEndpoint), "NoEndpoint"),
-    (SubscribeError::Nack(Cause::Full), "Full"),
-    (SubscribeError::OutOfMemory, "out of memory"),
+    Printed(SubscribeError::Nack(Cause::NoEndpoint), "NoEndpoint"),
+    Printed(SubscribeError::Nack(Cause::Full), "Full"),
+    Printed(SubscribeError::OutOfMemory, "out of memory"),
 ];
 
 /// Tables by their names.
-const TABLES: &[(&str, &[Row])] = &[
+const TABLES: &[(&str, &[At])] = &[
     ("SHORT", SHORT),
     ("UNTIL_REBOOT", UNTIL_REBOOT),
     ("LONGEST", LONGEST),
@@ -417,15 +424,17 @@ fn subscriptions_at_a_server(rt: HostRuntime) {
         let wrong = first_wrong(rt.alloc(), rows);
         assert!(rt; wrong.is_none(), "{name}: {wrong:?}");
     }
-    for (error, name) in NAMES {
-        assert!(rt; is_printed(rt.alloc(), error, name) == Some(true), "{name}");
-    }
+}
+
+#[test]
+fn refusals_are_printed(rt: HostRuntime) {
+    check(&rt, rt.alloc(), "NAMES", NAMES);
 }
 
 #[test]
 fn a_reboot_ends_what_came_from_that_peer(rt: HostRuntime) {
     let mut peers = PeerTable::new(rt.alloc(), 64);
     let mut subscribers = Subscribers::new(rt.alloc());
-    assert!(rt; first_unheard(&mut peers, &mut subscribers).is_none());
-    assert!(rt; comes_out(&mut subscribers, 0, Live(&[1], &[(3, 40001)])) == Some(true));
+    assert!(rt; first_unheard(rt.alloc(), &mut peers, &mut subscribers).is_none());
+    assert!(rt; first_wrong_step(rt.alloc(), &mut subscribers, LEFT).is_none());
 }

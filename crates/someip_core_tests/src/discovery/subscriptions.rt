@@ -1,5 +1,6 @@
 //! Rows of a client's subscriptions.
 use super::{FIRST, SECOND, THIRD, address, counter};
+use crate::rows::{Step, first_wrong_step};
 use Act::{Ack, Clear, IsSubscribed, Nack, Offer, Reboot, Stop, Tick, Unwant, Want};
 use sd_core::{
     Acked, Beginning, Eventgroup, InstanceId, OutgoingSubscribe, SubscribeAnswer, Subscriptions,
@@ -44,7 +45,8 @@ enum Act {
     Clear,
 }
 
-type Row = (u64, Act);
+/// A moment, in milliseconds, and a call then.
+struct At(u64, Act);
 
 /// The eventgroup 1 of the first instance.
 const GROUP: Eventgroup = Eventgroup {
@@ -79,20 +81,20 @@ const GOOD: Said = Said {
 };
 
 /// The counter after sixteen turns, and after a new start.
-const ANEW: &[Row] = &[
-    (0, Clear),
-    (0, Want(GROUP, Some(1), Some(0))),
-    (0, Want(SECOND_GROUP, None, None)),
+const ANEW: &[At] = &[
+    At(0, Clear),
+    At(0, Want(GROUP, Some(1), Some(0))),
+    At(0, Want(SECOND_GROUP, None, None)),
 ];
 
 /// Answers each of which is another one in one part.
-const OTHERS: &[Row] = &[
-    (0, Want(GROUP, Some(1), Some(0))),
-    (100, Ack(Said { counter: 1, ..GOOD }, 5, Acked::NotPending)),
-    (100, Nack(Said { counter: 1, ..GOOD }, false)),
-    (100, Ack(Said { host: 9, ..GOOD }, 5, Acked::NotPending)),
-    (100, Nack(Said { host: 9, ..GOOD }, false)),
-    (
+const OTHERS: &[At] = &[
+    At(0, Want(GROUP, Some(1), Some(0))),
+    At(100, Ack(Said { counter: 1, ..GOOD }, 5, Acked::NotPending)),
+    At(100, Nack(Said { counter: 1, ..GOOD }, false)),
+    At(100, Ack(Said { host: 9, ..GOOD }, 5, Acked::NotPending)),
+    At(100, Nack(Said { host: 9, ..GOOD }, false)),
+    At(
         100,
         Ack(
             Said {
@@ -103,7 +105,7 @@ const OTHERS: &[Row] = &[
             Acked::NotPending,
         ),
     ),
-    (
+    At(
         100,
         Nack(
             Said {
@@ -113,7 +115,7 @@ const OTHERS: &[Row] = &[
             false,
         ),
     ),
-    (
+    At(
         100,
         Ack(
             Said {
@@ -124,7 +126,7 @@ const OTHERS: &[Row] = &[
             Acked::NotPending,
         ),
     ),
-    (
+    At(
         100,
         Nack(
             Said {
@@ -134,7 +136,7 @@ const OTHERS: &[Row] = &[
             false,
         ),
     ),
-    (
+    At(
         100,
         Ack(
             Said {
@@ -145,7 +147,7 @@ const OTHERS: &[Row] = &[
             Acked::NotPending,
         ),
     ),
-    (
+    At(
         100,
         Nack(
             Said {
@@ -155,47 +157,47 @@ const OTHERS: &[Row] = &[
             false,
         ),
     ),
-    (100, IsSubscribed(GROUP, false)),
+    At(100, IsSubscribed(GROUP, false)),
 ];
 
 /// Acks that come one after the other.
-const LATEST: &[Row] = &[
-    (0, Want(GROUP, Some(1), Some(0))),
-    (100, Ack(GOOD, 5, Acked::Subscribed)),
-    (5099, IsSubscribed(GROUP, true)),
-    (5100, IsSubscribed(GROUP, false)),
-    (200, Ack(GOOD, 1, Acked::Renewed)),
-    (1199, IsSubscribed(GROUP, true)),
-    (1200, IsSubscribed(GROUP, false)),
-    (1200, Ack(GOOD, 5, Acked::NotPending)),
-    (1199, IsSubscribed(GROUP, true)),
-    (1200, IsSubscribed(GROUP, false)),
-    (1200, Nack(GOOD, false)),
+const LATEST: &[At] = &[
+    At(0, Want(GROUP, Some(1), Some(0))),
+    At(100, Ack(GOOD, 5, Acked::Subscribed)),
+    At(5099, IsSubscribed(GROUP, true)),
+    At(5100, IsSubscribed(GROUP, false)),
+    At(200, Ack(GOOD, 1, Acked::Renewed)),
+    At(1199, IsSubscribed(GROUP, true)),
+    At(1200, IsSubscribed(GROUP, false)),
+    At(1200, Ack(GOOD, 5, Acked::NotPending)),
+    At(1199, IsSubscribed(GROUP, true)),
+    At(1200, IsSubscribed(GROUP, false)),
+    At(1200, Nack(GOOD, false)),
 ];
 
 /// Offers, and a Nack between them.
-const OFFERED: &[Row] = &[
-    (0, Want(SECOND_GROUP, None, None)),
-    (0, Want(GROUP, None, None)),
-    (0, Want(OF_SECOND, None, None)),
-    (0, Offer(FIRST, 1, &[(GROUP, 0), (SECOND_GROUP, 0)])),
-    (1000, Offer(FIRST, 1, &[(GROUP, 0), (SECOND_GROUP, 0)])),
-    (1000, Nack(GOOD, true)),
-    (1000, Nack(GOOD, false)),
-    (1000, Offer(FIRST, 1, &[(GROUP, 1), (SECOND_GROUP, 0)])),
-    (1000, Offer(THIRD, 1, &[])),
+const OFFERED: &[At] = &[
+    At(0, Want(SECOND_GROUP, None, None)),
+    At(0, Want(GROUP, None, None)),
+    At(0, Want(OF_SECOND, None, None)),
+    At(0, Offer(FIRST, 1, &[(GROUP, 0), (SECOND_GROUP, 0)])),
+    At(1000, Offer(FIRST, 1, &[(GROUP, 0), (SECOND_GROUP, 0)])),
+    At(1000, Nack(GOOD, true)),
+    At(1000, Nack(GOOD, false)),
+    At(1000, Offer(FIRST, 1, &[(GROUP, 1), (SECOND_GROUP, 0)])),
+    At(1000, Offer(THIRD, 1, &[])),
 ];
 
 /// Ways in which subscriptions end: time, a StopOffer, a reboot.
-const ENDING: &[Row] = &[
-    (0, Want(OF_SECOND, Some(1), Some(0))),
-    (0, Want(SECOND_GROUP, Some(1), Some(0))),
-    (0, Want(GROUP, Some(1), Some(0))),
-    (0, Want(OF_THIRD, Some(9), Some(0))),
-    (0, Stop(FIRST, &[GROUP, SECOND_GROUP])),
-    (0, Want(GROUP, Some(1), Some(1))),
-    (0, Reboot(1, &[GROUP, OF_SECOND])),
-    (
+const ENDING: &[At] = &[
+    At(0, Want(OF_SECOND, Some(1), Some(0))),
+    At(0, Want(SECOND_GROUP, Some(1), Some(0))),
+    At(0, Want(GROUP, Some(1), Some(0))),
+    At(0, Want(OF_THIRD, Some(9), Some(0))),
+    At(0, Stop(FIRST, &[GROUP, SECOND_GROUP])),
+    At(0, Want(GROUP, Some(1), Some(1))),
+    At(0, Reboot(1, &[GROUP, OF_SECOND])),
+    At(
         0,
         Ack(
             Said {
@@ -207,60 +209,74 @@ const ENDING: &[Row] = &[
             Acked::Subscribed,
         ),
     ),
-    (999, Tick(&[])),
-    (1000, Tick(&[OF_THIRD])),
-    (1000, Tick(&[])),
+    At(999, Tick(&[])),
+    At(1000, Tick(&[OF_THIRD])),
+    At(1000, Tick(&[])),
 ];
 
 /// A subscription that lasts, and ends with its wish.
-const TAKEN_BACK: &[Row] = &[
-    (0, Want(GROUP, Some(1), Some(0))),
-    (0, Ack(GOOD, 0xff_ffff, Acked::Subscribed)),
-    (
+const TAKEN_BACK: &[At] = &[
+    At(0, Want(GROUP, Some(1), Some(0))),
+    At(0, Ack(GOOD, 0xff_ffff, Acked::Subscribed)),
+    At(
         1099511627776,
         Unwant(GROUP, Some((1, 0, Some(Deadline::Never)))),
     ),
-    (0, IsSubscribed(GROUP, false)),
-    (0, Offer(FIRST, 1, &[])),
+    At(0, IsSubscribed(GROUP, false)),
+    At(0, Offer(FIRST, 1, &[])),
 ];
 
 /// The number of the first of these rows that comes out otherwise.
-fn first_wrong(alloc: Global, rows: &[Row]) -> Option<usize> {
+fn first_wrong(alloc: Global, rows: &[At]) -> Option<usize> {
     let mut subscriptions = Subscriptions::new(alloc);
-    first_wrong_of(&mut subscriptions, rows)
+    first_wrong_step(alloc, &mut subscriptions, rows)
 }
 
-fn first_wrong_of(subscriptions: &mut Subscriptions, rows: &[Row]) -> Option<usize> {
-    for (index, (millis, act)) in rows.iter().enumerate() {
-        if comes_out(subscriptions, *millis, *act) != Some(true) {
-            return Some(index);
+impl Step<Subscriptions> for At {
+    fn comes_out(&self, _alloc: Global, subscriptions: &mut Subscriptions) -> Option<bool> {
+        let At(millis, act) = *self;
+        let now = Moment::new(millis)?;
+        match act {
+            Want(eventgroup, host, sent) => wants(subscriptions, now, eventgroup, host, sent),
+            Unwant(eventgroup, stood) => unwants(subscriptions, now, eventgroup, stood),
+            Offer(instance, host, sent) => Some(are_sent(
+                subscriptions.offer(instance, address(host), now),
+                sent,
+            )),
+            Ack(said, ttl, told) => acks(subscriptions, now, said, ttl, told),
+            Nack(said, ended) => Some(subscriptions.nack(answer(said)?, now) == ended),
+            Stop(instance, ended) => Some(are_groups(subscriptions.stop(instance), ended)),
+            Reboot(host, ended) => {
+                Some(are_groups(subscriptions.peer_reboot(address(host)), ended))
+            }
+            Tick(ended) => Some(are_groups(subscriptions.tick(now, &[]), ended)),
+            IsSubscribed(eventgroup, is) => {
+                Some(subscriptions.is_subscribed(&eventgroup, now) == is)
+            }
+            Clear => Some(clears(subscriptions)),
         }
     }
-    None
 }
 
-/// Whether an act comes out as it says, if there is such a moment.
-fn comes_out(subscriptions: &mut Subscriptions, millis: u64, act: Act) -> Option<bool> {
-    let now = Moment::new(millis)?;
-    match act {
-        Want(eventgroup, host, sent) => wants(subscriptions, now, eventgroup, host, sent),
-        Unwant(eventgroup, stood) => {
-            Some(subscriptions.unwant(eventgroup, now) == beginning(stood)?)
-        }
-        Offer(instance, host, sent) => Some(are_sent(
-            subscriptions.offer(instance, address(host), now),
-            sent,
-        )),
-        Ack(said, ttl, told) => {
-            Some(subscriptions.ack(answer(said)?, Ttl::new(ttl)?, now) == told)
-        }
-        Nack(said, ended) => Some(subscriptions.nack(answer(said)?, now) == ended),
-        Stop(instance, ended) => Some(are_groups(subscriptions.stop(instance), ended)),
-        Reboot(host, ended) => Some(are_groups(subscriptions.peer_reboot(address(host)), ended)),
-        Tick(ended) => Some(are_groups(subscriptions.tick(now, &[]), ended)),
-        IsSubscribed(eventgroup, is) => Some(subscriptions.is_subscribed(&eventgroup, now) == is),
-        Clear => Some(clears(subscriptions)),
-    }
+fn unwants(
+    subscriptions: &mut Subscriptions,
+    now: Moment,
+    eventgroup: Eventgroup,
+    stood: Option<(u8, u8, Option<Deadline>)>,
+) -> Option<bool> {
+    let wanted = beginning(stood)?;
+    Some(subscriptions.unwant(eventgroup, now) == wanted)
+}
+
+fn acks(
+    subscriptions: &mut Subscriptions,
+    now: Moment,
+    said: Said,
+    ttl: u32,
+    told: Acked,
+) -> Option<bool> {
+    let answer = answer(said)?;
+    Some(subscriptions.ack(answer, Ttl::new(ttl)?, now) == told)
 }
 
 fn wants(
@@ -345,15 +361,31 @@ fn are_groups(answer: Result<Vec<Eventgroup>, AllocError>, wanted: &[Eventgroup]
     }
 }
 
+/// Whether a wish of the first eventgroup begins with this counter, or keeps it.
+fn is_wished(subscriptions: &mut Subscriptions, counter: u8) -> bool {
+    wants(
+        subscriptions,
+        Moment::start(),
+        GROUP,
+        Some(1),
+        Some(counter),
+    ) == Some(true)
+}
+
+/// Whether that is taken back, and this stood.
+fn is_taken_back(
+    subscriptions: &mut Subscriptions,
+    stood: Option<(u8, u8, Option<Deadline>)>,
+) -> bool {
+    unwants(subscriptions, Moment::start(), GROUP, stood) == Some(true)
+}
+
 /// Whether a wish begins with this counter, keeps it, and ends once.
 fn takes_turn(subscriptions: &mut Subscriptions, counter: u8) -> bool {
-    let rows = [
-        (0, Want(GROUP, Some(1), Some(counter))),
-        (0, Want(GROUP, Some(1), Some(counter))),
-        (0, Unwant(GROUP, Some((1, counter, None)))),
-        (0, Unwant(GROUP, None)),
-    ];
-    first_wrong_of(subscriptions, &rows).is_none()
+    is_wished(subscriptions, counter)
+        && is_wished(subscriptions, counter)
+        && is_taken_back(subscriptions, Some((1, counter, None)))
+        && is_taken_back(subscriptions, None)
 }
 
 fn takes_turns(subscriptions: &mut Subscriptions) -> bool {
@@ -366,7 +398,7 @@ fn takes_turns(subscriptions: &mut Subscriptions) -> bool {
 }
 
 /// Tables by their names.
-const TABLES: &[(&str, &[Row])] = &[
+const TABLES: &[(&str, &[At])] = &[
     ("OTHERS", OTHERS),
     ("LATEST", LATEST),
     ("OFFERED", OFFERED),
@@ -378,7 +410,7 @@ const TABLES: &[(&str, &[Row])] = &[
 fn subscriptions_of_a_client(rt: HostRuntime) {
     let mut subscriptions = Subscriptions::new(rt.alloc());
     assert!(rt; takes_turns(&mut subscriptions));
-    assert!(rt; first_wrong_of(&mut subscriptions, ANEW).is_none());
+    assert!(rt; first_wrong_step(rt.alloc(), &mut subscriptions, ANEW).is_none());
     for (name, rows) in TABLES {
         let wrong = first_wrong(rt.alloc(), rows);
         assert!(rt; wrong.is_none(), "{name}: {wrong:?}");

@@ -1,18 +1,8 @@
 //! The text of the errors.
-use crate::rows::{Row, is_printed};
+use crate::rows::Printed;
 use recording::RecordingError;
-use std::alloc::Global;
 
-/// An error and its text.
-pub(super) struct Printed(RecordingError, &'static str);
-
-impl Row for Printed {
-    fn is_right(&self, alloc: Global) -> Option<bool> {
-        is_printed(alloc, &self.0, self.1)
-    }
-}
-
-pub(super) const PRINTED: &[Printed] = &[
+pub(super) const PRINTED: &[Printed<RecordingError>] = &[
     Printed(RecordingError::NotRecording(0), "NotRecording at 0"),
     Printed(RecordingError::Truncated(24), "Truncated at 24"),
     Printed(RecordingError::BadOrder(28), "BadOrder at 28"),

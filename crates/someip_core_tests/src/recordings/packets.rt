@@ -13,36 +13,56 @@ const HEADER: &[u8] = &[
 /// The head of a packet, but for its lengths: one second, and one microsecond.
 const PACKET: &[u8] = &[0, 0, 0, 1, 0, 0, 0, 1, 0, 0];
 
-/// The file with one packet of this link type.
-fn file_of(alloc: Global, link: u16, packet: &[u8]) -> Result<Vec<u8>, AllocError> {
-    let mut file = Vec::new(alloc);
+/// Writes a file with one packet of this link type.
+fn add_packet(file: &mut Vec<u8>, link: u16, packet: &[u8]) -> Result<(), AllocError> {
     let length = (packet.len() % 0x10000) as u16;
     file.extend_from_slice(HEADER)?;
     file.extend_from_slice(&link.to_be_bytes())?;
     file.extend_from_slice(PACKET)?;
     file.extend_from_slice(&length.to_be_bytes())?;
     file.extend_from_slice(&[0, 0, 0, 99])?;
-    file.extend_from_slice(packet)?;
+    file.extend_from_slice(packet)
+}
+
+/// The file with one packet of this link type.
+fn file_of(alloc: Global, link: u16, packet: &[u8]) -> Result<Vec<u8>, AllocError> {
+    let mut file = Vec::new(alloc);
+    add_packet(&mut file, link, packet)?;
     Ok(file)
 }
 
+/// The datagram that a packet gives: the three bytes 1, 2 and 3, or none.
+#[derive(Clone, Copy)]
+enum Given {
+    Sent,
+    Empty,
+}
+
 /// A link type, the bytes of a packet, and what it gives.
-pub(super) struct Packet(u16, &'static [u8], Result<Datagram<'static>, Skipped>);
+pub(super) struct Packet(u16, &'static [u8], Result<Given, Skipped>);
 
 impl Row for Packet {
     fn is_right(&self, alloc: Global) -> Option<bool> {
         let file = file_of(alloc, self.0, self.1).ok()?;
         let items = items_of(alloc, &file).ok()?;
-        let found = items.first()?;
-        Some(items.len() == 1 && is_item(found, &self.wanted()))
+        Some(self.is_given(&items))
     }
 }
 
 impl Packet {
+    /// Whether this is all that the file gives.
+    fn is_given(&self, items: &[Result<Record<'_>, RecordingError>]) -> bool {
+        match items {
+            [found] => is_item(found, &self.wanted()),
+            _ => false,
+        }
+    }
+
     /// What is wanted as it is read.
     fn wanted(&self) -> Result<Record<'static>, RecordingError> {
         match self.2 {
-            Ok(datagram) => Ok(Record::Datagram(datagram)),
+            Ok(Given::Sent) => Ok(Record::Datagram(SENT)),
+            Ok(Given::Empty) => Ok(Record::Datagram(EMPTY)),
             Err(skipped) => Ok(Record::Other(skipped)),
         }
     }
@@ -89,7 +109,7 @@ pub(super) const PACKETS: &[Packet] = &[
             0x11, 0, 0, 0xc0, 0xa8, 0, 1, 0xc0, 0xa8, 0, 2, 0x77, 0x1a, 0x77, 0x25, 0, 0x0b, 0, 0,
             1, 2, 3,
         ],
-        Ok(SENT),
+        Ok(Given::Sent),
     ),
     // Bytes that Ethernet pads, up to 60.
     Packet(
@@ -100,7 +120,7 @@ pub(super) const PACKETS: &[Packet] = &[
             1, 2, 3, 0xee, 0xee, 0xee, 0xee, 0xee, 0xee, 0xee, 0xee, 0xee, 0xee, 0xee, 0xee, 0xee,
             0xee, 0xee,
         ],
-        Ok(SENT),
+        Ok(Given::Sent),
     ),
     // One VLAN tag.
     Packet(
@@ -110,7 +130,7 @@ pub(super) const PACKETS: &[Packet] = &[
             0x40, 0, 0x40, 0x11, 0, 0, 0xc0, 0xa8, 0, 1, 0xc0, 0xa8, 0, 2, 0x77, 0x1a, 0x77, 0x25,
             0, 0x0b, 0, 0, 1, 2, 3,
         ],
-        Ok(SENT),
+        Ok(Given::Sent),
     ),
     // Two VLAN tags.
     Packet(
@@ -120,7 +140,7 @@ pub(super) const PACKETS: &[Packet] = &[
             0x1f, 0x12, 0x34, 0x40, 0, 0x40, 0x11, 0, 0, 0xc0, 0xa8, 0, 1, 0xc0, 0xa8, 0, 2, 0x77,
             0x1a, 0x77, 0x25, 0, 0x0b, 0, 0, 1, 2, 3,
         ],
-        Ok(SENT),
+        Ok(Given::Sent),
     ),
     // An old second tag.
     Packet(
@@ -130,7 +150,7 @@ pub(super) const PACKETS: &[Packet] = &[
             0x1f, 0x12, 0x34, 0x40, 0, 0x40, 0x11, 0, 0, 0xc0, 0xa8, 0, 1, 0xc0, 0xa8, 0, 2, 0x77,
             0x1a, 0x77, 0x25, 0, 0x0b, 0, 0, 1, 2, 3,
         ],
-        Ok(SENT),
+        Ok(Given::Sent),
     ),
     // Three VLAN tags.
     Packet(
@@ -174,7 +194,7 @@ pub(super) const PACKETS: &[Packet] = &[
             0x40, 0x11, 0, 0, 0xc0, 0xa8, 0, 1, 0xc0, 0xa8, 0, 2, 0x77, 0x1a, 0x77, 0x25, 0, 0x0b,
             0, 0, 1, 2, 3,
         ],
-        Ok(SENT),
+        Ok(Given::Sent),
     ),
     // Linux cooked with IPv6.
     Packet(
@@ -194,7 +214,7 @@ pub(super) const PACKETS: &[Packet] = &[
             0x34, 0x40, 0, 0x40, 0x11, 0, 0, 0xc0, 0xa8, 0, 1, 0xc0, 0xa8, 0, 2, 0x77, 0x1a, 0x77,
             0x25, 0, 0x0b, 0, 0, 1, 2, 3,
         ],
-        Ok(SENT),
+        Ok(Given::Sent),
     ),
     // The same, cut in its header.
     Packet(
@@ -209,7 +229,7 @@ pub(super) const PACKETS: &[Packet] = &[
             0x45, 0, 0, 0x1f, 0x12, 0x34, 0x40, 0, 0x40, 0x11, 0, 0, 0xc0, 0xa8, 0, 1, 0xc0, 0xa8,
             0, 2, 0x77, 0x1a, 0x77, 0x25, 0, 0x0b, 0, 0, 1, 2, 3,
         ],
-        Ok(SENT),
+        Ok(Given::Sent),
     ),
     // Raw IPv4.
     Packet(
@@ -218,7 +238,7 @@ pub(super) const PACKETS: &[Packet] = &[
             0x45, 0, 0, 0x1f, 0x12, 0x34, 0x40, 0, 0x40, 0x11, 0, 0, 0xc0, 0xa8, 0, 1, 0xc0, 0xa8,
             0, 2, 0x77, 0x1a, 0x77, 0x25, 0, 0x0b, 0, 0, 1, 2, 3,
         ],
-        Ok(SENT),
+        Ok(Given::Sent),
     ),
     // Raw IP that is IPv6.
     Packet(
@@ -246,7 +266,7 @@ pub(super) const PACKETS: &[Packet] = &[
             0x46, 0, 0, 0x23, 0x12, 0x34, 0x40, 0, 0x40, 0x11, 0, 0, 0xc0, 0xa8, 0, 1, 0xc0, 0xa8,
             0, 2, 1, 1, 1, 0, 0x77, 0x1a, 0x77, 0x25, 0, 0x0b, 0, 0, 1, 2, 3,
         ],
-        Ok(SENT),
+        Ok(Given::Sent),
     ),
     // A header length of 16.
     Packet(
@@ -300,7 +320,7 @@ pub(super) const PACKETS: &[Packet] = &[
             0x45, 0, 0, 0x1f, 0x12, 0x34, 0x80, 0, 0x40, 0x11, 0, 0, 0xc0, 0xa8, 0, 1, 0xc0, 0xa8,
             0, 2, 0x77, 0x1a, 0x77, 0x25, 0, 0x0b, 0, 0, 1, 2, 3,
         ],
-        Ok(SENT),
+        Ok(Given::Sent),
     ),
     // TCP.
     Packet(
@@ -372,7 +392,7 @@ pub(super) const PACKETS: &[Packet] = &[
             0x45, 0, 0, 0x1f, 0x12, 0x34, 0x40, 0, 0x40, 0x11, 0, 0, 0xc0, 0xa8, 0, 1, 0xc0, 0xa8,
             0, 2, 0x77, 0x1a, 0x77, 0x25, 0, 8, 0, 0, 1, 2, 3,
         ],
-        Ok(EMPTY),
+        Ok(Given::Empty),
     ),
     // A UDP Length of one more than there is.
     Packet(
@@ -390,6 +410,6 @@ pub(super) const PACKETS: &[Packet] = &[
             0x45, 0, 0, 0x20, 0x12, 0x34, 0x40, 0, 0x40, 0x11, 0, 0, 0xc0, 0xa8, 0, 1, 0xc0, 0xa8,
             0, 2, 0x77, 0x1a, 0x77, 0x25, 0, 0x0b, 0, 0, 1, 2, 3, 9,
         ],
-        Ok(SENT),
+        Ok(Given::Sent),
     ),
 ];

@@ -84,10 +84,9 @@ pub(super) fn service(alloc: Global) -> Result<ServiceRules, AllocError> {
 }
 
 /// The number of the first of these acts that comes out otherwise.
-pub(super) fn first_wrong(alloc: Global, acts: &[Act]) -> Result<Option<usize>, AllocError> {
-    let service = service(alloc)?;
+pub(super) fn first_wrong(alloc: Global, service: &ServiceRules, acts: &[Act]) -> Option<usize> {
     let mut core = ServerCore::new(alloc);
-    Ok(first_wrong_of(&mut core, &service, acts))
+    first_wrong_of(&mut core, service, acts)
 }
 
 fn first_wrong_of(core: &mut ServerCore, service: &ServiceRules, acts: &[Act]) -> Option<usize> {

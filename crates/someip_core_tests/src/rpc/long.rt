@@ -1,6 +1,8 @@
 //! A call with a long payload, and its long answer: both go in segments.
 use super::acts::service;
 use super::{call, rules, server};
+use crate::tp::call::offer;
+use crate::tp::payload_of;
 use someip_rpc::{
     Arrived, Call, CallKind, ClientCore, ClientRules, MessageId, Outgoing, Reply, ServerCore,
     ServiceRules,
@@ -10,37 +12,32 @@ use someip_tp::{
     Reassembly, ReassemblyKey, SegmentList, Sent, SentPiece, TpCall, TpError, are_in_time,
     run_calls,
 };
-use someip_wire::ReturnCode;
+use someip_wire::{Message, ReturnCode};
 use std::alloc::{AllocError, Global};
 use std::test::Fail;
 
-/// So many bytes, of which each tells its place.
-fn payload_of(alloc: Global, len: u32) -> Result<Vec<u8>, AllocError> {
-    let mut bytes = Vec::new(alloc);
-    for i in 0..len {
-        bytes.push((i % 251) as u8)?;
+/// Adds the offers of the segments of a message, under this key.
+fn add_offers<'a>(
+    calls: &mut Vec<TpCall<'a>>,
+    key: ReassemblyKey,
+    message: &Message<'a>,
+) -> Result<(), AllocError> {
+    if message.payload.len() > 65536 {
+        return Ok(());
     }
-    Ok(bytes)
+    for piece in Sent::new(message) {
+        if let SentPiece::Segment(segment) = piece {
+            calls.push(offer(key, segment.offset, segment.more, segment.slice, 0))?;
+        }
+    }
+    Ok(())
 }
 
 /// The offers of the segments of a message, and the call that takes it then.
 fn offers<'a>(alloc: Global, sent: &Outgoing<'a>) -> Result<Vec<TpCall<'a>>, AllocError> {
     let key = ReassemblyKey::new(sent.from, sent.to, &sent.message.header);
     let mut calls = Vec::new(alloc);
-    if sent.message.payload.len() > 65536 {
-        return Ok(calls);
-    }
-    for piece in Sent::new(&sent.message) {
-        if let SentPiece::Segment(segment) = piece {
-            calls.push(TpCall::Offer {
-                key,
-                offset: segment.offset,
-                more: segment.more,
-                bytes: segment.slice,
-                now: 0,
-            })?;
-        }
-    }
+    add_offers(&mut calls, key, &sent.message)?;
     calls.push(TpCall::Take { key })?;
     Ok(calls)
 }
@@ -129,20 +126,21 @@ fn is_awaited(client: &mut ClientCore, sent: &Outgoing<'_>) -> bool {
         .is_ok()
 }
 
-/// Whether a call with 3000 bytes is answered by 5880.
-fn is_talked_over(
+/// Whether a call with 3000 bytes comes to the instance.
+fn asks(
     alloc: Global,
     client: &mut ClientCore,
     core: &mut ServerCore,
     service: &ServiceRules,
-) -> bool {
-    match (payload_of(alloc, 3000), payload_of(alloc, 5880)) {
-        (Ok(question), Ok(reply)) => {
-            is_asked(alloc, client, core, service, &question)
-                && is_answered(alloc, client, core, &reply)
-        }
-        _ => false,
-    }
+) -> Option<bool> {
+    let question = payload_of(alloc, 3000).ok()?;
+    Some(is_asked(alloc, client, core, service, &question))
+}
+
+/// Whether an answer with 5880 bytes comes to the client.
+fn replies(alloc: Global, client: &mut ClientCore, core: &mut ServerCore) -> Option<bool> {
+    let reply = payload_of(alloc, 5880).ok()?;
+    Some(is_answered(alloc, client, core, &reply))
 }
 
 #[test]
@@ -150,6 +148,7 @@ fn a_long_call_and_its_answer(rt: HostRuntime) -> Result<(), Fail> {
     let service = service(rt.alloc())?;
     let mut client = ClientCore::new(rt.alloc());
     let mut core = ServerCore::new(rt.alloc());
-    assert!(rt; is_talked_over(rt.alloc(), &mut client, &mut core, &service));
+    assert!(rt; asks(rt.alloc(), &mut client, &mut core, &service) == Some(true));
+    assert!(rt; replies(rt.alloc(), &mut client, &mut core) == Some(true));
     Ok(())
 }

@@ -4,10 +4,10 @@ use super::acts::{Becomes, REQUEST, first_wrong, service};
 use super::{KEY, LONG, REFUSED, call, client, events, rules, server};
 use someip_rpc::{
     Arrived, CallKind, ClientCore, Outgoing, Reply, RequestFault, RpcError, ServerCore,
+    ServiceRules,
 };
 use someip_tables::Moment;
 use someip_wire::{Header, MessageType, ReturnCode};
-use std::alloc::{AllocError, Global};
 use std::test::Fail;
 
 const FINE: Reply = Reply::Response(ReturnCode::E_OK);
@@ -209,32 +209,36 @@ const TABLES: &[(&str, &[Act])] = &[
 
 #[test]
 fn requests_and_events(rt: HostRuntime) -> Result<(), Fail> {
+    let service = service(rt.alloc())?;
     for (name, acts) in TABLES {
-        let wrong = first_wrong(rt.alloc(), acts)?;
+        let wrong = first_wrong(rt.alloc(), &service, acts);
         assert!(rt; wrong.is_none(), "{name}: {wrong:?}");
     }
     Ok(())
 }
 
 /// The ERROR by which the instance refuses what is sent to it.
-fn refusal(alloc: Global, sent: &Outgoing<'_>) -> Result<Option<Outgoing<'static>>, AllocError> {
-    let service = service(alloc)?;
-    let mut core = ServerCore::new(alloc);
-    match core.on_request(&service, true, sent.from, &sent.message.header) {
-        Ok(Arrived::Refused(error)) => Ok(Some(error)),
-        _ => Ok(None),
+fn refusal(
+    core: &mut ServerCore,
+    service: &ServiceRules,
+    sent: &Outgoing<'_>,
+) -> Option<Outgoing<'static>> {
+    match core.on_request(service, true, sent.from, &sent.message.header) {
+        Ok(Arrived::Refused(error)) => Some(error),
+        _ => None,
     }
 }
 
 /// The ERROR that answers a call of a method that the server does not know.
 fn error_of_call(
-    alloc: Global,
     caller: &mut ClientCore,
-) -> Result<Option<Outgoing<'static>>, AllocError> {
+    core: &mut ServerCore,
+    service: &ServiceRules,
+) -> Option<Outgoing<'static>> {
     let request = call(CallKind::Request);
     match caller.call(&rules(), request, &[], Some(server()), Moment::start()) {
-        Ok(sent) => refusal(alloc, &sent),
-        Err(_) => Ok(None),
+        Ok(sent) => refusal(core, service, &sent),
+        Err(_) => None,
     }
 }
 
@@ -249,14 +253,17 @@ fn is_handed_up(caller: &mut ClientCore, error: &Outgoing<'_>) -> bool {
 
 /// A call of a method that the server does not know: the ERROR that answers it is handed up.
 #[test]
-fn an_error_is_an_answer(rt: HostRuntime) {
+fn an_error_is_an_answer(rt: HostRuntime) -> Result<(), Fail> {
+    let service = service(rt.alloc())?;
     let mut caller = ClientCore::new(rt.alloc());
-    assert!(rt; is_answered(rt.alloc(), &mut caller));
+    let mut core = ServerCore::new(rt.alloc());
+    assert!(rt; is_answered(&mut caller, &mut core, &service));
+    Ok(())
 }
 
-fn is_answered(alloc: Global, caller: &mut ClientCore) -> bool {
-    match error_of_call(alloc, caller) {
-        Ok(Some(error)) => is_handed_up(caller, &error),
-        _ => false,
+fn is_answered(caller: &mut ClientCore, core: &mut ServerCore, service: &ServiceRules) -> bool {
+    match error_of_call(caller, core, service) {
+        Some(error) => is_handed_up(caller, &error),
+        None => false,
     }
 }

@@ -165,18 +165,21 @@ impl Run {
     }
 }
 
+fn add_choice(alloc: Global, choice: Choice, run: &mut Vec<SdOption>) -> Option<()> {
+    let option = choice.made(alloc)?;
+    run.push(option).ok()
+}
+
 fn add_choices(alloc: Global, choices: &[Choice], run: &mut Vec<SdOption>) -> Option<()> {
     for choice in choices {
-        let option = choice.made(alloc)?;
-        run.push(option).ok()?;
+        add_choice(alloc, *choice, run)?;
     }
     Some(())
 }
 
 fn add_numbered(alloc: Global, first: u16, count: u16, run: &mut Vec<SdOption>) -> Option<()> {
     for i in 0..count {
-        let option = Choice::Numbered(first.checked_add(i)?).made(alloc)?;
-        run.push(option).ok()?;
+        add_choice(alloc, Choice::Numbered(first.checked_add(i)?), run)?;
     }
     Some(())
 }

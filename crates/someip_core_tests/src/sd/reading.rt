@@ -209,14 +209,37 @@ const PRINTED: &[Printed] = &[
     Printed(SdError::OutOfMemory, "OutOfMemory", 0, "out of memory"),
 ];
 
+/// Tables by their names.
+const REFUSED: &[(&str, &[Faulty])] = &[("FAULTY", FAULTY), ("TWICE_FAULTY", TWICE_FAULTY)];
+
+const READ: &[(&str, &[Good])] = &[("EMPTY_RUNS", EMPTY_RUNS), ("RESERVED", RESERVED)];
+
 #[test]
-fn bytes_are_read(rt: HostRuntime) {
-    check(&rt, rt.alloc(), "FAULTY", FAULTY);
-    check(&rt, rt.alloc(), "TWICE_FAULTY", TWICE_FAULTY);
-    check(&rt, rt.alloc(), "BAD_RUNS", BAD_RUNS);
-    check(&rt, rt.alloc(), "EMPTY_RUNS", EMPTY_RUNS);
-    check(&rt, rt.alloc(), "RESERVED", RESERVED);
-    check(&rt, rt.alloc(), "PRINTED", PRINTED);
+fn bytes_are_refused(rt: HostRuntime) {
+    for (name, rows) in REFUSED {
+        check(&rt, rt.alloc(), name, rows);
+    }
+}
+
+#[test]
+fn other_lengths_are_refused(rt: HostRuntime) {
     assert!(rt; are_fronts_refused(rt.alloc()));
     assert!(rt; is_refused(rt.alloc(), &LONGER, SdError::TrailingBytes(40)));
+}
+
+#[test]
+fn bad_runs_are_told(rt: HostRuntime) {
+    check(&rt, rt.alloc(), "BAD_RUNS", BAD_RUNS);
+}
+
+#[test]
+fn bytes_are_read(rt: HostRuntime) {
+    for (name, rows) in READ {
+        check(&rt, rt.alloc(), name, rows);
+    }
+}
+
+#[test]
+fn faults_are_printed(rt: HostRuntime) {
+    check(&rt, rt.alloc(), "PRINTED", PRINTED);
 }

@@ -316,29 +316,51 @@ const FOUND_PAST_LAST_INDEX: &[Refused] = &[Refused(
     18,
 )];
 
+/// Tables by their names.
+const WRITTEN: &[(&str, &[Written])] = &[
+    ("WORKED", WORKED),
+    ("OPTIONS4", OPTIONS4),
+    ("OPTIONS6", OPTIONS6),
+    ("RAW", RAW),
+    ("SHARED", SHARED),
+    ("SHARED_BY_ONE", SHARED_BY_ONE),
+    ("LONGEST_RUN", LONGEST_RUN),
+];
+
+const REFUSED: &[(&str, &[Refused])] = &[
+    ("LONGER_RUN", LONGER_RUN),
+    ("PAST_LAST_INDEX", PAST_LAST_INDEX),
+    ("FOUND_PAST_LAST_INDEX", FOUND_PAST_LAST_INDEX),
+];
+
+const INDEXED: &[(&str, &[Indexed])] = &[
+    ("LAST_INDEX", LAST_INDEX),
+    ("LONGEST_POOL", LONGEST_POOL),
+];
+
 #[test]
 fn entries_are_written(rt: HostRuntime) {
-    check(&rt, rt.alloc(), "WORKED", WORKED);
-    check(&rt, rt.alloc(), "OPTIONS4", OPTIONS4);
-    check(&rt, rt.alloc(), "OPTIONS6", OPTIONS6);
-    check(&rt, rt.alloc(), "RAW", RAW);
-    check(&rt, rt.alloc(), "SHARED", SHARED);
-    check(&rt, rt.alloc(), "SHARED_BY_ONE", SHARED_BY_ONE);
-    check(&rt, rt.alloc(), "LONGEST_RUN", LONGEST_RUN);
+    for (name, rows) in WRITTEN {
+        check(&rt, rt.alloc(), name, rows);
+    }
 }
 
 #[test]
-fn limits_of_entries(rt: HostRuntime) {
+fn entries_are_refused(rt: HostRuntime) {
+    for (name, rows) in REFUSED {
+        check(&rt, rt.alloc(), name, rows);
+    }
+}
+
+#[test]
+fn indices_of_entries(rt: HostRuntime) {
+    for (name, rows) in INDEXED {
+        check(&rt, rt.alloc(), name, rows);
+    }
+}
+
+#[test]
+fn options_that_are_raw(rt: HostRuntime) {
     check(&rt, rt.alloc(), "ZEROS", ZEROS);
-    check(&rt, rt.alloc(), "LONGER_RUN", LONGER_RUN);
-    check(&rt, rt.alloc(), "PAST_LAST_INDEX", PAST_LAST_INDEX);
-    check(
-        &rt,
-        rt.alloc(),
-        "FOUND_PAST_LAST_INDEX",
-        FOUND_PAST_LAST_INDEX,
-    );
-    check(&rt, rt.alloc(), "LAST_INDEX", LAST_INDEX);
-    check(&rt, rt.alloc(), "LONGEST_POOL", LONGEST_POOL);
     assert!(rt; is_raw_kept(rt.alloc()) == Some(true));
 }

@@ -1,5 +1,6 @@
 //! Calls and answers as the tables write them.
 use super::HEADER;
+use super::slices::Slice;
 use someip_tp::{Offered, ReassemblyKey, TpAnswer, TpCall, TpError, read_segment};
 use someip_wire::MessageType;
 use std::net::{Ipv4Addr, SocketAddrV4};
@@ -26,9 +27,9 @@ pub const DROPPED: TpAnswer = TpAnswer::Dropped;
 #[derive(Clone, Copy)]
 pub enum Call {
     /// A segment that is not the last: key, offset, slice, moment.
-    More(u16, u32, &'static [u8], u64),
+    More(u16, u32, Slice, u64),
     /// The last segment: key, offset, slice, moment.
-    Last(u16, u32, &'static [u8], u64),
+    Last(u16, u32, Slice, u64),
     /// A segment out of the long payload: key, offset, the end of its slice there, More Segments, moment.
     Cut(u16, u32, usize, bool, u64),
     /// A segment of the first key that is not the last, with the changed slice: offset, moment.
@@ -53,7 +54,7 @@ pub struct Run {
     pub slots: usize,
     pub limit: usize,
     pub steps: &'static [Step],
-    pub bytes: &'static [u8],
+    pub bytes: Slice,
 }
 
 /// What calls are made of, beside what stands in a table.
@@ -99,11 +100,11 @@ impl<'a> Source<'a> {
     /// The call that a table writes so; none where it cuts out what is not there.
     pub fn call(self, call: Call) -> Option<TpCall<'a>> {
         match call {
-            Call::More(of, offset, bytes, now) => {
-                Some(offer(self.key(of), offset, true, bytes, now))
+            Call::More(of, offset, slice, now) => {
+                Some(offer(self.key(of), offset, true, slice.bytes(), now))
             }
-            Call::Last(of, offset, bytes, now) => {
-                Some(offer(self.key(of), offset, false, bytes, now))
+            Call::Last(of, offset, slice, now) => {
+                Some(offer(self.key(of), offset, false, slice.bytes(), now))
             }
             Call::Cut(of, from, to, more, now) => self.cut(of, from, to, more, now),
             Call::Changed(offset, now) => Some(offer(key(1), offset, true, self.changed, now)),

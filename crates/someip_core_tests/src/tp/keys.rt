@@ -1,7 +1,7 @@
 //! Keys that differ from the first in one field: their messages do not meet.
 use super::call::Call::{Last, More, Take};
 use super::call::{NO_SLOT, NONE_TAKEN, PART, Run, TAKEN, WHOLE, key};
-use super::rows::{NO, ONE, TWO};
+use super::slices::Slice::{No, One, Two, TwoOne};
 use crate::rows::{Row, check};
 use someip_tp::ReassemblyKey;
 use someip_wire::{MessageType, ReturnCode};
@@ -49,32 +49,28 @@ fn endpoint(last: u8, port: u16) -> SocketAddrV4 {
     SocketAddrV4::new(Ipv4Addr::new(192, 168, 0, last), port)
 }
 
-/// The bytes of the second message, and of the first.
-const TWO_ONE: &[u8] = b"\x22\x22\x22\x22\x22\x22\x22\x22\x22\x22\x22\x22\x22\x22\x22\x22\
-                         \x11\x11\x11\x11\x11\x11\x11\x11\x11\x11\x11\x11\x11\x11\x11\x11";
-
 /// Each key has a message of its own.
 const TWO_SLOTS: Run = Run {
     slots: 2,
     limit: 48,
     steps: &[
-        (More(1, 0, ONE, 0), PART),
-        (More(2, 0, TWO, 0), PART),
-        (Last(2, 16, NO, 0), WHOLE),
+        (More(1, 0, One, 0), PART),
+        (More(2, 0, Two, 0), PART),
+        (Last(2, 16, No, 0), WHOLE),
         (Take(1), NONE_TAKEN),
         (Take(2), TAKEN),
-        (Last(1, 16, NO, 0), WHOLE),
+        (Last(1, 16, No, 0), WHOLE),
         (Take(1), TAKEN),
     ],
-    bytes: TWO_ONE,
+    bytes: TwoOne,
 };
 
 /// Each takes a slot of its own.
 const ONE_SLOT: Run = Run {
     slots: 1,
     limit: 48,
-    steps: &[(More(1, 0, ONE, 0), PART), (More(2, 0, TWO, 0), NO_SLOT)],
-    bytes: NO,
+    steps: &[(More(1, 0, One, 0), PART), (More(2, 0, Two, 0), NO_SLOT)],
+    bytes: No,
 };
 
 impl Row for Field {

@@ -30,10 +30,16 @@ fn changed_second(alloc: Global, payload: &[u8]) -> Result<Vec<u8>, AllocError> 
 impl Row for Long {
     fn is_right(&self, alloc: Global) -> Option<bool> {
         let payload = payload_of(alloc, self.len).ok()?;
-        let changed = changed_second(alloc, &payload).ok()?;
+        self.is_right_of(alloc, &payload)
+    }
+}
+
+impl Long {
+    fn is_right_of(&self, alloc: Global, payload: &[u8]) -> Option<bool> {
+        let changed = changed_second(alloc, payload).ok()?;
         let source = Source {
             second: key(2),
-            payload: &payload,
+            payload,
             changed: &changed,
         };
         let taken = payload.get(..self.taken)?;
@@ -129,9 +135,8 @@ const TWO_SEGMENTS: &[Long] = &[
 
 const MIB: usize = 1_048_576;
 
-/// The offers of the segments of a payload, the last one first, and then its message is taken.
-fn backwards(alloc: Global, payload: &[u8]) -> Result<Vec<TpCall<'_>>, AllocError> {
-    let mut calls = Vec::new(alloc);
+/// Adds the offers of the segments of a payload.
+fn add_offers<'a>(calls: &mut Vec<TpCall<'a>>, payload: &'a [u8]) -> Result<(), AllocError> {
     let message = Message {
         header: HEADER,
         payload,
@@ -141,6 +146,13 @@ fn backwards(alloc: Global, payload: &[u8]) -> Result<Vec<TpCall<'_>>, AllocErro
             calls.push(offer(key(1), segment.offset, segment.more, segment.slice, 0))?;
         }
     }
+    Ok(())
+}
+
+/// The offers of the segments of a payload, the last one first, and then its message is taken.
+fn backwards(alloc: Global, payload: &[u8]) -> Result<Vec<TpCall<'_>>, AllocError> {
+    let mut calls = Vec::new(alloc);
+    add_offers(&mut calls, payload)?;
     calls.reverse();
     calls.push(TpCall::Take { key: key(1) })?;
     Ok(calls)
@@ -182,13 +194,18 @@ fn every_other(number: u16) -> usize {
     32 * usize::from(place) + 16 * usize::from(turn)
 }
 
-/// The offers of the 4096 slices of 16 bytes, those at every other place first, and then the message is
-/// taken.
-fn every_other_first(alloc: Global, payload: &[u8]) -> Option<Vec<TpCall<'_>>> {
-    let mut calls = Vec::new(alloc);
+/// Adds the offers of the 4096 slices of 16 bytes, those at every other place first.
+fn add_slices<'a>(calls: &mut Vec<TpCall<'a>>, payload: &'a [u8]) -> Option<()> {
     for number in 0..4096u16 {
         calls.push(sixteen(payload, every_other(number))?).ok()?;
     }
+    Some(())
+}
+
+/// The offers of these slices, and then the message is taken.
+fn every_other_first(alloc: Global, payload: &[u8]) -> Option<Vec<TpCall<'_>>> {
+    let mut calls = Vec::new(alloc);
+    add_slices(&mut calls, payload)?;
     calls.push(TpCall::Take { key: key(1) }).ok()?;
     Some(calls)
 }
@@ -199,12 +216,23 @@ fn is_whole_by_every_other(alloc: Global) -> Option<bool> {
     is_whole(alloc, &calls, 4095, &payload)
 }
 
+/// Tables by their names.
+const TABLES: &[(&str, &[Long])] = &[
+    ("ANOTHER_ORDER", ANOTHER_ORDER),
+    ("CHANGED", CHANGED),
+    ("ONE_SLOT", ONE_SLOT),
+    ("TWO_SEGMENTS", TWO_SEGMENTS),
+];
+
 #[test]
 fn long_messages(rt: HostRuntime) {
-    check(&rt, rt.alloc(), "ANOTHER_ORDER", ANOTHER_ORDER);
-    check(&rt, rt.alloc(), "CHANGED", CHANGED);
-    check(&rt, rt.alloc(), "ONE_SLOT", ONE_SLOT);
-    check(&rt, rt.alloc(), "TWO_SEGMENTS", TWO_SEGMENTS);
+    for (name, rows) in TABLES {
+        check(&rt, rt.alloc(), name, rows);
+    }
+}
+
+#[test]
+fn longest_messages(rt: HostRuntime) {
     assert!(rt; is_mebibyte_whole(rt.alloc()) == Some(true));
     assert!(rt; is_whole_by_every_other(rt.alloc()) == Some(true));
 }

@@ -1,6 +1,6 @@
 //! Calls of both bodies of a store, each beside the answer that it must give.
 use super::call::{Run, Source, Step, key};
-use super::rows::{ONE, OVERLAPS, REFUSALS, TIMES, TOTALS, TWO};
+use super::rows::{OVERLAPS, REFUSALS, TIMES, TOTALS};
 use crate::rows::{Row, check};
 use someip_tp::{
     IntervalPool, Offered, Reassembly, ReassemblyKey, SegmentList, TpAnswer, TpCall, TpError,
@@ -57,12 +57,18 @@ pub fn is_answered(
     Some(list && pool)
 }
 
-/// The calls of these steps.
-fn calls_of<'a>(alloc: Global, steps: &[Step], source: Source<'a>) -> Option<Vec<TpCall<'a>>> {
-    let mut calls = Vec::new(alloc);
+/// Adds the calls of these steps.
+fn add_calls<'a>(calls: &mut Vec<TpCall<'a>>, steps: &[Step], source: Source<'a>) -> Option<()> {
     for (call, _) in steps {
         calls.push(source.call(*call)?).ok()?;
     }
+    Some(())
+}
+
+/// The calls of these steps.
+fn calls_of<'a>(alloc: Global, steps: &[Step], source: Source<'a>) -> Option<Vec<TpCall<'a>>> {
+    let mut calls = Vec::new(alloc);
+    add_calls(&mut calls, steps, source)?;
     Some(calls)
 }
 
@@ -98,7 +104,12 @@ impl Run {
             changed: &[],
         };
         agrees(
-            alloc, self.slots, self.limit, self.steps, source, self.bytes,
+            alloc,
+            self.slots,
+            self.limit,
+            self.steps,
+            source,
+            self.bytes.bytes(),
         )
     }
 }
@@ -110,10 +121,22 @@ impl Row for Run {
 }
 
 #[test]
-fn calls_and_answers(rt: HostRuntime) {
+fn totals(rt: HostRuntime) {
     check(&rt, rt.alloc(), "TOTALS", TOTALS);
+}
+
+#[test]
+fn overlaps(rt: HostRuntime) {
     check(&rt, rt.alloc(), "OVERLAPS", OVERLAPS);
+}
+
+#[test]
+fn refusals(rt: HostRuntime) {
     check(&rt, rt.alloc(), "REFUSALS", REFUSALS);
+}
+
+#[test]
+fn times(rt: HostRuntime) {
     check(&rt, rt.alloc(), "TIMES", TIMES);
 }
 
@@ -124,8 +147,8 @@ fn call_directly<R: Reassembly>(
     bytes: &mut Vec<u8>,
 ) -> Result<([Result<Offered, TpError>; 2], bool), TpError> {
     let mut store = R::make(alloc, 1, 48, TIMEOUT)?;
-    let first = store.offer(key(1), 0, true, ONE, 0);
-    let second = store.offer(key(1), 16, false, TWO, 999);
+    let first = store.offer(key(1), 0, true, &[0x11; 16], 0);
+    let second = store.offer(key(1), 16, false, &[0x22; 16], 999);
     store.expire(999);
     let taken = store.take(&key(1), bytes)?;
     store.clear();

@@ -1,19 +1,8 @@
 //! The texts of errors.
-use crate::rows::{Row, check, is_printed};
+use crate::rows::{Printed, check};
 use someip_tp::TpError;
-use std::alloc::Global;
 
-/// An error and its text.
-struct Printed(TpError, &'static str);
-
-impl Row for Printed {
-    fn is_right(&self, alloc: Global) -> Option<bool> {
-        let Printed(error, text) = self;
-        is_printed(alloc, error, text)
-    }
-}
-
-const PRINTED: &[Printed] = &[
+const PRINTED: &[Printed<TpError>] = &[
     Printed(TpError::Unaligned, "Unaligned"),
     Printed(TpError::TooLong, "TooLong"),
     Printed(TpError::Conflict, "Conflict"),
