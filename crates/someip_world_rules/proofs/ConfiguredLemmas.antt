@@ -25,10 +25,12 @@ use Rattle.someip_node_rules.proofs.MemberLemmas.{all_both, all_map, at_member}
 use Rattle.someip_world_schedule.specs.declared.step.Step.{Step}
 use Rattle.someip_world_setup.specs.declared.setup_node.SetupNode.{SetupNode}
 use Rattle.someip_world_rules.specs.Announced.{FitsStep, IsAsConfigured, IsConfigured}
+use Rattle.someip_world_rules.specs.Liars.{HasNoLiars, IsHonest}
 use Rattle.someip_world_rules.specs.Runs.{World}
 use Rattle.someip_world_rules.specs.Turns.{LeadTo}
 use Rattle.someip_world_rules.proofs.AnnouncedLemmas.{entry_read, undiscovered}
 use Rattle.someip_world_rules.proofs.FitRunLemmas.{all_given_fits, pieces_undiscovered}
+use Rattle.someip_world_rules.proofs.InjectionLemmas.{all_honest, sent_by_node}
 use Rattle.someip_world_rules.proofs.KnownOfferLemmas.{was_offered}
 use Rattle.someip_world_rules.proofs.OfferLemmas.{announced_own}
 use Rattle.someip_world_rules.proofs.OriginLemmas.{turn_configured}
@@ -68,13 +70,15 @@ module _ (p : Packet) (head : ServiceEntry) (endpoint : SocketAddrV4) (stands : 
 module _ (nodes : List SetupNode) (configs : List Config) (steps : List Step) (w : World) (led : LeadTo nodes configs steps w)
     (fit : AllByRecursion FitsConfig configs) (all : AllByRecursion FitsStep steps) where
   pub as_configured : (place : ℕ) (h : History) (instance : InstanceId) (lasting : Lasting KnownOffer) → slice_get w.histories place ≡ Some h
-      → known_offer_at h.items instance ≡ Some lasting → IsAsConfigured configs h instance lasting.value.endpoint
-  as_configured place h instance lasting here known =
+      → known_offer_at h.items instance ≡ Some lasting → IsHonest nodes configs lasting.value.peer
+      → IsAsConfigured configs h instance lasting.value.endpoint
+  as_configured place h instance lasting here known honest =
       let offer = was_offered nodes configs steps (length steps) w (omega arith) (whole_leads nodes configs steps w led) place h here instance lasting known in
-      let does = offer.sends.does in
+      let sends = sent_by_node nodes configs steps offer.sent (record { from = offer.packet.from; to = offer.packet.to; bytes = offer.packet.bytes }) offer.goes (subst (IsHonest nodes configs) offer.peer honest) in
+      let does = sends.does in
       let t = does.turn in
-      let given = all_given_fits nodes configs fit steps all offer.sent does.step t does.input offer.sends.given does.takes offer.sends.by in
-      let own = by_given offer.packet offer.head lasting.value.endpoint offer.stands offer.offers t.history does.input offer.sends.given offer.sends.by given offer.sends.among in
+      let given = all_given_fits nodes configs fit steps all offer.sent does.step t does.input sends.given does.takes sends.by in
+      let own = by_given offer.packet offer.head lasting.value.endpoint offer.stands offer.offers t.history does.input sends.given sends.by given sends.among in
       record {
         major = offer.head.major;
         wanted = offer.wanted;
@@ -85,3 +89,7 @@ module _ (nodes : List SetupNode) (configs : List Config) (steps : List Step) (w
           configured = subst (λ q. IsConfigured t.history.config q offer.head.major (Some lasting.value.endpoint)) (sym offer.named) own;
         };
       }
+
+  pub configured_without_liars : HasNoLiars nodes → (place : ℕ) (h : History) (instance : InstanceId) (lasting : Lasting KnownOffer) → slice_get w.histories place ≡ Some h
+      → known_offer_at h.items instance ≡ Some lasting → IsAsConfigured configs h instance lasting.value.endpoint
+  configured_without_liars none place h instance lasting here known = as_configured place h instance lasting here known (all_honest nodes configs none lasting.value.peer)

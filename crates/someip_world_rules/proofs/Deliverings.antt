@@ -13,7 +13,9 @@ use Rattle.someip_world_rules.specs.declared.line.Line.{Line}
 use Rattle.someip_world_rules.specs.declared.step_fault.StepFault.{StepFault}
 use Rattle.someip_world_rules.specs.declared.step_fault.StepFault.TheVariants.{BadDelay, ClockPast, NotAddressed, PayloadTooLong}
 use Rattle.someip_world_rules.specs.Datagrams.{SentDatagram, datagram_at, datagram_in, datagrams_in}
-use Rattle.someip_world_rules.specs.Deeds.{Takes, Restarts, deed_of, delivery, is_addressed}
+use Rattle.someip_world_rules.specs.Deeds.{Takes, Restarts, deed_at, deed_of, delivery, is_addressed}
+use Rattle.someip_world_rules.specs.Liars.{is_liar_at}
+use Rattle.someip_world_rules.proofs.LiarLemmas.{taken_at}
 use Rattle.someip_world_rules.specs.Runs.{place_of}
 use Rattle.someip_world_rules.specs.Turns.{Turn}
 use Rattle.someip_world_rules.specs.Origins.{WasSent}
@@ -85,18 +87,23 @@ module _ (nodes : List SetupNode) (configs : List Config) (ss : List Step) (n : 
         addressed = ap (is_addressed t.history.config) (sym same) ∙ both.0;
       }
 
+  -- what the step says that the node takes
+  due : (s : Step) (t : Turn nodes configs ss n s) → t.deed ≡ Takes Came → deed_of t.history t.before.lines s ≡ Ok (Takes Came)
+  due s t is = (taken_at nodes configs ss n s t Came is).1
+
   pub delivered_in : (s : Step) (t : Turn nodes configs ss n s) → t.deed ≡ Takes Came → DeliveredIn s t
-  delivered_in (steps.Deliver number node) t is = by_datagram number node t (datagram_at t.before.lines number) refl (t.due ∙ ap Ok is)
-  delivered_in (steps.Tick node ms) t is = let e = if_taken _ (inputs.Tick ms) Came ClockPast (t.due ∙ ap Ok is) in absurd cc
-  delivered_in (steps.Call node kind instance method payload) t is = let e = if_taken _ (inputs.Call kind instance method payload) Came PayloadTooLong (t.due ∙ ap Ok is) in absurd cc
-  delivered_in (steps.Answer node token reply payload) t is = let e = if_taken _ (inputs.Answer token reply payload) Came PayloadTooLong (t.due ∙ ap Ok is) in absurd cc
-  delivered_in (steps.Publish node instance event payload) t is = let e = if_taken _ (inputs.Publish instance event payload) Came PayloadTooLong (t.due ∙ ap Ok is) in absurd cc
+  delivered_in (steps.Deliver number node) t is = by_datagram number node t (datagram_at t.before.lines number) refl (due (steps.Deliver number node) t is)
+  delivered_in (steps.Tick node ms) t is = let e = if_taken _ (inputs.Tick ms) Came ClockPast (due (steps.Tick node ms) t is) in absurd cc
+  delivered_in (steps.Call node kind instance method payload) t is = let e = if_taken _ (inputs.Call kind instance method payload) Came PayloadTooLong (due (steps.Call node kind instance method payload) t is) in absurd cc
+  delivered_in (steps.Answer node token reply payload) t is = let e = if_taken _ (inputs.Answer token reply payload) Came PayloadTooLong (due (steps.Answer node token reply payload) t is) in absurd cc
+  delivered_in (steps.Publish node instance event payload) t is = let e = if_taken _ (inputs.Publish instance event payload) Came PayloadTooLong (due (steps.Publish node instance event payload) t is) in absurd cc
   delivered_in (steps.PublishTo node group to event payload) t is =
-      let e = if_taken _ (inputs.PublishTo group.instance group.id to event payload) Came PayloadTooLong (t.due ∙ ap Ok is) in absurd cc
-  delivered_in (steps.Subscribe node group) t is = let e = t.due ∙ ap Ok is in absurd cc
-  delivered_in (steps.Unsubscribe node group) t is = let e = t.due ∙ ap Ok is in absurd cc
-  delivered_in (steps.StopOffer node instance) t is = let e = t.due ∙ ap Ok is in absurd cc
-  delivered_in (steps.Restart node delay) t is = absurd (if_restarted _ delay Came BadDelay (t.due ∙ ap Ok is))
+      let e = if_taken _ (inputs.PublishTo group.instance group.id to event payload) Came PayloadTooLong (due (steps.PublishTo node group to event payload) t is) in absurd cc
+  delivered_in (steps.Subscribe node group) t is = let e = due (steps.Subscribe node group) t is in absurd cc
+  delivered_in (steps.Unsubscribe node group) t is = let e = due (steps.Unsubscribe node group) t is in absurd cc
+  delivered_in (steps.StopOffer node instance) t is = let e = due (steps.StopOffer node instance) t is in absurd cc
+  delivered_in (steps.Restart node delay) t is = absurd (if_restarted _ delay Came BadDelay (due (steps.Restart node delay) t is))
+  delivered_in (steps.Inject node port to payload) t is = let e = due (steps.Inject node port to payload) t is in absurd cc
 
 -- ---- there is one turn at a place of the schedule
 
@@ -121,6 +128,6 @@ module _ (nodes : List SetupNode) (configs : List Config) (ss : List Step) (n : 
       let place : t.place ≡ u.place = cc in
       let histories : Some t.history ≡ Some u.history = sym t.stands ∙ (λ i. slice_get (before i).histories (place i)) ∙ u.stands in
       let history : t.history ≡ u.history = cc in
-      let deeds : Ok t.deed ≡ Ok u.deed = sym t.due ∙ (λ i. deed_of (history i) (before i).lines (step i)) ∙ u.due in
+      let deeds : Ok t.deed ≡ Ok u.deed = sym t.due ∙ (λ i. deed_at (is_liar_at nodes (place i)) (history i) (before i).lines (step i)) ∙ u.due in
       let deed : t.deed ≡ u.deed = cc in
       record { step = step; before = before; place = place; history = history; deed = deed }

@@ -10,7 +10,7 @@ use Rattle.someip_wire.specs.declared.header.Header.{Header}
 use Rattle.someip_wire.specs.declared.header.MessageType.{MessageType}
 use Rattle.someip_wire.specs.declared.header.MessageType.TheVariants as kinds
 use Rattle.someip_wire.specs.Kinds.{with_tp_flag}
-use Rattle.someip_wire.specs.Spelling.{Fits, MessageValue, spelling}
+use Rattle.someip_wire.specs.Spelling.{Fits, IsBytes, MessageValue, spelling}
 use Rattle.someip_tp.specs.Segments.{segment_header, segments_within}
 use Rattle.someip_tp.specs.Sent.{Alone, InSegment, is_long, piece_message, segments_of, sent}
 use Rattle.someip_tp.proofs.SentLemmas.{all_fit}
@@ -39,6 +39,7 @@ use Rattle.someip_node_rules.specs.Plans.{Work}
 use Rattle.someip_node_rules.specs.Steps.{step, given_in}
 use Rattle.someip_node_rules.specs.Trails.{given_by, trail_of}
 use Rattle.someip_node_laws.proofs.FitPlans.{done_fits, given_fits}
+use Rattle.someip_node_laws.proofs.FitPackets.{bytes_fit}
 use Rattle.someip_node_laws.proofs.FitRules.{no_notification}
 use Rattle.someip_node_rules.proofs.MeaningLemmas.{all_given, outputs_written}
 use Rattle.someip_node_rules.proofs.MemberLemmas.{all_append, all_both, all_flat_map, all_map, all_take, all_weaker, at_member}
@@ -50,11 +51,13 @@ use Rattle.someip_world_rules.specs.declared.line.Line.{Line}
 use Rattle.someip_world_rules.specs.declared.step_fault.StepFault.{StepFault}
 use Rattle.someip_world_rules.specs.declared.step_fault.StepFault.TheVariants.{BadDelay, ClockPast, NotAddressed, PayloadTooLong}
 use Rattle.someip_world_rules.specs.Datagrams.{SentDatagram, datagram_at, datagram_in, datagrams_in, sent_with}
-use Rattle.someip_world_rules.specs.Deeds.{Deed, Takes, Restarts, deed_of, delivery, done_with, is_addressed}
+use Rattle.someip_world_rules.specs.Deeds.{Deed, Takes, Restarts, Injects, deed_at, deed_of, delivery, done_with, is_addressed}
+use Rattle.someip_world_rules.specs.Liars.{is_liar_at}
 use Rattle.someip_world_rules.specs.Runs.{AreCopies, World, history_after, told_lines, started_nodes, world_after}
 use Rattle.someip_world_rules.specs.Turns.{LeadTo, Turn}
 use Rattle.someip_world_rules.proofs.AnnouncedLemmas.{announced_fits, only_message, undiscovered, value_read}
 use Rattle.someip_world_rules.proofs.Fronts.{all_got, on_the_way, whole_leads}
+use Rattle.someip_world_rules.proofs.LiarLemmas.{LiarSends, liar_sends}
 use Rattle.someip_world_rules.proofs.Sendings.{sends}
 
 -- ---- the pieces of a message that is none of Service Discovery
@@ -158,6 +161,7 @@ module _ (h : History) (input : Input) where
 abbrev pub FitsDeed : Deed → Type 0
 FitsDeed (Takes input) = FitsInput input
 FitsDeed (Restarts delay) = Unit {0}
+FitsDeed (Injects from to bytes) = FitsSent (record { from = from; to = to; bytes = bytes })
 
 -- what is done unless a test holds
 unless : (b : Bool) (fault : StepFault) (input : Input) (deed : Deed) → (b ≡ false → FitsInput input) → (if b then Err fault else Ok (Takes input)) ≡ Ok deed → FitsDeed deed
@@ -197,6 +201,17 @@ module _ (h : History) (lines : List Line) (own : FitsHistory h) (came : AllByRe
   deed_fits (steps.Unsubscribe node group) fits deed is = let same : Takes (inputs.Unsubscribe group) ≡ deed = cc in subst FitsDeed same fits
   deed_fits (steps.StopOffer node instance) fits deed is = let same : Takes (inputs.StopOffer instance) ≡ deed = cc in subst FitsDeed same tt
   deed_fits (steps.Restart node delay) fits deed is = restarted_fits _ delay deed is
+  deed_fits (steps.Inject node port to payload) fits deed is = absurd cc
+
+  -- what a liar sends fits as it comes: it is bytes
+  lying_fits : (s : Step) → FitsStep s → (deed : Deed) → LiarSends h.config.address s deed → FitsDeed deed
+  lying_fits s fits deed sends =
+      let bytes : IsBytes sends.bytes = subst FitsStep sends.says fits in
+      subst FitsDeed (sym sends.is) (bytes_fit (record { from = record { ip = h.config.address; port = sends.port }; to = sends.to; bytes = sends.bytes }) bytes)
+
+  deed_at_fits : (liar : Bool) (s : Step) → FitsStep s → (deed : Deed) → deed_at liar h lines s ≡ Ok deed → FitsDeed deed
+  deed_at_fits true s fits deed is = lying_fits s fits deed (liar_sends h.config.address s deed is)
+  deed_at_fits false s fits deed is = deed_fits s fits deed is
 
 -- ---- a run
 
@@ -232,11 +247,12 @@ module _ (nodes : List SetupNode) (configs : List Config) (ss : List Step) (i : 
         × AllByRecursion FitsSent (datagrams_in (told_lines (i + 1) t.place (given_in (done_with t.history deed))))
     by_deed (Takes input) fits = by_step input fits (step t.history input) refl
     by_deed (Restarts delay) fits = ((own.0, tt), tt)
+    by_deed (Injects from to bytes) fits = (own, (fits, tt))
 
   turn_keeps : FitsStep s → FitsWorld t.before → FitsWorld (world_after (i + 1) t.place t.before t.history (done_with t.history t.deed))
   turn_keeps fits was =
       let own = all_got FitsHistory t.before.histories t.place t.history was.0 t.stands in
-      let deed = deed_fits t.history t.before.lines own was.1 s fits t.deed t.due in
+      let deed = deed_at_fits t.history t.before.lines own was.1 (is_liar_at nodes t.place) s fits t.deed t.due in
       let news = by_deed own t.deed deed in (
         all_set FitsHistory t.before.histories t.place (history_after t.history (done_with t.history t.deed)) was.0 news.0,
         subst (AllByRecursion FitsSent) (sym (filter_map-append datagram_in t.before.lines (told_lines (i + 1) t.place (given_in (done_with t.history t.deed)))))
@@ -254,7 +270,7 @@ module _ (nodes : List SetupNode) (configs : List Config) (fits : AllByRecursion
   turn_fits ss all i s t input is =
       let was = world_fits (take i ss) (all_take FitsStep i ss all) t.before t.led in
       let own = all_got FitsHistory t.before.histories t.place t.history was.0 t.stands in
-      (own, subst FitsDeed is (deed_fits t.history t.before.lines own was.1 s (all_got FitsStep ss i s all t.here) t.deed t.due))
+      (own, subst FitsDeed is (deed_at_fits t.history t.before.lines own was.1 (is_liar_at nodes t.place) s (all_got FitsStep ss i s all t.here) t.deed t.due))
 
   pub all_given_fits : (ss : List Step) → AllByRecursion FitsStep ss → AllFits nodes configs ss
   all_given_fits ss all i s t input given is by =

@@ -51,6 +51,11 @@ get_set_same [] k x y is = absurd cc
 get_set_same (z ∷ xs) zero x y is = cc
 get_set_same (z ∷ xs) (suc k) x y is = get_set_same xs k x y is
 
+pub get_set_there : {X : Type 0} (xs : List X) (k : ℕ) (x y : X) → slice_get xs k ≡ Some y → slice_get (slice_set xs k x) k ≡ Some x
+get_set_there [] k x y is = absurd cc
+get_set_there (z ∷ xs) zero x y is = refl
+get_set_there (z ∷ xs) (suc k) x y is = get_set_there xs k x y is
+
 pub get_set_other : {X : Type 0} (xs : List X) (k j : ℕ) (x : X) → j ≢ k → slice_get (slice_set xs k x) j ≡ slice_get xs j
 get_set_other [] k j x ne = refl
 get_set_other (z ∷ xs) zero zero x ne = absurd (ne refl)

@@ -5,6 +5,7 @@ use Rattle.std.specs.List.{AllByRecursion}
 use Rattle.std.specs.Option.{option_map_or}
 use Rattle.std.specs.Ordering.{eq_by_cmp}
 use Rattle.std.specs.FinMap as finite
+use Rattle.std.specs.Net.Socket.{v4_ip}
 use Rattle.std.specs.declared.net.socket_addr.SocketAddrV4.{SocketAddrV4}
 use Rattle.std.proofs.lemmas.Bool.{eqb-true}
 use Rattle.someip_tables.specs.declared.lasting.Lasting.{Lasting}
@@ -55,15 +56,15 @@ still_kept p (Some x) v is = cases (p x) is
     cases false e = absurd cc
 
 module _ (P : Item → Type 0) (q : InstanceId) (lasting : Lasting KnownOffer) where
-  -- an Offer of the instance with its endpoint counted
+  -- an Offer of the instance from its peer, with its endpoint, counted
   abbrev Counts : Type 0
-  Counts = (offer : ReceivedOffer) × (q ≡ offer.instance) × P (items.OfferCounted offer lasting.value.endpoint)
+  Counts = (offer : ReceivedOffer) × (q ≡ offer.instance) × (lasting.value.peer ≡ offer.peer) × P (items.OfferCounted offer lasting.value.endpoint)
 
   by_offer : (offer : ReceivedOffer) (endpoint : SocketAddrV4) (now : ℕ) (stood : Option (Lasting KnownOffer)) → P (items.OfferCounted offer endpoint) → (stood ≡ Some lasting → Counts)
       → (b : Bool) → eq_by_cmp instance_cmp q offer.instance ≡ b → (if b then Some (offer_from offer endpoint now) else stood) ≡ Some lasting → Counts
   by_offer offer endpoint now stood here rest true same is =
       let one : offer_from offer endpoint now ≡ lasting = cc in
-      (offer, same_by_test exact_instances q offer.instance same, subst (λ l. P (items.OfferCounted offer l.value.endpoint)) one here)
+      (offer, same_by_test exact_instances q offer.instance same, ap (λ l. l.value.peer) (sym one), subst (λ l. P (items.OfferCounted offer l.value.endpoint)) one here)
   by_offer offer endpoint now stood here rest false same is = rest is
 
   unless_gone : (b : Bool) (stood : Option (Lasting KnownOffer)) → (stood ≡ Some lasting → Counts) → (if b then None else stood) ≡ Some lasting → Counts
@@ -117,9 +118,9 @@ module _ (nodes : List SetupNode) (configs : List Config) (ss : List Step) (n : 
   origins : HasOrigins nodes configs ss n place h
   origins = all_origins nodes configs ss n w le led place h here
 
-  counted_so : (endpoint : SocketAddrV4) (o : ReceivedOffer) → instance ≡ o.instance → WasMet nodes configs ss n place (items.OfferCounted o endpoint)
-      → WasOffered nodes configs ss n place h instance endpoint
-  counted_so endpoint o named was =
+  counted_so : (known : KnownOffer) (o : ReceivedOffer) → instance ≡ o.instance → known.peer ≡ o.peer → WasMet nodes configs ss n place (items.OfferCounted o known.endpoint)
+      → WasOffered nodes configs ss n place h instance known
+  counted_so known o named peer was =
       let by = was.by in
       let does = was.does in
       let at : History = by.done.before.state in
@@ -147,7 +148,8 @@ module _ (nodes : List SetupNode) (configs : List Config) (ss : List Step) (n : 
         sent = delivered.sent;
         earlier = sent.0;
         delivers = delivered.delivers;
-        sends = sent.1;
+        goes = sent.1;
+        peer = peer ∙ ap (λ x. x.peer) is;
         head = entry.0;
         offers = entry.1;
         stands = subst (HasServiceEntry p entry.0) by.holds.2 entry.2;
@@ -155,7 +157,7 @@ module _ (nodes : List SetupNode) (configs : List Config) (ss : List Step) (n : 
         wanted = (λ j. finite.get (majors_of ((now_config ∙ sym at_config) j)) (named j)) ∙ version ∙ ap (λ x. Some x.major) is;
       }
 
-  pub was_offered : (lasting : Lasting KnownOffer) → known_offer_at h.items instance ≡ Some lasting → WasOffered nodes configs ss n place h instance lasting.value.endpoint
+  pub was_offered : (lasting : Lasting KnownOffer) → known_offer_at h.items instance ≡ Some lasting → WasOffered nodes configs ss n place h instance lasting.value
   was_offered lasting known =
       let counted = known_counted (WasMet nodes configs ss n place) instance lasting h.items origins.met known in
-      counted_so lasting.value.endpoint counted.0 counted.1 counted.2
+      counted_so lasting.value counted.0 counted.1 counted.2 counted.3

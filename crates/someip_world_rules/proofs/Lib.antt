@@ -1,9 +1,11 @@
+pub mod LiarLemmas
 pub mod TurnLemmas
 pub mod Fronts
 pub mod Sendings
 pub mod Deliverings
 pub mod Lives
 pub mod OriginLemmas
+pub mod InjectionLemmas
 pub mod KnownOfferLemmas
 pub mod RunExampleLemmas
 pub mod AnnouncedLemmas

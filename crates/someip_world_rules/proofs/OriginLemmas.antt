@@ -16,7 +16,7 @@ use Rattle.someip_node_rules.proofs.MemberLemmas.{all_weaker}
 use Rattle.someip_node_rules.proofs.StepRules.{config_kept}
 use Rattle.someip_world_schedule.specs.declared.step.Step.{Step}
 use Rattle.someip_world_setup.specs.declared.setup_node.SetupNode.{SetupNode}
-use Rattle.someip_world_rules.specs.Deeds.{Deed, Takes, Restarts, done_with}
+use Rattle.someip_world_rules.specs.Deeds.{Deed, Takes, Restarts, Injects, done_with}
 use Rattle.someip_world_rules.specs.Deliveries.{Restarted}
 use Rattle.someip_world_rules.specs.Origins.{HasOrigins, WasMet}
 use Rattle.someip_world_rules.specs.Runs.{World, history_after, started_nodes, world_after, world_of}
@@ -89,6 +89,7 @@ module _ (nodes : List SetupNode) (configs : List Config) (steps : List Step) wh
     met_by_deed : (deed : Deed) → t.deed ≡ deed → HasOrigins nodes configs steps (suc i) t.place (history_after t.history (done_with t.history deed))
     met_by_deed (Takes input) is = met_here input is (step t.history input) refl
     met_by_deed (Restarts delay) is = record { configured = old.configured; met = tt }
+    met_by_deed (Injects from to bytes) is = origins_on i t.place (not_restarted nodes configs steps i t.place s t (λ at delay restarts. absurd cc)) t.history old
 
   -- all nodes have their origins
   abbrev AllHave : ℕ → World → Type 0

@@ -1,5 +1,5 @@
 -- Each datagram was sent by the step whose lines tell of it.
-use Rattle.std.proofs.Common.{◌≡◌, ℕ, zero, suc, ◌+◌, ◌<◌, ◌≤◌, List, [], ◌∷◌, length, arith, take, Option, None, Some, Result, Ok, Err, refl, sym, ap, subst}
+use Rattle.std.proofs.Common.{◌≡◌, inl, inr, ℕ, zero, suc, ◌+◌, ◌<◌, ◌≤◌, List, [], ◌∷◌, length, arith, take, Option, None, Some, Result, Ok, Err, refl, sym, ap, subst}
 use Rattle.std.specs.List.{AllByRecursion, Contains, cons_option}
 use Rattle.std.specs.Option.{option_map}
 use Rattle.std.proofs.lemmas.List.Elements.{filter_map-append}
@@ -19,12 +19,12 @@ use Rattle.someip_node_rules.proofs.MemberLemmas.{all_append, all_both, all_flat
 use Rattle.someip_world_schedule.specs.declared.step.Step.{Step}
 use Rattle.someip_world_setup.specs.declared.setup_node.SetupNode.{SetupNode}
 use Rattle.someip_world_rules.specs.Datagrams.{SentDatagram, sent_with}
-use Rattle.someip_world_rules.specs.Deeds.{Deed, Takes, Restarts, done_with}
+use Rattle.someip_world_rules.specs.Deeds.{Deed, Takes, Restarts, Injects, done_with}
 use Rattle.someip_world_rules.specs.Runs.{World, told_lines, world_after}
 use Rattle.someip_world_rules.specs.Turns.{LeadTo, Turn}
 use Rattle.someip_world_rules.specs.declared.line.Line.{Line}
 use Rattle.someip_world_rules.specs.Origins.{WasSent}
-use Rattle.someip_world_rules.specs.Deliveries.{Dispatch, Sends, Delivers, dispatch_in, dispatch_at, dispatches_in}
+use Rattle.someip_world_rules.specs.Deliveries.{Dispatch, GoesOut, Sends, Delivers, dispatch_in, dispatch_at, dispatches_in}
 use Rattle.someip_world_rules.proofs.Fronts.{all_got, on_the_way, within}
 
 -- the output that sends a datagram
@@ -50,7 +50,7 @@ module _ (nodes : List SetupNode) (configs : List Config) (steps : List Step) wh
   Known n w = AllByRecursion (WasSent nodes configs steps n) (dispatches_in w.lines)
 
   longer : (n m : ℕ) → n ≤ m → (t : Dispatch) → WasSent nodes configs steps n t → WasSent nodes configs steps m t
-  longer n m le t was = let less = was.before in record { i = was.i; before = omega (arith, le, less); index = was.index; sends = was.sends }
+  longer n m le t was = let less = was.before in record { i = was.i; before = omega (arith, le, less); index = was.index; goes = was.goes }
 
   module _ (i : ℕ) (s : Step) (t : Turn nodes configs steps i s) where
     here : (input : Input) → t.deed ≡ Takes input → (due : Result (Work History) NodeError) → step t.history input ≡ due
@@ -65,13 +65,13 @@ module _ (nodes : List SetupNode) (configs : List Config) (steps : List Step) wh
           i = i;
           before = omega arith;
           index = refl;
-          sends = record {
+          goes = inl (record {
             does = record { step = s; turn = t; input = input; takes = is; done = done; happened = e };
             given = g;
             told = told;
             by = by;
             among = subst (Contains (written g)) (sends o d sent) among;
-          };
+          });
         })) (given_by (trail_of t.history input)) (all_given t.history input) (all_members (given_by (trail_of t.history input))))))
       where
         IsOne : Output → Type 0
@@ -80,6 +80,7 @@ module _ (nodes : List SetupNode) (configs : List Config) (steps : List Step) wh
     by_deed : (deed : Deed) → t.deed ≡ deed → AllByRecursion (WasSent nodes configs steps (suc i)) (dispatches_in (told_lines (i + 1) t.place (given_in (done_with t.history deed))))
     by_deed (Takes input) is = here input is (step t.history input) refl
     by_deed (Restarts delay) is = tt
+    by_deed (Injects from to bytes) is = (record { i = i; before = omega arith; index = refl; goes = inr (record { step = s; turn = t; injects = is }) }, tt)
 
     after : Known i t.before → Known (suc i) (world_after (i + 1) t.place t.before t.history (done_with t.history t.deed))
     after all =
@@ -96,7 +97,7 @@ module _ (nodes : List SetupNode) (configs : List Config) (steps : List Step) wh
   one_sent P lines (suc n) t all is = all_got P (dispatches_in lines) n t all is
 
   -- what a step delivers was sent by the step that it says, an earlier one
-  pub sent_before : (n sent : ℕ) (d : SentDatagram) → Delivers nodes configs steps n sent d → (sent < n) × Sends nodes configs steps sent d
+  pub sent_before : (n sent : ℕ) (d : SentDatagram) → Delivers nodes configs steps n sent d → (sent < n) × GoesOut nodes configs steps sent d
   sent_before n sent d del =
       let t = del.turn in
       let inside = within steps n _ t.here in
@@ -104,4 +105,4 @@ module _ (nodes : List SetupNode) (configs : List Config) (steps : List Step) wh
       let index = was.index in
       let less = was.before in
       let same : was.i ≡ sent = omega (arith, index) in
-      (omega (arith, same, less), subst (λ k. Sends nodes configs steps k d) same was.sends)
+      (omega (arith, same, less), subst (λ k. GoesOut nodes configs steps k d) same was.goes)

@@ -26,7 +26,9 @@ use Rattle.someip_world_rules.specs.declared.error.RunError.{RunError}
 use Rattle.someip_world_rules.specs.declared.line.Line.{Line}
 use Rattle.someip_world_rules.specs.declared.step_fault.StepFault.{StepFault}
 use Rattle.someip_world_rules.specs.declared.step_fault.StepFault.TheVariants.{PayloadTooLong}
-use Rattle.someip_world_rules.specs.Deeds.{Deed, Takes, deed_of, done_with, unless_long}
+use Rattle.someip_world_rules.specs.Deeds.{Deed, Takes, deed_at, done_with, unless_long}
+use Rattle.someip_world_rules.specs.Liars.{is_liar_at}
+use Rattle.someip_world_rules.proofs.LiarLemmas.{by_node}
 use Rattle.someip_world_rules.specs.Turns.{IsOfRun, LeadTo, TakesIt, ToldTurn, Turn, lines_at}
 use Rattle.someip_world_rules.specs.Runs.{ComesTo, World, happens, happens_at, happens_to, told_lines, place_of, run_from, run_of, then_on, run_lines, unless_bad, world_after, world_of}
 
@@ -38,22 +40,22 @@ pub record Happened (nodes : List SetupNode) (index : ℕ) (w : World) (s : Step
   pub history : History
   pub stands : slice_get w.histories place ≡ Some history
   pub deed : Deed
-  pub due : deed_of history w.lines s ≡ Ok deed
+  pub due : deed_at (is_liar_at nodes place) history w.lines s ≡ Ok deed
   pub is : next ≡ world_after index place w history (done_with history deed)
 
 module _ (nodes : List SetupNode) (index : ℕ) (w : World) (s : Step) (next : World) where
   by_deed : (place : ℕ) (h : History) (deed : Result Deed StepFault) → place_of nodes (node_of s) ≡ Some place → slice_get w.histories place ≡ Some h
-      → deed_of h w.lines s ≡ deed → unless_bad index place w h deed ≡ Ok next → Happened nodes index w s next
+      → deed_at (is_liar_at nodes place) h w.lines s ≡ deed → unless_bad index place w h deed ≡ Ok next → Happened nodes index w s next
   by_deed place h (Ok deed) named stands due is =
       record { place = place; named = named; history = h; stands = stands; deed = deed; due = due; is = cc }
   by_deed place h (Err fault) named stands due is = absurd cc
 
   by_history : (place : ℕ) (h : Option History) → place_of nodes (node_of s) ≡ Some place → slice_get w.histories place ≡ h
-      → happens_at index w s place h ≡ Ok next → Happened nodes index w s next
+      → happens_at (is_liar_at nodes place) index w s place h ≡ Ok next → Happened nodes index w s next
   by_history place None named stands is = absurd cc
-  by_history place (Some h) named stands is = by_deed place h (deed_of h w.lines s) named stands refl is
+  by_history place (Some h) named stands is = by_deed place h (deed_at (is_liar_at nodes place) h w.lines s) named stands refl is
 
-  by_place : (place : Option ℕ) → place_of nodes (node_of s) ≡ place → happens_to index w s place ≡ Ok next → Happened nodes index w s next
+  by_place : (place : Option ℕ) → place_of nodes (node_of s) ≡ place → happens_to nodes index w s place ≡ Ok next → Happened nodes index w s next
   by_place None named is = absurd cc
   by_place (Some place) named is = by_history place (slice_get w.histories place) named refl is
 
@@ -290,7 +292,8 @@ module _ (nodes : List SetupNode) (configs : List Config) (steps : List Step) (l
   published is here =
       let m = told_turn nodes configs steps lines i (Publish node instance event payload) is here in
       takes_it nodes configs steps lines i (Publish node instance event payload) (inputs.Publish instance event payload) (λ h done. IsPublished h instance event payload done) m
-      (if_not_long m.turn.history.config payload (inputs.Publish instance event payload) m.turn.deed m.turn.due)
+      (if_not_long m.turn.history.config payload (inputs.Publish instance event payload) m.turn.deed
+      (by_node m.turn.history m.turn.before.lines (Publish node instance event payload) (is_liar_at nodes m.turn.place) m.turn.deed refl m.turn.due))
       (λ h done e. is_published h instance event payload done e)
 
 module _ (nodes : List SetupNode) (configs : List Config) (steps : List Step) (lines : List Line) (i : ℕ) (node : List ℕ) (group : Eventgroup) (to : SocketAddrV4) (event : ℕ) (payload : List ℕ) where
@@ -301,7 +304,8 @@ module _ (nodes : List SetupNode) (configs : List Config) (steps : List Step) (l
       let m = told_turn nodes configs steps lines i (PublishTo node group to event payload) is here in
       takes_it nodes configs steps lines i (PublishTo node group to event payload) (inputs.PublishTo group.instance group.id to event payload)
       (λ h done. IsPublishedTo h group.instance group.id to event payload done) m
-      (if_not_long m.turn.history.config payload (inputs.PublishTo group.instance group.id to event payload) m.turn.deed m.turn.due)
+      (if_not_long m.turn.history.config payload (inputs.PublishTo group.instance group.id to event payload) m.turn.deed
+      (by_node m.turn.history m.turn.before.lines (PublishTo node group to event payload) (is_liar_at nodes m.turn.place) m.turn.deed refl m.turn.due))
       (λ h done e. is_published_to h group.instance group.id to event payload done e)
 
 -- ---- a trace in hand

@@ -1,9 +1,10 @@
 -- The trace of the worked run, step by step.
-use Rattle.std.proofs.Common.{◌≡◌, ℕ, ◌+◌, ◌++◌, List, [], ◌∷◌, drop, take, Some, Ok, Err, refl, ap, ◌∙◌}
+use Rattle.std.proofs.Common.{◌≡◌, ℕ, false, ◌+◌, ◌++◌, List, [], ◌∷◌, drop, take, Some, Ok, Err, refl, ap, ◌∙◌}
 use Rattle.someip_rpc.specs.declared.call.CallKind.TheVariants as kinds
 use Rattle.someip_rpc.specs.declared.request.Reply.TheVariants.{Response}
 use Rattle.someip_node_rules.specs.declared.config.Config.{Config}
 use Rattle.someip_node_rules.specs.declared.output.Output.{Output}
+use Rattle.someip_node_rules.specs.History.{start_of}
 use Rattle.someip_node_rules.specs.Inputs as input
 use Rattle.someip_node_rules.specs.Items.{Item}
 use Rattle.someip_node_rules.specs.declared.output.Output.TheVariants.{Accepted, Answered, Called, Event, Known, Request, Subscribed}
@@ -20,7 +21,7 @@ use Rattle.someip_world_setup.specs.declared.setup_node.SetupNode.{SetupNode}
 use Rattle.someip_world_rules.specs.declared.error.RunError.TheVariants.{BadStep}
 use Rattle.someip_world_rules.specs.declared.line.Line.{Line}
 use Rattle.someip_world_rules.specs.declared.step_fault.StepFault.TheVariants.{NoSuchDatagram}
-use Rattle.someip_world_rules.specs.Deeds.{Takes, deed_of}
+use Rattle.someip_world_rules.specs.Deeds.{Takes, deed_at, deed_of}
 use Rattle.someip_world_rules.specs.Runs.{World, happens, happens_to, told_lines, place_of, run_from, run_of, then_on, run_lines, unless_bad, world_after, world_of}
 use Rattle.someip_world_rules.specs.WorkedTrace.{AreNamed, a, b, schedule, trace}
 
@@ -48,8 +49,9 @@ module _ (first second : SetupNode) (own other : Config) (named : AreNamed first
       → deed_of (having_met own xs) lines s ≡ Ok (Takes i) → LeadsTo (having_met own xs) i outputs after
       → happens nodes index (world xs ys lines) s ≡ Ok (world after ys (lines ++ told_lines index 0 (Ok outputs)))
   at_first index s i xs ys after lines outputs at does leads =
-      ap (λ name. happens_to index (world xs ys lines) s (place_of nodes name)) at
-      ∙ ap (happens_to index (world xs ys lines) s) first_place
+      ap (λ name. happens_to nodes index (world xs ys lines) s (place_of nodes name)) at
+      ∙ ap (happens_to nodes index (world xs ys lines) s) first_place
+      ∙ ap (λ liar. unless_bad index 0 (world xs ys lines) (having_met own xs) (deed_at liar (having_met own xs) lines s)) named.first_honest
       ∙ ap (unless_bad index 0 (world xs ys lines) (having_met own xs)) does
       ∙ ap (λ done. Ok (world_after index 0 (world xs ys lines) (having_met own xs) done)) leads
 
@@ -57,8 +59,9 @@ module _ (first second : SetupNode) (own other : Config) (named : AreNamed first
       → deed_of (having_met other ys) lines s ≡ Ok (Takes i) → LeadsTo (having_met other ys) i outputs after
       → happens nodes index (world xs ys lines) s ≡ Ok (world xs after (lines ++ told_lines index 1 (Ok outputs)))
   at_second index s i xs ys after lines outputs at does leads =
-      ap (λ name. happens_to index (world xs ys lines) s (place_of nodes name)) at
-      ∙ ap (happens_to index (world xs ys lines) s) second_place
+      ap (λ name. happens_to nodes index (world xs ys lines) s (place_of nodes name)) at
+      ∙ ap (happens_to nodes index (world xs ys lines) s) second_place
+      ∙ ap (λ liar. unless_bad index 1 (world xs ys lines) (having_met other ys) (deed_at liar (having_met other ys) lines s)) named.second_honest
       ∙ ap (unless_bad index 1 (world xs ys lines) (having_met other ys)) does
       ∙ ap (λ done. Ok (world_after index 1 (world xs ys lines) (having_met other ys) done)) leads
 
@@ -118,4 +121,6 @@ module _ (first second : SetupNode) (own other : Config) (named : AreNamed first
   trace_is = ap run_lines (from_start ∙ all_steps)
 
   pub nothing_to_deliver : run_of nodes (own ∷ other ∷ []) (Deliver 1 b ∷ []) ≡ Err (BadStep 1 NoSuchDatagram)
-  nothing_to_deliver = ap (λ place. run_lines (then_on 1 (happens_to 1 (world_of nodes (own ∷ other ∷ [])) (Deliver 1 b) place) (λ w. Ok w))) second_place
+  nothing_to_deliver =
+      ap (λ place. run_lines (then_on 1 (happens_to nodes 1 (world_of nodes (own ∷ other ∷ [])) (Deliver 1 b) place) (λ w. Ok w))) second_place
+      ∙ ap (λ liar. run_lines (then_on 1 (unless_bad 1 1 (world_of nodes (own ∷ other ∷ [])) (start_of other second.delay) (deed_at liar (start_of other second.delay) [] (Deliver 1 b))) (λ w. Ok w))) named.second_honest

@@ -7,6 +7,7 @@ use Rattle.sd_core.specs.declared.keys.InstanceId.{InstanceId}
 use Rattle.sd_core.specs.declared.received.KnownOffer.{KnownOffer}
 use Rattle.someip_tables.specs.declared.lasting.Lasting.{Lasting}
 use Rattle.someip_rpc.specs.Servers.{code_of_reply}
+use Rattle.someip_wire.specs.Spelling.{IsBytes}
 use Rattle.someip_node_laws.specs.Fitting.{FitsConfig, FitsWire}
 use Rattle.someip_node_rules.specs.History.{History}
 use Rattle.someip_node_rules.specs.Inputs.{Input}
@@ -17,9 +18,10 @@ use Rattle.someip_node_rules.specs.Setups.{offered_as}
 use Rattle.someip_node_rules.specs.declared.config.Config.{Config}
 use Rattle.someip_node_rules.specs.declared.config.OfferedService.{OfferedService}
 use Rattle.someip_world_schedule.specs.declared.step.Step.{Step}
-use Rattle.someip_world_schedule.specs.declared.step.Step.TheVariants.{Tick, Deliver, Call, Answer, Publish, PublishTo, Subscribe, Unsubscribe, StopOffer, Restart}
+use Rattle.someip_world_schedule.specs.declared.step.Step.TheVariants.{Tick, Deliver, Call, Answer, Publish, PublishTo, Subscribe, Unsubscribe, StopOffer, Restart, Inject}
 use Rattle.someip_world_setup.specs.declared.setup_node.SetupNode.{SetupNode}
 use Rattle.someip_world_rules.specs.Deeds.{Takes}
+use Rattle.someip_world_rules.specs.Liars.{IsHonest}
 use Rattle.someip_world_rules.specs.Runs.{World}
 use Rattle.someip_world_rules.specs.Turns.{Turn}
 
@@ -30,7 +32,7 @@ pub record IsConfigured (config : Config) (instance : InstanceId) (major : ℕ) 
   pub versioned : service.rules.major ≡ major
   pub at : endpoint ≡ Some service.rules.endpoint
 
--- the numbers of a step that go out fit their fields. Its payload does where the step can happen
+-- the numbers of a step that go out fit their fields. Its payload does where the step can happen; what a liar sends is bytes
 abbrev pub FitsStep : Step → Type 0
 FitsStep (Tick node ms) = Unit {0}
 FitsStep (Deliver number node) = Unit {0}
@@ -42,6 +44,7 @@ FitsStep (Subscribe node eventgroup) = eventgroup.id < 2 ^ 16
 FitsStep (Unsubscribe node eventgroup) = eventgroup.id < 2 ^ 16
 FitsStep (StopOffer node instance) = Unit {0}
 FitsStep (Restart node delay) = Unit {0}
+FitsStep (Inject node port to payload) = IsBytes payload
 
 -- the numbers of the nodes of a setup fit
 abbrev pub FitNodes : List SetupNode → Type 0
@@ -70,3 +73,10 @@ abbrev pub KnowsAsConfigured : List Config → World → Type 0
 KnowsAsConfigured configs w =
     (place : ℕ) (h : History) (instance : InstanceId) (lasting : Lasting KnownOffer) → slice_get w.histories place ≡ Some h
     → known_offer_at h.items instance ≡ Some lasting → IsAsConfigured configs h instance lasting.value.endpoint
+
+-- the same of each offer that a node of a world knows from a peer that is no liar
+abbrev pub KnowsHonestAsConfigured : List SetupNode → List Config → World → Type 0
+KnowsHonestAsConfigured nodes configs w =
+    (place : ℕ) (h : History) (instance : InstanceId) (lasting : Lasting KnownOffer) → slice_get w.histories place ≡ Some h
+    → known_offer_at h.items instance ≡ Some lasting → IsHonest nodes configs lasting.value.peer
+    → IsAsConfigured configs h instance lasting.value.endpoint

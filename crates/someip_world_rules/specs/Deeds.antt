@@ -1,5 +1,7 @@
 -- What is done at a node in a step, or why the step is bad.
-use Rattle.std.specs.Prelude.{ℕ, ◌+◌, Bool, ◌||◌, if◌then◌else◌, nat_lt, List, length, Option, None, Some, Result, Ok, Err}
+use Rattle.std.specs.Prelude.{ℕ, ◌+◌, Bool, true, false, ◌||◌, if◌then◌else◌, nat_lt, List, [], ◌∷◌, length, Option, None, Some, Result, Ok, Err}
+use Rattle.std.specs.declared.net.ipv4_addr.Ipv4Addr.{Ipv4Addr}
+use Rattle.std.specs.declared.net.socket_addr.SocketAddrV4.{SocketAddrV4}
 use Rattle.someip_node_rules.specs.declared.config.Config.{Config}
 use Rattle.someip_node_rules.specs.GoodConfigs.{is_good_delay}
 use Rattle.someip_node_rules.specs.Handling.{same_address}
@@ -9,17 +11,20 @@ use Rattle.someip_node_rules.specs.Plans.{Work}
 use Rattle.someip_node_rules.specs.Questions.{clock_at}
 use Rattle.someip_node_rules.specs.Steps.{step, work_on}
 use Rattle.someip_node_rules.specs.declared.error.NodeError.{NodeError}
+use Rattle.someip_node_rules.specs.declared.output.Output.TheVariants.{Sent}
 use Rattle.someip_world_schedule.specs.declared.step.Step.{Step}
-use Rattle.someip_world_schedule.specs.declared.step.Step.TheVariants.{Tick, Deliver, Call, Answer, Publish, PublishTo, Subscribe, Unsubscribe, StopOffer, Restart}
+use Rattle.someip_world_schedule.specs.declared.step.Step.TheVariants.{Tick, Deliver, Call, Answer, Publish, PublishTo, Subscribe, Unsubscribe, StopOffer, Restart, Inject}
 use Rattle.someip_world_rules.specs.declared.line.Line.{Line}
 use Rattle.someip_world_rules.specs.declared.step_fault.StepFault.{StepFault}
-use Rattle.someip_world_rules.specs.declared.step_fault.StepFault.TheVariants.{NoSuchDatagram, NotAddressed, ClockPast, PayloadTooLong, BadDelay}
+use Rattle.someip_world_rules.specs.declared.step_fault.StepFault.TheVariants.{NotLiar, IsLiar, NoSuchDatagram, NotAddressed, ClockPast, PayloadTooLong, BadDelay}
 use Rattle.someip_world_rules.specs.Datagrams.{SentDatagram, datagram_at}
 
--- what is done at a node: it takes an input, or it is started again with a delay
+-- What is done at a node: it takes an input, or it is started again with a delay. At a liar none of that is done: it sends a
+-- datagram from an endpoint to another, of any bytes
 pub data Deed : Type 0 where
   Takes : input.Input → Deed
   Restarts : ℕ → Deed
+  Injects : SocketAddrV4 → SocketAddrV4 → List ℕ → Deed
 
 -- the greatest clock, in milliseconds
 abbrev pub clock_limit : ℕ
@@ -59,8 +64,33 @@ deed_of h lines (Subscribe node eventgroup) = Ok (Takes (input.Subscribe eventgr
 deed_of h lines (Unsubscribe node eventgroup) = Ok (Takes (input.Unsubscribe eventgroup))
 deed_of h lines (StopOffer node instance) = Ok (Takes (input.StopOffer instance))
 deed_of h lines (Restart node delay) = restart_deed h.config delay
+deed_of h lines (Inject node port to payload) = Err NotLiar
 
--- what the node gives, and its history then; or its refusal
+-- ---- liars
+
+-- the greatest payload of a UDP datagram over IPv4, in bytes
+abbrev pub datagram_limit : ℕ
+datagram_limit = 65507
+
+-- bytes go out from a port of an address, as many as a datagram may have
+abbrev pub injection : Ipv4Addr → ℕ → SocketAddrV4 → List ℕ → Result Deed StepFault
+injection address port to bytes =
+    if nat_lt datagram_limit (length bytes) then Err PayloadTooLong else Ok (Injects (record { ip = address; port = port }) to bytes)
+
+-- what a step does at a liar of an address: it sends what the step says, and takes nothing
+abbrev pub liar_deed : Ipv4Addr → Step → Result Deed StepFault
+liar_deed address (Inject node port to payload) = injection address port to payload
+liar_deed address s = Err IsLiar
+
+-- ---- a step
+
+-- what a step does at the place of a node or a liar
+abbrev pub deed_at : Bool → History → List Line → Step → Result Deed StepFault
+deed_at true h lines s = liar_deed h.config.address s
+deed_at false h lines s = deed_of h lines s
+
+-- what the node gives, and its history then; or its refusal. What a liar sends changes no history
 abbrev pub done_with : History → Deed → Result (Work History) NodeError
 done_with h (Takes i) = step h i
 done_with h (Restarts delay) = Ok (work_on (start_of h.config delay))
+done_with h (Injects from to bytes) = Ok (record (work_on h) { outputs = Sent from to bytes ∷ [] })

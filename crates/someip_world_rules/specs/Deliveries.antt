@@ -1,5 +1,5 @@
 -- Which step sent the datagram that a step delivers, and which steps lie in one life of a node.
-use Rattle.std.specs.Prelude.{◌≡◌, ◌<◌, ◌≤◌, ℕ, ◌+◌, zero, suc, List, Option, None, Some, Ok, slice_get}
+use Rattle.std.specs.Prelude.{◌≡◌, ◌⊎◌, ◌<◌, ◌≤◌, ℕ, ◌+◌, zero, suc, List, Option, None, Some, Ok, slice_get}
 use Rattle.std.specs.List.{Contains, filter_map}
 use Rattle.std.specs.Option.{option_map}
 use Rattle.someip_node_rules.specs.History.{History}
@@ -15,7 +15,7 @@ use Rattle.someip_world_schedule.specs.declared.step.Step.{Step}
 use Rattle.someip_world_schedule.specs.declared.step.Step.TheVariants.{Deliver}
 use Rattle.someip_world_setup.specs.declared.setup_node.SetupNode.{SetupNode}
 use Rattle.someip_world_rules.specs.Datagrams.{SentDatagram, datagram_in}
-use Rattle.someip_world_rules.specs.Deeds.{Takes, Restarts}
+use Rattle.someip_world_rules.specs.Deeds.{Takes, Restarts, Injects}
 use Rattle.someip_world_rules.specs.Turns.{Turn}
 use Rattle.someip_world_rules.specs.declared.line.Line.{Line}
 
@@ -53,6 +53,16 @@ module _ (nodes : List SetupNode) (configs : List Config) (steps : List Step) wh
     pub told : Contains (given_by (trail_of does.turn.history does.input)) given
     pub by : GivenBy does.turn.history does.input given
     pub among : Contains (written given) (Sent d.from d.to d.bytes)
+
+  -- a liar sends a datagram of any bytes in a step
+  pub record IsInjected (i : ℕ) (d : SentDatagram) : Type 0 where
+    pub step : Step
+    pub turn : Turn nodes configs steps i step
+    pub injects : turn.deed ≡ Injects d.from d.to d.bytes
+
+  -- a datagram goes out in a step: a node sends it, or a liar does
+  abbrev pub GoesOut : ℕ → SentDatagram → Type 0
+  GoesOut i d = Sends i d ⊎ IsInjected i d
 
   -- a step delivers a datagram that another step sent
   pub record Delivers (n : ℕ) (sent : ℕ) (d : SentDatagram) : Type 0 where

@@ -2,6 +2,7 @@
 use Rattle.std.specs.Prelude.{◌≡◌, ◌<◌, ℕ, IsTrue, List, Option, Some}
 use Rattle.std.specs.List.{Contains}
 use Rattle.std.specs.FinMap as finite
+use Rattle.std.specs.Net.Socket.{v4_ip}
 use Rattle.std.specs.declared.net.socket_addr.SocketAddrV4.{SocketAddrV4}
 use Rattle.sd_wire.specs.declared.entry.ServiceEntry.{ServiceEntry}
 use Rattle.sd_wire.specs.declared.entry.EntryHead.TheVariants.{Service}
@@ -9,6 +10,7 @@ use Rattle.sd_wire.specs.Endpoints.{first_udp_endpoint, options_of}
 use Rattle.sd_wire.specs.Kinds.{is_offer}
 use Rattle.sd_wire.specs.Values.{EntryValue}
 use Rattle.sd_core.specs.declared.keys.InstanceId.{InstanceId}
+use Rattle.sd_core.specs.declared.received.KnownOffer.{KnownOffer}
 use Rattle.someip_node_rules.specs.History.{History}
 use Rattle.someip_node_rules.specs.Inputs.{Datagram}
 use Rattle.someip_node_rules.specs.Packets.{Packet, HasServiceEntry}
@@ -16,12 +18,12 @@ use Rattle.someip_node_rules.specs.SeekQuestions.{majors_of}
 use Rattle.someip_node_rules.specs.declared.config.Config.{Config}
 use Rattle.someip_world_schedule.specs.declared.step.Step.{Step}
 use Rattle.someip_world_setup.specs.declared.setup_node.SetupNode.{SetupNode}
-use Rattle.someip_world_rules.specs.Deliveries.{Delivers, Does, LivesOn, Sends}
+use Rattle.someip_world_rules.specs.Deliveries.{Delivers, Does, GoesOut, LivesOn}
 
--- An instance was offered at an endpoint to the node at a place in one of the first steps, in the life that it has after
+-- An instance was offered, from an address at an endpoint, to the node at a place in one of the first steps, in the life that it has after
 -- these, in which its history is this: the step delivered a datagram with an Offer of the instance, in the major version in
--- which the node wants it, whose first endpoint over UDP is that. An earlier step sent the datagram
-pub record WasOffered (nodes : List SetupNode) (configs : List Config) (steps : List Step) (n : ℕ) (place : ℕ) (h : History) (instance : InstanceId) (endpoint : SocketAddrV4) : Type 0 where
+-- which the node wants it, whose first endpoint over UDP is that. An earlier step sent the datagram, from that address
+pub record WasOffered (nodes : List SetupNode) (configs : List Config) (steps : List Step) (n : ℕ) (place : ℕ) (h : History) (instance : InstanceId) (known : KnownOffer) : Type 0 where
   pub i : ℕ
   pub before : i < n
   pub does : Does nodes configs steps i
@@ -32,10 +34,11 @@ pub record WasOffered (nodes : List SetupNode) (configs : List Config) (steps : 
   pub sent : ℕ
   pub earlier : sent < i
   pub delivers : Delivers nodes configs steps i sent (record { from = packet.from; to = packet.to; bytes = packet.bytes })
-  pub sends : Sends nodes configs steps sent (record { from = packet.from; to = packet.to; bytes = packet.bytes })
+  pub goes : GoesOut nodes configs steps sent (record { from = packet.from; to = packet.to; bytes = packet.bytes })
+  pub peer : known.peer ≡ v4_ip packet.from
   pub head : ServiceEntry
   pub offers : IsTrue (is_offer head)
-  pub stands : HasServiceEntry packet head (Some endpoint)
+  pub stands : HasServiceEntry packet head (Some known.endpoint)
   pub named : instance ≡ record { service = head.service; instance = head.instance }
   pub wanted : finite.get (majors_of h.config) instance ≡ Some head.major
 

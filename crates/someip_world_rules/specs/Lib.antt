@@ -1,5 +1,6 @@
 pub mod Datagrams
 pub mod Deeds
+pub mod Liars
 pub mod Runs
 pub mod Turns
 pub mod Deliveries

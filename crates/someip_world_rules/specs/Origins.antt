@@ -7,16 +7,16 @@ use Rattle.someip_node_rules.specs.Meetings.{MetBy}
 use Rattle.someip_node_rules.specs.declared.config.Config.{Config}
 use Rattle.someip_world_schedule.specs.declared.step.Step.{Step}
 use Rattle.someip_world_setup.specs.declared.setup_node.SetupNode.{SetupNode}
-use Rattle.someip_world_rules.specs.Deliveries.{Dispatch, Does, LivesOn, Sends}
+use Rattle.someip_world_rules.specs.Deliveries.{Dispatch, Does, GoesOut, LivesOn}
 
 module _ (nodes : List SetupNode) (configs : List Config) (steps : List Step) where
-  -- a datagram was sent in one of the first steps: by the one whose line tells of it, in which a node took an input. It is one
-  -- of those of a message that a rule gave there
+  -- a datagram was sent in one of the first steps: by the one whose line tells of it, in which a node took an input, and it is
+  -- one of those of a message that a rule gave there; or a liar sent it there
   pub record WasSent (n : ℕ) (d : Dispatch) : Type 0 where
     pub i : ℕ
     pub before : i < n
     pub index : d.step ≡ i + 1
-    pub sends : Sends nodes configs steps i d.datagram
+    pub goes : GoesOut nodes configs steps i d.datagram
 
   -- the node at a place met an item in one of the first steps, in the life that it has after these: a rule that was done in
   -- that step met it, and since then the node was not started again

@@ -1,5 +1,5 @@
 -- The trace of a schedule, by what the nodes met.
-use Rattle.std.specs.Prelude.{◌≡◌, ℕ, ◌+◌, List, [], ◌∷◌, ◌++◌, map, slice_get, slice_set, bytes_eq, string_bytes, Option, None, Some, Result, Ok, Err}
+use Rattle.std.specs.Prelude.{◌≡◌, ℕ, ◌+◌, Bool, List, [], ◌∷◌, ◌++◌, map, slice_get, slice_set, bytes_eq, string_bytes, Option, None, Some, Result, Ok, Err}
 use Rattle.std.specs.List.{AllZip, position_from}
 use Rattle.someip_node_rules.specs.Copies.{IsCopy}
 use Rattle.someip_node_rules.specs.History.{History, start_of}
@@ -18,9 +18,11 @@ use Rattle.someip_world_rules.specs.declared.line.Told.TheVariants.{Gave, Refuse
 use Rattle.someip_world_rules.specs.declared.step_fault.StepFault.{StepFault}
 use Rattle.someip_world_rules.specs.declared.step_fault.StepFault.TheVariants.{UnknownNode}
 use Rattle.someip_world_rules.specs.declared.trace.Trace.{Trace}
-use Rattle.someip_world_rules.specs.Deeds.{Deed, deed_of, done_with}
+use Rattle.someip_world_rules.specs.Deeds.{Deed, deed_at, done_with}
+use Rattle.someip_world_rules.specs.Liars.{is_liar_at}
 
--- what each node met, in the order of the setup, and what was told so far
+-- what each node met, in the order of the setup, and what was told so far. A liar runs no node: at its place stands the history
+-- of its start, which no step asks or changes
 pub record World : Type 0 where
   pub histories : List History
   pub lines : List Line
@@ -62,19 +64,19 @@ abbrev pub unless_bad : ℕ → ℕ → World → History → Result Deed StepFa
 unless_bad index place w h (Ok deed) = Ok (world_after index place w h (done_with h deed))
 unless_bad index place w h (Err fault) = Err fault
 
--- the same at the node of a place
-abbrev pub happens_at : ℕ → World → Step → ℕ → Option History → Result World StepFault
-happens_at index w s place None = Err UnknownNode
-happens_at index w s place (Some h) = unless_bad index place w h (deed_of h w.lines s)
+-- the same at a place, that of a node or of a liar
+abbrev pub happens_at : Bool → ℕ → World → Step → ℕ → Option History → Result World StepFault
+happens_at liar index w s place None = Err UnknownNode
+happens_at liar index w s place (Some h) = unless_bad index place w h (deed_at liar h w.lines s)
 
 -- the same at the place of the node that the step names, or `UnknownNode` where the setup has no such node
-abbrev pub happens_to : ℕ → World → Step → Option ℕ → Result World StepFault
-happens_to index w s None = Err UnknownNode
-happens_to index w s (Some place) = happens_at index w s place (slice_get w.histories place)
+abbrev pub happens_to : List SetupNode → ℕ → World → Step → Option ℕ → Result World StepFault
+happens_to nodes index w s None = Err UnknownNode
+happens_to nodes index w s (Some place) = happens_at (is_liar_at nodes place) index w s place (slice_get w.histories place)
 
 -- a step of an index happens
 abbrev pub happens : List SetupNode → ℕ → World → Step → Result World StepFault
-happens nodes index w s = happens_to index w s (place_of nodes (node_of s))
+happens nodes index w s = happens_to nodes index w s (place_of nodes (node_of s))
 
 -- ---- a run
 

@@ -11,7 +11,8 @@ use Rattle.someip_world_schedule.specs.declared.step.Step.{Step}
 use Rattle.someip_world_schedule.specs.StepNodes.{node_of}
 use Rattle.someip_world_setup.specs.declared.setup_node.SetupNode.{SetupNode}
 use Rattle.someip_world_rules.specs.declared.line.Line.{Line}
-use Rattle.someip_world_rules.specs.Deeds.{Deed, Takes, deed_of, done_with}
+use Rattle.someip_world_rules.specs.Deeds.{Deed, Takes, deed_at, done_with}
+use Rattle.someip_world_rules.specs.Liars.{is_liar_at}
 use Rattle.someip_world_rules.specs.Runs.{AreCopies, World, told_lines, place_of, run_from, run_of, world_after, world_of}
 
 -- some steps, from the start of all nodes on, lead to this world
@@ -32,8 +33,8 @@ pub record IsOfRun (nodes : List SetupNode) (steps : List Step) (lines : List Li
 abbrev pub lines_at : ℕ → List Line → List Line
 lines_at index lines = filter (λ line. line.step == index) lines
 
--- A step of a run, at a place in its schedule: the world to which the steps before it led, what the node that it names does
--- there, and the world to which that leads
+-- A step of a run, at a place in its schedule: the world to which the steps before it led, what the node or the liar that it
+-- names does there, and the world to which that leads
 pub record Turn (nodes : List SetupNode) (configs : List Config) (steps : List Step) (i : ℕ) (s : Step) : Type 0 where
   pub here : slice_get steps i ≡ Some s
   pub before : World
@@ -43,7 +44,7 @@ pub record Turn (nodes : List SetupNode) (configs : List Config) (steps : List S
   pub history : History
   pub stands : slice_get before.histories place ≡ Some history
   pub deed : Deed
-  pub due : deed_of history before.lines s ≡ Ok deed
+  pub due : deed_at (is_liar_at nodes place) history before.lines s ≡ Ok deed
   pub leads : LeadTo nodes configs (take (i + 1) steps) (world_after (i + 1) place before history (done_with history deed))
 
 -- a step of a run whose lines in a trace tell what the node then gives, and nothing else

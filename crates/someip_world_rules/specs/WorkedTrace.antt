@@ -1,5 +1,5 @@
 -- The trace of a worked run of two nodes: a schedule of eleven steps, and the lines that it tells.
-use Rattle.std.specs.Prelude.{◌≡◌, ℕ, List, [], ◌∷◌, string_bytes, Some}
+use Rattle.std.specs.Prelude.{◌≡◌, ℕ, false, List, [], ◌∷◌, string_bytes, Some}
 use Rattle.someip_rpc.specs.declared.call.CallKind.TheVariants as kinds
 use Rattle.someip_rpc.specs.declared.request.Reply.TheVariants.{Response}
 use Rattle.someip_node_rules.specs.declared.output.Output.{Output}
@@ -19,12 +19,14 @@ a = 0x61 ∷ []
 abbrev pub b : List ℕ
 b = 0x62 ∷ []
 
--- two nodes have these names, and send their first Offers and Finds after 10 milliseconds
+-- two nodes have these names, are no liars, and send their first Offers and Finds after 10 milliseconds
 pub record AreNamed (first second : SetupNode) : Type 0 where
   pub first_name : string_bytes first.name ≡ a
   pub second_name : string_bytes second.name ≡ b
   pub first_delay : first.delay ≡ 10
   pub second_delay : second.delay ≡ 10
+  pub first_honest : first.is_liar ≡ false
+  pub second_honest : second.is_liar ≡ false
 
 -- the schedule: an Offer, a call and its answer, a Subscribe and its Ack, and an event, each delivered
 abbrev pub schedule : List Step

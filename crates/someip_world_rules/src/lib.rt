@@ -15,6 +15,7 @@ mod line;
 mod nodes;
 pub mod numbers;
 mod reuse;
+pub mod liar_laws;
 pub mod run_laws;
 mod step_fault;
 mod trace;

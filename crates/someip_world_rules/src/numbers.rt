@@ -54,6 +54,7 @@ fn step_fits(step: &Step)
         Step::Subscribe { eventgroup, .. } | Step::Unsubscribe { eventgroup, .. } => number_fits(
             eventgroup.id,
         ),
+        Step::Inject { payload, .. } => payload.holds_bytes(),
         Step::Tick { .. } | Step::Deliver { .. } | Step::StopOffer { .. } | Step::Restart { .. } =>
             {}
     }

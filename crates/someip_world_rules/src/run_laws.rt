@@ -34,7 +34,8 @@ ghost use Rattle.someip_world_setup.specs.declared.setup_node.SetupNode.{SetupNo
 ghost use Rattle.someip_world_rules.specs.declared.line.Line.{Line};
 ghost use Rattle.someip_world_rules.specs.Turns.{IsOfRun, LeadTo, TakesIt, ToldTurn};
 ghost use Rattle.sd_wire.specs.Kinds.{is_offer};
-ghost use Rattle.someip_world_rules.specs.Announced.{AllFits, FitNodes, FitsStep, IsConfigured, KnowsAsConfigured};
+ghost use Rattle.someip_world_rules.specs.Announced.{AllFits, FitNodes, FitsStep, IsConfigured, KnowsAsConfigured, KnowsHonestAsConfigured};
+ghost use Rattle.someip_world_rules.specs.Liars.{HasNoLiars};
 ghost use Rattle.someip_world_rules.specs.Deliveries.{Restarted, dispatches_in};
 ghost use Rattle.someip_world_rules.specs.Origins.{HasOrigins, WasMet, WasSent};
 ghost use Rattle.someip_world_rules.specs.RunExamples.{CanPublish, GivesJust, subscribed_for};
@@ -75,10 +76,10 @@ pub fn publications_go_to_each_live_endpoint_once()
         (λ h done. IsPublishedTo h eventgroup.instance eventgroup.id to event payload done) }
 {}
 
-/// Each datagram that is told of after some steps of a run was sent by the step whose line tells of it, in
-/// which a node took an input and did not refuse it: a rule that this input brings about gave the message
-/// whose datagram it is, at the history of that node.
-pub fn each_datagram_was_given_by_a_rule()
+/// Each datagram that is told of after some steps of a run was sent by the step whose line tells of it. There
+/// a node took an input and did not refuse it: a rule that this input brings about gave the message whose
+/// datagram it is, at the history of that node. Or a liar sent it there.
+pub fn each_datagram_was_given_or_injected()
     ensures { (nodes : List SetupNode) (configs : List Config) (steps : List Step) (n : ℕ) (w : World)
         → n ≤ length steps → LeadTo nodes configs (take n steps) w
         → AllByRecursion (WasSent nodes configs steps n) (dispatches_in w.lines) }
@@ -95,13 +96,14 @@ pub fn each_item_was_met_by_a_rule()
 
 /// An offer that a node knows after some steps of a run came with an Offer entry of a datagram that one of
 /// these steps delivered to it, and since then it was not started again: for the instance, in the major
-/// version that the node wants, with that endpoint. An earlier step sent the datagram.
+/// version that the node wants, with that endpoint. An earlier step sent the datagram, from the address of the
+/// offer's peer.
 pub fn known_offers_were_sent()
     ensures { (nodes : List SetupNode) (configs : List Config) (steps : List Step) (n : ℕ) (w : World)
         → n ≤ length steps → LeadTo nodes configs (take n steps) w → (place : ℕ) (h : History)
         (instance : InstanceId) (lasting : Lasting KnownOffer)
         → slice_get w.histories place ≡ Some h → known_offer_at h.items instance ≡ Some lasting
-        → WasOffered nodes configs steps n place h instance lasting.value.endpoint }
+        → WasOffered nodes configs steps n place h instance lasting.value }
 {}
 
 /// A node that is started again begins another life, however alike the two go on: what it met in the life
@@ -112,8 +114,8 @@ pub fn lives_begin_with_a_restart()
         (item : Item) (was : WasMet nodes configs steps n place item) (j : ℕ) → j < n
         → Restarted nodes configs steps j place → j < was.i }
     ensures offered { (nodes : List SetupNode) (configs : List Config) (steps : List Step)
-        (n place : ℕ) (h : History) (instance : InstanceId) (endpoint : SocketAddrV4)
-        (was : WasOffered nodes configs steps n place h instance endpoint) (j : ℕ) → j < n
+        (n place : ℕ) (h : History) (instance : InstanceId) (known : KnownOffer)
+        (was : WasOffered nodes configs steps n place h instance known) (j : ℕ) → j < n
         → Restarted nodes configs steps j place → j < was.i }
 {}
 
@@ -171,11 +173,14 @@ pub fn all_that_is_given_fits()
 {}
 
 /// The endpoint of a known offer is the one that a node is configured with for the instance, in the major
-/// version in which it is wanted, where the numbers of the configurations and of the steps fit their
-/// fields.
+/// version in which it is wanted, where the offer's peer is no liar, and the numbers of the configurations and
+/// of the steps fit their fields.
 pub fn known_offers_are_configured()
-    ensures { (nodes : List SetupNode) (configs : List Config) (steps : List Step) (w : World)
+    ensures honest { (nodes : List SetupNode) (configs : List Config) (steps : List Step) (w : World)
         → LeadTo nodes configs steps w → AllByRecursion FitsConfig configs
+        → AllByRecursion FitsStep steps → KnowsHonestAsConfigured nodes configs w }
+    ensures without_liars { (nodes : List SetupNode) (configs : List Config) (steps : List Step)
+        (w : World) → HasNoLiars nodes → LeadTo nodes configs steps w → AllByRecursion FitsConfig configs
         → AllByRecursion FitsStep steps → KnowsAsConfigured configs w }
 {}
 
@@ -188,14 +193,21 @@ pub fn all_that_a_setup_gives_fits(setup: &Setup, steps: &[Step])
     steps_fit(steps);
 }
 
-/// The endpoint of an offer that a node knows in a run over the nodes of a setup is one that a node of the
-/// setup is configured with for the instance, in the major version in which it is wanted: after any number
-/// of the steps, and at the end of each run that has a trace.
+/// The endpoint of an offer that a node knows from a peer that is no liar, in a run over the nodes of a setup,
+/// is one that a node of the setup is configured with for the instance, in the major version in which it is
+/// wanted: after any number of the steps, and at the end of each run that has a trace. In a setup without liars
+/// that is so of each offer that a node knows.
 pub fn known_offers_are_of_the_setup(setup: &Setup, steps: &[Step])
     ensures on_the_way { (configs : List Config) (i : ℕ) (w : World) → AreCopies setup.now.nodes configs
-        → LeadTo setup.now.nodes configs (take i steps.now) w → KnowsAsConfigured configs w }
+        → LeadTo setup.now.nodes configs (take i steps.now) w
+        → KnowsHonestAsConfigured setup.now.nodes configs w }
     ensures at_the_end { (lines : List Line) (run : IsOfRun setup.now.nodes steps.now lines)
-        → KnowsAsConfigured run.configs run.world }
+        → KnowsHonestAsConfigured setup.now.nodes run.configs run.world }
+    ensures without_liars { HasNoLiars setup.now.nodes → (configs : List Config) (i : ℕ) (w : World)
+        → AreCopies setup.now.nodes configs → LeadTo setup.now.nodes configs (take i steps.now) w
+        → KnowsAsConfigured configs w }
+    ensures at_the_end_without { HasNoLiars setup.now.nodes → (lines : List Line)
+        (run : IsOfRun setup.now.nodes steps.now lines) → KnowsAsConfigured run.configs run.world }
 {
     setup_fits(setup);
     steps_fit(steps);

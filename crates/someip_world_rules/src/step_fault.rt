@@ -8,6 +8,12 @@ pub enum StepFault {
     /// The setup has no node of the name.
     #[error("UnknownNode")]
     UnknownNode,
+    /// A node that is no liar is to send any bytes.
+    #[error("NotLiar")]
+    NotLiar,
+    /// A liar is to do anything else.
+    #[error("IsLiar")]
+    IsLiar,
     /// No datagram of the number was sent yet.
     #[error("NoSuchDatagram")]
     NoSuchDatagram,
@@ -17,7 +23,8 @@ pub enum StepFault {
     /// The node's clock would go past 2^63 - 1 milliseconds.
     #[error("ClockPast")]
     ClockPast,
-    /// The payload is longer than the setup's message limit.
+    /// The payload is longer than the setup's message limit, or what a liar sends is longer than 65507
+    /// bytes (RFC 768 and RFC 791: 65535 bytes of a packet, without its two headers).
     #[error("PayloadTooLong")]
     PayloadTooLong,
     /// The delay is outside the setup's range.

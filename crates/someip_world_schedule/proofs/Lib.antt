@@ -4,3 +4,4 @@ pub mod WordLemmas
 pub mod LineLemmas
 pub mod EndpointLemmas
 pub mod ScheduleLemmas
+pub mod PayloadLemmas

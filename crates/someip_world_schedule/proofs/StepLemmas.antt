@@ -1,7 +1,7 @@
 -- Steps by how many words they have.
 use Rattle.std.proofs.Common.{◌≡◌, ℕ, List, [], ◌∷◌, length, get_or, map, None, Bor, refl, arith}
 use Rattle.someip_rpc.specs.declared.call.CallKind.{CallKind}
-use Rattle.someip_world_schedule.specs.Steps.{call_step, Answered, answer_step, publish_step, publish_to_step}
+use Rattle.someip_world_schedule.specs.Steps.{call_step, Answered, answer_step, publish_step, publish_to_step, inject_step}
 
 -- what the words of a list stand for
 abbrev pub texts : List (Bor (List ℕ)) → List (List ℕ)
@@ -72,6 +72,14 @@ no_publish (a ∷ b ∷ []) h = refl
 no_publish (a ∷ b ∷ c ∷ []) h = refl
 no_publish (a ∷ b ∷ c ∷ e ∷ []) h = absurd (h refl)
 no_publish (a ∷ b ∷ c ∷ e ∷ f ∷ ws) h = refl
+
+pub no_inject : (ws : List (Bor (List ℕ))) → (length ws ≡ 4 → ⊥) → inject_step (texts ws) ≡ None
+no_inject [] h = refl
+no_inject (a ∷ []) h = refl
+no_inject (a ∷ b ∷ []) h = refl
+no_inject (a ∷ b ∷ c ∷ []) h = refl
+no_inject (a ∷ b ∷ c ∷ e ∷ []) h = absurd (h refl)
+no_inject (a ∷ b ∷ c ∷ e ∷ f ∷ ws) h = refl
 
 pub no_publish_to : (ws : List (Bor (List ℕ))) → (length ws ≡ 6 → ⊥) → publish_to_step (texts ws) ≡ None
 no_publish_to [] h = refl

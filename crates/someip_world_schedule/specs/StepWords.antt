@@ -52,6 +52,12 @@ abbrev pub number_in : ℕ → List ℕ → Option ℕ
 number_in limit word =
     if is_plain word && nat_lt (digits_value 10 word) limit then Some (digits_value 10 word) else None
 
+-- a port that a datagram is sent from: from 1 to 65535
+abbrev pub source_port_in : List ℕ → Option ℕ
+source_port_in word = do
+  port ← number_in (2 ^ 16) word
+  if port == 0 then None else Some port
+
 -- the number of four hex digits
 abbrev pub id_in : List ℕ → Option ℕ
 id_in word = option_map (from_be_bytes w16) (result_ok (decode_sized word 2))

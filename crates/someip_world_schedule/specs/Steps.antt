@@ -1,6 +1,6 @@
 -- The step that a line of a schedule spells.
 use Rattle.std.specs.Prelude.{ℕ, ◌≡◌, ◌^◌, ◌==◌, false, if◌then◌else◌, List, [], ◌∷◌, ◌++◌, codes, bytes_eq, Option, Some, None}
-use Rattle.std.specs.List.{list_any, slice_split}
+use Rattle.std.specs.List.{find, list_any, slice_split}
 use Rattle.std.specs.Str.{is_utf8}
 use Rattle.someip_rpc.specs.declared.call.CallKind.{CallKind}
 use Rattle.someip_rpc.specs.declared.call.CallKind.TheVariants as kinds
@@ -8,12 +8,12 @@ use Rattle.someip_rpc.specs.declared.request.Reply.{Reply}
 use Rattle.someip_rpc.specs.declared.request.Reply.TheVariants as replies
 use Rattle.someip_wire.specs.declared.header.ReturnCode.{ReturnCode}
 use Rattle.someip_world_schedule.specs.declared.step.Step.{Step}
-use Rattle.someip_world_schedule.specs.declared.step.Step.TheVariants.{Tick, Deliver, Call, Answer, Publish, PublishTo, Subscribe, Unsubscribe, StopOffer, Restart}
+use Rattle.someip_world_schedule.specs.declared.step.Step.TheVariants.{Tick, Deliver, Call, Answer, Publish, PublishTo, Subscribe, Unsubscribe, StopOffer, Restart, Inject}
 use Rattle.someip_world_schedule.specs.declared.step_reading.AnswerKind.{AnswerKind}
 use Rattle.someip_world_schedule.specs.declared.step_reading.AnswerKind.TheVariants as answers
 use Rattle.someip_world_schedule.specs.declared.step_command.Command.{Command}
 use Rattle.someip_world_schedule.specs.declared.step_command.Command.TheVariants as commands
-use Rattle.someip_world_schedule.specs.StepWords.{◌>>=◌, number_in, id_in, method_in, code_in, name_in, instance_in, eventgroup_in, endpoint_in, payload_in}
+use Rattle.someip_world_schedule.specs.StepWords.{◌>>=◌, number_in, source_port_in, id_in, method_in, code_in, name_in, instance_in, eventgroup_in, endpoint_in, payload_in}
 
 -- the words of a line: what stands between spaces. Between two spaces, and at an end with a space, stands an empty word,
 -- which no step takes
@@ -44,23 +44,17 @@ command_word commands.Subscribe = codes "subscribe"
 command_word commands.Unsubscribe = codes "unsubscribe"
 command_word commands.StopOffer = codes "stop_offer"
 command_word commands.Restart = codes "restart"
+command_word commands.Inject = codes "inject"
+
+-- all commands
+abbrev pub known_commands : List Command
+known_commands =
+    commands.Tick ∷ commands.Deliver ∷ commands.Call ∷ commands.Oneway ∷ commands.Answer ∷ commands.Error ∷ commands.Publish
+    ∷ commands.PublishTo ∷ commands.Subscribe ∷ commands.Unsubscribe ∷ commands.StopOffer ∷ commands.Restart ∷ commands.Inject ∷ []
 
 -- what the first word asks for
 abbrev pub command_in : List ℕ → Option Command
-command_in word =
-    if bytes_eq word (codes "tick") then Some commands.Tick
-    else if bytes_eq word (codes "deliver") then Some commands.Deliver
-    else if bytes_eq word (codes "call") then Some commands.Call
-    else if bytes_eq word (codes "oneway") then Some commands.Oneway
-    else if bytes_eq word (codes "answer") then Some commands.Answer
-    else if bytes_eq word (codes "error") then Some commands.Error
-    else if bytes_eq word (codes "publish") then Some commands.Publish
-    else if bytes_eq word (codes "publish_to") then Some commands.PublishTo
-    else if bytes_eq word (codes "subscribe") then Some commands.Subscribe
-    else if bytes_eq word (codes "unsubscribe") then Some commands.Unsubscribe
-    else if bytes_eq word (codes "stop_offer") then Some commands.StopOffer
-    else if bytes_eq word (codes "restart") then Some commands.Restart
-    else None
+command_in word = find (λ command. bytes_eq word (command_word command)) known_commands
 
 -- NODE MS
 abbrev pub tick_step : List (List ℕ) → Option Step
@@ -92,6 +86,7 @@ call_step kind words = None
 abbrev pub Answered : Type 0
 Answered = ReturnCode → Reply
 
+-- by a RESPONSE or by an ERROR
 abbrev pub answered : AnswerKind → Answered
 answered answers.Response = replies.Response
 answered answers.Error = replies.Error
@@ -158,6 +153,16 @@ restart_step (node ∷ delay ∷ []) = do
   Some (Restart node delay)
 restart_step words = None
 
+-- NODE PORT EP PAYLOAD
+abbrev pub inject_step : List (List ℕ) → Option Step
+inject_step (node ∷ port ∷ to ∷ payload ∷ []) = do
+  node ← name_in node
+  port ← source_port_in port
+  to ← endpoint_in to
+  payload ← payload_in payload
+  Some (Inject node port to payload)
+inject_step words = None
+
 -- the step of a command with these words after it
 abbrev pub commanded : Command → List (List ℕ) → Option Step
 commanded commands.Tick words = tick_step words
@@ -172,6 +177,7 @@ commanded commands.Subscribe words = subscribe_step words
 commanded commands.Unsubscribe words = unsubscribe_step words
 commanded commands.StopOffer words = stop_offer_step words
 commanded commands.Restart words = restart_step words
+commanded commands.Inject words = inject_step words
 
 -- the step that words spell, and none if they spell none
 abbrev pub step_of_words : List (List ℕ) → Option Step

@@ -13,6 +13,7 @@ mod step_command;
 mod step_method;
 mod step_name;
 mod step_payload;
+mod step_port;
 mod step_reading;
 mod step_words;
 
@@ -22,3 +23,4 @@ pub use step::Step;
 pub use step_method::MethodId;
 pub use step_name::NodeName;
 pub use step_payload::StepPayload;
+pub use step_port::SourcePort;

@@ -15,7 +15,7 @@
 //! - NODE is one to 16 letters from `a` to `z` and digits;
 //! - SI is `SERVICE.INSTANCE`, each of four hex digits, as METHOD, EVENT and GROUP; CODE has two;
 //! - numbers are decimal, below 2^64, without a sign or leading zeros;
-//! - EP is `A.B.C.D:PORT`;
+//! - EP is `A.B.C.D:PORT`; a PORT of its own is from 1 to 65535;
 //! - PAYLOAD is pairs of hex digits, `-` for none, or `HH*N` for N times one byte, N at most 1048576.
 ghost use Rattle.std.specs.Prelude.{◌≡◌, ◌==◌, Some, None, IfErr, IfOk, OnOk, MatchOption};
 ghost use Rattle.std.specs.Prelude.{IsOk, [], map, true, false};

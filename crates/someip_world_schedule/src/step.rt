@@ -5,6 +5,7 @@ ghost use Rattle.someip_world_schedule.specs.StepNodes.{node_of};
 use crate::step_method::MethodId;
 use crate::step_name::NodeName;
 use crate::step_payload::StepPayload;
+use crate::step_port::SourcePort;
 use sd_core::{Eventgroup, InstanceId};
 use someip_rpc::{CallKind, Reply};
 use std::net::SocketAddrV4;
@@ -112,6 +113,18 @@ pub enum Step {
         /// The delay before its first Offers and Finds, in milliseconds.
         delay: u64,
     },
+    /// A liar sends a datagram of any bytes from a port of its address:
+    /// `inject NODE PORT EP PAYLOAD`.
+    Inject {
+        /// The liar.
+        node: NodeName,
+        /// The port that it sends from.
+        port: SourcePort,
+        /// The endpoint that it sends to.
+        to: SocketAddrV4,
+        /// The bytes.
+        payload: StepPayload,
+    },
 }
 
 impl Step {
@@ -129,7 +142,8 @@ impl Step {
             | Step::Subscribe { node, .. }
             | Step::Unsubscribe { node, .. }
             | Step::StopOffer { node, .. }
-            | Step::Restart { node, .. } => node,
+            | Step::Restart { node, .. }
+            | Step::Inject { node, .. } => node,
         }
     }
 }

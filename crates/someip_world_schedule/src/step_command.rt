@@ -30,10 +30,12 @@ pub enum Command {
     StopOffer,
     /// A node starts anew.
     Restart,
+    /// A liar sends any bytes.
+    Inject,
 }
 
 /// All of them.
-const COMMANDS: [Command; 12] = [
+const COMMANDS: [Command; 13] = [
     Command::Tick,
     Command::Deliver,
     Command::Call,
@@ -46,6 +48,7 @@ const COMMANDS: [Command; 12] = [
     Command::Unsubscribe,
     Command::StopOffer,
     Command::Restart,
+    Command::Inject,
 ];
 
 impl Command {
@@ -66,6 +69,7 @@ impl Command {
             Command::Unsubscribe => "unsubscribe",
             Command::StopOffer => "stop_offer",
             Command::Restart => "restart",
+            Command::Inject => "inject",
         }
     }
 }

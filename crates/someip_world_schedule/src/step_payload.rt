@@ -1,5 +1,6 @@
 //! The payloads of steps.
 ghost use Rattle.std.specs.Prelude.{◌≡◌, ◌↔◌, IfOk, IsTrue, length};
+ghost use Rattle.someip_wire.specs.Spelling.{IsBytes};
 ghost use Rattle.someip_world_schedule.specs.StepWords.{IsReadOf, number_in, hex_in, repeated_in, payload_in};
 
 use crate::step_words::{WordFault, byte, cut, number};
@@ -50,6 +51,13 @@ impl StepPayload {
         self.len() == 0
     }
 
+    /// Does nothing: its contract says that the payload holds bytes.
+    pub fn holds_bytes(&self)
+        ensures { IsBytes self.now }
+    {
+        are_bytes(self.bytes.as_slice());
+    }
+
     /// The payload, byte for byte.
     pub fn to_payload(&self, alloc: Global) -> Result<Payload, AllocError>
         ensures { IfOk result (λ payload. payload ≡ self.now) }
@@ -70,6 +78,11 @@ impl StepPayload {
         }
     }
 }
+
+/// Does nothing: its contract says what the type of bytes says of them.
+fn are_bytes(bytes: &[u8])
+    ensures { IsBytes bytes.now }
+{}
 
 /// Reads a payload: `-`, `HH*N` or pairs of hex digits.
 pub fn payload(alloc: Global, word: &str) -> Result<StepPayload, WordFault>

@@ -3,12 +3,13 @@ ghost use Rattle.std.specs.Prelude.{◌≡◌, map, IfOk};
 ghost use Rattle.someip_world_schedule.specs.StepWords.{IsReadOf};
 ghost use Rattle.someip_world_schedule.specs.Steps.{words_in, tick_step, deliver_step, call_step, answer_step};
 ghost use Rattle.someip_world_schedule.specs.Steps.{publish_step, publish_to_step, subscribe_step, unsubscribe_step};
-ghost use Rattle.someip_world_schedule.specs.Steps.{answered, stop_offer_step, restart_step, commanded, step_of_words};
+ghost use Rattle.someip_world_schedule.specs.Steps.{answered, stop_offer_step, restart_step, inject_step, commanded, step_of_words};
 
 use crate::step::Step;
 use crate::step_command::{Command, command_of};
 use crate::step_name::name;
 use crate::step_payload::payload;
+use crate::step_port::source_port;
 use crate::step_words::{WordFault, code, endpoint, eventgroup, id, instance, method, number};
 use someip_rpc::{CallKind, Reply};
 use someip_wire::ReturnCode;
@@ -78,6 +79,7 @@ fn step_of(alloc: Global, command: Command, words: &[&str]) -> Result<Step, Word
         Command::Unsubscribe => unsubscribe(alloc, words),
         Command::StopOffer => stop_offer(alloc, words),
         Command::Restart => restart(alloc, words),
+        Command::Inject => inject(alloc, words),
     }
 }
 
@@ -230,4 +232,23 @@ fn restart(alloc: Global, words: &[&str]) -> Result<Step, WordFault>
     let node = name(alloc, node)?;
     let delay = number(delay).ok_or(WordFault::Bad)?;
     Ok(Step::Restart { node, delay })
+}
+
+/// NODE PORT EP PAYLOAD.
+fn inject(alloc: Global, words: &[&str]) -> Result<Step, WordFault>
+    ensures { IsReadOf (inject_step (map (λ w. w.now) words.now)) result }
+{
+    let [node, port, ep, bytes] = words else {
+        return Err(WordFault::Bad);
+    };
+    let node = name(alloc, node)?;
+    let port = source_port(port).ok_or(WordFault::Bad)?;
+    let to = endpoint(ep).ok_or(WordFault::Bad)?;
+    let payload = payload(alloc, bytes)?;
+    Ok(Step::Inject {
+        node,
+        port,
+        to,
+        payload,
+    })
 }

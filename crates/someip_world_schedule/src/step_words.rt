@@ -75,7 +75,7 @@ pub fn number(word: &str) -> Option<u64>
 }
 
 /// A port.
-fn port(word: &str) -> Option<u16>
+pub fn port(word: &str) -> Option<u16>
     ensures { result ≡ number_in (2 ^ 16) word.now }
 {
     if is_plain(word.as_bytes()) {

@@ -1,5 +1,5 @@
 -- A network that is made of values in range that do not clash is a good one.
-use Rattle.std.proofs.Common.{◌≡◌, ℕ, true, false, List, [], ◌∷◌, ◌++◌, length, map, bytes_eq, Option, Some, refl, sym, ap, ◌∙◌, subst, arith}
+use Rattle.std.proofs.Common.{◌≡◌, ℕ, ◌==◌, true, false, not, ◌&&◌, List, [], ◌∷◌, ◌++◌, length, map, bytes_eq, Option, Some, refl, sym, ap, ◌∙◌, subst, arith}
 use Rattle.std.specs.List.{list_any, list_all, flat_map, AllByRecursion, All}
 use Rattle.std.specs.List.Sorted.{IsPermutation}
 use Rattle.std.specs.Option.{IfSome, is_some}
@@ -17,14 +17,15 @@ use Rattle.sd_core.specs.KeyOrder.{instances_total}
 use Rattle.someip_node_rules.specs.declared.config.Common.{Common}
 use Rattle.someip_node_rules.specs.declared.config.Config.{Config}
 use Rattle.someip_node_rules.specs.declared.config.OfferedService.{OfferedService}
+use Rattle.someip_node_rules.specs.declared.config.WantedService.{WantedService}
 use Rattle.someip_node_rules.specs.GoodConfigs.{is_within, is_good_common, is_good_port, is_good_offer, is_good_want, has_own_ports, is_good}
 use Rattle.someip_node_rules.specs.Handling.{same_address}
 use Rattle.someip_world_setup.specs.declared.setup_node.SetupNode.{SetupNode}
 use Rattle.someip_world_setup.specs.Keys.{is_name}
-use Rattle.someip_world_setup.specs.Clashes.{has_repeat, same_number, same_instance, has_equal_names, has_equal_addresses, has_equal_ports, offered_by, has_equal_offers, has_equal_wants, has_equal_ids_offered, has_equal_ids_wanted, has_equal_ids_of, has_clash}
+use Rattle.someip_world_setup.specs.Clashes.{has_repeat, same_number, same_instance, has_equal_names, has_equal_addresses, has_equal_ports, offered_by, has_equal_offers, has_equal_wants, has_equal_ids_offered, has_equal_ids_wanted, has_equal_ids_of, has_liar_offers, has_liar_wants, has_liar_tables, has_clash}
 use Rattle.someip_world_setup.specs.GoodSetups.{IsGoodNode, instances_of, IsGoodNetwork}
 use Rattle.someip_world_setup.specs.Values.{OfferValue, NodeValue, common_view}
-use Rattle.someip_world_setup.specs.Made.{OfferMade, ConfigMade, NodeMade, plain_entries, offered_view, config_view, made_view, keyed_offer, keyed_want, offers_made, wants_made, config_made, node_made}
+use Rattle.someip_world_setup.specs.Made.{OfferMade, ConfigMade, NodeMade, plain_entries, offered_view, wanted_view, config_view, made_view, keyed_offer, keyed_want, offers_made, wants_made, config_made, node_made}
 use Rattle.someip_world_setup.proofs.MakingLemmas.{map_after}
 use Rattle.someip_world_setup.proofs.OrderLemmas.{all-permutation, repeat-permutation, repeat-append}
 use Rattle.someip_world_setup.proofs.RangeLemmas.{NodeRange, SetupRange}
@@ -108,24 +109,46 @@ module _ (common : Common) (n : NodeValue) (c : Config) (is : config_view c ≡ 
       (good_wants least most h wanted i.1))
       (own_ports ports offered)
 
+-- ---- liars
+
+no_elements : {A : Type 0} (xs : List A) → not (length xs == 0) ≡ false → xs ≡ []
+no_elements [] h = refl
+no_elements (x ∷ xs) h = cc
+
+nothing_mapped : {A B : Type 0} (f : A → B) (xs : List A) → map f xs ≡ [] → xs ≡ []
+nothing_mapped f [] h = refl
+nothing_mapped f (x ∷ xs) h = cc
+
+-- a liar that has no table of offers or wants is made with nothing that it offers or wants
+bare_node : (common : Common) (m : SetupNode) (n : NodeValue) → made_view m ≡ node_made common n → has_liar_tables n ≡ false → m.is_liar ≡ true
+    → (m.config.offers.entries ≡ []) × (m.config.wants.entries ≡ [])
+bare_node common m n is bare lies =
+    let lying : n.liar ≡ true = sym (ap (λ (x : NodeMade). x.is_liar) is) ∙ lies in
+    let parts = or_parts (has_liar_offers n) (has_liar_wants n) bare in
+    let offers : n.offers ≡ [] = no_elements n.offers (sym (ap (λ b. b && not (length n.offers == 0)) lying) ∙ parts.0) in
+    let wants : n.wants ≡ [] = no_elements n.wants (sym (ap (λ b. b && not (length n.wants == 0)) lying) ∙ parts.1) in
+    (nothing_mapped (λ (e : InstanceId × OfferedService). (e.0, offered_view e.1)) m.config.offers.entries (ap (λ (x : NodeMade). x.config.offers) is ∙ ap (offers_made n.address) offers),
+    nothing_mapped (λ (e : InstanceId × WantedService). (e.0, wanted_view e.1)) m.config.wants.entries (ap (λ (x : NodeMade). x.config.wants) is ∙ ap wants_made wants))
+
 -- ---- nodes
 
 module _ (common : Common) (good : is_good_common common ≡ true) where
   good_node : (m : SetupNode) (n : NodeValue) → made_view m ≡ node_made common n → NodeRange common.initial_min_ms common.initial_max_ms n → same_address common.group n.address ≡ false → has_equal_ports n ≡ false
-      → has_repeat same_instance (offered_by n) ≡ false → has_equal_wants n ≡ false → has_equal_ids_of n ≡ false → IsGoodNode common m
-  good_node m n is h apart ports offered wanted ids = record {
+      → has_repeat same_instance (offered_by n) ≡ false → has_equal_wants n ≡ false → has_equal_ids_of n ≡ false → has_liar_tables n ≡ false → IsGoodNode common m
+  good_node m n is h apart ports offered wanted ids bare = record {
     name = ap (λ (x : NodeMade). is_name x.name) is ∙ h.name;
     shared = ap (λ (x : NodeMade). x.config.common) is;
     config = good_config common n m.config (ap (λ (x : NodeMade). x.config) is) common.initial_min_ms common.initial_max_ms good h apart ports offered wanted ids;
     delay = ap (λ (x : NodeMade). is_within x.config.common.initial_min_ms x.config.common.initial_max_ms x.delay) is ∙ h.delay;
+    bare = bare_node common m n is bare;
   }
 
   pub good_nodes : (ms : List SetupNode) (ns : List NodeValue) → map made_view ms ≡ map (node_made common) ns → AllByRecursion (NodeRange common.initial_min_ms common.initial_max_ms) ns
       → list_any (same_address common.group) (map (λ n. n.address) ns) ≡ false → list_any has_equal_ports ns ≡ false → has_repeat same_instance (flat_map offered_by ns) ≡ false
-      → list_any has_equal_wants ns ≡ false → list_any has_equal_ids_of ns ≡ false → All (IsGoodNode common) ms
-  good_nodes [] ns is h apart ports offered wanted ids = All-nil (IsGoodNode common)
-  good_nodes (m ∷ ms) [] is h apart ports offered wanted ids = cc
-  good_nodes (m ∷ ms) (n ∷ ns) is h apart ports offered wanted ids =
+      → list_any has_equal_wants ns ≡ false → list_any has_equal_ids_of ns ≡ false → list_any has_liar_tables ns ≡ false → All (IsGoodNode common) ms
+  good_nodes [] ns is h apart ports offered wanted ids bare = All-nil (IsGoodNode common)
+  good_nodes (m ∷ ms) [] is h apart ports offered wanted ids bare = cc
+  good_nodes (m ∷ ms) (n ∷ ns) is h apart ports offered wanted ids bare =
       let first : made_view m ≡ node_made common n = cc in
       let others : map made_view ms ≡ map (node_made common) ns = cc in
       let a = or_parts (same_address common.group n.address) (list_any (same_address common.group) (map (λ (x : NodeValue). x.address) ns)) apart in
@@ -133,7 +156,8 @@ module _ (common : Common) (good : is_good_common common ≡ true) where
       let o = repeat-append same_instance (offered_by n) (flat_map offered_by ns) offered in
       let w = or_parts (has_equal_wants n) (list_any has_equal_wants ns) wanted in
       let i = or_parts (has_equal_ids_of n) (list_any has_equal_ids_of ns) ids in
-      All-cons (IsGoodNode common) _ _ (good_node m n first h.0 a.0 b.0 o.0 w.0 i.0) (good_nodes ms ns others h.1 a.1 b.1 o.1 w.1 i.1)
+      let l = or_parts (has_liar_tables n) (list_any has_liar_tables ns) bare in
+      All-cons (IsGoodNode common) _ _ (good_node m n first h.0 a.0 b.0 o.0 w.0 i.0 l.0) (good_nodes ms ns others h.1 a.1 b.1 o.1 w.1 i.1 l.1)
 
 -- ---- the instances of all nodes
 
@@ -165,7 +189,8 @@ transferred common f ms ns is = map_after f made_view ms ∙ ap (map f) is ∙ s
 pub good_network : (common : Common) (ns : List NodeValue) (ms : List SetupNode) → SetupRange (record { common = common_view common; nodes = ns }) → has_clash (record { common = common_view common; nodes = ns }) ≡ false
     → is_good_common common ≡ true → map made_view ms ≡ map (node_made common) ns → IsGoodNetwork (record { common = common; nodes = ms })
 good_network common ns ms h clash good is =
-    let f = or_parts _ (list_any has_equal_ids_of ns) clash in
+    let g = or_parts _ (list_any has_liar_tables ns) clash in
+    let f = or_parts _ (list_any has_equal_ids_of ns) g.0 in
     let e = or_parts _ (list_any has_equal_wants ns) f.0 in
     let d = or_parts _ (has_equal_offers ns) e.0 in
     let c = or_parts _ (list_any has_equal_ports ns) d.0 in
@@ -176,7 +201,7 @@ good_network common ns ms h clash good is =
       common = good;
       phases = and_from _ _ (and_from _ _ h.phases.base h.phases.repetitions) h.phases.cyclic;
       count = ap (is_within 1 64) many ∙ h.count;
-      nodes = good_nodes common good ms ns is h.nodes apart.0 c.1 d.1 e.1 f.1;
+      nodes = good_nodes common good ms ns is h.nodes apart.0 c.1 d.1 e.1 f.1 g.1;
       names = ap (has_repeat bytes_eq) (transferred common (λ m. m.name) ms ns is) ∙ b.0;
       addresses = ap (λ t. has_repeat same_address (common.group ∷ t)) (transferred common (λ m. m.config.address) ms ns is) ∙ b.1;
       instances = ap (has_repeat same_instance) (instances_seen ms ∙ ap (flat_map instances_made) is)

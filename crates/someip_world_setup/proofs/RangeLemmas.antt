@@ -5,7 +5,7 @@ use Rattle.std.specs.Option.{IfSome, option_and_then}
 use Rattle.std.proofs.lemmas.Bool.{and_parts, and_from, leb-true, le-leb, leb-false, ne_eqb, or_parts, eqb-false}
 use Rattle.toml.specs.Data.{Data, as_integer, as_str, get}
 use Rattle.someip_node_rules.specs.GoodConfigs.{is_within, is_good_id, is_good_event, is_good_instance}
-use Rattle.someip_world_setup.specs.Keys.{◌>>=◌, within, integer_at, integer_or, number_within, number_or, is_name, name_at, address_at}
+use Rattle.someip_world_setup.specs.Keys.{◌>>=◌, within, integer_at, integer_or, number_within, number_or, flag_or, is_name, name_at, address_at}
 use Rattle.someip_world_setup.specs.Lists.{found_at_each, id_of, ids_of, tables_at, tables_or_none, integers_or_none, integers_at}
 use Rattle.someip_world_setup.specs.Values.{ListedValue, OfferValue, WantValue, NodeValue, PhasesValue, SetupValue}
 use Rattle.someip_world_setup.specs.Clashes.{offered_id, wanted_id}
@@ -212,6 +212,7 @@ node_in least most d =
     then_some (IsWithin 0 0xFFFF) (NodeRange least most) _ _ (number_in (codes "client_id") 0 0xFFFF d) (λ client_id _.
     then_some (IsWithin 1 0xFFFF) (NodeRange least most) _ _ (number_in (codes "client_port") 1 0xFFFF d) (λ client_port b.
     then_some (IsWithin least most) (NodeRange least most) _ _ (default_in (codes "delay") (pos least) least most d) (λ delay c.
+    then_some (λ _. Unit {0}) (NodeRange least most) _ _ (anything (flag_or (codes "liar") false d)) (λ liar _.
     then_some _ (NodeRange least most) _ _ (tables_in OfferRange said_offer offer_in (tables_or_none (codes "offer") d)) (λ offers e.
     then_some _ (NodeRange least most) _ _ (tables_in WantRange said_want want_in (tables_or_none (codes "want") d)) (λ wants f.
     let r : NodeRange least most (record {
@@ -220,9 +221,10 @@ node_in least most d =
       client_id = client_id;
       client_port = client_port;
       delay = delay;
+      liar = liar;
       offers = offers;
       wants = wants;
-    }) = record { name = a; client_port = not_zero 0xFFFF client_port b; delay = c; offers = e; wants = f } in r)))))))
+    }) = record { name = a; client_port = not_zero 0xFFFF client_port b; delay = c; offers = e; wants = f } in r))))))))
 
 few_in : (ds : List Data) → IfSome (few_tables ds) (λ ds. is_within 1 64 (length ds) ≡ true)
 few_in ds = cases ((length ds == 0) || nat_le 65 (length ds)) refl

@@ -1,5 +1,5 @@
 -- Which values of a setup clash.
-use Rattle.std.specs.Prelude.{ℕ, Bool, false, ◌||◌, List, [], ◌∷◌, ◌++◌, map, bytes_eq}
+use Rattle.std.specs.Prelude.{ℕ, Bool, false, not, ◌&&◌, ◌||◌, ◌==◌, List, [], ◌∷◌, ◌++◌, length, map, bytes_eq}
 use Rattle.std.specs.List.{list_any, flat_map}
 use Rattle.std.specs.Ordering.{eq_by_cmp, nat_cmp}
 use Rattle.std.specs.declared.net.ipv4_addr.Ipv4Addr.{Ipv4Addr}
@@ -88,6 +88,18 @@ has_equal_ids_wanted w = has_equal_ids w.groups
 abbrev pub has_equal_ids_of : NodeValue → Bool
 has_equal_ids_of node = list_any has_equal_ids_offered node.offers || list_any has_equal_ids_wanted node.wants
 
+-- ---- liars
+
+-- a liar offers an instance, or wants one
+abbrev pub has_liar_offers : NodeValue → Bool
+has_liar_offers node = node.liar && not (length node.offers == 0)
+
+abbrev pub has_liar_wants : NodeValue → Bool
+has_liar_wants node = node.liar && not (length node.wants == 0)
+
+abbrev pub has_liar_tables : NodeValue → Bool
+has_liar_tables node = has_liar_offers node || has_liar_wants node
+
 -- ---- the setup
 
 -- two values of a setup clash
@@ -99,3 +111,4 @@ has_clash setup =
     || has_equal_offers setup.nodes
     || list_any has_equal_wants setup.nodes
     || list_any has_equal_ids_of setup.nodes
+    || list_any has_liar_tables setup.nodes

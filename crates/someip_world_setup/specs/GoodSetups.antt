@@ -1,5 +1,5 @@
 -- What every setup keeps.
-use Rattle.std.specs.Prelude.{ℕ, ◌≡◌, Bool, true, false, ◌&&◌, nat_le, List, ◌∷◌, map, length, bytes_eq, string_bytes, refl}
+use Rattle.std.specs.Prelude.{ℕ, ◌≡◌, Bool, true, false, ◌&&◌, nat_le, List, [], ◌∷◌, map, length, bytes_eq, string_bytes, refl}
 use Rattle.std.specs.List.{All, flat_map}
 use Rattle.std.specs.declared.net.ipv4_addr.Ipv4Addr.{Ipv4Addr}
 use Rattle.sd_core.specs.declared.keys.InstanceId.{InstanceId}
@@ -27,12 +27,14 @@ coded_network = code_by (Common × List SetupNode) (coded× common.the_row.coded
 abbrev pub is_good_phases : Phases → Bool
 is_good_phases phases = is_within 1 60000 phases.base && nat_le phases.repetitions 16 && is_within 1 3600000 phases.cyclic
 
--- a node can be started: its configuration, which is that of the network, and its delay are in range, and nothing in it clashes
+-- a node can be started: its configuration, which is that of the network, and its delay are in range, and nothing in it clashes;
+-- a liar offers and wants nothing
 pub record IsGoodNode (common : Common) (node : SetupNode) : Type 0 where
   pub name : is_name (string_bytes node.name) ≡ true
   pub shared : node.config.common ≡ common
   pub config : is_good node.config ≡ true
   pub delay : is_good_delay node.config node.delay ≡ true
+  pub bare : node.is_liar ≡ true → (node.config.offers.entries ≡ []) × (node.config.wants.entries ≡ [])
 
 abbrev pub names_of : List SetupNode → List (List ℕ)
 names_of nodes = map (λ n. string_bytes n.name) nodes

@@ -4,7 +4,7 @@ use Rattle.std.specs.List.{list_all}
 use Rattle.std.specs.Option.{option_and_then}
 use Rattle.std.specs.Net.Reader.{read_ipv4}
 use Rattle.std.specs.declared.net.ipv4_addr.Ipv4Addr.{Ipv4Addr}
-use Rattle.toml.specs.Data.{Data, get, as_integer, as_str}
+use Rattle.toml.specs.Data.{Data, get, as_integer, as_bool, as_str}
 use Rattle.someip_world_setup.specs.declared.error.SetupError.{SetupError}
 use Rattle.someip_world_setup.specs.declared.error.SetupError.TheVariants.{Missing, WrongKind, OutOfRange, OutOfMemory}
 
@@ -51,6 +51,15 @@ number_within key low high d = integer_at key d >>= within low high
 -- the number at a key, or its default where the key is absent, if that is in a range: a default has to be, too
 abbrev pub number_or : List ℕ → ℤ → ℕ → ℕ → Data → Option ℕ
 number_or key default low high d = integer_or key default d >>= within low high
+
+-- the flag that was found at a key, or its default where nothing was
+abbrev pub flag_of : Bool → Option Data → Option Bool
+flag_of default None = Some default
+flag_of default (Some d) = as_bool d
+
+-- the flag at a key, or its default where the key is absent
+abbrev pub flag_or : List ℕ → Bool → Data → Option Bool
+flag_or key default d = flag_of default (get key d)
 
 -- one of a to z, 0 to 9
 abbrev pub is_name_byte : ℕ → Bool

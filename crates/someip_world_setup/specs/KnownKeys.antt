@@ -11,7 +11,7 @@ abbrev pub known_keys : Subject → List (List ℕ)
 known_keys subjects.Setup =
     codes "group" ∷ codes "initial_min" ∷ codes "initial_max" ∷ codes "base" ∷ codes "repetitions" ∷ codes "cyclic"
     ∷ codes "message_limit" ∷ codes "slots" ∷ codes "peers" ∷ codes "reassembly_timeout" ∷ codes "call_timeout" ∷ codes "node" ∷ []
-known_keys subjects.Node = codes "name" ∷ codes "address" ∷ codes "client_id" ∷ codes "client_port" ∷ codes "delay" ∷ codes "offer" ∷ codes "want" ∷ []
+known_keys subjects.Node = codes "name" ∷ codes "address" ∷ codes "client_id" ∷ codes "client_port" ∷ codes "delay" ∷ codes "liar" ∷ codes "offer" ∷ codes "want" ∷ []
 known_keys subjects.Offer =
     codes "service" ∷ codes "instance" ∷ codes "major" ∷ codes "minor" ∷ codes "ttl" ∷ codes "port"
     ∷ codes "methods" ∷ codes "oneways" ∷ codes "events" ∷ codes "subscribers" ∷ []

@@ -1,5 +1,5 @@
 -- The configurations that are made of what a setup says, with each set and map as the list of its entries.
-use Rattle.std.specs.Prelude.{ℕ, List, [], ◌∷◌, map, string_bytes}
+use Rattle.std.specs.Prelude.{ℕ, Bool, List, [], ◌∷◌, map, string_bytes}
 use Rattle.std.specs.declared.cmp.Ordering.{Ordering}
 use Rattle.std.specs.Ordering.{nat_cmp}
 use Rattle.std.specs.BTreeMap.{insert_entry}
@@ -58,6 +58,7 @@ pub record ConfigMade : Type 0 where
 pub record NodeMade : Type 0 where
   pub name : List ℕ
   pub delay : ℕ
+  pub is_liar : Bool
   pub config : ConfigMade
 
 -- ---- the program's values as these
@@ -93,7 +94,7 @@ config_view c = record {
 }
 
 abbrev pub made_view : SetupNode → NodeMade
-made_view n = record { name = string_bytes n.name; delay = n.delay; config = config_view n.config }
+made_view n = record { name = string_bytes n.name; delay = n.delay; is_liar = n.is_liar; config = config_view n.config }
 
 -- ---- of what they are made
 
@@ -146,4 +147,4 @@ config_made common n = record {
 }
 
 abbrev pub node_made : Common → NodeValue → NodeMade
-node_made common n = record { name = n.name; delay = n.delay; config = config_made common n }
+node_made common n = record { name = n.name; delay = n.delay; is_liar = n.liar; config = config_made common n }

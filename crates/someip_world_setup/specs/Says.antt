@@ -1,7 +1,7 @@
 -- The setup that a tree of TOML says, key by key, before clashes are judged.
-use Rattle.std.specs.Prelude.{ℕ, ℤ, pos, ◌==◌, ◌||◌, nat_le, if◌then◌else◌, codes, List, length, Option, Some, None}
+use Rattle.std.specs.Prelude.{ℕ, ℤ, pos, false, ◌==◌, ◌||◌, nat_le, if◌then◌else◌, codes, List, length, Option, Some, None}
 use Rattle.toml.specs.Data.{Data}
-use Rattle.someip_world_setup.specs.Keys.{◌>>=◌, number_within, number_or, name_at, address_at}
+use Rattle.someip_world_setup.specs.Keys.{◌>>=◌, number_within, number_or, flag_or, name_at, address_at}
 use Rattle.someip_world_setup.specs.Lists.{found_at_each, tables_at, tables_or_none, integers_at, integers_or_none, ids_of}
 use Rattle.someip_world_setup.specs.Values.{ListedValue, OfferValue, WantValue, NodeValue, PhasesValue, CommonValue, SetupValue}
 use Rattle.someip_node_rules.specs.GoodConfigs.{greatest_message_limit}
@@ -106,7 +106,7 @@ wants_at d = tables_or_none (codes "want") d >>= found_at_each said_want
 
 -- ---- nodes
 
--- a node, whose delay lies between two times
+-- a node, whose delay lies between two times; it is a liar where it says so
 abbrev pub said_node : ℕ → ℕ → Data → Option NodeValue
 said_node least most d =
     name_at d >>= λ name.
@@ -114,6 +114,7 @@ said_node least most d =
     number_within (codes "client_id") 0 0xFFFF d >>= λ client_id.
     port_at (codes "client_port") d >>= λ client_port.
     number_or (codes "delay") (pos least) least most d >>= λ delay.
+    flag_or (codes "liar") false d >>= λ liar.
     offers_at d >>= λ offers.
     wants_at d >>= λ wants.
     Some (record {
@@ -122,6 +123,7 @@ said_node least most d =
       client_id = client_id;
       client_port = client_port;
       delay = delay;
+      liar = liar;
       offers = offers;
       wants = wants;
     })

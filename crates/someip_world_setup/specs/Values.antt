@@ -1,5 +1,5 @@
 -- What a setup says, as plain values.
-use Rattle.std.specs.Prelude.{ℕ, List, map, string_bytes}
+use Rattle.std.specs.Prelude.{ℕ, Bool, List, map, string_bytes}
 use Rattle.std.specs.declared.net.ipv4_addr.Ipv4Addr.{Ipv4Addr}
 use Rattle.sd_core.specs.declared.phases.Phases.{Phases}
 use Rattle.someip_node_rules.specs.declared.config.Common.{Common}
@@ -39,6 +39,7 @@ pub record NodeValue : Type 0 where
   pub client_id : ℕ
   pub client_port : ℕ
   pub delay : ℕ
+  pub liar : Bool
   pub offers : List OfferValue
   pub wants : List WantValue
 
@@ -98,6 +99,7 @@ node_view n = record {
   client_id = n.client_id;
   client_port = n.client_port;
   delay = n.delay;
+  liar = n.is_liar;
   offers = map offer_view n.offers.items;
   wants = map want_view n.wants.items;
 }

@@ -128,6 +128,7 @@ fn built(alloc: Global, common: Common, node: &NodeParts) -> Result<SetupNode, A
     Ok(SetupNode {
         name,
         delay: node.delay,
+        is_liar: node.is_liar,
         config,
     })
 }

@@ -1,6 +1,7 @@
-//! Values that may not be the same.
+//! Values that may not be the same, and tables that a liar may not have.
 ghost use Rattle.std.specs.Prelude.{◌≡◌, ◌||◌, map, bytes_eq, string_bytes, IfOk};
 ghost use Rattle.std.specs.List.{list_any};
+ghost use Rattle.std.specs.Option.{is_some};
 ghost use Rattle.someip_world_setup.specs.Values.{listed_view, offer_view, want_view, node_view, parts_view};
 ghost use Rattle.someip_world_setup.specs.Clashes as clash;
 ghost use Rattle.someip_world_setup.specs.Readings.{RefusesClash};
@@ -184,7 +185,36 @@ fn has_equal_instances(alloc: Global, nodes: &[NodeParts]) -> Result<bool, Alloc
     have_equal_wants(alloc, nodes)
 }
 
-/// Refuses values that may not be the same, each kind over the whole setup before the next.
+/// Whether a node is a liar that offers an instance.
+fn has_liar_offers(node: &NodeParts) -> bool
+    ensures { result ≡ clash.has_liar_offers (node_view node.now) }
+{
+    node.is_liar && !node.offers.is_empty()
+}
+
+/// Whether a node is a liar that wants an instance.
+fn has_liar_wants(node: &NodeParts) -> bool
+    ensures { result ≡ clash.has_liar_wants (node_view node.now) }
+{
+    node.is_liar && !node.wants.is_empty()
+}
+
+/// The key of the first table that a liar may not have: node by node, `offer` before `want`.
+fn liar_table(nodes: &[NodeParts]) -> Option<&'static str>
+    ensures { is_some result ≡ list_any clash.has_liar_tables (map node_view nodes.now) }
+{
+    for node in nodes {
+        if has_liar_offers(node) {
+            return Some("offer");
+        }
+        if has_liar_wants(node) {
+            return Some("want");
+        }
+    }
+    None
+}
+
+/// Refuses values that may not be the same, and then tables that a liar may not have, each kind over the whole setup before the next.
 pub(crate) fn refuse_clashes(alloc: Global, parts: &SetupParts) -> Result<(), SetupError>
     ensures { RefusesClash (clash.has_clash (parts_view parts.now)) result }
 {
@@ -203,6 +233,9 @@ pub(crate) fn refuse_clashes(alloc: Global, parts: &SetupParts) -> Result<(), Se
     }
     if have_equal_ids_of(alloc, nodes)? {
         return Err(SetupError::Clash("id"));
+    }
+    if let Some(key) = liar_table(nodes) {
+        return Err(SetupError::Clash(key));
     }
     Ok(())
 }

@@ -11,6 +11,7 @@ mod building;
 mod clashes;
 mod commons;
 mod error;
+mod flags;
 mod gathered;
 pub mod laws;
 mod lists;

@@ -10,6 +10,7 @@ ghost use Rattle.someip_world_setup.specs.Values.{node_view, parts_view};
 use crate::addresses::address_at;
 use crate::commons::common;
 use crate::error::SetupError;
+use crate::flags::flag_or;
 use crate::names::name_at;
 use crate::numbers::{integer, port_at, short, word_or};
 use crate::offers::offers_at;
@@ -35,6 +36,7 @@ fn node(alloc: Global, table: &Value, least: u32, most: u32) -> Result<NodeParts
     let client_id = client_id_at(table)?;
     let client_port = port_at(table, "client_port")?;
     let delay = word_or(table, "delay", i64::from(least), least, most)?;
+    let is_liar = flag_or(table, "liar", false)?;
     let offers = offers_at(alloc, table)?;
     let wants = wants_at(alloc, table)?;
     Ok(NodeParts {
@@ -43,6 +45,7 @@ fn node(alloc: Global, table: &Value, least: u32, most: u32) -> Result<NodeParts
         client_id,
         client_port,
         delay,
+        is_liar,
         offers,
         wants,
     })

@@ -46,6 +46,7 @@ pub(crate) struct NodeParts {
     pub(crate) client_id: u16,
     pub(crate) client_port: u16,
     pub(crate) delay: u32,
+    pub(crate) is_liar: bool,
     pub(crate) offers: Vec<OfferParts>,
     pub(crate) wants: Vec<WantParts>,
 }

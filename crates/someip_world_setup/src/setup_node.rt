@@ -9,6 +9,8 @@ pub struct SetupNode {
     pub name: String,
     /// The delay before its first Offers and Finds, in milliseconds.
     pub delay: u32,
+    /// Whether it is a liar: it runs no node, and sends any bytes under its own address.
+    pub is_liar: bool,
     /// What it is set up with.
     pub config: Config,
 }

@@ -54,6 +54,7 @@ fn known_keys(subject: Subject) -> &'static [&'static str]
             "client_id",
             "client_port",
             "delay",
+            "liar",
             "offer",
             "want",
         ],

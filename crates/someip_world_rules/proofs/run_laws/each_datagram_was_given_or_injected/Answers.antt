@@ -1,5 +1,5 @@
 use Rattle.someip_world_rules.proofs.Sendings.{all_sent}
-use Rattle.someip_world_rules.proofs.run_laws.each_datagram_was_given_by_a_rule.Goals as goal
+use Rattle.someip_world_rules.proofs.run_laws.each_datagram_was_given_or_injected.Goals as goal
 
 pub returns : goal.returns
 returns c = all_sent
