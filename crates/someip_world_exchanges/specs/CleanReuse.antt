@@ -24,7 +24,8 @@ abbrev pub message_key : SentDatagram → MessageValue → ReassemblyKey
 message_key d m = segment_key d.from d.to m.header
 
 module _ (nodes : List SetupNode) (configs : List Config) (steps : List Step) where
-  -- a step delivers what belongs to an exchange whose key a newer one has taken
+  -- A step delivers what belongs to an exchange whose key a newer one has taken. A node sent it, and to a liar nothing is
+  -- delivered: what liars send, and what they should get, breaks nothing
   pub record DeliversOld (n : ℕ) : Type 0 where
     pub sent : ℕ
     pub datagram : SentDatagram
@@ -34,7 +35,7 @@ module _ (nodes : List SetupNode) (configs : List Config) (steps : List Step) wh
     pub belongs : Belongs nodes configs steps sent datagram key since
     pub taken : IsTaken nodes configs steps since n key
 
-  -- a step delivers to the node at a place, by its clock at a moment, a segment of a message
+  -- a step delivers to the node at a place, by its clock at a moment, a segment of a message that a node sent
   pub record Arrives (n place now : ℕ) (m : MessageValue) (key : ReassemblyKey) : Type 0 where
     pub sent : ℕ
     pub datagram : SentDatagram

@@ -1,7 +1,8 @@
 //! Laws of the exchanges of every run, whatever its nodes, configurations and steps. Each is the contract
 //! of a function that does nothing.
-ghost use Rattle.std.specs.Prelude.{◌≡◌, ◌≢◌, ◌<◌, ℕ, List, Ok};
+ghost use Rattle.std.specs.Prelude.{◌≡◌, ◌≢◌, ◌⊎◌, ◌<◌, ℕ, List, Ok};
 ghost use Rattle.std.specs.List.{AllByRecursion, Contains, flat_map};
+ghost use Rattle.std.specs.Net.Socket.{v4_ip};
 ghost use Rattle.std.specs.declared.net.ipv4_addr.Ipv4Addr.{Ipv4Addr};
 ghost use Rattle.std.specs.declared.net.socket_addr.SocketAddrV4.{SocketAddrV4};
 ghost use Rattle.someip_wire.specs.Spelling.{MessageValue};
@@ -22,14 +23,19 @@ ghost use Rattle.someip_world_exchanges.specs.declared.naming.Side.TheVariants.{
 ghost use Rattle.someip_world_exchanges.specs.Beginnings.{about, begun_after, counter_after, last_counter, subscribes_in};
 ghost use Rattle.someip_world_exchanges.specs.Namings.{named_in, of_subscription};
 ghost use Rattle.someip_world_exchanges.specs.Openings.{Opened, OpensBy};
-ghost use Rattle.someip_world_rules.specs.Deliveries.{Delivers, Sends};
+ghost use Rattle.someip_world_rules.specs.Deliveries.{Delivers, IsInjected, Sends};
+ghost use Rattle.someip_world_rules.specs.Liars.{IsHonest, IsOfLiar};
 
 /// What a step delivers was sent by the step whose lines tell of it, an earlier one: a rule gave the message
-/// there.
+/// there, or a liar sent it from its own address. What comes from an address of no liar a rule gave.
 pub fn what_is_delivered_was_sent()
-    ensures { (nodes : List SetupNode) (configs : List Config) (steps : List Step) (n sent : ℕ)
+    ensures sent { (nodes : List SetupNode) (configs : List Config) (steps : List Step) (n sent : ℕ)
         (d : SentDatagram) → Delivers nodes configs steps n sent d
-        → (sent < n) × Sends nodes configs steps sent d }
+        → (sent < n) × (Sends nodes configs steps sent d
+        ⊎ (IsInjected nodes configs steps sent d × IsOfLiar nodes configs (v4_ip d.from))) }
+    ensures honest { (nodes : List SetupNode) (configs : List Config) (steps : List Step) (n sent : ℕ)
+        (d : SentDatagram) → Delivers nodes configs steps n sent d
+        → IsHonest nodes configs (v4_ip d.from) → Sends nodes configs steps sent d }
 {}
 
 /// A request that is sent opens the call that it belongs to in that very step, and an event its publication:

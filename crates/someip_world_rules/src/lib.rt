@@ -5,17 +5,18 @@
 //! - [`RunError`], [`StepFault`]: why a run has no trace;
 //! - [`place_of`]: the node of a name;
 //! - [`run_laws`]: what holds of every run, whatever its setup and schedule;
+//! - [`liar_laws`]: what liars do in it, and what they can't;
 //! - [`numbers`]: that the numbers of setups and steps fit their fields;
 //! - [`example_laws`]: a worked run.
 #![tactic(auto)]
 
 mod error;
 pub mod example_laws;
+pub mod liar_laws;
 mod line;
 mod nodes;
 pub mod numbers;
 mod reuse;
-pub mod liar_laws;
 pub mod run_laws;
 mod step_fault;
 mod trace;

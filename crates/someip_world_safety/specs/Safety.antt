@@ -11,8 +11,9 @@ use Rattle.someip_node_rules.specs.Inputs.{Publish, PublishTo}
 use Rattle.someip_node_laws.specs.Published.{IsPublished, IsPublishedTo}
 use Rattle.someip_world_schedule.specs.declared.step.Step.{Step}
 use Rattle.someip_world_setup.specs.declared.setup_node.SetupNode.{SetupNode}
-use Rattle.someip_world_rules.specs.Announced.{KnowsAsConfigured}
+use Rattle.someip_world_rules.specs.Announced.{KnowsAsConfigured, KnowsHonestAsConfigured}
 use Rattle.someip_world_rules.specs.Deliveries.{Does}
+use Rattle.someip_world_rules.specs.Liars.{IsFromLiar}
 use Rattle.someip_world_rules.specs.Runs.{AreCopies, World, run_of}
 use Rattle.someip_world_rules.specs.declared.line.Line.{Line}
 use Rattle.someip_world_rules.specs.declared.reuse.Reuse.{Reuse}
@@ -20,7 +21,7 @@ use Rattle.someip_world_rules.specs.declared.reuse.Reuse.TheVariants.{Broken, Cl
 use Rattle.someip_world_rules.specs.Turns.{LeadTo}
 use Rattle.someip_world_safety.specs.Answers.{IsSafeAnswer}
 use Rattle.someip_world_safety.specs.Events.{IsSafeEvent}
-use Rattle.someip_world_safety.specs.Subscriptions.{SubscriptionsAreSafe}
+use Rattle.someip_world_safety.specs.Subscriptions.{HonestSubscriptionsAreSafe, SubscriptionsAreSafe}
 
 module _ (nodes : List SetupNode) (configs : List Config) (steps : List Step) where
   -- each answer that a step hands up is safe
@@ -67,7 +68,45 @@ module _ (nodes : List SetupNode) (configs : List Config) (steps : List Step) wh
     pub publications_to_one : (n : ℕ) → PublishesToOne n
     pub offers : (n : ℕ) → OffersAreConfigured n
 
+  -- ---- among liars
+
+  -- each answer that a step hands up, of a message that did not come from a liar, is safe
+  abbrev pub HonestAnswersAreSafe : ℕ → Type 0
+  HonestAnswersAreSafe n =
+      (does : Does nodes configs steps n) (message : MessageId) (session : ℕ) (code : ReturnCode) (payload : List ℕ)
+      → Contains does.done.outputs (Answered message session code payload) → (IsFromLiar nodes configs does.input → ⊥)
+      → IsSafeAnswer nodes configs steps n message session code payload
+
+  -- each event that a step hands up, of a message that did not come from a liar, is safe
+  abbrev pub HonestEventsAreSafe : ℕ → Type 0
+  HonestEventsAreSafe n =
+      (does : Does nodes configs steps n) (instance : InstanceId) (event : ℕ) (payload : List ℕ)
+      → Contains does.done.outputs (Event instance event payload) → (IsFromLiar nodes configs does.input → ⊥)
+      → IsSafeEvent nodes configs steps n instance event payload
+
+  -- each offer that a node knows after some of the steps, from a peer that is no liar, is one that a node is configured to make
+  abbrev pub HonestOffersAreConfigured : ℕ → Type 0
+  HonestOffersAreConfigured n = (w : World) → n ≤ length steps → LeadTo nodes configs (take n steps) w → KnowsHonestAsConfigured nodes configs w
+
+  -- A run with a verdict is safe among liars. Up to the step that it names, or in all steps, each answer and each event is safe
+  -- that is handed up of a message that came from no liar, and each subscription on which a client counts, whose server is no
+  -- liar. In all steps, each node sends its events to those who are subscribed, and the offers that nodes know from peers that
+  -- are no liars are configured
+  pub record IsSafeAmongLiars (verdict : Reuse) : Type 0 where
+    pub answers : (n : ℕ) → IsCleanUpTo verdict (suc n) → HonestAnswersAreSafe n
+    pub events : (n : ℕ) → IsCleanUpTo verdict (suc n) → HonestEventsAreSafe n
+    pub subscriptions : (n : ℕ) (w : World) → n ≤ length steps → LeadTo nodes configs (take n steps) w → IsCleanUpTo verdict n
+        → HonestSubscriptionsAreSafe nodes configs steps n w
+    pub publications : (n : ℕ) → PublishesToAll n
+    pub publications_to_one : (n : ℕ) → PublishesToOne n
+    pub offers : (n : ℕ) → HonestOffersAreConfigured n
+
 -- the run that a trace tells is safe, over copies of the configurations of the nodes
 abbrev pub IsSafeOn : List SetupNode → List Step → List Line → Reuse → Type 0
 IsSafeOn nodes steps lines verdict =
     (configs : List Config) → AreCopies nodes configs → run_of nodes configs steps ≡ Ok lines → IsSafe nodes configs steps verdict
+
+-- the run that a trace tells is safe among liars, over copies of the configurations of the nodes
+abbrev pub IsSafeAmongLiarsOn : List SetupNode → List Step → List Line → Reuse → Type 0
+IsSafeAmongLiarsOn nodes steps lines verdict =
+    (configs : List Config) → AreCopies nodes configs → run_of nodes configs steps ≡ Ok lines → IsSafeAmongLiars nodes configs steps verdict

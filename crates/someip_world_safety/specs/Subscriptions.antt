@@ -19,6 +19,7 @@ use Rattle.someip_node_rules.specs.WishQuestions.{course_at}
 use Rattle.someip_world_schedule.specs.declared.step.Step.{Step}
 use Rattle.someip_world_setup.specs.declared.setup_node.SetupNode.{SetupNode}
 use Rattle.someip_world_rules.specs.Datagrams.{SentDatagram}
+use Rattle.someip_world_rules.specs.Liars.{IsHonest}
 use Rattle.someip_world_rules.specs.Runs.{World}
 use Rattle.someip_world_rules.specs.Deliveries.{Delivers, Does, LivesOn}
 use Rattle.someip_world_exchanges.specs.Belonging.{Belongs, IsNewest}
@@ -73,3 +74,11 @@ module _ (nodes : List SetupNode) (configs : List Config) (steps : List Step) wh
       → slice_get w.histories place ≡ Some h
       → (course_at h.items eventgroup).beginning ≡ Some (record { peer = peer; counter = counter; until = Some until })
       → IsSafeSubscription n place h eventgroup peer counter
+
+  -- the same of each whose server is no liar
+  abbrev pub HonestSubscriptionsAreSafe : ℕ → World → Type 0
+  HonestSubscriptionsAreSafe n w =
+      (place : ℕ) (h : History) (eventgroup : Eventgroup) (peer : Ipv4Addr) (counter : ℕ) (until : Deadline)
+      → slice_get w.histories place ≡ Some h
+      → (course_at h.items eventgroup).beginning ≡ Some (record { peer = peer; counter = counter; until = Some until })
+      → IsHonest nodes configs peer → IsSafeSubscription n place h eventgroup peer counter

@@ -1,6 +1,6 @@
 //! Laws of safety, of every run, or of every one in which keys are reused cleanly. Each is the contract of a
 //! function that does nothing.
-ghost use Rattle.std.specs.Prelude.{◌≤◌, ℕ, suc, List, length, take};
+ghost use Rattle.std.specs.Prelude.{◌≡◌, ◌≤◌, ℕ, suc, false, List, length, take, slice_get, Some};
 ghost use Rattle.std.specs.List.{AllByRecursion};
 ghost use Rattle.someip_node_rules.specs.declared.config.Config.{Config};
 ghost use Rattle.someip_node_laws.specs.Fitting.{FitsConfig};
@@ -8,24 +8,34 @@ ghost use Rattle.someip_world_schedule.specs.declared.step.Step.{Step};
 ghost use Rattle.someip_world_setup.specs.declared.setup_node.SetupNode.{SetupNode};
 ghost use Rattle.someip_world_setup.specs.GoodSetups.{IsGoodNetwork, Network};
 ghost use Rattle.someip_world_rules.specs.Announced.{AllFits, FitsStep};
+ghost use Rattle.someip_world_rules.specs.Datagrams.{SentDatagram};
+ghost use Rattle.someip_world_rules.specs.Deliveries.{IsInjected};
+ghost use Rattle.someip_world_rules.specs.Liars.{HasNoLiars, IsHonest, is_liar_at};
 ghost use Rattle.someip_world_rules.specs.Runs.{AreCopies, World};
 ghost use Rattle.someip_world_rules.specs.Turns.{LeadTo};
+ghost use Rattle.someip_world_exchanges.specs.Belonging.{Belongs};
 ghost use Rattle.someip_world_exchanges.specs.CleanReuse.{IsCleanBefore};
+ghost use Rattle.someip_world_exchanges.specs.Openings.{Opened};
+ghost use Rattle.someip_world_exchanges.specs.declared.exchange_key.ExchangeKey.{ExchangeKey};
 ghost use Rattle.someip_world_safety.specs.Addresses.{AreOffGroup, HaveOwnAddresses};
 ghost use Rattle.someip_world_safety.specs.AwaitedCalls.{CallsAreAwaited};
 ghost use Rattle.someip_world_safety.specs.CleanRuns.{AreShort, OpensOnce};
 ghost use Rattle.someip_world_safety.specs.OpenRequests.{RequestsAreOpen};
 ghost use Rattle.someip_world_safety.specs.OwnOffers.{HaveOwnOffers};
-ghost use Rattle.someip_world_safety.specs.Safety.{AnswersAreSafe, EventsAreSafe, OffersAreConfigured, PublishesToAll, PublishesToOne};
-ghost use Rattle.someip_world_safety.specs.Subscriptions.{SubscriptionsAreSafe};
+ghost use Rattle.someip_world_safety.specs.Safety.{AnswersAreSafe, EventsAreSafe, HonestAnswersAreSafe, HonestEventsAreSafe, HonestOffersAreConfigured, OffersAreConfigured, PublishesToAll, PublishesToOne};
+ghost use Rattle.someip_world_safety.specs.Subscriptions.{HonestSubscriptionsAreSafe, SubscriptionsAreSafe};
 
 /// A client counts itself subscribed, before each step up to which keys are reused cleanly, only where the
 /// server at which the subscription was begun accepted a Subscribe that belongs to this beginning, and no
-/// exchange of its key was begun since. All that is given fits its fields, nodes have addresses of their own,
-/// and none has that of the group.
+/// exchange of its key was begun since. That server is no liar, all that is given fits its fields, nodes have
+/// addresses of their own, and none has that of the group.
 pub fn subscriptions_were_accepted()
-    ensures { (nodes : List SetupNode) (configs : List Config) (steps : List Step)
+    ensures honest { (nodes : List SetupNode) (configs : List Config) (steps : List Step)
         → AllFits nodes configs steps → HaveOwnAddresses configs → AreOffGroup configs
+        → (n : ℕ) (w : World) → n ≤ length steps → LeadTo nodes configs (take n steps) w
+        → IsCleanBefore nodes configs steps n → HonestSubscriptionsAreSafe nodes configs steps n w }
+    ensures without_liars { (nodes : List SetupNode) (configs : List Config) (steps : List Step)
+        → HasNoLiars nodes → AllFits nodes configs steps → HaveOwnAddresses configs → AreOffGroup configs
         → (n : ℕ) (w : World) → n ≤ length steps → LeadTo nodes configs (take n steps) w
         → IsCleanBefore nodes configs steps n → SubscriptionsAreSafe nodes configs steps n w }
 {}
@@ -57,8 +67,8 @@ pub fn open_requests_were_handed_up()
 /// An event that is published in a step goes once to each endpoint that is live at its node in that moment
 /// for one of the event's eventgroups, and to no other; one that is published to one endpoint once to that,
 /// which is live for the named eventgroup of the event. The endpoint of each offer that a node knows before a
-/// step is one that a node is configured with for the instance, in the major version in which it is wanted,
-/// where the numbers of the configurations and of the steps fit their fields.
+/// step, from a peer that is no liar, is one that a node is configured with for the instance, in the major
+/// version in which it is wanted, where the numbers of the configurations and of the steps fit their fields.
 pub fn publications_go_to_subscribers()
     ensures to_all { (nodes : List SetupNode) (configs : List Config) (steps : List Step) (i : ℕ)
         → PublishesToAll nodes configs steps i }
@@ -66,28 +76,40 @@ pub fn publications_go_to_subscribers()
         → PublishesToOne nodes configs steps i }
     ensures offers { (nodes : List SetupNode) (configs : List Config) (steps : List Step) (n : ℕ)
         → AllByRecursion FitsConfig configs → AllByRecursion FitsStep steps
+        → HonestOffersAreConfigured nodes configs steps n }
+    ensures offers_without_liars { (nodes : List SetupNode) (configs : List Config) (steps : List Step)
+        (n : ℕ) → HasNoLiars nodes → AllByRecursion FitsConfig configs → AllByRecursion FitsStep steps
         → OffersAreConfigured nodes configs steps n }
 {}
 
 /// An answer that a step hands up, up to which and with which keys are reused cleanly, is all that the step
 /// gives, and is for a call of the client's present life which got none before; and in an earlier step the
 /// server at the call's peer endpoint produced just this code and payload, for a request that belongs to that
-/// call and has exactly its payload: its application answered, or the request failed a check. All that is
-/// given fits its fields, nodes have addresses of their own, and offers are at them.
+/// call and has exactly its payload: its application answered, or the request failed a check. The message that
+/// it was handed up of came from no liar, all that is given fits its fields, nodes have addresses of their own,
+/// and offers are at them.
 pub fn answers_are_the_servers()
-    ensures { (nodes : List SetupNode) (configs : List Config) (steps : List Step)
+    ensures honest { (nodes : List SetupNode) (configs : List Config) (steps : List Step)
         → AllFits nodes configs steps → HaveOwnAddresses configs → HaveOwnOffers configs → (n : ℕ)
-        → IsCleanBefore nodes configs steps (suc n) → AnswersAreSafe nodes configs steps n }
+        → IsCleanBefore nodes configs steps (suc n) → HonestAnswersAreSafe nodes configs steps n }
+    ensures without_liars { (nodes : List SetupNode) (configs : List Config) (steps : List Step)
+        → HasNoLiars nodes → AllFits nodes configs steps → HaveOwnAddresses configs
+        → HaveOwnOffers configs → (n : ℕ) → IsCleanBefore nodes configs steps (suc n)
+        → AnswersAreSafe nodes configs steps n }
 {}
 
 /// An event that a step hands up, up to which and with which keys are reused cleanly, has the payload of an
 /// earlier publication of that event from the endpoint of the known offer, which was sent to this client's
 /// endpoint while that was live there for one of the event's eventgroups; and the client is subscribed to an
-/// eventgroup to which its own set-up gives the event. All that is given fits its fields.
+/// eventgroup to which its own set-up gives the event. The message that it was handed up of came from no liar,
+/// and all that is given fits its fields.
 pub fn events_that_are_handed_up_were_published()
-    ensures { (nodes : List SetupNode) (configs : List Config) (steps : List Step)
+    ensures honest { (nodes : List SetupNode) (configs : List Config) (steps : List Step)
         → AllFits nodes configs steps → (n : ℕ) → IsCleanBefore nodes configs steps (suc n)
-        → EventsAreSafe nodes configs steps n }
+        → HonestEventsAreSafe nodes configs steps n }
+    ensures without_liars { (nodes : List SetupNode) (configs : List Config) (steps : List Step)
+        → HasNoLiars nodes → AllFits nodes configs steps → (n : ℕ)
+        → IsCleanBefore nodes configs steps (suc n) → EventsAreSafe nodes configs steps n }
 {}
 
 /// In a network that was read, each offer of a node is at the node's address, and is the only one of its
@@ -98,11 +120,32 @@ pub fn offers_are_at_their_nodes()
 {}
 
 /// A run in which no key is opened in two steps, and no message that is sent goes in segments, reuses its keys
-/// cleanly. All that is given fits its fields, no node has the address of the group, and offers are at their
-/// nodes' addresses.
+/// cleanly, whatever liars send. All that is given fits its fields, nodes have addresses of their own, none has
+/// that of the group, and offers are at their nodes' addresses.
 pub fn runs_that_open_each_key_once_are_clean()
     ensures { (nodes : List SetupNode) (configs : List Config) (steps : List Step)
-        → AllFits nodes configs steps → AreOffGroup configs → HaveOwnOffers configs
+        → AllFits nodes configs steps → HaveOwnAddresses configs → AreOffGroup configs
+        → HaveOwnOffers configs
         → OpensOnce nodes configs steps → AreShort nodes configs steps
         → (n : ℕ) → IsCleanBefore nodes configs steps n }
+{}
+
+/// A node that is no liar has an address that is no liar's, where nodes have addresses of their own.
+pub fn honest_nodes_have_honest_addresses()
+    ensures { (nodes : List SetupNode) (configs : List Config) → HaveOwnAddresses configs
+        → (place : ℕ) (config : Config) → slice_get configs place ≡ Some config
+        → is_liar_at nodes place ≡ false → IsHonest nodes configs config.address }
+{}
+
+/// Injected bytes belong to no exchange: they are none of what nodes send. And what a node sends in reply to
+/// them belongs to none: no exchange of the key that it names is ever opened, where all that is given fits its
+/// fields and nodes have addresses of their own. An exchange is what was opened.
+pub fn replies_to_injected_bytes_belong_to_none()
+    ensures bytes { (nodes : List SetupNode) (configs : List Config) (steps : List Step) (i since : ℕ)
+        (d e : SentDatagram) (key : ExchangeKey) → IsInjected nodes configs steps i e
+        → Belongs nodes configs steps i d key since → ⊥ }
+    ensures replies { (nodes : List SetupNode) (configs : List Config) (steps : List Step) (i since : ℕ)
+        (d e : SentDatagram) (key : ExchangeKey) → AllFits nodes configs steps
+        → HaveOwnAddresses configs → IsInjected nodes configs steps since e
+        → Belongs nodes configs steps i d key since → (k : ℕ) → Opened nodes configs steps k key → ⊥ }
 {}
