@@ -1,3 +1,4 @@
 pub mod Places
 pub mod Performing
+pub mod Acting
 pub mod Running

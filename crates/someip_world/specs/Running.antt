@@ -1,10 +1,9 @@
--- What the functions of a run do with its nodes.
-use Rattle.std.specs.Prelude.{◌≡◌, ℕ, List, map, Some, Result, Ok, Err}
+-- What the functions of a run do with those who act in it.
+use Rattle.std.specs.Prelude.{◌≡◌, ℕ, List, Result, Ok, Err}
 use Rattle.std.specs.Global.{Vec}
 use Rattle.std.specs.List.{AllZip}
 use Rattle.someip_node_rules.specs.Copies.{IsCopy}
-use Rattle.someip_node_rules.specs.History.{History, answers_of, start_of}
-use Rattle.someip_node_rules.specs.Steps.{NodeView}
+use Rattle.someip_node_rules.specs.History.{start_of}
 use Rattle.someip_node_rules.specs.declared.config.Config.{Config}
 use Rattle.someip_world_schedule.specs.declared.step.Step.{Step}
 use Rattle.someip_world_setup.specs.declared.setup_node.SetupNode.{SetupNode}
@@ -13,32 +12,31 @@ use Rattle.someip_world_rules.specs.declared.error.RunError.TheVariants.{BadStep
 use Rattle.someip_world_rules.specs.declared.line.Line.{Line}
 use Rattle.someip_world_rules.specs.declared.step_fault.StepFault.{StepFault}
 use Rattle.someip_world_rules.specs.Runs.{ComesTo, World, happens, run_from}
+use Rattle.someip_world.specs.declared.actor.Actor.{Actor}
+use Rattle.someip_world.specs.Acting.{actor_of, actors_of}
 
--- a node that stands for a history, as its callers see it
-abbrev pub view_of : History → NodeView
-view_of h = record { config = h.config; tables = Some (answers_of h) }
+-- at the places of the nodes of a setup stand those that act there, once nodes were started with their delays and with copies
+-- of their configurations
+abbrev pub IsStarted : SetupNode → Actor → Type 0
+IsStarted node actor = (config : Config) × IsCopy node.config config × (actor ≡ actor_of node.is_liar (start_of config node.delay))
 
--- nodes were started with their delays and with copies of their configurations
-abbrev pub IsStarted : SetupNode → NodeView → Type 0
-IsStarted node view = (config : Config) × IsCopy node.config config × (view ≡ view_of (start_of config node.delay))
+abbrev pub AreStarted : List SetupNode → List Actor → Type 0
+AreStarted nodes actors = AllZip IsStarted nodes actors
 
-abbrev pub AreStarted : List SetupNode → List NodeView → Type 0
-AreStarted nodes views = AllZip IsStarted nodes views
-
--- nodes and lines are those of a world
-abbrev pub AreOfWorld : List NodeView → List Line → World → Type 0
-AreOfWorld nodes lines w = (nodes ≡ map view_of w.histories) × (lines ≡ w.lines)
+-- actors and lines are those of a world over the nodes of a setup
+abbrev pub AreOfWorld : List SetupNode → List Actor → List Line → World → Type 0
+AreOfWorld setup actors lines w = (actors ≡ actors_of setup w.histories) × (lines ≡ w.lines)
 
 -- a step happened, or it is bad, or memory ran out
-abbrev pub Comes : ℕ → Result World StepFault → Result (Unit {0}) RunError → List NodeView → List Line → Type 0
-Comes index (Ok w) (Ok _) nodes lines = AreOfWorld nodes lines w
-Comes index (Err fault) (Err (BadStep at told)) nodes lines = (at ≡ index) × (told ≡ fault)
-Comes index (Ok w) (Err OutOfMemory) nodes lines = Unit {0}
-Comes index due result nodes lines = ⊥
+abbrev pub Comes : List SetupNode → ℕ → Result World StepFault → Result (Unit {0}) RunError → List Actor → List Line → Type 0
+Comes setup index (Ok w) (Ok _) actors lines = AreOfWorld setup actors lines w
+Comes setup index (Err fault) (Err (BadStep at told)) actors lines = (at ≡ index) × (told ≡ fault)
+Comes setup index (Ok w) (Err OutOfMemory) actors lines = Unit {0}
+Comes setup index due result actors lines = ⊥
 
-abbrev pub Happens : List SetupNode → ℕ → Step → List NodeView → List Line → Result (Unit {0}) RunError → List NodeView → List Line → Type 0
+abbrev pub Happens : List SetupNode → ℕ → Step → List Actor → List Line → Result (Unit {0}) RunError → List Actor → List Line → Type 0
 Happens setup index step old before result new after =
-    (w : World) → AreOfWorld old before w → Comes index (happens setup index w step) result new after
+    (w : World) → AreOfWorld setup old before w → Comes setup index (happens setup index w step) result new after
 
 -- all steps happened, or one is bad, or memory ran out
 abbrev pub Ends : Result World RunError → Result (Unit {0}) RunError → List Line → Type 0
@@ -47,8 +45,8 @@ Ends (Err error) (Err (BadStep at told)) lines = error ≡ BadStep at told
 Ends due (Err OutOfMemory) lines = Unit {0}
 Ends due result lines = ⊥
 
-abbrev pub RunsOn : List SetupNode → List Step → List NodeView → List Line → Result (Unit {0}) RunError → List Line → Type 0
-RunsOn setup steps old before result after = (w : World) → AreOfWorld old before w → Ends (run_from setup 1 w steps) result after
+abbrev pub RunsOn : List SetupNode → List Step → List Actor → List Line → Result (Unit {0}) RunError → List Line → Type 0
+RunsOn setup steps old before result after = (w : World) → AreOfWorld setup old before w → Ends (run_from setup 1 w steps) result after
 
 -- a run tells these lines, or the first bad step, or memory ran out
 abbrev pub IsTold : List SetupNode → List Step → Result (Vec Line) RunError → Type 0

@@ -9,16 +9,18 @@
 //! What a run is, the laws of every run and the types of a trace are those of `someip_world_rules`.
 #![tactic(auto)]
 
+mod actor;
 mod log;
+mod lying;
 mod performing;
 mod telling;
 mod world_run;
 
 pub use someip_world_rules::{
-    Line, Reuse, RunError, StepFault, Told, Trace, example_laws, numbers, run_laws,
+    Line, Reuse, RunError, StepFault, Told, Trace, example_laws, liar_laws, numbers, run_laws,
 };
 pub use someip_world_schedule::{
-    MethodId, NodeName, ScheduleError, Step, StepPayload, read_schedule,
+    MethodId, NodeName, ScheduleError, SourcePort, Step, StepPayload, read_schedule,
 };
 pub use someip_world_setup::{Setup, SetupError, SetupNode};
 pub use world_run::run;

@@ -73,6 +73,7 @@ pub(crate) fn perform<R: Reassembly>(
         Step::Unsubscribe { eventgroup, .. } => given(node.unsubscribe(*eventgroup)),
         Step::StopOffer { instance, .. } => given(node.stop_offer(*instance)),
         Step::Restart { delay, .. } => restart(alloc, node, *delay),
+        Step::Inject { .. } => Err(StepError::Bad(StepFault::NotLiar)),
     }
 }
 

@@ -2,14 +2,14 @@
 ghost use Rattle.std.specs.Prelude.{◌≡◌, IfOk, IfErr};
 ghost use Rattle.someip_world_exchanges.specs.CleanReuse.{IsVerdictOn};
 ghost use Rattle.someip_world_rules.specs.Runs.{IsRun};
-ghost use Rattle.someip_world_safety.specs.Safety.{IsSafeOn};
+ghost use Rattle.someip_world_rules.specs.Liars.{HasNoLiars};
+ghost use Rattle.someip_world_safety.specs.Safety.{IsSafeAmongLiarsOn, IsSafeOn};
 ghost use Rattle.someip_world.specs.Running.{AreStarted, Happens, IsTold, RunsOn};
 ghost use Rattle.someip_world_rules.specs.declared.error.RunError.TheVariants as fault;
 
+use crate::actor::{Actor, act, started};
 use crate::log::Log;
-use crate::performing::perform;
 use crate::telling::tell;
-use someip_node::Node;
 use someip_tp::Reassembly;
 use someip_world_ledger::verdict_on;
 use someip_world_rules::{Line, RunError, StepFault, Trace, place_of};
@@ -18,40 +18,36 @@ use someip_world_schedule::Step;
 use someip_world_setup::{Setup, SetupNode};
 use std::alloc::Global;
 
-/// The nodes of a setup, each started with its delay.
-fn start<R: Reassembly>(alloc: Global, nodes: &[SetupNode]) -> Result<Vec<Node<R>>, RunError>
+/// The nodes of a setup, each started with its delay, and its liars, each in its place.
+fn start<R: Reassembly>(alloc: Global, nodes: &[SetupNode]) -> Result<Vec<Actor<R>>, RunError>
     ensures ok { IfOk result (λ v. AreStarted nodes.now v.items) }
     ensures memory { IfErr result (λ error. error ≡ fault.OutOfMemory) }
 {
-    let mut started = Vec::new(alloc);
+    let mut actors = Vec::new(alloc);
     for node in nodes {
-        let config = node.config.clone()?;
-        match Node::<R>::start(alloc, config, node.delay) {
-            Ok(node) => started.push(node)?,
-            Err(_) => return Err(RunError::OutOfMemory),
-        }
+        actors.push(started::<R>(alloc, node)?)?;
     }
-    Ok(started)
+    Ok(actors)
 }
 
 /// Does a step of an index, counted from 1.
 fn happen<R: Reassembly>(
     alloc: Global,
     setup: &[SetupNode],
-    nodes: &mut Vec<Node<R>>,
+    actors: &mut Vec<Actor<R>>,
     log: &mut Log,
     index: usize,
     step: &Step,
 ) -> Result<(), RunError>
-    ensures { Happens setup.now index step.now nodes.old.items log.old result nodes.new.items log.new }
+    ensures { Happens setup.now index step.now actors.old.items log.old result actors.new.items log.new }
 {
     let Some(place) = place_of(setup, step.node().as_str()) else {
         return Err(RunError::BadStep(index, StepFault::UnknownNode));
     };
-    if nodes.len() <= place {
+    if actors.len() <= place {
         return Err(RunError::BadStep(index, StepFault::UnknownNode));
     }
-    let given = perform(alloc, &mut nodes[place], log, step);
+    let given = act(alloc, &mut actors[place], log, step);
     tell(log, index, place, given)
 }
 
@@ -59,19 +55,19 @@ fn happen<R: Reassembly>(
 fn run_all<R: Reassembly>(
     alloc: Global,
     setup: &[SetupNode],
-    nodes: &mut Vec<Node<R>>,
+    actors: &mut Vec<Actor<R>>,
     log: &mut Log,
     steps: &[Step],
 ) -> Result<(), RunError>
-    ensures { RunsOn setup.now steps.now nodes.old.items log.old result log.new }
+    ensures { RunsOn setup.now steps.now actors.old.items log.old result log.new }
 {
     for (done, step) in steps.iter().enumerate() {
-        happen(alloc, setup, nodes, log, done + 1, step)?;
+        happen(alloc, setup, actors, log, done + 1, step)?;
     }
     Ok(())
 }
 
-/// Runs a schedule over nodes: the lines of its trace.
+/// Runs a schedule over nodes and liars: the lines of its trace.
 fn run_nodes<R: Reassembly>(
     alloc: Global,
     setup: &[SetupNode],
@@ -79,16 +75,16 @@ fn run_nodes<R: Reassembly>(
 ) -> Result<Vec<Line>, RunError>
     ensures { IsTold setup.now steps.now result }
 {
-    let mut nodes = start::<R>(alloc, setup)?;
+    let mut actors = start::<R>(alloc, setup)?;
     let mut log = Log::new(alloc);
-    match run_all(alloc, setup, &mut nodes, &mut log, steps) {
+    match run_all(alloc, setup, &mut actors, &mut log, steps) {
         Ok(()) => Ok(log.into_lines()),
         Err(error) => Err(error),
     }
 }
 
 /// Runs a schedule over the nodes of a setup: each node is started with its delay, and the steps happen
-/// one after the other. The trace tells all that the nodes gave, and whether they reused the keys of their
+/// one after the other. Liars run no node: they send what steps say, under their own addresses. The trace tells all that the nodes gave, and whether they reused the keys of their
 /// exchanges cleanly.
 ///
 /// It is refused as `BadStep` with the index of the first step that can't happen.
@@ -98,10 +94,15 @@ pub fn run<R: Reassembly>(alloc: Global, setup: &Setup, steps: &[Step]) -> Resul
     // The verdict is that on this run: the first step that breaks clean reuse is named, if one does.
     ensures verdict { IfOk result
         (λ trace. IsVerdictOn setup.now.nodes steps.now trace.lines.items trace.verdict) }
-    // Up to that step, or in all steps, answers, events and subscriptions are safe; in all, publications
-    // go to those who are subscribed, and known offers are configured.
-    ensures safe { IfOk result
-        (λ trace. IsSafeOn setup.now.nodes steps.now trace.lines.items trace.verdict) }
+    // Up to that step, or in all steps, answers and events are safe that came from no liar, and
+    // subscriptions at servers that are none; in all, nodes publish to those who are subscribed, and known
+    // offers of peers that are no liars are configured.
+    ensures safe_among_liars { IfOk result
+        (λ trace. IsSafeAmongLiarsOn setup.now.nodes steps.now trace.lines.items trace.verdict) }
+    // Without liars all answers, events and subscriptions are safe up to that step, or in all steps; in all,
+    // publications go to those who are subscribed, and known offers are configured.
+    ensures safe { IfOk result (λ trace. HasNoLiars setup.now.nodes
+        → IsSafeOn setup.now.nodes steps.now trace.lines.items trace.verdict) }
 {
     let lines = run_nodes::<R>(alloc, setup.nodes(), steps)?;
     let verdict = verdict_on(alloc, setup, steps, &lines)?;

@@ -6,6 +6,6 @@ use Rattle.someip_world.proofs.world_run.happen.Goals as goal
 
 pub returns : goal.returns
 returns g c = λ w shows.
-    happened c.args.setup.now c.args.index c.in-Some.place w c.args.step.now c.args.nodes.now.items c.args.log.now c.index_mut.result.now _ c.perform-given.result _ _
+    happened c.args.setup.now c.args.index c.in-Some.place w c.args.step.now c.args.actors.now.items c.args.log.now c.index_mut.result.now _ c.act-given.result _ _
     (ap (place_of c.args.setup.now) (sym (c.as_str.ensures ∙ c.node.ensures)) ∙ sym c.place_of.ensures ∙ c.in-Some.is) shows
-    (slice_get_read c.args.nodes.now.items _ _ _ refl (omega arith) c.index_mut.ensures.value) c.perform-given.ensures c.tell.ensures
+    (slice_get_read c.args.actors.now.items _ _ _ refl (omega arith) c.index_mut.ensures.value) c.act-given.ensures c.tell.ensures

@@ -2,7 +2,12 @@ use Rattle.std.proofs.Common.{rules}
 use Rattle.someip_world_exchanges.specs.CleanReuse.{IsVerdictOn}
 use Rattle.someip_world.proofs.world_run.run.Goals as goal
 
-pub returns-clause-safe : goal.returns-clause-safe
-returns-clause-safe g c =
+pub returns-clause-safe_among_liars : goal.returns-clause-safe_among_liars
+returns-clause-safe_among_liars g c =
     let judged : IsVerdictOn c.args.setup.now.nodes c.args.steps.now c.in_ok-lines.lines.items c.in_ok-verdict.verdict = search rules in
-    c.runs_are_safe_by_their_verdict.ensures c.in_ok-lines.lines.items c.in_ok-verdict.verdict judged
+    c.runs_are_safe_by_their_verdict.ensures.among_liars c.in_ok-lines.lines.items c.in_ok-verdict.verdict judged
+
+pub returns-clause-safe : goal.returns-clause-safe
+returns-clause-safe g c none =
+    let judged : IsVerdictOn c.args.setup.now.nodes c.args.steps.now c.in_ok-lines.lines.items c.in_ok-verdict.verdict = search rules in
+    c.runs_are_safe_by_their_verdict.ensures.without_liars none c.in_ok-lines.lines.items c.in_ok-verdict.verdict judged

@@ -6,4 +6,4 @@ use Rattle.someip_world.proofs.world_run.run_all.Given as goal
 -- the run goes on from what was done
 abbrev pub invariant-loop-done : goal.invariant-loop-done
 invariant-loop-done g l =
-    (first : World) → AreOfWorld l.fn.nodes.items l.fn.log first → GoesOn l.setup first l.steps l.nodes.items l.log l.done
+    (first : World) → AreOfWorld l.setup l.fn.actors.items l.fn.log first → GoesOn l.setup first l.steps l.actors.items l.log l.done

@@ -2,6 +2,6 @@ use Rattle.std.proofs.Common.{take}
 use Rattle.someip_world.specs.Running.{AreStarted}
 use Rattle.someip_world.proofs.world_run.start.Given as goal
 
--- the nodes so far are started
+-- those so far are started
 abbrev pub invariant-loop-node : goal.invariant-loop-node
-invariant-loop-node g l = AreStarted (take l.node-index l.nodes) l.started.items
+invariant-loop-node g l = AreStarted (take l.node-index l.nodes) l.actors.items
