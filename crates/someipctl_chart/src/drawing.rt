@@ -219,16 +219,21 @@ fn push_lanes(text: &mut String, picture: &Picture<'_>) -> Result<(), AllocError
     Ok(())
 }
 
-/// Appends the lane of a node, with its name and address.
+/// Appends the lane of a node, with its name and address. That of a liar is dashed.
 fn push_lane(
     text: &mut String,
     x: usize,
     bottom: usize,
     node: &SetupNode,
 ) -> Result<(), AllocError> {
+    let (dashes, word) = if node.is_liar {
+        (" stroke-dasharray=\"6 4\"", " (liar)")
+    } else {
+        ("", "")
+    };
     write!(
         text,
-        "<line class=\"lane\" x1=\"{x}\" y1=\"{TOP}\" x2=\"{x}\" y2=\"{bottom}\"/>"
+        "<line class=\"lane\" x1=\"{x}\" y1=\"{TOP}\" x2=\"{x}\" y2=\"{bottom}\"{dashes}/>"
     )?;
     write!(
         text,
@@ -238,7 +243,7 @@ fn push_lane(
     let address = node.config.address;
     write!(
         text,
-        "</text><text x=\"{x}\" y=\"72\" text-anchor=\"middle\">{address}</text>\n"
+        "{word}</text><text x=\"{x}\" y=\"72\" text-anchor=\"middle\">{address}</text>\n"
     )
 }
 
