@@ -42,6 +42,8 @@ const GOOD: &[&[u8]] = &[
     b"publish_to a 1234.0001 0001 10.0.0.200:30490 8001 ff*2",
     b"subscribe subscribe ffff.ffff ffff",
     b"restart restart 1",
+    b"inject a 1 0.0.0.0:0 -",
+    b"inject inject 65535 255.255.255.255:65535 aA*1048576",
     b"#tick\ntick a 5\n#",
 ];
 
@@ -142,6 +144,16 @@ const BAD: &[&[u8]] = &[
     b"restart a",
     b"restart a 18446744073709551616",
     b"start a 1",
+    b"inject a 0 10.0.0.1:1 -",
+    b"inject a 65536 10.0.0.1:1 -",
+    b"inject a 01 10.0.0.1:1 -",
+    b"inject a 1234.0001 10.0.0.1:1 -",
+    b"inject a 1 10.0.0.1 -",
+    b"inject a 1 10.0.0.1:65536 -",
+    b"inject a 1 10.0.0.1:1",
+    b"inject a 1 10.0.0.1:1 aa*1048577",
+    b"inject a 1 10.0.0.1:1 - -",
+    b"inject A 1 10.0.0.1:1 -",
 ];
 
 /// How many steps a text has, or which of its lines is bad.
@@ -188,6 +200,7 @@ subscribe a 1234.0001 fffe
 unsubscribe a 1234.0001 0003
 stop_offer a 1234.0001
 restart a 100
+inject a 40001 10.0.0.200:30490 ff*2
 ";
 
 /// What a step says of a node, but for its payload.
@@ -204,6 +217,8 @@ enum Said {
     Unsubscribe(&'static str, Eventgroup),
     StopOffer(&'static str, InstanceId),
     Restart(&'static str, u64),
+    /// The port that is sent from, the last byte of the address 10.0.0.x, and its port.
+    Inject(&'static str, u16, u8, u16),
 }
 
 /// The instance 00ff of the service 1234, and its instance 0001.
@@ -264,6 +279,7 @@ const SAID: &[(Said, Option<&[u8]>)] = &[
     (Said::Unsubscribe("a", THIRD_GROUP), None),
     (Said::StopOffer("a", FIRST), None),
     (Said::Restart("a", 100), None),
+    (Said::Inject("a", 40001, 200, 30490), Some(&[255, 255])),
 ];
 
 /// Whether a step says this.
@@ -316,6 +332,10 @@ fn is_said_with_payload(step: &Step, said: Said) -> bool {
             let endpoint = SocketAddrV4::new(Ipv4Addr::new(10, 0, 0, host), port);
             *eventgroup == of && *to == endpoint && *event == id
         }
+        (Step::Inject { port, to, .. }, Said::Inject(_, from, host, wanted)) => {
+            let endpoint = SocketAddrV4::new(Ipv4Addr::new(10, 0, 0, host), wanted);
+            port.number() == from && *to == endpoint
+        }
         _ => false,
     }
 }
@@ -332,7 +352,8 @@ fn node_of(said: Said) -> &'static str {
         | Said::Subscribe(node, _)
         | Said::Unsubscribe(node, _)
         | Said::StopOffer(node, _)
-        | Said::Restart(node, _) => node,
+        | Said::Restart(node, _)
+        | Said::Inject(node, _, _, _) => node,
     }
 }
 
@@ -342,7 +363,8 @@ fn payload_of(step: &Step) -> Option<&StepPayload> {
         Step::Call { payload, .. }
         | Step::Answer { payload, .. }
         | Step::Publish { payload, .. }
-        | Step::PublishTo { payload, .. } => Some(payload),
+        | Step::PublishTo { payload, .. }
+        | Step::Inject { payload, .. } => Some(payload),
         _ => None,
     }
 }

@@ -45,6 +45,43 @@ fn is_known(line: &Line, step: usize, node: usize) -> bool {
     line.step == step && line.node == node && matches!(&line.told, Told::Gave(Output::Known { .. }))
 }
 
+/// A liar beside a node.
+const LIAR: &str = "group = \"239.0.0.1\"
+[[node]]
+name = \"b\"
+address = \"192.168.0.2\"
+client_id = 0x0102
+client_port = 40001
+[[node]]
+name = \"c\"
+address = \"192.168.0.9\"
+client_id = 0x0103
+client_port = 40002
+liar = true
+";
+
+/// What a schedule over a node and a liar comes to, if both can be read.
+fn ran_with_a_liar(alloc: Global, schedule: &str) -> Option<Result<Trace, RunError>> {
+    let setup = Setup::read(alloc, LIAR).ok()?;
+    ran_over(alloc, &setup, schedule)
+}
+
+/// Whether a line tells of a datagram of so many bytes.
+fn is_sent(line: &Line, count: usize) -> bool {
+    match &line.told {
+        Told::Gave(Output::Sent { bytes, .. }) => bytes.as_slice().len() == count,
+        _ => false,
+    }
+}
+
+/// Whether a liar sends as many bytes as a datagram may have.
+fn sends_the_longest(alloc: Global) -> bool {
+    match ran_with_a_liar(alloc, "inject c 1 192.168.0.2:1 00*65507\n") {
+        Some(Ok(trace)) => trace.lines.len() == 1 && is_sent(&trace.lines[0], 65507),
+        _ => false,
+    }
+}
+
 /// Whether a run has two lines, of which the second tells that the offer is known.
 fn finds_the_offer(alloc: Global) -> bool {
     match ran(alloc, "tick a 10\ndeliver 1 b\n") {
@@ -65,4 +102,5 @@ fn names_the_bad_step(alloc: Global) -> bool {
 fn short_runs(rt: HostRuntime) {
     assert!(rt; finds_the_offer(rt.alloc()));
     assert!(rt; names_the_bad_step(rt.alloc()));
+    assert!(rt; sends_the_longest(rt.alloc()));
 }

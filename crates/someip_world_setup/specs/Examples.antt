@@ -1,5 +1,5 @@
 -- Small setups and trees, for laws by example.
-use Rattle.std.specs.Prelude.{ℕ, codes, List, [], ◌∷◌, ◌++◌}
+use Rattle.std.specs.Prelude.{ℕ, true, false, codes, List, [], ◌∷◌, ◌++◌}
 use Rattle.std.specs.List.{flat_map}
 use Rattle.std.specs.declared.net.ipv4_addr.Ipv4Addr.{Ipv4Addr}
 use Rattle.toml.specs.Data.{Data, array, table, no_items, item, no_members, member}
@@ -41,9 +41,14 @@ node_with name last client_port offers wants = record {
   client_id = 0x0101;
   client_port = client_port;
   delay = 10;
+  liar = false;
   offers = offers;
   wants = wants;
 }
+
+-- the same as a liar
+abbrev pub lying : NodeValue → NodeValue
+lying node = record node { liar = true }
 
 -- nodes with a multicast group, and defaults
 abbrev pub setup_with : Ipv4Addr → List NodeValue → SetupValue

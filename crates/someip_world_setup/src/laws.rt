@@ -5,7 +5,7 @@ ghost use Rattle.std.specs.List.{All};
 ghost use Rattle.toml.specs.Data.{Data};
 ghost use Rattle.someip_node_rules.specs.GoodConfigs.{is_good, is_good_delay};
 ghost use Rattle.someip_world_setup.specs.Clashes.{has_repeat, same_number, has_clash};
-ghost use Rattle.someip_world_setup.specs.Examples.{group_address, local_address, offer_with, offer_at, want_with, node_with, alone_with, offering, beside, also_offering, wanting, keyed, tree_with_node, tree_with_offer, tree_with_want, tree_with_event, tree_with_eventgroup, text_with, two_nodes};
+ghost use Rattle.someip_world_setup.specs.Examples.{group_address, local_address, offer_with, offer_at, want_with, node_with, lying, alone_with, offering, beside, also_offering, wanting, keyed, tree_with_node, tree_with_offer, tree_with_want, tree_with_event, tree_with_eventgroup, text_with, two_nodes};
 ghost use Rattle.someip_world_setup.specs.GoodSetups.{Network, IsGoodNetwork};
 ghost use Rattle.someip_world_setup.specs.KnownKeys.{has_unknown_key};
 ghost use Rattle.someip_world_setup.specs.Readings.{setup_of_text};
@@ -63,12 +63,24 @@ pub fn what_methods_clash()
     ensures apart { has_clash (offering (offer_with 1 30509 (421 ∷ []) (422 ∷ []) ∷ [])) ≡ false }
 {}
 
+/// A liar may have neither an offer nor a want, and a node that is none may have both.
+pub fn what_liars_clash()
+    ensures bare { has_clash (beside (lying (node_with (codes "b") 2 40001 [] []))) ≡ false }
+    ensures offer { has_clash (beside (lying (node_with (codes "b") 2 40001 (offer_at 2 30509 ∷ []) [])))
+        ≡ true }
+    ensures want { has_clash (beside (lying (node_with (codes "b") 2 40001 [] (want_with 1 ∷ []))))
+        ≡ true }
+    ensures honest { has_clash
+        (beside (node_with (codes "b") 2 40001 (offer_at 2 30509 ∷ []) (want_with 1 ∷ []))) ≡ false }
+{}
+
 /// A key is known in its own kind of table, and in no other, whatever its value.
 pub fn what_keys_are_known()
     ensures setup { (d : Data) → has_unknown_key (keyed (codes "group") d) ≡ false }
     ensures not_setup { (d : Data) → has_unknown_key (keyed (codes "port") d) ≡ true }
     ensures node { (d : Data) → has_unknown_key (tree_with_node (keyed (codes "name") d)) ≡ false }
     ensures not_node { (d : Data) → has_unknown_key (tree_with_node (keyed (codes "group") d)) ≡ true }
+    ensures liar { (d : Data) → has_unknown_key (tree_with_node (keyed (codes "liar") d)) ≡ false }
     ensures offer { (d : Data) → has_unknown_key (tree_with_offer (keyed (codes "minor") d)) ≡ false }
     ensures not_offer { (d : Data) → has_unknown_key (tree_with_offer (keyed (codes "groups") d)) ≡ true }
     ensures want { (d : Data) → has_unknown_key (tree_with_want (keyed (codes "major") d)) ≡ false }

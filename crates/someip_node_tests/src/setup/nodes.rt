@@ -123,6 +123,31 @@ pub(super) const NODES: &str = r#"- name = "a"
 
 - client_port = 40000
 + client_port = 40000
+liar = false
+= ok
+
+- client_port = 40000
++ client_port = 40000
+liar = 0
+= WrongKind liar
+
+- client_port = 40000
++ client_port = 40000
+liar = "true"
+= WrongKind liar
+
+- client_port = 40000
++ client_port = 40000
+liar = true
+= Clash offer
+
+- client_port = 40001
++ client_port = 40001
+liar = true
+= Clash want
+
+- client_port = 40000
++ client_port = 40000
 delay = 9
 = OutOfRange delay
 

@@ -68,6 +68,10 @@ const NODE_KEYS: &str = r#"- major = 0x36
 + # none
 = Missing major
 
+- liar = true
++ liar = "x"
+= WrongKind liar
+
 - delay = 12
 + delay = 101
 = OutOfRange delay
@@ -282,7 +286,12 @@ zy = 1
 = UnknownKey zy"#;
 
 /// Clashes, by their kind, the last first.
-const CLASHES: &str = r#"- methods = [0x71]
+const CLASHES: &str = r#"- delay = 12
++ delay = 12
+liar = true
+= Clash offer
+
+- methods = [0x71]
 + methods = [0x71, 0x71]
 = Clash id
 
