@@ -56,6 +56,7 @@ impl StepPayload {
         ensures { IsBytes self.now }
     {
         are_bytes(self.bytes.as_slice());
+        are_bytes(&[self.repeated]);
     }
 
     /// The payload, byte for byte.
