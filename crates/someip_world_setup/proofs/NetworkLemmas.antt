@@ -8,7 +8,7 @@ use Rattle.std.specs.Cmp.{eq_by_cmp_equiv, nat_cmp_total}
 use Rattle.std.specs.FinMap.{FinMap, contains_key, from_entries, get-from_entries, len, len-empty, len-insert}
 use Rattle.std.specs.FinMap.Entries.{is_some-find}
 use Rattle.std.specs.declared.net.ipv4_addr.Ipv4Addr.{Ipv4Addr}
-use Rattle.std.proofs.lemmas.Bool.{and_from, or_parts, not_from_false, eq-eqb}
+use Rattle.std.proofs.lemmas.Bool.{and_from, or_parts, not_from_false, eq-eqb, ne_eqb}
 use Rattle.std.proofs.lemmas.List.{length-map}
 use Rattle.std.proofs.lemmas.List.Elements.{All-nil, All-cons}
 use Rattle.std.proofs.lemmas.List.Sorted.{IsPermutation-refl, IsPermutation-map, IsPermutation-append}
@@ -113,7 +113,9 @@ module _ (common : Common) (n : NodeValue) (c : Config) (is : config_view c ≡ 
 
 no_elements : {A : Type 0} (xs : List A) → not (length xs == 0) ≡ false → xs ≡ []
 no_elements [] h = refl
-no_elements (x ∷ xs) h = cc
+no_elements (x ∷ xs) h =
+    let some : (length (x ∷ xs) == 0) ≡ false = ne_eqb (length (x ∷ xs)) 0 (λ is. omega (arith, is)) in
+    let never : true ≡ false = sym (ap not some) ∙ h in absurd cc
 
 nothing_mapped : {A B : Type 0} (f : A → B) (xs : List A) → map f xs ≡ [] → xs ≡ []
 nothing_mapped f [] h = refl
