@@ -1,4 +1,5 @@
 pub mod AddressLemmas
+pub mod LiarLemmas
 pub mod EachNode
 pub mod CallItems
 pub mod SameStep
