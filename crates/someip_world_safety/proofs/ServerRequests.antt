@@ -1,5 +1,5 @@
 -- A request that is open at a server was handed up in a step of the same life, and no other was since under its token.
-use Rattle.std.proofs.Common.{◌≡◌, ◌≢◌, ◌⊎◌, inl, inr, ℕ, suc, ◌<◌, ◌≤◌, List, [], length, take, Some, Result, Ok, Err, arith, refl, sym, ap, subst, ◌∙◌}
+use Rattle.std.proofs.Common.{◌≡◌, ◌⊎◌, inl, inr, ℕ, suc, ◌<◌, ◌≤◌, List, [], length, take, Some, Result, Ok, Err, arith, refl, sym, ap, subst, ◌∙◌}
 use Rattle.someip_rpc.specs.declared.request.Asked.{Asked}
 use Rattle.someip_node_rules.specs.declared.config.Config.{Config}
 use Rattle.someip_node_rules.specs.declared.error.NodeError.{NodeError}
@@ -19,15 +19,15 @@ use Rattle.someip_node_rules.proofs.StepRules.{config_there}
 use Rattle.someip_world_schedule.specs.declared.step.Step.{Step}
 use Rattle.someip_world_setup.specs.declared.setup_node.SetupNode.{SetupNode}
 use Rattle.someip_world_rules.specs.Deeds.{Takes}
-use Rattle.someip_world_rules.specs.Deliveries.{Restarted}
+use Rattle.someip_world_rules.specs.Deliveries.{Does, Restarted}
 use Rattle.someip_world_rules.specs.Runs.{World, history_after}
 use Rattle.someip_world_rules.specs.Turns.{LeadTo, Turn}
-use Rattle.someip_world_rules.proofs.Lives.{below_next, lives_next, not_restarted}
+use Rattle.someip_world_rules.proofs.Lives.{below_next, lives_next}
 use Rattle.someip_world_exchanges.specs.Belonging.{HandsUp}
 use Rattle.someip_world_safety.specs.OpenRequests.{IsOpenRequest, RequestsAreOpen}
 use Rattle.someip_world_safety.proofs.EachNode.{each_node}
 use Rattle.someip_world_safety.proofs.RequestItems.{open_below}
-use Rattle.someip_world_safety.proofs.SameStep.{not_refused, same_history, same_place, takes_no_restart}
+use Rattle.someip_world_safety.proofs.SameStep.{not_refused, same_history, takes_no_restart}
 use Rattle.someip_world_safety.proofs.StepRequests.{Handed, IsOpenIn, Stood, is_given, open_in_step, up_is_new}
 
 module _ (nodes : List SetupNode) (configs : List Config) (ss : List Step) where
@@ -35,7 +35,7 @@ module _ (nodes : List SetupNode) (configs : List Config) (ss : List Step) where
   abbrev AreOpen : ℕ → ℕ → History → Type 0
   AreOpen n place h = (token : ℕ) (request : Asked) → open_request_at h.items token ≡ Some request → IsOpenRequest nodes configs ss n place token request
 
-  module _ (n : ℕ) (s : Step) (t : Turn nodes configs ss n s) where
+  module _ (n : ℕ) where
     -- one is open on over a step that neither starts the node again nor hands up a request of its token
     longer : (place token : ℕ) (request : Asked) → (Restarted nodes configs ss n place → ⊥) → (HandsUp nodes configs ss n place token → ⊥) → IsOpenRequest nodes configs ss n place token request
         → IsOpenRequest nodes configs ss (suc n) place token request
@@ -59,11 +59,11 @@ module _ (nodes : List SetupNode) (configs : List Config) (ss : List Step) where
         last_on k later (inl less) up = o.last k later less up
         last_on k later (inr same) up = none (subst (λ j. HandsUp nodes configs ss j place token) same up)
 
-    -- a step of another node does neither
-    stays : (place : ℕ) (h : History) → place ≢ t.place → AreOpen n place h → AreOpen (suc n) place h
-    stays place h ne was token request is =
-        longer place token request (not_restarted nodes configs ss n place s t (λ at. absurd (ne (sym at)))) (λ up. ne (sym up.at ∙ same_place nodes configs ss n s t up.does)) (was token request is)
+    -- a step in which the node takes nothing, and is not started again, does neither
+    stays : (place : ℕ) (h : History) → ((does : Does nodes configs ss n) → does.turn.place ≡ place → ⊥) → (Restarted nodes configs ss n place → ⊥) → AreOpen n place h → AreOpen (suc n) place h
+    stays place h idle alive was token request is = longer place token request alive (λ up. idle up.does up.at) (was token request is)
 
+  module _ (n : ℕ) (s : Step) (t : Turn nodes configs ss n s) where
     -- a token that is given is not handed up again
     not_again : (token : ℕ) (request : Asked) → open_request_at t.history.items token ≡ Some request → HandsUp nodes configs ss n t.place token → ⊥
     not_again token request is up =
@@ -105,11 +105,11 @@ module _ (nodes : List SetupNode) (configs : List Config) (ss : List Step) where
       -- after a step in which the node takes an input
       goes : (due : Result (Work History) NodeError) → step t.history input ≡ due → AreOpen n t.place t.history → AreOpen (suc n) t.place (history_after t.history due)
       goes (Err refusal) due was token request is =
-          longer t.place token request alive (λ up. not_refused nodes configs ss n s t input takes refusal due up.does) (was token request is)
+          longer n t.place token request alive (λ up. not_refused nodes configs ss n s t input takes refusal due up.does) (was token request is)
       goes (Ok done) due was token request is = cases (open_in_step t.history input token request (subst (λ x. open_request_at x.items token ≡ Some request) (state_met t.history input done due) is))
         where
           cases : IsOpenIn t.history input token request → IsOpenRequest nodes configs ss (suc n) t.place token request
-          cases (Stood stood) = longer t.place token request alive (not_again token request stood) (was token request stood)
+          cases (Stood stood) = longer n t.place token request alive (not_again token request stood) (was token request stood)
           cases (Handed d among m same) =
               let given = is_given t.history input token request d among m same in
               handed_here done due token request d m (ap (λ c. offered_as c m.instance) (sym (config_there t.history input d among)) ∙ m.offered) given.0 given.1
@@ -121,5 +121,5 @@ module _ (nodes : List SetupNode) (configs : List Config) (ss : List Step) where
   -- before each step
   pub all_open : (n : ℕ) (w : World) → n ≤ length ss → LeadTo nodes configs (take n ss) w → RequestsAreOpen nodes configs ss n w
   all_open n w le led place h token request here is =
-      each_node nodes configs ss AreOpen starts (λ n s t place h ne was. stays n s t place h ne was)
+      each_node nodes configs ss AreOpen starts (λ n place h idle alive was. stays n place h idle alive was)
       (λ n s t input takes due e was. goes n s t input takes due e was) n w le led place h here token request is

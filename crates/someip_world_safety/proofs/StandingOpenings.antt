@@ -184,7 +184,7 @@ module _ (nodes : List SetupNode) (configs : List Config) (ss : List Step) where
   all_opened : (n : ℕ) (w : World) → n ≤ length ss → LeadTo nodes configs (take n ss) w → (place : ℕ) (h : History) → slice_get w.histories place ≡ Some h → WereOpened n place h
   all_opened =
       each_node nodes configs ss WereOpened (λ n place config delay q b is. absurd cc)
-      (λ n s t place h ne was q b is. later n _ (sooner n _ (was q b is))) goes
+      (λ n place h idle alive was q b is. later n _ (sooner n _ (was q b is))) goes
 
   -- those that stand where a step begins were opened
   pub opened_first : (n : ℕ) (does : Does nodes configs ss n) → AllOpened n does does.turn.history
