@@ -1,4 +1,4 @@
--- What is sent to a peer goes to a node.
+-- What is sent to a peer goes to the place of a node or a liar.
 use Rattle.std.proofs.Common.{◌≡◌, inl, inr, ℕ, List, arith, Some, sym, ap, subst, ◌∙◌}
 use Rattle.std.specs.List.{AllByRecursion, Contains}
 use Rattle.std.specs.Option.{option_map}
@@ -39,15 +39,17 @@ use Rattle.someip_world_rules.specs.Datagrams.{SentDatagram}
 use Rattle.someip_world_rules.specs.Deeds as deeds
 use Rattle.someip_world_rules.specs.Origins.{WasMet}
 use Rattle.someip_world_rules.specs.Turns.{Turn}
-use Rattle.someip_world_rules.specs.Deliveries.{Does}
+use Rattle.someip_world_rules.specs.Deliveries.{Does, GoesOut, Sends}
 use Rattle.someip_world_rules.proofs.OriginLemmas.{all_origins, turn_configured}
-use Rattle.someip_world_rules.proofs.Deliverings.{delivered_in}
+use Rattle.someip_world_rules.proofs.Deliverings.{DeliveredIn, delivered_in}
 use Rattle.someip_world_rules.proofs.Fronts.{within}
+use Rattle.someip_world_rules.proofs.InjectionLemmas.{of_liar}
 use Rattle.someip_world_rules.proofs.Sendings.{sent_before}
 use Rattle.someip_world_exchanges.proofs.EntryLemmas.{announced_with}
 use Rattle.someip_world_safety.specs.Addresses.{IsOfNode}
 use Rattle.someip_world_safety.proofs.EntryInputs.{offer_came}
 use Rattle.someip_world_safety.proofs.KnownPeers.{IsFrom, course_from, known_peer_from, standing_begun}
+use Rattle.someip_world_safety.proofs.LiarLemmas.{liar_of_setup}
 use Rattle.someip_world_safety.proofs.SentEntries.{Asks, Back, ToPeer, to_peer}
 
 module _ (nodes : List SetupNode) (configs : List Config) (ss : List Step) (fits : AllFits nodes configs ss) where
@@ -57,19 +59,30 @@ module _ (nodes : List SetupNode) (configs : List Config) (ss : List Step) (fits
   from_node (plans.RepliesTo peer own) t from to stamp entries m = ap v4_ip m.0
   from_node r t from to stamp entries m = absurd m
 
-  -- a datagram with an entry came from a node
-  came_from_node : (i : ℕ) (s : Step) (t : Turn nodes configs ss i s) (p : Packet) (entry : ReadValue) → t.deed ≡ deeds.Takes (inputs.Datagram p.from p.to p.bytes) → HasEntry p entry → IsOfNode configs (v4_ip p.from)
-  came_from_node i s t p entry takes has =
-      let d : SentDatagram = record { from = p.from; to = p.to; bytes = p.bytes } in
-      let del = delivered_in nodes configs ss i d s t takes in
-      let was = (sent_before nodes configs ss i del.sent d del.delivers).1 in
-      let fit = fits del.sent was.does.step was.does.turn was.does.input was.given was.does.takes was.by in
+  -- a datagram with an entry that was sent came from a node
+  sent_from_node : (i : ℕ) (p : Packet) (entry : ReadValue) → Sends nodes configs ss i (record { from = p.from; to = p.to; bytes = p.bytes }) → HasEntry p entry → IsOfNode configs (v4_ip p.from)
+  sent_from_node i p entry was has =
+      let fit = fits i was.does.step was.does.turn was.does.input was.given was.does.takes was.by in
       let w = announced_with p entry has was.does.turn.history was.does.input was.given was.by fit was.among in
       let holds = subst (λ g. Means g was.by.done.by (answers_of was.by.done.before.state)) {y = outputs.Announces p.from p.to w.stamp w.entries} w.is was.by.holds in
       let source = from_node was.by.done.by (answers_of was.by.done.before.state) p.from p.to w.stamp w.entries holds in
       let config : was.by.done.before.state.config ≡ was.does.turn.history.config = config_there was.does.turn.history was.does.input was.by.done was.by.among in
       let t2 = was.does.turn in
-      (t2.place, t2.history.config, turn_configured nodes configs ss del.sent was.does.step t2, sym (source ∙ ap (λ c. c.address) config))
+      (t2.place, t2.history.config, turn_configured nodes configs ss i was.does.step t2, sym (source ∙ ap (λ c. c.address) config))
+
+  -- a datagram with an entry came from a node, or from a liar, which has a place among them
+  came_from_node : (i : ℕ) (s : Step) (t : Turn nodes configs ss i s) (p : Packet) (entry : ReadValue) → t.deed ≡ deeds.Takes (inputs.Datagram p.from p.to p.bytes) → HasEntry p entry → IsOfNode configs (v4_ip p.from)
+  came_from_node i s t p entry takes has = cases (sent_before nodes configs ss i del.sent d del.delivers).1
+    where
+      d : SentDatagram
+      d = record { from = p.from; to = p.to; bytes = p.bytes }
+
+      del : DeliveredIn nodes configs ss i d s t
+      del = delivered_in nodes configs ss i d s t takes
+
+      cases : GoesOut nodes configs ss del.sent d → IsOfNode configs (v4_ip p.from)
+      cases (inl sends) = sent_from_node del.sent p entry sends has
+      cases (inr injected) = liar_of_setup nodes configs (v4_ip p.from) (of_liar nodes configs ss del.sent d injected)
 
   abbrev IsNode : Ipv4Addr → Type 0
   IsNode = IsOfNode configs
