@@ -1,4 +1,4 @@
--- In a step in which an Ack is taken no subscription begins: no node sends an Ack beside an Offer.
+-- In a step in which an Ack is taken from no liar no subscription begins: no node sends an Ack beside an Offer.
 use Rattle.std.proofs.Common.{◌≡◌, ℕ, List, sym, subst}
 use Rattle.std.specs.List.{Contains}
 use Rattle.std.specs.declared.net.ipv4_addr.Ipv4Addr.{Ipv4Addr}
@@ -20,7 +20,9 @@ use Rattle.someip_world_rules.specs.Announced.{AllFits}
 use Rattle.someip_world_rules.specs.Datagrams.{SentDatagram}
 use Rattle.someip_world_rules.specs.Deliveries.{Does}
 use Rattle.someip_world_exchanges.proofs.EntryLemmas.{announced_with}
-use Rattle.someip_world_safety.proofs.AckWays.{AckWay, IsReplied, SubscribeWay, ack_way, replied_beside, way_back}
+use Rattle.someip_world_safety.specs.Addresses.{AreOffGroup, HaveOwnAddresses}
+use Rattle.someip_world_safety.proofs.AckLemmas.{asked_way}
+use Rattle.someip_world_safety.proofs.AckWays.{AckWay, IsReplied, SubscribeWay, ack_way, replied_beside}
 use Rattle.someip_world_safety.proofs.AnsweredEntries.{answers_find}
 use Rattle.someip_world_safety.proofs.EntryInputs.{ack_came}
 use Rattle.someip_world_safety.proofs.RuleItems.{MayBegin}
@@ -58,20 +60,20 @@ module _ (nodes : List SetupNode) (configs : List Config) (ss : List Step) (fits
       (subst (λ r. Brings s.does.turn.history s.does.input r s.by.brought.earlier) b.sub.by s.by.brought.brings) (beside b.since b.datagram b.says.accepted.head b.sub find.entry find.stands) find.is found.1
 
   -- so no rule of the step takes an Offer, nor a wish
-  module _ (n : ℕ) (does : Does nodes configs ss n) (peer : Ipv4Addr) (head : EventgroupEntry) (a : AckWay nodes configs ss n does peer head) where
+  module _ (n : ℕ) (does : Does nodes configs ss n) (peer : Ipv4Addr) (head : EventgroupEntry) (a : AckWay nodes configs ss n does peer head) (b : SubscribeWay nodes configs ss a.sent a.datagram head a.ack) where
     begins_none : (earlier : List Done) (r : Rule) → MayBegin r → OfDatagram does.turn.history (record { from = a.datagram.from; to = a.datagram.to; bytes = a.datagram.bytes }) r earlier → ⊥
     begins_none earlier (TakesOffer offer) may came =
         let has = came.1.2 in
-        no_instance_beside n does peer head a (way_back nodes configs ss fits a.sent a.datagram head a.ack a.acks) has.entry came.1.0 has.stands has.is
+        no_instance_beside n does peer head a b has.entry came.1.0 has.stands has.is
     begins_none earlier (Wishes eventgroup) may came = absurd came.1
     begins_none earlier r may came = absurd may
 
-  -- in no step in which an Ack is taken a subscription begins
-  pub acks_begin_none : AcksBeginNone nodes configs ss
-  acks_begin_none n does d e peer head among by there may =
+  -- in no step in which an Ack is taken from no liar a subscription begins
+  pub acks_begin_none : AreOffGroup configs → HaveOwnAddresses configs → AcksBeginNone nodes configs ss
+  acks_begin_none off_group own n does d e peer head among by there may honest =
       let h : History = does.turn.history in
       let brought = at_member (WasBrought h does.input) (trail_of h does.input) d (all_brought h does.input) among in
       let came = ack_came h does.input brought.earlier peer head (subst (λ r. Brings h does.input r brought.earlier) by brought.brings) in
-      let a = ack_way nodes configs ss fits n does peer head came.packet came.is came.entry in
+      let a = ack_way nodes configs ss fits n does peer head came.packet came.is came.entry honest in
       let other = at_member (WasBrought h does.input) (trail_of h does.input) e (all_brought h does.input) there in
-      begins_none n does peer head a other.earlier e.by may (subst (λ input. Brings h input e.by other.earlier) {y = Datagram a.datagram.from a.datagram.to a.datagram.bytes} a.came other.brings)
+      begins_none n does peer head a (asked_way nodes configs ss fits off_group own n does peer head a) other.earlier e.by may (subst (λ input. Brings h input e.by other.earlier) {y = Datagram a.datagram.from a.datagram.to a.datagram.bytes} a.came other.brings)

@@ -1,4 +1,4 @@
--- An Ack that comes to a client belongs to the exchange of the Subscribe that it answers, which its server accepted.
+-- An Ack that comes to a client, from no liar, belongs to the exchange of the Subscribe that it answers, which its server accepted.
 use Rattle.std.proofs.Common.{◌≡◌, ◌⊎◌, inl, inr, ℕ, ◌<◌, Bool, true, false, ◌||◌, List, [], ◌∷◌, Some, arith, refl, sym, ap, subst, ◌∙◌}
 use Rattle.std.specs.List.{Contains}
 use Rattle.std.proofs.lemmas.List.Elements.{Contains-append_left}
@@ -28,15 +28,17 @@ use Rattle.someip_world_rules.specs.Datagrams.{SentDatagram}
 use Rattle.someip_world_rules.specs.Deeds.{is_addressed}
 use Rattle.someip_world_rules.specs.Turns.{Turn}
 use Rattle.someip_world_rules.specs.Deliveries.{Delivers, Does}
+use Rattle.someip_world_rules.specs.Liars.{IsHonest}
 use Rattle.someip_world_rules.proofs.OriginLemmas.{turn_configured}
 use Rattle.someip_world_exchanges.specs.Belonging.{Answered, Belongs}
 use Rattle.someip_world_exchanges.specs.Namings.{named_by_entries, named_by_head, named_by_kind, named_in, of_subscription}
 use Rattle.someip_world_exchanges.specs.declared.naming.Side.TheVariants.{Answerer, Opener}
 use Rattle.someip_world_exchanges.specs.declared.naming.Naming.{Naming}
 use Rattle.someip_world_exchanges.proofs.Among.{among_all, is_among}
-use Rattle.someip_world_safety.specs.Addresses.{AreOffGroup, IsOfNode}
+use Rattle.someip_world_safety.specs.Addresses.{AreOffGroup, HaveOwnAddresses, IsOfNode}
 use Rattle.someip_world_safety.proofs.AckWays.{AckWay, IsReplied, SubscribeWay, ack_way, way_back}
 use Rattle.someip_world_safety.proofs.EntryInputs.{ack_came}
+use Rattle.someip_world_safety.proofs.LiarLemmas.{does_honestly}
 use Rattle.someip_world_safety.proofs.PeerLemmas.{replies_go_to_nodes}
 use Rattle.someip_world_safety.proofs.SentEntries.{IsGroupEntry, is_ack_kind, is_subscribe_kind}
 use Rattle.someip_world_safety.proofs.StepStandings.{AckSays, AcksSay}
@@ -148,10 +150,17 @@ module _ (nodes : List SetupNode) (configs : List Config) (ss : List Step) (fits
         };
       }
 
-  -- each Ack that is taken says so
-  pub acks_say : AcksSay nodes configs ss
-  acks_say n does d peer head among by =
-      let brought = at_member (WasBrought does.turn.history does.input) (trail_of does.turn.history does.input) d (all_brought does.turn.history does.input) among in
-      let came = ack_came does.turn.history does.input brought.earlier peer head (subst (λ r. Brings does.turn.history does.input r brought.earlier) by brought.brings) in
-      let a = ack_way nodes configs ss fits n does peer head came.packet came.is came.entry in
-      ends_say n does peer head a (way_back nodes configs ss fits a.sent a.datagram head a.ack a.acks)
+  module _ (own : HaveOwnAddresses configs) where
+    -- the way of the Subscribe that an Ack answers: back to the node that takes the Ack, which is no liar
+    pub asked_way : (n : ℕ) (does : Does nodes configs ss n) (peer : Ipv4Addr) (head : EventgroupEntry) (a : AckWay nodes configs ss n does peer head) → SubscribeWay nodes configs ss a.sent a.datagram head a.ack
+    asked_way n does peer head a =
+        way_back nodes configs ss fits a.sent a.datagram head a.ack a.acks
+        (subst (IsHonest nodes configs) (sym (replied_to a.sent a.datagram head a.ack n does.step does.turn a.addressed)) (does_honestly nodes configs ss own n does))
+
+    -- each Ack that is taken from no liar says so
+    pub acks_say : AcksSay nodes configs ss
+    acks_say n does d peer head among by honest =
+        let brought = at_member (WasBrought does.turn.history does.input) (trail_of does.turn.history does.input) d (all_brought does.turn.history does.input) among in
+        let came = ack_came does.turn.history does.input brought.earlier peer head (subst (λ r. Brings does.turn.history does.input r brought.earlier) by brought.brings) in
+        let a = ack_way nodes configs ss fits n does peer head came.packet came.is came.entry honest in
+        ends_say n does peer head a (asked_way n does peer head a)

@@ -28,8 +28,9 @@ use Rattle.someip_world_rules.specs.Datagrams.{SentDatagram}
 use Rattle.someip_world_rules.specs.Deeds as deeds
 use Rattle.someip_world_rules.specs.Deeds.{is_addressed}
 use Rattle.someip_world_rules.specs.Deliveries.{Delivers, Does, Sends}
+use Rattle.someip_world_rules.specs.Liars.{IsHonest}
 use Rattle.someip_world_rules.proofs.Deliverings.{delivered_in}
-use Rattle.someip_world_rules.proofs.Sendings.{sent_before}
+use Rattle.someip_world_rules.proofs.InjectionLemmas.{sent_honestly}
 use Rattle.someip_world_exchanges.proofs.EntryLemmas.{announced_with}
 use Rattle.someip_world_safety.proofs.AnsweredEntries.{AnswersAsked, answers_asked}
 use Rattle.someip_world_safety.proofs.SentEntries.{Asks, Back, IsGroupEntry, ToPeer, announces_no_group, is_ack_kind, to_peer}
@@ -137,12 +138,13 @@ module _ (nodes : List SetupNode) (configs : List Config) (ss : List Step) where
         let w = announced_with p (bad_run (heads.Eventgroup asked)) has.0 s.does.turn.history s.does.input s.given s.by fit s.among in
         let same = w.same in absurd cc
 
-    -- the way of an Ack
-    pub ack_way : (n : ℕ) (does : Does nodes configs ss n) (peer : Ipv4Addr) (head : EventgroupEntry) (p : Packet) → does.input ≡ Datagram p.from p.to p.bytes → OfEntry p (TakesAck peer head) → AckWay n does peer head
-    ack_way n does peer head p is of =
+    -- the way of an Ack that comes from no liar
+    pub ack_way : (n : ℕ) (does : Does nodes configs ss n) (peer : Ipv4Addr) (head : EventgroupEntry) (p : Packet) → does.input ≡ Datagram p.from p.to p.bytes → OfEntry p (TakesAck peer head) → IsHonest nodes configs peer
+        → AckWay n does peer head
+    ack_way n does peer head p is of honest =
         let one : SentDatagram = record { from = p.from; to = p.to; bytes = p.bytes } in
         let del = delivered_in nodes configs ss n one does.step does.turn (does.takes ∙ ap deeds.Takes is) in
-        let was = sent_before nodes configs ss n del.sent one del.delivers in
+        let was = sent_honestly nodes configs ss n del.sent one del.delivers (subst (IsHonest nodes configs) of.1 honest) in
         record {
           sent = del.sent;
           datagram = one;
@@ -155,16 +157,16 @@ module _ (nodes : List SetupNode) (configs : List Config) (ss : List Step) where
           ack = replied del.sent one head of.2.1.entry was.1 of.2.1.stands of.2.1.is;
         }
 
-    -- the way of the Subscribe that an Ack answers
-    pub way_back : (i : ℕ) (d : SentDatagram) (head : EventgroupEntry) (ack : IsReplied i d head) → is_ack head ≡ true → SubscribeWay i d head ack
-    way_back i d head ack is =
+    -- the way of the Subscribe that an Ack to no liar answers
+    pub way_back : (i : ℕ) (d : SentDatagram) (head : EventgroupEntry) (ack : IsReplied i d head) → is_ack head ≡ true → IsHonest nodes configs ack.peer → SubscribeWay i d head ack
+    way_back i d head ack is honest =
         let s = ack.sends in
         let brought = subst (λ r. Brings s.does.turn.history s.does.input r s.by.brought.earlier) ack.by s.by.brought.brings in
         let back = ack_sent_back s.does.turn.history s.does.input ack.peer ack.entries s.by.brought.earlier ack.value head brought ack.among ack.about is in
         let q : Packet = back.packet in
         let two : SentDatagram = record { from = q.from; to = q.to; bytes = q.bytes } in
         let del = delivered_in nodes configs ss i two s.does.step s.does.turn (s.does.takes ∙ ap deeds.Takes back.is) in
-        let was = sent_before nodes configs ss i del.sent two del.delivers in
+        let was = sent_honestly nodes configs ss i del.sent two del.delivers (subst (IsHonest nodes configs) back.back honest) in
         let says = answers_asked q s.by.brought.earlier ack.value back.reply head ack.about is in
         record {
           since = del.sent;

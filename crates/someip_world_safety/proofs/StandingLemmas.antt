@@ -1,7 +1,8 @@
--- From step to step, a subscription that stands at a client is the newest exchange of its key; and where it was acknowledged, its server accepted it.
+-- From step to step, a subscription that stands at a client is the newest exchange of its key; and where it was acknowledged by a server that is no liar, that accepted it.
 use Rattle.std.proofs.Common.{◌≡◌, ◌⊎◌, inl, inr, ℕ, suc, ◌+◌, ◌<◌, ◌≤◌, Bool, true, false, eqb, List, length, take, slice_get, slice_set, None, Some, Result, Ok, Err, arith, refl, sym, ap, subst, ◌∙◌}
 use Rattle.std.proofs.lemmas.Bool.{eqb-true, eqb-false}
 use Rattle.std.specs.declared.net.ipv4_addr.Ipv4Addr.{Ipv4Addr}
+use Rattle.std.specs.declared.net.socket_addr.SocketAddrV4.{SocketAddrV4}
 use Rattle.sd_core.specs.declared.eventgroup.Eventgroup.{Eventgroup}
 use Rattle.sd_core.specs.declared.wish.Beginning.{Beginning}
 use Rattle.someip_node_rules.specs.declared.config.Config.{Config}
@@ -16,7 +17,7 @@ use Rattle.someip_node_rules.proofs.MeetingLemmas.{state_met}
 use Rattle.someip_node_rules.proofs.StepRules.{config_kept}
 use Rattle.someip_world_schedule.specs.declared.step.Step.{Step}
 use Rattle.someip_world_setup.specs.declared.setup_node.SetupNode.{SetupNode}
-use Rattle.someip_world_rules.specs.Deeds.{Deed, Takes, Restarts, done_with}
+use Rattle.someip_world_rules.specs.Deeds.{Deed, Takes, Restarts, Injects, done_with}
 use Rattle.someip_world_rules.specs.Runs.{World, history_after, world_after, world_of}
 use Rattle.someip_world_rules.specs.Turns.{LeadTo, Turn}
 use Rattle.someip_world_rules.specs.Deliveries.{Does, Restarted}
@@ -29,7 +30,7 @@ use Rattle.someip_world_exchanges.specs.declared.exchange_key.ExchangeKey.{Excha
 use Rattle.someip_world_exchanges.specs.Openings.{Opened}
 use Rattle.someip_world_exchanges.specs.CleanReuse.{IsCleanBefore}
 use Rattle.someip_world_safety.specs.Addresses.{HaveOwnAddresses}
-use Rattle.someip_world_safety.specs.Subscriptions.{SubscriptionsAreSafe, WasAccepted}
+use Rattle.someip_world_safety.specs.Subscriptions.{HonestSubscriptionsAreSafe, WasAccepted}
 use Rattle.someip_world_safety.proofs.RuleItems.{opens_more}
 use Rattle.someip_world_safety.proofs.StepStandings.{AcksBeginNone, AcksSay, AreBegun, Before, InStep, IsAcked, IsBegun, Now, all_in_step, key_at}
 
@@ -64,7 +65,7 @@ module _ (nodes : List SetupNode) (configs : List Config) (ss : List Step) where
             opened = begun.opened;
             lives = lives_next nodes configs ss n place alive begun.begun begun.lives;
             last = λ i after until o. last_on i after (below_next i n until) o;
-            acked = λ until ends. let a = begun.acked until ends in let less = a.before in record { since = a.since; from = a.from; before = omega (arith, less); accepted = acc a };
+            acked = λ until ends honest. let a = begun.acked until ends honest in let less = a.before in record { since = a.since; from = a.from; before = omega (arith, less); accepted = acc a };
           }
         where
           acc : (a : IsAcked nodes configs ss n address b.peer q b.counter begun.begun) → WasAccepted nodes configs ss (suc n) address b.peer q b.counter a.since
@@ -134,14 +135,23 @@ module _ (nodes : List SetupNode) (configs : List Config) (ss : List Step) where
             opened = opened;
             lives = lives_next nodes configs ss n t.place (takes_no_restart input takes) n (λ i from until. absurd (omega (arith, from, until)));
             last = λ i after until o. absurd (omega (arith, after, until));
-            acked = λ until ends. let e = sym none ∙ ends in absurd cc;
+            acked = λ until ends honest. let e = sym (none honest) ∙ ends in absurd cc;
           }
+
+      -- after a step in which a liar sends, at its place: nothing is opened there
+      by_liar : (from to : SocketAddrV4) (bytes : List ℕ) → t.deed ≡ Injects from to bytes → (q : Eventgroup) (b : Beginning) → (course_at t.history.items q).beginning ≡ Some b
+          → IsBegun nodes configs ss (suc n) t.place t.history.config.address q b
+      by_liar from to bytes injects q b is =
+          longer t.place t.history.config.address q b (not_restarted nodes configs ss n t.place s t (λ at delay restarts. absurd cc))
+          (λ o. let one = one_turn nodes configs ss n s t o.does.step o.does.turn in
+          let clash : Injects from to bytes ≡ Takes o.does.input = sym injects ∙ one.deed ∙ o.does.takes in absurd cc) (was t.place t.history q b t.stands is)
 
       -- after a step, at its node
       by_deed : (deed : Deed) → t.deed ≡ deed → (q : Eventgroup) (b : Beginning) → (course_at (history_after t.history (done_with t.history deed)).items q).beginning ≡ Some b
           → IsBegun nodes configs ss (suc n) t.place t.history.config.address q b
       by_deed (Takes input) takes q b is = by_due input takes (step t.history input) refl q b is
       by_deed (Restarts delay) takes q b is = absurd cc
+      by_deed (Injects from to bytes) injects q b is = by_liar from to bytes injects q b is
 
       -- a step leaves the configuration
       config_after : (deed : Deed) → (history_after t.history (done_with t.history deed)).config ≡ t.history.config
@@ -151,6 +161,7 @@ module _ (nodes : List SetupNode) (configs : List Config) (ss : List Step) where
           by_result (Err refusal) due = refl
           by_result (Ok done) due = ap (λ x. x.config) (state_met t.history input done due) ∙ config_kept t.history (met_by (trail_of t.history input))
       config_after (Restarts delay) = refl
+      config_after (Injects from to bytes) = refl
 
       -- after a step, at all nodes
       pub begun_after : AreBegun nodes configs ss (suc n) (world_after (n + 1) t.place t.before t.history (done_with t.history t.deed))
@@ -198,11 +209,11 @@ module _ (nodes : List SetupNode) (configs : List Config) (ss : List Step) where
         (own place t.place h.config t.history.config (all_origins nodes configs ss n w le led place h here).configured
         (turn_configured nodes configs ss i o.does.step t) says.0)
 
-    -- each subscription that a client counts on is safe
-    pub subscriptions_are_safe : (n : ℕ) (w : World) → n ≤ length ss → LeadTo nodes configs (take n ss) w → IsCleanBefore nodes configs ss n → SubscriptionsAreSafe nodes configs ss n w
-    subscriptions_are_safe n w le led clean place h q peer counter until here is =
+    -- each subscription that a client counts on is safe, where its server is no liar
+    pub subscriptions_are_safe : (n : ℕ) (w : World) → n ≤ length ss → LeadTo nodes configs (take n ss) w → IsCleanBefore nodes configs ss n → HonestSubscriptionsAreSafe nodes configs ss n w
+    subscriptions_are_safe n w le led clean place h q peer counter until here is honest =
         let b = all_begun n w le led clean place h q (record { peer = peer; counter = counter; until = Some until }) here is in
-        let a = b.acked until refl in
+        let a = b.acked until refl honest in
         let from = a.from in
         let less = a.before in
         record {

@@ -1,4 +1,4 @@
--- Within a step, a subscription that stands at a client is the newest exchange of its key; and where it was acknowledged, its server accepted it.
+-- Within a step, a subscription that stands at a client is the newest exchange of its key; and where it was acknowledged by a server that is no liar, that accepted it.
 use Rattle.std.proofs.Common.{◌≡◌, ◌⊎◌, inl, inr, ℕ, suc, ◌<◌, ◌≤◌, ◌%◌, Bool, true, false, ltb, List, [], ◌∷◌, ◌++◌, slice_get, None, Some, arith, refl, sym, ap, subst, append_assoc, ◌∙◌}
 use Rattle.std.specs.List.{Contains}
 use Rattle.std.proofs.lemmas.List.Elements.{Contains-append_right}
@@ -32,6 +32,7 @@ use Rattle.someip_world_setup.specs.declared.setup_node.SetupNode.{SetupNode}
 use Rattle.someip_world_rules.specs.Datagrams.{SentDatagram}
 use Rattle.someip_world_rules.specs.Runs.{World}
 use Rattle.someip_world_rules.specs.Deliveries.{Delivers, Does, LivesOn}
+use Rattle.someip_world_rules.specs.Liars.{IsHonest}
 use Rattle.someip_world_exchanges.specs.Belonging.{Belongs}
 use Rattle.someip_world_exchanges.specs.Namings.{of_subscription}
 use Rattle.someip_world_exchanges.specs.declared.exchange_key.ExchangeKey.{ExchangeKey}
@@ -55,14 +56,15 @@ module _ (nodes : List SetupNode) (configs : List Config) (ss : List Step) where
     pub before : since < n
     pub accepted : WasAccepted nodes configs ss n address peer q counter since
 
-  -- a subscription that stands before a step was begun in a step of the same life, and no newer one has its key
+  -- a subscription that stands before a step was begun in a step of the same life, and no newer one has its key. An Ack of a
+  -- liar says nothing
   pub record IsBegun (n place : ℕ) (address : Ipv4Addr) (q : Eventgroup) (b : Beginning) : Type 0 where
     pub begun : ℕ
     pub before : begun < n
     pub opened : Opened nodes configs ss begun (key_at address q b)
     pub lives : LivesOn nodes configs ss place begun n
     pub last : (i : ℕ) → begun < i → i < n → Opened nodes configs ss i (key_at address q b) → ⊥
-    pub acked : (until : Deadline) → b.until ≡ Some until → IsAcked n address b.peer q b.counter begun
+    pub acked : (until : Deadline) → b.until ≡ Some until → IsHonest nodes configs b.peer → IsAcked n address b.peer q b.counter begun
 
   -- all that stand at the nodes of a world are so
   abbrev pub AreBegun : ℕ → World → Type 0
@@ -81,17 +83,17 @@ module _ (nodes : List SetupNode) (configs : List Config) (ss : List Step) where
     pub belongs : Belongs nodes configs ss sent datagram (of_subscription address peer q counter) since
     pub accepted : WasAccepted nodes configs ss n address peer q counter since
 
-  -- each Ack that is taken in a step says so
+  -- each Ack that is taken in a step, from no liar, says so
   abbrev pub AcksSay : Type 0
   AcksSay =
       (n : ℕ) (does : Does nodes configs ss n) (d : Done) (peer : Ipv4Addr) (head : EventgroupEntry) → Contains (trail_of does.turn.history does.input) d → d.by ≡ TakesAck peer head
-      → AckSays n does.turn.history.config.address peer (eventgroup_in head) head.counter
+      → IsHonest nodes configs peer → AckSays n does.turn.history.config.address peer (eventgroup_in head) head.counter
 
-  -- in a step in which an Ack is taken no subscription begins
+  -- in a step in which an Ack is taken from no liar no subscription begins
   abbrev pub AcksBeginNone : Type 0
   AcksBeginNone =
       (n : ℕ) (does : Does nodes configs ss n) (d e : Done) (peer : Ipv4Addr) (head : EventgroupEntry) → Contains (trail_of does.turn.history does.input) d → d.by ≡ TakesAck peer head
-      → Contains (trail_of does.turn.history does.input) e → MayBegin e.by → ⊥
+      → Contains (trail_of does.turn.history does.input) e → MayBegin e.by → IsHonest nodes configs peer → ⊥
 
   -- ---- within a step
 
@@ -108,10 +110,11 @@ module _ (nodes : List SetupNode) (configs : List Config) (ss : List Step) where
     abbrev place : ℕ
     place = does.turn.place
 
-    -- a subscription that stands within the step: it stood before and none began since, or it began in this step
+    -- a subscription that stands within the step: it stood before and none began since, or it began in this step, and no server
+    -- but a liar acknowledged it
     pub data InStep (at : History) (q : Eventgroup) (b : Beginning) : Type 0 where
       Before : (course_at at.items q).begun ≡ (course_at h.items q).begun → IsBegun n place address q b → InStep at q b
-      Now : Opened nodes configs ss n (key_at address q b) → b.until ≡ None → (e : Done) → Contains trail e → MayBegin e.by → InStep at q b
+      Now : Opened nodes configs ss n (key_at address q b) → (IsHonest nodes configs b.peer → b.until ≡ None) → (e : Done) → Contains trail e → MayBegin e.by → InStep at q b
 
     abbrev pub AllInStep : History → Type 0
     AllInStep at = (q : Eventgroup) (b : Beginning) → (course_at at.items q).beginning ≡ Some b → InStep at q b
@@ -153,7 +156,7 @@ module _ (nodes : List SetupNode) (configs : List Config) (ss : List Step) where
               opens = opens (of_subscription at.config.address peer q counter) (q, peer, counter, record { more = begins.count; stands = begins.stands }, refl);
             };
           }))
-          (sym (ap (λ y. y.until) same)) d among may
+          (λ honest. sym (ap (λ y. y.until) same)) d among may
 
       module _ (old : AllInStep at) where
         -- an Offer
@@ -183,17 +186,21 @@ module _ (nodes : List SetupNode) (configs : List Config) (ss : List Step) where
             count : (course_at (met at (items.AckCame answer ttl)).items q).begun ≡ (course_at at.items q).begun
             count = (acked_so answer ttl at.items q).count
 
+            -- it came from the server of this subscription
+            from_server : (was : Beginning) → was.peer ≡ b.peer → is_answered_by (clock_at at.items) answer was ≡ true → peer ≡ b.peer
+            from_server was same_peer answers = let both = answered_parts (clock_at at.items) answer was answers in sym of ∙ sym both.0 ∙ same_peer
+
             -- the Ack is about this subscription
             says : (was : Beginning) → was.peer ≡ b.peer → was.counter ≡ b.counter → is_answered_by (clock_at at.items) answer was ≡ true → same_eventgroup q answer.eventgroup ≡ true
-                → AckSays n address b.peer q b.counter
-            says was same_peer same_counter answers same =
+                → IsHonest nodes configs b.peer → AckSays n address b.peer q b.counter
+            says was same_peer same_counter answers same honest =
                 let eventgroup : eventgroup_in head ≡ q = sym (same_by_test exact_eventgroups q answer.eventgroup same ∙ named) in
                 let both = answered_parts (clock_at at.items) answer was answers in
-                let peers : peer ≡ b.peer = sym of ∙ sym both.0 ∙ same_peer in
+                let peers : peer ≡ b.peer = from_server was same_peer answers in
                 let counters : head.counter ≡ b.counter = sym counted ∙ sym both.1 ∙ same_counter in
                 subst (λ p. AckSays n address p q b.counter) peers
                 (subst (λ c. AckSays n address peer q c) counters
-                (subst (λ e. AckSays n address peer e head.counter) eventgroup (acks n does d peer head among by)))
+                (subst (λ e. AckSays n address peer e head.counter) eventgroup (acks n does d peer head among by (subst (IsHonest nodes configs) (sym peers) honest))))
 
             breaks : (a : AckSays n address b.peer q b.counter) (i : ℕ) → a.since < i → i < n → Opened nodes configs ss i (key_at address q b) → ⊥
             breaks a i later within opened =
@@ -208,8 +215,9 @@ module _ (nodes : List SetupNode) (configs : List Config) (ss : List Step) where
                   taken = record { i = i; after = later; before = within; opened = opened };
                 }))
 
-            acked_now : (was : Beginning) (begun : IsBegun n place address q was) → was.peer ≡ b.peer → was.counter ≡ b.counter → AckSays n address b.peer q b.counter → IsBegun n place address q b
-            acked_now was begun same_peer same_counter a =
+            acked_now : (was : Beginning) (begun : IsBegun n place address q was) → was.peer ≡ b.peer → was.counter ≡ b.counter → (IsHonest nodes configs b.peer → AckSays n address b.peer q b.counter)
+                → IsBegun n place address q b
+            acked_now was begun same_peer same_counter heard =
                 let one : key_at address q was ≡ key_at address q b = (λ i. of_subscription address (same_peer i) q (same_counter i)) in
                 let opened : Opened nodes configs ss begun.begun (key_at address q b) = subst (Opened nodes configs ss begun.begun) one begun.opened in
                 let early = begun.before in
@@ -219,7 +227,7 @@ module _ (nodes : List SetupNode) (configs : List Config) (ss : List Step) where
                   opened = opened;
                   lives = begun.lives;
                   last = λ i after until o. begun.last i after until (subst (Opened nodes configs ss i) (sym one) o);
-                  acked = λ until ends. record {
+                  acked = λ until ends honest. let a = heard honest in record {
                     since = a.since;
                     from = not_later a begun.begun early opened (ltb a.since begun.begun) refl;
                     before = a.before;
@@ -232,9 +240,12 @@ module _ (nodes : List SetupNode) (configs : List Config) (ss : List Step) where
                 not_later a i lt opened false is = ltb-false a.since i is
 
             -- what stood before, by how it stood
-            by_old : (was : Beginning) → InStep at q was → was.peer ≡ b.peer → was.counter ≡ b.counter → AckSays n address b.peer q b.counter → InStep (met at (items.AckCame answer ttl)) q b
-            by_old was (Before same begun) same_peer same_counter a = Before (count ∙ same) (acked_now was begun same_peer same_counter a)
-            by_old was (Now opened none e there may) same_peer same_counter a = absurd (alone n does d e peer head among by there may)
+            by_old : (was : Beginning) → InStep at q was → was.peer ≡ b.peer → was.counter ≡ b.counter → peer ≡ b.peer → (IsHonest nodes configs b.peer → AckSays n address b.peer q b.counter)
+                → InStep (met at (items.AckCame answer ttl)) q b
+            by_old was (Before same begun) same_peer same_counter peers heard = Before (count ∙ same) (acked_now was begun same_peer same_counter heard)
+            by_old was (Now opened none e there may) same_peer same_counter peers heard =
+                Now (subst (Opened nodes configs ss n) (λ i. of_subscription address (same_peer i) q (same_counter i)) opened)
+                (λ honest. absurd (alone n does d e peer head among by there may (subst (IsHonest nodes configs) (sym peers) honest))) e there may
 
             -- what the Ack does not answer
             plain : InStep at q b → InStep (met at (items.AckCame answer ttl)) q b
@@ -245,7 +256,7 @@ module _ (nodes : List SetupNode) (configs : List Config) (ss : List Step) where
                 ⊎ ((was : Beginning) × ((course_at at.items q).beginning ≡ Some was) × (was.peer ≡ b.peer) × (was.counter ≡ b.counter) × (is_answered_by (clock_at at.items) answer was ≡ true)
                 × (same_eventgroup q answer.eventgroup ≡ true)) → InStep (met at (items.AckCame answer ttl)) q b
             cases (inl stood) = plain (old q b stood)
-            cases (inr w) = by_old w.0 (old q w.0 w.1) w.2 w.3 (says w.0 w.2 w.3 w.4 w.5)
+            cases (inr w) = by_old w.0 (old q w.0 w.1) w.2 w.3 (from_server w.0 w.2 w.4) (says w.0 w.2 w.3 w.4 w.5)
 
         -- a rule
         done_step : Kinds d.by (outcome_of d).items → AllInStep (after at (outcome_of d).items)

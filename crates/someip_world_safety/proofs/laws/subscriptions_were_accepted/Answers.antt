@@ -1,8 +1,14 @@
+use Rattle.someip_world_rules.proofs.InjectionLemmas.{all_honest}
 use Rattle.someip_world_safety.proofs.AckAlone.{acks_begin_none}
 use Rattle.someip_world_safety.proofs.AckLemmas.{acks_say}
 use Rattle.someip_world_safety.proofs.StandingLemmas.{subscriptions_are_safe}
 use Rattle.someip_world_safety.proofs.laws.subscriptions_were_accepted.Goals as goal
 
-pub returns : goal.returns
-returns c nodes configs steps fits own off_group n w le led clean =
-    subscriptions_are_safe nodes configs steps own (acks_say nodes configs steps fits off_group) (acks_begin_none nodes configs steps fits) n w le led clean
+pub returns-clause-honest : goal.returns-clause-honest
+returns-clause-honest c nodes configs steps fits own off_group n w le led clean =
+    subscriptions_are_safe nodes configs steps own (acks_say nodes configs steps fits off_group own) (acks_begin_none nodes configs steps fits off_group own) n w le led clean
+
+pub returns-clause-without_liars : goal.returns-clause-without_liars
+returns-clause-without_liars c nodes configs steps none fits own off_group n w le led clean place h eventgroup peer counter until here is =
+    subscriptions_are_safe nodes configs steps own (acks_say nodes configs steps fits off_group own) (acks_begin_none nodes configs steps fits off_group own) n w le led clean place h eventgroup peer
+    counter until here is (all_honest nodes configs none peer)
