@@ -35,10 +35,11 @@ use Rattle.someip_world_rules.specs.Datagrams.{SentDatagram}
 use Rattle.someip_world_rules.specs.Deeds as deeds
 use Rattle.someip_world_rules.specs.Deeds.{is_addressed}
 use Rattle.someip_world_rules.specs.Deliveries.{Delivers, Dispatch, Sends, dispatch_at}
+use Rattle.someip_world_rules.specs.Liars.{IsHonest}
 use Rattle.someip_world_rules.specs.Turns.{Turn}
 use Rattle.someip_world_rules.proofs.Deliverings.{delivered_in, one_turn}
+use Rattle.someip_world_rules.proofs.InjectionLemmas.{sent_honestly}
 use Rattle.someip_world_rules.proofs.OriginLemmas.{turn_configured}
-use Rattle.someip_world_rules.proofs.Sendings.{sent_before}
 use Rattle.someip_world_exchanges.specs.Namings.{of_subscription}
 use Rattle.someip_world_exchanges.proofs.EntryLemmas.{announced_with}
 use Rattle.someip_world_safety.specs.Addresses.{AreOffGroup, IsOfNode}
@@ -175,11 +176,11 @@ module _ (nodes : List SetupNode) (configs : List Config) (ss : List Step) where
             counted = ap (λ x. (group_of x head).counter) same;
           }
 
-      -- an Ack or a Nack belongs to the exchange of the Subscribe that it answers, which was opened
+      -- an Ack or a Nack to no liar belongs to the exchange of the Subscribe that it answers, which was opened
       pub ack_opened : (i : ℕ) (d : SentDatagram) (s : Sends nodes configs ss i d) (from to : SocketAddrV4) (stamp : Stamp) (entries : List EntryValue) → s.given ≡ outputs.Announces from to stamp entries
           → (value : EntryValue) → Contains entries value → (head : EventgroupEntry) → IsGroupEntry value head → head.kind ≡ group_kinds.Ack → (since : ℕ) (two : SentDatagram) → Delivers nodes configs ss i since two
-          → WasOpened nodes configs ss since (of_subscription (v4_ip to) (v4_ip from) (eventgroup_in head) head.counter)
-      ack_opened i d s from to stamp entries is value among head about kind since two delivers =
+          → IsHonest nodes configs (v4_ip to) → WasOpened nodes configs ss since (of_subscription (v4_ip to) (v4_ip from) (eventgroup_in head) head.counter)
+      ack_opened i d s from to stamp entries is value among head about kind since two delivers honest =
           cases (to_peer s.does.turn.history s.does.input goes.peer entries s.by.brought.earlier value (brought_so i d s from to stamp entries is value among head about) among)
         where
           goes : GoesToPeer i d s from to stamp entries is value among head about
@@ -189,11 +190,11 @@ module _ (nodes : List SetupNode) (configs : List Config) (ss : List Step) where
           cases (Back p came back reply) =
               let one : SentDatagram = record { from = p.from; to = p.to; bytes = p.bytes } in
               let del = delivered_in nodes configs ss i one s.does.step s.does.turn (s.does.takes ∙ ap deeds.Takes came) in
-              let was = sent_before nodes configs ss i del.sent one del.delivers in
+              let client : v4_ip p.from ≡ v4_ip to = sym back ∙ sym goes.goal in
+              let was = sent_honestly nodes configs ss i del.sent one del.delivers (subst (IsHonest nodes configs) (sym client) honest) in
               let a = answers_one p s.by.brought.earlier value head about (answers_subscribe p s.by.brought.earlier value (head, about, kind) reply) in
               let opened = came_opened p a.asked a.endpoint del.sent was.1 a.stands a.subscribes in
               let server : v4_ip p.to ≡ v4_ip from = at_node i s.does.step s.does.turn one opened.1 del.addressed ∙ sym goes.source in
-              let client : v4_ip p.from ≡ v4_ip to = sym back ∙ sym goes.goal in
               let sender : del.sent ≡ since = one_sender nodes configs ss i del.sent since one two del.delivers delivers in
               subst (λ k. WasOpened nodes configs ss k (of_subscription (v4_ip to) (v4_ip from) (eventgroup_in head) head.counter)) sender
               (subst (WasOpened nodes configs ss del.sent) (λ j. of_subscription (client j) (server j) (a.group j) (a.counted j)) opened.0)

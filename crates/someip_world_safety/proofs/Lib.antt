@@ -13,6 +13,7 @@ pub mod PeerLemmas
 pub mod SentEntries
 pub mod AnsweredEntries
 pub mod RuleItems
+pub mod LiarOpenings
 pub mod StepStandings
 pub mod AckWays
 pub mod AckAlone
@@ -46,5 +47,6 @@ pub mod StandingOpenings
 pub mod SentCounters
 pub mod SubscribeOpenings
 pub mod EntryOpenings
+pub mod RepliesBack
 pub mod AnswerOpenings
 pub mod CleanLemmas
