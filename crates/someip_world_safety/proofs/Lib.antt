@@ -50,3 +50,4 @@ pub mod EntryOpenings
 pub mod RepliesBack
 pub mod AnswerOpenings
 pub mod CleanLemmas
+pub mod InjectedReplies

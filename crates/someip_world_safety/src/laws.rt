@@ -138,14 +138,14 @@ pub fn honest_nodes_have_honest_addresses()
 {}
 
 /// Injected bytes belong to no exchange: they are none of what nodes send. And what a node sends in reply to
-/// them belongs to none: no exchange of the key that it names is ever opened, where all that is given fits its
-/// fields and nodes have addresses of their own. An exchange is what was opened.
+/// them belongs to none: no exchange of the key that it names is ever opened, where nodes have addresses of
+/// their own. An exchange is what was opened.
 pub fn replies_to_injected_bytes_belong_to_none()
     ensures bytes { (nodes : List SetupNode) (configs : List Config) (steps : List Step) (i since : ℕ)
         (d e : SentDatagram) (key : ExchangeKey) → IsInjected nodes configs steps i e
         → Belongs nodes configs steps i d key since → ⊥ }
     ensures replies { (nodes : List SetupNode) (configs : List Config) (steps : List Step) (i since : ℕ)
-        (d e : SentDatagram) (key : ExchangeKey) → AllFits nodes configs steps
-        → HaveOwnAddresses configs → IsInjected nodes configs steps since e
+        (d e : SentDatagram) (key : ExchangeKey) → HaveOwnAddresses configs
+        → IsInjected nodes configs steps since e
         → Belongs nodes configs steps i d key since → (k : ℕ) → Opened nodes configs steps k key → ⊥ }
 {}
