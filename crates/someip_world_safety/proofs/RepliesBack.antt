@@ -1,4 +1,4 @@
--- What answers something goes back to where that came from: to the source of a datagram that the step sent whose datagram is answered.
+-- What answers a datagram goes back to the address that the datagram came from.
 use Rattle.std.proofs.Common.{◌≡◌, inl, inr, ℕ, Bool, true, false, ltb, List, [], Some, arith, refl, sym, ap, subst, ◌∙◌}
 use Rattle.std.proofs.lemmas.Bool.{ltb-true, ltb-false}
 use Rattle.std.specs.List.{Contains}
@@ -122,7 +122,7 @@ pub same_header : (instance : InstanceId) (from other : SocketAddrV4) (header se
 same_header instance from other header second payload is = cc
 
 module _ (nodes : List SetupNode) (configs : List Config) (ss : List Step) where
-  -- an answer goes back to an address: that which a datagram came from, which a step delivered, and another sent
+  -- an address is the one that a datagram came from, which one step sent and another delivered
   pub record GoesBack (since : ℕ) (address : Ipv4Addr) : Type 0 where
     pub i : ℕ
     pub datagram : SentDatagram
