@@ -1,7 +1,8 @@
--- Within a step that delivers a datagram of a run, each part that a node holds is of one message, a segment of which arrived when the part was last changed.
+-- Within a step that delivers a datagram from no liar, each part that a node holds under a key whose source is no liar is of one message, a segment of which arrived when the part was last changed.
 use Rattle.std.proofs.Common.{◌≡◌, ◌⊎◌, inl, inr, ℕ, suc, ◌+◌, ◌<◌, Bool, true, false, List, [], ◌∷◌, Some, refl, sym, ap, subst, ◌∙◌, arith}
 use Rattle.std.specs.FinMap.{get}
 use Rattle.std.specs.List.{AllByRecursion}
+use Rattle.std.specs.Net.Socket.{v4_ip}
 use Rattle.std.specs.Prelude.{bytes_eq}
 use Rattle.std.proofs.lemmas.Slice.Eq.{bytes_eq-Decides}
 use Rattle.someip_wire.specs.declared.header.Header.{Header}
@@ -31,8 +32,9 @@ use Rattle.someip_world_rules.specs.Announced.{AllFits}
 use Rattle.someip_world_rules.specs.Datagrams.{SentDatagram}
 use Rattle.someip_world_rules.specs.Deeds.{Takes}
 use Rattle.someip_world_rules.specs.Deliveries.{Does, LivesOn, Sends}
+use Rattle.someip_world_rules.specs.Liars.{IsHonest}
 use Rattle.someip_world_rules.proofs.Deliverings.{DeliveredIn, delivered_in}
-use Rattle.someip_world_rules.proofs.Sendings.{sent_before}
+use Rattle.someip_world_rules.proofs.InjectionLemmas.{sent_honestly}
 use Rattle.someip_world_exchanges.specs.CleanReuse.{Arrives, IsCleanBefore, Mixed}
 use Rattle.someip_world_exchanges.proofs.ClockLemmas.{leaves_clock}
 use Rattle.someip_world_exchanges.proofs.RuleInputs.{is_tick}
@@ -50,11 +52,15 @@ module _ (nodes : List SetupNode) (configs : List Config) (ss : List Step) where
     pub arrived : Arrives nodes configs ss step place part.last message (plain_key key)
     pub holds : HoldsOnly message.payload part
 
-  -- all parts that a node holds, once it met these, are held so
+  -- All parts that a node holds, once it met these, under keys whose source is no liar, are held so. What a liar sends changes
+  -- only parts under keys of its own
   abbrev pub AllHeld : ℕ → ℕ → History → Type 0
-  AllHeld n place h = (key : ReassemblyKey) (part : Part) → get (parts_in (limits_of h.config) h.items) key ≡ Some part → IsHeld n place key part
+  AllHeld n place h =
+      (key : ReassemblyKey) (part : Part) → get (parts_in (limits_of h.config) h.items) key ≡ Some part → IsHonest nodes configs (v4_ip key.source)
+      → IsHeld n place key part
 
-  module _ (fits : AllFits nodes configs ss) (n : ℕ) (does : Does nodes configs ss n) (p : Packet) (is : does.input ≡ Datagram p.from p.to p.bytes) where
+  module _ (fits : AllFits nodes configs ss) (n : ℕ) (does : Does nodes configs ss n) (p : Packet) (is : does.input ≡ Datagram p.from p.to p.bytes)
+      (honest : IsHonest nodes configs (v4_ip p.from)) where
     abbrev h : History
     h = does.turn.history
 
@@ -74,15 +80,19 @@ module _ (nodes : List SetupNode) (configs : List Config) (ss : List Step) where
     pub came : DeliveredIn nodes configs ss n d does.step does.turn
     came = delivered_in nodes configs ss n d does.step does.turn (does.takes ∙ ap Takes is)
 
-    -- an earlier step sent the datagram
+    -- a node sent the datagram in an earlier step
     pub source : Sends nodes configs ss came.sent d
-    source = (sent_before nodes configs ss n came.sent d came.delivers).1
+    source = (sent_honestly nodes configs ss n came.sent d came.delivers honest).1
 
     -- a segment in the datagram is one of a message that was given
     pub of_message : (header : Header) (o : SegmentOffer) → HasSegment p header o → IsOfMessage p header o source.given
     of_message header o segment =
         segment_given p header o segment source.does.turn.history source.does.input source.given source.by
         (fits came.sent source.does.step source.does.turn source.does.input source.given source.does.takes source.by) source.among
+
+    -- the key of a segment in the datagram has its source
+    honest_key : (header : Header) (o : SegmentOffer) → IsOfMessage p header o source.given → IsHonest nodes configs (v4_ip o.key.source)
+    honest_key header o g = subst (λ from. IsHonest nodes configs (v4_ip from)) (sym (ap (λ (k : ReassemblyKey). k.source) g.keyed)) honest
 
     -- a segment of a message arrives in the step
     abbrev arrives : (header : Header) (o : SegmentOffer) (g : IsOfMessage p header o source.given) → Arrives nodes configs ss n place now g.message (plain_key o.key)
@@ -133,10 +143,10 @@ module _ (nodes : List SetupNode) (configs : List Config) (ss : List Step) where
           let same : m ≡ g.message = cc in
           subst (λ (x : MessageValue). HoldsOnly x.payload part) same holds
 
-      -- what was met within the step left the clock, and all parts are so
+      -- what was met within the step left the clock, and all parts under keys whose source is no liar are so
       pub record Holding (met_items : List Item) : Type 0 where
         pub clock : clock_at met_items ≡ now
-        pub parts : (key : ReassemblyKey) (part : Part) → get (parts_in limits met_items) key ≡ Some part → InStep key part
+        pub parts : (key : ReassemblyKey) (part : Part) → get (parts_in limits met_items) key ≡ Some part → IsHonest nodes configs (v4_ip key.source) → InStep key part
 
       -- the parts that are left when a segment comes hold only bytes of its message
       left_holds : (its : List Item) → Holding its → (header : Header) (o : SegmentOffer) (g : IsOfMessage p header o source.given) (part : Part) → get (parts_at limits (clock_at its) (parts_in limits its)) o.key ≡ Some part
@@ -144,18 +154,18 @@ module _ (nodes : List SetupNode) (configs : List Config) (ss : List Step) where
       left_holds its old header o g part is =
           let time = left_in_time limits (clock_at its) (parts_in limits its) o.key part is in
           same_payload header o g part (subst (λ k. k < part.last + limits.timeout) old.clock time)
-          (old.parts o.key part (left_same limits (clock_at its) (parts_in limits its) o.key part is))
+          (old.parts o.key part (left_same limits (clock_at its) (parts_in limits its) o.key part is) (honest_key header o g))
 
       -- after a segment of the datagram was offered, all parts are so
       after_segment : (its : List Item) → Holding its → (header : Header) (o : SegmentOffer) → HasSegment p header o → (key : ReassemblyKey) (part : Part)
-          → get (parts_after limits (clock_at its) o (parts_in limits its)) key ≡ Some part → InStep key part
-      after_segment its old header o segment key part is = cases (offered_parts limits (clock_at its) o (parts_in limits its) key part is)
+          → get (parts_after limits (clock_at its) o (parts_in limits its)) key ≡ Some part → IsHonest nodes configs (v4_ip key.source) → InStep key part
+      after_segment its old header o segment key part is own = cases (offered_parts limits (clock_at its) o (parts_in limits its) key part is)
         where
           g : IsOfMessage p header o source.given
           g = of_message header o segment
 
           cases : (get (parts_at limits (clock_at its) (parts_in limits its)) key ≡ Some part) ⊎ IsJoined (clock_at its) o (parts_at limits (clock_at its) (parts_in limits its)) key part → InStep key part
-          cases (inl left) = old.parts key part (left_same limits (clock_at its) (parts_in limits its) key part left)
+          cases (inl left) = old.parts key part (left_same limits (clock_at its) (parts_in limits its) key part left) own
           cases (inr joined) =
               let last : part.last ≡ now = ap (λ (x : Part). x.last) joined.is ∙ old.clock in
               Now g.message g.is
@@ -164,12 +174,13 @@ module _ (nodes : List SetupNode) (configs : List Config) (ss : List Step) where
               (joined_holds (clock_at its) o g.message (parts_at limits (clock_at its) (parts_in limits its)) key part g.segment (left_holds its old header o g) joined)
 
       -- after each item that is met in the step, all parts are so
-      after_item : (item : Item) (its : List Item) → MetBy h does.input item → Holding its → (key : ReassemblyKey) (part : Part) → get (parts_by limits item (clock_at its) (parts_in limits its)) key ≡ Some part → InStep key part
-      after_item (items.SegmentOffered o) its by old key part stands =
+      after_item : (item : Item) (its : List Item) → MetBy h does.input item → Holding its → (key : ReassemblyKey) (part : Part) → get (parts_by limits item (clock_at its) (parts_in limits its)) key ≡ Some part
+          → IsHonest nodes configs (v4_ip key.source) → InStep key part
+      after_item (items.SegmentOffered o) its by old key part stands own =
           let brings : Brings h does.input (TakesSegment o) by.brought.earlier = subst (λ r. Brings h does.input r by.brought.earlier) by.holds by.brought.brings in
           let segment : (header : Header) × HasSegment p header o = subst (λ x. Brings h x (TakesSegment o) by.brought.earlier) is brings in
-          after_segment its old segment.0 o segment.1 key part stands
-      after_item item its by old key part stands = old.parts key part (no_new_parts limits item (clock_at its) (parts_in limits its) key part (λ o e. absurd cc) stands)
+          after_segment its old segment.0 o segment.1 key part stands own
+      after_item item its by old key part stands own = old.parts key part (no_new_parts limits item (clock_at its) (parts_in limits its) key part (λ o e same. absurd cc) stands) own
 
       -- one item more leaves the clock and the parts so
       one_more : (item : Item) (its : List Item) → MetBy h does.input item → Holding its → Holding (item ∷ its)
@@ -185,7 +196,7 @@ module _ (nodes : List SetupNode) (configs : List Config) (ss : List Step) where
 
       -- at the beginning of the step they are so
       pub holding_first : Holding h.items
-      holding_first = record { clock = refl; parts = λ key part stands. Before (was key part stands) }
+      holding_first = record { clock = refl; parts = λ key part stands own. Before (was key part stands own) }
 
       -- a message that a segment makes whole is the one that was given
       pub whole_given : (its : List Item) → Holding its → (header : Header) (o : SegmentOffer) (segment : HasSegment p header o) (payload : List ℕ)

@@ -1,8 +1,12 @@
--- From step to step of a run that reuses its keys cleanly, each part that a node holds is of one message.
-use Rattle.std.proofs.Common.{◌≡◌, ◌⊎◌, inl, inr, ℕ, suc, ◌+◌, ◌≤◌, Bool, true, false, eqb, List, [], ◌∷◌, length, take, slice_get, slice_set, Some, Result, Ok, Err, arith, refl, sym, subst, ◌∙◌}
+-- From step to step of a run that reuses its keys cleanly, each part that a node holds under a key whose source is no liar is of one message.
+use Rattle.std.proofs.Common.{◌≡◌, ◌⊎◌, inl, inr, ℕ, suc, ◌+◌, ◌≤◌, Bool, true, false, eqb, List, [], ◌∷◌, length, take, slice_get, slice_set, Some, Result, Ok, Err, arith, refl, sym, ap, subst, ◌∙◌}
 use Rattle.std.specs.FinMap.{empty, get, get-empty}
 use Rattle.std.specs.List.{AllByRecursion}
+use Rattle.std.specs.Net.Socket.{v4_ip}
 use Rattle.std.proofs.lemmas.Bool.{eqb-true, eqb-false}
+use Rattle.someip_wire.specs.declared.header.Header.{Header}
+use Rattle.someip_tables.specs.EndpointOrder.{addresses_total, exact_addresses}
+use Rattle.someip_tables.proofs.Entries.{own_test, same_by_test}
 use Rattle.someip_tp.specs.declared.key.ReassemblyKey.{ReassemblyKey}
 use Rattle.someip_tp.specs.Keys.{key_cmp}
 use Rattle.someip_tp.specs.SegmentOffers.{SegmentOffer}
@@ -11,13 +15,14 @@ use Rattle.someip_node_rules.specs.declared.config.Config.{Config}
 use Rattle.someip_node_rules.specs.declared.error.NodeError.{NodeError}
 use Rattle.someip_node_rules.specs.Bringing.{Brings}
 use Rattle.someip_node_rules.specs.DiscoveryQuestions.{parts_in}
+use Rattle.someip_node_rules.specs.Handling.{same_address}
 use Rattle.someip_node_rules.specs.History.{History, met}
 use Rattle.someip_node_rules.specs.Inputs as inputs
 use Rattle.someip_node_rules.specs.Inputs.{Input}
 use Rattle.someip_node_rules.specs.Items as items
 use Rattle.someip_node_rules.specs.Items.{Item}
 use Rattle.someip_node_rules.specs.Meetings.{MetBy}
-use Rattle.someip_node_rules.specs.Packets.{Packet}
+use Rattle.someip_node_rules.specs.Packets.{HasSegment, Packet}
 use Rattle.someip_node_rules.specs.Plans.{TakesSegment, Work}
 use Rattle.someip_node_rules.specs.Questions.{clock_at}
 use Rattle.someip_node_rules.specs.Setups.{limits_of}
@@ -28,8 +33,9 @@ use Rattle.someip_node_rules.proofs.StepRules.{config_kept}
 use Rattle.someip_world_schedule.specs.declared.step.Step.{Step}
 use Rattle.someip_world_setup.specs.declared.setup_node.SetupNode.{SetupNode}
 use Rattle.someip_world_rules.specs.Announced.{AllFits}
-use Rattle.someip_world_rules.specs.Deeds.{Deed, Takes, Restarts, done_with}
+use Rattle.someip_world_rules.specs.Deeds.{Deed, Takes, Restarts, Injects, done_with}
 use Rattle.someip_world_rules.specs.Deliveries.{Does, Restarted}
+use Rattle.someip_world_rules.specs.Liars.{IsHonest}
 use Rattle.someip_world_rules.specs.Runs.{World, history_after, world_after, world_of}
 use Rattle.someip_world_rules.specs.Turns.{LeadTo, Turn}
 use Rattle.someip_world_rules.proofs.Fronts.{get_set_other, get_set_same, on_the_way}
@@ -60,13 +66,28 @@ module _ (h : History) (earlier : List Done) (o : SegmentOffer) where
   no_segment (inputs.StopOffer instance) none (inl is) = absurd cc
   no_segment (inputs.StopOffer instance) none (inr is) = let e = is.0 in absurd cc
 
--- where the input is no datagram, only parts stand after the step that stood before
-module _ (h : History) (input : Input) (none : (p : Packet) → input ≡ inputs.Datagram p.from p.to p.bytes → ⊥) (limits : Limits) (key : ReassemblyKey) (part : Part) where
-  -- no item that is met offers a segment
-  no_offer : (item : Item) → MetBy h input item → (o : SegmentOffer) → item ≡ items.SegmentOffered o → ⊥
-  no_offer item by o is =
-      let offered : MetBy h input (items.SegmentOffered o) = subst (MetBy h input) is by in
-      no_segment h offered.brought.earlier o input none (subst (λ r. Brings h input r offered.brought.earlier) offered.holds offered.brought.brings)
+module _ (h : History) (input : Input) (o : SegmentOffer) (by : MetBy h input (items.SegmentOffered o)) where
+  -- the segment that is offered was brought about
+  brings : Brings h input (TakesSegment o) by.brought.earlier
+  brings = subst (λ r. Brings h input r by.brought.earlier) by.holds by.brought.brings
+
+  -- no segment is offered where the input is no datagram
+  not_offered : ((p : Packet) → input ≡ inputs.Datagram p.from p.to p.bytes → ⊥) → ⊥
+  not_offered none = no_segment h by.brought.earlier o input none brings
+
+  -- a segment in a datagram is offered under no key of another source
+  not_of_other : (p : Packet) → input ≡ inputs.Datagram p.from p.to p.bytes → (key : ReassemblyKey) → same_address (v4_ip key.source) (v4_ip p.from) ≡ false → key ≡ o.key → ⊥
+  not_of_other p is key other same =
+      let segment : (header : Header) × HasSegment p header o = subst (λ x. Brings h x (TakesSegment o) by.brought.earlier) is brings in
+      let source : key.source ≡ p.from = ap (λ (k : ReassemblyKey). k.source) same ∙ ap (λ (x : SegmentOffer). x.key.source) segment.1.offered in
+      let own : same_address (v4_ip key.source) (v4_ip p.from) ≡ true = ap (λ from. same_address (v4_ip from) (v4_ip p.from)) source ∙ own_test addresses_total (v4_ip p.from) in
+      absurd cc
+
+-- where no segment is offered under a key, only a part stands there after the step that stood before
+module _ (h : History) (input : Input) (limits : Limits) (key : ReassemblyKey) (part : Part) (none : (o : SegmentOffer) → MetBy h input (items.SegmentOffered o) → key ≡ o.key → ⊥) where
+  -- no item that is met offers one
+  no_offer : (item : Item) → MetBy h input item → (o : SegmentOffer) → item ≡ items.SegmentOffered o → key ≡ o.key → ⊥
+  no_offer item by o is = none o (subst (MetBy h input) is by)
 
   -- a part that stands after all that is met stood before
   stood : (at : History) (xs : List Item) → AllByRecursion (MetBy h input) xs → get (parts_in limits (after at xs).items) key ≡ Some part → get (parts_in limits at.items) key ≡ Some part
@@ -98,9 +119,9 @@ module _ (nodes : List SetupNode) (configs : List Config) (ss : List Step) (fits
   module _ (n : ℕ) (s : Step) (t : Turn nodes configs ss n s) (clean : IsCleanBefore nodes configs ss (suc n)) (was : AreHeld n t.before) where
     -- after a step in which the node takes an input
     by_due : (input : Input) → t.deed ≡ Takes input → (due : Result (Work History) NodeError) → step t.history input ≡ due → AllHeld nodes configs ss (suc n) t.place (history_after t.history due)
-    by_due input takes (Err refusal) due key part is =
-        longer n t.place (not_restarted nodes configs ss n t.place s t (λ at delay restarts. absurd cc)) key part (was t.place t.history t.stands key part is)
-    by_due input takes (Ok done) due key part is = cases (datagram_or_none input)
+    by_due input takes (Err refusal) due key part is honest =
+        longer n t.place (not_restarted nodes configs ss n t.place s t (λ at delay restarts. absurd cc)) key part (was t.place t.history t.stands key part is honest)
+    by_due input takes (Ok done) due key part is honest = cases (datagram_or_none input)
       where
         alive : Restarted nodes configs ss n t.place → ⊥
         alive = not_restarted nodes configs ss n t.place s t (λ at delay restarts. absurd cc)
@@ -120,21 +141,33 @@ module _ (nodes : List SetupNode) (configs : List Config) (ss : List Step) (fits
             subst (λ c. get (parts_in (limits_of c) (after t.history news).items) key ≡ Some part) (config_kept t.history news)
             (subst (λ (x : History). get (parts_in (limits_of x.config) x.items) key ≡ Some part) (state_met t.history input done due) is)
 
-        cases : ((p : Packet) × (input ≡ inputs.Datagram p.from p.to p.bytes)) ⊎ ((p : Packet) → input ≡ inputs.Datagram p.from p.to p.bytes → ⊥) → IsHeld nodes configs ss (suc n) t.place key part
-        cases (inl datagram) =
-            let holding =
-            holding_on nodes configs ss fits n does datagram.0 datagram.1 clean (was t.place t.history t.stands) t.history news (all_met t.history input)
-            (holding_first nodes configs ss fits n does datagram.0 datagram.1 clean (was t.place t.history t.stands)) in
-            held_on nodes configs ss fits n does datagram.0 datagram.1 clean (was t.place t.history t.stands)
-            (lives_next nodes configs ss n t.place alive n (λ i from until. absurd (omega (arith, from, until)))) (lives_next nodes configs ss n t.place alive) key part (holding.parts key part stands)
-        cases (inr other) =
+        -- where no segment is offered under its key, it stood before
+        still : ((o : SegmentOffer) → MetBy t.history input (items.SegmentOffered o) → key ≡ o.key → ⊥) → IsHeld nodes configs ss (suc n) t.place key part
+        still none =
             longer n t.place alive key part
-            (was t.place t.history t.stands key part (stood t.history input other limits key part t.history news (all_met t.history input) stands))
+            (was t.place t.history t.stands key part (stood t.history input limits key part none t.history news (all_met t.history input) stands) honest)
+
+        -- where a datagram is delivered, from the source of its key or from another one
+        delivered : (p : Packet) → input ≡ inputs.Datagram p.from p.to p.bytes → (own : Bool) → same_address (v4_ip key.source) (v4_ip p.from) ≡ own → IsHeld nodes configs ss (suc n) t.place key part
+        delivered p datagram true own =
+            let source = subst (IsHonest nodes configs) (same_by_test exact_addresses (v4_ip key.source) (v4_ip p.from) own) honest in
+            let holding =
+            holding_on nodes configs ss fits n does p datagram source clean (was t.place t.history t.stands) t.history news (all_met t.history input)
+            (holding_first nodes configs ss fits n does p datagram source clean (was t.place t.history t.stands)) in
+            held_on nodes configs ss fits n does p datagram source clean (was t.place t.history t.stands)
+            (lives_next nodes configs ss n t.place alive n (λ i from until. absurd (omega (arith, from, until)))) (lives_next nodes configs ss n t.place alive) key part (holding.parts key part stands honest)
+        delivered p datagram false other = still (λ o by. not_of_other t.history input o by p datagram key other)
+
+        cases : ((p : Packet) × (input ≡ inputs.Datagram p.from p.to p.bytes)) ⊎ ((p : Packet) → input ≡ inputs.Datagram p.from p.to p.bytes → ⊥) → IsHeld nodes configs ss (suc n) t.place key part
+        cases (inl datagram) = delivered datagram.0 datagram.1 (same_address (v4_ip key.source) (v4_ip datagram.0.from)) refl
+        cases (inr other) = still (λ o by same. not_offered t.history input o by other)
 
     -- after a step, at its node
     by_deed : (deed : Deed) → t.deed ≡ deed → AllHeld nodes configs ss (suc n) t.place (history_after t.history (done_with t.history deed))
-    by_deed (Takes input) takes key part is = by_due input takes (step t.history input) refl key part is
-    by_deed (Restarts delay) takes key part is = none_held key part is
+    by_deed (Takes input) takes key part is honest = by_due input takes (step t.history input) refl key part is honest
+    by_deed (Restarts delay) takes key part is honest = none_held key part is
+    by_deed (Injects from to bytes) takes key part is honest =
+        longer n t.place (not_restarted nodes configs ss n t.place s t (λ at delay restarts. absurd cc)) key part (was t.place t.history t.stands key part is honest)
 
     -- after a step, at all nodes
     held_after : AreHeld (suc n) (world_after (n + 1) t.place t.before t.history (done_with t.history t.deed))
@@ -151,7 +184,7 @@ module _ (nodes : List SetupNode) (configs : List Config) (ss : List Step) (fits
         cases false e =
             let ne = eqb-false place t.place e in
             let old : slice_get t.before.histories place ≡ Some h = sym (get_set_other t.before.histories t.place place due ne) ∙ here in
-            (λ key part is. longer n place (not_restarted nodes configs ss n place s t (λ at. absurd (ne (sym at)))) key part (was place h old key part is))
+            (λ key part is honest. longer n place (not_restarted nodes configs ss n place s t (λ at. absurd (ne (sym at)))) key part (was place h old key part is honest))
 
   -- clean up to a step, and so up to the one before
   pub clean_before : (n : ℕ) → IsCleanBefore nodes configs ss (suc n) → IsCleanBefore nodes configs ss n
@@ -159,7 +192,7 @@ module _ (nodes : List SetupNode) (configs : List Config) (ss : List Step) (fits
 
   -- at the start no part is held
   held_first : AreHeld 0 (world_of nodes configs)
-  held_first place h here key part is =
+  held_first place h here key part is honest =
       let start = begun_so nodes configs ss nodes configs place h here in
       none_held key part (subst (λ (x : History). get (parts_in (limits_of x.config) x.items) key ≡ Some part) start.3 is)
 

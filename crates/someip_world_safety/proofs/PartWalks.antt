@@ -48,16 +48,6 @@ less_same parts k key part is = cases (is_some (message_at parts k)) is
     cases true is = removed_same (same_key key k) (get parts key) part (sym (get-remove keys_total parts k key) ∙ is)
     cases false is = is
 
--- ---- items
-
--- after an item that offers no segment only parts stand that stood before
-pub no_new_parts : (limits : Limits) (item : Item) (now : ℕ) (parts : Parts) (key : ReassemblyKey) (part : Part) → ((o : SegmentOffer) → item ≡ items.SegmentOffered o → ⊥) → get (parts_by limits item now parts) key ≡ Some part
-    → get parts key ≡ Some part
-no_new_parts limits (items.Ticked ms) now parts key part none is = left_same limits (now + ms) parts key part is
-no_new_parts limits (items.SegmentOffered o) now parts key part none is = absurd (none o refl)
-no_new_parts limits (items.MessageTaken k) now parts key part none is = less_same parts k key part is
-no_new_parts limits item now parts key part none is = is
-
 -- ---- a segment that was offered
 
 -- a part is the one with a segment that was accepted
@@ -98,6 +88,20 @@ joined_holds now o m left key part segment held joined =
     before : (v : Option Part) → get left o.key ≡ v → HoldsOnly m.payload (unwrap_or v no_part)
     before None none = begins m.payload
     before (Some p) some = held p some
+
+-- ---- items
+
+-- after an item that offers no segment under a key only a part stands there that stood before
+pub no_new_parts : (limits : Limits) (item : Item) (now : ℕ) (parts : Parts) (key : ReassemblyKey) (part : Part) → ((o : SegmentOffer) → item ≡ items.SegmentOffered o → key ≡ o.key → ⊥)
+    → get (parts_by limits item now parts) key ≡ Some part → get parts key ≡ Some part
+no_new_parts limits (items.Ticked ms) now parts key part none is = left_same limits (now + ms) parts key part is
+no_new_parts limits (items.SegmentOffered o) now parts key part none is = cases (offered_parts limits now o parts key part is)
+  where
+    cases : (get (parts_at limits now parts) key ≡ Some part) ⊎ IsJoined now o (parts_at limits now parts) key part → get parts key ≡ Some part
+    cases (inl left) = left_same limits now parts key part left
+    cases (inr joined) = absurd (none o refl joined.same)
+no_new_parts limits (items.MessageTaken k) now parts key part none is = less_same parts k key part is
+no_new_parts limits item now parts key part none is = is
 
 -- ---- whole messages
 
