@@ -1,6 +1,7 @@
--- A message that came to the application, whole or in segments, was given as it came by the step that sent its datagram.
+-- A message that came to the application from no liar, whole or in segments, was given as it came by the step that sent its datagram.
 use Rattle.std.proofs.Common.{◌≡◌, inl, inr, ℕ, suc, List, [], ◌∷◌, ◌++◌, Some, Result, Ok, Err, Option, arith, refl, sym, ap, subst, append_assoc, ◌∙◌}
 use Rattle.std.specs.List.{AllByRecursion}
+use Rattle.std.specs.Net.Socket.{v4_ip}
 use Rattle.std.proofs.lemmas.Grind.{flat_map-append}
 use Rattle.someip_wire.specs.declared.header.Header.{Header}
 use Rattle.someip_tp.specs.declared.error.TpError.{TpError}
@@ -29,6 +30,7 @@ use Rattle.someip_world_schedule.specs.declared.step.Step.{Step}
 use Rattle.someip_world_setup.specs.declared.setup_node.SetupNode.{SetupNode}
 use Rattle.someip_world_rules.specs.Announced.{AllFits}
 use Rattle.someip_world_rules.specs.Deliveries.{Does}
+use Rattle.someip_world_rules.specs.Liars.{IsHonest}
 use Rattle.someip_world_rules.proofs.Fronts.{within}
 use Rattle.someip_world_exchanges.specs.CleanReuse.{IsCleanBefore}
 use Rattle.someip_world_exchanges.proofs.WholeLemmas.{IsForApplication}
@@ -50,15 +52,15 @@ front_all P [] ys all = tt
 front_all P (x ∷ xs) ys all = (all.0, front_all P xs ys all.1)
 
 module _ (nodes : List SetupNode) (configs : List Config) (steps : List Step) where
-  -- a message that a segment of a datagram made whole was given by the step that sent this segment
+  -- a message that a segment of a datagram from no liar made whole was given by the step that sent this segment
   segments_were_given : AllFits nodes configs steps → (n : ℕ) (does : Does nodes configs steps n) (p : Packet) (header : Header) (payload : List ℕ) (done : Done) (earlier later : List Done)
-      → does.input ≡ Datagram p.from p.to p.bytes → trail_of does.turn.history does.input ≡ earlier ++ done ∷ later → Completes p header payload earlier → IsCleanBefore nodes configs steps (suc n)
-      → WasGiven nodes configs steps n p.from p.to header payload
-  segments_were_given fits n does p header payload done earlier later is trail c clean = record {
-    sent = (came nodes configs steps fits n does p is).sent;
+      → does.input ≡ Datagram p.from p.to p.bytes → IsHonest nodes configs (v4_ip p.from) → trail_of does.turn.history does.input ≡ earlier ++ done ∷ later → Completes p header payload earlier
+      → IsCleanBefore nodes configs steps (suc n) → WasGiven nodes configs steps n p.from p.to header payload
+  segments_were_given fits n does p header payload done earlier later is honest trail c clean = record {
+    sent = (came nodes configs steps fits n does p is honest).sent;
     datagram = record { from = p.from; to = p.to; bytes = p.bytes };
-    delivers = (came nodes configs steps fits n does p is).delivers;
-    sends = source nodes configs steps fits n does p is;
+    delivers = (came nodes configs steps fits n does p is honest).delivers;
+    sends = source nodes configs steps fits n does p is honest;
     is_from = refl;
     is_to = refl;
     given = message.is ∙ ap (outputs.Sends p.from p.to) (λ i. record { header = sym message.headed i; payload = sym payload_is i });
@@ -79,16 +81,16 @@ module _ (nodes : List SetupNode) (configs : List Config) (steps : List Step) wh
           front_all (MetBy h does.input) (met_by c.before) (met_by (c.took ∷ (done ∷ later)))
           (subst (AllByRecursion (MetBy h does.input)) (ap met_by splits ∙ flat_map-append (λ (d : Done). (outcome_of d).items) c.before (c.took ∷ (done ∷ later))) (all_met h does.input))
 
-      message : IsOfMessage p header c.offer (source nodes configs steps fits n does p is).given
-      message = of_message nodes configs steps fits n does p is header c.offer c.segment
+      message : IsOfMessage p header c.offer (source nodes configs steps fits n does p is honest).given
+      message = of_message nodes configs steps fits n does p is honest header c.offer c.segment
 
       was : AllHeld nodes configs steps n does.turn.place h
       was =
           let inside = within steps n does.step does.turn.here in
           all_held nodes configs steps fits n does.turn.before (omega (arith, inside)) does.turn.led (clean_before nodes configs steps fits n clean) does.turn.place h does.turn.stands
 
-      holding : Holding nodes configs steps fits n does p is clean was (after h (met_by c.before)).items
-      holding = holding_on nodes configs steps fits n does p is clean was h (met_by c.before) news (holding_first nodes configs steps fits n does p is clean was)
+      holding : Holding nodes configs steps fits n does p is honest clean was (after h (met_by c.before)).items
+      holding = holding_on nodes configs steps fits n does p is honest clean was h (met_by c.before) news (holding_first nodes configs steps fits n does p is honest clean was)
 
       limits : Limits
       limits = limits_of h.config
@@ -104,12 +106,13 @@ module _ (nodes : List SetupNode) (configs : List Config) (steps : List Step) wh
           (completed_there (judgement (limits_of took.config) took.clock c.offer took.parts) (message_at (parts_after (limits_of took.config) took.clock c.offer took.parts) c.offer.key) payload c.whole))
 
       payload_is : payload ≡ message.message.payload
-      payload_is = whole_given nodes configs steps fits n does p is clean was (after h (met_by c.before)).items holding header c.offer c.segment payload whole
+      payload_is = whole_given nodes configs steps fits n does p is honest clean was (after h (met_by c.before)).items holding header c.offer c.segment payload whole
 
-  -- a message that came to the application, whole or in segments, was given so by the step that sent its datagram
+  -- a message that came to the application from no liar, whole or in segments, was given so by the step that sent its datagram
   pub came_was_given : AllFits nodes configs steps → (n : ℕ) (does : Does nodes configs steps n) (p : Packet) (header : Header) (payload : List ℕ) (done : Done) (earlier later : List Done)
-      → does.input ≡ Datagram p.from p.to p.bytes → trail_of does.turn.history does.input ≡ earlier ++ done ∷ later → IsForApplication (target_of does.turn.history.config p.to) → Came p header payload earlier
-      → IsCleanBefore nodes configs steps (suc n) → WasGiven nodes configs steps n p.from p.to header payload
-  came_was_given fits n does p header payload done earlier later is trail goal (inl whole) clean = whole_was_given nodes configs steps fits n does p header payload is goal whole
-  came_was_given fits n does p header payload done earlier later is trail goal (inr completes) clean =
-      segments_were_given fits n does p header payload done earlier later is trail completes clean
+      → does.input ≡ Datagram p.from p.to p.bytes → IsHonest nodes configs (v4_ip p.from) → trail_of does.turn.history does.input ≡ earlier ++ done ∷ later
+      → IsForApplication (target_of does.turn.history.config p.to) → Came p header payload earlier → IsCleanBefore nodes configs steps (suc n)
+      → WasGiven nodes configs steps n p.from p.to header payload
+  came_was_given fits n does p header payload done earlier later is honest trail goal (inl whole) clean = whole_was_given nodes configs steps fits n does p header payload is honest goal whole
+  came_was_given fits n does p header payload done earlier later is honest trail goal (inr completes) clean =
+      segments_were_given fits n does p header payload done earlier later is honest trail completes clean

@@ -1,6 +1,7 @@
--- A datagram that a step of a run takes holds exactly one message.
+-- A datagram from no liar that a step of a run takes holds exactly one message.
 use Rattle.std.proofs.Common.{◌≡◌, ℕ, List, [], ◌∷◌, Ok, refl, ap, subst, sym, ◌∙◌}
 use Rattle.std.specs.List.{Contains}
+use Rattle.std.specs.Net.Socket.{v4_ip}
 use Rattle.std.specs.declared.net.socket_addr.SocketAddrV4.{SocketAddrV4}
 use Rattle.someip_wire.specs.Reading.{items_of}
 use Rattle.someip_wire.specs.Spelling.{Fits, MessageValue, spelling}
@@ -22,9 +23,10 @@ use Rattle.someip_world_rules.specs.Announced.{AllFits}
 use Rattle.someip_world_rules.specs.Datagrams.{SentDatagram}
 use Rattle.someip_world_rules.specs.Deeds.{Takes}
 use Rattle.someip_world_rules.specs.Deliveries.{Does}
+use Rattle.someip_world_rules.specs.Liars.{IsHonest}
 use Rattle.someip_world_rules.proofs.AnnouncedLemmas.{announced_fits, one_message}
 use Rattle.someip_world_rules.proofs.Deliverings.{delivered_in}
-use Rattle.someip_world_rules.proofs.Sendings.{sent_before}
+use Rattle.someip_world_rules.proofs.InjectionLemmas.{sent_honestly}
 
 -- a text is that of one message
 abbrev pub HoldsOne : List ℕ → Type 0
@@ -52,10 +54,10 @@ holds_one h input source goal text (Tells output) by fits among =
     absurd (subst (λ o. IsTold o by.done.by (answers_of by.done.before.state)) (sym same) by.holds)
 
 module _ (nodes : List SetupNode) (configs : List Config) (steps : List Step) where
-  -- and so is the one that a step takes
-  pub taken_holds_one : AllFits nodes configs steps → (n : ℕ) (does : Does nodes configs steps n) (p : Packet) → does.input ≡ Datagram p.from p.to p.bytes → HoldsOne p.bytes
-  taken_holds_one fits n does p is =
+  -- and so is the one that a step takes from no liar
+  pub taken_holds_one : AllFits nodes configs steps → (n : ℕ) (does : Does nodes configs steps n) (p : Packet) → does.input ≡ Datagram p.from p.to p.bytes → IsHonest nodes configs (v4_ip p.from) → HoldsOne p.bytes
+  taken_holds_one fits n does p is honest =
       let d : SentDatagram = record { from = p.from; to = p.to; bytes = p.bytes } in
       let came = delivered_in nodes configs steps n d does.step does.turn (does.takes ∙ ap Takes is) in
-      let s = (sent_before nodes configs steps n came.sent d came.delivers).1 in
+      let s = (sent_honestly nodes configs steps n came.sent d came.delivers honest).1 in
       holds_one s.does.turn.history s.does.input d.from d.to d.bytes s.given s.by (fits came.sent s.does.step s.does.turn s.does.input s.given s.does.takes s.by) s.among
