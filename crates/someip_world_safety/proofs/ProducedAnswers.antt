@@ -1,6 +1,7 @@
--- An answer that was sent was produced for a call: by the application, or of a check that failed.
+-- An answer that was sent to a client that is no liar was produced for a call: by the application, or of a check that failed.
 use Rattle.std.proofs.Common.{◌≡◌, inl, inr, ℕ, suc, ◌<◌, true, List, [], Some, arith, refl, sym, ap, subst, ◌∙◌}
 use Rattle.std.specs.List.{Contains}
+use Rattle.std.specs.Net.Socket.{v4_ip}
 use Rattle.std.specs.declared.net.socket_addr.SocketAddrV4.{SocketAddrV4}
 use Rattle.someip_wire.specs.declared.header.Header.{Header}
 use Rattle.someip_wire.specs.declared.header.MessageType.TheVariants as kinds
@@ -34,6 +35,7 @@ use Rattle.someip_world_setup.specs.declared.setup_node.SetupNode.{SetupNode}
 use Rattle.someip_world_rules.specs.Announced.{AllFits}
 use Rattle.someip_world_rules.specs.Datagrams.{SentDatagram}
 use Rattle.someip_world_rules.specs.Deliveries.{LivesOn, Sends}
+use Rattle.someip_world_rules.specs.Liars.{IsHonest}
 use Rattle.someip_world_rules.proofs.Fronts.{within}
 use Rattle.someip_world_rules.proofs.Sendings.{sent_before}
 use Rattle.someip_world_exchanges.specs.declared.exchange_key.ExchangeKey.{ExchangeKey}
@@ -79,7 +81,11 @@ module _ (nodes : List SetupNode) (configs : List Config) (steps : List Step) (f
   -- ---- a check that fails
 
   module _ (instance : InstanceId) (peer : SocketAddrV4) (header : Header) (payload : List ℕ) (takes : s.by.done.by ≡ plans.TakesRequest instance peer header payload)
-      (from to : SocketAddrV4) (m : MessageValue) (e : IsErrorTo instance peer header t from to m) where
+      (from to : SocketAddrV4) (m : MessageValue) (e : IsErrorTo instance peer header t from to m) (honest : IsHonest nodes configs (v4_ip to)) where
+    -- it goes back to the client
+    to_peer : IsHonest nodes configs (v4_ip peer)
+    to_peer = subst (λ x. IsHonest nodes configs (v4_ip x)) e.back honest
+
     -- the ERROR that tells it
     abbrev error : MessageValue
     error = record { header = answer_header (asked e.service.rules peer header) kinds.Error (fault_code e.fault); payload = [] }
@@ -90,7 +96,7 @@ module _ (nodes : List SetupNode) (configs : List Config) (steps : List Step) (f
         let offered : offered_as s.does.turn.history.config instance ≡ Some e.service =
         ap (λ c. offered_as c instance) (sym (config_there s.does.turn.history s.does.input s.by.done s.by.among)) ∙ e.offered in
         let g : WasGiven nodes configs steps i peer e.service.rules.endpoint header payload =
-        request_given nodes configs steps fits own i clean s.does s.by.done s.by.brought instance peer header payload takes e.service offered in
+        request_given nodes configs steps fits own i clean s.does s.by.done s.by.brought instance peer header payload takes e.service offered to_peer in
         let key : ExchangeKey = of_call peer e.service.rules.endpoint header.service header.method header.client header.session in
         record {
           made = g.sent;
@@ -105,7 +111,7 @@ module _ (nodes : List SetupNode) (configs : List Config) (steps : List Step) (f
             meant = subst (λ r. Answered nodes configs steps s.does.turn.place i r g.sent) (sym takes) (g.datagram, g.delivers);
           };
           how = inr (record {
-            took = call_taken nodes configs steps fits own i clean s.does s.by.done s.by.brought instance peer header payload takes e.service offered e.kind s.by.among;
+            took = call_taken nodes configs steps fits own i clean s.does s.by.done s.by.brought instance peer header payload takes e.service offered to_peer e.kind s.by.among;
             fault = e.fault;
             fails = e.fails;
             says = refl;
@@ -137,7 +143,14 @@ module _ (nodes : List SetupNode) (configs : List Config) (steps : List Step) (f
           let there : open_request_at s.does.turn.history.items token ≡ Some e.request = ap (λ (h : History). open_request_at h.items token) (sym at_start) ∙ here in
           all_open nodes configs steps i s.does.turn.before (omega (arith, inside)) s.does.turn.led s.does.turn.place s.does.turn.history token e.request s.does.turn.stands there
 
-      module _ (o : IsOpenRequest nodes configs steps i s.does.turn.place token e.request) where
+      module _ (o : IsOpenRequest nodes configs steps i s.does.turn.place token e.request) (honest : IsHonest nodes configs (v4_ip to)) where
+        -- the answer goes back to the client
+        back : to ≡ o.from
+        back = e.back ∙ ap (λ r. r.peer) o.is
+
+        to_client : IsHonest nodes configs (v4_ip o.from)
+        to_client = subst (λ x. IsHonest nodes configs (v4_ip x)) back honest
+
         -- the answer to the open request
         abbrev answer : MessageValue
         answer = record { header = answer_header (asked o.service.rules o.from o.header) (kind_of_reply reply) (code_of_reply reply); payload = payload }
@@ -158,7 +171,7 @@ module _ (nodes : List SetupNode) (configs : List Config) (steps : List Step) (f
         answer_produced : s.given ≡ outputs.Sends o.service.rules.endpoint o.from answer → Due o.service.rules.endpoint o.from answer
         answer_produced is =
             let g : WasGiven nodes configs steps o.i o.from o.service.rules.endpoint o.header o.handed.payload =
-            request_given nodes configs steps fits own o.i clean_then o.handed.does o.handed.by.done o.handed.by.brought o.handed.instance o.from o.header o.handed.payload o.takes o.service o.offered in
+            request_given nodes configs steps fits own o.i clean_then o.handed.does o.handed.by.done o.handed.by.brought o.handed.instance o.from o.header o.handed.payload o.takes o.service o.offered to_client in
             let key : ExchangeKey = of_call o.from o.service.rules.endpoint o.header.service o.header.method o.header.client o.header.session in
             let sent = (sent_before nodes configs steps o.i g.sent g.datagram g.delivers).0 in
             let later = o.before in
@@ -184,7 +197,7 @@ module _ (nodes : List SetupNode) (configs : List Config) (steps : List Step) (f
               };
               how = inl (record {
                 taken = o.i;
-                took = call_taken nodes configs steps fits own o.i clean_then o.handed.does o.handed.by.done o.handed.by.brought o.handed.instance o.from o.header o.handed.payload o.takes o.service o.offered
+                took = call_taken nodes configs steps fits own o.i clean_then o.handed.does o.handed.by.done o.handed.by.brought o.handed.instance o.from o.header o.handed.payload o.takes o.service o.offered to_client
                     is_request o.handed.by.among;
                 token = token;
                 handed = record {
@@ -211,21 +224,20 @@ module _ (nodes : List SetupNode) (configs : List Config) (steps : List Step) (f
         answered_so : s.given ≡ outputs.Sends from to m → Due from to m
         answered_so is =
             let source : from ≡ o.service.rules.endpoint = e.from_instance ∙ ap (λ r. r.endpoint) o.is in
-            let back : to ≡ o.from = e.back ∙ ap (λ r. r.peer) o.is in
             let same : m ≡ answer = e.is ∙ (λ j. record { header = answer_header (o.is j) (kind_of_reply reply) (code_of_reply reply); payload = payload }) in
             let produced = answer_produced (is ∙ (λ j. outputs.Sends (source j) (back j) (same j))) in
             subst (λ x. Due x to m) (sym source) (subst (λ x. Due o.service.rules.endpoint x m) (sym back) (subst (Due o.service.rules.endpoint o.from) (sym same) produced))
 
   -- ---- any rule
 
-  module _ (from to : SocketAddrV4) (m : MessageValue) (is : s.given ≡ outputs.Sends from to m) (kind : is_answer_type m.header.kind ≡ true) where
+  module _ (from to : SocketAddrV4) (m : MessageValue) (is : s.given ≡ outputs.Sends from to m) (kind : is_answer_type m.header.kind ≡ true) (honest : IsHonest nodes configs (v4_ip to)) where
     -- a message of the type of answers is given only by the rules that answer and that take requests
     by_rule : (r : Rule) → s.by.done.by ≡ r → IsSent r t from to m → Due from to m
     by_rule (plans.Calls c instance method payload) by e = absurd (no_call c (sym (ap (λ (x : MessageValue). is_answer_type x.header.kind) e.is) ∙ kind))
     by_rule (plans.Answers token reply payload) by e =
         let answered = subst (λ r. AskedBy r s.does.input) by (done_asked s.does.turn.history s.does.input _ s.by) in
-        answered_so token reply payload by answered from to m e (request_open token reply payload by answered from to m e) is
-    by_rule (plans.TakesRequest instance peer header payload) by e = refused instance peer header payload by from to m e is
+        answered_so token reply payload by answered from to m e (request_open token reply payload by answered from to m e) honest is
+    by_rule (plans.TakesRequest instance peer header payload) by e = refused instance peer header payload by from to m e honest is
     by_rule (plans.Publishes instance event payload) by e = let none = sym (ap (λ (x : MessageValue). is_answer_type x.header.kind) e.is) ∙ kind in absurd cc
     by_rule (plans.PublishesTo instance endpoint event payload) by e = let none = sym (ap (λ (x : MessageValue). is_answer_type x.header.kind) e.is) ∙ kind in absurd cc
     by_rule r by e = absurd e
@@ -234,8 +246,8 @@ module _ (nodes : List SetupNode) (configs : List Config) (steps : List Step) (f
     by_given : Due from to m
     by_given = by_rule s.by.done.by refl (subst (λ g. Means g s.by.done.by t) is s.by.holds)
 
--- each answer that a step sends was produced for a call
+-- each answer that a step sends to a client that is no liar was produced for a call
 pub answer_was_produced : (nodes : List SetupNode) (configs : List Config) (steps : List Step) → AllFits nodes configs steps → HaveOwnOffers configs
     → (i : ℕ) → IsCleanBefore nodes configs steps (suc i) → (d : SentDatagram) (s : Sends nodes configs steps i d) (from to : SocketAddrV4) (m : MessageValue)
-    → s.given ≡ outputs.Sends from to m → is_answer_type m.header.kind ≡ true → WasProduced nodes configs steps i d from to m
-answer_was_produced nodes configs steps fits own i clean d s from to m is kind = by_given nodes configs steps fits own i clean d s from to m is kind
+    → s.given ≡ outputs.Sends from to m → is_answer_type m.header.kind ≡ true → IsHonest nodes configs (v4_ip to) → WasProduced nodes configs steps i d from to m
+answer_was_produced nodes configs steps fits own i clean d s from to m is kind honest = by_given nodes configs steps fits own i clean d s from to m is kind honest

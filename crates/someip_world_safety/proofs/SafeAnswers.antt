@@ -1,6 +1,7 @@
--- An answer that is handed up is safe, where each answer that was sent was produced for its call.
+-- An answer that is handed up of a message from no liar is safe, where each answer that was sent to a node was produced for its call.
 use Rattle.std.proofs.Common.{◌≡◌, ◌⊎◌, inl, inr, ℕ, suc, ◌<◌, ◌≤◌, true, List, [], ◌∷◌, slice_get, Ok, Some, arith, sym, ap, subst, ◌∙◌}
 use Rattle.std.specs.List.{Contains}
+use Rattle.std.specs.Net.Socket.{v4_ip}
 use Rattle.std.specs.declared.net.socket_addr.SocketAddrV4.{SocketAddrV4}
 use Rattle.std.proofs.lemmas.Bool.{cases_lt}
 use Rattle.someip_wire.specs.declared.header.ReturnCode.{ReturnCode}
@@ -22,6 +23,8 @@ use Rattle.someip_world_setup.specs.declared.setup_node.SetupNode.{SetupNode}
 use Rattle.someip_world_rules.specs.Announced.{AllFits}
 use Rattle.someip_world_rules.specs.Datagrams.{SentDatagram}
 use Rattle.someip_world_rules.specs.Deliveries.{Delivers, Does, Sends}
+use Rattle.someip_world_rules.specs.Liars.{IsFromLiar, IsHonest}
+use Rattle.someip_world_rules.proofs.InjectionLemmas.{taken_by_node}
 use Rattle.someip_world_rules.proofs.OriginLemmas.{turn_configured}
 use Rattle.someip_world_rules.proofs.Sendings.{sent_before}
 use Rattle.someip_world_exchanges.specs.Belonging.{Belongs}
@@ -41,6 +44,7 @@ use Rattle.someip_world_safety.proofs.OneMessage.{HoldsOne, taken_holds_one}
 use Rattle.someip_world_safety.proofs.AnsweredCalls.{answered_call_waits, passed, same_config}
 use Rattle.someip_world_safety.proofs.CameGiven.{came_was_given}
 use Rattle.someip_world_safety.proofs.ClientEndpoint.{came_to_client}
+use Rattle.someip_world_safety.proofs.LiarLemmas.{honest_address}
 use Rattle.someip_world_safety.proofs.MadeCalls.{made_opens}
 use Rattle.someip_world_safety.proofs.SameStep.{same_input}
 use Rattle.someip_world_safety.proofs.SentCalls.{WasMade, taken_was_made}
@@ -158,17 +162,17 @@ module _ (nodes : List SetupNode) (configs : List Config) (steps : List Step) wh
         how = due;
       }
 
-  -- an answer that is handed up is safe, where what is sent as an answer was produced for its call
+  -- an answer that is handed up of a message from no liar is safe, where what is sent to a node as an answer was produced for its call
   pub answer_is_safe : AllFits nodes configs steps → HaveOwnAddresses configs → (n : ℕ) → IsCleanBefore nodes configs steps (suc n) → (does : Does nodes configs steps n) (message : MessageId) (session : ℕ) (code : ReturnCode) (payload : List ℕ)
-      → Contains does.done.outputs (Answered message session code payload)
+      → Contains does.done.outputs (Answered message session code payload) → (IsFromLiar nodes configs does.input → ⊥)
       → ((i : ℕ) → i < n → (d : SentDatagram) (s : Sends nodes configs steps i d) (from to : SocketAddrV4) (m : MessageValue)
-      → s.given ≡ outputs.Sends from to m → is_answer_type m.header.kind ≡ true → WasProduced nodes configs steps i d from to m)
+      → s.given ≡ outputs.Sends from to m → is_answer_type m.header.kind ≡ true → IsHonest nodes configs (v4_ip to) → WasProduced nodes configs steps i d from to m)
       → IsSafeAnswer nodes configs steps n message session code payload
-  answer_is_safe fits own n clean does message session code payload handed was_produced =
+  answer_is_safe fits own n clean does message session code payload handed honest was_produced =
       subst (λ x. IsSafeAnswer nodes configs steps n x session code payload) (sym e.taken.named)
       (subst (λ x. IsSafeAnswer nodes configs steps n key.message x code payload) (sym e.taken.numbered)
       (subst (λ x. IsSafeAnswer nodes configs steps n key.message key.session x payload) (sym e.taken.told)
-      (safe own n clean does key e.packet.from a w.exchange named given.sent sent.0 e.header.code payload alone
+      (safe own n clean does key e.packet.from a w.exchange named given.sent before e.header.code payload alone
       (due_for_it own n clean does key e.packet.from a w.exchange named given.sent given.datagram e.header.code payload w.made w.asked given.delivers w.belongs made_before w.how))))
     where
       e : AnswerCame does.turn.history does.input message session code payload
@@ -177,13 +181,16 @@ module _ (nodes : List SetupNode) (configs : List Config) (steps : List Step) wh
       key : CallKey
       key = answered_call e.header
 
+      source : IsHonest nodes configs (v4_ip e.packet.from)
+      source = subst (λ input. IsFromLiar nodes configs input → ⊥) e.is honest
+
       given : WasGiven nodes configs steps n e.packet.from e.packet.to e.header payload
       given =
-          came_was_given nodes configs steps fits n does e.packet e.header payload e.done e.earlier e.later e.is e.trail
+          came_was_given nodes configs steps fits n does e.packet e.header payload e.done e.earlier e.later e.is source e.trail
           (subst IsForApplication (sym e.arrived) tt) e.came clean
 
-      sent : (given.sent < n) × Sends nodes configs steps given.sent given.datagram
-      sent = sent_before nodes configs steps n given.sent given.datagram given.delivers
+      before : given.sent < n
+      before = (sent_before nodes configs steps n given.sent given.datagram given.delivers).0
 
       a : IsAwaited nodes configs steps n does.turn.place key e.packet.from
       a = answered_call_waits nodes configs steps n does message session code payload e
@@ -191,11 +198,16 @@ module _ (nodes : List SetupNode) (configs : List Config) (steps : List Step) wh
       to : e.packet.to ≡ client_endpoint does.turn.history.config
       to = came_to_client does.turn.history.config e.packet.to e.arrived
 
+      at_node : IsHonest nodes configs (v4_ip e.packet.to)
+      at_node =
+          subst (λ x. IsHonest nodes configs (v4_ip x)) (sym to)
+          (honest_address nodes configs own does.turn.place does.turn.history.config (turn_configured nodes configs steps n does.step does.turn) (taken_by_node nodes configs steps n does))
+
       w : WasProduced nodes configs steps given.sent given.datagram e.packet.from (client_endpoint does.turn.history.config) (record { header = e.header; payload = payload })
       w =
           subst (λ x. WasProduced nodes configs steps given.sent given.datagram e.packet.from x (record { header = e.header; payload = payload })) to
-          (was_produced given.sent sent.0 given.datagram given.sends e.packet.from e.packet.to (record { header = e.header; payload = payload }) given.given
-          (passed nodes configs steps n does message session code payload e).kind)
+          (was_produced given.sent before given.datagram given.sends e.packet.from e.packet.to (record { header = e.header; payload = payload }) given.given
+          (passed nodes configs steps n does message session code payload e).kind at_node)
 
       client : e.header.client ≡ does.turn.history.config.client_id
       client = (passed nodes configs steps n does message session code payload e).named ∙ ap (λ c. c.client_id) (same_config nodes configs steps n does message session code payload e)
@@ -204,10 +216,10 @@ module _ (nodes : List SetupNode) (configs : List Config) (steps : List Step) wh
       named = w.is ∙ ap (λ c. of_call (client_endpoint does.turn.history.config) e.packet.from e.header.service e.header.method c e.header.session) client
 
       made_before : w.made < n
-      made_before = let one = w.before in let two = sent.0 in omega (arith, one, two)
+      made_before = let one = w.before in let two = before in omega (arith, one, two)
 
       one : HoldsOne e.packet.bytes
-      one = taken_holds_one nodes configs steps fits n does e.packet e.is
+      one = taken_holds_one nodes configs steps fits n does e.packet e.is source
 
       alone : does.done.outputs ≡ Answered key.message key.session e.header.code payload ∷ []
       alone =

@@ -1,6 +1,7 @@
--- A request that an instance takes is that of a call, which was given by the step that sent its datagram.
+-- A request that an instance takes from a client that is no liar is that of a call, which was given by the step that sent its datagram.
 use Rattle.std.proofs.Common.{◌≡◌, ℕ, suc, Bool, true, false, List, Some, inl, inr, refl, sym, ap, subst}
 use Rattle.std.specs.List.{Contains}
+use Rattle.std.specs.Net.Socket.{v4_ip}
 use Rattle.std.specs.declared.net.socket_addr.SocketAddrV4.{SocketAddrV4}
 use Rattle.someip_wire.specs.declared.header.Header.{Header}
 use Rattle.someip_wire.specs.declared.header.MessageType.TheVariants as kinds
@@ -19,6 +20,7 @@ use Rattle.someip_world_schedule.specs.declared.step.Step.{Step}
 use Rattle.someip_world_setup.specs.declared.setup_node.SetupNode.{SetupNode}
 use Rattle.someip_world_rules.specs.Announced.{AllFits}
 use Rattle.someip_world_rules.specs.Deliveries.{Does}
+use Rattle.someip_world_rules.specs.Liars.{IsHonest}
 use Rattle.someip_world_rules.proofs.OriginLemmas.{turn_configured}
 use Rattle.someip_world_exchanges.specs.declared.exchange_key.ExchangeKey.{ExchangeKey}
 use Rattle.someip_world_exchanges.specs.declared.naming.Side.TheVariants.{Opener}
@@ -79,7 +81,8 @@ module _ (nodes : List SetupNode) (configs : List Config) (steps : List Step) wh
 
   module _ (fits : AllFits nodes configs steps) (own : HaveOwnOffers configs) (i : ℕ) (clean : IsCleanBefore nodes configs steps (suc i)) (does : Does nodes configs steps i)
       (done : Done) (brought : WasBrought does.turn.history does.input done) (instance : InstanceId) (client : SocketAddrV4) (header : Header) (payload : List ℕ)
-      (takes : done.by ≡ TakesRequest instance client header payload) (service : OfferedService) (offered : offered_as does.turn.history.config instance ≡ Some service) where
+      (takes : done.by ≡ TakesRequest instance client header payload) (service : OfferedService) (offered : offered_as does.turn.history.config instance ≡ Some service)
+      (honest : IsHonest nodes configs (v4_ip client)) where
     -- the request that an instance takes was given to the endpoint that it is offered at
     pub request_given : WasGiven nodes configs steps i client service.rules.endpoint header payload
     request_given =
@@ -88,7 +91,8 @@ module _ (nodes : List SetupNode) (configs : List Config) (steps : List Step) wh
         (subst (λ r. Brings does.turn.history does.input r brought.earlier) takes brought.brings) in
         let p : Packet = came.0 in
         let goal : IsForApplication (target_of does.turn.history.config p.to) = subst IsForApplication (sym came.2.1) tt in
-        let given = came_was_given nodes configs steps fits i does p header payload done brought.earlier brought.later came.1 brought.trail goal came.2.2 clean in
+        let source = subst (λ from. IsHonest nodes configs (v4_ip from)) came.2.0 honest in
+        let given = came_was_given nodes configs steps fits i does p header payload done brought.earlier brought.later came.1 source brought.trail goal came.2.2 clean in
         let at = own does.turn.place does.turn.history.config (turn_configured nodes configs steps i does.step does.turn) in
         let aimed = came_to_instance does.turn.history.config p.to instance at service came.2.1 offered in
         subst (λ c. WasGiven nodes configs steps i c service.rules.endpoint header payload) (sym came.2.0)
