@@ -1,4 +1,4 @@
--- What a step publishes goes to those who are subscribed, and the offers that nodes know are configured.
+-- What a step publishes goes to those who are subscribed, and the offers that nodes know from peers that are no liars are configured.
 use Rattle.std.proofs.Common.{◌≡◌, ℕ, List, Ok, subst, take}
 use Rattle.std.specs.List.{AllByRecursion}
 use Rattle.someip_node_rules.specs.declared.config.Config.{Config}
@@ -9,8 +9,9 @@ use Rattle.someip_node_laws.proofs.PublishedLemmas.{is_published, is_published_t
 use Rattle.someip_world_schedule.specs.declared.step.Step.{Step}
 use Rattle.someip_world_setup.specs.declared.setup_node.SetupNode.{SetupNode}
 use Rattle.someip_world_rules.specs.Announced.{FitsStep}
-use Rattle.someip_world_rules.proofs.ConfiguredLemmas.{as_configured}
-use Rattle.someip_world_safety.specs.Safety.{OffersAreConfigured, PublishesToAll, PublishesToOne}
+use Rattle.someip_world_rules.specs.Liars.{HasNoLiars}
+use Rattle.someip_world_rules.proofs.ConfiguredLemmas.{as_configured, configured_without_liars}
+use Rattle.someip_world_safety.specs.Safety.{HonestOffersAreConfigured, OffersAreConfigured, PublishesToAll, PublishesToOne}
 
 module _ (nodes : List SetupNode) (configs : List Config) (steps : List Step) where
   -- an event that a step publishes goes to each live endpoint
@@ -24,6 +25,10 @@ module _ (nodes : List SetupNode) (configs : List Config) (steps : List Step) wh
       is_published_to does.turn.history instance eventgroup endpoint event payload does.done
       (subst (λ input. step does.turn.history input ≡ Ok does.done) is does.happened)
 
-  -- the offers that nodes know after some steps are configured
-  pub offers_are_configured : AllByRecursion FitsConfig configs → AllByRecursion FitsStep steps → (n : ℕ) → OffersAreConfigured nodes configs steps n
+  -- the offers that nodes know after some steps, from peers that are no liars, are configured
+  pub offers_are_configured : AllByRecursion FitsConfig configs → AllByRecursion FitsStep steps → (n : ℕ) → HonestOffersAreConfigured nodes configs steps n
   offers_are_configured fit all n w le led = as_configured nodes configs (take n steps) w led fit (all_take FitsStep n steps all)
+
+  -- in a setup without liars all are
+  pub offers_without_liars : HasNoLiars nodes → AllByRecursion FitsConfig configs → AllByRecursion FitsStep steps → (n : ℕ) → OffersAreConfigured nodes configs steps n
+  offers_without_liars none fit all n w le led = configured_without_liars nodes configs (take n steps) w led fit (all_take FitsStep n steps all) none
