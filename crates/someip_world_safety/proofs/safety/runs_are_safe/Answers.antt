@@ -26,7 +26,7 @@ returns-clause-subscriptions c configs n w are le led clean =
     let good = c.nodes.ensures.good in
     let own = own_addresses network good configs are in
     let apart = off_group network good configs are in
-    subscriptions_are_safe network.nodes configs steps own (acks_say network.nodes configs steps fits apart) (acks_begin_none network.nodes configs steps fits) n w le led clean
+    subscriptions_are_safe network.nodes configs steps own (acks_say network.nodes configs steps fits apart own) (acks_begin_none network.nodes configs steps fits apart own) n w le led clean
 
 pub returns-clause-publications : goal.returns-clause-publications
 returns-clause-publications c configs n = publishes_to_all c.args.setup.now.nodes configs c.args.steps.now n

@@ -2,8 +2,8 @@ use Rattle.std.proofs.Common.{suc}
 use Rattle.someip_world_safety.proofs.SafeRuns.{clean_up_to}
 use Rattle.someip_world_safety.proofs.safety.runs_are_safe_by_their_verdict.Goals as goal
 
-pub returns : goal.returns
-returns c lines verdict judged configs are comes =
+pub returns-clause-among_liars : goal.returns-clause-among_liars
+returns-clause-among_liars c lines verdict judged configs are comes =
     let nodes = c.args.setup.now.nodes in
     let steps = c.args.steps.now in
     let safe = c.runs_are_safe.ensures in
@@ -15,4 +15,19 @@ returns c lines verdict judged configs are comes =
       publications = λ n. safe.publications configs n;
       publications_to_one = λ n. safe.publications_to_one configs n;
       offers = λ n. safe.offers configs n are;
+    }
+
+pub returns-clause-without_liars : goal.returns-clause-without_liars
+returns-clause-without_liars c none lines verdict judged configs are comes =
+    let nodes = c.args.setup.now.nodes in
+    let steps = c.args.steps.now in
+    let safe = c.runs_without_liars_are_safe.ensures in
+    let is = judged configs are comes in
+    record {
+      answers = λ n up. safe.answers none configs n are (clean_up_to nodes configs steps verdict (suc n) is up);
+      events = λ n up. safe.events none configs n are (clean_up_to nodes configs steps verdict (suc n) is up);
+      subscriptions = λ n w le led up. safe.subscriptions none configs n w are le led (clean_up_to nodes configs steps verdict n is up);
+      publications = λ n. safe.publications none configs n;
+      publications_to_one = λ n. safe.publications_to_one none configs n;
+      offers = λ n. safe.offers none configs n are;
     }
