@@ -1,7 +1,7 @@
 -- What is kept of a run after a step says of the steps before what it should.
-use Rattle.std.proofs.Common.{◌≡◌, ◌+◌, ◌==◌, ℕ, zero, suc, Bool, true, false, if◌then◌else◌, List, [], ◌∷◌, ◌++◌, append-nil, slice_get, slice_set, Some, Result, Ok, Err, refl, sym, ap, subst, ◌∙◌}
-use Rattle.std.specs.Option.{option_map}
+use Rattle.std.proofs.Common.{◌≡◌, ◌+◌, ◌==◌, ℕ, zero, suc, Bool, true, false, if◌then◌else◌, List, [], ◌∷◌, append-nil, slice_get, slice_set, Some, Result, Ok, Err, refl, sym, ap, subst, ◌∙◌}
 use Rattle.std.specs.List.{AllZip}
+use Rattle.std.specs.declared.net.socket_addr.SocketAddrV4.{SocketAddrV4}
 use Rattle.std.proofs.lemmas.Bool.{eqb-true, eqb-false}
 use Rattle.std.proofs.lemmas.List.Elements.{filter_map-append}
 use Rattle.someip_node_rules.specs.Copies.{IsCopy}
@@ -13,26 +13,27 @@ use Rattle.someip_node_rules.specs.Steps.{given_in, step, work_on}
 use Rattle.someip_node_rules.specs.declared.config.Config.{Config}
 use Rattle.someip_node_rules.specs.declared.error.NodeError.{NodeError}
 use Rattle.someip_node_rules.specs.declared.output.Output.{Output}
+use Rattle.someip_node_rules.specs.declared.output.Output.TheVariants.{Sent}
 use Rattle.someip_world_schedule.specs.declared.step.Step.{Step}
 use Rattle.someip_world_setup.specs.declared.setup_node.SetupNode.{SetupNode}
 use Rattle.someip_world_rules.specs.Announced.{AllFits}
-use Rattle.someip_world_rules.specs.Datagrams.{datagrams_in}
-use Rattle.someip_world_rules.specs.Deeds.{Deed, Takes, Restarts, done_with}
+use Rattle.someip_world_rules.specs.Deeds.{Deed, Takes, Restarts, Injects, done_with}
 use Rattle.someip_world_rules.specs.Runs.{told_lines, world_after}
 use Rattle.someip_world_rules.specs.Turns.{Turn}
 use Rattle.someip_world_rules.proofs.Fronts.{get_set_other, get_set_same}
 use Rattle.someip_world_rules.specs.Deliveries.{dispatch_in, dispatches_in}
 use Rattle.someip_world_ledger.specs.Books.{Book, LifeKept, PayloadNumbers}
-use Rattle.someip_world_ledger.specs.Booking.{Openings, answered_in, booked, is_refused, life_after, long_payload_of, notes_of, number_of, numbered, openings_after}
+use Rattle.someip_world_ledger.specs.Booking.{Openings, booked, booked_of_liar, booked_of_node, is_injection, is_refused, life_after, long_payload_of, numbered, openings_after}
 use Rattle.someip_world_ledger.proofs.keeping.KeySteps.{counters_kept, taken_kept}
+use Rattle.someip_world_ledger.proofs.InjectedSteps.{injection_does_nothing, injects_so, restart_no_injection, taken_no_injection}
 use Rattle.someip_world_ledger.proofs.Kept.{IsNoted, KeepsLife, KeepsTaken, Kept, PayloadsGrow}
 use Rattle.someip_world_ledger.proofs.lives.LifeSpans.{other_life}
-use Rattle.someip_world_ledger.proofs.lives.LifeSteps.{refused_life}
-use Rattle.someip_world_ledger.proofs.noting.NoteSteps.{notes_kept}
+use Rattle.someip_world_ledger.proofs.lives.LifeSteps.{injection_life, refused_life}
+use Rattle.someip_world_ledger.proofs.noting.NoteSteps.{notes_kept, notes_of_liar}
 use Rattle.someip_world_ledger.proofs.noting.NumberSteps.{numbers_kept, numbers_stay}
 use Rattle.someip_world_ledger.proofs.lives.RestartSteps.{restarted_life}
 use Rattle.someip_world_ledger.proofs.lives.TakenLives.{taken_life}
-use Rattle.someip_world_ledger.proofs.keeping.TakenSteps.{counters_restarted, taken_refused, taken_restarted}
+use Rattle.someip_world_ledger.proofs.keeping.TakenSteps.{counters_restarted, still_taken, taken_refused, taken_restarted}
 
 -- what is set at a place that is there, is there
 set_there : {X : Type 0} (xs : List X) (k : ℕ) (x y : X) → slice_get xs k ≡ Some y → slice_get (slice_set xs k x) k ≡ Some x
@@ -106,28 +107,35 @@ module _ (nodes : List SetupNode) (configs : List Config) (ss : List Step) (fits
     payloads = kept.payloads;
   }
 
+  -- ---- where nothing is refused
+
+  -- what is kept of what a node or a liar changes is kept of what is booked
+  booked_as : (due : Result (Work History) NodeError) (os : List Output) (next : Book) → given_in due ≡ Ok os
+      → (if is_injection s then booked_of_liar n book else booked_of_node config n t.place s (told_lines (n + 1) t.place (Ok os)) life book) ≡ next
+      → Kept nodes configs ss (suc n) (world_after (n + 1) t.place t.before t.history due) next → KeptWith due
+  booked_as due os next gives is kept =
+      subst (Kept nodes configs ss (suc n) (world_after (n + 1) t.place t.before t.history due))
+      (sym ((λ i. booked config n t.place s (told_lines (n + 1) t.place (gives i)) life book)
+      ∙ (λ i. if none_refused (n + 1) t.place os i then book else if is_injection s then booked_of_liar n book else booked_of_node config n t.place s (told_lines (n + 1) t.place (Ok os)) life book)
+      ∙ is)) kept
+
   -- ---- one that is taken, and a start
 
-  -- what is kept of a step with outputs, part by part
-  of_outputs : (done : Work History) (o : Openings)
+  -- what is kept of a step of a node with outputs, part by part
+  of_outputs : is_injection s ≡ false → (done : Work History) (o : Openings)
       → openings_after config book.notes book.taken life n s (told_lines (n + 1) t.place (Ok done.outputs)) ≡ o
       → KeepsTaken nodes configs ss (suc n) o.taken
       → KeepsLife nodes configs ss (numbered n (long_payload_of s) book.payloads) (suc n) t.place done.state (life_after config book.notes life s (told_lines (n + 1) t.place (Ok done.outputs)) o.counters)
       → KeptWith (Ok done)
-  of_outputs done o is taken lives =
+  of_outputs own done o is taken lives =
       let lines = told_lines (n + 1) t.place (Ok done.outputs) in
       let grow = numbers_stay book.payloads n (long_payload_of s) in
       let more = numbered n (long_payload_of s) book.payloads in
-      subst (λ b. Kept nodes configs ss (suc n) (world_after (n + 1) t.place t.before t.history (Ok done))
-      (if b then book else record {
-        taken = (openings_after config book.notes book.taken life n s lines).taken;
-        notes = book.notes ++ notes_of n (answered_in book.notes life s) (option_map (number_of book.payloads n) (long_payload_of s)) (datagrams_in lines);
-        lives = slice_set book.lives t.place (life_after config book.notes life s lines (openings_after config book.notes book.taken life n s lines).counters);
-        payloads = numbered n (long_payload_of s) book.payloads;
-      })) (sym (none_refused (n + 1) t.place done.outputs))
+      booked_as (Ok done) done.outputs (booked_of_node config n t.place s lines life book) refl
+      (λ i. if own i then booked_of_liar n book else booked_of_node config n t.place s lines life book)
       (record {
         taken = subst (λ x. KeepsTaken nodes configs ss (suc n) x.taken) (sym is) taken;
-        notes = notes_kept nodes configs ss n book life s t kept.notes own_life done.outputs grow;
+        notes = notes_kept nodes configs ss n book life s t own kept.notes own_life done.outputs grow;
         lives = subst (λ x. HasLives more (slice_set t.before.histories t.place done.state) (slice_set book.lives t.place (life_after config book.notes life s lines x.counters))) (sym is)
             (lives_kept more grow done.state (life_after config book.notes life s lines o.counters) lives);
         payloads = numbers_kept nodes configs ss book.payloads kept.payloads n s t.here;
@@ -138,7 +146,7 @@ module _ (nodes : List SetupNode) (configs : List Config) (ss : List Step) (fits
       let lines = told_lines (n + 1) t.place (Ok done.outputs) in
       let more = numbered n (long_payload_of s) book.payloads in
       let o = openings_after config book.notes book.taken life n s lines in
-      of_outputs done o refl
+      of_outputs (taken_no_injection nodes configs ss n s t input is) done o refl
       (taken_kept nodes configs ss n s t fits (well t.place t.history.config here) input is done did config copy book.payloads book.notes book.taken life own_life kept.taken)
       (taken_life nodes configs ss n s t fits well input is done did config copy book kept life own_life o.counters
       (counters_kept nodes configs ss n s t fits (well t.place t.history.config here) input is done did config copy book.payloads book.notes book.taken life own_life)
@@ -148,11 +156,26 @@ module _ (nodes : List SetupNode) (configs : List Config) (ss : List Step) (fits
   started delay is =
       let more = numbered n (long_payload_of s) book.payloads in
       let o = openings_after config book.notes book.taken life n s [] in
-      of_outputs (work_on (start_of t.history.config delay)) o refl
+      of_outputs (restart_no_injection nodes configs ss n s t delay is) (work_on (start_of t.history.config delay)) o refl
       (taken_restarted nodes configs ss n s t delay is config book.notes book.taken life kept.taken)
       (subst (λ counters. KeepsLife nodes configs ss more (suc n) t.place (start_of t.history.config delay) (life_after config book.notes life s [] counters))
       (sym (counters_restarted nodes configs ss n s t delay is config book.notes book.taken life))
       (restarted_life nodes configs ss n s t delay is more (start_of t.history.config delay) refl config book.notes life []))
+
+  -- ---- one in which a liar sends
+
+  injected : (from to : SocketAddrV4) (bytes : List ℕ) → t.deed ≡ Injects from to bytes → KeptWith (done_with t.history (Injects from to bytes))
+  injected from to bytes is =
+      booked_as (done_with t.history (Injects from to bytes)) (Sent from to bytes ∷ []) (booked_of_liar n book) refl
+      (λ i. if injects_so nodes configs ss n s t from to bytes is i then booked_of_liar n book
+      else booked_of_node config n t.place s (told_lines (n + 1) t.place (Ok (Sent from to bytes ∷ []))) life book)
+      (record {
+        taken = still_taken nodes configs ss n s t (injection_does_nothing nodes configs ss n s t from to bytes is) book.taken kept.taken;
+        notes = notes_of_liar nodes configs ss n s t from to bytes is book.payloads book.notes kept.notes;
+        lives = subst (HasLives book.payloads (slice_set t.before.histories t.place t.history)) (set_same book.lives t.place life at)
+            (lives_kept book.payloads (λ payload number is. is) t.history life (injection_life nodes configs ss n s t from to bytes is book.payloads life own_life));
+        payloads = kept.payloads;
+      })
 
   -- ---- a step
 
@@ -163,6 +186,7 @@ module _ (nodes : List SetupNode) (configs : List Config) (ss : List Step) (fits
   by_deed : (deed : Deed) → t.deed ≡ deed → KeptWith (done_with t.history deed)
   by_deed (Takes input) is = by_due input is (step t.history input) refl
   by_deed (Restarts delay) is = started delay is
+  by_deed (Injects from to bytes) is = injected from to bytes is
 
   -- what is kept after the step
   pub booked_kept : Kept nodes configs ss (suc n) (world_after (n + 1) t.place t.before t.history (done_with t.history t.deed))

@@ -4,12 +4,14 @@ use Rattle.std.specs.List.{cons_option, flat_map}
 use Rattle.std.specs.Option.{option_map}
 use Rattle.std.proofs.lemmas.List.{at_drop_more}
 use Rattle.std.proofs.lemmas.Option.{slice_get-map, slice_get_past, slice_get_read}
+use Rattle.std.specs.declared.net.socket_addr.SocketAddrV4.{SocketAddrV4}
 use Rattle.someip_node_rules.specs.declared.config.Config.{Config}
 use Rattle.someip_world_schedule.specs.declared.step.Step.{Step}
+use Rattle.someip_world_schedule.specs.declared.step.Step.TheVariants as steps
 use Rattle.someip_world_rules.specs.Datagrams.{SentDatagram, datagram_in, datagrams_in}
 use Rattle.someip_world_rules.specs.declared.line.Line.{Line}
 use Rattle.someip_world_ledger.specs.Books.{Book, LifeKept, NoteKept, note_at}
-use Rattle.someip_world_ledger.specs.Booking.{Openings, answered_in, booked, is_refused, life_after, long_payload_of, notes_of, number_of, numbered, opened_by, opened_by_all, openings_after, said_by_lines}
+use Rattle.someip_world_ledger.specs.Booking.{Openings, answered_in, booked, is_injection, is_refused, life_after, long_payload_of, notes_of, number_of, numbered, opened_by, opened_by_all, openings_after, said_by_lines}
 use Rattle.someip_world_ledger.specs.Contents.{said_in}
 use Rattle.someip_world_ledger.specs.Views.{view_note}
 use Rattle.someip_world_ledger.specs.declared.note.Note.{Note}
@@ -67,11 +69,16 @@ not_noted notes number i is past =
 
 -- ---- a step
 
--- a step that was not refused changes what is kept so
-pub booked_so : (config : Config) (n place : ℕ) (step : Step) (lines : List Line) (life : LifeKept) (book new : Book) → is_refused lines ≡ false
+-- a step of a node is no injection
+pub no_injection : (step : Step) → ((node : List ℕ) (port : ℕ) (to : SocketAddrV4) (payload : List ℕ) → step ≡ steps.Inject node port to payload → ⊥) → is_injection step ≡ false
+no_injection (steps.Inject node port to payload) not = absurd (not node port to payload refl)
+no_injection step not = refl
+
+-- a step at a node that did not refuse it changes what is kept so
+pub booked_so : (config : Config) (n place : ℕ) (step : Step) (lines : List Line) (life : LifeKept) (book new : Book) → is_refused lines ≡ false → is_injection step ≡ false
     → new.taken ≡ (openings_after config book.notes book.taken life n step lines).taken
     → new.notes ≡ book.notes ++ notes_of n (answered_in book.notes life step) (option_map (number_of book.payloads n) (long_payload_of step)) (datagrams_in lines)
     → new.lives ≡ slice_set book.lives place (life_after config book.notes life step lines (openings_after config book.notes book.taken life n step lines).counters)
     → new.payloads ≡ numbered n (long_payload_of step) book.payloads → new ≡ booked config n place step lines life book
-booked_so config n place step lines life book new took taken notes lives payloads =
-    rw took (λ i. record { taken = taken i; notes = notes i; lives = lives i; payloads = payloads i })
+booked_so config n place step lines life book new took own taken notes lives payloads =
+    rw (took, own) (λ i. record { taken = taken i; notes = notes i; lives = lives i; payloads = payloads i })

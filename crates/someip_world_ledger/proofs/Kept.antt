@@ -1,5 +1,5 @@
 -- What is kept of a run before a step, and what it says of the steps before.
-use Rattle.std.proofs.Common.{◌≡◌, ◌<◌, ℕ, suc, ◌+◌, true, List, slice_get, Option, None, Some}
+use Rattle.std.proofs.Common.{◌≡◌, ◌<◌, ℕ, suc, ◌+◌, true, List, [], slice_get, Option, None, Some}
 use Rattle.std.specs.FinMap as finite
 use Rattle.std.specs.List.{AllZip}
 use Rattle.std.specs.Option.{option_map}
@@ -22,7 +22,7 @@ use Rattle.someip_world_rules.specs.Runs.{World}
 use Rattle.someip_world_exchanges.specs.Beginnings.{last_counter}
 use Rattle.someip_world_exchanges.specs.Belonging.{Answered, WasHandedUp}
 use Rattle.someip_world_exchanges.specs.CleanReuse.{Arrives}
-use Rattle.someip_world_rules.specs.Deliveries.{Dispatch, LivesOn, Sends, dispatches_in}
+use Rattle.someip_world_rules.specs.Deliveries.{Dispatch, IsInjected, LivesOn, Sends, dispatches_in}
 use Rattle.someip_world_exchanges.specs.Openings.{Opened}
 use Rattle.someip_world_exchanges.specs.declared.exchange_key.ExchangeKey.{ExchangeKey}
 use Rattle.someip_world_ledger.specs.Books.{Book, LifeKept, NoteKept, PayloadNumbers, TakenKeys, taken_at}
@@ -61,11 +61,12 @@ module _ (nodes : List SetupNode) (configs : List Config) (steps : List Step) wh
     pub is : number ≡ Some at
     pub kept : finite.get payloads payload ≡ Some at
 
-  -- what is kept of a datagram
+  -- what is kept of a datagram: of one that a node sent, what it says, and of one that a liar sent, nothing
   pub record IsNoted (payloads : PayloadNumbers) (dispatch : Dispatch) (note : NoteKept) : Type 0 where
     pub step : dispatch.step ≡ note.step + 1
-    pub said : note.said ≡ said_in dispatch.datagram
-    pub stream : note.stream ≡ option_map stream_of (stream_in dispatch.datagram)
+    pub said : Sends nodes configs steps note.step dispatch.datagram → note.said ≡ said_in dispatch.datagram
+    pub stream : Sends nodes configs steps note.step dispatch.datagram → note.stream ≡ option_map stream_of (stream_in dispatch.datagram)
+    pub mute : IsInjected nodes configs steps note.step dispatch.datagram → (note.said ≡ []) × (note.stream ≡ None)
     pub answers : KnowsAnswered note.step dispatch.datagram note.answers
     pub payload : (s : Sends nodes configs steps note.step dispatch.datagram) (m : MessageValue) → s.given ≡ outputs.Sends dispatch.datagram.from dispatch.datagram.to m
         → is_long m.payload ≡ true → IsNumbered payloads m.payload note.payload

@@ -1,6 +1,7 @@
 pub mod Kept
 pub mod GoodCopies
 pub mod StepInputs
+pub mod InjectedSteps
 pub mod reading
 pub mod noting
 pub mod keeping

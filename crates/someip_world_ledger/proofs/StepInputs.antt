@@ -45,6 +45,7 @@ module _ (h : History) (lines : List Line) (input : Input) where
   IsInputOf (steps.Unsubscribe node group) = input ≡ inputs.Unsubscribe group
   IsInputOf (steps.StopOffer node instance) = input ≡ inputs.StopOffer instance
   IsInputOf (steps.Restart node delay) = ⊥
+  IsInputOf (steps.Inject node port to payload) = ⊥
 
   delivered : (o : Option SentDatagram) → delivery h.config o ≡ Ok (Takes input) → (d : SentDatagram) × (o ≡ Some d) × (input ≡ inputs.Datagram d.from d.to d.bytes)
   delivered None is = absurd cc
@@ -62,6 +63,7 @@ module _ (h : History) (lines : List Line) (input : Input) where
   input_of (steps.Unsubscribe node group) is = cc
   input_of (steps.StopOffer node instance) is = cc
   input_of (steps.Restart node delay) is = absurd (restart_takes_none _ delay input _ is)
+  input_of (steps.Inject node port to payload) is = absurd cc
 
   -- and its payload is that of the step
   pub same_payload : (s : Step) → IsInputOf s → payload_of s ≡ payload_in input
@@ -75,3 +77,4 @@ module _ (h : History) (lines : List Line) (input : Input) where
   same_payload (steps.Unsubscribe node group) is = ap payload_in (sym is)
   same_payload (steps.StopOffer node instance) is = ap payload_in (sym is)
   same_payload (steps.Restart node delay) is = absurd is
+  same_payload (steps.Inject node port to payload) is = absurd is

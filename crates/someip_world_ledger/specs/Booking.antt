@@ -210,17 +210,39 @@ openings_after config notes taken life n step lines =
     opened_by_all n (said_by_lines lines)
     (record { taken = published_key n (publication_in config life step) taken; counters = (life_then config notes life step).counters })
 
--- the step of an index, from 0, is done at the node of a place, and told by these lines
+-- a step at a node that did not refuse it
+abbrev pub booked_of_node : Config → ℕ → ℕ → Step → List Line → LifeKept → Book → Book
+booked_of_node config n place step lines life book = record {
+  taken = (openings_after config book.notes book.taken life n step lines).taken;
+  notes =
+      book.notes
+      ++ notes_of n (answered_in book.notes life step) (option_map (number_of book.payloads n) (long_payload_of step)) (datagrams_in lines);
+  lives =
+      slice_set book.lives place
+      (life_after config book.notes life step lines (openings_after config book.notes book.taken life n step lines).counters);
+  payloads = numbered n (long_payload_of step) book.payloads;
+}
+
+-- ---- liars
+
+-- a liar sends any bytes
+abbrev pub is_injection : Step → Bool
+is_injection (steps.Inject node port to payload) = true
+is_injection step = false
+
+-- its datagram has a number as any other, but is never read as if a node had written it: its note says nothing
+abbrev pub mute_note : ℕ → NoteKept
+mute_note step = record { step = step; answers = None; said = []; stream = None; payload = None }
+
+-- so a liar takes no key, and nothing changes but the notes
+abbrev pub booked_of_liar : ℕ → Book → Book
+booked_of_liar n book = record book { notes = book.notes ++ mute_note n ∷ [] }
+
+-- ---- all steps
+
+-- the step of an index, from 0, is done at the node or the liar of a place, and told by these lines
 abbrev pub booked : Config → ℕ → ℕ → Step → List Line → LifeKept → Book → Book
 booked config n place step lines life book =
     if is_refused lines then book
-    else record {
-      taken = (openings_after config book.notes book.taken life n step lines).taken;
-      notes =
-          book.notes
-          ++ notes_of n (answered_in book.notes life step) (option_map (number_of book.payloads n) (long_payload_of step)) (datagrams_in lines);
-      lives =
-          slice_set book.lives place
-          (life_after config book.notes life step lines (openings_after config book.notes book.taken life n step lines).counters);
-      payloads = numbered n (long_payload_of step) book.payloads;
-    }
+    else if is_injection step then booked_of_liar n book
+    else booked_of_node config n place step lines life book

@@ -60,7 +60,7 @@ impl Ledger {
         }
     }
 
-    /// A step of an index is done at the node of a place, and told by some lines.
+    /// A step of an index is done at the node or the liar of a place, and told by some lines.
     pub(crate) fn book(
         &mut self,
         alloc: Global,
@@ -76,6 +76,10 @@ impl Ledger {
             (view_book self.old)) }
     {
         if is_refused(lines) {
+            return Ok(());
+        }
+        if let Step::Inject { .. } = step {
+            self.notes.push(Note::mute(alloc, index))?;
             return Ok(());
         }
         let payload = number_long(alloc, &mut self.payloads, index, step)?;

@@ -1,5 +1,5 @@
 -- The book tells whether a step delivers a segment where lately one of another payload came under its reassembly key.
-use Rattle.std.proofs.Common.{◌≡◌, ◌≢◌, ◌<◌, ◌≤◌, ◌⊎◌, inl, inr, arith, ℕ, ◌+◌, true, List, slice_get, Option, None, Some, refl, sym, ap, subst, ◌∙◌}
+use Rattle.std.proofs.Common.{◌≡◌, ◌≢◌, ◌<◌, ◌≤◌, ◌⊎◌, inl, inr, arith, ℕ, ◌+◌, true, false, List, slice_get, Option, None, Some, refl, sym, ap, subst, ◌∙◌}
 use Rattle.std.specs.FinMap as finite
 use Rattle.std.specs.Option.{option_map}
 use Rattle.std.proofs.lemmas.Bool.{cases_lt}
@@ -15,7 +15,7 @@ use Rattle.someip_world_setup.specs.declared.setup_node.SetupNode.{SetupNode}
 use Rattle.someip_world_rules.specs.Announced.{AllFits}
 use Rattle.someip_world_rules.specs.Datagrams.{SentDatagram}
 use Rattle.someip_world_exchanges.specs.CleanReuse.{Arrives, DeliversMixed, IsCleanBefore, Mixed, message_key}
-use Rattle.someip_world_rules.specs.Deliveries.{Delivers, LivesOn, Sends}
+use Rattle.someip_world_rules.specs.Deliveries.{Delivers, GoesOut, LivesOn, Sends}
 use Rattle.someip_world_rules.proofs.Sendings.{sent_before}
 use Rattle.someip_world_ledger.specs.Books.{LifeKept, NoteKept, PayloadNumbers, arrival_at, is_mixed}
 use Rattle.someip_world_ledger.specs.Booking.{payload_of}
@@ -81,10 +81,19 @@ module _ (nodes : List SetupNode) (configs : List Config) (ss : List Step) (fits
 
   -- where the test passes, segments are mixed
   pub mixed_so : is_mixed timeout life.clock (arrival_at life note.stream) note.payload ≡ true → DeliversMixed nodes configs ss n
-  mixed_so is =
-      let s = (sent_before nodes configs ss n sent d del).1 in
-      let mixed = mixed_passed timeout life.clock life note.payload (stream_in d) (ap (λ o. is_mixed timeout life.clock (arrival_at life o) note.payload) (sym has.stream) ∙ is) in
-      mixed_segment s mixed (sent_segmented nodes configs ss fits well sent d s mixed.key mixed.is)
+  mixed_so is = cases (sent_before nodes configs ss n sent d del).1
+    where
+      cases : GoesOut nodes configs ss sent d → DeliversMixed nodes configs ss n
+      cases (inl s) =
+          let mixed =
+          mixed_passed timeout life.clock life note.payload (stream_in d)
+          (ap (λ o. is_mixed timeout life.clock (arrival_at life o) note.payload) (sym (has.stream s)) ∙ is) in
+          mixed_segment s mixed (sent_segmented nodes configs ss fits well sent d s mixed.key mixed.is)
+      cases (inr injected) =
+          let none = (has.mute injected).1 in
+          let not : is_mixed timeout life.clock (arrival_at life note.stream) note.payload ≡ false =
+          ap (λ o. is_mixed timeout life.clock (arrival_at life o) note.payload) none in
+          absurd cc
 
   -- ---- and what is mixed the book calls so
 
@@ -197,6 +206,6 @@ module _ (nodes : List SetupNode) (configs : List Config) (ss : List Step) (fits
     -- where segments are mixed, the test passes
     pub mixed_only : is_mixed timeout life.clock (arrival_at life note.stream) note.payload ≡ true
     mixed_only =
-        let stream : note.stream ≡ Some (stream_of key) = has.stream ∙ ap (option_map stream_of) (long_stream nodes configs ss fits well sent d s m given long ∙ ap Some (sym keyed)) in
+        let stream : note.stream ≡ Some (stream_of key) = has.stream s ∙ ap (option_map stream_of) (long_stream nodes configs ss fits well sent d s m given long ∙ ap Some (sym keyed)) in
         ap (λ o. is_mixed timeout life.clock (arrival_at life o) note.payload) stream
         ∙ last_known (finite.get life.arrivals (stream_of key)) (keeps.arrivals key) (has.payload s m given long)

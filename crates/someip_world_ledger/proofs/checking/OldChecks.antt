@@ -1,5 +1,5 @@
 -- The book tells whether a step delivers what belongs to an exchange whose key a newer one has taken.
-use Rattle.std.proofs.Common.{◌≡◌, ◌<◌, ◌≤◌, ◌⊎◌, inl, inr, arith, ℕ, true, List, map, slice_get, Option, None, Some, refl, sym, ap, subst, ◌∙◌}
+use Rattle.std.proofs.Common.{◌≡◌, ◌<◌, ◌≤◌, ◌⊎◌, inl, inr, arith, ℕ, true, false, List, map, slice_get, Option, None, Some, refl, sym, ap, subst, ◌∙◌}
 use Rattle.std.specs.List.{Contains, list_any}
 use Rattle.std.proofs.lemmas.Bool.{cases_lt, lt-ltb, ltb-true}
 use Rattle.std.proofs.lemmas.List.Folds.{Any-from_list_any, list_any_at}
@@ -13,7 +13,7 @@ use Rattle.someip_world_rules.specs.Announced.{AllFits}
 use Rattle.someip_world_rules.specs.Datagrams.{SentDatagram}
 use Rattle.someip_world_exchanges.specs.Belonging.{Belongs, IsMeant}
 use Rattle.someip_world_exchanges.specs.CleanReuse.{DeliversOld}
-use Rattle.someip_world_rules.specs.Deliveries.{Delivers}
+use Rattle.someip_world_rules.specs.Deliveries.{Delivers, GoesOut, Sends}
 use Rattle.someip_world_exchanges.specs.Openings.{IsTaken}
 use Rattle.someip_world_exchanges.specs.declared.exchange_key.ExchangeKey.{ExchangeKey}
 use Rattle.someip_world_exchanges.specs.declared.naming.Naming.{Naming}
@@ -71,11 +71,10 @@ module _ (nodes : List SetupNode) (configs : List Config) (ss : List Step) where
       (n : ℕ) (payloads : PayloadNumbers) (taken : TakenKeys) (knows : KeepsTaken nodes configs ss n taken)
       (sent : ℕ) (d : SentDatagram) (note : NoteKept) (has : HasNote nodes configs ss payloads sent d note) where
     -- something said is old
-    said_old : Delivers nodes configs ss n sent d → (said : Said) → Contains (said_in d) said → (o : Option ℕ) → since_of note said.naming.side ≡ o
+    said_old : Delivers nodes configs ss n sent d → Sends nodes configs ss sent d → (said : Said) → Contains (said_in d) said → (o : Option ℕ) → since_of note said.naming.side ≡ o
         → is_after o (taken_at taken said.naming.key) ≡ true → DeliversOld nodes configs ss n
-    said_old del said among None since is = absurd cc
-    said_old del said among (Some at) since is =
-        let sends = (sent_before nodes configs ss n sent d del).1 in
+    said_old del sends said among None since is = absurd cc
+    said_old del sends said among (Some at) since is =
         let read = sent_read nodes configs ss fits well sent d sends in
         record {
           sent = sent;
@@ -94,9 +93,16 @@ module _ (nodes : List SetupNode) (configs : List Config) (ss : List Step) where
 
     -- what the book calls old is so
     pub old_so : Delivers nodes configs ss n sent d → list_any (is_old taken note) note.said ≡ true → DeliversOld nodes configs ss n
-    old_so del is =
-        let any = Any-from_list_any (is_old taken note) note.said is in
-        said_old del any.1 (subst (λ said. Contains said any.1) has.said (any.0, any.2, any.3)) (since_of note any.1.naming.side) refl any.4
+    old_so del is = cases (sent_before nodes configs ss n sent d del).1
+      where
+        cases : GoesOut nodes configs ss sent d → DeliversOld nodes configs ss n
+        cases (inl sends) =
+            let any = Any-from_list_any (is_old taken note) note.said is in
+            said_old del sends any.1 (subst (λ said. Contains said any.1) (has.said sends) (any.0, any.2, any.3)) (since_of note any.1.naming.side) refl any.4
+        cases (inr injected) =
+            let none = (has.mute injected).0 in
+            let not : list_any (is_old taken note) note.said ≡ false = ap (list_any (is_old taken note)) none in
+            absurd cc
 
     -- and what is so the book calls old
     pub old_only : (key : ExchangeKey) (since : ℕ) → Belongs nodes configs ss sent d key since → IsTaken nodes configs ss since n key → list_any (is_old taken note) note.said ≡ true
@@ -104,7 +110,7 @@ module _ (nodes : List SetupNode) (configs : List Config) (ss : List Step) where
         let read = sent_read nodes configs ss fits well sent d belongs.sent in
         let naming : Naming = record { key = key; side = belongs.side } in
         let there = map_from (λ (x : Said). x.naming) (said_in d) naming (subst (λ names. Contains names naming) (sym read.named) belongs.named) in
-        let among = subst (λ said. Contains said there.0) (sym has.said) there.1 in
+        let among = subst (λ said. Contains said there.0) (sym (has.said belongs.sent)) there.1 in
         let meant = meant_only belongs.sent.does.turn.place sent belongs.sent.by.done.by note has.step since belongs.side (has.answers.only belongs.sent since) belongs.meant in
         let old : is_old taken note there.0 ≡ true =
         ap (λ (x : Naming). is_after (since_of note x.side) (taken_at taken x.key)) there.2 ∙ ap (λ o. is_after o (taken_at taken key)) meant

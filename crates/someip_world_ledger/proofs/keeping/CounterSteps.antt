@@ -84,6 +84,7 @@ counters_on config notes life h lines input (steps.Subscribe node group) is = re
 counters_on config notes life h lines input (steps.Unsubscribe node group) is = refl
 counters_on config notes life h lines input (steps.StopOffer node instance) is = refl
 counters_on config notes life h lines input (steps.Restart node delay) is = absurd (restart_takes_none _ delay input BadDelay is)
+counters_on config notes life h lines input (steps.Inject node port to payload) is = absurd cc
 
 -- ---- what the client of a subscription is
 

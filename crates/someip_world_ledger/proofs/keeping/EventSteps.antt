@@ -184,3 +184,4 @@ module _ (n : ℕ) (k : EventExchange) (taken : TakenKeys) (h : History) (lines 
     events_step (steps.Unsubscribe node group) is = let same : inputs.Unsubscribe group ≡ input = cc in no_publication (ap is_publication (sym same))
     events_step (steps.StopOffer node instance) is = let same : inputs.StopOffer instance ≡ input = cc in no_publication (ap is_publication (sym same))
     events_step (steps.Restart node delay) is = absurd (restart_takes_none _ delay input BadDelay is)
+    events_step (steps.Inject node port to payload) is = absurd cc

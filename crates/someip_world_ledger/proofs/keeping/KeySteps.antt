@@ -27,6 +27,7 @@ use Rattle.someip_world_rules.specs.Announced.{AllFits}
 use Rattle.someip_world_rules.specs.Deeds.{Takes}
 use Rattle.someip_world_rules.specs.Runs.{told_lines}
 use Rattle.someip_world_rules.specs.Turns.{Turn}
+use Rattle.someip_world_rules.proofs.LiarLemmas.{taken_at as node_takes}
 use Rattle.someip_world_exchanges.specs.Beginnings.{last_counter}
 use Rattle.someip_world_exchanges.specs.Openings.{Opened, OpensBy}
 use Rattle.someip_world_exchanges.specs.declared.exchange_key.ExchangeKey.{ExchangeKey}
@@ -87,7 +88,7 @@ module _ (nodes : List SetupNode) (configs : List Config) (ss : List Step) (n : 
   -- the last counters before anything is said
   counters_before : (q : Eventgroup) → finite.get before_saying.counters q ≡ last_counter (course_at t.history.items q).begun
   counters_before q =
-      ap (λ m. finite.get m q) (counters_on config notes life t.history t.before.lines input s (t.due ∙ ap Ok is)) ∙ kept.counters q
+      ap (λ m. finite.get m q) (counters_on config notes life t.history t.before.lines input s (node_takes nodes configs ss n s t input is).1) ∙ kept.counters q
 
   -- the last counter of each eventgroup
   pub counters_kept : (q : Eventgroup)
@@ -105,7 +106,7 @@ module _ (nodes : List SetupNode) (configs : List Config) (ss : List Step) (n : 
       (calls_step t.history k input done did well all_fit n before_saying)
   entry_next (keys.Event k) =
       subst (λ m. IsNext n (OpensBy t.history input (keys.Event k)) (finite.get taken.events k) (finite.get m k)) (sym (events_by n said before_saying))
-      (events_step n k taken t.history t.before.lines input config copy life kept.sessions done did well s (t.due ∙ ap Ok is))
+      (events_step n k taken t.history t.before.lines input config copy life kept.sessions done did well s (node_takes nodes configs ss n s t input is).1)
   entry_next (keys.Subscription k) =
       subst (λ m. IsNext n (OpensBy t.history input (keys.Subscription k)) (finite.get m k) (finite.get (opened_by_all n said before_saying).taken.subscriptions k))
       (takes_event n config life taken s).subscriptions

@@ -17,6 +17,7 @@ use Rattle.someip_world_rules.specs.Deliveries.{Does}
 use Rattle.someip_world_exchanges.specs.Openings.{Opened, OpensBy}
 use Rattle.someip_world_exchanges.specs.declared.exchange_key.ExchangeKey.{ExchangeKey}
 use Rattle.someip_world_rules.proofs.Deliverings.{one_turn}
+use Rattle.someip_world_rules.proofs.LiarLemmas.{again_at}
 use Rattle.someip_world_ledger.specs.Books.{LifeKept, NoteKept, TakenKeys, taken_at}
 use Rattle.someip_world_ledger.specs.Booking.{openings_after, publication_in, published_key}
 use Rattle.someip_world_ledger.proofs.Kept.{KeepsTaken, KnowsOpening}
@@ -82,7 +83,7 @@ module _ (config : Config) (life : LifeKept) (h : History) (lines : List Line) (
 
 module _ (nodes : List SetupNode) (configs : List Config) (ss : List Step) (n : ℕ) (s : Step) (t : Turn nodes configs ss n s) where
   -- what is kept of keys stays over a step in which nothing is done
-  still_taken : (Does nodes configs ss n → ⊥) → (taken : TakenKeys) → KeepsTaken nodes configs ss n taken → KeepsTaken nodes configs ss (suc n) taken
+  pub still_taken : (Does nodes configs ss n → ⊥) → (taken : TakenKeys) → KeepsTaken nodes configs ss n taken → KeepsTaken nodes configs ss (suc n) taken
   still_taken none taken kept key = unopened_next nodes configs ss n key (λ o. none o.does) (taken_at taken key) (kept key)
 
   -- so where the node refuses what is asked of it
@@ -104,12 +105,12 @@ module _ (nodes : List SetupNode) (configs : List Config) (ss : List Step) (n : 
     pub taken_restarted : (config : Config) (notes : List NoteKept) (taken : TakenKeys) (life : LifeKept)
         → KeepsTaken nodes configs ss n taken → KeepsTaken nodes configs ss (suc n) (openings_after config notes taken life n s []).taken
     taken_restarted config notes taken life kept =
-        let none = publishes_none config life t.history t.before.lines delay s (t.due ∙ ap Ok is) in
+        let none = publishes_none config life t.history t.before.lines delay s (again_at nodes configs ss n s t delay is).1 in
         subst (λ p. KeepsTaken nodes configs ss (suc n) (published_key n p taken)) (sym none) (still_taken restart_does_nothing taken kept)
 
     -- and no Subscribe was sent in the new life
     pub counters_restarted : (config : Config) (notes : List NoteKept) (taken : TakenKeys) (life : LifeKept)
         → (openings_after config notes taken life n s []).counters ≡ finite.empty
     counters_restarted config notes taken life =
-        let new = begins_anew config notes life t.history t.before.lines delay s (t.due ∙ ap Ok is) in
+        let new = begins_anew config notes life t.history t.before.lines delay s (again_at nodes configs ss n s t delay is).1 in
         ap (λ (k : LifeKept). k.counters) new.0

@@ -1,5 +1,5 @@
 -- What is kept of the segments that came to a node, after a step.
-use Rattle.std.proofs.Common.{◌≡◌, arith, ℕ, ◌+◌, suc, Bool, true, false, cond, List, slice_get, Option, None, Some, refl, sym, ap, subst, ◌∙◌}
+use Rattle.std.proofs.Common.{◌≡◌, inl, inr, arith, ℕ, ◌+◌, suc, Bool, true, false, cond, List, slice_get, Option, None, Some, refl, sym, ap, subst, ◌∙◌}
 use Rattle.std.specs.FinMap as finite
 use Rattle.std.specs.FinMap.{FinMap, get-insert}
 use Rattle.std.specs.List.{AllZip}
@@ -23,8 +23,9 @@ use Rattle.someip_world_rules.specs.Deeds.{Takes}
 use Rattle.someip_world_rules.specs.Turns.{Turn}
 use Rattle.someip_world_rules.specs.declared.line.Line.{Line}
 use Rattle.someip_world_exchanges.specs.CleanReuse.{Arrives}
-use Rattle.someip_world_rules.specs.Deliveries.{Delivers, Sends, dispatches_in}
+use Rattle.someip_world_rules.specs.Deliveries.{Delivers, GoesOut, IsInjected, Sends, dispatches_in}
 use Rattle.someip_world_rules.proofs.Deliverings.{delivered_in, one_turn}
+use Rattle.someip_world_rules.proofs.InjectionLemmas.{apart}
 use Rattle.someip_world_rules.proofs.Sendings.{sent_before}
 use Rattle.someip_world_ledger.specs.Books.{LifeKept, NoteKept, PayloadNumbers}
 use Rattle.someip_world_ledger.specs.Booking.{Publication, arrived, arrived_with, life_on, published_session}
@@ -59,6 +60,7 @@ module _ (h : History) (lines : List Line) (input : Input) where
   no_delivery notes life (steps.Unsubscribe node group) is none = refl
   no_delivery notes life (steps.StopOffer node instance) is none = refl
   no_delivery notes life (steps.Restart node delay) is none = absurd is
+  no_delivery notes life (steps.Inject node port to payload) is none = absurd is
 
   -- and one that is gives a datagram
   delivery_came : (s : Step) → IsInputOf h lines input s → is_delivery s ≡ true → (d : SentDatagram) × (input ≡ inputs.Datagram d.from d.to d.bytes)
@@ -144,12 +146,14 @@ module _ (nodes : List SetupNode) (configs : List Config) (ss : List Step) (n : 
             absurd cc)
 
   module _ (notes : List NoteKept) (noted : AllZip (IsNoted nodes configs ss payloads) (dispatches_in t.before.lines) notes) where
-    -- what is kept of a datagram that comes
+    -- what is kept of a datagram that comes, of one that a node sent
     note_then : (d : SentDatagram) (note : NoteKept) → Delivers nodes configs ss n note.step d → Sends nodes configs ss note.step d
-        → note.stream ≡ option_map stream_of (stream_in d) → IsNoted nodes configs ss payloads (record { step = note.step + 1; datagram = d }) note
-        → KnowsThen (arrived note.stream note.payload life).arrivals
-    note_then d note del sends stream kept = cases (stream_in d) refl
+        → IsNoted nodes configs ss payloads (record { step = note.step + 1; datagram = d }) note → KnowsThen (arrived note.stream note.payload life).arrivals
+    note_then d note del sends kept = cases (stream_in d) refl
       where
+        stream : note.stream ≡ option_map stream_of (stream_in d)
+        stream = kept.stream sends
+
         cases : (o : Option ReassemblyKey) → stream_in d ≡ o → KnowsThen (arrived note.stream note.payload life).arrivals
         cases None read =
             let none : note.stream ≡ None = stream ∙ ap (option_map stream_of) read in
@@ -161,6 +165,20 @@ module _ (nodes : List SetupNode) (configs : List Config) (ss : List Step) (n : 
             subst (λ (p : Option Stream × Option ℕ). KnowsThen (arrived p.0 p.1 life).arrivals) (λ i. (sym some i, sym numbered.is i))
             (segment_then note.step d del sends own read segment numbered.at numbered.kept)
 
+    -- and of one that a liar sent
+    mute_then : (d : SentDatagram) (note : NoteKept) → Delivers nodes configs ss n note.step d → IsInjected nodes configs ss note.step d
+        → note.stream ≡ None → KnowsThen (arrived note.stream note.payload life).arrivals
+    mute_then d note del injected mute =
+        subst (λ x. KnowsThen (arrived x note.payload life).arrivals) (sym mute) (λ key. other_key key (λ at m a.
+        let one = one_delivery nodes configs ss n s t input is a.sent note.step a.datagram d a.delivers del in
+        apart nodes configs ss note.step a.datagram d (subst (λ k. Sends nodes configs ss k a.datagram) one.0 a.sends) injected))
+
+    -- so of one that comes
+    goes_then : (d : SentDatagram) (note : NoteKept) → Delivers nodes configs ss n note.step d → GoesOut nodes configs ss note.step d
+        → IsNoted nodes configs ss payloads (record { step = note.step + 1; datagram = d }) note → KnowsThen (arrived note.stream note.payload life).arrivals
+    goes_then d note del (inl sends) kept = note_then d note del sends kept
+    goes_then d note del (inr injected) kept = mute_then d note del injected (kept.mute injected).1
+
     -- a datagram comes
     datagram_then : (sent : ℕ) (d : SentDatagram) → Delivers nodes configs ss n sent d → KnowsThen (life_on notes life s).arrivals
     datagram_then sent d del =
@@ -168,9 +186,9 @@ module _ (nodes : List SetupNode) (configs : List Config) (ss : List Step) (n : 
         let kept = here.kept in
         let step = kept.step in
         let same : sent ≡ here.note.step = omega (arith, step) in
-        let sends = (sent_before nodes configs ss n sent d del).1 in
+        let goes = (sent_before nodes configs ss n sent d del).1 in
         subst KnowsThen (sym (ap (λ x. (life_on notes life x).arrivals) here.step ∙ ap (λ o. (arrived_with o life).arrivals) here.at))
-        (note_then d here.note (subst (λ k. Delivers nodes configs ss n k d) same del) (subst (λ k. Sends nodes configs ss k d) same sends) kept.stream
+        (goes_then d here.note (subst (λ k. Delivers nodes configs ss n k d) same del) (subst (λ k. GoesOut nodes configs ss k d) same goes)
         (subst (λ k. IsNoted nodes configs ss payloads (record { step = k + 1; datagram = d }) here.note) same kept))
 
     -- what is kept of the segments after the step

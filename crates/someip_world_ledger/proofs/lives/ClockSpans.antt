@@ -11,7 +11,7 @@ use Rattle.someip_node_rules.specs.declared.config.Config.{Config}
 use Rattle.someip_node_rules.specs.declared.error.NodeError.{NodeError}
 use Rattle.someip_world_schedule.specs.declared.step.Step.{Step}
 use Rattle.someip_world_setup.specs.declared.setup_node.SetupNode.{SetupNode}
-use Rattle.someip_world_rules.specs.Deeds.{Deed, Takes, Restarts, done_with}
+use Rattle.someip_world_rules.specs.Deeds.{Deed, Takes, Restarts, Injects, done_with}
 use Rattle.someip_world_rules.specs.Runs.{World, history_after, world_after, world_of}
 use Rattle.someip_world_rules.specs.Turns.{LeadTo, Turn}
 use Rattle.someip_world_rules.specs.Deliveries.{LivesOn}
@@ -56,6 +56,7 @@ module _ (nodes : List SetupNode) (configs : List Config) (ss : List Step) (i : 
     by_deed : u.place ≡ t.place → (deed : Deed) → t.deed ≡ deed → clock_at t.history.items ≤ clock_at (history_after t.history (done_with t.history deed)).items
     by_deed at (Takes input) is = grows_after t.history input (step t.history input) refl
     by_deed at (Restarts delay) is = absurd (lives k le (omega arith) (record { step = s; turn = t; at = sym at; delay = delay; restarts = is }))
+    by_deed at (Injects from to bytes) is = omega arith
 
     -- and one of another node leaves it
     at_place : (h : History) → (b : Bool) → eqb u.place t.place ≡ b

@@ -58,3 +58,4 @@ module _ (h : History) (lines : List Line) (input : Input) (done : Work History)
   clock_on (steps.Unsubscribe node group) is = stays (ap is_tick is)
   clock_on (steps.StopOffer node instance) is = stays (ap is_tick is)
   clock_on (steps.Restart node delay) is = absurd is
+  clock_on (steps.Inject node port to payload) is = absurd is

@@ -1,5 +1,6 @@
--- What is kept of a life after a step that a node refuses.
-use Rattle.std.proofs.Common.{◌≡◌, ℕ, suc, Bool, true, false, if◌then◌else◌, List, Option, None, Some, Ok, Err, sym, subst, ◌∙◌}
+-- What is kept of a life after a step that a node refuses, or in which a liar sends.
+use Rattle.std.proofs.Common.{◌≡◌, ℕ, suc, Bool, true, false, if◌then◌else◌, List, Option, None, Some, Ok, Err, refl, sym, subst, ◌∙◌}
+use Rattle.std.specs.declared.net.socket_addr.SocketAddrV4.{SocketAddrV4}
 use Rattle.someip_wire.specs.Spelling.{MessageValue}
 use Rattle.someip_tp.specs.declared.key.ReassemblyKey.{ReassemblyKey}
 use Rattle.someip_node_rules.specs.History.{History}
@@ -9,15 +10,19 @@ use Rattle.someip_node_rules.specs.Steps.{step}
 use Rattle.someip_node_rules.specs.declared.config.Config.{Config}
 use Rattle.someip_node_rules.specs.declared.error.NodeError.{NodeError}
 use Rattle.someip_world_schedule.specs.declared.step.Step.{Step}
+use Rattle.someip_world_schedule.specs.declared.step.Step.TheVariants as steps
 use Rattle.someip_world_setup.specs.declared.setup_node.SetupNode.{SetupNode}
 use Rattle.someip_world_rules.specs.Datagrams.{SentDatagram, datagram_at}
-use Rattle.someip_world_rules.specs.Deeds.{Deed, Takes, Restarts, delivery, is_addressed}
+use Rattle.someip_world_rules.specs.Deeds.{Deed, Takes, Restarts, Injects, delivery, is_addressed}
 use Rattle.someip_world_rules.specs.declared.step_fault.StepFault.TheVariants.{NotAddressed}
+use Rattle.someip_world_rules.specs.Liars.{is_liar_at}
 use Rattle.someip_world_rules.specs.Turns.{Turn}
 use Rattle.someip_world_exchanges.specs.CleanReuse.{Arrives}
 use Rattle.someip_world_rules.specs.Deliveries.{Delivers, Does, Restarted}
 use Rattle.someip_world_rules.proofs.Deliverings.{one_turn}
+use Rattle.someip_world_rules.proofs.LiarLemmas.{by_node}
 use Rattle.someip_world_ledger.specs.Books.{LifeKept, PayloadNumbers}
+use Rattle.someip_world_ledger.proofs.InjectedSteps.{injection_does_nothing, injection_no_restart}
 use Rattle.someip_world_ledger.proofs.Kept.{KeepsLife, PayloadsGrow}
 use Rattle.someip_world_ledger.proofs.lives.LifeSpans.{quiet_life}
 
@@ -27,6 +32,7 @@ use Rattle.someip_world_ledger.proofs.lives.LifeSpans.{quiet_life}
 abbrev IsTaken : History → Deed → Type 0
 IsTaken h (Takes input) = (refusal : NodeError) → step h input ≡ Err refusal → ⊥
 IsTaken h (Restarts delay) = ⊥
+IsTaken h (Injects from to bytes) = ⊥
 
 if_addressed : (h : History) (d : SentDatagram) (deed : Deed) (b : Bool) → (if b then Ok (Takes (inputs.Datagram d.from d.to d.bytes)) else Err NotAddressed) ≡ Ok deed → IsTaken h deed
 if_addressed h d deed true is = let same : Takes (inputs.Datagram d.from d.to d.bytes) ≡ deed = cc in subst (IsTaken h) same (λ refusal refused. absurd cc)
@@ -38,7 +44,10 @@ delivered h deed (Some d) is = if_addressed h d deed (is_addressed h.config d) i
 
 module _ (nodes : List SetupNode) (configs : List Config) (ss : List Step) (n : ℕ) where
   delivery_taken : (sent : ℕ) (d : SentDatagram) (del : Delivers nodes configs ss n sent d) → IsTaken del.turn.history del.turn.deed
-  delivery_taken sent d del = delivered del.turn.history del.turn.deed (datagram_at del.turn.before.lines del.number) del.turn.due
+  delivery_taken sent d del =
+      let t = del.turn in
+      delivered t.history t.deed (datagram_at t.before.lines del.number)
+      (by_node t.history t.before.lines (steps.Deliver del.number del.node) (is_liar_at nodes t.place) t.deed refl t.due)
 
   module _ (s : Step) (t : Turn nodes configs ss n s) (input : Input) (is : t.deed ≡ Takes input) (refusal : NodeError) (refused : step t.history input ≡ Err refusal) where
     -- nothing is done
@@ -76,3 +85,18 @@ module _ (nodes : List SetupNode) (configs : List Config) (ss : List Step) (n : 
         → KeepsLife nodes configs ss payloads n t.place t.history life → KeepsLife nodes configs ss more (suc n) t.place t.history life
     refused_life payloads more grow life kept =
         quiet_life nodes configs ss n t.place payloads more grow refused_no_restart refused_no_arrival (λ token up. refused_does_nothing up.does) t.history life kept
+
+  module _ (s : Step) (t : Turn nodes configs ss n s) (from to : SocketAddrV4) (bytes : List ℕ) (is : t.deed ≡ Injects from to bytes) where
+    -- nor does one come where a liar sends
+    injection_no_arrival : (now : ℕ) (m : MessageValue) (key : ReassemblyKey) → Arrives nodes configs ss n t.place now m key → ⊥
+    injection_no_arrival now m key a =
+        let one = one_turn nodes configs ss n s t _ a.delivers.turn in
+        let taken = delivery_taken a.sent a.datagram a.delivers in
+        subst (λ (p : History × Deed). IsTaken p.0 p.1) (λ i. (sym one.history i, (sym one.deed ∙ is) i)) taken
+
+    -- so what is kept stays
+    pub injection_life : (payloads : PayloadNumbers) (life : LifeKept)
+        → KeepsLife nodes configs ss payloads n t.place t.history life → KeepsLife nodes configs ss payloads (suc n) t.place t.history life
+    injection_life payloads life kept =
+        quiet_life nodes configs ss n t.place payloads payloads (λ payload number is. is) (injection_no_restart nodes configs ss n s t from to bytes is t.place) injection_no_arrival
+        (λ token up. injection_does_nothing nodes configs ss n s t from to bytes is up.does) t.history life kept

@@ -20,6 +20,7 @@ use Rattle.someip_world_rules.specs.Deeds.{Takes, Restarts, deed_of, delivery, i
 use Rattle.someip_world_rules.specs.declared.line.Line.{Line}
 use Rattle.someip_world_rules.specs.declared.step_fault.StepFault.{StepFault}
 use Rattle.someip_world_rules.specs.Turns.{Turn}
+use Rattle.someip_world_rules.proofs.LiarLemmas.{again_at}
 use Rattle.someip_world_exchanges.specs.Beginnings.{last_counter}
 use Rattle.someip_world_rules.specs.Deliveries.{LivesOn}
 use Rattle.someip_world_ledger.specs.Books.{LifeKept, NoteKept, PayloadNumbers, new_life}
@@ -58,6 +59,7 @@ module _ (config : Config) (notes : List NoteKept) (life : LifeKept) (h : Histor
   begins_anew (steps.Subscribe node group) is = absurd cc
   begins_anew (steps.Unsubscribe node group) is = absurd cc
   begins_anew (steps.StopOffer node instance) is = absurd cc
+  begins_anew (steps.Inject node port to payload) is = absurd cc
 
 -- ---- a new life
 
@@ -86,6 +88,6 @@ module _ (nodes : List SetupNode) (configs : List Config) (ss : List Step) (n : 
     pub restarted_life : (config : Config) (notes : List NoteKept) (life : LifeKept) (lines : List Line)
         → KeepsLife nodes configs ss payloads (suc n) t.place h (life_after config notes life s lines finite.empty)
     restarted_life config notes life lines =
-        let new = begins_anew config notes life t.history t.before.lines delay s (t.due ∙ ap Ok is) in
+        let new = begins_anew config notes life t.history t.before.lines delay s (again_at nodes configs ss n s t delay is).1 in
         subst (KeepsLife nodes configs ss payloads (suc n) t.place h)
         (λ k. record (sym new.0 k) { tokens = handed_up (sym new.1 k) (tokens_told lines) (sym new.0 k).tokens; counters = finite.empty }) (new_kept nodes configs ss payloads (suc n) t.place none_lives h fresh)

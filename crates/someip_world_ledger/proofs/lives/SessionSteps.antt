@@ -145,3 +145,4 @@ module _ (config : Config) (h : History) (copy : IsCopy config h.config) (life :
     sessions_on notes lines (steps.Unsubscribe node group) is = counts_stay life refl (ap is_publication is)
     sessions_on notes lines (steps.StopOffer node instance) is = counts_stay life refl (ap is_publication is)
     sessions_on notes lines (steps.Restart node delay) is = absurd is
+    sessions_on notes lines (steps.Inject node port to payload) is = absurd is

@@ -19,6 +19,7 @@ use Rattle.someip_world_rules.specs.Announced.{AllFits}
 use Rattle.someip_world_rules.specs.Deeds.{Takes}
 use Rattle.someip_world_rules.specs.Runs.{told_lines}
 use Rattle.someip_world_rules.specs.Turns.{Turn}
+use Rattle.someip_world_rules.proofs.LiarLemmas.{taken_at}
 use Rattle.someip_world_exchanges.specs.Beginnings.{last_counter}
 use Rattle.someip_world_ledger.specs.Books.{Book, LifeKept, PayloadNumbers}
 use Rattle.someip_world_ledger.specs.Booking.{answered_in, handed_up, life_after, life_on, life_then, publication_in, tokens_told}
@@ -39,7 +40,7 @@ module _ (nodes : List SetupNode) (configs : List Config) (ss : List Step) (n : 
     (more : PayloadNumbers) (grow : PayloadsGrow book.payloads more) where
   -- the step gives the input
   so : IsInputOf t.history t.before.lines input s
-  so = input_of t.history t.before.lines input s (t.due ∙ ap Ok is)
+  so = input_of t.history t.before.lines input s (taken_at nodes configs ss n s t input is).1
 
   -- the life but for tokens and counters
   abbrev next : LifeKept

@@ -154,3 +154,4 @@ tokens_on h lines input notes life (steps.Subscribe node group) is = refl
 tokens_on h lines input notes life (steps.Unsubscribe node group) is = refl
 tokens_on h lines input notes life (steps.StopOffer node instance) is = refl
 tokens_on h lines input notes life (steps.Restart node delay) is = absurd is
+tokens_on h lines input notes life (steps.Inject node port to payload) is = absurd is

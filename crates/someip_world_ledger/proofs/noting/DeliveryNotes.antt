@@ -1,5 +1,5 @@
 -- What is kept of the datagram that a step delivers, and of the life of the node that it is delivered to.
-use Rattle.std.proofs.Common.{◌≡◌, arith, ℕ, ◌+◌, true, List, slice_get, Some, refl, ap, subst, ◌∙◌}
+use Rattle.std.proofs.Common.{◌≡◌, arith, ℕ, ◌+◌, true, List, [], slice_get, None, Some, refl, ap, subst, ◌∙◌}
 use Rattle.std.specs.Option.{option_map}
 use Rattle.someip_wire.specs.Spelling.{MessageValue}
 use Rattle.someip_tp.specs.Sent.{is_long}
@@ -10,7 +10,7 @@ use Rattle.someip_world_schedule.specs.declared.step.Step.TheVariants as steps
 use Rattle.someip_world_setup.specs.declared.setup_node.SetupNode.{SetupNode}
 use Rattle.someip_world_rules.specs.Datagrams.{SentDatagram}
 use Rattle.someip_world_rules.specs.Turns.{Turn}
-use Rattle.someip_world_rules.specs.Deliveries.{Delivers, Dispatch, Sends, dispatch_at}
+use Rattle.someip_world_rules.specs.Deliveries.{Delivers, Dispatch, IsInjected, Sends, dispatch_at}
 use Rattle.someip_world_ledger.specs.Books.{Book, LifeKept, NoteKept, PayloadNumbers, note_at}
 use Rattle.someip_world_ledger.specs.Contents.{said_in, stream_in}
 use Rattle.someip_world_ledger.specs.Streams.{stream_of}
@@ -21,8 +21,9 @@ module _ (nodes : List SetupNode) (configs : List Config) (ss : List Step) where
   -- a datagram that a step sent has this note
   pub record HasNote (payloads : PayloadNumbers) (sent : ℕ) (d : SentDatagram) (note : NoteKept) : Type 0 where
     pub step : note.step ≡ sent
-    pub said : note.said ≡ said_in d
-    pub stream : note.stream ≡ option_map stream_of (stream_in d)
+    pub said : Sends nodes configs ss sent d → note.said ≡ said_in d
+    pub stream : Sends nodes configs ss sent d → note.stream ≡ option_map stream_of (stream_in d)
+    pub mute : IsInjected nodes configs ss sent d → (note.said ≡ []) × (note.stream ≡ None)
     pub answers : KnowsAnswered nodes configs ss sent d note.answers
     pub payload : (s : Sends nodes configs ss sent d) (m : MessageValue) → s.given ≡ outputs.Sends d.from d.to m → is_long m.payload ≡ true
         → IsNumbered nodes configs ss payloads m.payload note.payload
@@ -32,7 +33,7 @@ module _ (nodes : List SetupNode) (configs : List Config) (ss : List Step) where
       → HasNote payloads sent dispatch.datagram note
   noted_so payloads dispatch note sent step noted =
       let own : HasNote payloads note.step dispatch.datagram note =
-      record { step = refl; said = noted.said; stream = noted.stream; answers = noted.answers; payload = noted.payload } in
+      record { step = refl; said = noted.said; stream = noted.stream; mute = noted.mute; answers = noted.answers; payload = noted.payload } in
       subst (λ k. HasNote payloads k dispatch.datagram note) step own
 
   module _ (n : ℕ) (book : Book) where

@@ -4,6 +4,7 @@ use Rattle.std.specs.FinMap as finite
 use Rattle.std.specs.List.{AllZip, cons_option}
 use Rattle.std.specs.Option.{option_map, option_map_or}
 use Rattle.std.proofs.lemmas.List.Elements.{filter_map-append}
+use Rattle.std.specs.declared.net.socket_addr.SocketAddrV4.{SocketAddrV4}
 use Rattle.someip_wire.specs.Spelling.{MessageValue}
 use Rattle.someip_tp.specs.Sent.{is_long}
 use Rattle.std.proofs.lemmas.Cmp.{nat_list_cmp_total}
@@ -20,19 +21,23 @@ use Rattle.someip_node_rules.specs.Plans as plans
 use Rattle.someip_node_rules.specs.Plans.{Rule, Work}
 use Rattle.someip_node_rules.specs.declared.config.Config.{Config}
 use Rattle.someip_node_rules.specs.declared.output.Output.{Output}
+use Rattle.someip_node_rules.specs.declared.output.Output.TheVariants.{Sent}
 use Rattle.someip_world_schedule.specs.declared.step.Step.{Step}
 use Rattle.someip_world_schedule.specs.declared.step.Step.TheVariants as steps
 use Rattle.someip_world_setup.specs.declared.setup_node.SetupNode.{SetupNode}
 use Rattle.someip_world_rules.specs.Datagrams.{SentDatagram, datagrams_in, sent_with}
+use Rattle.someip_world_rules.specs.Deeds.{Injects}
 use Rattle.someip_world_rules.specs.Runs.{World, told_lines}
 use Rattle.someip_world_rules.specs.Turns.{Turn}
 use Rattle.someip_world_exchanges.specs.Belonging.{Answered, WasHandedUp}
-use Rattle.someip_world_rules.specs.Deliveries.{Delivers, Dispatch, Does, Sends, dispatch_at, dispatch_in, dispatches_in}
+use Rattle.someip_world_rules.specs.Deliveries.{Delivers, Dispatch, Does, IsInjected, Sends, dispatch_at, dispatch_in, dispatches_in}
 use Rattle.someip_world_rules.proofs.Deliverings.{one_turn}
+use Rattle.someip_world_rules.proofs.LiarLemmas.{taken_at}
 use Rattle.someip_world_exchanges.proofs.LongMessages.{long_payload}
 use Rattle.someip_world_exchanges.proofs.RuleInputs.{is_answer, no_answer_answers}
 use Rattle.someip_world_ledger.specs.Books.{Book, LifeKept, NoteKept, PayloadNumbers, note_at}
-use Rattle.someip_world_ledger.specs.Booking.{answered_in, long_payload_of, note_of, notes_of, number_of, numbered}
+use Rattle.someip_world_ledger.specs.Booking.{answered_in, is_injection, long_payload_of, mute_note, note_of, notes_of, number_of, numbered}
+use Rattle.someip_world_ledger.proofs.InjectedSteps.{injected_so, injection_does_nothing}
 use Rattle.someip_world_ledger.proofs.StepInputs.{IsInputOf, input_of, same_payload}
 use Rattle.someip_world_ledger.proofs.Kept.{IsNoted, IsNumbered, KeepsLife, KnowsAnswered, PayloadsGrow}
 use Rattle.someip_world_ledger.proofs.noting.NumberSteps.{number_then}
@@ -59,6 +64,7 @@ module _ (nodes : List SetupNode) (configs : List Config) (ss : List Step) where
     step = is.step;
     said = is.said;
     stream = is.stream;
+    mute = is.mute;
     answers = is.answers;
     payload = λ s m given long.
         let number = is.payload s m given long in
@@ -87,7 +93,7 @@ module _ (nodes : List SetupNode) (configs : List Config) (ss : List Step) where
     own_input : (s : Step) (t : Turn nodes configs ss n s) (does : Does nodes configs ss n) → IsInputOf does.turn.history does.turn.before.lines does.input s
     own_input s t does =
         subst (IsInputOf does.turn.history does.turn.before.lines does.input) (one_turn nodes configs ss n does.step does.turn s t).step
-        (input_of does.turn.history does.turn.before.lines does.input does.step (does.turn.due ∙ ap Ok does.takes))
+        (input_of does.turn.history does.turn.before.lines does.input does.step (taken_at nodes configs ss n does.step does.turn does.input does.takes).1)
 
     -- a step that is no answer answers for no application
     no_answer : (sent : (d : SentDatagram) × Sends nodes configs ss n d) → is_answer sent.1.does.input ≡ false → (token : ℕ) (reply : Reply) (payload : List ℕ)
@@ -192,8 +198,13 @@ module _ (nodes : List SetupNode) (configs : List Config) (ss : List Step) where
         only (steps.StopOffer node instance) t notes keeps was =
             absurd (not_delivered (steps.StopOffer node instance) t (λ number other is. absurd cc) (ap is_answer (own_input (steps.StopOffer node instance) t sent.does)) was)
         only (steps.Restart node delay) t notes keeps was = absurd (own_input (steps.Restart node delay) t sent.does)
+        only (steps.Inject node port to payload) t notes keeps was = absurd (own_input (steps.Inject node port to payload) t sent.does)
 
-      module _ (s : Step) (t : Turn nodes configs ss n s) (notes : KeepsNotes t.before) (keeps : KeepsLife nodes configs ss book.payloads n t.place t.history life) where
+      module _ (s : Step) (t : Turn nodes configs ss n s) (own : is_injection s ≡ false) (notes : KeepsNotes t.before) (keeps : KeepsLife nodes configs ss book.payloads n t.place t.history life) where
+        -- no liar sends in a step of a node
+        none_injected : (d : SentDatagram) → IsInjected nodes configs ss n d → ⊥
+        none_injected d injected = let some = injected_so nodes configs ss n s t d injected in absurd cc
+
         answered : (d : SentDatagram) → KnowsAnswered nodes configs ss n d (answered_in book.notes life s)
         answered d = record {
           says = λ sent since is. says d sent since s t notes keeps is;
@@ -224,7 +235,14 @@ module _ (nodes : List SetupNode) (configs : List Config) (ss : List Step) where
 
         own_note : (d : SentDatagram) → IsNoted nodes configs ss more (record { step = n + 1; datagram = d })
             (note_of n (answered_in book.notes life s) (option_map (number_of book.payloads n) (long_payload_of s)) d)
-        own_note d = record { step = refl; said = refl; stream = refl; answers = answered d; payload = λ sent m given long. own_number d sent m given long }
+        own_note d = record {
+          step = refl;
+          said = λ sends. refl;
+          stream = λ sends. refl;
+          mute = λ injected. absurd (none_injected d injected);
+          answers = answered d;
+          payload = λ sent m given long. own_number d sent m given long;
+        }
 
         abbrev own_notes : List SentDatagram → List NoteKept
         own_notes ds = notes_of n (answered_in book.notes life s) (option_map (number_of book.payloads n) (long_payload_of s)) ds
@@ -249,3 +267,29 @@ module _ (nodes : List SetupNode) (configs : List Config) (ss : List Step) where
             subst (λ ds. AllZip (IsNoted nodes configs ss more) ds (book.notes ++ own_notes (datagrams_in lines))) (sym (filter_map-append dispatch_in t.before.lines lines))
             (both_zip (IsNoted nodes configs ss more) (dispatches_in t.before.lines) book.notes (dispatches_in lines) (own_notes (datagrams_in lines))
             (notes_stay book.payloads more grow (dispatches_in t.before.lines) book.notes notes) (all_noted t.place os))
+
+    -- ---- a liar's datagram
+
+    module _ (s : Step) (t : Turn nodes configs ss n s) (from to : SocketAddrV4) (bytes : List ℕ) (is : t.deed ≡ Injects from to bytes) (payloads : PayloadNumbers) where
+      -- no node sends in the step
+      none_sends : (d : SentDatagram) → Sends nodes configs ss n d → ⊥
+      none_sends d sends = injection_does_nothing nodes configs ss n s t from to bytes is sends.does
+
+      mute_noted : (d : SentDatagram) → IsNoted nodes configs ss payloads (record { step = n + 1; datagram = d }) (mute_note n)
+      mute_noted d = record {
+        step = refl;
+        said = λ sends. absurd (none_sends d sends);
+        stream = λ sends. absurd (none_sends d sends);
+        mute = λ injected. (refl, refl);
+        answers = record { says = λ sends since is. absurd (none_sends d sends); only = λ sends since was. absurd (none_sends d sends) };
+        payload = λ sends m given long. absurd (none_sends d sends);
+      }
+
+      -- the notes after a step in which a liar sends
+      pub notes_of_liar : (notes : List NoteKept) → AllZip (IsNoted nodes configs ss payloads) (dispatches_in t.before.lines) notes
+          → AllZip (IsNoted nodes configs ss payloads) (dispatches_in (t.before.lines ++ told_lines (n + 1) t.place (Ok (Sent from to bytes ∷ [])))) (notes ++ mute_note n ∷ [])
+      notes_of_liar notes all =
+          let lines = told_lines (n + 1) t.place (Ok (Sent from to bytes ∷ [])) in
+          subst (λ ds. AllZip (IsNoted nodes configs ss payloads) ds (notes ++ mute_note n ∷ [])) (sym (filter_map-append dispatch_in t.before.lines lines))
+          (both_zip (IsNoted nodes configs ss payloads) (dispatches_in t.before.lines) notes (dispatches_in lines) (mute_note n ∷ []) all
+          (mute_noted (record { from = from; to = to; bytes = bytes }), tt))

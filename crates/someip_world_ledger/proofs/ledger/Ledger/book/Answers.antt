@@ -4,7 +4,7 @@ use Rattle.std.proofs.lemmas.Option.{get_or_from_slice_get}
 use Rattle.someip_world_rules.specs.Datagrams.{datagrams_in}
 use Rattle.someip_world_ledger.specs.Booking.{answered_in, life_after, notes_of, openings_after}
 use Rattle.someip_world_ledger.specs.Views.{view_book, view_life}
-use Rattle.someip_world_ledger.proofs.BookingLemmas.{booked_so}
+use Rattle.someip_world_ledger.proofs.BookingLemmas.{booked_so, no_injection}
 use Rattle.someip_world_ledger.proofs.ledger.Ledger.book.Goals as goal
 
 pub returns : goal.returns
@@ -15,7 +15,7 @@ returns c = λ life here.
     let lines = c.args.lines.now in
     let book = view_book c.args.self.now in
     let same : c.index_mut.result.now ≡ life = c.index_mut.ensures.value ∙ get_or_from_slice_get c.args.self.now.lives.items c.args.place life _ here in
-    booked_so config n c.args.place step lines (view_life life) book _ (sym c.is_refused.ensures ∙ c.if-is_refused.false)
+    booked_so config n c.args.place step lines (view_life life) book _ (sym c.is_refused.ensures ∙ c.if-is_refused.false) (no_injection step c.in_default.not-Inject)
     (c.in_ok-book_at.ensures.taken ∙ ap (λ l. (openings_after config book.notes book.taken (view_life l) n step lines).taken) same)
     (c.in_ok-book_at.ensures.notes
     ∙ ap (λ l. book.notes ++ notes_of n (answered_in book.notes (view_life l) step) c.in_ok-payload.payload (datagrams_in lines)) same
