@@ -19,29 +19,31 @@ use Rattle.someip_world_setup.specs.declared.setup_node.SetupNode.{SetupNode}
 abbrev pub view_of : History → NodeView
 view_of h = record { config = h.config; tables = Some (answers_of h) }
 
--- who acts at a place with a history: a node that stands for it, or the liar of that address
-abbrev pub actor_of : Bool → History → Actor
-actor_of true h = Liar h.config.address
-actor_of false h = Node (view_of h)
+-- (the nodes are generic over the store of messages that came in part, and nothing here looks at that)
+module _ {R : Type 0} where
+  -- who acts at a place with a history: a node that stands for it, or the liar of that address
+  abbrev pub actor_of : Bool → History → Actor R
+  actor_of true h = Liar h.config.address
+  actor_of false h = Node (view_of h)
 
--- those at all places
-abbrev pub actors_of : List SetupNode → List History → List Actor
-actors_of (n ∷ nodes) (h ∷ hs) = actor_of n.is_liar h ∷ actors_of nodes hs
-actors_of [] (h ∷ hs) = actor_of false h ∷ actors_of [] hs
-actors_of nodes [] = []
+  -- those at all places
+  abbrev pub actors_of : List SetupNode → List History → List (Actor R)
+  actors_of (n ∷ nodes) (h ∷ hs) = actor_of n.is_liar h ∷ actors_of nodes hs
+  actors_of [] (h ∷ hs) = actor_of false h ∷ actors_of [] hs
+  actors_of nodes [] = []
 
--- what is due is given, and the actor is that of the history then; or it refuses as is due and is as it was, or memory ran out
-abbrev pub Did : Bool → History → Result (Work History) NodeError → Result (Vec Output) StepError → Actor → Type 0
-Did liar h (Ok done) (Ok outputs) new = (outputs.items ≡ done.outputs) × (new ≡ actor_of liar done.state)
-Did liar h (Err refusal) (Err (Refused told)) new = (told ≡ refusal) × (new ≡ actor_of liar h)
-Did liar h due (Err OutOfMemory) new = Unit {0}
-Did liar h due result new = ⊥
+  -- what is due is given, and the actor is that of the history then; or it refuses as is due and is as it was, or memory ran out
+  abbrev pub Did : Bool → History → Result (Work History) NodeError → Result (Vec Output) StepError → Actor R → Type 0
+  Did liar h (Ok done) (Ok outputs) new = (outputs.items ≡ done.outputs) × (new ≡ actor_of liar done.state)
+  Did liar h (Err refusal) (Err (Refused told)) new = (told ≡ refusal) × (new ≡ actor_of liar h)
+  Did liar h due (Err OutOfMemory) new = Unit {0}
+  Did liar h due result new = ⊥
 
--- the actor does what a step says, or the step is bad
-abbrev pub Acts : Bool → History → Result Deed StepFault → Result (Vec Output) StepError → Actor → Type 0
-Acts liar h (Ok deed) result new = Did liar h (done_with h deed) result new
-Acts liar h (Err fault) (Err (Bad told)) new = told ≡ fault
-Acts liar h (Err fault) result new = ⊥
+  -- the actor does what a step says, or the step is bad
+  abbrev pub Acts : Bool → History → Result Deed StepFault → Result (Vec Output) StepError → Actor R → Type 0
+  Acts liar h (Ok deed) result new = Did liar h (done_with h deed) result new
+  Acts liar h (Err fault) (Err (Bad told)) new = told ≡ fault
+  Acts liar h (Err fault) result new = ⊥
 
 -- a liar sends what is due, or the step is bad, or memory ran out
 abbrev pub Lies : Result Deed StepFault → Result (Vec Output) StepError → Type 0

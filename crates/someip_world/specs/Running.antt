@@ -15,29 +15,6 @@ use Rattle.someip_world_rules.specs.Runs.{ComesTo, World, happens, run_from}
 use Rattle.someip_world.specs.declared.actor.Actor.{Actor}
 use Rattle.someip_world.specs.Acting.{actor_of, actors_of}
 
--- at the places of the nodes of a setup stand those that act there, once nodes were started with their delays and with copies
--- of their configurations
-abbrev pub IsStarted : SetupNode → Actor → Type 0
-IsStarted node actor = (config : Config) × IsCopy node.config config × (actor ≡ actor_of node.is_liar (start_of config node.delay))
-
-abbrev pub AreStarted : List SetupNode → List Actor → Type 0
-AreStarted nodes actors = AllZip IsStarted nodes actors
-
--- actors and lines are those of a world over the nodes of a setup
-abbrev pub AreOfWorld : List SetupNode → List Actor → List Line → World → Type 0
-AreOfWorld setup actors lines w = (actors ≡ actors_of setup w.histories) × (lines ≡ w.lines)
-
--- a step happened, or it is bad, or memory ran out
-abbrev pub Comes : List SetupNode → ℕ → Result World StepFault → Result (Unit {0}) RunError → List Actor → List Line → Type 0
-Comes setup index (Ok w) (Ok _) actors lines = AreOfWorld setup actors lines w
-Comes setup index (Err fault) (Err (BadStep at told)) actors lines = (at ≡ index) × (told ≡ fault)
-Comes setup index (Ok w) (Err OutOfMemory) actors lines = Unit {0}
-Comes setup index due result actors lines = ⊥
-
-abbrev pub Happens : List SetupNode → ℕ → Step → List Actor → List Line → Result (Unit {0}) RunError → List Actor → List Line → Type 0
-Happens setup index step old before result new after =
-    (w : World) → AreOfWorld setup old before w → Comes setup index (happens setup index w step) result new after
-
 -- all steps happened, or one is bad, or memory ran out
 abbrev pub Ends : Result World RunError → Result (Unit {0}) RunError → List Line → Type 0
 Ends (Ok w) (Ok _) lines = lines ≡ w.lines
@@ -45,8 +22,33 @@ Ends (Err error) (Err (BadStep at told)) lines = error ≡ BadStep at told
 Ends due (Err OutOfMemory) lines = Unit {0}
 Ends due result lines = ⊥
 
-abbrev pub RunsOn : List SetupNode → List Step → List Actor → List Line → Result (Unit {0}) RunError → List Line → Type 0
-RunsOn setup steps old before result after = (w : World) → AreOfWorld setup old before w → Ends (run_from setup 1 w steps) result after
+module _ {R : Type 0} where
+  -- at the places of the nodes of a setup stand those that act there, once nodes were started with their delays and with copies
+  -- of their configurations
+  abbrev pub IsStarted : SetupNode → Actor R → Type 0
+  IsStarted node actor = (config : Config) × IsCopy node.config config × (actor ≡ actor_of node.is_liar (start_of config node.delay))
+
+  abbrev pub AreStarted : List SetupNode → List (Actor R) → Type 0
+  AreStarted nodes actors = AllZip IsStarted nodes actors
+
+  -- actors and lines are those of a world over the nodes of a setup
+  abbrev pub AreOfWorld : List SetupNode → List (Actor R) → List Line → World → Type 0
+  AreOfWorld setup actors lines w = (actors ≡ actors_of setup w.histories) × (lines ≡ w.lines)
+
+  -- a step happened, or it is bad, or memory ran out
+  abbrev pub Comes : List SetupNode → ℕ → Result World StepFault → Result (Unit {0}) RunError → List (Actor R) → List Line → Type 0
+  Comes setup index (Ok w) (Ok _) actors lines = AreOfWorld setup actors lines w
+  Comes setup index (Err fault) (Err (BadStep at told)) actors lines = (at ≡ index) × (told ≡ fault)
+  Comes setup index (Ok w) (Err OutOfMemory) actors lines = Unit {0}
+  Comes setup index due result actors lines = ⊥
+
+  abbrev pub Happens : List SetupNode → ℕ → Step → List (Actor R) → List Line → Result (Unit {0}) RunError → List (Actor R) → List Line → Type 0
+  Happens setup index step old before result new after =
+      (w : World) → AreOfWorld setup old before w → Comes setup index (happens setup index w step) result new after
+
+  -- the same of all steps, from a world on
+  abbrev pub RunsOn : List SetupNode → List Step → List (Actor R) → List Line → Result (Unit {0}) RunError → List Line → Type 0
+  RunsOn setup steps old before result after = (w : World) → AreOfWorld setup old before w → Ends (run_from setup 1 w steps) result after
 
 -- a run tells these lines, or the first bad step, or memory ran out
 abbrev pub IsTold : List SetupNode → List Step → Result (Vec Line) RunError → Type 0
