@@ -3,3 +3,4 @@ pub mod OldChecks
 pub mod MixedTests
 pub mod MixedChecks
 pub mod CheckLemmas
+pub mod LiarChecks

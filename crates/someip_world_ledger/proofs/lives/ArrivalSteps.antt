@@ -25,7 +25,6 @@ use Rattle.someip_world_rules.specs.declared.line.Line.{Line}
 use Rattle.someip_world_exchanges.specs.CleanReuse.{Arrives}
 use Rattle.someip_world_rules.specs.Deliveries.{Delivers, GoesOut, IsInjected, Sends, dispatches_in}
 use Rattle.someip_world_rules.proofs.Deliverings.{delivered_in, one_turn}
-use Rattle.someip_world_rules.proofs.InjectionLemmas.{apart}
 use Rattle.someip_world_rules.proofs.Sendings.{sent_before}
 use Rattle.someip_world_ledger.specs.Books.{LifeKept, NoteKept, PayloadNumbers}
 use Rattle.someip_world_ledger.specs.Booking.{Publication, arrived, arrived_with, life_on, published_session}
@@ -38,7 +37,7 @@ use Rattle.someip_world_ledger.proofs.Kept.{IsNoted, KnowsArrival, PayloadsGrow}
 use Rattle.someip_world_ledger.proofs.lives.LifeSpans.{arrival_stays}
 use Rattle.someip_world_ledger.proofs.StepInputs.{IsInputOf}
 use Rattle.someip_world_ledger.proofs.reading.StreamReading.{IsSegmentOf, arrives_read, one_key, segment_sent}
-use Rattle.someip_world_ledger.proofs.lives.TakenSpans.{lives_here, noted_here, one_delivery, taken_no_restart}
+use Rattle.someip_world_ledger.proofs.lives.TakenSpans.{lives_here, no_node_sent, noted_here, one_delivery, taken_no_restart}
 
 -- ---- deliveries
 
@@ -93,7 +92,7 @@ module _ (nodes : List SetupNode) (configs : List Config) (ss : List Step) (n : 
     -- what comes in the step is of its stream
     arrives_here : (at : ℕ) (m : MessageValue) (key : ReassemblyKey) → Arrives nodes configs ss n t.place at m key → stream_in d ≡ Some key
     arrives_here at m key a =
-        let one = one_delivery nodes configs ss n s t input is a.sent sent a.datagram d a.delivers del in
+        let one = one_delivery nodes configs ss n a.sent sent a.datagram d a.delivers del in
         ap stream_in (sym one.1) ∙ arrives_read nodes configs ss fits well n t.place at m key a
 
     -- a segment that comes now is the last one of its key
@@ -169,9 +168,8 @@ module _ (nodes : List SetupNode) (configs : List Config) (ss : List Step) (n : 
     mute_then : (d : SentDatagram) (note : NoteKept) → Delivers nodes configs ss n note.step d → IsInjected nodes configs ss note.step d
         → note.stream ≡ None → KnowsThen (arrived note.stream note.payload life).arrivals
     mute_then d note del injected mute =
-        subst (λ x. KnowsThen (arrived x note.payload life).arrivals) (sym mute) (λ key. other_key key (λ at m a.
-        let one = one_delivery nodes configs ss n s t input is a.sent note.step a.datagram d a.delivers del in
-        apart nodes configs ss note.step a.datagram d (subst (λ k. Sends nodes configs ss k a.datagram) one.0 a.sends) injected))
+        subst (λ x. KnowsThen (arrived x note.payload life).arrivals) (sym mute)
+        (λ key. other_key key (λ at m a. no_node_sent nodes configs ss n note.step d del injected a.sent a.datagram a.delivers a.sends))
 
     -- so of one that comes
     goes_then : (d : SentDatagram) (note : NoteKept) → Delivers nodes configs ss n note.step d → GoesOut nodes configs ss note.step d

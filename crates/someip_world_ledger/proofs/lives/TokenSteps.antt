@@ -158,5 +158,5 @@ module _ (nodes : List SetupNode) (configs : List Config) (ss : List Step) (n : 
                 let here = told_up token e in
                 let now = at_last e (below_next was.i n was.before) in
                 let del = subst (λ k. Delivers nodes configs ss k since was.datagram) now was.delivers in
-                let one = one_delivery nodes configs ss n s t input is here.sent since here.datagram was.datagram here.delivers del in
+                let one = one_delivery nodes configs ss n here.sent since here.datagram was.datagram here.delivers del in
                 handed_told (answered_in notes life s) here.sent (answered_here life here.sent here.datagram here.delivers) told life.tokens token e ∙ ap Some one.0

@@ -18,7 +18,7 @@ use Rattle.someip_node_rules.specs.Meanings.{GivenBy}
 use Rattle.someip_node_rules.specs.Outputs as outputs
 use Rattle.someip_node_rules.specs.Outputs.{Given}
 use Rattle.someip_node_rules.specs.Plans as plans
-use Rattle.someip_node_rules.specs.Plans.{Rule, Work}
+use Rattle.someip_node_rules.specs.Plans.{Rule}
 use Rattle.someip_node_rules.specs.declared.config.Config.{Config}
 use Rattle.someip_node_rules.specs.declared.output.Output.{Output}
 use Rattle.someip_node_rules.specs.declared.output.Output.TheVariants.{Sent}
