@@ -20,3 +20,4 @@ pub mod RuleBeginnings
 pub mod BeginningWalks
 pub mod InputBeginnings
 pub mod SubscribesBegin
+pub mod LiarBreaks

@@ -21,6 +21,7 @@ ghost use Rattle.someip_world_rules.specs.Datagrams.{SentDatagram};
 ghost use Rattle.someip_world_exchanges.specs.declared.exchange_key.ExchangeKey.{ExchangeKey};
 ghost use Rattle.someip_world_exchanges.specs.declared.naming.Side.TheVariants.{Opener};
 ghost use Rattle.someip_world_exchanges.specs.Beginnings.{about, begun_after, counter_after, last_counter, subscribes_in};
+ghost use Rattle.someip_world_exchanges.specs.CleanReuse.{Breaks};
 ghost use Rattle.someip_world_exchanges.specs.Namings.{named_in, of_subscription};
 ghost use Rattle.someip_world_exchanges.specs.Openings.{Opened, OpensBy};
 ghost use Rattle.someip_world_rules.specs.Deliveries.{Delivers, IsInjected, Sends};
@@ -36,6 +37,13 @@ pub fn what_is_delivered_was_sent()
     ensures honest { (nodes : List SetupNode) (configs : List Config) (steps : List Step) (n sent : ℕ)
         (d : SentDatagram) → Delivers nodes configs steps n sent d
         → IsHonest nodes configs (v4_ip d.from) → Sends nodes configs steps sent d }
+{}
+
+/// What a liar sends breaks nothing: no step that delivers it breaks clean reuse.
+pub fn what_liars_send_breaks_nothing()
+    ensures { (nodes : List SetupNode) (configs : List Config) (steps : List Step) (n sent : ℕ)
+        (d : SentDatagram) → Delivers nodes configs steps n sent d → IsInjected nodes configs steps sent d
+        → Breaks nodes configs steps n → ⊥ }
 {}
 
 /// A request that is sent opens the call that it belongs to in that very step, and an event its publication:

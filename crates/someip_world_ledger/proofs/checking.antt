@@ -3,4 +3,3 @@ pub mod OldChecks
 pub mod MixedTests
 pub mod MixedChecks
 pub mod CheckLemmas
-pub mod LiarChecks

@@ -4,16 +4,11 @@ ghost use Rattle.std.specs.Prelude.{◌≡◌, ◌+◌, ℕ, false, List, ◌∷
 ghost use Rattle.std.specs.declared.net.socket_addr.SocketAddrV4.{SocketAddrV4};
 ghost use Rattle.someip_node_rules.specs.declared.config.Config.{Config};
 ghost use Rattle.someip_node_rules.specs.declared.output.Output.TheVariants.{Sent};
-ghost use Rattle.someip_world_schedule.specs.declared.step.Step.{Step};
 ghost use Rattle.someip_world_schedule.specs.declared.step.Step.TheVariants.{Deliver, Inject, Tick};
 ghost use Rattle.someip_world_setup.specs.GoodSetups.{Network};
-ghost use Rattle.someip_world_setup.specs.declared.setup_node.SetupNode.{SetupNode};
-ghost use Rattle.someip_world_rules.specs.Datagrams.{SentDatagram};
-ghost use Rattle.someip_world_rules.specs.Deliveries.{Delivers, IsInjected};
 ghost use Rattle.someip_world_rules.specs.Runs.{told_lines};
 ghost use Rattle.someip_world_rules.specs.WorkedTrace.{a, b};
 ghost use Rattle.someip_world_rules.specs.declared.reuse.Reuse.TheVariants.{Broken, Clean};
-ghost use Rattle.someip_world_exchanges.specs.CleanReuse.{Breaks};
 ghost use Rattle.someip_world_ledger.specs.Booking.{arrived_with, booked, mute_note};
 ghost use Rattle.someip_world_ledger.specs.Books.{Book, LifeKept, TakenKeys, is_breach};
 ghost use Rattle.someip_world_ledger.specs.VerdictExamples.{IsOfTwo, IsVerdictThen, answered_late, answered_late_lines, answered_twice, answered_twice_lines, refused_twice, refused_twice_lines, sent_twice, sent_twice_lines, subscribed_twice, subscribed_twice_lines};
@@ -55,13 +50,9 @@ pub fn mixed_segments_by_example()
         answered_twice_lines Clean }
 {}
 
-/// What a liar sends breaks nothing in any run: no step that delivers it breaks clean reuse. It is kept as a
-/// datagram that says nothing, whatever its bytes: it takes no key, belongs to no exchange, and no segment
-/// comes with it.
-pub fn what_liars_send_breaks_nothing()
-    ensures delivered { (nodes : List SetupNode) (configs : List Config) (steps : List Step) (n sent : ℕ)
-        (d : SentDatagram) → Delivers nodes configs steps n sent d → IsInjected nodes configs steps sent d
-        → Breaks nodes configs steps n → ⊥ }
+/// What a liar sends is kept as a datagram that says nothing, whatever its bytes: it takes no key, belongs to no
+/// exchange, and no segment comes with it.
+pub fn what_liars_send_is_kept_mute()
     ensures kept { (config : Config) (n place : ℕ) (node : List ℕ) (port : ℕ) (from to : SocketAddrV4)
         (bytes : List ℕ) (life : LifeKept) (book : Book)
         → booked config n place (Inject node port to bytes)

@@ -1,5 +1,5 @@
 -- A datagram that a node takes was delivered: the step names it by its number.
-use Rattle.std.proofs.Common.{◌≡◌, ℕ, zero, suc, Bool, true, false, if◌then◌else◌, List, [], ◌∷◌, arith, take, slice_get, Option, None, Some, Ok, Err, refl, sym, ap, ◌∙◌}
+use Rattle.std.proofs.Common.{◌≡◌, ℕ, zero, suc, ◌+◌, Bool, true, false, if◌then◌else◌, List, [], ◌∷◌, arith, take, slice_get, Option, None, Some, Ok, Err, refl, sym, ap, ◌∙◌}
 use Rattle.std.specs.List.{cons_option}
 use Rattle.std.specs.Option.{option_map}
 use Rattle.someip_node_rules.specs.Inputs as inputs
@@ -19,7 +19,7 @@ use Rattle.someip_world_rules.proofs.LiarLemmas.{taken_at}
 use Rattle.someip_world_rules.specs.Runs.{place_of}
 use Rattle.someip_world_rules.specs.Turns.{Turn}
 use Rattle.someip_world_rules.specs.Origins.{WasSent}
-use Rattle.someip_world_rules.specs.Deliveries.{Delivers, dispatch_at, dispatches_in}
+use Rattle.someip_world_rules.specs.Deliveries.{Delivers, Dispatch, dispatch_at, dispatches_in}
 use Rattle.someip_world_rules.proofs.Fronts.{one_world, within}
 use Rattle.someip_world_rules.proofs.Sendings.{all_sent, one_sent}
 
@@ -131,3 +131,28 @@ module _ (nodes : List SetupNode) (configs : List Config) (ss : List Step) (n : 
       let deeds : Ok t.deed ≡ Ok u.deed = sym t.due ∙ (λ i. deed_at (is_liar_at nodes (place i)) (history i) (before i).lines (step i)) ∙ u.due in
       let deed : t.deed ≡ u.deed = cc in
       record { step = step; before = before; place = place; history = history; deed = deed }
+
+-- ---- and one delivery
+
+-- what a step sent, as the lines tell it
+abbrev dispatch : ℕ → SentDatagram → Dispatch
+dispatch sent d = record { step = sent + 1; datagram = d }
+
+same_one : (a b : Dispatch) → Some a ≡ Some b → a ≡ b
+same_one a b is = cc
+
+-- one dispatch was sent by one step, and is one datagram
+same_dispatch : (sent other : ℕ) (d e : SentDatagram) → Some (dispatch sent d) ≡ Some (dispatch other e) → (sent ≡ other) × (d ≡ e)
+same_dispatch sent other d e is =
+    let one = same_one (dispatch sent d) (dispatch other e) is in
+    let index : sent + 1 ≡ other + 1 = ap (λ (x : Dispatch). x.step) one in
+    (omega (arith, index), ap (λ (x : Dispatch). x.datagram) one)
+
+module _ (nodes : List SetupNode) (configs : List Config) (ss : List Step) (n : ℕ) where
+  -- the deliveries of a step are one
+  pub one_delivery : (sent other : ℕ) (d e : SentDatagram) → Delivers nodes configs ss n sent d → Delivers nodes configs ss n other e → (sent ≡ other) × (d ≡ e)
+  one_delivery sent other d e del del2 =
+      let one = one_turn nodes configs ss n _ del.turn _ del2.turn in
+      let step : steps.Deliver del.number del.node ≡ steps.Deliver del2.number del2.node = one.step in
+      let number : del.number ≡ del2.number = cc in
+      same_dispatch sent other d e (sym del.numbered ∙ (λ i. dispatch_at (one.before i).lines (number i)) ∙ del2.numbered)

@@ -13,7 +13,7 @@ use Rattle.someip_world_rules.specs.Deliveries.{Delivers, Does, GoesOut, IsInjec
 use Rattle.someip_world_rules.specs.Liars.{HasNoLiars, IsHonest, IsOfLiar, is_liar_at}
 use Rattle.someip_world_rules.specs.Runs.{World, history_after, world_after, world_of}
 use Rattle.someip_world_rules.specs.Turns.{LeadTo, Turn}
-use Rattle.someip_world_rules.proofs.Deliverings.{one_turn}
+use Rattle.someip_world_rules.proofs.Deliverings.{one_delivery, one_turn}
 use Rattle.someip_world_rules.proofs.Fronts.{get_set_other, get_set_there, on_the_way}
 use Rattle.someip_world_rules.proofs.LiarLemmas.{again_at, injected_at, taken_at}
 use Rattle.someip_world_rules.proofs.OriginLemmas.{turn_configured}
@@ -61,6 +61,13 @@ module _ (nodes : List SetupNode) (configs : List Config) (ss : List Step) where
       let taken = does.takes in
       let injects = injected.injects in
       let deed = one.deed in absurd cc
+
+  -- so where a liar sent what the step delivers, no node did
+  pub no_node_sent : (n sent : ℕ) (d : SentDatagram) → Delivers nodes configs ss n sent d → IsInjected nodes configs ss sent d
+      → (other : ℕ) (e : SentDatagram) → Delivers nodes configs ss n other e → Sends nodes configs ss other e → ⊥
+  no_node_sent n sent d del injected other e came sends =
+      let one = one_delivery nodes configs ss n other sent e d came del in
+      apart nodes configs ss sent e d (subst (λ k. Sends nodes configs ss k e) one.0 sends) injected
 
   pub injected_by_liar : (i : ℕ) (d : SentDatagram) (injected : IsInjected nodes configs ss i d) → is_liar_at nodes injected.turn.place ≡ true
   injected_by_liar i d injected = (injected_at nodes configs ss i injected.step injected.turn d.from d.to d.bytes injected.injects).0

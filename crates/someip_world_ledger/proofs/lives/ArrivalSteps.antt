@@ -24,7 +24,8 @@ use Rattle.someip_world_rules.specs.Turns.{Turn}
 use Rattle.someip_world_rules.specs.declared.line.Line.{Line}
 use Rattle.someip_world_exchanges.specs.CleanReuse.{Arrives}
 use Rattle.someip_world_rules.specs.Deliveries.{Delivers, GoesOut, IsInjected, Sends, dispatches_in}
-use Rattle.someip_world_rules.proofs.Deliverings.{delivered_in, one_turn}
+use Rattle.someip_world_rules.proofs.Deliverings.{delivered_in, one_delivery, one_turn}
+use Rattle.someip_world_rules.proofs.InjectionLemmas.{no_node_sent}
 use Rattle.someip_world_rules.proofs.Sendings.{sent_before}
 use Rattle.someip_world_ledger.specs.Books.{LifeKept, NoteKept, PayloadNumbers}
 use Rattle.someip_world_ledger.specs.Booking.{Publication, arrived, arrived_with, life_on, published_session}
@@ -37,7 +38,7 @@ use Rattle.someip_world_ledger.proofs.Kept.{IsNoted, KnowsArrival, PayloadsGrow}
 use Rattle.someip_world_ledger.proofs.lives.LifeSpans.{arrival_stays}
 use Rattle.someip_world_ledger.proofs.StepInputs.{IsInputOf}
 use Rattle.someip_world_ledger.proofs.reading.StreamReading.{IsSegmentOf, arrives_read, one_key, segment_sent}
-use Rattle.someip_world_ledger.proofs.lives.TakenSpans.{lives_here, no_node_sent, noted_here, one_delivery, taken_no_restart}
+use Rattle.someip_world_ledger.proofs.lives.TakenSpans.{lives_here, noted_here, taken_no_restart}
 
 -- ---- deliveries
 

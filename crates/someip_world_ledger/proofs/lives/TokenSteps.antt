@@ -25,14 +25,14 @@ use Rattle.someip_world_rules.specs.Runs.{told_lines}
 use Rattle.someip_world_rules.specs.Turns.{Turn}
 use Rattle.someip_world_exchanges.specs.Belonging.{HandsUp, WasHandedUp}
 use Rattle.someip_world_rules.specs.Deliveries.{Delivers, dispatches_in}
-use Rattle.someip_world_rules.proofs.Deliverings.{delivered_in, one_turn}
+use Rattle.someip_world_rules.proofs.Deliverings.{delivered_in, one_delivery, one_turn}
 use Rattle.someip_world_exchanges.proofs.TokenLemmas.{given_token, token_given}
 use Rattle.someip_world_ledger.specs.Books.{LifeKept, NoteKept, PayloadNumbers}
 use Rattle.someip_world_ledger.specs.Booking.{answered_in, handed_up, tokens_told}
 use Rattle.someip_world_ledger.proofs.Kept.{IsNoted}
 use Rattle.someip_world_ledger.proofs.lives.LifeSpans.{handed_before, handed_stays}
 use Rattle.someip_world_rules.proofs.Lives.{below_next}
-use Rattle.someip_world_ledger.proofs.lives.TakenSpans.{lives_here, noted_here, one_delivery, taken_no_restart}
+use Rattle.someip_world_ledger.proofs.lives.TakenSpans.{lives_here, noted_here, taken_no_restart}
 use Rattle.someip_world_ledger.proofs.lives.TokensTold.{handed_other, handed_told, is_told, output_told, told_output}
 
 -- a request is handed up only of a datagram

@@ -5,8 +5,8 @@ use Rattle.someip_world_schedule.specs.declared.step.Step.{Step}
 use Rattle.someip_world_setup.specs.declared.setup_node.SetupNode.{SetupNode}
 use Rattle.someip_world_rules.specs.Datagrams.{SentDatagram}
 use Rattle.someip_world_rules.specs.Deliveries.{Delivers, IsInjected}
+use Rattle.someip_world_rules.proofs.InjectionLemmas.{no_node_sent}
 use Rattle.someip_world_exchanges.specs.CleanReuse.{Breaks, Mixed, Old}
-use Rattle.someip_world_ledger.proofs.lives.TakenSpans.{no_node_sent}
 
 -- a step that delivers it delivers nothing that a node sent
 pub breaks_nothing : (nodes : List SetupNode) (configs : List Config) (ss : List Step) (n sent : ℕ) (d : SentDatagram) → Delivers nodes configs ss n sent d
