@@ -67,7 +67,7 @@ module _ (nodes : List SetupNode) (configs : List Config) (ss : List Step) where
       → (other : ℕ) (e : SentDatagram) → Delivers nodes configs ss n other e → Sends nodes configs ss other e → ⊥
   no_node_sent n sent d del injected other e came sends =
       let one = one_delivery nodes configs ss n other sent e d came del in
-      apart nodes configs ss sent e d (subst (λ k. Sends nodes configs ss k e) one.0 sends) injected
+      apart sent e d (subst (λ k. Sends nodes configs ss k e) one.0 sends) injected
 
   pub injected_by_liar : (i : ℕ) (d : SentDatagram) (injected : IsInjected nodes configs ss i d) → is_liar_at nodes injected.turn.place ≡ true
   injected_by_liar i d injected = (injected_at nodes configs ss i injected.step injected.turn d.from d.to d.bytes injected.injects).0
