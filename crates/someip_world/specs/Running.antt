@@ -28,6 +28,7 @@ module _ {R : Type 0} where
   abbrev pub IsStarted : SetupNode → Actor R → Type 0
   IsStarted node actor = (config : Config) × IsCopy node.config config × (actor ≡ actor_of node.is_liar (start_of config node.delay))
 
+  -- so it is at all places
   abbrev pub AreStarted : List SetupNode → List (Actor R) → Type 0
   AreStarted nodes actors = AllZip IsStarted nodes actors
 
@@ -42,6 +43,7 @@ module _ {R : Type 0} where
   Comes setup index (Ok w) (Err OutOfMemory) actors lines = Unit {0}
   Comes setup index due result actors lines = ⊥
 
+  -- the same of a step of a schedule, at any world that actors and lines are those of
   abbrev pub Happens : List SetupNode → ℕ → Step → List (Actor R) → List Line → Result (Unit {0}) RunError → List (Actor R) → List Line → Type 0
   Happens setup index step old before result new after =
       (w : World) → AreOfWorld setup old before w → Comes setup index (happens setup index w step) result new after

@@ -11,7 +11,7 @@ use someip_world_schedule::{Step, StepPayload};
 use std::alloc::{AllocError, Global};
 use std::net::{Ipv4Addr, SocketAddrV4};
 
-/// The greatest payload of a UDP datagram over IPv4 (RFC 768, RFC 791).
+/// The greatest payload of a UDP datagram over IPv4 (RFC 791, 3.1 "Total Length"; RFC 768, "Length").
 const DATAGRAM_LIMIT: usize = 65507;
 
 /// Does as a liar of an address what a step says.
@@ -20,7 +20,10 @@ pub(crate) fn lie(alloc: Global, address: Ipv4Addr, step: &Step) -> Result<Vec<O
 {
     match step {
         Step::Inject {
-            port, to, payload, ..
+            port,
+            to,
+            payload,
+            ..
         } => inject(
             alloc,
             SocketAddrV4::new(address, port.number()),

@@ -84,8 +84,8 @@ fn run_nodes<R: Reassembly>(
 }
 
 /// Runs a schedule over the nodes of a setup: each node is started with its delay, and the steps happen
-/// one after the other. Liars run no node: they send what steps say, under their own addresses. The trace tells all that the nodes gave, and whether they reused the keys of their
-/// exchanges cleanly.
+/// one after the other. Liars run no node: they send what steps say, under their own addresses. The trace
+/// tells all that nodes and liars gave, and whether the nodes reused the keys of their exchanges cleanly.
 ///
 /// It is refused as `BadStep` with the index of the first step that can't happen.
 pub fn run<R: Reassembly>(alloc: Global, setup: &Setup, steps: &[Step]) -> Result<Trace, RunError>

@@ -51,8 +51,8 @@ module _ (nodes : List SetupNode) (configs : List Config) (steps : List Step) wh
   IsMeant place i r Opener since = since ≡ i
   IsMeant place i r Answerer since = Answered place i r since
 
-  -- A datagram that a node sent in a step holds something that belongs to an exchange: to the newest of its key as of a step. For a
-  -- request or an event that is the one that this step opened, for a Subscribe or StopSubscribe the beginning that stands
+  -- A datagram that a node sent in a step holds something that belongs to an exchange: to the newest of its key as of a step.
+  -- For a request or an event that is the one that this step opened, for a Subscribe or StopSubscribe the beginning that stands
   -- then; and for what answers one of these the same
   pub record Belongs (i : ℕ) (d : SentDatagram) (key : ExchangeKey) (since : ℕ) : Type 0 where
     pub sent : Sends nodes configs steps i d

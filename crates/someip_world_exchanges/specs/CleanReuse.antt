@@ -25,7 +25,7 @@ message_key d m = segment_key d.from d.to m.header
 
 module _ (nodes : List SetupNode) (configs : List Config) (steps : List Step) where
   -- A step delivers what belongs to an exchange whose key a newer one has taken. A node sent it, and to a liar nothing is
-  -- delivered: what liars send, and what they should get, breaks nothing
+  -- delivered: so what liars send breaks nothing, nor does what is sent to them
   pub record DeliversOld (n : ℕ) : Type 0 where
     pub sent : ℕ
     pub datagram : SentDatagram

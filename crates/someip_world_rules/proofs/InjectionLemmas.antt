@@ -1,14 +1,15 @@
 -- Datagrams that liars send: they carry a liar's address, and are none of those that nodes send.
-use Rattle.std.proofs.Common.{◌≡◌, inl, inr, ◌<◌, ◌≤◌, ◌+◌, ℕ, zero, suc, List, [], ◌∷◌, Bool, false, true, eqb, length, take, slice_get, slice_set, Some, refl, sym, ap, subst, ◌∙◌}
+use Rattle.std.proofs.Common.{◌≡◌, inl, inr, ◌<◌, ◌≤◌, ◌+◌, ℕ, zero, suc, List, [], ◌∷◌, Bool, false, true, eqb, length, take, slice_get, slice_set, Some, Ok, refl, sym, ap, subst, ◌∙◌}
 use Rattle.std.proofs.lemmas.Bool.{eqb-true, eqb-false}
 use Rattle.std.specs.Net.Socket.{v4_ip}
 use Rattle.std.specs.declared.net.ipv4_addr.Ipv4Addr.{Ipv4Addr}
 use Rattle.someip_node_rules.specs.History.{History}
 use Rattle.someip_node_rules.specs.declared.config.Config.{Config}
 use Rattle.someip_world_schedule.specs.declared.step.Step.{Step}
+use Rattle.someip_world_schedule.specs.declared.step.Step.TheVariants.{Deliver}
 use Rattle.someip_world_setup.specs.declared.setup_node.SetupNode.{SetupNode}
 use Rattle.someip_world_rules.specs.Datagrams.{SentDatagram}
-use Rattle.someip_world_rules.specs.Deeds.{Deed, Takes, Restarts, Injects, done_with}
+use Rattle.someip_world_rules.specs.Deeds.{Deed, Takes, Restarts, Injects, deed_at, done_with}
 use Rattle.someip_world_rules.specs.Deliveries.{Delivers, Does, GoesOut, IsInjected, Restarted, Sends}
 use Rattle.someip_world_rules.specs.Liars.{HasNoLiars, IsHonest, IsOfLiar, is_liar_at}
 use Rattle.someip_world_rules.specs.Runs.{World, history_after, world_after, world_of}
@@ -72,7 +73,26 @@ module _ (nodes : List SetupNode) (configs : List Config) (ss : List Step) where
   pub injected_by_liar : (i : ℕ) (d : SentDatagram) (injected : IsInjected nodes configs ss i d) → is_liar_at nodes injected.turn.place ≡ true
   injected_by_liar i d injected = (injected_at nodes configs ss i injected.step injected.turn d.from d.to d.bytes injected.injects).0
 
+  -- the address is that of the liar that sends
+  pub own_address : (i : ℕ) (d : SentDatagram) (injected : IsInjected nodes configs ss i d) (config : Config) → slice_get configs injected.turn.place ≡ Some config
+      → v4_ip d.from ≡ config.address
+  own_address i d injected config here =
+      let t = injected.turn in
+      let sent = (injected_at nodes configs ss i injected.step t d.from d.to d.bytes injected.injects).1 in
+      let is = sent.is in
+      let from : d.from ≡ record { ip = t.history.config.address; port = sent.port } = cc in
+      let there : slice_get configs t.place ≡ Some t.history.config = turn_configured nodes configs ss i injected.step t in
+      let same : t.history.config ≡ config = cc in
+      ap v4_ip from ∙ ap (λ c. c.address) same
+
   -- ---- a liar runs no node
+
+  pub delivered_to_node : (n sent : ℕ) (d : SentDatagram) (delivers : Delivers nodes configs ss n sent d) → is_liar_at nodes delivers.turn.place ≡ false
+  delivered_to_node n sent d delivers = cases (is_liar_at nodes delivers.turn.place) delivers.turn.due
+    where
+      cases : (liar : Bool) → deed_at liar delivers.turn.history delivers.turn.before.lines (Deliver delivers.number delivers.node) ≡ Ok delivers.turn.deed → liar ≡ false
+      cases true due = absurd cc
+      cases false due = refl
 
   pub taken_by_node : (i : ℕ) (does : Does nodes configs ss i) → is_liar_at nodes does.turn.place ≡ false
   taken_by_node i does = (taken_at nodes configs ss i does.step does.turn does.input does.takes).0

@@ -1,7 +1,6 @@
 -- What is done at the place of a node, and at that of a liar.
-use Rattle.std.proofs.Common.{◌≡◌, ℕ, Bool, true, false, if◌then◌else◌, List, length, Ok, Err, refl, sym, ap, ◌∙◌}
+use Rattle.std.proofs.Common.{◌≡◌, ℕ, Bool, true, false, if◌then◌else◌, List, length, Ok, Err, refl, ap, ◌∙◌}
 use Rattle.std.specs.Prelude.{nat_lt}
-use Rattle.std.specs.Net.Socket.{v4_ip}
 use Rattle.std.specs.declared.net.ipv4_addr.Ipv4Addr.{Ipv4Addr}
 use Rattle.std.specs.declared.net.socket_addr.SocketAddrV4.{SocketAddrV4}
 use Rattle.someip_node_rules.specs.GoodConfigs.{is_good_delay}
@@ -13,7 +12,7 @@ use Rattle.someip_world_schedule.specs.declared.step.Step.{Step}
 use Rattle.someip_world_schedule.specs.declared.step.Step.TheVariants as steps
 use Rattle.someip_world_setup.specs.declared.setup_node.SetupNode.{SetupNode}
 use Rattle.someip_world_rules.specs.Datagrams.{SentDatagram, datagram_at}
-use Rattle.someip_world_rules.specs.Deeds.{Deed, Takes, Restarts, Injects, datagram_limit, deed_at, deed_of, delivery, injection, is_addressed, liar_deed}
+use Rattle.someip_world_rules.specs.Deeds.{Deed, Takes, Restarts, Injects, datagram_limit, deed_at, deed_of, delivery, is_addressed, liar_deed}
 use Rattle.someip_world_rules.specs.Liars.{is_liar_at}
 use Rattle.someip_world_rules.specs.Turns.{Turn}
 use Rattle.someip_world_rules.specs.declared.line.Line.{Line}

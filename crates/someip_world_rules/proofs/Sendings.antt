@@ -24,7 +24,7 @@ use Rattle.someip_world_rules.specs.Runs.{World, told_lines, world_after}
 use Rattle.someip_world_rules.specs.Turns.{LeadTo, Turn}
 use Rattle.someip_world_rules.specs.declared.line.Line.{Line}
 use Rattle.someip_world_rules.specs.Origins.{WasSent}
-use Rattle.someip_world_rules.specs.Deliveries.{Dispatch, GoesOut, Sends, Delivers, dispatch_in, dispatch_at, dispatches_in}
+use Rattle.someip_world_rules.specs.Deliveries.{Dispatch, GoesOut, Delivers, dispatch_in, dispatch_at, dispatches_in}
 use Rattle.someip_world_rules.proofs.Fronts.{all_got, on_the_way, within}
 
 -- the output that sends a datagram

@@ -1,5 +1,5 @@
 -- The trace of the worked run, step by step.
-use Rattle.std.proofs.Common.{◌≡◌, ℕ, false, ◌+◌, ◌++◌, List, [], ◌∷◌, drop, take, Some, Ok, Err, refl, ap, ◌∙◌}
+use Rattle.std.proofs.Common.{◌≡◌, ℕ, ◌+◌, ◌++◌, List, [], ◌∷◌, drop, take, Some, Ok, Err, refl, ap, ◌∙◌}
 use Rattle.someip_rpc.specs.declared.call.CallKind.TheVariants as kinds
 use Rattle.someip_rpc.specs.declared.request.Reply.TheVariants.{Response}
 use Rattle.someip_node_rules.specs.declared.config.Config.{Config}

@@ -68,7 +68,8 @@ deed_of h lines (Inject node port to payload) = Err NotLiar
 
 -- ---- liars
 
--- the greatest payload of a UDP datagram over IPv4, in bytes
+-- the greatest payload of a UDP datagram over IPv4, in bytes: 65535 without headers of 20 and 8 bytes (RFC 791, 3.1 "Total
+-- Length"; RFC 768, "Length")
 abbrev pub datagram_limit : ℕ
 datagram_limit = 65507
 

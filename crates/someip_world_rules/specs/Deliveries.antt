@@ -46,7 +46,7 @@ module _ (nodes : List SetupNode) (configs : List Config) (steps : List Step) wh
     pub done : Work History
     pub happened : node.step turn.history input ≡ Ok done
 
-  -- a step sends a datagram: it is one of those of a message that a rule gives there
+  -- in a step a node sends a datagram: it is one of those of a message that a rule gives there
   pub record Sends (i : ℕ) (d : SentDatagram) : Type 0 where
     pub does : Does i
     pub given : Given

@@ -20,9 +20,10 @@ use Rattle.someip_world_schedule.specs.declared.step.Step.{Step}
 use Rattle.someip_world_setup.specs.declared.setup_node.SetupNode.{SetupNode}
 use Rattle.someip_world_rules.specs.Deliveries.{Delivers, Does, GoesOut, LivesOn}
 
--- An instance was offered, from an address at an endpoint, to the node at a place in one of the first steps, in the life that it has after
--- these, in which its history is this: the step delivered a datagram with an Offer of the instance, in the major version in
--- which the node wants it, whose first endpoint over UDP is that. An earlier step sent the datagram, from that address
+-- A known offer of an instance was made to the node at a place in one of the first steps, in the life that it has after these,
+-- in which its history is this: the step delivered a datagram with an Offer of the instance, in the major version in which the
+-- node wants it, whose first endpoint over UDP is that of the offer. An earlier step sent the datagram, from the address of the
+-- offer's peer
 pub record WasOffered (nodes : List SetupNode) (configs : List Config) (steps : List Step) (n : ℕ) (place : ℕ) (h : History) (instance : InstanceId) (known : KnownOffer) : Type 0 where
   pub i : ℕ
   pub before : i < n

@@ -1,5 +1,5 @@
 -- Which addresses are those of liars. Datagrams, peers and the keys of exchanges have addresses, and no two nodes share one.
-use Rattle.std.specs.Prelude.{◌≡◌, ℕ, Bool, true, false, List, slice_get, Option, Some}
+use Rattle.std.specs.Prelude.{◌≡◌, ℕ, Bool, true, false, List, slice_get, Some}
 use Rattle.std.specs.List.{AllByRecursion}
 use Rattle.std.specs.Option.{option_map_or}
 use Rattle.std.specs.Net.Socket.{v4_ip}
@@ -8,7 +8,7 @@ use Rattle.someip_node_rules.specs.Inputs.{Input, Datagram}
 use Rattle.someip_node_rules.specs.declared.config.Config.{Config}
 use Rattle.someip_world_setup.specs.declared.setup_node.SetupNode.{SetupNode}
 
--- the node at a place is a liar
+-- at a place of the setup stands a liar
 abbrev pub is_liar_at : List SetupNode → ℕ → Bool
 is_liar_at nodes place = option_map_or (λ n. n.is_liar) (slice_get nodes place) false
 

@@ -1,4 +1,5 @@
--- Where the datagrams of a run and what its nodes met come from: each from a rule that was done in a step of the run.
+-- Where the datagrams of a run and what its nodes met come from: each from a rule that was done in a step of the run, or, of
+-- datagrams, from a liar.
 use Rattle.std.specs.Prelude.{◌≡◌, ◌<◌, ℕ, ◌+◌, List, slice_get, Some}
 use Rattle.std.specs.List.{AllByRecursion}
 use Rattle.someip_node_rules.specs.History.{History}
@@ -10,8 +11,8 @@ use Rattle.someip_world_setup.specs.declared.setup_node.SetupNode.{SetupNode}
 use Rattle.someip_world_rules.specs.Deliveries.{Dispatch, Does, GoesOut, LivesOn}
 
 module _ (nodes : List SetupNode) (configs : List Config) (steps : List Step) where
-  -- a datagram was sent in one of the first steps: by the one whose line tells of it, in which a node took an input, and it is
-  -- one of those of a message that a rule gave there; or a liar sent it there
+  -- a datagram was sent in one of the first steps, the one whose line tells of it: a rule gave the message there whose datagram
+  -- it is, or a liar sent it
   pub record WasSent (n : ℕ) (d : Dispatch) : Type 0 where
     pub i : ℕ
     pub before : i < n

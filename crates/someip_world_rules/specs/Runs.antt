@@ -27,12 +27,12 @@ pub record World : Type 0 where
   pub histories : List History
   pub lines : List Line
 
--- every node was started with its configuration and its delay
+-- the history of each node's start, by its configuration and delay; at a liar's place too, which nothing asks
 abbrev pub started_nodes : List SetupNode → List Config → List History
 started_nodes (node ∷ nodes) (config ∷ configs) = start_of config node.delay ∷ started_nodes nodes configs
 started_nodes nodes configs = []
 
--- the world before the first step: every node was started, and nothing was told
+-- the world before the first step: these histories, and nothing was told
 abbrev pub world_of : List SetupNode → List Config → World
 world_of nodes configs = record { histories = started_nodes nodes configs; lines = [] }
 
@@ -42,7 +42,7 @@ place_of nodes name = position_from (λ n. bytes_eq (string_bytes n.name) name) 
 
 -- ---- a step
 
--- the lines of what a node gives in a step
+-- the lines of what a node or a liar gives in a step
 abbrev pub told_lines : ℕ → ℕ → Result (List Output) NodeError → List Line
 told_lines index place (Ok outputs) = map (λ output. record { step = index; node = place; told = Gave output }) outputs
 told_lines index place (Err refusal) = record { step = index; node = place; told = Refused refusal } ∷ []
@@ -52,7 +52,7 @@ abbrev pub history_after : History → Result (Work History) NodeError → Histo
 history_after h (Ok done) = done.state
 history_after h (Err refusal) = h
 
--- the world after a node did something
+-- the world after a node or a liar did something
 abbrev pub world_after : ℕ → ℕ → World → History → Result (Work History) NodeError → World
 world_after index place w h done = record {
   histories = slice_set w.histories place (history_after h done);

@@ -8,10 +8,10 @@ pub enum StepFault {
     /// The setup has no node of the name.
     #[error("UnknownNode")]
     UnknownNode,
-    /// A node that is no liar is to send any bytes.
+    /// The step is an `inject`, and names a node that is no liar.
     #[error("NotLiar")]
     NotLiar,
-    /// A liar is to do anything else.
+    /// The step names a liar, and is no `inject`.
     #[error("IsLiar")]
     IsLiar,
     /// No datagram of the number was sent yet.
@@ -24,7 +24,7 @@ pub enum StepFault {
     #[error("ClockPast")]
     ClockPast,
     /// The payload is longer than the setup's message limit, or what a liar sends is longer than 65507
-    /// bytes (RFC 768 and RFC 791: 65535 bytes of a packet, without its two headers).
+    /// bytes (RFC 791, 3.1 "Total Length"; RFC 768, "Length": 65535 without headers of 20 and 8 bytes).
     #[error("PayloadTooLong")]
     PayloadTooLong,
     /// The delay is outside the setup's range.

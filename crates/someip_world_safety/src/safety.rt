@@ -55,7 +55,8 @@ pub fn runs_are_safe(setup: &Setup, steps: &[Step])
     setup.nodes();
 }
 
-/// In a setup without liars that is so of every answer, every event, every subscription and every offer.
+/// In a setup without liars what [`runs_are_safe`] says holds of every answer, every event, every subscription and
+/// every offer.
 pub fn runs_without_liars_are_safe(setup: &Setup, steps: &[Step])
     ensures answers { HasNoLiars setup.now.nodes → (configs : List Config) (n : ℕ)
         → AreCopies setup.now.nodes configs → IsCleanBefore setup.now.nodes configs steps.now (suc n)

@@ -1,5 +1,5 @@
 -- The bytes of payloads.
-use Rattle.std.proofs.Common.{ℕ, zero, suc, ◌<◌, List, [], ◌∷◌, ◌++◌, get_or, replicate, arith}
+use Rattle.std.proofs.Common.{ℕ, zero, suc, ◌<◌, List, [], ◌∷◌, ◌++◌, replicate}
 use Rattle.someip_wire.specs.Spelling.{IsBytes}
 
 -- bytes, and then one byte so many times

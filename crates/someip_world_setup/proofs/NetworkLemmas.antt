@@ -128,9 +128,10 @@ bare_node common m n is bare lies =
     let lying : n.liar ≡ true = sym (ap (λ (x : NodeMade). x.is_liar) is) ∙ lies in
     let parts = or_parts (has_liar_offers n) (has_liar_wants n) bare in
     let offers : n.offers ≡ [] = no_elements n.offers (sym (ap (λ b. b && not (length n.offers == 0)) lying) ∙ parts.0) in
-    let wants : n.wants ≡ [] = no_elements n.wants (sym (ap (λ b. b && not (length n.wants == 0)) lying) ∙ parts.1) in
-    (nothing_mapped (λ (e : InstanceId × OfferedService). (e.0, offered_view e.1)) m.config.offers.entries (ap (λ (x : NodeMade). x.config.offers) is ∙ ap (offers_made n.address) offers),
-    nothing_mapped (λ (e : InstanceId × WantedService). (e.0, wanted_view e.1)) m.config.wants.entries (ap (λ (x : NodeMade). x.config.wants) is ∙ ap wants_made wants))
+    let wants : n.wants ≡ [] = no_elements n.wants (sym (ap (λ b. b && not (length n.wants == 0)) lying) ∙ parts.1) in (
+      nothing_mapped (λ (e : InstanceId × OfferedService). (e.0, offered_view e.1)) m.config.offers.entries (ap (λ (x : NodeMade). x.config.offers) is ∙ ap (offers_made n.address) offers),
+      nothing_mapped (λ (e : InstanceId × WantedService). (e.0, wanted_view e.1)) m.config.wants.entries (ap (λ (x : NodeMade). x.config.wants) is ∙ ap wants_made wants),
+    )
 
 -- ---- nodes
 

@@ -90,13 +90,15 @@ has_equal_ids_of node = list_any has_equal_ids_offered node.offers || list_any h
 
 -- ---- liars
 
--- a liar offers an instance, or wants one
+-- a liar offers an instance
 abbrev pub has_liar_offers : NodeValue → Bool
 has_liar_offers node = node.liar && not (length node.offers == 0)
 
+-- a liar wants an instance
 abbrev pub has_liar_wants : NodeValue → Bool
 has_liar_wants node = node.liar && not (length node.wants == 0)
 
+-- it does one of both
 abbrev pub has_liar_tables : NodeValue → Bool
 has_liar_tables node = has_liar_offers node || has_liar_wants node
 

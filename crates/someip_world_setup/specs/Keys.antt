@@ -52,7 +52,7 @@ number_within key low high d = integer_at key d >>= within low high
 abbrev pub number_or : List ℕ → ℤ → ℕ → ℕ → Data → Option ℕ
 number_or key default low high d = integer_or key default d >>= within low high
 
--- the flag that was found at a key, or its default where nothing was
+-- the flag that was found at a key, or its default where nothing was found
 abbrev pub flag_of : Bool → Option Data → Option Bool
 flag_of default None = Some default
 flag_of default (Some d) = as_bool d

@@ -214,7 +214,8 @@ fn liar_table(nodes: &[NodeParts]) -> Option<&'static str>
     None
 }
 
-/// Refuses values that may not be the same, and then tables that a liar may not have, each kind over the whole setup before the next.
+/// Refuses values that may not be the same, and then tables that a liar may not have, each kind over the whole
+/// setup before the next.
 pub(crate) fn refuse_clashes(alloc: Global, parts: &SetupParts) -> Result<(), SetupError>
     ensures { RefusesClash (clash.has_clash (parts_view parts.now)) result }
 {

@@ -219,7 +219,7 @@ fn push_lanes(text: &mut String, picture: &Picture<'_>) -> Result<(), AllocError
     Ok(())
 }
 
-/// Appends the lane of a node, with its name and address. That of a liar is dashed.
+/// Appends the lane of a node, with its name and address. That of a liar is dashed, and says so.
 fn push_lane(
     text: &mut String,
     x: usize,

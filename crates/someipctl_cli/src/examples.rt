@@ -75,7 +75,7 @@ SCHEDULE has one step a line: what happens to a node. Lines that begin with # ar
   subscribe NODE SI GROUP      unsubscribe NODE SI GROUP
   stop_offer NODE SI           restart NODE DELAY
   inject NODE PORT EP PAYLOAD, where SETUP has `liar = true` for NODE: it runs no node, and sends
-  any bytes from a port of its own address
+  the bytes PAYLOAD from PORT of its own address to EP
 So the step
   tick a 10
 prints the Offer of node a as datagram 1, which a later `deliver 1 NODE` delivers. The last line is

@@ -1,4 +1,4 @@
-use Rattle.std.proofs.Common.{refl, ap, if◌then◌else◌, Ok, Err}
+use Rattle.std.proofs.Common.{ap, if◌then◌else◌, Ok, Err}
 use Rattle.someip_world_rules.specs.Deeds.{Injects}
 use Rattle.someip_world_rules.specs.declared.step_fault.StepFault.TheVariants.{PayloadTooLong}
 use Rattle.someip_world_rules.proofs.liar_laws.what_liars_do.Goals as goal

@@ -1,8 +1,7 @@
 use Rattle.someip_rpc.specs.declared.request.Reply.{Reply}
 use Rattle.someip_world_schedule.specs.declared.step.Step.TheVariants.{Answer}
-use Rattle.std.proofs.Common.{Some, sym, ap, ◌∙◌, map, arith, rules}
+use Rattle.std.proofs.Common.{Some, sym, ap, ◌∙◌, arith, rules}
 use Rattle.std.proofs.lemmas.Result.{err_from_is_err_and}
-use Rattle.someip_world_schedule.specs.StepWords.{name_in, payload_in}
 use Rattle.someip_world_schedule.specs.Steps.{answer_step, answered}
 use Rattle.someip_world_schedule.proofs.ReadLemmas.{refused, refused_too, none_then, same_then}
 use Rattle.someip_world_schedule.proofs.StepLemmas.{texts, four, no_answer}

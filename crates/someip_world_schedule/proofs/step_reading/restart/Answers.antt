@@ -1,6 +1,5 @@
-use Rattle.std.proofs.Common.{sym, ap, ◌∙◌, map, arith}
+use Rattle.std.proofs.Common.{sym, ap, ◌∙◌, arith}
 use Rattle.std.proofs.lemmas.Result.{err_from_is_err_and}
-use Rattle.someip_world_schedule.specs.StepWords.{name_in}
 use Rattle.someip_world_schedule.specs.Steps.{restart_step}
 use Rattle.someip_world_schedule.proofs.ReadLemmas.{refused, refused_too, none_then, same_then}
 use Rattle.someip_world_schedule.proofs.StepLemmas.{texts, two}

@@ -1,4 +1,4 @@
-use Rattle.std.proofs.Common.{codes, pos, ◌∙◌}
+use Rattle.std.proofs.Common.{codes, ◌∙◌}
 use Rattle.std.proofs.lemmas.Result.{err_from_is_err_and}
 use Rattle.toml.specs.View.{view}
 use Rattle.someip_world_setup.specs.Says.{said_eventgroup, id_at, group_events}
