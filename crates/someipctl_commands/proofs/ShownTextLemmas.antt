@@ -60,3 +60,11 @@ or_assoc false b c = refl
 
 pub any_more : {X : Type 0} (p : X → Bool) (so_far : Bool) (old new : List X) (x : X) (all : Bool) → old ≡ x ∷ new → (so_far || list_any p old) ≡ all → ((so_far || p x) || list_any p new) ≡ all
 any_more p so_far old new x all is h = or_assoc so_far (p x) (list_any p new) ∙ ap (λ l. so_far || list_any p l) (sym is) ∙ h
+
+-- the same of all, where none is left
+or_false : (b : Bool) → (b || false) ≡ b
+or_false true = refl
+or_false false = refl
+
+pub any_end : {X : Type 0} (p : X → Bool) (so_far : Bool) (left : List X) (all : Bool) → left ≡ [] → (so_far || list_any p left) ≡ all → so_far ≡ all
+any_end p so_far left all none h = sym (or_false so_far) ∙ ap (λ l. so_far || list_any p l) (sym none) ∙ h

@@ -1,13 +1,14 @@
-use Rattle.std.proofs.Common.{◌≡◌, ◌∷◌, ◌+◌, Ok, Result, ap, subst, length, arith}
+use Rattle.std.proofs.Common.{◌≡◌, ◌∷◌, ◌+◌, ◌∙◌, Ok, Result, ap, subst, length, arith}
 use Rattle.std.specs.Prelude.{IfOk}
 use Rattle.recording.specs.declared.Record.{Record}
 use Rattle.recording.specs.declared.RecordingError.{RecordingError}
 use Rattle.recording.specs.View.{view_record}
 use Rattle.someipctl_commands.specs.ShownText.{has_fault}
-use Rattle.someipctl_commands.specs.RecordedText.{recorded_from}
+use Rattle.someipctl_commands.specs.RecordedText.{asked_of, recorded_from}
 use Rattle.someipctl_commands.specs.RecordingResult.{view_ports}
-use Rattle.someipctl_print.proofs.SendingLemmas.{OnErr-any, IsSending-last_stop, IsSending-more, IsSending-stop}
-use Rattle.someipctl_commands.proofs.ShownTextLemmas.{any_more}
+use Rattle.someipctl_inputs.specs.Outcomes.{fault_outcome}
+use Rattle.someipctl_print.proofs.SendingLemmas.{OnErr-any, IsSending-end, IsSending-last_stop, IsSending-more, IsSending-stop}
+use Rattle.someipctl_commands.proofs.ShownTextLemmas.{any_end, any_more}
 use Rattle.someipctl_commands.proofs.RecordedLemmas.{Stops-none, begins, next_asked}
 use Rattle.someipctl_commands.proofs.recordings.put_records.Goals as goal
 
@@ -44,3 +45,13 @@ loop-item-preserved g c =
       omega (arith, less, room),
       c.in_ok-fault_shown.ensures.empty,
     )
+
+pub returns-clause-ok : goal.returns-clause-ok
+returns-clause-ok g c =
+    let none = ap (asked_of (view_ports c.args.ports)) c.in_default-next.ensures.none in
+    IsSending-end _ _ _ _ _ _ c.loop-item.invariant.0 (ap (recorded_from c.args.endpoints (c.loop-item.k + 1)) none)
+
+pub returns-clause-outcome : goal.returns-clause-outcome
+returns-clause-outcome g c =
+    let none = ap (asked_of (view_ports c.args.ports)) c.in_default-next.ensures.none in
+    c.of.ensures ∙ ap fault_outcome (any_end (λ d. has_fault d.payload) _ _ _ none c.loop-item.invariant.1)

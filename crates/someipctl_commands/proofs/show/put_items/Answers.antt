@@ -5,8 +5,8 @@ use Rattle.someipctl_commands.proofs.ReadingsLemmas.{left_behind, more}
 use Rattle.someip_wire.specs.Reading.{items_of}
 use Rattle.someip_wire.specs.View.{view_item}
 use Rattle.someipctl_print.specs.Items.{lines_from, is_faulty}
-use Rattle.someipctl_print.proofs.SendingLemmas.{OnErr-any, IsSending-start, IsSending-more, IsSending-stop}
-use Rattle.someipctl_commands.proofs.ShownTextLemmas.{any_more, items_len, items_within_datagram}
+use Rattle.someipctl_print.proofs.SendingLemmas.{OnErr-any, IsSending-start, IsSending-end, IsSending-more, IsSending-stop}
+use Rattle.someipctl_commands.proofs.ShownTextLemmas.{any_end, any_more, items_len, items_within_datagram}
 use Rattle.someipctl_commands.proofs.show.put_items.Goals as goal
 
 pub loop-item-init : goal.loop-item-init
@@ -15,7 +15,7 @@ loop-item-init g c =
     let within = items_within_datagram c.args.datagram.now c.new-item-items.result (search rules) in
     let all : c.into_iter-item-iterator.result ≡ items_of c.args.datagram.now = search rules in
     let begins : map view_reading c.args.left.now.now ≡ readings_in c.into_iter-item-iterator.result ++ c.requires.0 = c.requires.1 ∙ ap (λ i. readings_in i ++ c.requires.0) (sym all) in
-    (IsSending-start _ _ _, refl, omega (arith, within, ap items_len same), (c.requires.0, begins, begins))
+    (IsSending-start _ _ (lines_from c.args.k 0 c.into_iter-item-iterator.result), refl, omega (arith, within, ap items_len same), (c.requires.0, begins, begins))
 
 pub returns-in_err-faulty-clause-err : goal.returns-in_err-faulty-clause-err
 returns-in_err-faulty-clause-err g c =
@@ -45,3 +45,13 @@ returns-clause-left g c =
     let others = c.loop-item.invariant.3.0 in
     let rest : map view_reading c.loop-item.left.now ≡ others = c.loop-item.invariant.3.1 ∙ ap (λ i. readings_in i ++ others) c.in-None.ensures.steps.0 in
     (c.loop-item.invariant.3.2 ∙ ap (λ i. readings_in i ++ others) all) ∙ ap (λ r. readings_in (items_of c.args.datagram.now) ++ r) (sym rest)
+
+pub returns-clause-ok : goal.returns-clause-ok
+returns-clause-ok g c =
+    let all : c.into_iter-item-iterator.result ≡ items_of c.args.datagram.now = search rules in
+    rw (← all) (IsSending-end _ _ _ _ _ _ c.loop-item.invariant.0 (ap (lines_from c.args.k c.loop-item.place) c.in-None.ensures.steps.0))
+
+pub returns-clause-faulty : goal.returns-clause-faulty
+returns-clause-faulty g c =
+    let all : c.into_iter-item-iterator.result ≡ items_of c.args.datagram.now = search rules in
+    rw (← all) (any_end is_faulty _ _ _ c.in-None.ensures.steps.0 c.loop-item.invariant.1)
