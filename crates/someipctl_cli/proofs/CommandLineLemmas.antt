@@ -1,16 +1,19 @@
 -- What clap's matches say of the command line.
-use Rattle.std.proofs.Common.{◌≡◌, ◌∙◌, ◌||◌, ◌==◌, Bool, cond, true, false, true≢false, refl, sym, ap, ap₂, subst, List, [], ◌∷◌, Option, Some, None, IsSome, is_some, codes, find, option_map, drop, Box}
+use Rattle.std.proofs.Common.{◌≡◌, ◌∙◌, ◌||◌, ◌==◌, Bool, cond, true, false, true≢false, refl, sym, ap, ap₂, subst, List, [], ◌∷◌, Option, Some, None, IsSome, is_some, codes, find, option_map, drop, Box, Result}
 use Rattle.std.specs.List.{list_all}
 use Rattle.std.specs.Option.{option_map_or}
+use Rattle.std.specs.Prelude.{IfOk}
 use Rattle.std.specs.Str.{bytes_eq}
 use Rattle.std.proofs.lemmas.Slice.Eq.{bytes_eq-Decides}
+use Rattle.std.proofs.lemmas.Result.{IfOk-weaker}
 use Rattle.std.specs.Box.{box_value}
 use Rattle.std.specs.declared.alloc.Global.{Global}
-use Rattle.clap.specs.Words.{App, HasMatchesOf, Row, Shape, Text, built, fault_of, first_of, first_value, found_of, is_simple, is_simple_and_free, rows_of, subcommand_name_of, subcommand_rows, subcommand_rows_of}
+use Rattle.clap.specs.Words.{App, HasMatchesOf, Row, Shape, Text, app_of, built, fault_of, first_of, first_value, found_of, is_simple, is_simple_and_free, rows_of, shape_of, subcommand_name_of, subcommand_rows, subcommand_rows_of}
 use Rattle.clap.specs.Walk.{answers_to, nothing_held}
 use Rattle.clap.specs.Simple.{entered, label_of, rows_at}
 use Rattle.clap.specs.Faults.{entered_fault, level_fault}
 use Rattle.clap.specs.declared.ArgMatches.{ArgMatches}
+use Rattle.clap.specs.declared.Command.{Command}
 use Rattle.clap.specs.declared.parser.matches.ArgMatches.TheViews.{out-ArgMatches, out-SubCommand}
 use Rattle.clap.specs.declared.parser.matches.Found.{Found}
 use Rattle.clap.specs.declared.parser.matches.SubCommand.{SubCommand}
@@ -18,6 +21,10 @@ use Rattle.clap.proofs.WalkLemmas.{first_value-rows}
 use Rattle.clap.proofs.OnLiterals.{clap_on_literals}
 use Rattle.someipctl_cli.specs.CommandLine.{IsTaken, cli, is_flag, asked_by_subcommand, asked_by_entered, requested, asked_by_show, show_request, asked_by_payload, asked_by_run, asked_by_vectors, asked_by_recording, asked_by_chart}
 use Rattle.someipctl_cli.proofs.ClapWalkLemmas.{EntersNoHelp, enters_subcommand, has_value, is_wanted, wanted_value}
+
+-- a command alone, as it is among others
+pub shape_from_app : {E : Type 0} (r : Result Command E) (app : App) → IfOk r (λ c. app_of c ≡ app) → IfOk r (λ c. shape_of c ≡ app.top)
+shape_from_app r app h = IfOk-weaker r (λ c. app_of c ≡ app) (λ c. shape_of c ≡ app.top) (λ c is. ap (λ (a : App). a.top) is) h
 
 pub cli_is_free : is_simple_and_free cli ≡ true
 unfolding clap_on_literals

@@ -1,7 +1,8 @@
 //! What the arguments ask for: a command, help, or nothing that there is.
 ghost use Rattle.std.specs.Prelude.{◌≡◌, ◌∷◌, IfErr, IfOk, IsSome, List, OnOk, Some, [], codes};
 ghost use Rattle.std.specs.Prelude.{false, map, option_map, ℕ};
-ghost use Rattle.clap.specs.Words.{app_of, first_value, found_of, rule_of, shape_of, subcommand_rows_of};
+ghost use Rattle.clap.specs.Words.{App, Shape, app_of, first_value, found_of, rule_of, shape_of, subcommand_rows_of};
+ghost use Rattle.clap.specs.Words.{Rule, with_rule, with_subcommand};
 ghost use Rattle.clap.specs.declared.builder.Command.TheViews.{out-Command};
 ghost use Rattle.someipctl_cli.specs.declared.command.LineError.TheVariants.{OutOfMemory};
 ghost use Rattle.someipctl_cli.specs.CommandLine.{CallsForHelp, HaveFault, IsLineErrorOf, IsTaken, RefusesWords};
@@ -10,8 +11,7 @@ ghost use Rattle.someipctl_cli.specs.CommandLine.{asked_by_payload, asked_by_rec
 ghost use Rattle.someipctl_cli.specs.CommandLine.{asked_by_show, asked_by_vectors, chart_usage, cli, is_flag};
 ghost use Rattle.someipctl_cli.specs.CommandLine.{is_on, line, payload_usage, program, recording_usage};
 ghost use Rattle.someipctl_cli.specs.CommandLine.{requested, required, run_usage, show_usage, vectors_usage};
-ghost use Rattle.someipctl_cli.specs.CommandLine.{flag as flag_rule, recording_options, with_byte_commands};
-ghost use Rattle.someipctl_cli.specs.CommandLine.{valued, with_file_commands, with_inputs};
+ghost use Rattle.someipctl_cli.specs.CommandLine.{flag as flag_rule, valued, with_inputs};
 
 use crate::examples::{
     CHART_EXAMPLE, PAYLOAD_EXAMPLE, PROGRAM_EXAMPLE, RECORDING_EXAMPLE, RUN_EXAMPLE, SHOW_EXAMPLE,
@@ -24,7 +24,7 @@ use std::convert::AsStr;
 use thiserror::Error;
 
 /// What the words ask for.
-#[derive(Clone, Copy, Debug, PartialEq, Eq)]
+#[derive(Clone, Copy)]
 pub enum Command<'w> {
     /// Print the messages of a capture.
     Show {
@@ -136,27 +136,25 @@ impl From<AllocError> for LineError {
 fn definition<'d>(alloc: Global) -> Result<clap::Command<'d>, AllocError>
     ensures { IfOk result (λ command. app_of command ≡ cli) }
 {
-    files_definition(alloc)?
-        .subcommand(recording_definition(alloc)?)?
-        .subcommand(chart_definition(alloc)?)
+    let show = adding(program_definition(alloc), show_definition(alloc));
+    let payload = adding(show, payload_definition(alloc));
+    let vectors = adding(payload, vectors_definition(alloc));
+    let run = adding(vectors, run_definition(alloc));
+    let recording = adding(run, recording_definition(alloc));
+    adding(recording, chart_definition(alloc))
 }
 
-/// The program with the commands that read bytes, vectors and schedules.
-fn files_definition<'d>(alloc: Global) -> Result<clap::Command<'d>, AllocError>
-    ensures { IfOk result (λ command. app_of command ≡ with_file_commands) }
+/// A command with a further one below it, where both are there.
+fn adding<'d>(
+    command: Result<clap::Command<'d>, AllocError>,
+    further: Result<clap::Command<'d>, AllocError>,
+) -> Result<clap::Command<'d>, AllocError>
+    requires { IfOk further (λ f. (out-Command f).has_globals ≡ false) }
+    ensures { (app : App) (shape : Shape) → IfOk command.entry (λ c. app_of c ≡ app)
+        → IfOk further.entry (λ f. shape_of f ≡ shape)
+        → IfOk result (λ r. app_of r ≡ with_subcommand app shape) }
 {
-    reading_definition(alloc)?
-        .subcommand(vectors_definition(alloc)?)?
-        .subcommand(run_definition(alloc)?)
-}
-
-/// The program with the commands that read bytes.
-fn reading_definition<'d>(alloc: Global) -> Result<clap::Command<'d>, AllocError>
-    ensures { IfOk result (λ command. app_of command ≡ with_byte_commands) }
-{
-    program_definition(alloc)?
-        .subcommand(show_definition(alloc)?)?
-        .subcommand(payload_definition(alloc)?)
+    command?.subcommand(further?)
 }
 
 /// The program without its commands.
@@ -175,14 +173,11 @@ fn show_definition<'d>(alloc: Global) -> Result<clap::Command<'d>, AllocError>
     ensures shape { IfOk result (λ command. shape_of command ≡ show_usage) }
     ensures local { IfOk result (λ command. (out-Command command).has_globals ≡ false) }
 {
-    let capture = Arg::new(alloc, "capture")
-        .value_name("CAPTURE")
-        .help("The path of a capture")
-        .required(true);
-    clap::Command::new(alloc, "show")
+    let command = clap::Command::new(alloc, "show")
         .about("Prints the messages of a capture, one a line")
-        .after_help(SHOW_EXAMPLE)
-        .arg(capture)
+        .after_help(SHOW_EXAMPLE);
+    let capture = explained(alloc, "capture", "CAPTURE", "The path of a capture");
+    taking(Ok(command), capture)
 }
 
 /// The command that the matches say.
@@ -213,11 +208,11 @@ fn payload_definition<'d>(alloc: Global) -> Result<clap::Command<'d>, AllocError
     ensures shape { IfOk result (λ command. shape_of command ≡ payload_usage) }
     ensures local { IfOk result (λ command. (out-Command command).has_globals ≡ false) }
 {
-    clap::Command::new(alloc, "payload")
+    let command = clap::Command::new(alloc, "payload")
         .about("Reads a payload by its shape")
-        .after_help(PAYLOAD_EXAMPLE)
-        .arg(needed(alloc, "shape", "SHAPE"))?
-        .arg(needed(alloc, "hex", "HEX"))
+        .after_help(PAYLOAD_EXAMPLE);
+    let first = taking(Ok(command), needed(alloc, "shape", "SHAPE"));
+    taking(first, needed(alloc, "hex", "HEX"))
 }
 
 fn payload_matched<'w>(matches: &ArgMatches<'w>) -> Option<Command<'w>>
@@ -234,14 +229,11 @@ fn vectors_definition<'d>(alloc: Global) -> Result<clap::Command<'d>, AllocError
     ensures shape { IfOk result (λ command. shape_of command ≡ vectors_usage) }
     ensures local { IfOk result (λ command. (out-Command command).has_globals ≡ false) }
 {
-    let file = Arg::new(alloc, "file")
-        .value_name("FILE")
-        .help("The path of a file of vectors")
-        .required(true);
-    clap::Command::new(alloc, "vectors")
+    let command = clap::Command::new(alloc, "vectors")
         .about("Compares what is printed with what a file expects")
-        .after_help(VECTORS_EXAMPLE)
-        .arg(file)
+        .after_help(VECTORS_EXAMPLE);
+    let file = explained(alloc, "file", "FILE", "The path of a file of vectors");
+    taking(Ok(command), file)
 }
 
 fn vectors_matched<'w>(matches: &ArgMatches<'w>) -> Option<Command<'w>>
@@ -258,19 +250,21 @@ fn run_definition<'d>(alloc: Global) -> Result<clap::Command<'d>, AllocError>
 {
     let command = clap::Command::new(alloc, "run")
         .about("Runs a schedule over the nodes of a setup, and prints what they give")
-        .after_help(RUN_EXAMPLE)
-        .arg(valued_option(
-            alloc,
-            "expect",
-            "TRACE",
-            "Compares the trace with this file, and prints the first line that differs",
-        ))?
-        .arg(flag(
-            alloc,
-            "lines",
-            "Puts the line of the schedule before each line of the trace",
-        ))?;
-    add_inputs(alloc, command)
+        .after_help(RUN_EXAMPLE);
+    let expect = valued_option(
+        alloc,
+        "expect",
+        "TRACE",
+        "Compares the trace with this file, and prints the first line that differs",
+    );
+    let lines = flag(
+        alloc,
+        "lines",
+        "Puts the line of the schedule before each line of the trace",
+    );
+    let first = taking(Ok(command), expect);
+    let second = taking(first, lines);
+    add_inputs(alloc, second)
 }
 
 fn run_matched<'w>(matches: &ArgMatches<'w>) -> Option<Command<'w>>
@@ -294,32 +288,24 @@ fn recording_definition<'d>(alloc: Global) -> Result<clap::Command<'d>, AllocErr
     ensures shape { IfOk result (λ command. shape_of command ≡ recording_usage) }
     ensures local { IfOk result (λ command. (out-Command command).has_globals ≡ false) }
 {
-    let file = Arg::new(alloc, "file")
-        .value_name("FILE")
-        .help("The path of a recording")
-        .required(true);
-    recording_options(alloc)?.arg(file)
-}
-
-/// `recording` with its options alone.
-fn recording_options<'d>(alloc: Global) -> Result<clap::Command<'d>, AllocError>
-    ensures app { IfOk result (λ command. app_of command ≡ recording_options) }
-    ensures local { IfOk result (λ command. (out-Command command).has_globals ≡ false) }
-{
-    clap::Command::new(alloc, "recording")
+    let command = clap::Command::new(alloc, "recording")
         .about("Prints the messages of a recording of network traffic")
-        .after_help(RECORDING_EXAMPLE)
-        .arg(valued_option(
-            alloc,
-            "ports",
-            "PORTS",
-            "Prints only datagrams from or to one of these ports",
-        ))?
-        .arg(flag(
-            alloc,
-            "endpoints",
-            "Puts time, sender and receiver before each line",
-        ))
+        .after_help(RECORDING_EXAMPLE);
+    let ports = valued_option(
+        alloc,
+        "ports",
+        "PORTS",
+        "Prints only datagrams from or to one of these ports",
+    );
+    let endpoints = flag(
+        alloc,
+        "endpoints",
+        "Puts time, sender and receiver before each line",
+    );
+    let file = explained(alloc, "file", "FILE", "The path of a recording");
+    let first = taking(Ok(command), ports);
+    let second = taking(first, endpoints);
+    taking(second, file)
 }
 
 fn recording_matched<'w>(matches: &ArgMatches<'w>) -> Option<Command<'w>>
@@ -343,7 +329,7 @@ fn chart_definition<'d>(alloc: Global) -> Result<clap::Command<'d>, AllocError>
     let command = clap::Command::new(alloc, "chart")
         .about("Draws a run of a schedule over the nodes of a setup, as an SVG picture")
         .after_help(CHART_EXAMPLE);
-    add_inputs(alloc, command)
+    add_inputs(alloc, Ok(command))
 }
 
 fn chart_matched<'w>(matches: &ArgMatches<'w>) -> Option<Command<'w>>
@@ -359,15 +345,29 @@ fn chart_matched<'w>(matches: &ArgMatches<'w>) -> Option<Command<'w>>
 /// The command with the two files of a run as its further arguments.
 fn add_inputs<'d>(
     alloc: Global,
-    command: clap::Command<'d>,
+    command: Result<clap::Command<'d>, AllocError>,
 ) -> Result<clap::Command<'d>, AllocError>
-    requires { (out-Command command).has_globals ≡ false }
-    ensures app { IfOk result (λ r. app_of r ≡ with_inputs (app_of command.entry)) }
-    ensures local { IfOk result (λ r. (out-Command r).has_globals ≡ false) }
+    ensures app { (app : App) → IfOk command.entry (λ c. app_of c ≡ app)
+        → IfOk result (λ r. app_of r ≡ with_inputs app) }
+    ensures local { IfOk command.entry (λ c. (out-Command c).has_globals ≡ false)
+        → IfOk result (λ r. (out-Command r).has_globals ≡ false) }
 {
-    command
-        .arg(needed(alloc, "setup", "SETUP"))?
-        .arg(needed(alloc, "schedule", "SCHEDULE"))
+    let first = taking(command, needed(alloc, "setup", "SETUP"));
+    taking(first, needed(alloc, "schedule", "SCHEDULE"))
+}
+
+/// A command with a further argument, where it is there.
+fn taking<'d>(
+    command: Result<clap::Command<'d>, AllocError>,
+    arg: Arg<'d>,
+) -> Result<clap::Command<'d>, AllocError>
+    requires { arg.global ≡ false }
+    ensures app { (app : App) (rule : Rule) → IfOk command.entry (λ c. app_of c ≡ app)
+        → rule_of arg.entry ≡ rule → IfOk result (λ r. app_of r ≡ with_rule app rule) }
+    ensures local { IfOk command.entry (λ c. (out-Command c).has_globals ≡ false)
+        → IfOk result (λ r. (out-Command r).has_globals ≡ false) }
+{
+    command?.arg(arg)
 }
 
 /// A positional argument that a call has to have, by its name.
@@ -376,6 +376,14 @@ fn needed<'d>(alloc: Global, name: &'d str, value_name: &'d str) -> Arg<'d>
     ensures local { result.global ≡ false }
 {
     Arg::new(alloc, name).value_name(value_name).required(true)
+}
+
+/// The same with what help says of it.
+fn explained<'d>(alloc: Global, name: &'d str, value_name: &'d str, help: &'d str) -> Arg<'d>
+    ensures rule { rule_of result ≡ required name.entry.now }
+    ensures local { result.global ≡ false }
+{
+    needed(alloc, name, value_name).help(help)
 }
 
 /// An option with a value, by its name.

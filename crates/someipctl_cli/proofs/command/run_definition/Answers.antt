@@ -1,0 +1,15 @@
+use Rattle.std.proofs.Common.{rules}
+use Rattle.std.specs.Prelude.{codes}
+use Rattle.clap.specs.Words.{new_app}
+use Rattle.someipctl_cli.specs.CommandLine.{flag, valued}
+use Rattle.someipctl_cli.proofs.CommandLineLemmas.{shape_from_app}
+use Rattle.someipctl_cli.proofs.command.run_definition.Goals as goal
+
+pub returns-clause-shape : goal.returns-clause-shape
+returns-clause-shape c =
+    let first = c.taking-first.ensures.app (new_app (codes "run")) (valued (codes "expect")) (search rules) c.valued_option-expect.ensures.rule in
+    let second = c.taking-second.ensures.app _ (flag (codes "lines")) first c.flag-lines.ensures.rule in
+    shape_from_app _ _ (c.add_inputs.ensures.app _ second)
+
+pub returns-clause-local : goal.returns-clause-local
+returns-clause-local c = c.add_inputs.ensures.local (c.taking-second.ensures.local (c.taking-first.ensures.local (search rules)))

@@ -1,0 +1,14 @@
+use Rattle.std.proofs.Common.{rules}
+use Rattle.std.specs.Prelude.{codes}
+use Rattle.clap.specs.Words.{new_app}
+use Rattle.someipctl_cli.specs.CommandLine.{required}
+use Rattle.someipctl_cli.proofs.CommandLineLemmas.{shape_from_app}
+use Rattle.someipctl_cli.proofs.command.show_definition.Goals as goal
+
+pub returns-clause-shape : goal.returns-clause-shape
+returns-clause-shape c =
+    shape_from_app _ _
+    (c.taking.ensures.app (new_app (codes "show")) (required (codes "capture")) (search rules) c.explained-capture.ensures.rule)
+
+pub returns-clause-local : goal.returns-clause-local
+returns-clause-local c = c.taking.ensures.local (search rules)
