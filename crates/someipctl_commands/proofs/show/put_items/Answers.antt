@@ -1,10 +1,10 @@
-use Rattle.std.proofs.Common.{◌≡◌, ◌++◌, ap, sym, ◌∙◌, arith, refl, rules, map}
+use Rattle.std.proofs.Common.{◌≡◌, ◌+◌, ◌++◌, ap, sym, ◌∙◌, arith, refl, rules, map}
 use Rattle.someipctl_print.specs.Discovery.{discovery_in, view_reading}
 use Rattle.someipctl_commands.specs.Readings.{readings_in}
 use Rattle.someipctl_commands.proofs.ReadingsLemmas.{left_behind, more}
 use Rattle.someip_wire.specs.Reading.{items_of}
 use Rattle.someip_wire.specs.View.{view_item}
-use Rattle.someipctl_print.specs.Items.{lines_from, is_faulty}
+use Rattle.someipctl_print.specs.Items.{item_len, item_lines, lines_from, is_faulty}
 use Rattle.someipctl_print.proofs.SendingLemmas.{OnErr-any, IsSending-start, IsSending-end, IsSending-more, IsSending-stop}
 use Rattle.someipctl_commands.proofs.ShownTextLemmas.{any_end, any_more, items_len, items_within_datagram}
 use Rattle.someipctl_commands.proofs.show.put_items.Goals as goal
@@ -20,12 +20,12 @@ loop-item-init g c =
 pub returns-in_err-faulty-clause-err : goal.returns-in_err-faulty-clause-err
 returns-in_err-faulty-clause-err g c =
     let all : c.into_iter-item-iterator.result ≡ items_of c.args.datagram.now = search rules in
-    rw (← all) (OnErr-any c.from_residual.result (IsSending-stop _ _ _ _ _ _ _ _ _ c.loop-item.invariant.0 (ap (lines_from c.args.k c.loop-item.place) c.in-Some.ensures.steps) c.in_err-faulty.ensures.err))
+    rw (← all) (OnErr-any c.from_residual.result (IsSending-stop _ _ _ _ _ _ (item_lines c.args.k c.loop-item.place (view_item c.in-Some.item)) (lines_from c.args.k (c.loop-item.place + item_len (view_item c.in-Some.item)) c.next.new.self) (lines_from c.args.k 0 c.into_iter-item-iterator.result) c.loop-item.invariant.0 (ap (lines_from c.args.k c.loop-item.place) c.in-Some.ensures.steps) c.in_err-faulty.ensures.err))
 
 pub loop-item-preserved : goal.loop-item-preserved
 loop-item-preserved g c =
     rw c.item_len.ensures (
-      IsSending-more _ _ _ _ _ _ _ _ _ _ c.loop-item.invariant.0 (ap (lines_from c.args.k c.loop-item.place) c.in-Some.ensures.steps) c.in_ok-faulty.ensures.ok,
+      IsSending-more _ _ _ _ _ _ _ (item_lines c.args.k c.loop-item.place (view_item c.in-Some.item)) (lines_from c.args.k (c.loop-item.place + item_len (view_item c.in-Some.item)) c.next.new.self) (lines_from c.args.k 0 c.into_iter-item-iterator.result) c.loop-item.invariant.0 (ap (lines_from c.args.k c.loop-item.place) c.in-Some.ensures.steps) c.in_ok-faulty.ensures.ok,
       rw c.in_ok-faulty.ensures.faulty (any_more is_faulty c.loop-item.faulty _ _ (view_item c.in-Some.item) _ c.in-Some.ensures.steps c.loop-item.invariant.1),
       omega (arith, ap items_len c.in-Some.ensures.steps, c.loop-item.invariant.2),
       (
@@ -49,7 +49,7 @@ returns-clause-left g c =
 pub returns-clause-ok : goal.returns-clause-ok
 returns-clause-ok g c =
     let all : c.into_iter-item-iterator.result ≡ items_of c.args.datagram.now = search rules in
-    rw (← all) (IsSending-end _ _ _ _ _ _ c.loop-item.invariant.0 (ap (lines_from c.args.k c.loop-item.place) c.in-None.ensures.steps.0))
+    rw (← all) (IsSending-end _ _ _ _ _ (lines_from c.args.k 0 c.into_iter-item-iterator.result) c.loop-item.invariant.0 (ap (lines_from c.args.k c.loop-item.place) c.in-None.ensures.steps.0))
 
 pub returns-clause-faulty : goal.returns-clause-faulty
 returns-clause-faulty g c =
