@@ -147,7 +147,7 @@ fn show_recorded<'p, R: Files + Print + Eprint + AllocGlobal>(
     let shown = show_recording(
         rt.alloc(),
         &mut file,
-        asked.as_ref().map(|ports| ports.as_slice()),
+        asked.as_deref(),
         endpoints,
         &mut io::writer(rt),
     )
