@@ -24,7 +24,7 @@ use std::convert::AsStr;
 use thiserror::Error;
 
 /// What the words ask for.
-#[derive(Clone, Copy)]
+#[derive(Clone, Copy, PartialEq, Eq)]
 pub enum Command<'w> {
     /// Print the messages of a capture.
     Show {
