@@ -26,7 +26,7 @@ impl fmt::Display for SweepError {
             SweepError::Usage => {
                 write!(
                     f,
-                    "usage: someipctl_sweeps [schedules] [inputs] [fronts] [NUMBER]"
+                    "usage: someipctl_sweeps [schedules] [liars] [inputs] [fronts] [NUMBER] [liars-NUMBER]"
                 )
             }
             SweepError::CannotRead => write!(f, "cannot read the data"),

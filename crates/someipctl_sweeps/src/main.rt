@@ -1,6 +1,6 @@
 //! `someipctl_sweeps`: tries the stack over many inputs that loops make, and prints what it finds wrong.
 //!
-//! Its words are names of sweeps: `schedules`, `inputs` and `fronts`. docs/SWEEPS.md tells what each does.
+//! Its words are names of sweeps: `schedules`, `liars`, `inputs` and `fronts`. docs/SWEEPS.md tells what each does.
 #![tactic(auto)]
 
 mod draws;

@@ -1,11 +1,17 @@
 //! The sweep over schedules that are drawn.
 
+mod deed;
+mod injection;
 mod judging;
 mod kind;
 mod life;
 mod line;
+mod past;
+mod promises;
 mod reached;
 mod schedule;
+mod silence;
+mod subscribers;
 mod telling;
 mod world;
 mod wrong;
@@ -13,25 +19,31 @@ mod wrong;
 use crate::error::SweepError;
 use crate::findings::Findings;
 use judging::judge;
+use promises::judge_promises;
 use reached::Reached;
-use schedule::{STEPS, Schedule};
+use schedule::{STEPS, Schedule, has_liar, is_quiet};
+use silence::judge_silence;
 use someip_world::Setup;
 use std::alloc::{AllocError, Global};
 use wrong::ScheduleWrong;
 
-/// How many schedules are drawn: the first is that of the seed 1.
-const SCHEDULES: u64 = 1000;
-
-/// Draws and judges all schedules over a setup. It gives what was done, with its counts.
-pub fn sweep(alloc: Global, setup: &Setup, findings: &mut Findings) -> Result<String, AllocError> {
-    let mut reached = Reached::new(alloc)?;
-    for seed in 1..=SCHEDULES {
+/// Draws and judges so many schedules over a setup, of which the first is that of the seed 1. It gives what was
+/// done under the word of the sweep, with its counts.
+pub fn sweep(
+    alloc: Global,
+    setup: &Setup,
+    word: &str,
+    schedules: u64,
+    findings: &mut Findings,
+) -> Result<String, AllocError> {
+    let mut reached = Reached::new(alloc, has_liar(setup.nodes()))?;
+    for seed in 1..=schedules {
         if let Err(wrong) = judge_seed(alloc, setup, seed, &mut reached) {
-            findings.add(&format_args!("schedule {seed}"), &wrong)?;
+            findings.add(&format_args!("{word} {seed}"), &wrong)?;
         }
     }
-    find_missed(&reached, findings)?;
-    format!(in alloc; "schedules: {SCHEDULES} of {STEPS} steps")
+    find_missed(&reached, word, findings)?;
+    format!(in alloc; "{word}: {schedules} of {STEPS} steps")
 }
 
 /// Draws and judges the schedule of a seed, and notes what it reaches.
@@ -44,7 +56,12 @@ fn judge_seed(
     let mut schedule = Schedule::new(alloc, setup, seed)?;
     schedule.draw()?;
     reached.note(&schedule);
-    judge(alloc, setup.nodes(), &schedule)
+    judge(alloc, setup.nodes(), &schedule)?;
+    judge_promises(alloc, setup.nodes(), &schedule, reached)?;
+    if is_quiet(seed) && has_liar(setup.nodes()) {
+        judge_silence(alloc, setup, &schedule)?;
+    }
+    Ok(())
 }
 
 /// The lines of the schedule of a seed, and what is wrong with it after them, if something is.
@@ -70,10 +87,10 @@ fn text_with(
 }
 
 /// A finding for each milestone that no schedule reached.
-fn find_missed(reached: &Reached, findings: &mut Findings) -> Result<(), AllocError> {
+fn find_missed(reached: &Reached, word: &str, findings: &mut Findings) -> Result<(), AllocError> {
     for milestone in reached.milestones() {
         if !milestone.is_reached {
-            findings.add(&"schedules", &format_args!("none has {}", milestone.name))?;
+            findings.add(&word, &format_args!("none has {}", milestone.name))?;
         }
     }
     Ok(())

@@ -11,12 +11,21 @@ use std::{env, fs, io};
 /// The file of the setup.
 const SETUP: &str = "two.toml";
 
+/// The file of the setup with a liar.
+const SETUP_WITH_LIAR: &str = "liars.toml";
+
+/// How many schedules are drawn.
+const SCHEDULES: u64 = 1000;
+
+/// How many schedules are drawn among liars.
+const AMONG_LIARS: u64 = 400;
+
 /// The file of the vectors.
 const VECTORS: &str = "all.txt";
 
 /// Does what the program's words ask for, and prints what each comes to. It answers whether nothing was found.
 pub fn sweep_all<R: Files + Env + Print + AllocGlobal>(rt: &R) -> Result<bool, SweepError> {
-    let setup = read_setup(rt)?;
+    let setup = read_setup(rt, SETUP)?;
     let mut is_clean = true;
     for word in env::args(rt)?.skip(1) {
         is_clean = sweep(rt, word.as_str(), &setup)? && is_clean;
@@ -33,10 +42,13 @@ fn sweep<R: Files + Print + AllocGlobal>(
 ) -> Result<bool, SweepError> {
     let mut findings = Findings::new(rt.alloc());
     let done = match word {
-        "schedules" => schedules::sweep(rt.alloc(), setup, &mut findings)?,
+        "schedules" => {
+            schedules::sweep(rt.alloc(), setup, "schedules", SCHEDULES, &mut findings)?
+        }
+        "liars" => sweep_liars(rt, &mut findings)?,
         "inputs" => sweep_inputs(rt, setup, &mut findings)?,
         "fronts" => fronts::sweep(rt.alloc(), &mut findings)?,
-        number => return print_schedule(rt, number, setup),
+        number => return print_schedule_of(rt, number, setup),
     };
     Ok(print(rt, done.as_str(), findings.lines())?)
 }
@@ -50,7 +62,28 @@ fn sweep_inputs<R: Files + AllocGlobal>(
     inputs::sweep(rt.alloc(), setup, text.as_str(), findings)
 }
 
-/// Prints the lines of the schedule of a number.
+fn sweep_liars<R: Files + AllocGlobal>(
+    rt: &R,
+    findings: &mut Findings,
+) -> Result<String, SweepError> {
+    let setup = read_setup(rt, SETUP_WITH_LIAR)?;
+    let done = schedules::sweep(rt.alloc(), &setup, "liars", AMONG_LIARS, findings)?;
+    Ok(done)
+}
+
+/// Prints the lines of the schedule of a number, among liars where `liars-` stands before it.
+fn print_schedule_of<R: Files + Print + AllocGlobal>(
+    rt: &R,
+    word: &str,
+    setup: &Setup,
+) -> Result<bool, SweepError> {
+    match word.strip_prefix("liars-") {
+        Some(number) => print_schedule(rt, number, &read_setup(rt, SETUP_WITH_LIAR)?),
+        None => print_schedule(rt, word, setup),
+    }
+}
+
+/// Prints the lines of the schedule of a number over a setup.
 fn print_schedule<R: Print + AllocGlobal>(
     rt: &R,
     number: &str,
@@ -64,9 +97,9 @@ fn print_schedule<R: Print + AllocGlobal>(
     Ok(true)
 }
 
-/// The setup that all sweeps share.
-fn read_setup<R: Files + AllocGlobal>(rt: &R) -> Result<Setup, SweepError> {
-    let text = read_text(rt, SETUP)?;
+/// The setup of a file.
+fn read_setup<R: Files + AllocGlobal>(rt: &R, path: &str) -> Result<Setup, SweepError> {
+    let text = read_text(rt, path)?;
     setup_of(rt.alloc(), text.as_str())
 }
 

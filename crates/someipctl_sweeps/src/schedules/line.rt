@@ -2,7 +2,7 @@
 
 use crate::draws::Draws;
 use crate::schedules::kind::{Part, TICK, draw_kind};
-use crate::schedules::world::{Sent, World};
+use crate::schedules::world::{Sent, World, is_liar};
 use someip_world::SetupNode;
 use std::alloc::{AllocError, Global};
 
@@ -83,7 +83,7 @@ fn push_token(line: &mut String, draws: &mut Draws, world: &World) -> Result<(),
     write!(line, " {node} {token}")
 }
 
-/// A delivery; a tick where nothing was sent.
+/// A delivery; a tick where nothing was sent, or what is drawn is lost.
 fn deliver(
     alloc: Global,
     draws: &mut Draws,
@@ -92,12 +92,12 @@ fn deliver(
 ) -> Result<String, AllocError> {
     let place = draw_datagram(draws, world);
     match world.sent.get(place) {
-        Some(sent) => {
+        Some(sent) if !sent.is_lost => {
             let node = draw_receiver(draws, sent, nodes);
             let number = place.saturating_add(1);
             format!(in alloc; "deliver {number} {node}")
         }
-        None => line_of(alloc, draws, world, "tick", TICK),
+        _ => line_of(alloc, draws, world, "tick", TICK),
     }
 }
 
@@ -117,12 +117,15 @@ fn draw_datagram(draws: &mut Draws, world: &World) -> usize {
 }
 
 /// The name of the node that a datagram is delivered to. One that was sent to the group is mostly
-/// delivered to the node that did not send it.
+/// delivered to the node that did not send it, and one of a liar to either.
 fn draw_receiver<'n>(draws: &mut Draws, sent: &Sent, nodes: &'n [SetupNode]) -> &'n str {
     for node in nodes {
         if node.config.address == *sent.to.ip() {
             return node.name.as_str();
         }
+    }
+    if is_liar(nodes, sent.sender) {
+        return draws.one_of(&["a", "b"]);
     }
     let goes_out = !draws.is_seldom();
     member(nodes, sent.sender, goes_out)

@@ -1,5 +1,6 @@
 //! What the schedules reach together.
 
+use crate::schedules::deed::Deed;
 use crate::schedules::schedule::Schedule;
 use someip_node::Output;
 use someip_rpc::{CallKind, Reply};
@@ -38,6 +39,18 @@ const NAMES: &[&str] = &[
     "LongHandedUp",
 ];
 
+/// What is to be reached beside among liars: that a liar sends, and that what it sent was taken.
+const NAMES_AMONG_LIARS: &[&str] = &[
+    "Inject",
+    "RequestedByLiar",
+    "AnsweredByLiar",
+    "EventOfLiar",
+    "KnownByLiar",
+    "SubscribedByLiar",
+    "AcceptedByLiar",
+    "RebootedByLiar",
+];
+
 /// The name of the kind of a step.
 fn name_of_step(step: &Step) -> &'static str {
     match step {
@@ -57,6 +70,7 @@ fn name_of_step(step: &Step) -> &'static str {
         Step::Unsubscribe { .. } => "Unsubscribe",
         Step::StopOffer { .. } => "StopOffer",
         Step::Restart { .. } => "Restart",
+        Step::Inject { .. } => "Inject",
     }
 }
 
@@ -77,6 +91,21 @@ fn name_of_output(output: &Output) -> &'static str {
         Output::Nacked { .. } => "Nacked",
         Output::Rebooted { .. } => "Rebooted",
         Output::Dropped { .. } => "Dropped",
+    }
+}
+
+/// The name of the kind of what a node gives as it takes a datagram of a liar; none where also others could have
+/// brought it about.
+fn name_by_liar(output: &Output) -> &'static str {
+    match output {
+        Output::Request { .. } => "RequestedByLiar",
+        Output::Answered { .. } => "AnsweredByLiar",
+        Output::Event { .. } => "EventOfLiar",
+        Output::Known { .. } => "KnownByLiar",
+        Output::Subscribed { .. } => "SubscribedByLiar",
+        Output::Accepted { .. } => "AcceptedByLiar",
+        Output::Rebooted { .. } => "RebootedByLiar",
+        _ => "",
     }
 }
 
@@ -106,16 +135,27 @@ pub struct Reached {
 }
 
 impl Reached {
-    /// None was reached.
-    pub fn new(alloc: Global) -> Result<Reached, AllocError> {
-        let mut milestones = Vec::new(alloc);
-        for name in NAMES {
-            milestones.push(Milestone {
+    /// None was reached, among liars or without them.
+    pub fn new(alloc: Global, is_among_liars: bool) -> Result<Reached, AllocError> {
+        let mut reached = Reached {
+            milestones: Vec::new(alloc),
+        };
+        reached.add(NAMES)?;
+        if is_among_liars {
+            reached.add(NAMES_AMONG_LIARS)?;
+        }
+        Ok(reached)
+    }
+
+    /// Adds what is to be reached.
+    fn add(&mut self, names: &[&'static str]) -> Result<(), AllocError> {
+        for name in names {
+            self.milestones.push(Milestone {
                 name: *name,
                 is_reached: false,
             })?;
         }
-        Ok(Reached { milestones })
+        Ok(())
     }
 
     /// Notes what a schedule and its run reach.
@@ -136,6 +176,15 @@ impl Reached {
                 if is_long(output) {
                     self.reach("LongHandedUp");
                 }
+            }
+        }
+    }
+
+    /// Notes a line of a step, if it tells what came of a datagram of a liar.
+    pub fn note_of_liar(&mut self, deed: &Deed<'_>, line: &Line) {
+        if let (Told::Gave(output), Some(source)) = (&line.told, deed.source) {
+            if source.is_liar {
+                self.reach(name_by_liar(output));
             }
         }
     }

@@ -1,11 +1,12 @@
 //! Schedules that are drawn.
 
 use crate::draws::Draws;
+use crate::schedules::injection::draw_injection;
 use crate::schedules::line::draw_line;
 use crate::schedules::world::World;
 use crate::schedules::wrong::ScheduleWrong;
 use someip_tp::IntervalPool;
-use someip_world::{Setup, Step, Trace, read_schedule, run};
+use someip_world::{Setup, SetupNode, Step, Trace, read_schedule, run};
 use someip_world_rules::place_of;
 use std::alloc::{AllocError, Global};
 
@@ -40,7 +41,7 @@ impl<'s> Schedule<'s> {
             alloc,
             setup,
             draws: Draws::new(seed),
-            world: World::new(alloc),
+            world: World::new(alloc, is_quiet(seed)),
             text: String::new(alloc),
             steps: Vec::new(alloc),
             trace: run::<IntervalPool>(alloc, setup, &[])?,
@@ -63,15 +64,32 @@ impl<'s> Schedule<'s> {
             self.draw_step()?;
         }
         self.trace = run::<IntervalPool>(self.alloc, self.setup, &self.steps)?;
-        Ok(self.world.take_lines(&self.trace.lines)?)
+        Ok(
+            self.world
+                .take_lines(self.setup.nodes(), &self.trace.lines)?,
+        )
     }
 
     fn draw_step(&mut self) -> Result<(), ScheduleWrong> {
-        let nodes = self.setup.nodes();
-        let line = draw_line(self.alloc, &mut self.draws, &self.world, nodes)?;
+        let line = match self.draw_injection()? {
+            Some(line) => line,
+            None => {
+                let nodes = self.setup.nodes();
+                draw_line(self.alloc, &mut self.draws, &self.world, nodes)?
+            }
+        };
         self.push(line.as_str())?;
         self.tell_step();
         Ok(())
+    }
+
+    /// Of four steps among liars, draws the line of one that a liar does.
+    fn draw_injection(&mut self) -> Result<Option<String>, AllocError> {
+        if !has_liar(self.setup.nodes()) || self.draws.below(4) != 0 {
+            return Ok(None);
+        }
+        let lines = self.trace.lines.as_slice();
+        draw_injection(self.alloc, &mut self.draws, &self.world, lines)
     }
 
     /// Adds the step of a line.
@@ -94,4 +112,19 @@ impl<'s> Schedule<'s> {
             self.world.take_step(step, node);
         }
     }
+}
+
+/// Whether all that liars send is lost in the schedule of a seed.
+pub fn is_quiet(seed: u64) -> bool {
+    seed.checked_rem(4) == Some(0)
+}
+
+/// Whether a setup has a liar.
+pub fn has_liar(nodes: &[SetupNode]) -> bool {
+    for node in nodes {
+        if node.is_liar {
+            return true;
+        }
+    }
+    false
 }

@@ -1,7 +1,7 @@
 //! What the lines of a run so far tell of its world.
 
 use someip_node::Output;
-use someip_world::{Line, Step, Told};
+use someip_world::{Line, SetupNode, Step, Told};
 use std::alloc::{AllocError, Global};
 use std::net::SocketAddrV4;
 
@@ -12,6 +12,14 @@ pub struct Sent {
     pub sender: usize,
     /// Where it was sent to.
     pub to: SocketAddrV4,
+    /// The place of the line that tells of it.
+    pub line: usize,
+    /// Whether a liar sent it.
+    pub is_of_liar: bool,
+    /// Whether it was sent to a liar.
+    is_to_liar: bool,
+    /// Whether no step delivers it: it was sent to no node, or by a liar whose datagrams are all lost.
+    pub is_lost: bool,
     /// Whether a step has delivered it.
     is_delivered: bool,
 }
@@ -36,15 +44,18 @@ pub struct World {
     requests: Vec<Request>,
     /// How many lines were taken.
     taken: usize,
+    /// Whether all that liars send is lost.
+    is_quiet: bool,
 }
 
 impl World {
-    /// A world in which nothing has happened.
-    pub fn new(alloc: Global) -> World {
+    /// A world in which nothing has happened, and in which all that liars send is lost or not.
+    pub fn new(alloc: Global, is_quiet: bool) -> World {
         World {
             sent: Vec::new(alloc),
             requests: Vec::new(alloc),
             taken: 0,
+            is_quiet,
         }
     }
 
@@ -58,10 +69,10 @@ impl World {
         }
     }
 
-    /// Takes the lines of all steps so far, of which it has taken some.
-    pub fn take_lines(&mut self, lines: &[Line]) -> Result<(), AllocError> {
-        for line in lines.get(self.taken..).unwrap_or(&[]) {
-            self.take_line(line)?;
+    /// Takes the lines of all steps so far over these nodes, of which it has taken some.
+    pub fn take_lines(&mut self, nodes: &[SetupNode], lines: &[Line]) -> Result<(), AllocError> {
+        for (place, line) in lines.iter().enumerate().skip(self.taken) {
+            self.take_line(nodes, place, line)?;
         }
         self.taken = lines.len();
         Ok(())
@@ -82,13 +93,25 @@ impl World {
         }
     }
 
-    fn take_line(&mut self, line: &Line) -> Result<(), AllocError> {
+    fn take_line(
+        &mut self,
+        nodes: &[SetupNode],
+        place: usize,
+        line: &Line,
+    ) -> Result<(), AllocError> {
         match &line.told {
-            Told::Gave(Output::Sent { to, .. }) => self.sent.push(Sent {
-                sender: line.node,
-                to: *to,
-                is_delivered: false,
-            })?,
+            Told::Gave(Output::Sent { to, .. }) => {
+                let is_of_liar = is_liar(nodes, line.node);
+                self.sent.push(Sent {
+                    sender: line.node,
+                    to: *to,
+                    line: place,
+                    is_of_liar,
+                    is_to_liar: is_at(nodes, *to, true),
+                    is_lost: is_of_liar && self.is_quiet || !is_to_node(nodes, *to),
+                    is_delivered: false,
+                })?
+            }
             Told::Gave(
                 Output::Request {
                     token: Some(token),
@@ -114,10 +137,31 @@ impl World {
         None
     }
 
+    /// The place of the line of the last datagram that a node sent to a liar.
+    pub fn last_to_liar(&self) -> Option<usize> {
+        for sent in self.sent.iter().rev() {
+            if sent.is_to_liar && !sent.is_of_liar {
+                return Some(sent.line);
+            }
+        }
+        None
+    }
+
+    /// How many datagrams nodes sent.
+    pub fn sent_by_nodes(&self) -> u64 {
+        let mut count: u64 = 0;
+        for sent in self.sent.iter() {
+            if !sent.is_of_liar {
+                count = count.saturating_add(1);
+            }
+        }
+        count
+    }
+
     /// The place among those sent of the first datagram that no step has delivered.
     pub fn first_undelivered(&self) -> Option<usize> {
         for (place, sent) in self.sent.iter().enumerate() {
-            if !sent.is_delivered {
+            if !sent.is_delivered && !sent.is_lost {
                 return Some(place);
             }
         }
@@ -128,10 +172,36 @@ impl World {
     pub fn last_undelivered(&self) -> Option<usize> {
         let mut last = None;
         for (place, sent) in self.sent.iter().enumerate() {
-            if !sent.is_delivered {
+            if !sent.is_delivered && !sent.is_lost {
                 last = Some(place);
             }
         }
         last
+    }
+}
+
+/// Whether a liar stands at a place of a setup.
+pub fn is_liar(nodes: &[SetupNode], place: usize) -> bool {
+    match nodes.get(place) {
+        Some(node) => node.is_liar,
+        None => false,
+    }
+}
+
+/// Whether an endpoint is at the address of a liar, or of a node.
+fn is_at(nodes: &[SetupNode], to: SocketAddrV4, is_liar: bool) -> bool {
+    for node in nodes {
+        if node.is_liar == is_liar && node.config.address == *to.ip() {
+            return true;
+        }
+    }
+    false
+}
+
+/// Whether a datagram to an endpoint can be delivered to a node.
+fn is_to_node(nodes: &[SetupNode], to: SocketAddrV4) -> bool {
+    match nodes.first() {
+        Some(node) if node.config.common.group == *to.ip() => true,
+        _ => is_at(nodes, to, false),
     }
 }

@@ -19,6 +19,20 @@ pub enum ScheduleWrong {
     NothingCame(usize),
     /// An output prints itself otherwise than its line tells it.
     TwoTexts(usize),
+    /// A line is of another node than its step, or a datagram was sent from the address of another.
+    OtherSender(usize),
+    /// An answer or a reboot was taken of another peer than that which was called, or began again.
+    OtherPeer(usize),
+    /// An answer was taken of a node that did not give it.
+    NotAnswered(usize),
+    /// An event was taken of a node that did not publish it.
+    NotPublished(usize),
+    /// An offer was taken of a node that is configured otherwise.
+    NotConfigured(usize),
+    /// An event was not sent once to each subscriber, or to another endpoint.
+    OtherSubscribers(usize),
+    /// A liar that nobody heard changed what nodes gave.
+    NotSilent(usize),
     /// Memory ran out.
     OutOfMemory,
 }
@@ -38,6 +52,29 @@ impl fmt::Display for ScheduleWrong {
                 write!(f, "step {step}: handed up though nothing came of a peer")
             }
             ScheduleWrong::TwoTexts(step) => write!(f, "step {step}: an output has two texts"),
+            ScheduleWrong::OtherSender(step) => write!(f, "step {step}: given by another"),
+            ScheduleWrong::OtherPeer(step) => write!(f, "step {step}: taken of another peer"),
+            ScheduleWrong::NotAnswered(step) => {
+                write!(f, "step {step}: an answer that its server did not give")
+            }
+            ScheduleWrong::NotPublished(step) => {
+                write!(f, "step {step}: an event that its server did not publish")
+            }
+            ScheduleWrong::NotConfigured(step) => {
+                write!(
+                    f,
+                    "step {step}: an offer that its server is not configured with"
+                )
+            }
+            ScheduleWrong::OtherSubscribers(step) => {
+                write!(
+                    f,
+                    "step {step}: an event goes to others than its subscribers"
+                )
+            }
+            ScheduleWrong::NotSilent(step) => {
+                write!(f, "step {step}: a liar that nobody heard changes something")
+            }
             ScheduleWrong::OutOfMemory => write!(f, "out of memory"),
         }
     }
