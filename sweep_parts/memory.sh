@@ -1,13 +1,13 @@
 # memory: each growth of memory is refused in turn.
 #
-# The program someipctl_growths does the calls of one kind, three times in one process; it ends with status 1 and says
+# The program someipctl_sweeps does the calls of one kind, three times in one process; it ends with status 1 and says
 # which act answered otherwise than it has to. The program someipctl is judged by what it prints.
 #
 # Some calls ask for memory a second time where the first is refused, and go on. So where a run does not differ although
 # a growth was refused, the next ones are refused with it, up to this many.
 most_in_a_row=6
 
-# What someipctl_growths sweeps; of the nodes an act cannot be left out, since a node that was refused memory fails.
+# What it sweeps; of the nodes an act cannot be left out, since a node that was refused memory fails.
 kinds="wire segment-list interval-pool payloads messages sessions offers seeker subscribers subscriptions client server runs"
 kinds_of_nodes="server-node client-node"
 
@@ -58,13 +58,13 @@ sweep_kind() {
     echo unrefused >"$scratch/unrefused"
     growth=1
     while :; do
-        call_until_refused "$growth" "$scratch/unrefused" 0 "$growths_program" "$1" "$2" whole
+        call_until_refused "$growth" "$scratch/unrefused" 0 "$sweeps_program" memory "$1" "$2"
         [ "$seen" -ge "$growth" ] || break
         growths=$((growths + 1))
         came=$(cat "$scratch/out")
         case "$status $came" in
         "0 refused "*) judged=$((judged + 1)) ;;
-        "0 " | "0 unjudged") ;;
+        "3 " | "0 unjudged") ;;
         *) tell_growth "$1 $2" "status $status, $came" ;;
         esac
         growth=$((growth + 1))
@@ -74,9 +74,9 @@ sweep_kind() {
 
 # The acts that take no memory meet no growth: with them there are as many as without them.
 sweep_without_memory() {
-    call_refused 0 1 "$growths_program" "$1" again whole
+    call_refused 0 1 "$sweeps_program" memory "$1" again
     whole=$seen
-    call_refused 0 1 "$growths_program" "$1" again bare
+    call_refused 0 1 "$sweeps_program" memory "$1" bare
     growth=0
     row=0
     [ "$whole" = "$seen" ] || tell_growth "$1" "$whole growths with the acts that take no memory, $seen without them"

@@ -6,7 +6,7 @@ use std::{fmt, io};
 /// Why a sweep could not be made. What a sweep finds wrong with the stack is none of these.
 #[derive(Clone, Copy)]
 pub enum SweepError {
-    /// A word is neither the name of a sweep nor the number of a schedule.
+    /// A word is neither the name of a sweep nor the number of a schedule, or says no way of one.
     Usage,
     /// A file of the data could not be read.
     CannotRead,
@@ -26,7 +26,7 @@ impl fmt::Display for SweepError {
             SweepError::Usage => {
                 write!(
                     f,
-                    "usage: someipctl_sweeps [schedules] [liars] [inputs] [fronts] [NUMBER] [liars-NUMBER]"
+                    "usage: someipctl_sweeps [memory SWEEP again|left-out|bare] [schedules] [liars] [inputs] [fronts] [NUMBER] [liars-NUMBER]"
                 )
             }
             SweepError::CannotRead => write!(f, "cannot read the data"),

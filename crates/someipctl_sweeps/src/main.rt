@@ -1,6 +1,8 @@
-//! `someipctl_sweeps`: tries the stack over many inputs that loops make, and prints what it finds wrong.
+//! `someipctl_sweeps`: tries the stack over many inputs that loops make, and while memory is refused, and prints what
+//! it finds wrong.
 //!
-//! Its words are names of sweeps: `schedules`, `liars`, `inputs` and `fronts`. docs/SWEEPS.md tells what each does.
+//! Its words are names of sweeps: `schedules`, `liars`, `inputs` and `fronts`, and before them may stand
+//! `memory SWEEP again|left-out|bare`. docs/SWEEPS.md tells what each does.
 #![tactic(auto)]
 
 mod draws;
@@ -8,10 +10,12 @@ mod error;
 mod findings;
 mod fronts;
 mod inputs;
+mod memory;
 mod schedules;
 mod sweeping;
 mod worked;
 
+use error::SweepError;
 use std::process::ExitCode;
 use sweeping::sweep_all;
 
@@ -21,7 +25,15 @@ fn main(rt: HostRuntime) -> ExitCode {
         Ok(false) => ExitCode::from(1),
         Err(error) => {
             let _ = eprintln!(rt; "{error}");
-            ExitCode::from(2)
+            ExitCode::from(status_of(error))
         }
+    }
+}
+
+/// The exit status where a sweep could not be made.
+fn status_of(error: SweepError) -> u8 {
+    match error {
+        SweepError::OutOfMemory => 3,
+        _ => 2,
     }
 }

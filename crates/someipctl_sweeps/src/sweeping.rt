@@ -2,6 +2,7 @@
 
 use crate::error::SweepError;
 use crate::findings::Findings;
+use crate::memory::sweep_memory;
 use crate::{fronts, inputs, schedules};
 use someip_world::Setup;
 use std::alloc::Global;
@@ -14,85 +15,106 @@ const SETUP: &str = "two.toml";
 /// The file of the setup with a liar.
 const SETUP_WITH_LIAR: &str = "liars.toml";
 
+/// The file of the vectors.
+const VECTORS: &str = "all.txt";
+
 /// How many schedules are drawn.
 const SCHEDULES: u64 = 1000;
 
 /// How many schedules are drawn among liars.
 const AMONG_LIARS: u64 = 400;
 
-/// The file of the vectors.
-const VECTORS: &str = "all.txt";
-
 /// Does what the program's words ask for, and prints what each comes to. It answers whether nothing was found.
 pub fn sweep_all<R: Files + Env + Print + AllocGlobal>(rt: &R) -> Result<bool, SweepError> {
-    let setup = read_setup(rt, SETUP)?;
+    let words = words_of(rt)?;
+    match words.as_slice() {
+        [_, memory, name, way, rest @ ..] if memory.as_str() == "memory" => {
+            let is_clean = sweep_memory(rt, name.as_str(), way.as_str())?;
+            Ok(sweep_each(rt, rest)? && is_clean)
+        }
+        [_, rest @ ..] => sweep_each(rt, rest),
+        [] => Ok(true),
+    }
+}
+
+/// The words, the program's name among them. So much memory is taken before the sweep over memory that is refused.
+fn words_of<R: Env + AllocGlobal>(rt: &R) -> Result<Vec<String>, SweepError> {
+    match env::args(rt) {
+        Ok(words) => Ok(words.collect(rt.alloc())?),
+        Err(_) => Err(SweepError::OutOfMemory),
+    }
+}
+
+/// Makes the sweep of each word.
+fn sweep_each<R: Files + Print + AllocGlobal>(
+    rt: &R,
+    words: &[String],
+) -> Result<bool, SweepError> {
     let mut is_clean = true;
-    for word in env::args(rt)?.skip(1) {
-        is_clean = sweep(rt, word.as_str(), &setup)? && is_clean;
+    for word in words {
+        is_clean = sweep(rt, word.as_str())? && is_clean;
     }
     Ok(is_clean)
 }
 
 /// Makes the sweep of a word, and prints what it comes to. A number asks for the lines of its schedule. It answers
 /// whether nothing was found.
-fn sweep<R: Files + Print + AllocGlobal>(
-    rt: &R,
-    word: &str,
-    setup: &Setup,
-) -> Result<bool, SweepError> {
+fn sweep<R: Files + Print + AllocGlobal>(rt: &R, word: &str) -> Result<bool, SweepError> {
     let mut findings = Findings::new(rt.alloc());
     let done = match word {
-        "schedules" => {
-            schedules::sweep(rt.alloc(), setup, "schedules", SCHEDULES, &mut findings)?
-        }
-        "liars" => sweep_liars(rt, &mut findings)?,
-        "inputs" => sweep_inputs(rt, setup, &mut findings)?,
+        "schedules" => sweep_schedules(rt, SETUP, word, SCHEDULES, &mut findings)?,
+        "liars" => sweep_schedules(rt, SETUP_WITH_LIAR, word, AMONG_LIARS, &mut findings)?,
+        "inputs" => sweep_inputs(rt, &mut findings)?,
         "fronts" => fronts::sweep(rt.alloc(), &mut findings)?,
-        number => return print_schedule_of(rt, number, setup),
+        number => return print_schedule_of(rt, number),
     };
     Ok(print(rt, done.as_str(), findings.lines())?)
 }
 
-fn sweep_inputs<R: Files + AllocGlobal>(
+/// Makes the sweep of a word over so many schedules for the setup of a file.
+fn sweep_schedules<R: Files + AllocGlobal>(
     rt: &R,
-    setup: &Setup,
+    path: &str,
+    word: &str,
+    count: u64,
     findings: &mut Findings,
 ) -> Result<String, SweepError> {
-    let text = read_text(rt, VECTORS)?;
-    inputs::sweep(rt.alloc(), setup, text.as_str(), findings)
+    let setup = read_setup(rt, path)?;
+    let done = schedules::sweep(rt.alloc(), &setup, word, count, findings)?;
+    Ok(done)
 }
 
-fn sweep_liars<R: Files + AllocGlobal>(
+fn sweep_inputs<R: Files + AllocGlobal>(
     rt: &R,
     findings: &mut Findings,
 ) -> Result<String, SweepError> {
-    let setup = read_setup(rt, SETUP_WITH_LIAR)?;
-    let done = schedules::sweep(rt.alloc(), &setup, "liars", AMONG_LIARS, findings)?;
-    Ok(done)
+    let setup = read_setup(rt, SETUP)?;
+    let text = read_text(rt, VECTORS)?;
+    inputs::sweep(rt.alloc(), &setup, text.as_str(), findings)
 }
 
 /// Prints the lines of the schedule of a number, among liars where `liars-` stands before it.
 fn print_schedule_of<R: Files + Print + AllocGlobal>(
     rt: &R,
     word: &str,
-    setup: &Setup,
 ) -> Result<bool, SweepError> {
     match word.strip_prefix("liars-") {
-        Some(number) => print_schedule(rt, number, &read_setup(rt, SETUP_WITH_LIAR)?),
-        None => print_schedule(rt, word, setup),
+        Some(number) => print_schedule(rt, number, SETUP_WITH_LIAR),
+        None => print_schedule(rt, word, SETUP),
     }
 }
 
-/// Prints the lines of the schedule of a number over a setup.
-fn print_schedule<R: Print + AllocGlobal>(
+/// Prints the lines of the schedule of a number for the setup of a file.
+fn print_schedule<R: Files + Print + AllocGlobal>(
     rt: &R,
     number: &str,
-    setup: &Setup,
+    path: &str,
 ) -> Result<bool, SweepError> {
     let Ok(seed) = number.parse::<u64>() else {
         return Err(SweepError::Usage);
     };
-    let text = schedules::text_of(rt.alloc(), setup, seed)?;
+    let setup = read_setup(rt, path)?;
+    let text = schedules::text_of(rt.alloc(), &setup, seed)?;
     print!(rt; "{text}")?;
     Ok(true)
 }

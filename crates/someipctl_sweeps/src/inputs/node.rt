@@ -1,8 +1,8 @@
 //! What a node makes of datagrams.
 
-use crate::inputs::trial::{EVENTGROUP, INSTANCE, Past, Port, Trial, known_after};
+use crate::inputs::trial::{Past, Trial, known_after};
 use crate::inputs::wrong::InputWrong;
-use crate::worked::{ACK, ANSWER, OFFER};
+use crate::worked::{ACK, ANSWER, EVENTGROUP, INSTANCE, OFFER, Port};
 use someip_node::{Config, Node, NodeError, Output};
 use someip_rpc::{CallKind, MessageId, RpcError};
 use someip_tp::IntervalPool;

@@ -1,48 +1,9 @@
 //! The nodes that datagrams are handed to, and the ways by which they come.
 
-use sd_core::{Eventgroup, InstanceId};
+use crate::worked::{INSTANCE, Port};
 use someip_node::Output;
 use std::fmt;
-use std::net::{Ipv4Addr, SocketAddrV4};
-
-/// The instance that the node wants.
-pub const INSTANCE: InstanceId = InstanceId {
-    service: 0x1111,
-    instance: 1,
-};
-
-/// An eventgroup of it.
-pub const EVENTGROUP: Eventgroup = Eventgroup {
-    instance: INSTANCE,
-    id: 1,
-};
-
-/// A host, where 0 is the multicast group and n the address 192.168.0.n, and a port.
-#[derive(Clone, Copy)]
-pub struct Port(u8, u16);
-
-impl Port {
-    /// The endpoint of Service Discovery of the node that offers.
-    pub const SD_OF_SERVER: Port = Port(1, 30490);
-    /// The endpoint of the instance.
-    pub const SERVER: Port = Port(1, 30509);
-    /// The endpoint of Service Discovery of the node that wants.
-    pub const SD_OF_CLIENT: Port = Port(2, 30490);
-    /// The endpoint of Service Discovery of all nodes.
-    pub const SD_OF_ALL: Port = Port(0, 30490);
-    /// The endpoint of the client.
-    pub const CLIENT: Port = Port(2, 40001);
-
-    /// Its endpoint.
-    pub fn endpoint(self) -> SocketAddrV4 {
-        let address = if self.0 == 0 {
-            Ipv4Addr::new(239, 0, 0, 1)
-        } else {
-            Ipv4Addr::new(192, 168, 0, self.0)
-        };
-        SocketAddrV4::new(address, self.1)
-    }
-}
+use std::net::SocketAddrV4;
 
 /// By which way a datagram comes.
 #[derive(Clone, Copy)]
