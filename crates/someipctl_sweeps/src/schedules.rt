@@ -27,23 +27,33 @@ use someip_world::Setup;
 use std::alloc::{AllocError, Global};
 use wrong::ScheduleWrong;
 
-/// Draws and judges so many schedules over a setup, of which the first is that of the seed 1. It gives what was
-/// done under the word of the sweep, with its counts.
+/// The schedules of a sweep.
+#[derive(Clone, Copy)]
+pub struct Schedules {
+    /// What all of them are called.
+    pub all: &'static str,
+    /// What one of them is called.
+    pub one: &'static str,
+    /// How many are drawn: the first is that of the seed 1.
+    pub count: u64,
+}
+
+/// Draws and judges schedules over a setup. It gives what was done, with its counts.
 pub fn sweep(
     alloc: Global,
     setup: &Setup,
-    word: &str,
-    schedules: u64,
+    schedules: Schedules,
     findings: &mut Findings,
 ) -> Result<String, AllocError> {
+    let Schedules { all, one, count } = schedules;
     let mut reached = Reached::new(alloc, has_liar(setup.nodes()))?;
-    for seed in 1..=schedules {
+    for seed in 1..=count {
         if let Err(wrong) = judge_seed(alloc, setup, seed, &mut reached) {
-            findings.add(&format_args!("{word} {seed}"), &wrong)?;
+            findings.add(&format_args!("{one} {seed}"), &wrong)?;
         }
     }
-    find_missed(&reached, word, findings)?;
-    format!(in alloc; "{word}: {schedules} of {STEPS} steps")
+    find_missed(&reached, all, findings)?;
+    format!(in alloc; "{all}: {count} of {STEPS} steps")
 }
 
 /// Draws and judges the schedule of a seed, and notes what it reaches.

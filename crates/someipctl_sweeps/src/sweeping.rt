@@ -3,6 +3,7 @@
 use crate::error::SweepError;
 use crate::findings::Findings;
 use crate::memory::sweep_memory;
+use crate::schedules::Schedules;
 use crate::{fronts, inputs, schedules};
 use someip_world::Setup;
 use std::alloc::Global;
@@ -18,11 +19,19 @@ const SETUP_WITH_LIAR: &str = "liars.toml";
 /// The file of the vectors.
 const VECTORS: &str = "all.txt";
 
-/// How many schedules are drawn.
-const SCHEDULES: u64 = 1000;
+/// The schedules that are drawn over the setup of two nodes.
+const SCHEDULES: Schedules = Schedules {
+    all: "schedules",
+    one: "schedule",
+    count: 1000,
+};
 
-/// How many schedules are drawn among liars.
-const AMONG_LIARS: u64 = 400;
+/// The schedules that are drawn among liars.
+const AMONG_LIARS: Schedules = Schedules {
+    all: "liars",
+    one: "liars",
+    count: 400,
+};
 
 /// Does what the program's words ask for, and prints what each comes to. It answers whether nothing was found.
 pub fn sweep_all<R: Files + Env + Print + AllocGlobal>(rt: &R) -> Result<bool, SweepError> {
@@ -62,8 +71,8 @@ fn sweep_each<R: Files + Print + AllocGlobal>(
 fn sweep<R: Files + Print + AllocGlobal>(rt: &R, word: &str) -> Result<bool, SweepError> {
     let mut findings = Findings::new(rt.alloc());
     let done = match word {
-        "schedules" => sweep_schedules(rt, SETUP, word, SCHEDULES, &mut findings)?,
-        "liars" => sweep_schedules(rt, SETUP_WITH_LIAR, word, AMONG_LIARS, &mut findings)?,
+        "schedules" => sweep_schedules(rt, SETUP, SCHEDULES, &mut findings)?,
+        "liars" => sweep_schedules(rt, SETUP_WITH_LIAR, AMONG_LIARS, &mut findings)?,
         "inputs" => sweep_inputs(rt, &mut findings)?,
         "fronts" => fronts::sweep(rt.alloc(), &mut findings)?,
         number => return print_schedule_of(rt, number),
@@ -71,16 +80,15 @@ fn sweep<R: Files + Print + AllocGlobal>(rt: &R, word: &str) -> Result<bool, Swe
     Ok(print(rt, done.as_str(), findings.lines())?)
 }
 
-/// Makes the sweep of a word over so many schedules for the setup of a file.
+/// Makes the sweep over schedules for the setup of a file.
 fn sweep_schedules<R: Files + AllocGlobal>(
     rt: &R,
     path: &str,
-    word: &str,
-    count: u64,
+    schedules: Schedules,
     findings: &mut Findings,
 ) -> Result<String, SweepError> {
     let setup = read_setup(rt, path)?;
-    let done = schedules::sweep(rt.alloc(), &setup, word, count, findings)?;
+    let done = schedules::sweep(rt.alloc(), &setup, schedules, findings)?;
     Ok(done)
 }
 

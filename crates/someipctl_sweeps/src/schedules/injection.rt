@@ -43,8 +43,8 @@ const RESPONSE: u8 = 0x80;
 /// The line of an event, as from the instance.
 const EVENT: &str = "inject c 30509 192.168.0.2:40001 11118001000000090000000101010200ff";
 
-/// Draws the line of an injection: at each second draw a reply to the last datagram that was sent to c, if there is
-/// one, and else what is made of another that a node sent. There is none where no node has sent anything.
+/// Draws the line of an injection: of four draws three times a reply to the last datagram that was sent to c, if there
+/// is one, and else what is made of another that a node sent. There is none where no node has sent anything.
 pub fn draw_injection(
     alloc: Global,
     draws: &mut Draws,
@@ -54,9 +54,9 @@ pub fn draw_injection(
     if world.sent_by_nodes() == 0 {
         return Ok(None);
     }
-    let asked = match draws.below(2) {
-        0 => world.last_to_liar(),
-        _ => None,
+    let asked = match draws.below(4) {
+        0 => None,
+        _ => world.last_to_liar(),
     };
     match datagram_at(lines, asked) {
         Some(datagram) => draw_reply(alloc, draws, datagram),
@@ -68,14 +68,14 @@ fn datagram_at(lines: &[Line], place: Option<usize>) -> Option<Datagram<'_>> {
     lines.get(place?)?.datagram()
 }
 
-/// Draws a reply to a datagram, mostly sent back from where that was sent to: of Service Discovery an Ack, and else an
-/// answer; and of four one event.
+/// Draws a reply to a datagram: each second time an event, and else what is sent back from where that was sent to, of
+/// Service Discovery an Ack, and else an answer.
 fn draw_reply(
     alloc: Global,
     draws: &mut Draws,
     datagram: Datagram<'_>,
 ) -> Result<Option<String>, AllocError> {
-    if draws.below(4) == 0 {
+    if draws.below(2) == 0 {
         return Ok(Some(String::from_str(alloc, EVENT)?));
     }
     let port = datagram.to.port();

@@ -44,7 +44,6 @@ const NAMES_AMONG_LIARS: &[&str] = &[
     "Inject",
     "RequestedByLiar",
     "AnsweredByLiar",
-    "EventOfLiar",
     "KnownByLiar",
     "SubscribedByLiar",
     "AcceptedByLiar",
@@ -100,7 +99,6 @@ fn name_by_liar(output: &Output) -> &'static str {
     match output {
         Output::Request { .. } => "RequestedByLiar",
         Output::Answered { .. } => "AnsweredByLiar",
-        Output::Event { .. } => "EventOfLiar",
         Output::Known { .. } => "KnownByLiar",
         Output::Subscribed { .. } => "SubscribedByLiar",
         Output::Accepted { .. } => "AcceptedByLiar",
