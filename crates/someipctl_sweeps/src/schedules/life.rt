@@ -145,7 +145,7 @@ fn key(message: MessageId, session: u16) -> CallKey {
 }
 
 /// Whether only a datagram of a peer can bring an output about.
-fn needs_peer(output: &Output) -> bool {
+pub fn needs_peer(output: &Output) -> bool {
     match output {
         Output::Request { .. }
         | Output::Answered { .. }

@@ -1,6 +1,7 @@
 //! Whether a run keeps what is promised of runs, among liars too.
 
 use crate::schedules::deed::{Deed, Source, deed_at, sources_in};
+use crate::schedules::life::needs_peer;
 use crate::schedules::past::Past;
 use crate::schedules::reached::Reached;
 use crate::schedules::schedule::Schedule;
@@ -56,7 +57,7 @@ fn judge_line(
     }
     match deed.source {
         Some(source) => judge_taken(nodes, past, deed, source, output),
-        None => Ok(()),
+        None => unless(needs_peer(output), ScheduleWrong::NothingCame(deed.index)),
     }
 }
 
