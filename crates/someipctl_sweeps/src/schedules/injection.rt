@@ -165,8 +165,8 @@ fn put_own_address(bytes: &mut Vec<u8>) {
 /// Changes one byte.
 fn put_byte(draws: &mut Draws, bytes: &mut Vec<u8>) {
     let place = draws.below(bytes.len() as u64);
-    let byte = draws.below(256);
-    put(bytes, place as usize, byte as u8);
+    let byte = u8::try_from(draws.below(256)).unwrap_or(0);
+    put(bytes, place as usize, byte);
 }
 
 /// Puts a byte at a place, if it is there.

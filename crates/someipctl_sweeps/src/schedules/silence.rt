@@ -71,18 +71,19 @@ fn judge_lines(
     schedule: &Schedule<'_>,
     other: &Trace,
 ) -> Result<(), ScheduleWrong> {
-    let mut others = other.lines.iter();
+    let mut place: usize = 0;
     for line in schedule.trace.lines.iter() {
         if !is_liar(nodes, line.node) {
-            match others.next() {
-                Some(other) if is_same(alloc, line, other)? => {}
+            match other.lines.get(place) {
+                Some(other) if is_same(alloc, line, other)? => place = place.saturating_add(1),
                 _ => return Err(ScheduleWrong::NotSilent(line.step)),
             }
         }
     }
-    match others.next() {
-        Some(_) => Err(ScheduleWrong::NotSilent(schedule.steps.len())),
-        None => Ok(()),
+    if place == other.lines.len() {
+        Ok(())
+    } else {
+        Err(ScheduleWrong::NotSilent(schedule.steps.len()))
     }
 }
 
