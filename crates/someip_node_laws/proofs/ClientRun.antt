@@ -62,6 +62,10 @@ use Rattle.someip_node_rules.specs.declared.target.Target.TheVariants as target
 use Rattle.someip_node_laws.proofs.OneEntryLemmas.{entries_of_none, entries_of_one}
 use Rattle.someip_node_laws.proofs.StepLemmas.{first_call, has_room, is_new, no_reply, one_entry, one_message, reply_goes, work_after}
 
+-- the call of the method 0421 with one byte
+abbrev pub calling_with : ℕ → List ℕ
+calling_with byte = 0x11 ∷ 0x11 ∷ 4 ∷ 0x21 ∷ 0 ∷ 0 ∷ 0 ∷ 9 ∷ 1 ∷ 2 ∷ 0 ∷ 1 ∷ 1 ∷ 1 ∷ 0 ∷ 0 ∷ byte ∷ []
+
 abbrev pub both_flags : SdFlags
 both_flags = record { reboot = true; unicast = true }
 
@@ -177,6 +181,12 @@ module _ (config : Config) (is : WantsEvent config) where
   pub call_goes : LeadsTo (having_met config known_items) (Call Request instance 0x0421 (1 ∷ 2 ∷ [])) (CallOutput method 1 ∷ Sent client server call_bytes ∷ []) called_items
   call_goes =
       first_call (having_met config known_items) instance 0x0421 (1 ∷ 2 ∷ []) server reached (retain-empty calls_total exact_calls _) (get-empty message_cmp method) (rw is.message_limit refl)
+      ∙ rw (is.client.wants, is.client.major, is.client.address, is.client.client_port, is.client.client_id) refl
+
+  -- with another byte as its payload
+  pub other_call_goes : LeadsTo (having_met config known_items) (Call Request instance 0x0421 (9 ∷ [])) (CallOutput method 1 ∷ Sent client server (calling_with 9) ∷ []) called_items
+  other_call_goes =
+      first_call (having_met config known_items) instance 0x0421 (9 ∷ []) server reached (retain-empty calls_total exact_calls _) (get-empty message_cmp method) (rw is.message_limit refl)
       ∙ rw (is.client.wants, is.client.major, is.client.address, is.client.client_port, is.client.client_id) refl
 
   -- what is read of the answer

@@ -2,24 +2,34 @@
 //! function that does nothing.
 ghost use Rattle.std.specs.Prelude.{◌≡◌, ◌+◌, ℕ, false, List, ◌∷◌, ◌++◌, [], Some, Ok};
 ghost use Rattle.std.specs.declared.net.socket_addr.SocketAddrV4.{SocketAddrV4};
+ghost use Rattle.someip_node_laws.specs.WorkedRun.{OffersEvent, WantsEvent};
 ghost use Rattle.someip_node_rules.specs.declared.config.Config.{Config};
 ghost use Rattle.someip_node_rules.specs.declared.output.Output.TheVariants.{Sent};
 ghost use Rattle.someip_world_schedule.specs.declared.step.Step.TheVariants.{Deliver, Inject, Tick};
 ghost use Rattle.someip_world_setup.specs.GoodSetups.{Network};
-ghost use Rattle.someip_world_rules.specs.Runs.{told_lines};
+ghost use Rattle.someip_world_rules.specs.LateAnswer.{answered_late, answered_late_lines, answered_late_trace};
+ghost use Rattle.someip_world_rules.specs.Runs.{run_of, told_lines};
 ghost use Rattle.someip_world_rules.specs.WorkedTrace.{a, b};
 ghost use Rattle.someip_world_rules.specs.declared.reuse.Reuse.TheVariants.{Broken, Clean};
+ghost use Rattle.someip_world_exchanges.specs.CleanReuse.{IsVerdictOn};
 ghost use Rattle.someip_world_ledger.specs.Booking.{arrived_with, booked, mute_note};
 ghost use Rattle.someip_world_ledger.specs.Books.{Book, LifeKept, TakenKeys, is_breach};
-ghost use Rattle.someip_world_ledger.specs.VerdictExamples.{IsOfTwo, IsVerdictThen, answered_late, answered_late_lines, answered_twice, answered_twice_lines, refused_twice, refused_twice_lines, sent_twice, sent_twice_lines, subscribed_twice, subscribed_twice_lines};
+ghost use Rattle.someip_world_ledger.specs.VerdictExamples.{IsOfTwo, IsVerdictThen, answered_twice, answered_twice_lines, refused_twice, refused_twice_lines, sent_twice, sent_twice_lines, subscribed_twice, subscribed_twice_lines};
 
 /// A client calls, begins again, and makes a call with the key of the first. The answer of the first call, its
 /// ERROR that comes once more, and its request where it is a oneway each break clean reuse in the last step;
 /// the request of the second call in their place does not. So it is with the Ack of a first subscription and
-/// the Subscribe of a second. The lines are those before the last step, whatever that tells.
+/// the Subscribe of a second. The lines are those before the last step, whatever that tells. And such a run there
+/// is: that of the old answer has just these lines, over nodes one of which offers what the other wants, and in
+/// the last the client hands up the answer of the first call for the second.
 pub fn verdicts_by_example()
     ensures old_answer { (network : Network) → IsOfTwo network
         → IsVerdictThen network.nodes (answered_late 4 b) answered_late_lines (Broken 9) }
+    ensures old_answer_run { (network : Network) (two : IsOfTwo network)
+        → OffersEvent two.first.config → WantsEvent two.second.config
+        → (run_of network.nodes (two.first.config ∷ two.second.config ∷ []) (answered_late 4 b)
+        ≡ Ok answered_late_trace)
+        × IsVerdictOn network.nodes (answered_late 4 b) answered_late_trace (Broken 9) }
     ensures request_behind_the_answer { (network : Network) → IsOfTwo network
         → IsVerdictThen network.nodes (answered_late 3 a) answered_late_lines Clean }
     ensures old_error { (network : Network) → IsOfTwo network

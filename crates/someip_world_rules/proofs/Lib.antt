@@ -1,6 +1,7 @@
 pub mod LiarLemmas
 pub mod TurnLemmas
 pub mod Fronts
+pub mod LineLemmas
 pub mod Sendings
 pub mod Deliverings
 pub mod Lives
@@ -14,3 +15,4 @@ pub mod FitRunLemmas
 pub mod ConfiguredLemmas
 pub mod NumberLemmas
 pub mod WorkedTraceLemmas
+pub mod LateAnswerLemmas

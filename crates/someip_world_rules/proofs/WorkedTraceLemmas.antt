@@ -26,7 +26,7 @@ use Rattle.someip_world_rules.specs.Runs.{World, happens, happens_to, told_lines
 use Rattle.someip_world_rules.specs.WorkedTrace.{AreNamed, a, b, schedule, trace}
 
 -- a step that happens leads on to the next
-goes_on : (nodes : List SetupNode) (index : ℕ) (w next : World) (s : Step) (steps : List Step) → happens nodes index w s ≡ Ok next
+pub goes_on : (nodes : List SetupNode) (index : ℕ) (w next : World) (s : Step) (steps : List Step) → happens nodes index w s ≡ Ok next
     → run_from nodes index w (s ∷ steps) ≡ run_from nodes (index + 1) next steps
 goes_on nodes index w next s steps does = ap (λ r. then_on index r (λ next. run_from nodes (index + 1) next steps)) does
 
@@ -34,18 +34,18 @@ module _ (first second : SetupNode) (own other : Config) (named : AreNamed first
   abbrev nodes : List SetupNode
   nodes = first ∷ second ∷ []
 
-  first_place : place_of nodes a ≡ Some 0
+  pub first_place : place_of nodes a ≡ Some 0
   first_place = rw named.first_name refl
 
-  second_place : place_of nodes b ≡ Some 1
+  pub second_place : place_of nodes b ≡ Some 1
   second_place = rw (named.first_name, named.second_name) refl
 
   -- the world once the nodes met these items
-  abbrev world : List Item → List Item → List Line → World
+  abbrev pub world : List Item → List Item → List Line → World
   world xs ys lines = record { histories = having_met own xs ∷ having_met other ys ∷ []; lines = lines }
 
   -- a step at the first node, and at the second
-  at_first : (index : ℕ) (s : Step) (i : input.Input) (xs ys after : List Item) (lines : List Line) (outputs : List Output) → node_of s ≡ a
+  pub at_first : (index : ℕ) (s : Step) (i : input.Input) (xs ys after : List Item) (lines : List Line) (outputs : List Output) → node_of s ≡ a
       → deed_of (having_met own xs) lines s ≡ Ok (Takes i) → LeadsTo (having_met own xs) i outputs after
       → happens nodes index (world xs ys lines) s ≡ Ok (world after ys (lines ++ told_lines index 0 (Ok outputs)))
   at_first index s i xs ys after lines outputs at does leads =
@@ -55,7 +55,7 @@ module _ (first second : SetupNode) (own other : Config) (named : AreNamed first
       ∙ ap (unless_bad index 0 (world xs ys lines) (having_met own xs)) does
       ∙ ap (λ done. Ok (world_after index 0 (world xs ys lines) (having_met own xs) done)) leads
 
-  at_second : (index : ℕ) (s : Step) (i : input.Input) (xs ys after : List Item) (lines : List Line) (outputs : List Output) → node_of s ≡ b
+  pub at_second : (index : ℕ) (s : Step) (i : input.Input) (xs ys after : List Item) (lines : List Line) (outputs : List Output) → node_of s ≡ b
       → deed_of (having_met other ys) lines s ≡ Ok (Takes i) → LeadsTo (having_met other ys) i outputs after
       → happens nodes index (world xs ys lines) s ≡ Ok (world xs after (lines ++ told_lines index 1 (Ok outputs)))
   at_second index s i xs ys after lines outputs at does leads =
@@ -100,7 +100,7 @@ module _ (first second : SetupNode) (own other : Config) (named : AreNamed first
   step11 : happens nodes 11 (world published_items subscribed_items (take 12 trace)) (Deliver 6 b) ≡ Ok (world published_items subscribed_items (take 13 trace))
   step11 = at_second 11 (Deliver 6 b) (comes event_packet) published_items subscribed_items subscribed_items (take 12 trace) (Event instance 0x8001 (0x2a ∷ []) ∷ []) refl (rw wants.client.address refl) (event_taken other wants)
 
-  from_start : run_from nodes 1 (world_of nodes (own ∷ other ∷ [])) schedule ≡ run_from nodes 1 (world [] [] []) schedule
+  pub from_start : run_from nodes 1 (world_of nodes (own ∷ other ∷ [])) schedule ≡ run_from nodes 1 (world [] [] []) schedule
   from_start = rw (named.first_delay, named.second_delay) refl
 
   all_steps : run_from nodes 1 (world [] [] []) schedule ≡ Ok (world published_items subscribed_items trace)

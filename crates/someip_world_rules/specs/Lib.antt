@@ -9,3 +9,4 @@ pub mod KnownOffers
 pub mod RunExamples
 pub mod Announced
 pub mod WorkedTrace
+pub mod LateAnswer

@@ -1,6 +1,6 @@
 -- The steps of a run one by one: the world before each, what its node does there, and the lines that tell of it in the trace.
 use Rattle.std.specs.Prelude.{◌≡◌, ◌⊎◌, ℕ, ◌+◌, ◌==◌, List, take, slice_get, Some, Ok, Err}
-use Rattle.std.specs.List.{filter}
+use Rattle.std.specs.List.{Contains, filter}
 use Rattle.someip_node_rules.specs.History.{History}
 use Rattle.someip_node_rules.specs.Inputs.{Input}
 use Rattle.someip_node_rules.specs.Plans.{Work}
@@ -51,6 +51,14 @@ pub record Turn (nodes : List SetupNode) (configs : List Config) (steps : List S
 pub record ToldTurn (nodes : List SetupNode) (configs : List Config) (steps : List Step) (lines : List Line) (i : ℕ) (s : Step) : Type 0 where
   pub turn : Turn nodes configs steps i s
   pub told : lines_at (i + 1) lines ≡ told_lines (i + 1) turn.place (given_in (done_with turn.history turn.deed))
+
+-- a line of a trace tells of the step of its index, counted from 1: it is one of those of what was given there, at that place
+pub record IsOfStep (nodes : List SetupNode) (configs : List Config) (steps : List Step) (line : Line) : Type 0 where
+  pub i : ℕ
+  pub index : line.step ≡ i + 1
+  pub s : Step
+  pub turn : Turn nodes configs steps i s
+  pub told : Contains (told_lines (i + 1) turn.place (given_in (done_with turn.history turn.deed))) line
 
 -- the node of a step takes an input: the trace tells its refusal alone, or what it gives, of which this holds
 pub record TakesIt (nodes : List SetupNode) (configs : List Config) (steps : List Step) (lines : List Line) (i : ℕ) (s : Step) (input : Input) (Gives : History → Work History → Type 0) : Type 0 where

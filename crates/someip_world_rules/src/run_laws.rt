@@ -1,7 +1,7 @@
 //! Laws of every run, whatever its nodes, configurations and steps. Each is the contract of a function
 //! that does nothing.
 ghost use Rattle.std.specs.Prelude.{◌≡◌, ◌≢◌, true, ◌<◌, ◌≤◌, ◌^◌, ℕ, List, length, [], ◌∷◌, Option, Some, Ok, slice_get, take};
-ghost use Rattle.std.specs.List.{AllByRecursion};
+ghost use Rattle.std.specs.List.{AllByRecursion, Contains};
 ghost use Rattle.std.specs.declared.net.socket_addr.SocketAddrV4.{SocketAddrV4};
 ghost use Rattle.someip_wire.specs.Spelling.{Fits, MessageValue, spelling};
 ghost use Rattle.sd_wire.specs.declared.entry.ServiceEntry.{ServiceEntry};
@@ -32,7 +32,7 @@ ghost use Rattle.someip_world_schedule.specs.declared.step.Step.{Step};
 ghost use Rattle.someip_world_schedule.specs.declared.step.Step.TheVariants.{Publish, PublishTo};
 ghost use Rattle.someip_world_setup.specs.declared.setup_node.SetupNode.{SetupNode};
 ghost use Rattle.someip_world_rules.specs.declared.line.Line.{Line};
-ghost use Rattle.someip_world_rules.specs.Turns.{IsOfRun, LeadTo, TakesIt, ToldTurn};
+ghost use Rattle.someip_world_rules.specs.Turns.{IsOfRun, IsOfStep, LeadTo, TakesIt, ToldTurn};
 ghost use Rattle.sd_wire.specs.Kinds.{is_offer};
 ghost use Rattle.someip_world_rules.specs.Announced.{AllFits, FitNodes, FitsStep, IsConfigured, KnowsAsConfigured, KnowsHonestAsConfigured};
 ghost use Rattle.someip_world_rules.specs.Liars.{HasNoLiars};
@@ -52,6 +52,14 @@ pub fn each_step_is_told()
     ensures { (nodes : List SetupNode) (configs : List Config) (steps : List Step) (lines : List Line)
         (i : ℕ) (s : Step) → run_of nodes configs steps ≡ Ok lines → slice_get steps i ≡ Some s
         → ToldTurn nodes configs steps lines i s }
+{}
+
+/// Each line of a trace tells of a step of the run: that of its index, counted from 1, whose lines are those of
+/// what was given there. So a trace has no line that no step gave.
+pub fn each_line_tells_of_its_step()
+    ensures { (nodes : List SetupNode) (configs : List Config) (steps : List Step) (lines : List Line)
+        (line : Line) → run_of nodes configs steps ≡ Ok lines → Contains lines line
+        → IsOfStep nodes configs steps line }
 {}
 
 /// An event that is published in a run is sent once to each endpoint that is live at its node in that

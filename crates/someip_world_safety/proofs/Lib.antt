@@ -51,3 +51,7 @@ pub mod RepliesBack
 pub mod AnswerOpenings
 pub mod CleanLemmas
 pub mod InjectedReplies
+pub mod AcknowledgedLemmas
+pub mod LineLemmas
+pub mod PortLemmas
+pub mod CountLemmas

@@ -174,7 +174,7 @@ copy_offers config copy is good none instance service among =
     )
 
 -- the node of a copy
-copy_at : (nodes : List SetupNode) (configs : List Config) → AreCopies nodes configs → (p : ℕ) (c : Config) → slice_get configs p ≡ Some c
+pub copy_at : (nodes : List SetupNode) (configs : List Config) → AreCopies nodes configs → (p : ℕ) (c : Config) → slice_get configs p ≡ Some c
     → (node : SetupNode) × (slice_get nodes p ≡ Some node) × IsCopy node.config c
 copy_at [] [] are p c is = absurd cc
 copy_at [] (d ∷ configs) are p c is = absurd are

@@ -1,6 +1,6 @@
 -- Within a step, a subscription that stands at a client is the newest exchange of its key; and where it was acknowledged by a server that is no liar, that accepted it.
 use Rattle.std.proofs.Common.{◌≡◌, ◌⊎◌, inl, inr, ℕ, suc, ◌<◌, ◌≤◌, ◌%◌, Bool, true, false, ltb, List, [], ◌∷◌, ◌++◌, slice_get, None, Some, arith, refl, sym, ap, subst, append_assoc, ◌∙◌}
-use Rattle.std.specs.List.{Contains}
+use Rattle.std.specs.List.{AllByRecursion, Contains}
 use Rattle.std.proofs.lemmas.List.Elements.{Contains-append_right}
 use Rattle.std.proofs.lemmas.Bool.{ltb-true, ltb-false}
 use Rattle.std.proofs.lemmas.List.{append-nil}
@@ -25,6 +25,7 @@ use Rattle.someip_node_rules.specs.Questions.{clock_at}
 use Rattle.someip_node_rules.specs.Steps.{work_on}
 use Rattle.someip_node_rules.specs.Trails.{Done, after, met_by, outcome_of, trail_of}
 use Rattle.someip_node_rules.specs.WishQuestions.{course_at, is_answered_by, known_peer_at, same_eventgroup}
+use Rattle.someip_node_rules.proofs.MemberLemmas.{at_member}
 use Rattle.someip_node_rules.proofs.PlanLemmas.{before_each}
 use Rattle.someip_node_rules.proofs.StepRules.{config_there}
 use Rattle.someip_world_schedule.specs.declared.step.Step.{Step}
@@ -265,18 +266,35 @@ module _ (nodes : List SetupNode) (configs : List Config) (ss : List Step) where
         done_step (AnAck peer head answer ttl by named counted of one) = subst (λ xs. AllInStep (after at xs)) (sym one) (acked_step peer head answer ttl by named counted of)
         done_step (AWish eventgroup by one) = subst (λ xs. AllInStep (after at xs)) (sym one) (wish_step eventgroup by one)
 
-    -- through the rules of the step, one after the other
-    walk : (earlier later : List Done) → trail ≡ earlier ++ later → AllInStep (after h (met_by earlier)) → AllInStep (after h (met_by trail))
-    walk earlier [] is old = subst (λ ds. AllInStep (after h (met_by ds))) (sym (is ∙ append-nil earlier)) old
-    walk earlier (d ∷ later) is old =
+    -- with a rule of the step, and before it
+    over_rule : (earlier later : List Done) (d : Done) → trail ≡ earlier ++ d ∷ later → AllInStep (after h (met_by earlier))
+        → AllInStep d.before.state × AllInStep (after h (met_by (earlier ++ d ∷ [])))
+    over_rule earlier later d is old =
         let at = (before_each (plan_of does.input) (work_on h) earlier later d is).0 in
         let among : Contains trail d = subst (λ ds. Contains ds d) (sym is) (Contains-append_right earlier (d ∷ later) d (0, omega arith, refl)) in
         let own : d.before.state.config.address ≡ address = ap (λ c. c.address) (config_there h does.input d among) in
         let here : AllInStep d.before.state = subst AllInStep (sym at) old in
         let next : AllInStep (after d.before.state (outcome_of d).items) = done_step d among own here (kinds_of d.before.state d.by) in
-        walk (earlier ++ d ∷ []) later (is ∙ sym (append_assoc earlier (d ∷ []) later))
-        (subst AllInStep (ap (λ x. after x (outcome_of d).items) at ∙ after_more h earlier d) next)
+        (here, subst AllInStep (ap (λ x. after x (outcome_of d).items) at ∙ after_more h earlier d) next)
+
+    -- the rules of the step but some
+    moved : (earlier later : List Done) (d : Done) → trail ≡ earlier ++ d ∷ later → trail ≡ (earlier ++ d ∷ []) ++ later
+    moved earlier later d is = is ∙ sym (append_assoc earlier (d ∷ []) later)
+
+    -- through the rules of the step, one after the other
+    walk : (earlier later : List Done) → trail ≡ earlier ++ later → AllInStep (after h (met_by earlier)) → AllInStep (after h (met_by trail))
+    walk earlier [] is old = subst (λ ds. AllInStep (after h (met_by ds))) (sym (is ∙ append-nil earlier)) old
+    walk earlier (d ∷ later) is old = walk (earlier ++ d ∷ []) later (moved earlier later d is) (over_rule earlier later d is old).1
+
+    each_before : (earlier later : List Done) → trail ≡ earlier ++ later → AllInStep (after h (met_by earlier)) → AllByRecursion (λ d. AllInStep d.before.state) later
+    each_before earlier [] is old = tt
+    each_before earlier (d ∷ later) is old =
+        let both = over_rule earlier later d is old in (both.0, each_before (earlier ++ d ∷ []) later (moved earlier later d is) both.1)
 
     -- the whole step
     pub all_in_step : AllInStep h → AllInStep (after h (met_by trail))
     all_in_step old = walk [] trail refl old
+
+    -- before each rule of the step
+    pub before_rule : AllInStep h → (d : Done) → Contains trail d → AllInStep d.before.state
+    before_rule old d among = at_member (λ x. AllInStep x.before.state) trail d (each_before [] trail refl old) among

@@ -40,7 +40,7 @@ module _ (nodes : List SetupNode) (configs : List Config) (steps : List Step) wh
     pub met : Contains (met_by (trail_of does.turn.history does.input)) (items.AnswerTaken key)
 
   -- A call waits for its answer before a step: it was made in a step of the same life, no answer to it was taken since, and no
-  -- call of its Message ID and session was made since
+  -- other REQUEST of its Message ID and session was made since
   pub record IsAwaited (n place : ℕ) (key : CallKey) (peer : SocketAddrV4) : Type 0 where
     pub made : ℕ
     pub before : made < n

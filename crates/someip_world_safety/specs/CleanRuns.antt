@@ -1,15 +1,28 @@
--- When a run surely reuses its keys cleanly: where it opens no key twice, and sends nothing in segments.
-use Rattle.std.specs.Prelude.{false, ◌≡◌, ℕ, List}
+-- When a run surely reuses its keys cleanly: where no counter gives a number twice, or no key is opened twice, and nothing goes in
+-- segments.
+use Rattle.std.specs.Prelude.{false, ◌≡◌, ℕ, suc, List, [], ◌∷◌}
+use Rattle.std.specs.List.{Contains}
+use Rattle.std.specs.declared.net.ipv4_addr.Ipv4Addr.{Ipv4Addr}
+use Rattle.std.specs.declared.net.socket_addr.SocketAddrV4.{SocketAddrV4}
 use Rattle.someip_wire.specs.Spelling.{MessageValue}
 use Rattle.someip_tp.specs.Sent.{is_long}
+use Rattle.sd_core.specs.declared.eventgroup.Eventgroup.{Eventgroup}
+use Rattle.someip_rpc.specs.declared.call.Call.{Call}
+use Rattle.someip_rpc.specs.declared.ids.EventId.{EventId}
+use Rattle.someip_rpc.specs.declared.ids.MessageId.{MessageId}
+use Rattle.someip_rpc.specs.Sessions.{session_after}
+use Rattle.someip_node_rules.specs.CallQuestions.{times_published}
+use Rattle.someip_node_rules.specs.Items as items
+use Rattle.someip_node_rules.specs.Items.{Item}
 use Rattle.someip_node_rules.specs.Outputs as outputs
+use Rattle.someip_node_rules.specs.Trails.{Done, outcome_of, trail_of}
 use Rattle.someip_node_rules.specs.declared.config.Config.{Config}
 use Rattle.someip_world_schedule.specs.declared.step.Step.{Step}
 use Rattle.someip_world_setup.specs.declared.setup_node.SetupNode.{SetupNode}
 use Rattle.someip_world_rules.specs.Datagrams.{SentDatagram}
-use Rattle.someip_world_rules.specs.Deliveries.{Sends}
+use Rattle.someip_world_rules.specs.Deliveries.{Does, Sends}
 use Rattle.someip_world_exchanges.specs.declared.exchange_key.ExchangeKey.{ExchangeKey}
-use Rattle.someip_world_exchanges.specs.Openings.{Opened}
+use Rattle.someip_world_exchanges.specs.Openings.{Begins, Opened}
 
 module _ (nodes : List SetupNode) (configs : List Config) (steps : List Step) where
   -- no exchange of a key is opened in two steps
@@ -21,3 +34,45 @@ module _ (nodes : List SetupNode) (configs : List Config) (steps : List Step) wh
   AreShort =
       (i : ℕ) (d : SentDatagram) (s : Sends nodes configs steps i d) (m : MessageValue) → s.given ≡ outputs.Sends d.from d.to m
       → is_long m.payload ≡ false
+
+  -- ---- numbers that counters give
+
+  -- In a step the session counter of a Message ID, at the node of a place, gives a session: a call is made with it
+  pub record NumbersCall (i place : ℕ) (message : MessageId) (session : ℕ) : Type 0 where
+    pub does : Does nodes configs steps i
+    pub at : does.turn.place ≡ place
+    pub done : Done
+    pub among : Contains (trail_of does.turn.history does.input) done
+    pub call : Call
+    pub peer : SocketAddrV4
+    pub called : (outcome_of done).items ≡ items.Called call peer session ∷ []
+    pub of : call.message ≡ message
+
+  -- the session counter of an event does: the event is published with the session, which counts its publications
+  pub record NumbersEvent (i place : ℕ) (event : EventId) (session : ℕ) : Type 0 where
+    pub does : Does nodes configs steps i
+    pub at : does.turn.place ≡ place
+    pub done : Done
+    pub among : Contains (trail_of does.turn.history does.input) done
+    pub published : (outcome_of done).items ≡ items.Published event ∷ []
+    pub counted : session ≡ session_after (suc (times_published done.before.state.items event)) 0
+
+  -- the counter of the subscriptions of an eventgroup does: one begins with it
+  pub record NumbersSubscription (i place : ℕ) (eventgroup : Eventgroup) (counter : ℕ) : Type 0 where
+    pub does : Does nodes configs steps i
+    pub at : does.turn.place ≡ place
+    pub done : Done
+    pub among : Contains (trail_of does.turn.history does.input) done
+    pub item : Item
+    pub meets : (outcome_of done).items ≡ item ∷ []
+    pub peer : Ipv4Addr
+    pub begins : Begins done.before.state item eventgroup peer counter
+
+  -- No counter of a node gives a number in two steps. A node that is started again counts from the start again
+  pub record CountsOnce : Type 0 where
+    pub calls : (i j place : ℕ) (message : MessageId) (session : ℕ)
+        → NumbersCall i place message session → NumbersCall j place message session → i ≡ j
+    pub events : (i j place : ℕ) (event : EventId) (session : ℕ)
+        → NumbersEvent i place event session → NumbersEvent j place event session → i ≡ j
+    pub subscriptions : (i j place : ℕ) (eventgroup : Eventgroup) (counter : ℕ)
+        → NumbersSubscription i place eventgroup counter → NumbersSubscription j place eventgroup counter → i ≡ j

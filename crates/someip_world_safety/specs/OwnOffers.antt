@@ -16,3 +16,9 @@ OffersAtOwn config =
 -- so it is at all nodes
 abbrev pub HaveOwnOffers : List Config → Type 0
 HaveOwnOffers configs = (place : ℕ) (config : Config) → slice_get configs place ≡ Some config → OffersAtOwn config
+
+-- at each node, instances that are offered at one endpoint are one
+abbrev pub HaveOwnPorts : List Config → Type 0
+HaveOwnPorts configs =
+    (place : ℕ) (config : Config) → slice_get configs place ≡ Some config → (a b : InstanceId) (s t : OfferedService)
+    → offered_as config a ≡ Some s → offered_as config b ≡ Some t → s.rules.endpoint ≡ t.rules.endpoint → a ≡ b

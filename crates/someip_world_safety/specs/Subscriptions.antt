@@ -1,6 +1,7 @@
 -- Which subscriptions of a client are safe: those that their server accepted.
 use Rattle.std.specs.Prelude.{◌≡◌, ◌<◌, ℕ, IsTrue, List, [], ◌∷◌, Some, slice_get}
 use Rattle.std.specs.List.{Contains}
+use Rattle.std.specs.Net.Socket.{v4_ip}
 use Rattle.std.specs.declared.net.ipv4_addr.Ipv4Addr.{Ipv4Addr}
 use Rattle.std.specs.declared.net.socket_addr.SocketAddrV4.{SocketAddrV4}
 use Rattle.someip_tables.specs.declared.deadline.Deadline.{Deadline}
@@ -10,8 +11,10 @@ use Rattle.sd_core.specs.declared.eventgroup.Eventgroup.{Eventgroup}
 use Rattle.sd_core.specs.SubscriberTables.{subscription_at}
 use Rattle.someip_node_rules.specs.declared.config.Config.{Config}
 use Rattle.someip_node_rules.specs.History.{History}
+use Rattle.someip_node_rules.specs.Inputs.{Datagram}
 use Rattle.someip_node_rules.specs.Items.{SubscriptionAccepted}
 use Rattle.someip_node_rules.specs.Learning.{eventgroup_in}
+use Rattle.someip_node_rules.specs.Packets.{Packet}
 use Rattle.someip_node_rules.specs.Plans.{TakesSubscribe}
 use Rattle.someip_node_rules.specs.Subscribing.{subscribe_in}
 use Rattle.someip_node_rules.specs.Trails.{Done, outcome_of, trail_of}
@@ -66,6 +69,14 @@ module _ (nodes : List SetupNode) (configs : List Config) (steps : List Step) wh
     pub newest : IsNewest nodes configs steps (of_subscription h.config.address peer eventgroup counter) since begun
     pub own : newest.opened_in.does.turn.place ≡ place
     pub accepted : WasAccepted n h.config.address peer eventgroup counter since
+
+  -- A subscription that a client tells of in a step, with a counter, is safe: the step takes a datagram that came from the server,
+  -- and the subscription that was begun there with this counter is safe before the step
+  pub record IsSafelyAcknowledged (n : ℕ) (eventgroup : Eventgroup) (counter : ℕ) : Type 0 where
+    pub does : Does nodes configs steps n
+    pub packet : Packet
+    pub came : does.input ≡ Datagram packet.from packet.to packet.bytes
+    pub safe : IsSafeSubscription n does.turn.place does.turn.history eventgroup (v4_ip packet.from) counter
 
   -- each subscription that a node of a world counts on, as one that was acknowledged, is safe
   abbrev pub SubscriptionsAreSafe : ℕ → World → Type 0

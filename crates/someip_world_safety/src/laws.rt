@@ -22,12 +22,13 @@ ghost use Rattle.someip_world_safety.specs.AwaitedCalls.{CallsAreAwaited};
 ghost use Rattle.someip_world_safety.specs.CleanRuns.{AreShort, OpensOnce};
 ghost use Rattle.someip_world_safety.specs.OpenRequests.{RequestsAreOpen};
 ghost use Rattle.someip_world_safety.specs.OwnOffers.{HaveOwnOffers};
-ghost use Rattle.someip_world_safety.specs.Safety.{AnswersAreSafe, EventsAreSafe, HonestAnswersAreSafe, HonestEventsAreSafe, HonestOffersAreConfigured, OffersAreConfigured, PublishesToAll, PublishesToOne};
+ghost use Rattle.someip_world_safety.specs.Safety.{AcknowledgedAreSafe, AnswersAreSafe, EventsAreSafe, HonestAcknowledgedAreSafe, HonestAnswersAreSafe, HonestEventsAreSafe, HonestOffersAreConfigured, OffersAreConfigured, PublishesToAll, PublishesToOne};
 ghost use Rattle.someip_world_safety.specs.Subscriptions.{HonestSubscriptionsAreSafe, SubscriptionsAreSafe};
 
 /// A client counts itself subscribed, before each step up to which keys are reused cleanly, only where the
 /// server at which the subscription was begun accepted a Subscribe that belongs to this beginning, and no
-/// exchange of its key was begun since. That server is no liar, all that is given fits its fields, nodes have
+/// exchange of its key was begun since. Where it tells in a step that it is subscribed, by an Ack that came from
+/// a server, that server accepted the Subscribe so. It is no liar, all that is given fits its fields, nodes have
 /// addresses of their own, and none has that of the group.
 pub fn subscriptions_were_accepted()
     ensures honest { (nodes : List SetupNode) (configs : List Config) (steps : List Step)
@@ -38,6 +39,13 @@ pub fn subscriptions_were_accepted()
         → HasNoLiars nodes → AllFits nodes configs steps → HaveOwnAddresses configs → AreOffGroup configs
         → (n : ℕ) (w : World) → n ≤ length steps → LeadTo nodes configs (take n steps) w
         → IsCleanBefore nodes configs steps n → SubscriptionsAreSafe nodes configs steps n w }
+    ensures told { (nodes : List SetupNode) (configs : List Config) (steps : List Step)
+        → AllFits nodes configs steps → HaveOwnAddresses configs → AreOffGroup configs
+        → (n : ℕ) → IsCleanBefore nodes configs steps (suc n)
+        → HonestAcknowledgedAreSafe nodes configs steps n }
+    ensures told_without_liars { (nodes : List SetupNode) (configs : List Config) (steps : List Step)
+        → HasNoLiars nodes → AllFits nodes configs steps → HaveOwnAddresses configs → AreOffGroup configs
+        → (n : ℕ) → IsCleanBefore nodes configs steps (suc n) → AcknowledgedAreSafe nodes configs steps n }
 {}
 
 /// In a network that was read, nodes have addresses of their own, and none has that of the group.
@@ -48,7 +56,7 @@ pub fn addresses_are_apart()
 
 /// A call waits for its answer at a client, before each step, only where the client made it in a step of its
 /// present life, at the endpoint that it awaits the answer of. Since then it took no answer to it, and made
-/// no other call of its Message ID and session.
+/// no other REQUEST of its Message ID and session.
 pub fn calls_that_wait_were_made()
     ensures { (nodes : List SetupNode) (configs : List Config) (steps : List Step) (n : ℕ) (w : World)
         → n ≤ length steps → LeadTo nodes configs (take n steps) w

@@ -1,13 +1,15 @@
 //! What the users of a network can rely on, in every run over the nodes of a setup.
-ghost use Rattle.std.specs.Prelude.{◌≤◌, ℕ, suc, List, length, take};
+ghost use Rattle.std.specs.Prelude.{◌≡◌, ◌≤◌, ℕ, suc, List, length, take, Ok};
 ghost use Rattle.someip_node_rules.specs.declared.config.Config.{Config};
 ghost use Rattle.someip_world_rules.specs.Liars.{HasNoLiars};
-ghost use Rattle.someip_world_rules.specs.Runs.{AreCopies, World};
+ghost use Rattle.someip_world_rules.specs.Runs.{AreCopies, World, run_of};
 ghost use Rattle.someip_world_rules.specs.Turns.{LeadTo};
 ghost use Rattle.someip_world_rules.specs.declared.line.Line.{Line};
 ghost use Rattle.someip_world_rules.specs.declared.reuse.Reuse.{Reuse};
+ghost use Rattle.someip_world_rules.specs.declared.reuse.Reuse.TheVariants.{Clean};
 ghost use Rattle.someip_world_exchanges.specs.CleanReuse.{IsCleanBefore, IsVerdictOn};
-ghost use Rattle.someip_world_safety.specs.Safety.{AnswersAreSafe, EventsAreSafe, HonestAnswersAreSafe, HonestEventsAreSafe, HonestOffersAreConfigured, IsSafeAmongLiarsOn, IsSafeOn, OffersAreConfigured, PublishesToAll, PublishesToOne};
+ghost use Rattle.someip_world_safety.specs.CleanRuns.{AreShort, CountsOnce};
+ghost use Rattle.someip_world_safety.specs.Safety.{AcknowledgedAreSafe, AnswersAreSafe, EventsAreSafe, HonestAcknowledgedAreSafe, HonestAnswersAreSafe, HonestEventsAreSafe, HonestOffersAreConfigured, IsSafeAmongLiarsOn, IsSafeOn, OffersAreConfigured, PublishesToAll, PublishesToOne};
 ghost use Rattle.someip_world_safety.specs.Subscriptions.{HonestSubscriptionsAreSafe, SubscriptionsAreSafe};
 
 use someip_world_rules::run_laws::{all_that_a_setup_gives_fits, known_offers_are_of_the_setup};
@@ -24,9 +26,11 @@ use someip_world_setup::Setup;
 /// payload. An event that is handed up of a message which came from no liar has the payload of an earlier
 /// publication of that event from the endpoint of the known offer, which was sent to this client's endpoint
 /// while that was live there for an eventgroup of the event; and the client is subscribed to an eventgroup to
-/// which its own set-up gives the event. And a client counts itself subscribed before a step, up to which keys
-/// are reused cleanly, at a server that is no liar only where that server accepted a Subscribe that belongs to
-/// this beginning.
+/// which its own set-up gives the event. A client that tells, by an Ack which came from no liar, that it is
+/// subscribed with a counter began that subscription at the server from which the Ack came, and the server
+/// accepted a Subscribe that belongs to this beginning. And a client counts itself subscribed before a step, up
+/// to which keys are reused cleanly, at a server that is no liar only where that server accepted such a
+/// Subscribe.
 ///
 /// Of each step of every run: an event that a node publishes is sent once to each endpoint that is then live
 /// for one of its eventgroups, by the server's own clock, and to no other; one that is published to one endpoint
@@ -39,6 +43,9 @@ pub fn runs_are_safe(setup: &Setup, steps: &[Step])
     ensures events { (configs : List Config) (n : ℕ) → AreCopies setup.now.nodes configs
         → IsCleanBefore setup.now.nodes configs steps.now (suc n)
         → HonestEventsAreSafe setup.now.nodes configs steps.now n }
+    ensures acknowledged { (configs : List Config) (n : ℕ) → AreCopies setup.now.nodes configs
+        → IsCleanBefore setup.now.nodes configs steps.now (suc n)
+        → HonestAcknowledgedAreSafe setup.now.nodes configs steps.now n }
     ensures subscriptions { (configs : List Config) (n : ℕ) (w : World) → AreCopies setup.now.nodes configs
         → n ≤ length steps.now → LeadTo setup.now.nodes configs (take n steps.now) w
         → IsCleanBefore setup.now.nodes configs steps.now n
@@ -64,6 +71,9 @@ pub fn runs_without_liars_are_safe(setup: &Setup, steps: &[Step])
     ensures events { HasNoLiars setup.now.nodes → (configs : List Config) (n : ℕ)
         → AreCopies setup.now.nodes configs → IsCleanBefore setup.now.nodes configs steps.now (suc n)
         → EventsAreSafe setup.now.nodes configs steps.now n }
+    ensures acknowledged { HasNoLiars setup.now.nodes → (configs : List Config) (n : ℕ)
+        → AreCopies setup.now.nodes configs → IsCleanBefore setup.now.nodes configs steps.now (suc n)
+        → AcknowledgedAreSafe setup.now.nodes configs steps.now n }
     ensures subscriptions { HasNoLiars setup.now.nodes → (configs : List Config) (n : ℕ) (w : World)
         → AreCopies setup.now.nodes configs → n ≤ length steps.now
         → LeadTo setup.now.nodes configs (take n steps.now) w
@@ -80,7 +90,9 @@ pub fn runs_without_liars_are_safe(setup: &Setup, steps: &[Step])
 }
 
 /// The run that a trace tells is safe, up to the step that its verdict names or, where that is `Clean`, in all
-/// steps: as `runs_are_safe` says it, and in a setup without liars as `runs_without_liars_are_safe` does.
+/// steps: as `runs_are_safe` says it, and in a setup without liars as `runs_without_liars_are_safe` does. And
+/// each line of the trace that tells of an answer, of an event or that a client is subscribed tells what its
+/// node gave in its step, which is safe so.
 pub fn runs_are_safe_by_their_verdict(setup: &Setup, steps: &[Step])
     ensures among_liars { (lines : List Line) (verdict : Reuse)
         → IsVerdictOn setup.now.nodes steps.now lines verdict
@@ -91,4 +103,22 @@ pub fn runs_are_safe_by_their_verdict(setup: &Setup, steps: &[Step])
 {
     runs_are_safe(setup, steps);
     runs_without_liars_are_safe(setup, steps);
+}
+
+/// A run in which no counter of a node gives one number in two steps, and no message goes in segments, reuses its
+/// keys cleanly, whatever liars send, and the verdict on its trace is `Clean`. The counters are those of the
+/// sessions of each Message ID that is called and of each event, and of the subscriptions of each eventgroup. A
+/// node that is started again counts from the start again.
+pub fn runs_that_count_once_are_clean(setup: &Setup, steps: &[Step])
+    ensures clean { (configs : List Config) → AreCopies setup.now.nodes configs
+        → CountsOnce setup.now.nodes configs steps.now → AreShort setup.now.nodes configs steps.now
+        → (n : ℕ) → IsCleanBefore setup.now.nodes configs steps.now n }
+    ensures verdict { (configs : List Config) (lines : List Line) (verdict : Reuse)
+        → AreCopies setup.now.nodes configs → run_of setup.now.nodes configs steps.now ≡ Ok lines
+        → IsVerdictOn setup.now.nodes steps.now lines verdict
+        → CountsOnce setup.now.nodes configs steps.now → AreShort setup.now.nodes configs steps.now
+        → verdict ≡ Clean }
+{
+    all_that_a_setup_gives_fits(setup, steps);
+    setup.nodes();
 }

@@ -48,7 +48,7 @@ pub bad_behind : (sayings : List Said) (line : List ℕ) (said : Said) → is_le
     → IsBadBehind sayings line
 bad_behind sayings line (asks asked) counts says none = absurd (true≢false none)
 bad_behind [] line (expects text) counts says none =
-    λ utf8. (counts, expected_asks_none line text says.0, λ rest more. refl)
+    λ utf8. (counts, expected_asks_none line text says, λ rest more. refl)
 bad_behind (s ∷ sayings) line (expects text) counts says none = absurd (true≢false none)
 
 -- text that is expected of no vector is bad

@@ -1,6 +1,6 @@
 -- What the lines of a file of vectors say.
 use Rattle.std.specs.Prelude.{ℕ, suc, ◌≡◌, ◌≤◌, ◌==◌, Bool, true, false, not, List, [], ◌∷◌, ◌++◌, length, filter, codes, Option, Some, None, Result, Ok, Err}
-use Rattle.std.specs.List.{AllByRecursion, list_any}
+use Rattle.std.specs.List.{AllByRecursion}
 use Rattle.std.specs.Str.{IsUtf8}
 use Rattle.someip_payload_codec.specs.Data.{Form}
 use Rattle.someip_payload_codec.specs.Check.{depth}
@@ -46,10 +46,6 @@ is_left_out (b ∷ line) = b == 0x23
 abbrev pub is_counted : List ℕ → Bool
 is_counted line = not (is_left_out line)
 
--- a carriage return stands in the line
-abbrev pub has_return : List ℕ → Bool
-has_return line = list_any (λ b. b == 0x0d) line
-
 -- the text is `SHAPE HEX`, and says this shape and these bytes
 abbrev pub AreArguments : List ℕ → Form → List ℕ → Type 0
 AreArguments text shape bytes = (shape_text : List ℕ) × (hex : List ℕ)
@@ -59,7 +55,7 @@ AreArguments text shape bytes = (shape_text : List ℕ) × (hex : List ℕ)
 abbrev pub Says : List ℕ → Said → Type 0
 Says line (asks (of_datagram bytes)) = (hex : List ℕ) × (line ≡ codes "datagram " ++ hex) × (argument_bytes hex ≡ Some bytes)
 Says line (asks (of_payload shape bytes)) = (arguments : List ℕ) × (line ≡ codes "payload " ++ arguments) × AreArguments arguments shape bytes
-Says line (expects text) = (line ≡ codes "> " ++ text) × (has_return line ≡ false)
+Says line (expects text) = line ≡ codes "> " ++ text
 
 -- a vector can be asked for: of a shape at most 64 lie inside each other
 abbrev pub IsShallow : Asked → Type 0

@@ -35,7 +35,7 @@ pub fn what_vector_lines_say()
     ensures datagram { Says (codes "datagram 12fF") (asks (of_datagram (0x12 ∷ 0xff ∷ []))) }
     ensures empty { Says (codes "datagram -") (asks (of_datagram [])) }
     ensures payload { Says (codes "payload bool 07") (asks (of_payload bool (7 ∷ []))) }
-    ensures expected { Says (codes "> 1 empty") (expects (codes "1 empty")) }
+    ensures expected { (text : List ℕ) → Says (codes "> " ++ text) (expects text) }
     ensures comment { is_left_out (codes "# >") ≡ true }
     // Expected text is bad where no vector stands before it, and HEX that is none, anywhere.
     ensures early { (text : List ℕ) → IsBadBehind [] (codes "> " ++ text) }

@@ -15,7 +15,7 @@ ghost use Rattle.someip_payload_codec.specs.Data.{Form};
 ghost use Rattle.someip_payload_codec.specs.View.{form};
 ghost use Rattle.someipctl_commands.specs.Payload.{argument_bytes};
 ghost use Rattle.someipctl_commands.specs.VectorLines.{AreArguments, AsksNothing, IsFoundOf, Says};
-ghost use Rattle.someipctl_commands.specs.VectorLines.{asked_by, asks, fault_of_shape, has_return};
+ghost use Rattle.someipctl_commands.specs.VectorLines.{asked_by, asks, fault_of_shape};
 ghost use Rattle.someipctl_commands.specs.VectorLines.{is_left_out};
 
 use crate::payload::bytes_of_argument;
@@ -64,9 +64,6 @@ pub fn line_of<'t>(alloc: Global, line: &'t [u8]) -> Result<Option<VectorLine<'t
         return Ok(None);
     }
     if let Some(expected) = behind(text, "> ") {
-        if has_return(line) {
-            return Err(LineFault::Bad);
-        }
         return Ok(Some(VectorLine::Expects(expected)));
     }
     let question = question_of(alloc, text)?;
@@ -80,12 +77,6 @@ fn is_left_out(line: &[u8]) -> bool
         [] => true,
         [first, ..] => *first == b'#',
     }
-}
-
-fn has_return(line: &[u8]) -> bool
-    ensures { result ≡ has_return line.now }
-{
-    line.contains(&b'\r')
 }
 
 /// The text after a word, where a line begins with that.

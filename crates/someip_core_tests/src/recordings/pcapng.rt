@@ -168,6 +168,28 @@ const SNAP_99: &[u8] = &[
     0, 0, 0, 1, 0, 0, 0, 0x14, 0, 0xe4, 0, 0, 0, 0, 0, 0x63, 0, 0, 0, 0x14,
 ];
 
+/// The same two, the lowest byte first.
+const LITTLE_SNAP_30: &[u8] = &[
+    1, 0, 0, 0, 0x14, 0, 0, 0, 0xe4, 0, 0, 0, 0x1e, 0, 0, 0, 0x14, 0, 0, 0,
+];
+
+const LITTLE_SNAP_99: &[u8] = &[
+    1, 0, 0, 0, 0x14, 0, 0, 0, 0xe4, 0, 0, 0, 0x63, 0, 0, 0, 0x14, 0, 0, 0,
+];
+
+/// An interface with a name and seconds, from the second 10 on, the lowest byte first.
+const LITTLE_COARSE: &[u8] = &[
+    1, 0, 0, 0, 0x30, 0, 0, 0, 0xe4, 0, 0, 0, 0, 0, 0, 0, 2, 0, 3, 0, 0x65, 0x74, 0x68, 0, 9, 0, 1,
+    0, 0, 0, 0, 0, 0x0e, 0, 8, 0, 0x0a, 0, 0, 0, 0, 0, 0, 0, 0x30, 0, 0, 0,
+];
+
+/// A packet of interface 1, at 9 ticks, the lowest byte first.
+const LITTLE_SECOND: &[u8] = &[
+    6, 0, 0, 0, 0x40, 0, 0, 0, 1, 0, 0, 0, 0, 0, 0, 0, 9, 0, 0, 0, 0x1f, 0, 0, 0, 0x1f, 0, 0, 0,
+    0x45, 0, 0, 0x1f, 0x12, 0x34, 0x40, 0, 0x40, 0x11, 0, 0, 0xc0, 0xa8, 0, 1, 0xc0, 0xa8, 0, 2,
+    0x77, 0x1a, 0x77, 0x25, 0, 0x0b, 0, 0, 1, 2, 3, 0xee, 0x40, 0, 0, 0,
+];
+
 /// A packet of 99 bytes without a time, of which the block holds 24.
 const SIMPLE_CUT: &[u8] = &[
     0, 0, 0, 3, 0, 0, 0, 0x28, 0, 0, 0, 0x63, 0x45, 0, 0, 0x1f, 0x12, 0x34, 0x40, 0, 0x40, 0x11, 0,
@@ -263,6 +285,20 @@ pub(super) const FILES: &[File] = &[
     File(&[BIG_SECTION, SNAP_30, BIG_SIMPLE], &[Other(Skipped::Cut)]),
     // A packet below the snap length.
     File(&[BIG_SECTION, SNAP_99, BIG_SIMPLE], &[Untimed(&[1, 2, 3])]),
+    // The options and the number of an interface, the lowest byte first.
+    File(
+        &[LITTLE_SECTION, LITTLE_INTERFACE, LITTLE_COARSE, LITTLE_SECOND],
+        &[At(19, 0)],
+    ),
+    // A packet without a time is of the first of two interfaces, by its snap length.
+    File(
+        &[LITTLE_SECTION, LITTLE_SNAP_30, LITTLE_SNAP_99, LITTLE_SIMPLE],
+        &[Other(Skipped::Cut)],
+    ),
+    File(
+        &[LITTLE_SECTION, LITTLE_SNAP_99, LITTLE_SNAP_30, LITTLE_SIMPLE],
+        &[Untimed(&[1, 2, 3])],
+    ),
     // A packet that the block holds a part of.
     File(
         &[BIG_SECTION, BIG_INTERFACE, SIMPLE_CUT],

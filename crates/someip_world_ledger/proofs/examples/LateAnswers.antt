@@ -18,7 +18,7 @@ use Rattle.someip_world_exchanges.specs.declared.naming.Side.TheVariants.{Answer
 use Rattle.someip_world_ledger.specs.Books.{Book, TakenKeys, new_life, none_taken}
 use Rattle.someip_world_ledger.specs.Booking.{handed_up}
 use Rattle.someip_world_ledger.specs.Judging.{first_book, judged, judged_from}
-use Rattle.someip_world_ledger.specs.VerdictExamples.{answered_late, answered_late_lines}
+use Rattle.someip_world_rules.specs.LateAnswer.{answered_late, answered_late_lines}
 use Rattle.someip_world_ledger.proofs.examples.WorkedSteps.{breach_is, breaks_of_b, kept, life_with, note, offer_note, of_a, of_b, taken_by, token_last}
 
 module _ (first second : SetupNode) (named : AreNamed first second) where

@@ -4,12 +4,13 @@ use Rattle.std.specs.List.{AllByRecursion}
 use Rattle.someip_world_schedule.specs.declared.step.Step.{Step}
 use Rattle.someip_world_setup.specs.GoodSetups.{Network}
 use Rattle.someip_world_rules.specs.Announced.{FitsStep}
+use Rattle.someip_world_rules.specs.LateAnswer.{answered_late}
 use Rattle.someip_world_rules.specs.Runs.{told_lines}
 use Rattle.someip_world_rules.specs.declared.line.Line.{Line}
 use Rattle.someip_world_rules.specs.declared.reuse.Reuse.{Reuse}
 use Rattle.someip_world_rules.proofs.FitRunLemmas.{all_given_fits, copies_fit}
 use Rattle.someip_world_ledger.specs.Judging.{judged}
-use Rattle.someip_world_ledger.specs.VerdictExamples.{IsOfTwo, IsVerdictThen, answered_late, answered_twice, refused_twice, sent_twice, subscribed_twice}
+use Rattle.someip_world_ledger.specs.VerdictExamples.{IsOfTwo, IsVerdictThen, answered_twice, refused_twice, sent_twice, subscribed_twice}
 use Rattle.someip_world_ledger.proofs.examples.LastLines.{judged_then}
 use Rattle.someip_world_ledger.proofs.VerdictLemmas.{verdict_so}
 

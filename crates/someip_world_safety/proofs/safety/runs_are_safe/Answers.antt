@@ -1,5 +1,6 @@
 use Rattle.someip_world_safety.proofs.AckAlone.{acks_begin_none}
 use Rattle.someip_world_safety.proofs.AckLemmas.{acks_say}
+use Rattle.someip_world_safety.proofs.AcknowledgedLemmas.{acknowledged_are_safe}
 use Rattle.someip_world_safety.proofs.AddressLemmas.{off_group, own_addresses}
 use Rattle.someip_world_safety.proofs.OfferLemmas.{own_offers}
 use Rattle.someip_world_safety.proofs.PublicationLemmas.{publishes_to_all, publishes_to_one}
@@ -17,6 +18,16 @@ returns-clause-answers c configs n are clean =
 pub returns-clause-events : goal.returns-clause-events
 returns-clause-events c configs n are clean =
     let fits = c.all_that_a_setup_gives_fits.ensures configs are in events_are_safe c.args.setup.now.nodes configs c.args.steps.now fits n clean
+
+pub returns-clause-acknowledged : goal.returns-clause-acknowledged
+returns-clause-acknowledged c configs n are clean =
+    let network = c.args.setup.now in
+    let steps = c.args.steps.now in
+    let fits = c.all_that_a_setup_gives_fits.ensures configs are in
+    let good = c.nodes.ensures.good in
+    let own = own_addresses network good configs are in
+    let apart = off_group network good configs are in
+    acknowledged_are_safe network.nodes configs steps own (acks_say network.nodes configs steps fits apart own) (acks_begin_none network.nodes configs steps fits apart own) n clean
 
 pub returns-clause-subscriptions : goal.returns-clause-subscriptions
 returns-clause-subscriptions c configs n w are le led clean =

@@ -1,5 +1,5 @@
 use Rattle.someip_world_rules.proofs.InjectionLemmas.{all_honest}
-use Rattle.someip_world_safety.proofs.SafeRuns.{answers_without_liars, events_without_liars}
+use Rattle.someip_world_safety.proofs.SafeRuns.{acknowledged_without_liars, answers_without_liars, events_without_liars}
 use Rattle.someip_world_safety.proofs.safety.runs_without_liars_are_safe.Goals as goal
 
 pub returns-clause-answers : goal.returns-clause-answers
@@ -9,6 +9,10 @@ returns-clause-answers c none configs n are clean =
 pub returns-clause-events : goal.returns-clause-events
 returns-clause-events c none configs n are clean =
     events_without_liars c.args.setup.now.nodes configs c.args.steps.now none n (c.runs_are_safe.ensures.events configs n are clean)
+
+pub returns-clause-acknowledged : goal.returns-clause-acknowledged
+returns-clause-acknowledged c none configs n are clean =
+    acknowledged_without_liars c.args.setup.now.nodes configs c.args.steps.now none n (c.runs_are_safe.ensures.acknowledged configs n are clean)
 
 pub returns-clause-subscriptions : goal.returns-clause-subscriptions
 returns-clause-subscriptions c none configs n w are le led clean place h eventgroup peer counter until here is =

@@ -17,7 +17,7 @@ unfolding hex_on_literals
 returns-clause-payload c = (codes "bool 07", refl, (codes "bool", codes "07", refl, bool_text, refl))
 
 pub returns-clause-expected : goal.returns-clause-expected
-returns-clause-expected c = (refl, refl)
+returns-clause-expected c text = refl
 
 pub returns-clause-early : goal.returns-clause-early
 returns-clause-early c = early_text
