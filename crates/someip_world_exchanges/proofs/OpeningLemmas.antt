@@ -31,7 +31,7 @@ use Rattle.someip_node_rules.specs.Setups.{client_endpoint, offered_as}
 use Rattle.someip_node_rules.specs.Tables.{Tables, known_endpoint}
 use Rattle.someip_node_laws.proofs.NamedLemmas.{next-event_session}
 use Rattle.someip_node_rules.proofs.MemberLemmas.{at_member}
-use Rattle.someip_world_schedule.specs.declared.step.Step.{Step}
+use Rattle.someip_world_steps.specs.declared.step.Step.{Step}
 use Rattle.someip_world_setup.specs.declared.setup_node.SetupNode.{SetupNode}
 use Rattle.someip_world_rules.specs.Datagrams.{SentDatagram}
 use Rattle.someip_world_rules.specs.Deliveries.{Sends}

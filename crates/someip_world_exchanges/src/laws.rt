@@ -15,7 +15,7 @@ ghost use Rattle.someip_node_rules.specs.Steps.{step};
 ghost use Rattle.someip_node_rules.specs.Trails.{given_by, trail_of};
 ghost use Rattle.someip_node_rules.specs.WishQuestions.{course_at};
 ghost use Rattle.someip_node_rules.specs.declared.config.Config.{Config};
-ghost use Rattle.someip_world_schedule.specs.declared.step.Step.{Step};
+ghost use Rattle.someip_world_steps.specs.declared.step.Step.{Step};
 ghost use Rattle.someip_world_setup.specs.declared.setup_node.SetupNode.{SetupNode};
 ghost use Rattle.someip_world_rules.specs.Datagrams.{SentDatagram};
 ghost use Rattle.someip_world_exchanges.specs.declared.exchange_key.ExchangeKey.{ExchangeKey};

@@ -12,7 +12,7 @@ use Rattle.someip_node_rules.specs.GoodConfigs.{is_good}
 use Rattle.someip_node_rules.specs.History.{History}
 use Rattle.someip_node_rules.specs.Steps.{given_in}
 use Rattle.someip_node_rules.specs.declared.config.Config.{Config}
-use Rattle.someip_world_schedule.specs.declared.step.Step.{Step}
+use Rattle.someip_world_steps.specs.declared.step.Step.{Step}
 use Rattle.someip_node_rules.proofs.MemberLemmas.{all_weaker}
 use Rattle.someip_world_setup.specs.GoodSetups.{IsGoodNetwork, IsGoodNode, Network}
 use Rattle.someip_world_setup.specs.declared.setup_node.SetupNode.{SetupNode}

@@ -21,7 +21,7 @@ use crate::telling::token_in;
 use sd_core::Eventgroup;
 use someip_node_rules::Config;
 use someip_world_rules::{Datagram, Line};
-use someip_world_schedule::Step;
+use someip_world_steps::Step;
 use std::alloc::{AllocError, Global};
 use std::collections::BTreeMap;
 

@@ -5,7 +5,7 @@ ghost use Rattle.std.specs.declared.net.socket_addr.SocketAddrV4.{SocketAddrV4};
 ghost use Rattle.someip_node_laws.specs.WorkedRun.{OffersEvent, WantsEvent};
 ghost use Rattle.someip_node_rules.specs.declared.config.Config.{Config};
 ghost use Rattle.someip_node_rules.specs.declared.output.Output.TheVariants.{Sent};
-ghost use Rattle.someip_world_schedule.specs.declared.step.Step.TheVariants.{Deliver, Inject, Tick};
+ghost use Rattle.someip_world_steps.specs.declared.step.Step.TheVariants.{Deliver, Inject, Tick};
 ghost use Rattle.someip_world_setup.specs.GoodSetups.{Network};
 ghost use Rattle.someip_world_rules.specs.LateAnswer.{answered_late, answered_late_lines, answered_late_trace};
 ghost use Rattle.someip_world_rules.specs.Runs.{run_of, told_lines};

@@ -15,7 +15,7 @@ use crate::taken::Taken;
 use crate::telling::is_refused;
 use someip_node_rules::Config;
 use someip_world_rules::Line;
-use someip_world_schedule::Step;
+use someip_world_steps::Step;
 use someip_world_setup::SetupNode;
 use std::alloc::{AllocError, Global};
 use std::collections::BTreeMap;

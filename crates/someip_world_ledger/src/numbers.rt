@@ -6,7 +6,7 @@ ghost use Rattle.someip_tp.specs.Sent.{is_long};
 ghost use Rattle.someip_world_ledger.specs.Booking.{long_payload_of, number_of, numbered, payload_of};
 ghost use Rattle.someip_world_ledger.specs.Views.{view_numbers};
 
-use someip_world_schedule::{Step, StepPayload};
+use someip_world_steps::{Step, StepPayload};
 use std::alloc::{AllocError, Global};
 use std::collections::BTreeMap;
 

@@ -12,7 +12,7 @@ use sd_core::InstanceId;
 use someip_node_rules::{Config, OfferedService};
 use someip_rpc::{EventId, MessageId};
 use someip_world_exchanges::{EventExchange, ExchangeKey};
-use someip_world_schedule::Step;
+use someip_world_steps::Step;
 
 /// An event that a step publishes.
 #[derive(Clone, Copy)]

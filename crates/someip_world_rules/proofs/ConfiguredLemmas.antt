@@ -22,7 +22,7 @@ use Rattle.someip_node_rules.specs.Outputs.{Given, Announces, Sends, Tells, data
 use Rattle.someip_node_rules.specs.Packets.{Packet, HasServiceEntry}
 use Rattle.someip_node_rules.specs.SeekQuestions.{known_offer_at}
 use Rattle.someip_node_rules.proofs.MemberLemmas.{all_both, all_map, at_member}
-use Rattle.someip_world_schedule.specs.declared.step.Step.{Step}
+use Rattle.someip_world_steps.specs.declared.step.Step.{Step}
 use Rattle.someip_world_setup.specs.declared.setup_node.SetupNode.{SetupNode}
 use Rattle.someip_world_rules.specs.Announced.{FitsStep, IsAsConfigured, IsConfigured}
 use Rattle.someip_world_rules.specs.Liars.{HasNoLiars, IsHonest}

@@ -43,8 +43,8 @@ use Rattle.someip_node_laws.proofs.FitPackets.{bytes_fit}
 use Rattle.someip_node_laws.proofs.FitRules.{no_notification}
 use Rattle.someip_node_rules.proofs.MeaningLemmas.{all_given, outputs_written}
 use Rattle.someip_node_rules.proofs.MemberLemmas.{all_append, all_both, all_flat_map, all_map, all_take, all_weaker, at_member}
-use Rattle.someip_world_schedule.specs.declared.step.Step.{Step}
-use Rattle.someip_world_schedule.specs.declared.step.Step.TheVariants as steps
+use Rattle.someip_world_steps.specs.declared.step.Step.{Step}
+use Rattle.someip_world_steps.specs.declared.step.Step.TheVariants as steps
 use Rattle.someip_world_setup.specs.declared.setup_node.SetupNode.{SetupNode}
 use Rattle.someip_world_rules.specs.Announced.{AllFits, FitNodes, FitsStep}
 use Rattle.someip_world_rules.specs.declared.line.Line.{Line}

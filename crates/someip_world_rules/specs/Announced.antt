@@ -17,8 +17,8 @@ use Rattle.someip_node_rules.specs.SeekQuestions.{known_offer_at, majors_of}
 use Rattle.someip_node_rules.specs.Setups.{offered_as}
 use Rattle.someip_node_rules.specs.declared.config.Config.{Config}
 use Rattle.someip_node_rules.specs.declared.config.OfferedService.{OfferedService}
-use Rattle.someip_world_schedule.specs.declared.step.Step.{Step}
-use Rattle.someip_world_schedule.specs.declared.step.Step.TheVariants.{Tick, Deliver, Call, Answer, Publish, PublishTo, Subscribe, Unsubscribe, StopOffer, Restart, Inject}
+use Rattle.someip_world_steps.specs.declared.step.Step.{Step}
+use Rattle.someip_world_steps.specs.declared.step.Step.TheVariants.{Tick, Deliver, Call, Answer, Publish, PublishTo, Subscribe, Unsubscribe, StopOffer, Restart, Inject}
 use Rattle.someip_world_setup.specs.declared.setup_node.SetupNode.{SetupNode}
 use Rattle.someip_world_rules.specs.Deeds.{Takes}
 use Rattle.someip_world_rules.specs.Liars.{IsHonest}

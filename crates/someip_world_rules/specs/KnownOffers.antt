@@ -16,7 +16,7 @@ use Rattle.someip_node_rules.specs.Inputs.{Datagram}
 use Rattle.someip_node_rules.specs.Packets.{Packet, HasServiceEntry}
 use Rattle.someip_node_rules.specs.SeekQuestions.{majors_of}
 use Rattle.someip_node_rules.specs.declared.config.Config.{Config}
-use Rattle.someip_world_schedule.specs.declared.step.Step.{Step}
+use Rattle.someip_world_steps.specs.declared.step.Step.{Step}
 use Rattle.someip_world_setup.specs.declared.setup_node.SetupNode.{SetupNode}
 use Rattle.someip_world_rules.specs.Deliveries.{Delivers, Does, GoesOut, LivesOn}
 

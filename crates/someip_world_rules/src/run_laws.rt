@@ -28,8 +28,8 @@ ghost use Rattle.someip_node_rules.specs.Inputs.{Input};
 ghost use Rattle.someip_node_rules.specs.Items.{Item};
 ghost use Rattle.someip_node_rules.specs.Meanings.{GivenBy};
 ghost use Rattle.someip_node_laws.specs.Published.{IsPublished, IsPublishedTo, publication};
-ghost use Rattle.someip_world_schedule.specs.declared.step.Step.{Step};
-ghost use Rattle.someip_world_schedule.specs.declared.step.Step.TheVariants.{Publish, PublishTo};
+ghost use Rattle.someip_world_steps.specs.declared.step.Step.{Step};
+ghost use Rattle.someip_world_steps.specs.declared.step.Step.TheVariants.{Publish, PublishTo};
 ghost use Rattle.someip_world_setup.specs.declared.setup_node.SetupNode.{SetupNode};
 ghost use Rattle.someip_world_rules.specs.declared.line.Line.{Line};
 ghost use Rattle.someip_world_rules.specs.Turns.{IsOfRun, IsOfStep, LeadTo, TakesIt, ToldTurn};
@@ -43,7 +43,7 @@ ghost use Rattle.someip_world_rules.specs.Runs.{AreCopies, IsRun, World, run_of}
 ghost use Rattle.someip_world_rules.specs.declared.trace.Trace.{Trace};
 
 use crate::numbers::{setup_fits, steps_fit};
-use someip_world_schedule::Step;
+use someip_world_steps::Step;
 use someip_world_setup::Setup;
 
 /// Each step of a run that has a trace is done by the node that it names, at the history of that node in

@@ -21,7 +21,7 @@ use Rattle.someip_node_rules.specs.Sending.{IsAnnounced}
 use Rattle.someip_node_rules.specs.Trails.{Done}
 use Rattle.someip_node_rules.proofs.MemberLemmas.{at_member}
 use Rattle.someip_node_rules.proofs.StepRules.{config_there}
-use Rattle.someip_world_schedule.specs.declared.step.Step.{Step}
+use Rattle.someip_world_steps.specs.declared.step.Step.{Step}
 use Rattle.someip_world_setup.specs.declared.setup_node.SetupNode.{SetupNode}
 use Rattle.someip_world_rules.specs.Announced.{AllFits}
 use Rattle.someip_world_rules.specs.Datagrams.{SentDatagram}

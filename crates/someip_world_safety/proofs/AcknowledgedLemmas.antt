@@ -28,7 +28,7 @@ use Rattle.someip_node_rules.specs.WishQuestions.{course_at, is_answered_by, is_
 use Rattle.someip_node_rules.proofs.MeaningLemmas.{all_given, outputs_written, told_from_output}
 use Rattle.someip_node_rules.proofs.MemberLemmas.{at_member}
 use Rattle.someip_node_rules.proofs.WishLives.{get-wish}
-use Rattle.someip_world_schedule.specs.declared.step.Step.{Step}
+use Rattle.someip_world_steps.specs.declared.step.Step.{Step}
 use Rattle.someip_world_setup.specs.declared.setup_node.SetupNode.{SetupNode}
 use Rattle.someip_world_rules.specs.Announced.{AllFits}
 use Rattle.someip_world_rules.specs.Deliveries.{Does}

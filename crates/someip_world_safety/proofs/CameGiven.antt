@@ -26,7 +26,7 @@ use Rattle.someip_node_rules.specs.Trails.{Done, after, met_by, outcome_of, trai
 use Rattle.someip_node_rules.proofs.MeetingLemmas.{all_met}
 use Rattle.someip_node_rules.proofs.PlanLemmas.{before_each}
 use Rattle.someip_node_rules.proofs.StepRules.{config_kept}
-use Rattle.someip_world_schedule.specs.declared.step.Step.{Step}
+use Rattle.someip_world_steps.specs.declared.step.Step.{Step}
 use Rattle.someip_world_setup.specs.declared.setup_node.SetupNode.{SetupNode}
 use Rattle.someip_world_rules.specs.Announced.{AllFits}
 use Rattle.someip_world_rules.specs.Deliveries.{Does}

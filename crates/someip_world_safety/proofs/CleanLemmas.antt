@@ -19,7 +19,7 @@ use Rattle.someip_node_rules.specs.Outputs as outputs
 use Rattle.someip_node_rules.specs.Outputs.{Given}
 use Rattle.someip_node_rules.specs.Plans.{RepliesTo}
 use Rattle.someip_node_rules.proofs.MemberLemmas.{at_member, only_one}
-use Rattle.someip_world_schedule.specs.declared.step.Step.{Step}
+use Rattle.someip_world_steps.specs.declared.step.Step.{Step}
 use Rattle.someip_world_setup.specs.declared.setup_node.SetupNode.{SetupNode}
 use Rattle.someip_world_rules.specs.Announced.{AllFits}
 use Rattle.someip_world_rules.specs.Datagrams.{SentDatagram}

@@ -19,7 +19,7 @@ use Rattle.someip_node_rules.specs.Items.{Item}
 use Rattle.someip_node_rules.specs.Setups.{client_endpoint, offered_as}
 use Rattle.someip_node_rules.specs.Trails.{outcome_of}
 use Rattle.someip_node_rules.proofs.StepRules.{config_there}
-use Rattle.someip_world_schedule.specs.declared.step.Step.{Step}
+use Rattle.someip_world_steps.specs.declared.step.Step.{Step}
 use Rattle.someip_world_setup.specs.declared.setup_node.SetupNode.{SetupNode}
 use Rattle.someip_world_rules.specs.Deliveries.{Does}
 use Rattle.someip_world_rules.proofs.OriginLemmas.{turn_configured}

@@ -27,8 +27,8 @@ use Rattle.someip_node_rules.specs.Sending.{IsAnnounced}
 use Rattle.someip_node_rules.specs.Trails.{Done, trail_of}
 use Rattle.someip_node_laws.proofs.AnsweringLemmas.{answers_subscribe}
 use Rattle.someip_node_rules.proofs.StepRules.{config_there}
-use Rattle.someip_world_schedule.specs.declared.step.Step.{Step}
-use Rattle.someip_world_schedule.specs.declared.step.Step.TheVariants as steps
+use Rattle.someip_world_steps.specs.declared.step.Step.{Step}
+use Rattle.someip_world_steps.specs.declared.step.Step.TheVariants as steps
 use Rattle.someip_world_setup.specs.declared.setup_node.SetupNode.{SetupNode}
 use Rattle.someip_world_rules.specs.Announced.{AllFits}
 use Rattle.someip_world_rules.specs.Datagrams.{SentDatagram}

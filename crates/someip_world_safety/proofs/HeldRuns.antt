@@ -30,7 +30,7 @@ use Rattle.someip_node_rules.specs.Steps.{step}
 use Rattle.someip_node_rules.specs.Trails.{Done, after, met_by, trail_of}
 use Rattle.someip_node_rules.proofs.MeetingLemmas.{all_met, state_met}
 use Rattle.someip_node_rules.proofs.StepRules.{config_kept}
-use Rattle.someip_world_schedule.specs.declared.step.Step.{Step}
+use Rattle.someip_world_steps.specs.declared.step.Step.{Step}
 use Rattle.someip_world_setup.specs.declared.setup_node.SetupNode.{SetupNode}
 use Rattle.someip_world_rules.specs.Announced.{AllFits}
 use Rattle.someip_world_rules.specs.Deeds.{Deed, Takes, Restarts, Injects, done_with}

@@ -10,7 +10,7 @@ use Rattle.someip_node_rules.specs.Items as items
 use Rattle.someip_node_rules.specs.Items.{Item}
 use Rattle.someip_node_rules.specs.Setups.{client_endpoint}
 use Rattle.someip_node_rules.proofs.StepRules.{config_there}
-use Rattle.someip_world_schedule.specs.declared.step.Step.{Step}
+use Rattle.someip_world_steps.specs.declared.step.Step.{Step}
 use Rattle.someip_world_setup.specs.declared.setup_node.SetupNode.{SetupNode}
 use Rattle.someip_world_rules.specs.Liars.{IsOfLiar}
 use Rattle.someip_world_exchanges.specs.Namings.{of_call, of_subscription}

@@ -10,7 +10,7 @@ use Rattle.someip_node_rules.specs.History.{History}
 use Rattle.someip_node_rules.specs.Steps.{given_in, step}
 use Rattle.someip_node_rules.proofs.MeaningLemmas.{is_sent}
 use Rattle.someip_node_rules.proofs.MemberLemmas.{all_from_members, all_map, at_member, only_one}
-use Rattle.someip_world_schedule.specs.declared.step.Step.{Step}
+use Rattle.someip_world_steps.specs.declared.step.Step.{Step}
 use Rattle.someip_world_setup.specs.declared.setup_node.SetupNode.{SetupNode}
 use Rattle.someip_world_rules.specs.declared.line.Line.{Line}
 use Rattle.someip_world_rules.specs.declared.line.Told.{Told}

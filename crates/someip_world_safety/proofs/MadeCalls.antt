@@ -16,7 +16,7 @@ use Rattle.someip_node_rules.specs.Trails.{met_by, trail_of}
 use Rattle.someip_node_rules.proofs.MeetingLemmas.{all_met}
 use Rattle.someip_node_rules.proofs.MemberLemmas.{at_member}
 use Rattle.someip_node_rules.proofs.StepRules.{config_there}
-use Rattle.someip_world_schedule.specs.declared.step.Step.{Step}
+use Rattle.someip_world_steps.specs.declared.step.Step.{Step}
 use Rattle.someip_world_setup.specs.declared.setup_node.SetupNode.{SetupNode}
 use Rattle.someip_world_exchanges.specs.Namings.{of_call}
 use Rattle.someip_world_exchanges.specs.Openings.{Opened}

@@ -19,7 +19,7 @@ use Rattle.someip_node_rules.specs.declared.config.OfferedService.{OfferedServic
 use Rattle.someip_node_rules.specs.GoodConfigs.{are_good_methods, has_good_eventgroups, has_own_ports, is_good, is_good_common, is_good_instance, is_good_offer, is_good_port, is_good_want, is_within}
 use Rattle.someip_node_rules.specs.Handling.{same_address}
 use Rattle.someip_node_rules.proofs.MemberLemmas.{all_both, at_member}
-use Rattle.someip_world_setup.specs.Clashes.{has_repeat, same_instance}
+use Rattle.someip_world_setup_parts.specs.Clashes.{has_repeat, same_instance}
 use Rattle.someip_world_setup.specs.GoodSetups.{IsGoodNetwork, IsGoodNode, Network, instances_of}
 use Rattle.someip_world_setup.specs.declared.setup_node.SetupNode.{SetupNode}
 use Rattle.someip_world_rules.specs.Runs.{AreCopies}

@@ -17,7 +17,7 @@ use Rattle.someip_node_rules.specs.Meanings.{GivenBy, IsTold}
 use Rattle.someip_node_rules.specs.Outputs.{Given, Announces, Sends, Tells, datagram_of, written}
 use Rattle.someip_node_rules.specs.Packets.{Packet}
 use Rattle.someip_node_rules.proofs.MemberLemmas.{all_map, all_weaker, at_member}
-use Rattle.someip_world_schedule.specs.declared.step.Step.{Step}
+use Rattle.someip_world_steps.specs.declared.step.Step.{Step}
 use Rattle.someip_world_setup.specs.declared.setup_node.SetupNode.{SetupNode}
 use Rattle.someip_world_rules.specs.Announced.{AllFits}
 use Rattle.someip_world_rules.specs.Datagrams.{SentDatagram}

@@ -30,7 +30,7 @@ use Rattle.someip_node_rules.specs.Tables.{Tables}
 use Rattle.someip_node_rules.specs.Trails.{after, met_by}
 use Rattle.someip_node_laws.proofs.NamedLemmas.{get-request}
 use Rattle.someip_node_rules.proofs.StepRules.{config_there}
-use Rattle.someip_world_schedule.specs.declared.step.Step.{Step}
+use Rattle.someip_world_steps.specs.declared.step.Step.{Step}
 use Rattle.someip_world_setup.specs.declared.setup_node.SetupNode.{SetupNode}
 use Rattle.someip_world_rules.specs.Announced.{AllFits}
 use Rattle.someip_world_rules.specs.Datagrams.{SentDatagram}

@@ -37,7 +37,7 @@ use Rattle.someip_node_rules.specs.Sending.{IsSent}
 use Rattle.someip_node_rules.specs.Trails.{Done, after, met_by}
 use Rattle.someip_node_rules.proofs.MemberLemmas.{at_member, only_one}
 use Rattle.someip_node_laws.proofs.NamedLemmas.{get-request}
-use Rattle.someip_world_schedule.specs.declared.step.Step.{Step}
+use Rattle.someip_world_steps.specs.declared.step.Step.{Step}
 use Rattle.someip_world_setup.specs.declared.setup_node.SetupNode.{SetupNode}
 use Rattle.someip_world_rules.specs.Datagrams.{SentDatagram}
 use Rattle.someip_world_rules.specs.Deeds.{Takes}

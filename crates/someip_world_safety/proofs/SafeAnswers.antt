@@ -18,7 +18,7 @@ use Rattle.someip_node_rules.specs.Outputs as outputs
 use Rattle.someip_node_rules.specs.Setups.{client_endpoint}
 use Rattle.someip_node_laws.proofs.HandUpLemmas.{answer_came}
 use Rattle.someip_node_rules.specs.Steps.{step}
-use Rattle.someip_world_schedule.specs.declared.step.Step.{Step}
+use Rattle.someip_world_steps.specs.declared.step.Step.{Step}
 use Rattle.someip_world_setup.specs.declared.setup_node.SetupNode.{SetupNode}
 use Rattle.someip_world_rules.specs.Announced.{AllFits}
 use Rattle.someip_world_rules.specs.Datagrams.{SentDatagram}

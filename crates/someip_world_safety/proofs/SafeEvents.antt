@@ -17,7 +17,7 @@ use Rattle.someip_node_rules.specs.Messages.{takes_event}
 use Rattle.someip_node_rules.specs.Packets.{Packet, Came}
 use Rattle.someip_node_rules.specs.Trails.{Done, given_by, trail_of}
 use Rattle.someip_node_laws.proofs.HandUpLemmas.{event_came}
-use Rattle.someip_world_schedule.specs.declared.step.Step.{Step}
+use Rattle.someip_world_steps.specs.declared.step.Step.{Step}
 use Rattle.someip_world_setup.specs.declared.setup_node.SetupNode.{SetupNode}
 use Rattle.someip_world_rules.specs.Announced.{AllFits}
 use Rattle.someip_world_rules.specs.Deliveries.{Does}

@@ -27,7 +27,7 @@ use Rattle.someip_node_rules.specs.Tables.{Tables}
 use Rattle.someip_node_rules.specs.Trails.{given_by, trail_of}
 use Rattle.someip_node_rules.proofs.MemberLemmas.{all_from_members, all_map, at_member, only_one}
 use Rattle.someip_node_laws.proofs.PublishedLemmas.{is_published, is_published_to}
-use Rattle.someip_world_schedule.specs.declared.step.Step.{Step}
+use Rattle.someip_world_steps.specs.declared.step.Step.{Step}
 use Rattle.someip_world_setup.specs.declared.setup_node.SetupNode.{SetupNode}
 use Rattle.someip_world_rules.specs.Deliveries.{Does}
 use Rattle.someip_world_exchanges.proofs.RuleInputs.{AskedBy, done_asked}

@@ -16,7 +16,7 @@ use Rattle.someip_node_rules.specs.Steps.{step}
 use Rattle.someip_node_rules.specs.Trails.{Done}
 use Rattle.someip_node_rules.proofs.MeetingLemmas.{state_met}
 use Rattle.someip_node_rules.proofs.StepRules.{config_there}
-use Rattle.someip_world_schedule.specs.declared.step.Step.{Step}
+use Rattle.someip_world_steps.specs.declared.step.Step.{Step}
 use Rattle.someip_world_setup.specs.declared.setup_node.SetupNode.{SetupNode}
 use Rattle.someip_world_rules.specs.Deeds.{Takes}
 use Rattle.someip_world_rules.specs.Deliveries.{Does, Restarted}

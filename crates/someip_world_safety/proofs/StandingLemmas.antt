@@ -15,7 +15,7 @@ use Rattle.someip_node_rules.specs.Trails.{after, met_by, trail_of}
 use Rattle.someip_node_rules.specs.WishQuestions.{course_at}
 use Rattle.someip_node_rules.proofs.MeetingLemmas.{state_met}
 use Rattle.someip_node_rules.proofs.StepRules.{config_kept}
-use Rattle.someip_world_schedule.specs.declared.step.Step.{Step}
+use Rattle.someip_world_steps.specs.declared.step.Step.{Step}
 use Rattle.someip_world_setup.specs.declared.setup_node.SetupNode.{SetupNode}
 use Rattle.someip_world_rules.specs.Deeds.{Deed, Takes, Restarts, Injects, done_with}
 use Rattle.someip_world_rules.specs.Runs.{World, history_after, world_after, world_of}

@@ -35,7 +35,7 @@ use Rattle.someip_node_rules.specs.Trails.{Done, after, trail_of}
 use Rattle.someip_node_rules.specs.WishQuestions.{course_at, wish_at}
 use Rattle.someip_node_rules.proofs.MemberLemmas.{at_member}
 use Rattle.someip_node_rules.proofs.WishLives.{get-wish}
-use Rattle.someip_world_schedule.specs.declared.step.Step.{Step}
+use Rattle.someip_world_steps.specs.declared.step.Step.{Step}
 use Rattle.someip_world_setup.specs.declared.setup_node.SetupNode.{SetupNode}
 use Rattle.someip_world_rules.specs.Deliveries.{Does}
 use Rattle.someip_world_exchanges.specs.Namings.{of_subscription}

@@ -16,7 +16,7 @@ use Rattle.someip_node_rules.specs.Packets.{Packet}
 use Rattle.someip_node_rules.specs.Plans.{Rule, TakesRequest}
 use Rattle.someip_node_rules.specs.Setups.{offered_as}
 use Rattle.someip_node_rules.specs.Trails.{Done, trail_of}
-use Rattle.someip_world_schedule.specs.declared.step.Step.{Step}
+use Rattle.someip_world_steps.specs.declared.step.Step.{Step}
 use Rattle.someip_world_setup.specs.declared.setup_node.SetupNode.{SetupNode}
 use Rattle.someip_world_rules.specs.Announced.{AllFits}
 use Rattle.someip_world_rules.specs.Deliveries.{Does}

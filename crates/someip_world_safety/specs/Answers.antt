@@ -20,7 +20,7 @@ use Rattle.someip_node_rules.specs.Plans.{TakesRequest}
 use Rattle.someip_node_rules.specs.Setups.{client_endpoint, offered_as}
 use Rattle.someip_node_rules.specs.Tables.{is_up}
 use Rattle.someip_node_rules.specs.Trails.{Done, trail_of}
-use Rattle.someip_world_schedule.specs.declared.step.Step.{Step}
+use Rattle.someip_world_steps.specs.declared.step.Step.{Step}
 use Rattle.someip_world_setup.specs.declared.setup_node.SetupNode.{SetupNode}
 use Rattle.someip_world_rules.specs.Deliveries.{Does, LivesOn}
 use Rattle.someip_world_exchanges.specs.declared.exchange_key.ExchangeKey.{ExchangeKey}

@@ -19,7 +19,7 @@ use Rattle.someip_node_laws.specs.Published.{IsLiveAt}
 use Rattle.someip_node_rules.specs.Setups.{client_endpoint, offered_as}
 use Rattle.someip_node_rules.specs.Tables.{known_endpoint}
 use Rattle.someip_node_rules.specs.Trails.{Done, given_by, trail_of}
-use Rattle.someip_world_schedule.specs.declared.step.Step.{Step}
+use Rattle.someip_world_steps.specs.declared.step.Step.{Step}
 use Rattle.someip_world_setup.specs.declared.setup_node.SetupNode.{SetupNode}
 use Rattle.someip_world_rules.specs.Deliveries.{Does}
 

@@ -10,7 +10,7 @@ use Rattle.someip_node_rules.specs.CallQuestions.{open_request_at}
 use Rattle.someip_node_rules.specs.History.{History}
 use Rattle.someip_node_rules.specs.Plans.{TakesRequest}
 use Rattle.someip_node_rules.specs.Setups.{offered_as}
-use Rattle.someip_world_schedule.specs.declared.step.Step.{Step}
+use Rattle.someip_world_steps.specs.declared.step.Step.{Step}
 use Rattle.someip_world_setup.specs.declared.setup_node.SetupNode.{SetupNode}
 use Rattle.someip_world_rules.specs.Runs.{World}
 use Rattle.someip_world_rules.specs.Deliveries.{LivesOn}

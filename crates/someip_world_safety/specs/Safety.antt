@@ -11,7 +11,7 @@ use Rattle.someip_node_rules.specs.declared.output.Output.{Output}
 use Rattle.someip_node_rules.specs.declared.output.Output.TheVariants.{Answered, Event, Subscribed}
 use Rattle.someip_node_rules.specs.Inputs.{Publish, PublishTo}
 use Rattle.someip_node_laws.specs.Published.{IsPublished, IsPublishedTo}
-use Rattle.someip_world_schedule.specs.declared.step.Step.{Step}
+use Rattle.someip_world_steps.specs.declared.step.Step.{Step}
 use Rattle.someip_world_setup.specs.declared.setup_node.SetupNode.{SetupNode}
 use Rattle.someip_world_rules.specs.Announced.{KnowsAsConfigured, KnowsHonestAsConfigured}
 use Rattle.someip_world_rules.specs.Deliveries.{Does}

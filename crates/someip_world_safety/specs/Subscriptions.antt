@@ -19,7 +19,7 @@ use Rattle.someip_node_rules.specs.Plans.{TakesSubscribe}
 use Rattle.someip_node_rules.specs.Subscribing.{subscribe_in}
 use Rattle.someip_node_rules.specs.Trails.{Done, outcome_of, trail_of}
 use Rattle.someip_node_rules.specs.WishQuestions.{course_at}
-use Rattle.someip_world_schedule.specs.declared.step.Step.{Step}
+use Rattle.someip_world_steps.specs.declared.step.Step.{Step}
 use Rattle.someip_world_setup.specs.declared.setup_node.SetupNode.{SetupNode}
 use Rattle.someip_world_rules.specs.Datagrams.{SentDatagram}
 use Rattle.someip_world_rules.specs.Liars.{IsHonest}

@@ -4,7 +4,7 @@ ghost use Rattle.std.specs.Prelude.{◌≡◌, ◌≤◌, ℕ, suc, false, List,
 ghost use Rattle.std.specs.List.{AllByRecursion};
 ghost use Rattle.someip_node_rules.specs.declared.config.Config.{Config};
 ghost use Rattle.someip_node_laws.specs.Fitting.{FitsConfig};
-ghost use Rattle.someip_world_schedule.specs.declared.step.Step.{Step};
+ghost use Rattle.someip_world_steps.specs.declared.step.Step.{Step};
 ghost use Rattle.someip_world_setup.specs.declared.setup_node.SetupNode.{SetupNode};
 ghost use Rattle.someip_world_setup.specs.GoodSetups.{IsGoodNetwork, Network};
 ghost use Rattle.someip_world_rules.specs.Announced.{AllFits, FitsStep};

@@ -1,7 +1,1 @@
-pub mod ReadLemmas
-pub mod StepLemmas
-pub mod WordLemmas
-pub mod LineLemmas
-pub mod EndpointLemmas
 pub mod ScheduleLemmas
-pub mod PayloadLemmas

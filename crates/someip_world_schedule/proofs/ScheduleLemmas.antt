@@ -14,9 +14,9 @@ use Rattle.std.specs.Prelude.{MatchResult, MatchOption}
 use Rattle.std.specs.Result.{result_ok}
 use Rattle.std.specs.Str.{IsUtf8, is_utf8}
 use Rattle.std.proofs.lemmas.Str.{IsUtf8-from_is_utf8, is_utf8-from_IsUtf8}
-use Rattle.someip_world_schedule.specs.declared.step.Step.{Step}
+use Rattle.someip_world_steps.specs.declared.step.Step.{Step}
 use Rattle.someip_world_schedule.specs.Schedule.{is_skipped, is_read, is_bad, lines_of}
-use Rattle.someip_world_schedule.specs.Steps.{step_in}
+use Rattle.someip_world_steps.specs.Steps.{step_in}
 
 -- a text cut at each 0a gives its lines, with the number of those before each. The premises are the
 -- clauses of `split`, what its closure answers, and the clauses of `enumerate` and `into_iter`

@@ -1,4 +1,1 @@
-pub mod StepWords
-pub mod Steps
 pub mod Schedule
-pub mod StepNodes

@@ -4,10 +4,10 @@ use Rattle.std.specs.List.{slice_split, position_from}
 use Rattle.std.specs.Str.{is_utf8}
 use Rattle.someip_world_schedule.specs.declared.error.ScheduleError.{ScheduleError}
 use Rattle.someip_world_schedule.specs.declared.error.ScheduleError.TheVariants.{BadLine, OutOfMemory}
-use Rattle.someip_world_schedule.specs.declared.step.Step.{Step}
-use Rattle.someip_world_schedule.specs.declared.step_words.WordFault.{WordFault}
-use Rattle.someip_world_schedule.specs.declared.step_words.WordFault.TheVariants as faults
-use Rattle.someip_world_schedule.specs.Steps.{step_in}
+use Rattle.someip_world_steps.specs.declared.step.Step.{Step}
+use Rattle.someip_world_steps.specs.declared.step_words.WordFault.{WordFault}
+use Rattle.someip_world_steps.specs.declared.step_words.WordFault.TheVariants as faults
+use Rattle.someip_world_steps.specs.Steps.{step_in}
 
 -- the lines of a text: the parts between bytes 0a
 abbrev pub lines_of : List ℕ → List (List ℕ)

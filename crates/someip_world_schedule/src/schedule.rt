@@ -24,9 +24,7 @@ ghost use Rattle.someip_world_schedule.specs.Schedule.{IsFoundOf, RefusesSchedul
 ghost use Rattle.someip_world_schedule.specs.Schedule.{steps_of};
 
 use crate::error::ScheduleError;
-use crate::step::Step;
-use crate::step_reading::step_of_line;
-use crate::step_words::WordFault;
+use someip_world_steps::{Step, WordFault, step_of_line};
 use std::alloc::Global;
 use std::str;
 

@@ -1,13 +1,2 @@
-pub mod AskingLemmas
-pub mod ReadingLemmas
-pub mod AddressLemmas
-pub mod MakingLemmas
-pub mod GatheredLemmas
-pub mod FoundLemmas
-pub mod RepeatLemmas
-pub mod KeyLemmas
-pub mod RangeLemmas
-pub mod OrderLemmas
-pub mod NodeLemmas
 pub mod NetworkLemmas
 pub mod FaultLemmas

@@ -1,10 +1,4 @@
-pub mod Keys
-pub mod Lists
-pub mod KnownKeys
-pub mod Values
-pub mod Says
-pub mod Clashes
 pub mod GoodSetups
-pub mod Made
+pub mod NodesMade
 pub mod Readings
 pub mod Examples

@@ -1,17 +1,17 @@
 -- What a text says.
-use Rattle.std.specs.Prelude.{◌≡◌, ℕ, Bool, true, false, List, map, if◌then◌else◌, Option, Some, None, IsSomeAnd, Result, Ok, Err}
+use Rattle.std.specs.Prelude.{◌≡◌, ℕ, Bool, true, false, List, map, if◌then◌else◌, Option, Some, None, IsSomeAnd}
 use Rattle.std.specs.Option.{option_map}
 use Rattle.toml.specs.Data.{Data, table}
 use Rattle.toml.specs.Parse.{parse_document}
-use Rattle.someip_world_setup.specs.declared.error.SetupError.{SetupError}
-use Rattle.someip_world_setup.specs.declared.error.SetupError.TheVariants.{NotToml, Missing, WrongKind, OutOfRange, UnknownKey, Clash, OutOfMemory}
-use Rattle.someip_world_setup.specs.Keys.{◌>>=◌}
-use Rattle.someip_world_setup.specs.KnownKeys.{has_unknown_key}
-use Rattle.someip_world_setup.specs.Says.{said_setup}
-use Rattle.someip_world_setup.specs.Values.{SetupValue, common_view}
-use Rattle.someip_world_setup.specs.Clashes.{has_clash}
+use Rattle.someip_world_setup_parts.specs.declared.error.SetupError.{SetupError}
+use Rattle.someip_world_setup_parts.specs.declared.error.SetupError.TheVariants.{NotToml, Missing, WrongKind, OutOfRange, UnknownKey, Clash, OutOfMemory}
+use Rattle.someip_world_setup_parts.specs.Keys.{◌>>=◌}
+use Rattle.someip_world_setup_parts.specs.KnownKeys.{has_unknown_key}
+use Rattle.someip_world_setup_parts.specs.Says.{said_setup}
+use Rattle.someip_world_setup_parts.specs.Values.{SetupValue, common_view}
+use Rattle.someip_world_setup_parts.specs.Clashes.{has_clash}
 use Rattle.someip_world_setup.specs.GoodSetups.{Network}
-use Rattle.someip_world_setup.specs.Made.{made_view, node_made}
+use Rattle.someip_world_setup.specs.NodesMade.{made_view, node_made}
 
 -- the tree of a text, if it is TOML
 abbrev pub tree_of : List ℕ → Option Data
@@ -55,19 +55,3 @@ abbrev pub TextHasFault : Option Data → SetupError → Type 0
 TextHasFault tree NotToml = tree ≡ None
 TextHasFault tree OutOfMemory = Unit {0}
 TextHasFault tree error = IsSomeAnd tree (λ d. HasFault d error)
-
--- ---- refusals
-
--- a tree is refused for an unknown key exactly where it has one, unless memory runs out
-abbrev pub RefusesKey : Bool → Result (Unit {0}) SetupError → Type 0
-RefusesKey unknown (Ok done) = unknown ≡ false
-RefusesKey unknown (Err (UnknownKey key)) = unknown ≡ true
-RefusesKey unknown (Err OutOfMemory) = Unit {0}
-RefusesKey unknown (Err error) = ⊥
-
--- values are refused for a clash exactly where there is one, unless memory runs out
-abbrev pub RefusesClash : Bool → Result (Unit {0}) SetupError → Type 0
-RefusesClash clash (Ok done) = clash ≡ false
-RefusesClash clash (Err (Clash key)) = clash ≡ true
-RefusesClash clash (Err OutOfMemory) = Unit {0}
-RefusesClash clash (Err error) = ⊥

@@ -5,12 +5,9 @@ ghost use Rattle.someip_world_setup.specs.GoodSetups.{IsGoodNetwork};
 ghost use Rattle.someip_world_setup.specs.Readings.{tree_of, sound_setup_of, setup_of_text, HasValues, IsOwed, HasFault, TextHasFault};
 
 use crate::building::built_nodes;
-use crate::clashes::refuse_clashes;
-use crate::error::SetupError;
-use crate::nodes::parts;
 use crate::setup_node::SetupNode;
-use crate::unknown::refuse_unknown;
 use someip_node_rules::Common;
+use someip_world_setup_parts::{SetupError, parts_of, refuse_clashes, refuse_unknown};
 use std::alloc::Global;
 use std::marker::Model;
 use toml::Value;
@@ -40,7 +37,7 @@ fn setup_in(alloc: Global, tree: &Value) -> Result<Setup, SetupError>
     ensures said { IfOk result (λ s. IsSomeAnd (sound_setup_of (view tree.now)) (HasValues s)) }
     ensures fault { IfErr result (HasFault (view tree.now)) }
 {
-    let parts = parts(alloc, tree)?;
+    let parts = parts_of(alloc, tree)?;
     refuse_unknown(alloc, tree)?;
     refuse_clashes(alloc, &parts)?;
     let common = parts.common;

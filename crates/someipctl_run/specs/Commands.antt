@@ -8,10 +8,10 @@ use Rattle.someip_world_rules.specs.declared.error.RunError.TheVariants as runs
 use Rattle.someip_world_rules.specs.declared.line.Line.{Line}
 use Rattle.someip_world_rules.specs.declared.reuse.Reuse.{Reuse}
 use Rattle.someip_world_schedule.specs.Schedule.{first_bad, steps_of}
-use Rattle.someip_world_schedule.specs.declared.step.Step.{Step}
+use Rattle.someip_world_steps.specs.declared.step.Step.{Step}
 use Rattle.someip_world_setup.specs.GoodSetups.{Network}
 use Rattle.someip_world_setup.specs.Readings.{HasValues, TextHasFault, setup_of_text, tree_of}
-use Rattle.someip_world_setup.specs.declared.error.SetupError.TheVariants as errors
+use Rattle.someip_world_setup_parts.specs.declared.error.SetupError.TheVariants as errors
 use Rattle.someip_world_setup.specs.declared.setup_node.SetupNode.{SetupNode}
 use Rattle.someipctl_inputs.specs.Inputs.{WasLeft}
 use Rattle.someipctl_run.specs.Traces.{formed_trace, trace_text}

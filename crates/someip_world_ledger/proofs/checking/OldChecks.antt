@@ -7,7 +7,7 @@ use Rattle.someip_node_rules.specs.GoodConfigs.{is_good}
 use Rattle.someip_node_rules.specs.Plans.{Rule}
 use Rattle.someip_node_rules.specs.declared.config.Config.{Config}
 use Rattle.someip_node_rules.proofs.MemberLemmas.{all_from_members, all_map, at_member}
-use Rattle.someip_world_schedule.specs.declared.step.Step.{Step}
+use Rattle.someip_world_steps.specs.declared.step.Step.{Step}
 use Rattle.someip_world_setup.specs.declared.setup_node.SetupNode.{SetupNode}
 use Rattle.someip_world_rules.specs.Announced.{AllFits}
 use Rattle.someip_world_rules.specs.Datagrams.{SentDatagram}

@@ -5,8 +5,8 @@ use Rattle.someip_wire.specs.Reading.{items_within}
 use Rattle.sd_wire.specs.Program.{options_within}
 use Rattle.someip_rpc.specs.declared.call.CallKind.TheVariants as kinds
 use Rattle.someip_node_laws.specs.WorkedExamples.{instance}
-use Rattle.someip_world_schedule.specs.declared.step.Step.{Step}
-use Rattle.someip_world_schedule.specs.declared.step.Step.TheVariants.{Tick, Deliver, Call, Restart}
+use Rattle.someip_world_steps.specs.declared.step.Step.{Step}
+use Rattle.someip_world_steps.specs.declared.step.Step.TheVariants.{Tick, Deliver, Call, Restart}
 use Rattle.someip_world_setup.specs.declared.setup_node.SetupNode.{SetupNode}
 use Rattle.someip_world_rules.specs.declared.line.Line.{Line}
 use Rattle.someip_world_rules.specs.declared.reuse.Reuse.TheVariants.{Broken, Clean}

@@ -9,8 +9,8 @@ use Rattle.sd_wire.specs.Program.{options_within}
 use Rattle.sd_core.specs.Eventgroups.{eventgroup_cmp}
 use Rattle.someip_node_laws.specs.WorkedExamples.{client, server_address}
 use Rattle.someip_node_laws.specs.WorkedRun.{eventgroup}
-use Rattle.someip_world_schedule.specs.declared.step.Step.{Step}
-use Rattle.someip_world_schedule.specs.declared.step.Step.TheVariants.{Tick, Deliver, Restart, Subscribe}
+use Rattle.someip_world_steps.specs.declared.step.Step.{Step}
+use Rattle.someip_world_steps.specs.declared.step.Step.TheVariants.{Tick, Deliver, Restart, Subscribe}
 use Rattle.someip_world_setup.specs.declared.setup_node.SetupNode.{SetupNode}
 use Rattle.someip_world_rules.specs.declared.line.Line.{Line}
 use Rattle.someip_world_rules.specs.declared.reuse.Reuse.TheVariants.{Broken, Clean}

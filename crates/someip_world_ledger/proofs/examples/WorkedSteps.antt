@@ -6,8 +6,8 @@ use Rattle.std.specs.FinMap.{FinMap, get-insert}
 use Rattle.std.specs.Ordering.{nat_cmp}
 use Rattle.someip_tables.proofs.Entries.{own_test}
 use Rattle.someip_node_laws.specs.WorkedExamples.{client, server}
-use Rattle.someip_world_schedule.specs.StepNodes.{node_of}
-use Rattle.someip_world_schedule.specs.declared.step.Step.{Step}
+use Rattle.someip_world_steps.specs.StepNodes.{node_of}
+use Rattle.someip_world_steps.specs.declared.step.Step.{Step}
 use Rattle.someip_world_setup.specs.declared.setup_node.SetupNode.{SetupNode}
 use Rattle.someip_world_rules.specs.Runs.{place_of}
 use Rattle.someip_world_rules.specs.declared.line.Line.{Line}

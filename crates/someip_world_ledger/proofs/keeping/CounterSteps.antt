@@ -16,8 +16,8 @@ use Rattle.someip_node_rules.specs.Trails.{given_by, trail_of}
 use Rattle.someip_node_rules.specs.WishQuestions.{course_at}
 use Rattle.someip_node_rules.specs.declared.config.Config.{Config}
 use Rattle.someip_node_rules.specs.declared.output.Output.{Output}
-use Rattle.someip_world_schedule.specs.declared.step.Step.{Step}
-use Rattle.someip_world_schedule.specs.declared.step.Step.TheVariants as steps
+use Rattle.someip_world_steps.specs.declared.step.Step.{Step}
+use Rattle.someip_world_steps.specs.declared.step.Step.TheVariants as steps
 use Rattle.someip_world_rules.specs.Datagrams.{SentDatagram, datagrams_in, sent_with}
 use Rattle.someip_world_rules.specs.Deeds.{Takes, deed_of}
 use Rattle.someip_world_rules.specs.Runs.{told_lines}

@@ -24,8 +24,8 @@ use Rattle.someip_node_rules.specs.Setups.{offered_as}
 use Rattle.someip_node_rules.specs.Steps.{step}
 use Rattle.someip_node_rules.specs.declared.config.Config.{Config}
 use Rattle.someip_node_rules.specs.declared.config.OfferedService.{OfferedService}
-use Rattle.someip_world_schedule.specs.declared.step.Step.{Step}
-use Rattle.someip_world_schedule.specs.declared.step.Step.TheVariants as steps
+use Rattle.someip_world_steps.specs.declared.step.Step.{Step}
+use Rattle.someip_world_steps.specs.declared.step.Step.TheVariants as steps
 use Rattle.someip_world_rules.specs.Datagrams.{SentDatagram, datagram_at}
 use Rattle.someip_world_rules.specs.Deeds.{Takes, deed_of, delivery, is_addressed}
 use Rattle.someip_world_rules.specs.declared.line.Line.{Line}

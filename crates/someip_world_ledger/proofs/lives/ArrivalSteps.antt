@@ -14,8 +14,8 @@ use Rattle.someip_node_rules.specs.Inputs as inputs
 use Rattle.someip_node_rules.specs.Inputs.{Input}
 use Rattle.someip_node_rules.specs.Questions.{clock_at}
 use Rattle.someip_node_rules.specs.declared.config.Config.{Config}
-use Rattle.someip_world_schedule.specs.declared.step.Step.{Step}
-use Rattle.someip_world_schedule.specs.declared.step.Step.TheVariants as steps
+use Rattle.someip_world_steps.specs.declared.step.Step.{Step}
+use Rattle.someip_world_steps.specs.declared.step.Step.TheVariants as steps
 use Rattle.someip_world_setup.specs.declared.setup_node.SetupNode.{SetupNode}
 use Rattle.someip_world_rules.specs.Announced.{AllFits}
 use Rattle.someip_world_rules.specs.Datagrams.{SentDatagram}

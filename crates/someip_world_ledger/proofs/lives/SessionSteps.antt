@@ -27,8 +27,8 @@ use Rattle.someip_node_rules.specs.Steps.{step}
 use Rattle.someip_node_rules.specs.declared.config.Config.{Config}
 use Rattle.someip_node_rules.specs.declared.config.OfferedService.{OfferedService}
 use Rattle.someip_node_laws.proofs.PublishedLemmas.{is_published, is_published_to}
-use Rattle.someip_world_schedule.specs.declared.step.Step.{Step}
-use Rattle.someip_world_schedule.specs.declared.step.Step.TheVariants as steps
+use Rattle.someip_world_steps.specs.declared.step.Step.{Step}
+use Rattle.someip_world_steps.specs.declared.step.Step.TheVariants as steps
 use Rattle.someip_world_rules.specs.declared.line.Line.{Line}
 use Rattle.someip_world_exchanges.proofs.EventCounts.{other_counts, publish_counts, publish_counts_no_other, publish_to_counts, publish_to_counts_no_other}
 use Rattle.someip_world_exchanges.proofs.RuleInputs.{is_publication}

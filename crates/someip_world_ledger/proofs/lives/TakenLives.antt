@@ -13,7 +13,7 @@ use Rattle.someip_node_rules.specs.Plans.{Work}
 use Rattle.someip_node_rules.specs.Steps.{step}
 use Rattle.someip_node_rules.specs.WishQuestions.{course_at}
 use Rattle.someip_node_rules.specs.declared.config.Config.{Config}
-use Rattle.someip_world_schedule.specs.declared.step.Step.{Step}
+use Rattle.someip_world_steps.specs.declared.step.Step.{Step}
 use Rattle.someip_world_setup.specs.declared.setup_node.SetupNode.{SetupNode}
 use Rattle.someip_world_rules.specs.Announced.{AllFits}
 use Rattle.someip_world_rules.specs.Deeds.{Takes}

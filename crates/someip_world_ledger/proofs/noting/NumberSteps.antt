@@ -10,7 +10,7 @@ use Rattle.std.proofs.lemmas.Cmp.{nat_list_cmp_total}
 use Rattle.std.proofs.lemmas.Map.Lookups.{exact_bytes}
 use Rattle.someip_tp.specs.Sent.{is_long}
 use Rattle.someip_node_rules.specs.declared.config.Config.{Config}
-use Rattle.someip_world_schedule.specs.declared.step.Step.{Step}
+use Rattle.someip_world_steps.specs.declared.step.Step.{Step}
 use Rattle.someip_world_setup.specs.declared.setup_node.SetupNode.{SetupNode}
 use Rattle.someip_world_ledger.specs.Books.{PayloadNumbers}
 use Rattle.someip_world_ledger.specs.Booking.{long_payload_of, number_of, numbered, payload_of}

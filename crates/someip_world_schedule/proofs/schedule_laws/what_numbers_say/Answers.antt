@@ -1,4 +1,4 @@
-use Rattle.someip_world_schedule.proofs.WordLemmas.{each_decimal, only_decimal}
+use Rattle.someip_world_steps.proofs.WordLemmas.{each_decimal, only_decimal}
 use Rattle.someip_world_schedule.proofs.schedule_laws.what_numbers_say.Goals as goal
 
 pub returns-clause-spelled : goal.returns-clause-spelled

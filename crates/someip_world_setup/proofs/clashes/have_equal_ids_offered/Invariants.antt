@@ -1,8 +1,0 @@
-use Rattle.std.proofs.Common.{false}
-use Rattle.someip_world_setup.specs.Clashes.{has_equal_ids_offered}
-use Rattle.someip_world_setup.specs.Values.{offer_view}
-use Rattle.someip_world_setup.proofs.FoundLemmas.{HasFound}
-use Rattle.someip_world_setup.proofs.clashes.have_equal_ids_offered.Given as goal
-
-abbrev pub invariant-loop-offer : goal.invariant-loop-offer
-invariant-loop-offer l = HasFound has_equal_ids_offered offer_view false l.offer-index l.offers

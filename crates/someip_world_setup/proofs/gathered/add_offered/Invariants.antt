@@ -1,8 +1,0 @@
-use Rattle.std.proofs.Common.{◌++◌, map}
-use Rattle.someip_world_setup.specs.Clashes.{offered_id}
-use Rattle.someip_world_setup.specs.Values.{offer_view}
-use Rattle.someip_world_setup.proofs.GatheredLemmas.{HasGathered}
-use Rattle.someip_world_setup.proofs.gathered.add_offered.Given as goal
-
-abbrev pub invariant-loop-offer : goal.invariant-loop-offer
-invariant-loop-offer l = HasGathered (λ o. offered_id (offer_view o)) l.instances.items l.offer-index l.offers (l.initial.instances.items ++ map (λ o. offered_id (offer_view o)) l.offers)

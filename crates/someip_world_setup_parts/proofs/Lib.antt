@@ -1,0 +1,11 @@
+pub mod AskingLemmas
+pub mod ReadingLemmas
+pub mod AddressLemmas
+pub mod MakingLemmas
+pub mod GatheredLemmas
+pub mod FoundLemmas
+pub mod RepeatLemmas
+pub mod KeyLemmas
+pub mod RangeLemmas
+pub mod OrderLemmas
+pub mod NodeLemmas

@@ -1,0 +1,3 @@
+pub mod StepWords
+pub mod Steps
+pub mod StepNodes
