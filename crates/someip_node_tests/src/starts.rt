@@ -7,6 +7,18 @@ use std::alloc::Global;
 pub(crate) const ONE: &[u8] =
     b"group = \"239.0.0.1\"\n[[node]]\nname = \"a\"\naddress = \"192.168.0.1\"\nclient_id = 1\nclient_port = 40000\n";
 
+/// The same with a base delay of no milliseconds.
+const BASE_0: &[u8] =
+    b"group = \"239.0.0.1\"\nbase = 0\n[[node]]\nname = \"a\"\naddress = \"192.168.0.1\"\nclient_id = 1\nclient_port = 40000\n";
+
+/// The same with a key that is none of the format.
+const COLOUR: &[u8] =
+    b"group = \"239.0.0.1\"\n[[node]]\nname = \"a\"\naddress = \"192.168.0.1\"\nclient_id = 1\nclient_port = 40000\ncolour = 1\n";
+
+/// The same with the client at the port of Service Discovery.
+const PORT_TWICE: &[u8] =
+    b"group = \"239.0.0.1\"\n[[node]]\nname = \"a\"\naddress = \"192.168.0.1\"\nclient_id = 1\nclient_port = 30490\n";
+
 /// A text, a name and a delay, and why no node is started; `Done` where one is.
 const STARTS: &[(&[u8], &[u8], u32, Outcome)] = &[
     (ONE, b"a", 10, Outcome::Done),
@@ -16,6 +28,9 @@ const STARTS: &[(&[u8], &[u8], u32, Outcome)] = &[
     (b"group", b"a", 10, Outcome::NotToml),
     (b"", b"a", 10, Outcome::Missing),
     (b"group = 1", b"a", 10, Outcome::WrongKind),
+    (BASE_0, b"a", 10, Outcome::OutOfRange),
+    (COLOUR, b"a", 10, Outcome::UnknownKey),
+    (PORT_TWICE, b"a", 10, Outcome::Clash),
 ];
 
 /// What a start comes to.

@@ -1,5 +1,5 @@
 //! The command `recording`: the datagrams of a recording of network traffic, message by message.
-ghost use Rattle.std.specs.Prelude.{◌≡◌, [], Some, None, Ok, true, OnOk, OnErr, IfOk, IfErr, option_map};
+ghost use Rattle.std.specs.Prelude.{◌≡◌, ◌≢◌, [], Some, None, Ok, Err, true, OnOk, OnErr, IfOk, IfErr, option_map};
 ghost use Rattle.std.specs.Io.KnownBytes.{Appends};
 ghost use Rattle.recording.specs.View.{view_datagram, view_record};
 ghost use Rattle.someipctl_print.specs.Sending.{Sends, Stops};
@@ -93,6 +93,8 @@ pub fn show_recorded<W: Write>(
         endpoints shown (W.contents writer.old) (W.contents writer.new)) }
     ensures refused { IfErr result (λ fault. RefusesRecording (Some file.now)
         (view_ports ports.entry) endpoints fault (W.contents writer.old) (W.contents writer.new)) }
+    // A recording that is there cannot fail to be read.
+    ensures there { result ≢ Err faults.CannotRead }
 {
     let left_out = count_left_out(alloc, file)?;
     let mut buffer = Buffer::new(alloc)?;
