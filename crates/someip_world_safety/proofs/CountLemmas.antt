@@ -81,9 +81,10 @@ opens_subscription at item k opens =
     let same = same_subscription k _ opens.4 in
     let group = ap (λ (x : SubscriptionExchange). x.eventgroup) (sym same) in
     let server = ap (λ (x : SubscriptionExchange). x.server) (sym same) in
-    let counter = ap (λ (x : SubscriptionExchange). x.counter) (sym same) in
-    (subst (Begins at item k.eventgroup k.server) counter (subst (λ p. Begins at item k.eventgroup p opens.2) server (subst (λ e. Begins at item e opens.1 opens.2) group opens.3)),
-    ap (λ (x : SubscriptionExchange). x.client) same)
+    let counter = ap (λ (x : SubscriptionExchange). x.counter) (sym same) in (
+      subst (Begins at item k.eventgroup k.server) counter (subst (λ p. Begins at item k.eventgroup p opens.2) server (subst (λ e. Begins at item e opens.1 opens.2) group opens.3)),
+      ap (λ (x : SubscriptionExchange). x.client) same,
+    )
 
 -- ---- keys of one node
 

@@ -287,16 +287,31 @@ pub(super) const FILES: &[File] = &[
     File(&[BIG_SECTION, SNAP_99, BIG_SIMPLE], &[Untimed(&[1, 2, 3])]),
     // The options and the number of an interface, the lowest byte first.
     File(
-        &[LITTLE_SECTION, LITTLE_INTERFACE, LITTLE_COARSE, LITTLE_SECOND],
+        &[
+            LITTLE_SECTION,
+            LITTLE_INTERFACE,
+            LITTLE_COARSE,
+            LITTLE_SECOND,
+        ],
         &[At(19, 0)],
     ),
     // A packet without a time is of the first of two interfaces, by its snap length.
     File(
-        &[LITTLE_SECTION, LITTLE_SNAP_30, LITTLE_SNAP_99, LITTLE_SIMPLE],
+        &[
+            LITTLE_SECTION,
+            LITTLE_SNAP_30,
+            LITTLE_SNAP_99,
+            LITTLE_SIMPLE,
+        ],
         &[Other(Skipped::Cut)],
     ),
     File(
-        &[LITTLE_SECTION, LITTLE_SNAP_99, LITTLE_SNAP_30, LITTLE_SIMPLE],
+        &[
+            LITTLE_SECTION,
+            LITTLE_SNAP_99,
+            LITTLE_SNAP_30,
+            LITTLE_SIMPLE,
+        ],
         &[Untimed(&[1, 2, 3])],
     ),
     // A packet that the block holds a part of.
