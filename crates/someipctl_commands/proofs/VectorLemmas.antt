@@ -18,7 +18,7 @@ use Rattle.someipctl_commands.specs.VectorLines.{AreArguments, of_datagram, of_p
 -- a line that asks for nothing, and is no line of expected text, is bad
 pub bad_found : (line text : List ℕ) (fault : LineFault) → text ≡ line → is_left_out line ≡ false → (fault ≡ Bad → AsksNothing text)
     → ((rest : List ℕ) → text ≢ codes "> " ++ rest) → IsFoundOf line (Err fault)
-bad_found line text Bad is counts none other = λ sayings utf8. (counts, subst AsksNothing is (none refl), λ rest says. absurd (other rest (is ∙ says.0)))
+bad_found line text Bad is counts none other = λ sayings utf8. (counts, subst AsksNothing is (none refl), λ rest says. absurd (other rest (is ∙ says)))
 bad_found line text OutOfMemory is counts none other = tt
 
 abbrev first_byte : List ℕ → ℕ
@@ -61,7 +61,7 @@ no_hex sayings hex none =
     λ utf8. (
       refl,
       asks_nothing,
-      λ text says. (let same : 100 ≡ 62 = ap first_byte says.0 in cc same),
+      λ text says. (let same : 100 ≡ 62 = ap first_byte says in cc same),
     )
   where
     asks_nothing : AsksNothing (codes "datagram " ++ hex)
@@ -74,10 +74,10 @@ no_hex sayings hex none =
 -- so are `>` alone, and a space
 pub bare_text : (sayings : List Said) → IsBadBehind sayings (codes ">")
 bare_text sayings =
-    λ utf8. (refl, asks_of_none (codes ">") 62 (λ e. cc e) (λ e. cc e) refl, λ text says. (let short : 1 ≡ suc (suc (length text)) = ap length says.0 in absurd (omega (arith, short))))
+    λ utf8. (refl, asks_of_none (codes ">") 62 (λ e. cc e) (λ e. cc e) refl, λ text says. (let short : 1 ≡ suc (suc (length text)) = ap length says in absurd (omega (arith, short))))
 
 pub blank_line : (sayings : List Said) → IsBadBehind sayings (codes " ")
-blank_line sayings = λ utf8. (refl, asks_of_none (codes " ") 32 (λ e. cc e) (λ e. cc e) refl, λ text says. (let same : 32 ≡ 62 = ap first_byte says.0 in cc same))
+blank_line sayings = λ utf8. (refl, asks_of_none (codes " ") 32 (λ e. cc e) (λ e. cc e) refl, λ text says. (let same : 32 ≡ 62 = ap first_byte says in cc same))
 
 -- ---- one line more
 
