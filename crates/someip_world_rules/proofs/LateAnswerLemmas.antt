@@ -1,5 +1,5 @@
 -- The trace of the run in which an answer comes late, step by step.
-use Rattle.std.proofs.Common.{◌≡◌, ℕ, ◌+◌, ◌++◌, true, if◌then◌else◌, List, [], ◌∷◌, drop, take, Ok, Err, refl, ap, ◌∙◌}
+use Rattle.std.proofs.Common.{◌≡◌, ℕ, true, if◌then◌else◌, List, [], ◌∷◌, drop, take, Some, Ok, Err, refl, ap, ◌∙◌}
 use Rattle.someip_rpc.specs.declared.call.CallKind.TheVariants as kinds
 use Rattle.someip_rpc.specs.declared.request.Reply.TheVariants.{Response}
 use Rattle.someip_node_rules.specs.declared.config.Config.{Config}
@@ -15,9 +15,9 @@ use Rattle.someip_world_steps.specs.declared.step.Step.TheVariants.{Tick, Delive
 use Rattle.someip_world_setup.specs.declared.setup_node.SetupNode.{SetupNode}
 use Rattle.someip_world_rules.specs.declared.line.Line.{Line}
 use Rattle.someip_world_rules.specs.declared.step_fault.StepFault.TheVariants.{BadDelay}
-use Rattle.someip_world_rules.specs.Deeds.{Restarts, deed_at, done_with}
+use Rattle.someip_world_rules.specs.Deeds.{Restarts, deed_at}
 use Rattle.someip_world_rules.specs.LateAnswer.{answered_late, answered_late_trace, asking_with}
-use Rattle.someip_world_rules.specs.Runs.{happens, happens_to, run_from, run_lines, run_of, unless_bad, world_after, world_of}
+use Rattle.someip_world_rules.specs.Runs.{happens, happens_to, run_from, run_lines, run_of, unless_bad, world_of}
 use Rattle.someip_world_rules.specs.WorkedTrace.{AreNamed, a, b}
 use Rattle.someip_world_rules.proofs.WorkedTraceLemmas.{at_first, at_second, goes_on, second_place, world}
 

@@ -4,14 +4,12 @@ use Rattle.std.specs.List.{AllByRecursion, Contains, filter}
 use Rattle.std.proofs.lemmas.Bool.{eq-eqb}
 use Rattle.std.proofs.lemmas.List.Elements.{Contains-append_right}
 use Rattle.someip_node_rules.specs.declared.config.Config.{Config}
-use Rattle.someip_node_rules.specs.Steps.{given_in}
 use Rattle.someip_node_rules.proofs.MemberLemmas.{all_weaker, at_member}
 use Rattle.someip_world_steps.specs.declared.step.Step.{Step}
 use Rattle.someip_world_setup.specs.declared.setup_node.SetupNode.{SetupNode}
 use Rattle.someip_world_rules.specs.declared.line.Line.{Line}
-use Rattle.someip_world_rules.specs.Deeds.{done_with}
-use Rattle.someip_world_rules.specs.Runs.{run_of, told_lines, world_of}
-use Rattle.someip_world_rules.specs.Turns.{IsOfStep, Turn, lines_at}
+use Rattle.someip_world_rules.specs.Runs.{run_of, world_of}
+use Rattle.someip_world_rules.specs.Turns.{IsOfStep}
 use Rattle.someip_world_rules.proofs.Fronts.{got}
 use Rattle.someip_world_rules.proofs.TurnLemmas.{AreWithin, ends_in, told_more, told_turn}
 

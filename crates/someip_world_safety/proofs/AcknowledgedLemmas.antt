@@ -1,20 +1,19 @@
 -- Where a client tells that it is subscribed, by an Ack that came from no liar, the subscription is safe.
-use Rattle.std.proofs.Common.{◌≡◌, ◌×◌, ℕ, suc, ◌<◌, ◌≤◌, Bool, true, false, if◌then◌else◌, ltb, List, Option, None, Some, length, arith, refl, sym, ap, subst, ◌∙◌}
+use Rattle.std.proofs.Common.{◌≡◌, ℕ, suc, ◌<◌, ◌≤◌, Bool, true, false, if◌then◌else◌, ltb, List, Option, None, Some, arith, refl, sym, ap, subst, ◌∙◌}
 use Rattle.std.specs.List.{Contains}
 use Rattle.std.proofs.lemmas.Bool.{ltb-false, ltb-true}
 use Rattle.std.specs.Net.Socket.{v4_ip}
 use Rattle.std.specs.declared.net.ipv4_addr.Ipv4Addr.{Ipv4Addr}
 use Rattle.sd_wire.specs.declared.entry.EventgroupEntry.{EventgroupEntry}
 use Rattle.sd_core.specs.declared.eventgroup.Eventgroup.{Eventgroup}
-use Rattle.sd_core.specs.declared.wish.Acked.{Acked}
 use Rattle.sd_core.specs.declared.wish.Acked.TheVariants as acked_as
 use Rattle.sd_core.specs.declared.wish.Beginning.{Beginning}
 use Rattle.sd_core.specs.declared.wish.Stage.TheVariants.{Begun}
 use Rattle.sd_core.specs.declared.wish.SubscribeAnswer.{SubscribeAnswer}
-use Rattle.sd_core.specs.Wishes.{is_answered, is_subscribed, told_by_ack}
+use Rattle.sd_core.specs.Wishes.{is_subscribed, told_by_ack}
 use Rattle.someip_node_rules.specs.declared.config.Config.{Config}
 use Rattle.someip_node_rules.specs.declared.output.Output.TheVariants.{Subscribed}
-use Rattle.someip_node_rules.specs.Bringing.{Brings, WasBrought}
+use Rattle.someip_node_rules.specs.Bringing.{Brings}
 use Rattle.someip_node_rules.specs.History.{History, answers_of}
 use Rattle.someip_node_rules.specs.Inputs.{Datagram}
 use Rattle.someip_node_rules.specs.Learning.{answer_in, eventgroup_in}
@@ -30,7 +29,6 @@ use Rattle.someip_node_rules.proofs.MemberLemmas.{at_member}
 use Rattle.someip_node_rules.proofs.WishLives.{get-wish}
 use Rattle.someip_world_steps.specs.declared.step.Step.{Step}
 use Rattle.someip_world_setup.specs.declared.setup_node.SetupNode.{SetupNode}
-use Rattle.someip_world_rules.specs.Announced.{AllFits}
 use Rattle.someip_world_rules.specs.Deliveries.{Does}
 use Rattle.someip_world_rules.specs.Liars.{IsFromLiar, IsHonest}
 use Rattle.someip_world_rules.proofs.Fronts.{within}
@@ -41,8 +39,8 @@ use Rattle.someip_world_exchanges.specs.Openings.{Opened}
 use Rattle.someip_world_exchanges.specs.declared.exchange_key.ExchangeKey.{ExchangeKey}
 use Rattle.someip_world_safety.specs.Addresses.{HaveOwnAddresses}
 use Rattle.someip_world_safety.specs.Safety.{HonestAcknowledgedAreSafe}
-use Rattle.someip_world_safety.specs.Subscriptions.{IsSafeSubscription, IsSafelyAcknowledged, WasAccepted}
-use Rattle.someip_world_safety.proofs.EntryInputs.{CameWith, ack_came}
+use Rattle.someip_world_safety.specs.Subscriptions.{IsSafeSubscription, IsSafelyAcknowledged}
+use Rattle.someip_world_safety.proofs.EntryInputs.{ack_came}
 use Rattle.someip_world_safety.proofs.RuleItems.{answered_parts, opens_more}
 use Rattle.someip_world_safety.proofs.StandingLemmas.{all_begun, clean_before}
 use Rattle.someip_world_safety.proofs.StepStandings.{AckSays, AcksBeginNone, AcksSay, Before, InStep, IsBegun, Now, before_rule}

@@ -1,27 +1,20 @@
 -- Where no counter of a node gives a number in two steps, no exchange of a key is opened in two steps.
 use Rattle.std.proofs.Common.{◌≡◌, ℕ, suc, List, [], ◌∷◌, slice_get, Some, refl, sym, ap, subst, ◌∙◌}
-use Rattle.std.specs.List.{Contains}
 use Rattle.std.specs.Net.Socket.{v4_ip}
-use Rattle.std.specs.declared.net.ipv4_addr.Ipv4Addr.{Ipv4Addr}
 use Rattle.std.specs.declared.net.socket_addr.SocketAddrV4.{SocketAddrV4}
-use Rattle.sd_core.specs.declared.keys.InstanceId.{InstanceId}
 use Rattle.someip_rpc.specs.declared.call.Call.{Call}
 use Rattle.someip_rpc.specs.declared.ids.EventId.{EventId}
-use Rattle.someip_rpc.specs.declared.ids.MessageId.{MessageId}
 use Rattle.someip_rpc.specs.Events.{event_of}
 use Rattle.someip_rpc.specs.Sessions.{session_after}
 use Rattle.someip_node_rules.specs.CallQuestions.{times_published}
 use Rattle.someip_node_rules.specs.declared.config.Config.{Config}
-use Rattle.someip_node_rules.specs.declared.config.OfferedService.{OfferedService}
-use Rattle.someip_node_rules.specs.History.{History, met}
+use Rattle.someip_node_rules.specs.History.{History}
 use Rattle.someip_node_rules.specs.Items as items
 use Rattle.someip_node_rules.specs.Items.{Item}
 use Rattle.someip_node_rules.specs.Setups.{client_endpoint, offered_as}
-use Rattle.someip_node_rules.specs.Trails.{outcome_of}
 use Rattle.someip_node_rules.proofs.StepRules.{config_there}
 use Rattle.someip_world_steps.specs.declared.step.Step.{Step}
 use Rattle.someip_world_setup.specs.declared.setup_node.SetupNode.{SetupNode}
-use Rattle.someip_world_rules.specs.Deliveries.{Does}
 use Rattle.someip_world_rules.proofs.OriginLemmas.{turn_configured}
 use Rattle.someip_world_exchanges.specs.Openings.{Begins, IsEventKey, Opened, Opens}
 use Rattle.someip_world_exchanges.specs.declared.exchange_key.CallExchange.{CallExchange}

@@ -1,5 +1,5 @@
 -- What a line of a trace tells, its node gave in its step.
-use Rattle.std.proofs.Common.{◌≡◌, ℕ, ◌+◌, suc, Bool, true, false, List, [], ◌∷◌, map, Result, Ok, Err, arith, refl, sym, ap, subst, ◌∙◌}
+use Rattle.std.proofs.Common.{◌≡◌, ℕ, ◌+◌, false, List, [], map, Result, Ok, Err, arith, refl, sym, ap, subst, ◌∙◌}
 use Rattle.std.specs.List.{Contains}
 use Rattle.someip_node_rules.specs.declared.config.Config.{Config}
 use Rattle.someip_node_rules.specs.declared.error.NodeError.{NodeError}
@@ -13,7 +13,6 @@ use Rattle.someip_node_rules.proofs.MemberLemmas.{all_from_members, all_map, at_
 use Rattle.someip_world_steps.specs.declared.step.Step.{Step}
 use Rattle.someip_world_setup.specs.declared.setup_node.SetupNode.{SetupNode}
 use Rattle.someip_world_rules.specs.declared.line.Line.{Line}
-use Rattle.someip_world_rules.specs.declared.line.Told.{Told}
 use Rattle.someip_world_rules.specs.declared.line.Told.TheVariants.{Gave, Refused}
 use Rattle.someip_world_rules.specs.Deeds.{Deed, Injects, Restarts, Takes, done_with}
 use Rattle.someip_world_rules.specs.Runs.{run_of, told_lines}

@@ -1,11 +1,10 @@
 -- In a network that was read, instances that a node offers at one endpoint are one.
-use Rattle.std.proofs.Common.{◌≡◌, ℕ, suc, ◌+◌, ◌≤◌, Bool, true, false, ◌&&◌, not, cond, List, [], ◌∷◌, length, map, slice_get, Option, None, Some, arith, refl, sym, ap, subst, ◌∙◌}
-use Rattle.std.specs.FinMap.{contains_key, find, from_entries, get, get-from_entries, insert, len, len-insert}
+use Rattle.std.proofs.Common.{◌≡◌, ℕ, suc, ◌+◌, ◌≤◌, Bool, true, false, ◌&&◌, not, cond, List, [], ◌∷◌, length, map, Option, None, Some, arith, refl, sym, ap, subst, ◌∙◌}
+use Rattle.std.specs.FinMap.{contains_key, find, from_entries, get, get-from_entries, insert, len, len-empty, len-insert}
 use Rattle.std.specs.List.{AllByRecursion, AllZip, Contains, list_all}
 use Rattle.std.specs.Option.{IfSome, is_some}
 use Rattle.std.specs.Ordering.{eq_by_cmp, nat_cmp}
 use Rattle.std.specs.Cmp.{nat_cmp_total}
-use Rattle.std.specs.declared.net.socket_addr.SocketAddrV4.{SocketAddrV4}
 use Rattle.std.proofs.lemmas.Bool.{and_parts, eqb-true}
 use Rattle.std.proofs.lemmas.List.Elements.{recursion_from_All}
 use Rattle.std.proofs.lemmas.Map.Lookups.{exact_unsigned}
@@ -13,13 +12,13 @@ use Rattle.std.proofs.lemmas.Map.Views.{IfSome-get}
 use Rattle.someip_tables.proofs.Entries.{own_test, same_by_test}
 use Rattle.sd_core.specs.KeyOrder.{exact_instances, instances_total}
 use Rattle.sd_core.specs.declared.keys.InstanceId.{InstanceId}
-use Rattle.someip_node_rules.specs.Copies.{IsCopy, IsCopyOfOffer}
+use Rattle.someip_node_rules.specs.Copies.{IsCopyOfOffer}
 use Rattle.someip_node_rules.specs.declared.config.Config.{Config}
 use Rattle.someip_node_rules.specs.declared.config.OfferedService.{OfferedService}
 use Rattle.someip_node_rules.specs.GoodConfigs.{has_own_ports, is_good, is_good_common, is_good_offer, is_good_port, is_good_want}
 use Rattle.someip_node_rules.specs.Handling.{same_address}
 use Rattle.someip_node_rules.specs.Setups.{offered_as}
-use Rattle.someip_node_rules.proofs.MemberLemmas.{all_map, all_weaker, at_member}
+use Rattle.someip_node_rules.proofs.MemberLemmas.{all_weaker, at_member}
 use Rattle.someip_world_setup.specs.GoodSetups.{IsGoodNetwork, IsGoodNode, Network}
 use Rattle.someip_world_rules.specs.Runs.{AreCopies}
 use Rattle.someip_world_rules.proofs.Fronts.{all_got}
@@ -40,16 +39,13 @@ port_of e = (e.1.rules.endpoint.port, e.0)
 
 -- a table has no more entries than were put in
 no_more : (es : List Port) → len (from_entries {R = nat_cmp} es) ≤ length es
-no_more [] = omega arith
-no_more (e ∷ es) = cases (contains_key (from_entries {R = nat_cmp} es) e.0) (len-insert nat_cmp_total (from_entries es) e.0 e.1)
+no_more [] = let none : len (from_entries {K = ℕ} {X = InstanceId} {R = nat_cmp} []) ≡ 0 = len-empty nat_cmp InstanceId in omega (arith, none)
+no_more (e ∷ es) = cases (contains_key (from_entries {R = nat_cmp} es) e.0) (len-insert nat_cmp_total (from_entries es) e.0 e.1) (no_more es)
   where
-    rest : len (from_entries {R = nat_cmp} es) ≤ length es
-    rest = no_more es
-
     cases : (b : Bool) → len (insert (from_entries {R = nat_cmp} es) e.0 e.1) ≡ cond b (len (from_entries {R = nat_cmp} es)) (len (from_entries {R = nat_cmp} es) + 1)
-        → len (from_entries {R = nat_cmp} (e ∷ es)) ≤ suc (length es)
-    cases true is = let low = rest in omega (arith, is, low)
-    cases false is = let low = rest in omega (arith, is, low)
+        → len (from_entries {R = nat_cmp} es) ≤ length es → len (from_entries {R = nat_cmp} (e ∷ es)) ≤ suc (length es)
+    cases true is low = omega (arith, is, low)
+    cases false is low = omega (arith, is, low)
 
 -- each is found under its port
 abbrev AreFound : List Port → List Port → Type 0
@@ -72,7 +68,7 @@ found_behind first es e none found = cases (eq_by_cmp nat_cmp e.0 first.0) refl
 -- where as many entries are in the table as were put in, each is found under its port
 all_found : (es : List Port) → len (from_entries {R = nat_cmp} es) ≡ length es → AreFound es es
 all_found [] is = tt
-all_found (e ∷ es) is = cases (contains_key (from_entries {R = nat_cmp} es) e.0) refl (len-insert nat_cmp_total (from_entries es) e.0 e.1)
+all_found (e ∷ es) is = cases (contains_key (from_entries {R = nat_cmp} es) e.0) refl (len-insert nat_cmp_total (from_entries es) e.0 e.1) (all_found es)
   where
     less : len (from_entries {R = nat_cmp} es) ≤ length es
     less = no_more es
@@ -81,13 +77,14 @@ all_found (e ∷ es) is = cases (contains_key (from_entries {R = nat_cmp} es) e.
     here = ap (λ b. cond b (Some e.1) (find nat_cmp e.0 es)) (own_test nat_cmp_total e.0)
 
     cases : (b : Bool) → contains_key (from_entries {R = nat_cmp} es) e.0 ≡ b
-        → len (insert (from_entries {R = nat_cmp} es) e.0 e.1) ≡ cond b (len (from_entries {R = nat_cmp} es)) (len (from_entries {R = nat_cmp} es) + 1) → AreFound (e ∷ es) (e ∷ es)
-    cases true there counted = let low = less in absurd (omega (arith, is, counted, low))
-    cases false there counted =
+        → len (insert (from_entries {R = nat_cmp} es) e.0 e.1) ≡ cond b (len (from_entries {R = nat_cmp} es)) (len (from_entries {R = nat_cmp} es) + 1)
+        → (len (from_entries {R = nat_cmp} es) ≡ length es → AreFound es es) → AreFound (e ∷ es) (e ∷ es)
+    cases true there counted rest = let low = less in absurd (omega (arith, is, counted, low))
+    cases false there counted rest =
         let none : find nat_cmp e.0 es ≡ None = sym (get-from_entries nat_cmp_total es e.0) ∙ none_from (get (from_entries {R = nat_cmp} es) e.0) there in (
           here,
           all_weaker (λ x. find nat_cmp x.0 es ≡ Some x.1) (λ x. find nat_cmp x.0 (e ∷ es) ≡ Some x.1) (λ x found. found_behind e es x none found) es
-              (all_found es (omega (arith, is, counted))),
+              (rest (omega (arith, is, counted))),
         )
 
 -- ---- one configuration

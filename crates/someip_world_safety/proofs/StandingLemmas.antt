@@ -185,7 +185,7 @@ module _ (nodes : List SetupNode) (configs : List Config) (ss : List Step) where
               (was place h q b old is)
 
     -- clean up to a step, and so up to the one before
-    clean_before : (n : ℕ) → IsCleanBefore nodes configs ss (suc n) → IsCleanBefore nodes configs ss n
+    pub clean_before : (n : ℕ) → IsCleanBefore nodes configs ss (suc n) → IsCleanBefore nodes configs ss n
     clean_before n clean i lt = clean i (omega (arith, lt))
 
     -- at the start nothing was begun
