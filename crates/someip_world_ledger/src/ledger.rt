@@ -15,8 +15,8 @@ use crate::taken::Taken;
 use crate::telling::is_refused;
 use someip_node_rules::Config;
 use someip_world_rules::Line;
-use someip_world_steps::Step;
 use someip_world_setup::SetupNode;
+use someip_world_steps::Step;
 use std::alloc::{AllocError, Global};
 use std::collections::BTreeMap;
 

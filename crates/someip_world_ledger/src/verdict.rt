@@ -7,8 +7,8 @@ use crate::ledger::Ledger;
 use crate::telling::own_count;
 use someip_world_rules::run_laws::all_that_a_setup_gives_fits;
 use someip_world_rules::{Line, Reuse, place_of};
-use someip_world_steps::Step;
 use someip_world_setup::{Setup, SetupNode};
+use someip_world_steps::Step;
 use std::alloc::{AllocError, Global};
 
 /// The verdict on a run over the nodes of a setup, of which these lines are the trace: the first step that

@@ -43,8 +43,8 @@ ghost use Rattle.someip_world_rules.specs.Runs.{AreCopies, IsRun, World, run_of}
 ghost use Rattle.someip_world_rules.specs.declared.trace.Trace.{Trace};
 
 use crate::numbers::{setup_fits, steps_fit};
-use someip_world_steps::Step;
 use someip_world_setup::Setup;
+use someip_world_steps::Step;
 
 /// Each step of a run that has a trace is done by the node that it names, at the history of that node in
 /// the world to which the steps before it led. The lines of its index tell what the node then gives.

@@ -11,8 +11,8 @@ ghost use Rattle.someip_world_safety.specs.Safety.{AnswersAreSafe, EventsAreSafe
 ghost use Rattle.someip_world_safety.specs.Subscriptions.{HonestSubscriptionsAreSafe, SubscriptionsAreSafe};
 
 use someip_world_rules::run_laws::{all_that_a_setup_gives_fits, known_offers_are_of_the_setup};
-use someip_world_steps::Step;
 use someip_world_setup::Setup;
+use someip_world_steps::Step;
 
 /// Runs are safe, whatever the setup and the steps: also among liars, which send any bytes under their own
 /// addresses.
