@@ -3,15 +3,15 @@ use Rattle.std.proofs.Common.{◌≡◌, ℕ, ◌+◌, ◌-◌, ◌≤◌, cond,
 use Rattle.std.specs.Prelude.{Result, Ok, Err, IfOk, IfErr}
 use Rattle.std.specs.List.{AllByRecursion}
 use Rattle.std.proofs.lemmas.List.{length-append, length-take, length-drop, drop-drop, drop_at, take-append-drop}
-use Rattle.someip_payload_codec.specs.declared.shape.Shape.{Shape}
-use Rattle.someip_payload_codec.specs.declared.shape.Width.{Width}
-use Rattle.someip_payload_codec.specs.declared.shape.Width.TheVariants.{W8, W16, W32}
+use Rattle.someip_payload_values.specs.declared.shape.Shape.{Shape}
+use Rattle.someip_payload_values.specs.declared.shape.Width.{Width}
+use Rattle.someip_payload_values.specs.declared.shape.Width.TheVariants.{W8, W16, W32}
 use Rattle.someip_payload.specs.declared.shape_text.Word.{Word}
 use Rattle.someip_payload.specs.declared.shape_text.Word.TheVariants as word
 use Rattle.someip_payload.specs.declared.shape_text_error.ShapeTextError.{ShapeTextError}
-use Rattle.someip_payload_codec.specs.Data.{Form}
+use Rattle.someip_payload_values.specs.Data.{Form}
 use Rattle.someip_payload.specs.ShapeText.{IsTextOf, bool_text, u8_text, u16_text, u32_text, u64_text, i8_text, i16_text, i32_text, i64_text, utf8_text, utf16_text, array_text, fixed_text, struct_text, union_text, tagged_text, width_text, HasNoWidth, IsNoFront, IsReadTo}
-use Rattle.someip_payload_codec.specs.View.{form}
+use Rattle.someip_payload_values.specs.View.{form}
 use Rattle.someip_payload.specs.Words.{word_text, Behind}
 
 -- ---- two answers that are one

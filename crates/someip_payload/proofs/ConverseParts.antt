@@ -4,15 +4,15 @@ use Rattle.std.specs.Prelude.{◌⊎◌, Result, Ok, Err, IfOk}
 use Rattle.std.specs.Fmt.{decimal}
 use Rattle.std.specs.declared.boxed.Box.{Box}
 use Rattle.std.proofs.lemmas.List.{length-append, get_or-drop}
-use Rattle.someip_payload_codec.specs.declared.shape.Shape.{Shape, Text, Array, Fixed, Struct, Union, Tagged}
-use Rattle.someip_payload_codec.specs.declared.shape.Member.{Member}
-use Rattle.someip_payload_codec.specs.declared.shape.Encoding.{Encoding}
-use Rattle.someip_payload_codec.specs.declared.shape.Width.{Width}
+use Rattle.someip_payload_values.specs.declared.shape.Shape.{Shape, Text, Array, Fixed, Struct, Union, Tagged}
+use Rattle.someip_payload_values.specs.declared.shape.Member.{Member}
+use Rattle.someip_payload_values.specs.declared.shape.Encoding.{Encoding}
+use Rattle.someip_payload_values.specs.declared.shape.Width.{Width}
 use Rattle.someip_payload.specs.declared.shape_text_error.ShapeTextError.{ShapeTextError}
-use Rattle.someip_payload_codec.specs.Check.{depth, deepest, deepest_variant}
-use Rattle.someip_payload_codec.specs.Data.{Form, bool, unsigned, signed, string, array, fixed, «struct», union, tagged, Forms, no_forms, form_then, Variants, no_variants, variant, Members}
+use Rattle.someip_payload_values.specs.Check.{depth, deepest, deepest_variant}
+use Rattle.someip_payload_values.specs.Data.{Form, bool, unsigned, signed, string, array, fixed, «struct», union, tagged, Forms, no_forms, form_then, Variants, no_variants, variant, Members}
 use Rattle.someip_payload.specs.ShapeText.{IsTextOf, IsTextOfMembers, last_member, next_member, IsTextOfVariants, last_variant, next_variant, IsDigit, HasNoWidth, or_32, repeated_text}
-use Rattle.someip_payload_codec.specs.View.{form, forms, all_variants, all_members}
+use Rattle.someip_payload_values.specs.View.{form, forms, all_variants, all_members}
 use Rattle.someip_payload.proofs.Members.{before, before-more, before-none, before_variants, before_variants-more, before_variants-none}
 use Rattle.someip_payload.proofs.Converse.{behind_piece}
 use Rattle.someip_payload.proofs.ShapePieces.{form-Text, form-Array, form-Fixed, form-Struct, form-Union, form-Tagged}

@@ -1,9 +1,9 @@
 -- The members of a structure and the variants of a union, one after the other.
 use Rattle.std.proofs.Common.{◌≡◌, ℕ, ◌+◌, ◌<◌, ◌≤◌, ◌^◌, List, [], ◌∷◌, ◌++◌, length, get_or, slice_range, codes, refl, ap, arith, append_assoc}
 use Rattle.std.specs.Fmt.{decimal}
-use Rattle.someip_payload_codec.specs.declared.shape.Shape.{Shape}
-use Rattle.someip_payload_codec.specs.Data.{Forms, no_forms, form_then, Variants, no_variants, variant}
-use Rattle.someip_payload_codec.specs.View.{form, forms, all_variants}
+use Rattle.someip_payload_values.specs.declared.shape.Shape.{Shape}
+use Rattle.someip_payload_values.specs.Data.{Forms, no_forms, form_then, Variants, no_variants, variant}
+use Rattle.someip_payload_values.specs.View.{form, forms, all_variants}
 use Rattle.someip_payload.specs.ShapeText.{IsTextOf, IsTextOfMembers, last_member, next_member, IsTextOfVariants, last_variant, next_variant}
 use Rattle.someip_payload.proofs.Pieces.{slice_range-byte, slice_range-append}
 

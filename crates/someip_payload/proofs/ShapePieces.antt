@@ -4,13 +4,13 @@ use Rattle.std.specs.Prelude.{Bool as Bit, Result, Ok, Err, IfOk}
 use Rattle.std.specs.Fmt.{decimal}
 use Rattle.std.specs.declared.boxed.Box.{Box}
 use Rattle.someip_payload.specs.declared.shape_text_error.ShapeTextError.{ShapeTextError}
-use Rattle.someip_payload_codec.specs.declared.shape.Shape.{Shape, Bool, U8, U16, U32, U64, I8, I16, I32, I64, Text, Array, Fixed, Struct, Union, Tagged, the_lemmas}
-use Rattle.someip_payload_codec.specs.declared.shape.Member.{Member, roll-Member}
-use Rattle.someip_payload_codec.specs.declared.shape.Encoding.{Encoding}
-use Rattle.someip_payload_codec.specs.declared.shape.Encoding.TheVariants.{Utf8, Utf16}
-use Rattle.someip_payload_codec.specs.declared.shape.Width.{Width}
-use Rattle.someip_payload_codec.specs.Data.{bool, u8, u16, u32, u64, i8, i16, i32, i64, string, array, fixed, «struct», union, tagged}
-use Rattle.someip_payload_codec.specs.View.{form, forms, all_variants, all_members, one_member}
+use Rattle.someip_payload_values.specs.declared.shape.Shape.{Shape, Bool, U8, U16, U32, U64, I8, I16, I32, I64, Text, Array, Fixed, Struct, Union, Tagged, the_lemmas}
+use Rattle.someip_payload_values.specs.declared.shape.Member.{Member, roll-Member}
+use Rattle.someip_payload_values.specs.declared.shape.Encoding.{Encoding}
+use Rattle.someip_payload_values.specs.declared.shape.Encoding.TheVariants.{Utf8, Utf16}
+use Rattle.someip_payload_values.specs.declared.shape.Width.{Width}
+use Rattle.someip_payload_values.specs.Data.{bool, u8, u16, u32, u64, i8, i16, i32, i64, string, array, fixed, «struct», union, tagged}
+use Rattle.someip_payload_values.specs.View.{form, forms, all_variants, all_members, one_member}
 use Rattle.someip_payload.specs.ShapeText.{IsTextOf, IsTextOfMembers, IsTextOfVariants, IsTextOfTaggedMembers, bool_text, u8_text, u16_text, u32_text, u64_text, i8_text, i16_text, i32_text, i64_text, utf8_text, utf16_text, array_text, fixed_text, struct_text, union_text, tagged_text, width_text, or_32, repeated_text}
 use Rattle.someip_payload.proofs.Pieces.{slice_range-append}
 

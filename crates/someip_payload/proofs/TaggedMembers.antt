@@ -3,10 +3,10 @@ use Rattle.std.proofs.Common.{◌≡◌, ℕ, ◌+◌, ◌<◌, ◌≤◌, ◌^�
 use Rattle.std.specs.Prelude.{◌⊎◌}
 use Rattle.std.specs.Fmt.{decimal}
 use Rattle.std.proofs.lemmas.List.{length-append}
-use Rattle.someip_payload_codec.specs.declared.shape.Member.{Member}
-use Rattle.someip_payload_codec.specs.Check.{depth, deepest_member}
-use Rattle.someip_payload_codec.specs.Data.{Form, Members, no_members, member_then}
-use Rattle.someip_payload_codec.specs.View.{OneMember, one_member, all_members}
+use Rattle.someip_payload_values.specs.declared.shape.Member.{Member}
+use Rattle.someip_payload_values.specs.Check.{depth, deepest_member}
+use Rattle.someip_payload_values.specs.Data.{Form, Members, no_members, member_then}
+use Rattle.someip_payload_values.specs.View.{OneMember, one_member, all_members}
 use Rattle.someip_payload.specs.ShapeText.{IsTextOf, IsDigit, mark_text, IsTextOfTaggedMembers, last_tagged, next_tagged, IsTextOfTaggedMember, HasNoWidth, tagged_member_text}
 use Rattle.someip_payload.proofs.Converse.{behind_piece}
 use Rattle.someip_payload.proofs.ConverseParts.{byte_there, no_digit_mark, no_digit_colon}

@@ -1,12 +1,12 @@
 //! Shapes from their texts.
 
 ghost use Rattle.std.specs.Prelude.{◌≡◌, ◌+◌, ◌<◌, ◌≤◌, ◌^◌, ◌++◌, ℕ, Bool, List, Option, Some, None, Ok, length, drop, slice_range, codes, IfOk, IfErr};
-ghost use Rattle.someip_payload_codec.specs.declared.shape.Width.{Width};
+ghost use Rattle.someip_payload_values.specs.declared.shape.Width.{Width};
 ghost use Rattle.someip_payload.specs.declared.shape_text.Word.{Word};
-ghost use Rattle.someip_payload_codec.specs.Data.{Form, Forms, Variants, Members};
-ghost use Rattle.someip_payload_codec.specs.Check.{depth, deepest, deepest_variant, deepest_member};
+ghost use Rattle.someip_payload_values.specs.Data.{Form, Forms, Variants, Members};
+ghost use Rattle.someip_payload_values.specs.Check.{depth, deepest, deepest_variant, deepest_member};
 ghost use Rattle.someip_payload.specs.ShapeText.{IsTextOf, IsTextOfMembers, IsTextOfVariants, IsTextOfTaggedMembers, IsTextOfTaggedMember, IsFaultWithin, HasNoWidth, IsReadAs, IsReadTo, IsRepeatedTo, width_text, or_32, mark_text, repeated_text};
-ghost use Rattle.someip_payload_codec.specs.View.{form, forms, all_variants, all_members, OneMember, one_member};
+ghost use Rattle.someip_payload_values.specs.View.{form, forms, all_variants, all_members, OneMember, one_member};
 ghost use Rattle.someip_payload.specs.Words.{word_text, Behind};
 
 use crate::shape_text_error::ShapeTextError;

@@ -5,24 +5,26 @@ use Rattle.std.specs.Prelude.{flat_map}
 use Rattle.std.specs.Char.Escape.{encode_utf16}
 use Rattle.std.proofs.lemmas.Bool.{lt-ltb, le-ltb, ne_eqb, eq-eqb}
 use Rattle.std.proofs.lemmas.List.{length-append, length-take, take-append-drop, drop_at}
-use Rattle.someip_payload_codec.specs.declared.error.PayloadError.{PayloadError}
-use Rattle.someip_payload_codec.specs.declared.error.PayloadError.TheVariants.{TooMany, DuplicateMember, WrongWireType, MissingMember}
-use Rattle.someip_payload_codec.specs.declared.number.Size.{Size}
-use Rattle.someip_payload_codec.specs.declared.number.Size.TheVariants.{S8, S16, S32}
-use Rattle.someip_payload_codec.specs.declared.shape.Width.{Width}
-use Rattle.someip_payload_codec.specs.declared.shape.Width.TheVariants.{W32}
-use Rattle.someip_payload_codec.specs.declared.tag.WireType.{WireType}
-use Rattle.someip_payload_codec.specs.declared.tag.WireType.TheVariants.{Basic, OwnLength, Length}
-use Rattle.someip_payload_codec.specs.declared.tag.Tag.{Tag}
-use Rattle.someip_payload_codec.specs.declared.shape.Encoding.{Encoding}
-use Rattle.someip_payload_codec.specs.declared.shape.Encoding.TheVariants.{Utf8, Utf16}
-use Rattle.someip_payload_codec.specs.Data.{Form, bool, unsigned, signed, string, array, fixed, «struct», union, tagged, Forms, no_forms, form_then, Variants, no_variants, variant, Members, no_members, member_then, Data, phrase, list, tuple, slotted, Items, no_items, item, Slots, present, absent, View}
-use Rattle.someip_payload_codec.specs.Steps.{◌>>=◌}
-use Rattle.someip_payload_codec.specs.Check.{checked}
-use Rattle.someip_payload_codec.specs.Numbers.{width_of, size_of, field_len, number, framed}
-use Rattle.someip_payload_codec.specs.Tags.{tag_number, items_bytes, own_width, has_wire_type, width_in}
-use Rattle.someip_payload_codec.specs.Grammar.{count, Each, Picks, Reads, has_required}
-use Rattle.someip_payload_codec.specs.Texts.{utf8_mark, utf16_mark, unit_bytes, SpellsText, IsTerminated}
+use Rattle.someip_payload_values.specs.declared.error.PayloadError.{PayloadError}
+use Rattle.someip_payload_values.specs.declared.error.PayloadError.TheVariants.{TooMany, DuplicateMember, WrongWireType, MissingMember}
+use Rattle.someip_payload_values.specs.declared.number.Size.{Size}
+use Rattle.someip_payload_values.specs.declared.number.Size.TheVariants.{S8, S16, S32}
+use Rattle.someip_payload_values.specs.declared.shape.Width.{Width}
+use Rattle.someip_payload_values.specs.declared.shape.Width.TheVariants.{W32}
+use Rattle.someip_payload_values.specs.declared.tag.WireType.{WireType}
+use Rattle.someip_payload_values.specs.declared.tag.WireType.TheVariants.{Basic, OwnLength, Length}
+use Rattle.someip_payload_values.specs.declared.tag.Tag.{Tag}
+use Rattle.someip_payload_values.specs.declared.shape.Encoding.{Encoding}
+use Rattle.someip_payload_values.specs.declared.shape.Encoding.TheVariants.{Utf8, Utf16}
+use Rattle.someip_payload_values.specs.Data.{Form, bool, unsigned, signed, string, array, fixed, «struct», union, tagged, Forms, no_forms, form_then, Variants, no_variants, variant, Members, no_members, member_then, Data, phrase, list, tuple, slotted, Items, no_items, item, Slots, present, absent, count}
+use Rattle.someip_payload_codec.specs.View.{View}
+use Rattle.someip_payload_values.specs.Steps.{◌>>=◌}
+use Rattle.someip_payload_values.specs.Check.{checked}
+use Rattle.someip_payload_values.specs.Numbers.{width_of, size_of, field_len, number, framed}
+use Rattle.someip_payload_values.specs.Tags.{tag_number, items_bytes, own_width, has_wire_type, width_in}
+use Rattle.someip_payload_codec.specs.Grammar.{Each, Picks, Reads, has_required}
+use Rattle.someip_payload_values.specs.Texts.{utf8_mark, utf16_mark, unit_bytes}
+use Rattle.someip_payload_codec.specs.Texts.{SpellsText, IsTerminated}
 use Rattle.someip_payload_codec.specs.Reading.{short_at, skip, number_at, window_at, body_at, text_at, items_at, fixed_at, union_at, chosen_at, tag_at, skip_at, Filler, item_by, tagged_at, all_absent, required_at, member_at, data_by, members_at, variant_at, slots_at, item_at, decoded}
 use Rattle.someip_payload_codec.specs.Faults.{body_view, HasBody, FaultInBody, FaultInText, FaultInItems, FaultInNumber, FaultInUnion, FaultInSkipped, FaultInItem, FaultInTagged, FaultBy, FaultInMembers, FaultInVariant, FaultBehindTag, FaultIn, whole}
 use Rattle.someip_payload_codec.proofs.Parts.{IsBytes, same_view, Took, took_bytes, wide, number_again, body_took, body_again}

@@ -2,19 +2,20 @@
 use Rattle.std.proofs.Common.{◌≡◌, ◌⊎◌, inl, inr, ℕ, zero, suc, ◌+◌, ◌<◌, ◌≤◌, eqb, Bool, true, false, cond, ltb, List, [], ◌++◌, length, take, Result, Ok, Err, Some, None, refl, sym, ap, subst, ◌∙◌, append_assoc, arith}
 use Rattle.std.proofs.lemmas.Bool.{ltb-true, eqb-true, eqb-false}
 use Rattle.std.proofs.lemmas.List.{length-append, take_at}
-use Rattle.someip_payload_codec.specs.declared.error.PayloadError.TheVariants.{TooMany, UnknownVariant, LengthMismatch}
-use Rattle.someip_payload_codec.specs.declared.number.Size.TheVariants.{S8, S32}
-use Rattle.someip_payload_codec.specs.declared.shape.Width.{Width}
-use Rattle.someip_payload_codec.specs.declared.tag.Tag.{Tag}
-use Rattle.someip_payload_codec.specs.Data.{Form, bool, unsigned, signed, string, array, fixed, «struct», union, tagged, Forms, no_forms, form_then, Variants, no_variants, variant, Members, no_members, member_then, Data, truth, uint, int, phrase, list, tuple, nothing, chosen, slotted, Items, no_items, item, Slots, no_slots, present, absent, View}
-use Rattle.someip_payload_codec.specs.declared.error.PayloadError.{PayloadError}
-use Rattle.someip_payload_codec.specs.Steps.{◌>>=◌}
-use Rattle.someip_payload_codec.specs.Numbers.{size_of, field_len, number, is_odd}
-use Rattle.someip_payload_codec.specs.Tags.{own_width}
+use Rattle.someip_payload_values.specs.declared.error.PayloadError.TheVariants.{TooMany, UnknownVariant, LengthMismatch}
+use Rattle.someip_payload_values.specs.declared.number.Size.TheVariants.{S8, S32}
+use Rattle.someip_payload_values.specs.declared.shape.Width.{Width}
+use Rattle.someip_payload_values.specs.declared.tag.Tag.{Tag}
+use Rattle.someip_payload_values.specs.Data.{Form, bool, unsigned, signed, string, array, fixed, «struct», union, tagged, Forms, no_forms, form_then, Variants, no_variants, variant, Members, no_members, member_then, Data, truth, uint, int, phrase, list, tuple, nothing, chosen, slotted, Items, no_items, item, Slots, no_slots, present, absent}
+use Rattle.someip_payload_codec.specs.View.{View}
+use Rattle.someip_payload_values.specs.declared.error.PayloadError.{PayloadError}
+use Rattle.someip_payload_values.specs.Steps.{◌>>=◌}
+use Rattle.someip_payload_values.specs.Numbers.{size_of, field_len, number, is_odd}
+use Rattle.someip_payload_values.specs.Tags.{own_width}
 use Rattle.someip_payload_codec.specs.Grammar.{Reads}
 use Rattle.someip_payload_codec.specs.Reading.{short_at, skip, signed_of, number_at, window_at, text_at, items_at, fixed_at, union_at, chosen_at, tagged_at, item_at, all_absent, required_at, data_by, data_at, members_at, variant_at, slots_at}
 use Rattle.someip_payload_codec.specs.Faults.{FaultInText, FaultInItems, FaultInFixed, FaultInNumber, HasHead, FaultInUnion, FaultBy, FaultIn, FaultInMembers, FaultInVariant, FaultInItem, FaultInTagged, FaultBehindTag}
-use Rattle.someip_payload_codec.proofs.StepLemmas.{err_is, bind_err, only_first}
+use Rattle.someip_payload_values.proofs.StepLemmas.{err_is, bind_err, only_first}
 use Rattle.someip_payload_codec.proofs.Parts.{IsBytes, same_view, Takes, wide, took_bytes, took_then, number_took, window_took}
 use Rattle.someip_payload_codec.proofs.Forms.{IsForm, AreForms, AreVariants, AreMembers}
 use Rattle.someip_payload_codec.proofs.PartFaults.{guard_err, chosen_err, picks_failed, number_failed, window_failed, in_body, left_is, left_after}

@@ -1,8 +1,8 @@
 -- Forms that values can have, as facts.
 use Rattle.std.proofs.Common.{◌≡◌, ℕ, ◌<◌, ◌^◌, Bool, true, false, ltb, eqb, not, ◌&&◌, ◌||◌, List, [], ◌∷◌, refl}
 use Rattle.std.proofs.lemmas.Bool.{and_parts, ltb-true, ne_eqb, eq-eqb}
-use Rattle.someip_payload_codec.specs.Data.{Form, bool, unsigned, signed, string, array, fixed, «struct», union, tagged, Forms, no_forms, form_then, Variants, no_variants, variant, Members, no_members, member_then}
-use Rattle.someip_payload_codec.specs.Check.{has_members, has_variants, has_tagged_members, is_fixed, can_be_tagged, is_among, are_numbers, are_ids, is_form, are_forms, are_variants, are_tagged}
+use Rattle.someip_payload_values.specs.Data.{Form, bool, unsigned, signed, string, array, fixed, «struct», union, tagged, Forms, no_forms, form_then, Variants, no_variants, variant, Members, no_members, member_then}
+use Rattle.someip_payload_values.specs.Check.{has_members, has_variants, has_tagged_members, is_fixed, can_be_tagged, is_among, are_numbers, are_ids, is_form, are_forms, are_variants, are_tagged}
 use Rattle.someip_payload_codec.specs.Grammar.{is_member}
 
 abbrev pub HasMembers : Forms → Type 0

@@ -1,12 +1,9 @@
-mod Shapes
 mod Strings
 mod Loops
 mod TaggedLoops
 mod Shorter
-mod Writes
 mod Parts
 mod Forms
-mod StepLemmas
 mod Utf8Texts
 mod Utf16Units
 mod Utf16Texts
@@ -23,5 +20,3 @@ mod TaggedWritten
 mod Whole
 mod ErrorKinds
 mod Exact
-mod Characters
-mod ValueTexts

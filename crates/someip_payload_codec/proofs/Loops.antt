@@ -2,35 +2,19 @@
 use Rattle.std.proofs.Common.{◌≡◌, ℕ, suc, zero, ◌-◌, ◌+◌, ◌≤◌, ◌<◌, List, [], ◌∷◌, ◌++◌, length, drop, get_or, Result, Ok, Err, refl, sym, ap, ◌∙◌, arith}
 use Rattle.std.proofs.lemmas.Bool.{lt-ltb, eq-eqb, ne_eqb}
 use Rattle.std.proofs.lemmas.List.{drop_all}
-use Rattle.someip_payload_codec.specs.declared.error.PayloadError.{PayloadError}
-use Rattle.someip_payload_codec.specs.declared.error.PayloadError.TheVariants as errors
-use Rattle.someip_payload_codec.specs.declared.error.PayloadError.TheVariants.{TooMany, UnknownVariant}
-use Rattle.someip_payload_codec.specs.declared.shape.Shape.{Shape}
-use Rattle.someip_payload_codec.specs.Data.{Data, Items, no_items, item, View}
-use Rattle.someip_payload_codec.specs.View.{form, forms, all_variants, as_items}
-use Rattle.someip_payload_codec.specs.Steps.{◌>>=◌, Fails}
+use Rattle.someip_payload_values.specs.declared.error.PayloadError.{PayloadError}
+use Rattle.someip_payload_values.specs.declared.error.PayloadError.TheVariants.{TooMany, UnknownVariant}
+use Rattle.someip_payload_values.specs.declared.shape.Shape.{Shape}
+use Rattle.someip_payload_values.specs.Data.{Data, Items, no_items, item}
+use Rattle.someip_payload_codec.specs.View.{View}
+use Rattle.someip_payload_values.specs.View.{form, forms, all_variants, as_items}
+use Rattle.someip_payload_values.specs.Steps.{◌>>=◌, Fails}
 use Rattle.someip_payload_codec.specs.Reading.{data_at, items_at, fixed_at, members_at, chosen_at, variant_at}
-use Rattle.someip_payload_codec.proofs.Shapes.{forms-drop, all_variants-drop}
+use Rattle.someip_payload_values.proofs.Shapes.{forms-drop, all_variants-drop}
+use Rattle.someip_payload_values.proofs.StepLemmas.{fails_too}
 
 abbrev pub Reader : Type 0
 Reader = View → Result (Data × View) PayloadError
-
--- where the one fails, the other does
-pub fails_too : {Y Z : Type 0} (e : PayloadError) (a : Result Y PayloadError) (b : Result Z PayloadError) → (a ≡ Err e → b ≡ Err e) → Fails e a → Fails e b
-fails_too errors.OutOfMemory a b then h = tt
-fails_too (errors.Truncated k) a b then h = then h
-fails_too (errors.BadText k) a b then h = then h
-fails_too (errors.NoTerminator k) a b then h = then h
-fails_too (errors.UnknownVariant k) a b then h = then h
-fails_too (errors.LengthMismatch k) a b then h = then h
-fails_too (errors.TooMany k) a b then h = then h
-fails_too (errors.TooDeep k) a b then h = then h
-fails_too (errors.NotOfShape k) a b then h = then h
-fails_too (errors.TooLong k) a b then h = then h
-fails_too (errors.BadShape k) a b then h = then h
-fails_too (errors.DuplicateMember k) a b then h = then h
-fails_too (errors.WrongWireType k) a b then h = then h
-fails_too (errors.MissingMember k) a b then h = then h
 
 -- the data so far, and then others
 abbrev pub before : List Data → Items → Items

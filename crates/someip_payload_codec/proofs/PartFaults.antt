@@ -3,16 +3,16 @@ use Rattle.std.proofs.Common.{◌≡◌, inl, inr, ℕ, ◌+◌, ◌<◌, Bool, 
 use Rattle.std.specs.Int.{byte_len, from_be_bytes}
 use Rattle.std.proofs.lemmas.Bool.{ltb-true}
 use Rattle.std.proofs.lemmas.List.{drop_at}
-use Rattle.someip_payload_codec.specs.declared.error.PayloadError.{PayloadError}
-use Rattle.someip_payload_codec.specs.declared.number.Size.{Size}
-use Rattle.someip_payload_codec.specs.declared.shape.Width.{Width}
-use Rattle.someip_payload_codec.specs.Data.{View}
-use Rattle.someip_payload_codec.specs.Steps.{◌>>=◌}
-use Rattle.someip_payload_codec.specs.Numbers.{width_of, size_of, framed}
+use Rattle.someip_payload_values.specs.declared.error.PayloadError.{PayloadError}
+use Rattle.someip_payload_values.specs.declared.number.Size.{Size}
+use Rattle.someip_payload_values.specs.declared.shape.Width.{Width}
+use Rattle.someip_payload_codec.specs.View.{View}
+use Rattle.someip_payload_values.specs.Steps.{◌>>=◌}
+use Rattle.someip_payload_values.specs.Numbers.{width_of, size_of, framed}
 use Rattle.someip_payload_codec.specs.Grammar.{Picks}
 use Rattle.someip_payload_codec.specs.Reading.{short_at, skip, front_at, number_at, window_at, body_at}
 use Rattle.someip_payload_codec.specs.Faults.{body_view, HasBody, FaultInBody, FaultInNumber}
-use Rattle.someip_payload_codec.proofs.StepLemmas.{err_is, bind_err}
+use Rattle.someip_payload_values.proofs.StepLemmas.{err_is, bind_err}
 use Rattle.someip_payload_codec.proofs.Parts.{IsBytes, same_view, Took, took_then, body_took, body_again}
 
 pub guard_err : {A : Type 0} (b : Bool) (d e : PayloadError) (x : A) → cond b (Err d) (Ok x) ≡ Err e → (b ≡ true) × (d ≡ e)

@@ -4,13 +4,13 @@ use Rattle.std.specs.Int.{w8, byte_len, from_be_bytes}
 use Rattle.std.proofs.lemmas.Bool.{cases_lt, ltb-false, le-ltb}
 use Rattle.std.proofs.lemmas.List.{take_at, drop_at, take-append-drop, length-append, length-take, get_or_append_left, get_or-append-add, get_or_past}
 use Rattle.std.proofs.lemmas.Nat.{be_bytes_2, be_bytes_4, be_bytes_8, from_be_bytes-to_be_bytes_2, from_be_bytes-to_be_bytes_4, from_be_bytes-to_be_bytes_8}
-use Rattle.someip_payload_codec.specs.declared.error.PayloadError.{PayloadError}
-use Rattle.someip_payload_codec.specs.declared.shape.Width.{Width}
-use Rattle.someip_payload_codec.specs.declared.number.Size.{Size}
-use Rattle.someip_payload_codec.specs.declared.number.Size.TheVariants.{S8, S16, S32, S64}
-use Rattle.someip_payload_codec.specs.Data.{View}
-use Rattle.someip_payload_codec.specs.Numbers.{width_of, limit_of, size_of, number, framed}
-use Rattle.someip_payload_codec.specs.Steps.{◌>>=◌}
+use Rattle.someip_payload_values.specs.declared.error.PayloadError.{PayloadError}
+use Rattle.someip_payload_values.specs.declared.shape.Width.{Width}
+use Rattle.someip_payload_values.specs.declared.number.Size.{Size}
+use Rattle.someip_payload_values.specs.declared.number.Size.TheVariants.{S8, S16, S32, S64}
+use Rattle.someip_payload_codec.specs.View.{View}
+use Rattle.someip_payload_values.specs.Numbers.{width_of, limit_of, size_of, number, framed}
+use Rattle.someip_payload_values.specs.Steps.{◌>>=◌}
 use Rattle.someip_payload_codec.specs.Reading.{short_at, skip, front_at, number_at, window_at, body_at}
 use Rattle.someip_payload_codec.specs.Faults.{body_view}
 

@@ -2,22 +2,23 @@
 use Rattle.std.proofs.Common.{◌≡◌, ◌⊎◌, inl, inr, ℕ, ◌+◌, ◌<◌, ◌≤◌, Bool, true, false, cond, eqb, ltb, List, length, take, Some, None, Result, Ok, Err, subst, arith, length-drop}
 use Rattle.std.specs.Int.{byte_len, from_be_bytes}
 use Rattle.std.proofs.lemmas.Bool.{ltb-false}
-use Rattle.someip_payload_codec.specs.declared.error.PayloadError.{PayloadError}
-use Rattle.someip_payload_codec.specs.declared.error.PayloadError.TheVariants.{DuplicateMember, LengthMismatch, WrongWireType}
-use Rattle.someip_payload_codec.specs.declared.number.Size.{Size}
-use Rattle.someip_payload_codec.specs.declared.number.Size.TheVariants.{S8, S16, S32}
-use Rattle.someip_payload_codec.specs.declared.shape.Width.{Width}
-use Rattle.someip_payload_codec.specs.declared.shape.Width.TheVariants.{W32}
-use Rattle.someip_payload_codec.specs.declared.tag.WireType.{WireType}
-use Rattle.someip_payload_codec.specs.declared.tag.WireType.TheVariants.{Basic, OwnLength, Length}
-use Rattle.someip_payload_codec.specs.declared.tag.Tag.{Tag}
-use Rattle.someip_payload_codec.specs.Data.{Form, bool, unsigned, signed, string, array, fixed, «struct», union, tagged, Variants, no_variants, variant, Members, no_members, member_then, Data, truth, uint, int, phrase, list, tuple, nothing, chosen, slotted, Slots, no_slots, present, absent, View}
-use Rattle.someip_payload_codec.specs.Numbers.{width_of, size_of, is_odd}
-use Rattle.someip_payload_codec.specs.Tags.{own_width, has_wire_type, width_in, tag_in}
-use Rattle.someip_payload_codec.specs.Steps.{◌>>=◌}
+use Rattle.someip_payload_values.specs.declared.error.PayloadError.{PayloadError}
+use Rattle.someip_payload_values.specs.declared.error.PayloadError.TheVariants.{DuplicateMember, LengthMismatch, WrongWireType}
+use Rattle.someip_payload_values.specs.declared.number.Size.{Size}
+use Rattle.someip_payload_values.specs.declared.number.Size.TheVariants.{S8, S16, S32}
+use Rattle.someip_payload_values.specs.declared.shape.Width.{Width}
+use Rattle.someip_payload_values.specs.declared.shape.Width.TheVariants.{W32}
+use Rattle.someip_payload_values.specs.declared.tag.WireType.{WireType}
+use Rattle.someip_payload_values.specs.declared.tag.WireType.TheVariants.{Basic, OwnLength, Length}
+use Rattle.someip_payload_values.specs.declared.tag.Tag.{Tag}
+use Rattle.someip_payload_values.specs.Data.{Form, bool, unsigned, signed, string, array, fixed, «struct», union, tagged, Variants, no_variants, variant, Members, no_members, member_then, Data, truth, uint, int, phrase, list, tuple, nothing, chosen, slotted, Slots, no_slots, present, absent}
+use Rattle.someip_payload_codec.specs.View.{View}
+use Rattle.someip_payload_values.specs.Numbers.{width_of, size_of, is_odd}
+use Rattle.someip_payload_values.specs.Tags.{own_width, has_wire_type, width_in, tag_in}
+use Rattle.someip_payload_values.specs.Steps.{◌>>=◌}
 use Rattle.someip_payload_codec.specs.Reading.{short_at, skip, front_at, signed_of, number_at, window_at, body_at, text_at, items_at, members_at, union_at, chosen_at, variant_at, data_by, tag_at, skip_at, item_by, item_at, tagged_at, all_absent, required_at, member_at, slots_at}
 use Rattle.someip_payload_codec.proofs.Parts.{bind_ok, guard_ok, ok_is}
-use Rattle.someip_payload_codec.proofs.StepLemmas.{passed, kept}
+use Rattle.someip_payload_values.proofs.StepLemmas.{passed, kept}
 
 -- no more is left at v than at w
 abbrev NoLonger : View → View → Type 0

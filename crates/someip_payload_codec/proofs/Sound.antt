@@ -6,17 +6,18 @@ use Rattle.std.specs.Int.RustNames.{FitsSigned}
 use Rattle.std.proofs.lemmas.Int.{of_z-to_z}
 use Rattle.std.proofs.lemmas.Bool.{cases_lt, lt-ltb, le-ltb, ltb-false, eqb-true, eqb-false}
 use Rattle.std.proofs.lemmas.List.{nil_from_length}
-use Rattle.someip_payload_codec.specs.declared.error.PayloadError.{PayloadError}
-use Rattle.someip_payload_codec.specs.declared.error.PayloadError.TheVariants.{TooMany, LengthMismatch}
-use Rattle.someip_payload_codec.specs.declared.number.Size.{Size}
-use Rattle.someip_payload_codec.specs.declared.number.Size.TheVariants.{S8, S16, S32, S64}
-use Rattle.someip_payload_codec.specs.declared.shape.Width.{Width}
-use Rattle.someip_payload_codec.specs.declared.tag.Tag.{Tag}
-use Rattle.someip_payload_codec.specs.Data.{Form, bool, unsigned, signed, string, array, fixed, «struct», union, tagged, Forms, no_forms, form_then, Variants, no_variants, variant, Members, no_members, member_then, Data, truth, uint, int, phrase, list, tuple, nothing, chosen, slotted, Items, no_items, item, Slots, no_slots, present, absent, View}
-use Rattle.someip_payload_codec.specs.Numbers.{width_of, limit_of, size_of, number, framed, typed, is_odd, Begins}
-use Rattle.someip_payload_codec.specs.Tags.{own_width}
-use Rattle.someip_payload_codec.specs.Grammar.{count, Picks, Each, Reads, ReadsBy, ReadsMembers, ReadsVariant, ReadsItems}
-use Rattle.someip_payload_codec.specs.Steps.{◌>>=◌}
+use Rattle.someip_payload_values.specs.declared.error.PayloadError.{PayloadError}
+use Rattle.someip_payload_values.specs.declared.error.PayloadError.TheVariants.{TooMany, LengthMismatch}
+use Rattle.someip_payload_values.specs.declared.number.Size.{Size}
+use Rattle.someip_payload_values.specs.declared.number.Size.TheVariants.{S8, S16, S32, S64}
+use Rattle.someip_payload_values.specs.declared.shape.Width.{Width}
+use Rattle.someip_payload_values.specs.declared.tag.Tag.{Tag}
+use Rattle.someip_payload_values.specs.Data.{Form, bool, unsigned, signed, string, array, fixed, «struct», union, tagged, Forms, no_forms, form_then, Variants, no_variants, variant, Members, no_members, member_then, Data, truth, uint, int, phrase, list, tuple, nothing, chosen, slotted, Items, no_items, item, Slots, no_slots, present, absent, count}
+use Rattle.someip_payload_codec.specs.View.{View}
+use Rattle.someip_payload_values.specs.Numbers.{width_of, limit_of, size_of, number, framed, typed, is_odd, Begins}
+use Rattle.someip_payload_values.specs.Tags.{own_width}
+use Rattle.someip_payload_codec.specs.Grammar.{Picks, Each, Reads, ReadsBy, ReadsMembers, ReadsVariant, ReadsItems}
+use Rattle.someip_payload_values.specs.Steps.{◌>>=◌}
 use Rattle.someip_payload_codec.specs.Reading.{signed_of, number_at, window_at, body_at, text_at, items_at, fixed_at, union_at, chosen_at, Filler, item_by, tagged_at, all_absent, required_at, data_by, data_at, members_at, variant_at, slots_at}
 use Rattle.someip_payload_codec.proofs.Parts.{IsBytes, bind_ok, ok_is, Took, Takes, took_none, took_then, took_bytes, number_took, window_took, body_took}
 use Rattle.someip_payload_codec.proofs.Forms.{IsForm, AreForms, AreVariants, AreMembers}

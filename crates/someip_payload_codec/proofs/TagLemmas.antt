@@ -1,13 +1,13 @@
 -- Tags as numbers: what was written is read again, and each number is that of one tag.
 use Rattle.std.proofs.Common.{◌≡◌, inl, inr, ℕ, zero, suc, ◌+◌, ◌*◌, ◌/◌, ◌%◌, ◌^◌, ◌<◌, ◌≤◌, Bool, true, false, refl, ap, ◌∙◌, arith}
 use Rattle.std.proofs.lemmas.Bool.{cases_lt}
-use Rattle.someip_payload_codec.specs.declared.number.Size.TheVariants.{S8, S16, S32, S64}
-use Rattle.someip_payload_codec.specs.declared.shape.Width.TheVariants.{W8, W16, W32}
-use Rattle.someip_payload_codec.specs.declared.tag.WireType.{WireType}
-use Rattle.someip_payload_codec.specs.declared.tag.WireType.TheVariants.{Basic, OwnLength, Length}
-use Rattle.someip_payload_codec.specs.declared.tag.Tag.{Tag}
-use Rattle.someip_payload_codec.specs.Numbers.{bit_of}
-use Rattle.someip_payload_codec.specs.Tags.{wire_type_number, wire_type_in, tag_number, tag_in}
+use Rattle.someip_payload_values.specs.declared.number.Size.TheVariants.{S8, S16, S32, S64}
+use Rattle.someip_payload_values.specs.declared.shape.Width.TheVariants.{W8, W16, W32}
+use Rattle.someip_payload_values.specs.declared.tag.WireType.{WireType}
+use Rattle.someip_payload_values.specs.declared.tag.WireType.TheVariants.{Basic, OwnLength, Length}
+use Rattle.someip_payload_values.specs.declared.tag.Tag.{Tag}
+use Rattle.someip_payload_values.specs.Numbers.{bit_of}
+use Rattle.someip_payload_values.specs.Tags.{wire_type_number, wire_type_in, tag_number, tag_in}
 
 type_below : (t : WireType) → wire_type_number t < 8
 type_below (Basic S8) = omega arith

@@ -3,15 +3,16 @@ use Rattle.std.proofs.Common.{◌≡◌, ℕ, zero, suc, ◌+◌, ◌-◌, ◌^�
 use Rattle.std.specs.Int.{byte_len}
 use Rattle.std.proofs.lemmas.Bool.{lt-ltb, ne_eqb, eq-eqb, eqb-true, eqb-false, cases_Bool}
 use Rattle.std.proofs.lemmas.List.{length-append}
-use Rattle.someip_payload_codec.specs.declared.number.Size.TheVariants.{S16}
-use Rattle.someip_payload_codec.specs.declared.shape.Width.{Width}
-use Rattle.someip_payload_codec.specs.declared.shape.Width.TheVariants.{W32}
-use Rattle.someip_payload_codec.specs.declared.tag.WireType.{WireType}
-use Rattle.someip_payload_codec.specs.declared.tag.WireType.TheVariants.{Basic, OwnLength, Length}
-use Rattle.someip_payload_codec.specs.declared.tag.Tag.{Tag}
-use Rattle.someip_payload_codec.specs.Data.{Form, Members, no_members, member_then, Data, Slots, no_slots, present, absent, View}
-use Rattle.someip_payload_codec.specs.Numbers.{width_of, number}
-use Rattle.someip_payload_codec.specs.Tags.{TaggedItem, tag_number, item_bytes, items_bytes, with_id, Skips, has_wire_type, width_in}
+use Rattle.someip_payload_values.specs.declared.number.Size.TheVariants.{S16}
+use Rattle.someip_payload_values.specs.declared.shape.Width.{Width}
+use Rattle.someip_payload_values.specs.declared.shape.Width.TheVariants.{W32}
+use Rattle.someip_payload_values.specs.declared.tag.WireType.{WireType}
+use Rattle.someip_payload_values.specs.declared.tag.WireType.TheVariants.{Basic, OwnLength, Length}
+use Rattle.someip_payload_values.specs.declared.tag.Tag.{Tag}
+use Rattle.someip_payload_values.specs.Data.{Form, Members, no_members, member_then, Data, Slots, no_slots, present, absent}
+use Rattle.someip_payload_codec.specs.View.{View}
+use Rattle.someip_payload_values.specs.Numbers.{width_of, number}
+use Rattle.someip_payload_values.specs.Tags.{TaggedItem, tag_number, item_bytes, items_bytes, with_id, Skips, has_wire_type, width_in}
 use Rattle.someip_payload_codec.specs.Grammar.{is_member, SkipsOthers, ReadsBy, ReadsItems}
 use Rattle.someip_payload_codec.specs.Reading.{skip, number_at, tag_at, skip_at, Filler, item_by, tagged_at, all_absent, member_at, data_by, slots_at, item_at}
 use Rattle.someip_payload_codec.proofs.Forms.{AreMembers}

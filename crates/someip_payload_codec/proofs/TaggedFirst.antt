@@ -1,21 +1,22 @@
 -- The first fault among the items of a tagged structure.
 use Rattle.std.proofs.Common.{◌≡◌, inl, inr, ℕ, zero, suc, ◌<◌, ◌≤◌, Bool, false, cond, ltb, List, [], ◌∷◌, ◌++◌, length, Result, Ok, Err, refl, sym, ap, subst, ◌∙◌, append_assoc, append-nil, arith}
 use Rattle.std.proofs.lemmas.Bool.{ltb-true}
-use Rattle.someip_payload_codec.specs.declared.error.PayloadError.{PayloadError}
-use Rattle.someip_payload_codec.specs.declared.error.PayloadError.TheVariants.{DuplicateMember, WrongWireType, MissingMember}
-use Rattle.someip_payload_codec.specs.declared.number.Size.TheVariants.{S16}
-use Rattle.someip_payload_codec.specs.declared.shape.Width.{Width}
-use Rattle.someip_payload_codec.specs.declared.shape.Width.TheVariants.{W32}
-use Rattle.someip_payload_codec.specs.declared.tag.WireType.{WireType}
-use Rattle.someip_payload_codec.specs.declared.tag.WireType.TheVariants.{Basic, OwnLength, Length}
-use Rattle.someip_payload_codec.specs.declared.tag.Tag.{Tag}
-use Rattle.someip_payload_codec.specs.Data.{Form, Members, Data, Slots, present, absent, View}
-use Rattle.someip_payload_codec.specs.Tags.{TaggedItem, item_bytes, items_bytes, has_wire_type, width_in, tag_in}
+use Rattle.someip_payload_values.specs.declared.error.PayloadError.{PayloadError}
+use Rattle.someip_payload_values.specs.declared.error.PayloadError.TheVariants.{DuplicateMember, WrongWireType, MissingMember}
+use Rattle.someip_payload_values.specs.declared.number.Size.TheVariants.{S16}
+use Rattle.someip_payload_values.specs.declared.shape.Width.{Width}
+use Rattle.someip_payload_values.specs.declared.shape.Width.TheVariants.{W32}
+use Rattle.someip_payload_values.specs.declared.tag.WireType.{WireType}
+use Rattle.someip_payload_values.specs.declared.tag.WireType.TheVariants.{Basic, OwnLength, Length}
+use Rattle.someip_payload_values.specs.declared.tag.Tag.{Tag}
+use Rattle.someip_payload_values.specs.Data.{Form, Members, Data, Slots, present, absent}
+use Rattle.someip_payload_codec.specs.View.{View}
+use Rattle.someip_payload_values.specs.Tags.{TaggedItem, item_bytes, items_bytes, has_wire_type, width_in, tag_in}
 use Rattle.someip_payload_codec.specs.Grammar.{Picks, SkipsOthers, has_required, ReadsItems}
-use Rattle.someip_payload_codec.specs.Steps.{◌>>=◌}
+use Rattle.someip_payload_values.specs.Steps.{◌>>=◌}
 use Rattle.someip_payload_codec.specs.Reading.{skip, number_at, tag_at, skip_at, Filler, item_by, tagged_at, all_absent, required_at, member_at}
 use Rattle.someip_payload_codec.specs.Faults.{FaultInNumber, FaultInSkipped, FaultInItem, FaultInTagged}
-use Rattle.someip_payload_codec.proofs.StepLemmas.{err_is, bind_err, only_first, passed_err}
+use Rattle.someip_payload_values.proofs.StepLemmas.{err_is, bind_err, only_first, passed_err}
 use Rattle.someip_payload_codec.proofs.Parts.{IsBytes, same_view, took_bytes}
 use Rattle.someip_payload_codec.proofs.PartFaults.{chosen_err, picks_failed, number_failed, in_body, left_is, left_after}
 use Rattle.someip_payload_codec.proofs.TaggedSound.{TakesItem, IsFilling, with_none, with_present, with_absent, with_value, none_yet, tag_took, less_left, tagged_took}

@@ -6,20 +6,21 @@ use Rattle.std.specs.BTreeMap as tree
 use Rattle.std.specs.BTreeMap.{BTreeMap}
 use Rattle.std.proofs.lemmas.Bool.{lt-ltb}
 use Rattle.std.proofs.lemmas.List.{drop_more}
-use Rattle.someip_payload_codec.specs.declared.error.PayloadError.{PayloadError}
-use Rattle.someip_payload_codec.specs.declared.error.PayloadError.TheVariants.{DuplicateMember}
-use Rattle.someip_payload_codec.specs.declared.shape.Shape.{the_lemmas}
-use Rattle.someip_payload_codec.specs.declared.shape.Member.{Member, out-Member}
-use Rattle.someip_payload_codec.specs.declared.tag.Tag.{Tag}
-use Rattle.someip_payload_codec.specs.declared.value.Value.{Value}
+use Rattle.someip_payload_values.specs.declared.error.PayloadError.{PayloadError}
+use Rattle.someip_payload_values.specs.declared.error.PayloadError.TheVariants.{DuplicateMember}
+use Rattle.someip_payload_values.specs.declared.shape.Shape.{the_lemmas}
+use Rattle.someip_payload_values.specs.declared.shape.Member.{Member, out-Member}
+use Rattle.someip_payload_values.specs.declared.tag.Tag.{Tag}
+use Rattle.someip_payload_values.specs.declared.value.Value.{Value}
 use Rattle.someip_payload_codec.specs.declared.window.Window.{Window}
-use Rattle.someip_payload_codec.specs.Data.{Form, Members, no_members, member_then, Data, Slots, no_slots, present, absent, View}
-use Rattle.someip_payload_codec.specs.View.{one_member, all_members, data_of, slots_of, seen}
+use Rattle.someip_payload_values.specs.Data.{Form, Members, no_members, member_then, Data, Slots, no_slots, present, absent}
+use Rattle.someip_payload_codec.specs.View.{View, seen}
+use Rattle.someip_payload_values.specs.View.{one_member, all_members, data_of, slots_of}
 use Rattle.someip_payload_codec.specs.Grammar.{has_required}
-use Rattle.someip_payload_codec.specs.Steps.{◌>>=◌, Fails, Gives}
+use Rattle.someip_payload_values.specs.Steps.{◌>>=◌, Fails, Gives}
 use Rattle.someip_payload_codec.specs.Reading.{Filler, data_by, skip_at, member_at, slots_at, tagged_at, all_absent}
 use Rattle.someip_payload_codec.specs.Indexes.{index_of, HasIndexes, Fills}
-use Rattle.someip_payload_codec.proofs.Loops.{fails_too}
+use Rattle.someip_payload_values.proofs.StepLemmas.{fails_too}
 
 pub none_read : (ms : List Member) → slots_of (map (λ _. None) ms) ≡ all_absent (all_members ms)
 none_read [] = refl

@@ -2,21 +2,22 @@
 use Rattle.std.proofs.Common.{◌≡◌, ℕ, zero, suc, ◌^◌, ◌<◌, ◌≤◌, Bool, true, false, cond, ltb, eqb, ◌||◌, List, [], ◌∷◌, ◌++◌, length, Result, Ok, Err, refl, sym, ap, subst, ◌∙◌, append_assoc, append-nil, arith}
 use Rattle.std.proofs.lemmas.Bool.{ltb-false, eqb-true, eqb-false, eq-eqb, ne_eqb}
 use Rattle.std.proofs.lemmas.List.{length-append, nil_from_length}
-use Rattle.someip_payload_codec.specs.declared.error.PayloadError.{PayloadError}
-use Rattle.someip_payload_codec.specs.declared.error.PayloadError.TheVariants.{DuplicateMember, WrongWireType, MissingMember}
-use Rattle.someip_payload_codec.specs.declared.number.Size.TheVariants.{S16}
-use Rattle.someip_payload_codec.specs.declared.shape.Width.{Width}
-use Rattle.someip_payload_codec.specs.declared.shape.Width.TheVariants.{W32}
-use Rattle.someip_payload_codec.specs.declared.tag.WireType.{WireType}
-use Rattle.someip_payload_codec.specs.declared.tag.WireType.TheVariants.{Basic, OwnLength, Length}
-use Rattle.someip_payload_codec.specs.declared.tag.Tag.{Tag}
-use Rattle.someip_payload_codec.specs.Data.{Form, Members, no_members, member_then, Data, Slots, no_slots, present, absent, View}
-use Rattle.someip_payload_codec.specs.Numbers.{number, framed}
-use Rattle.someip_payload_codec.specs.Tags.{TaggedItem, item_bytes, items_bytes, with_id, Skips, has_wire_type, width_in, tag_number, tag_in}
+use Rattle.someip_payload_values.specs.declared.error.PayloadError.{PayloadError}
+use Rattle.someip_payload_values.specs.declared.error.PayloadError.TheVariants.{DuplicateMember, WrongWireType, MissingMember}
+use Rattle.someip_payload_values.specs.declared.number.Size.TheVariants.{S16}
+use Rattle.someip_payload_values.specs.declared.shape.Width.{Width}
+use Rattle.someip_payload_values.specs.declared.shape.Width.TheVariants.{W32}
+use Rattle.someip_payload_values.specs.declared.tag.WireType.{WireType}
+use Rattle.someip_payload_values.specs.declared.tag.WireType.TheVariants.{Basic, OwnLength, Length}
+use Rattle.someip_payload_values.specs.declared.tag.Tag.{Tag}
+use Rattle.someip_payload_values.specs.Data.{Form, Members, no_members, member_then, Data, Slots, no_slots, present, absent}
+use Rattle.someip_payload_codec.specs.View.{View}
+use Rattle.someip_payload_values.specs.Numbers.{number, framed}
+use Rattle.someip_payload_values.specs.Tags.{TaggedItem, item_bytes, items_bytes, with_id, Skips, has_wire_type, width_in, tag_number, tag_in}
 use Rattle.someip_payload_codec.specs.Grammar.{is_member, SkipsOthers, has_required, ReadsBy, ReadsItems}
-use Rattle.someip_payload_codec.specs.Steps.{◌>>=◌}
+use Rattle.someip_payload_values.specs.Steps.{◌>>=◌}
 use Rattle.someip_payload_codec.specs.Reading.{number_at, body_at, tag_at, skip_at, Filler, item_by, tagged_at, all_absent, required_at, member_at}
-use Rattle.someip_payload_codec.proofs.StepLemmas.{passed, kept}
+use Rattle.someip_payload_values.proofs.StepLemmas.{passed, kept}
 use Rattle.someip_payload_codec.proofs.TagLemmas.{tag_is}
 use Rattle.someip_payload_codec.proofs.Parts.{IsBytes, bind_ok, ok_is, Took, Takes, took_then, took_bytes, number_took, body_took, wide}
 

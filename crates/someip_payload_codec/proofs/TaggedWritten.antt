@@ -1,11 +1,11 @@
 -- The items that are written of a tagged structure: each is one of a member.
 use Rattle.std.proofs.Common.{◌≡◌, ℕ, ◌<◌, ◌^◌, Bool, true, false, eqb, ◌||◌, List, [], ◌∷◌, Some, None, refl, sym, subst}
 use Rattle.std.proofs.lemmas.Bool.{eq-eqb, ne_eqb}
-use Rattle.someip_payload_codec.specs.declared.number.Size.{Size}
-use Rattle.someip_payload_codec.specs.declared.number.Size.TheVariants.{S8, S16, S32, S64}
-use Rattle.someip_payload_codec.specs.Data.{Form, bool, unsigned, signed, string, array, fixed, «struct», union, tagged, Members, no_members, member_then, Slots, no_slots, present, absent}
-use Rattle.someip_payload_codec.specs.Check.{can_be_tagged}
-use Rattle.someip_payload_codec.specs.Tags.{TaggedItem, with_id, own_width, same_size, has_wire_type, width_in, wire_type_of}
+use Rattle.someip_payload_values.specs.declared.number.Size.{Size}
+use Rattle.someip_payload_values.specs.declared.number.Size.TheVariants.{S8, S16, S32, S64}
+use Rattle.someip_payload_values.specs.Data.{Form, bool, unsigned, signed, string, array, fixed, «struct», union, tagged, Members, no_members, member_then, Slots, no_slots, present, absent}
+use Rattle.someip_payload_values.specs.Check.{can_be_tagged}
+use Rattle.someip_payload_values.specs.Tags.{TaggedItem, with_id, own_width, same_size, has_wire_type, width_in, wire_type_of}
 use Rattle.someip_payload_codec.specs.Grammar.{is_member, SkipsOthers, ReadsItems}
 
 size_itself : (size : Size) → same_size size size ≡ true

@@ -2,13 +2,13 @@
 use Rattle.std.proofs.Common.{◌≡◌, inl, inr, ℕ, true, List, [], Ok, Err, refl, sym, append-nil, arith}
 use Rattle.std.specs.Str.{chars, IsUtf8, is_utf8}
 use Rattle.std.proofs.lemmas.Str.{IsUtf8-from_is_utf8, encodes-chars, scalars-chars}
-use Rattle.someip_payload_codec.specs.declared.error.PayloadError.{PayloadError}
-use Rattle.someip_payload_codec.specs.declared.shape.Encoding.{Encoding}
-use Rattle.someip_payload_codec.specs.declared.shape.Encoding.TheVariants.{Utf8, Utf16}
-use Rattle.someip_payload_codec.specs.Data.{View}
+use Rattle.someip_payload_values.specs.declared.error.PayloadError.{PayloadError}
+use Rattle.someip_payload_values.specs.declared.shape.Encoding.{Encoding}
+use Rattle.someip_payload_values.specs.declared.shape.Encoding.TheVariants.{Utf8, Utf16}
+use Rattle.someip_payload_codec.specs.View.{View}
 use Rattle.someip_payload_codec.specs.Texts.{SpellsText}
 use Rattle.someip_payload_codec.specs.Reading.{text_at}
-use Rattle.someip_payload_codec.specs.Writing.{text_body}
+use Rattle.someip_payload_values.specs.Writing.{text_body}
 use Rattle.someip_payload_codec.specs.Faults.{FaultInText}
 use Rattle.someip_payload_codec.proofs.Parts.{IsBytes}
 use Rattle.someip_payload_codec.proofs.Utf8Texts.{utf8_took, utf8_again, utf8_failed}

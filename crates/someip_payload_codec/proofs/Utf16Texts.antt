@@ -5,14 +5,15 @@ use Rattle.std.specs.Char.Escape.{encode_utf16}
 use Rattle.std.specs.Char.Utf16.{has_unpaired_surrogate, utf16_lossy_chars}
 use Rattle.std.specs.Str.{encode_utf8_all}
 use Rattle.std.proofs.lemmas.Bool.{and_parts, eqb-true, lt-ltb}
-use Rattle.someip_payload_codec.specs.declared.error.PayloadError.{PayloadError}
-use Rattle.someip_payload_codec.specs.declared.error.PayloadError.TheVariants.{BadText, NoTerminator}
-use Rattle.someip_payload_codec.specs.declared.shape.Encoding.TheVariants.{Utf16}
-use Rattle.someip_payload_codec.specs.Texts.{utf16_mark, unit_bytes, units_of_text, SpellsUtf16, IsTerminated}
+use Rattle.someip_payload_values.specs.declared.error.PayloadError.{PayloadError}
+use Rattle.someip_payload_values.specs.declared.error.PayloadError.TheVariants.{BadText, NoTerminator}
+use Rattle.someip_payload_values.specs.declared.shape.Encoding.TheVariants.{Utf16}
+use Rattle.someip_payload_values.specs.Texts.{utf16_mark, unit_bytes, units_of_text}
+use Rattle.someip_payload_codec.specs.Texts.{SpellsUtf16, IsTerminated}
 use Rattle.someip_payload_codec.specs.Reading.{is_ended, is_little, inner, units_of, utf16_in}
 use Rattle.someip_payload_codec.proofs.Parts.{IsBytes}
-use Rattle.someip_payload_codec.proofs.StepLemmas.{passed, passed_err}
-use Rattle.someip_payload_codec.proofs.Strings.{flat_map-append}
+use Rattle.someip_payload_values.proofs.StepLemmas.{passed, passed_err}
+use Rattle.someip_payload_values.proofs.Strings.{flat_map-append}
 use Rattle.someip_payload_codec.proofs.Utf8Texts.{ended_split, ended_is, ended_front}
 use Rattle.someip_payload_codec.proofs.Utf16Units.{IsUnits, tail_units, front_units, units_short, units_again, units_split, units_fit, units_append, bytes_even, none_unpaired, lossy_again, lossy_spells, marked_units}
 

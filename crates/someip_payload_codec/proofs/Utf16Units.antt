@@ -7,7 +7,7 @@ use Rattle.std.specs.Char.Utf16.{utf16_chars, has_unpaired_surrogate, utf16_loss
 use lib.Utf8.{scalar, scalars, scalar_cases, scalar_fits, low_scalar}
 use Rattle.std.proofs.lemmas.Str.{utf16_chars-nil, utf16_chars_lone, utf16_chars_pair}
 use Rattle.std.proofs.lemmas.Bool.{cases_lt, and_parts, leb-true, ltb-true, lt-ltb, le-ltb, le-leb, lt-leb}
-use Rattle.someip_payload_codec.specs.Texts.{utf16_mark, unit_bytes, units_of_text}
+use Rattle.someip_payload_values.specs.Texts.{utf16_mark, unit_bytes, units_of_text}
 use Rattle.someip_payload_codec.specs.Reading.{unit_of, units_of}
 use Rattle.someip_payload_codec.proofs.Parts.{IsBytes}
 

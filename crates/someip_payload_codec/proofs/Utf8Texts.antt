@@ -4,11 +4,12 @@ use Rattle.std.specs.Str.{is_utf8}
 use Rattle.std.proofs.lemmas.Str.{is_utf8-from_IsUtf8, IsUtf8-from_is_utf8}
 use Rattle.std.proofs.lemmas.Bool.{and_parts, ltb-true, eqb-true, lt-ltb, eq-eqb}
 use Rattle.std.proofs.lemmas.List.{take-append-drop, drop_more, drop_all, take_at, length-append, get_or_at}
-use Rattle.someip_payload_codec.specs.declared.error.PayloadError.{PayloadError}
-use Rattle.someip_payload_codec.specs.declared.error.PayloadError.TheVariants.{BadText, NoTerminator}
-use Rattle.someip_payload_codec.specs.Texts.{utf8_mark, SpellsUtf8}
+use Rattle.someip_payload_values.specs.declared.error.PayloadError.{PayloadError}
+use Rattle.someip_payload_values.specs.declared.error.PayloadError.TheVariants.{BadText, NoTerminator}
+use Rattle.someip_payload_values.specs.Texts.{utf8_mark}
+use Rattle.someip_payload_codec.specs.Texts.{SpellsUtf8}
 use Rattle.someip_payload_codec.specs.Reading.{has_mark, without_mark, is_ended, utf8_at}
-use Rattle.someip_payload_codec.proofs.StepLemmas.{passed, passed_err, test_false}
+use Rattle.someip_payload_values.proofs.StepLemmas.{passed, passed_err, test_false}
 
 -- all but the last, and a zero
 pub ended_split : (xs : List ℕ) → is_ended xs ≡ true → xs ≡ take (length xs - 1) xs ++ 0 ∷ []

@@ -6,27 +6,27 @@ use Rattle.std.specs.Int.RustNames.{FitsSigned}
 use Rattle.std.specs.Str.{is_utf8}
 use Rattle.std.proofs.lemmas.Bool.{ltb-true, ltb-false, eqb-true}
 use Rattle.std.proofs.lemmas.List.{take_at, take-append-drop, append-nil, length-append, length-take}
-use Rattle.someip_payload_codec.specs.declared.error.PayloadError.{PayloadError}
-use Rattle.someip_payload_codec.specs.declared.error.PayloadError.TheVariants as errors
-use Rattle.someip_payload_codec.specs.declared.error.PayloadError.TheVariants.{TooDeep, BadShape, NotOfShape, TooMany, TooLong, UnknownVariant}
-use Rattle.someip_payload_codec.specs.declared.number.Size.{Size}
-use Rattle.someip_payload_codec.specs.declared.number.Size.TheVariants.{S8, S16, S32, S64}
-use Rattle.someip_payload_codec.specs.declared.shape.Width.{Width}
-use Rattle.someip_payload_codec.specs.declared.shape.Width.TheVariants.{W32}
-use Rattle.someip_payload_codec.specs.declared.value.Value.{Value}
-use Rattle.someip_payload_codec.specs.Data.{Form, bool, unsigned, signed, string, array, fixed, «struct», union, tagged, Forms, no_forms, form_then, Variants, no_variants, variant, Members, no_members, member_then, Data, truth, uint, int, phrase, list, tuple, nothing, chosen, slotted, Items, no_items, item, Slots, no_slots, present, absent, View}
-use Rattle.someip_payload_codec.specs.View.{data_of}
-use Rattle.someip_payload_codec.specs.Steps.{◌>>=◌, Fails, Gives}
-use Rattle.someip_payload_codec.specs.Check.{depth, is_form, checked}
-use Rattle.someip_payload_codec.specs.Numbers.{width_of, limit_of, size_of, number, framed, typed, is_odd, Framed, Typed, Begins}
-use Rattle.someip_payload_codec.specs.Grammar.{count, is_member, Picks, Each, SkipsOthers, has_required, Reads, ReadsBy, ReadsMembers, ReadsVariant, ReadsItems}
+use Rattle.someip_payload_values.specs.declared.error.PayloadError.{PayloadError}
+use Rattle.someip_payload_values.specs.declared.error.PayloadError.TheVariants as errors
+use Rattle.someip_payload_values.specs.declared.error.PayloadError.TheVariants.{TooDeep, BadShape, NotOfShape, TooMany, TooLong, UnknownVariant}
+use Rattle.someip_payload_values.specs.declared.number.Size.{Size}
+use Rattle.someip_payload_values.specs.declared.number.Size.TheVariants.{S8, S16, S32, S64}
+use Rattle.someip_payload_values.specs.declared.shape.Width.{Width}
+use Rattle.someip_payload_values.specs.declared.shape.Width.TheVariants.{W32}
+use Rattle.someip_payload_values.specs.declared.value.Value.{Value}
+use Rattle.someip_payload_values.specs.Data.{Form, bool, unsigned, signed, string, array, fixed, «struct», union, tagged, Forms, no_forms, form_then, Variants, no_variants, variant, Members, no_members, member_then, Data, truth, uint, int, phrase, list, tuple, nothing, chosen, slotted, Items, no_items, item, Slots, no_slots, present, absent, count}
+use Rattle.someip_payload_codec.specs.View.{View}
+use Rattle.someip_payload_values.specs.View.{data_of}
+use Rattle.someip_payload_values.specs.Steps.{◌>>=◌, Fails, Gives}
+use Rattle.someip_payload_values.specs.Check.{depth, is_form, checked}
+use Rattle.someip_payload_values.specs.Numbers.{width_of, limit_of, size_of, number, framed, typed, is_odd, Framed, Typed, Begins, bit_of}
+use Rattle.someip_payload_codec.specs.Grammar.{is_member, Picks, Each, SkipsOthers, has_required, Reads, ReadsBy, ReadsMembers, ReadsVariant, ReadsItems}
 use Rattle.someip_payload_codec.specs.Texts.{SpellsText}
 use Rattle.someip_payload_codec.specs.Reading.{data_at, decoded}
-use Rattle.someip_payload_codec.specs.Tags.{TaggedItem, item_bytes, items_bytes, with_id, own_width, width_in, wire_type_of}
-use Rattle.someip_payload_codec.specs.Numbers.{bit_of}
-use Rattle.someip_payload_codec.specs.Writing.{is_signed, count_forms, number_text, signed_text, body_text, text_body, each_text, array_text, fixed_text, struct_text, typed_text, chosen_text, item_text, absent_text, count_members, count_slots, text_of, members_text, variant_text, slots_text, encoded}
+use Rattle.someip_payload_values.specs.Tags.{TaggedItem, item_bytes, items_bytes, with_id, own_width, width_in, wire_type_of}
+use Rattle.someip_payload_values.specs.Writing.{is_signed, count_forms, number_text, signed_text, body_text, text_body, each_text, array_text, fixed_text, struct_text, typed_text, chosen_text, item_text, absent_text, count_members, count_slots, text_of, members_text, variant_text, slots_text, encoded}
 use Rattle.someip_payload_codec.specs.Faults.{FaultIn, IsFirstFault, whole}
-use Rattle.someip_payload_codec.proofs.StepLemmas.{passed, kept, bind_err, only_first}
+use Rattle.someip_payload_values.proofs.StepLemmas.{passed, kept, bind_err, only_first}
 use Rattle.someip_payload_codec.proofs.Parts.{IsBytes, bind_ok, ok_is, Took}
 use Rattle.someip_payload_codec.proofs.Forms.{IsForm, AreForms, AreVariants, AreMembers, form_is}
 use Rattle.someip_payload_codec.proofs.TaggedWritten.{AreOfMembers, own_type, own_width_in, of_more, none_skipped, none_with, one_with, member_itself, reads_past}

@@ -1,21 +1,22 @@
 -- The first fault from left to right: what stands before it is read, and at it nothing can be.
 use Rattle.std.specs.Prelude.{◌≡◌, ◌⊎◌, ℕ, ◌+◌, ◌<◌, ◌≤◌, ◌^◌, ◌==◌, Bool, List, [], ◌++◌, length, take, Some, None, true, false, Err}
 use Rattle.std.specs.Int.{byte_len}
-use Rattle.someip_payload_codec.specs.declared.error.PayloadError.{PayloadError}
-use Rattle.someip_payload_codec.specs.declared.error.PayloadError.TheVariants as errors
-use Rattle.someip_payload_codec.specs.declared.error.PayloadError.TheVariants.{BadText, NoTerminator, UnknownVariant, LengthMismatch, TooMany, DuplicateMember, WrongWireType, MissingMember}
-use Rattle.someip_payload_codec.specs.declared.number.Size.{Size}
-use Rattle.someip_payload_codec.specs.declared.number.Size.TheVariants.{S16, S32}
-use Rattle.someip_payload_codec.specs.declared.shape.Width.{Width}
-use Rattle.someip_payload_codec.specs.declared.shape.Width.TheVariants.{W32}
-use Rattle.someip_payload_codec.specs.declared.shape.Encoding.{Encoding}
-use Rattle.someip_payload_codec.specs.declared.tag.WireType.{WireType}
-use Rattle.someip_payload_codec.specs.declared.tag.WireType.TheVariants.{Basic, OwnLength, Length}
-use Rattle.someip_payload_codec.specs.Check.{checked}
-use Rattle.someip_payload_codec.specs.Data.{Form, bool, unsigned, signed, string, array, fixed, «struct», union, tagged, Forms, no_forms, form_then, Variants, no_variants, variant, Members, member_then, Data, Items, Slots, present, absent, View}
-use Rattle.someip_payload_codec.specs.Numbers.{width_of, limit_of, size_of, field_len, number, framed}
-use Rattle.someip_payload_codec.specs.Tags.{TaggedItem, items_bytes, tag_number, own_width, has_wire_type, width_in}
-use Rattle.someip_payload_codec.specs.Grammar.{count, Picks, Each, Reads, SkipsOthers, ReadsItems, has_required}
+use Rattle.someip_payload_values.specs.declared.error.PayloadError.{PayloadError}
+use Rattle.someip_payload_values.specs.declared.error.PayloadError.TheVariants as errors
+use Rattle.someip_payload_values.specs.declared.error.PayloadError.TheVariants.{BadText, NoTerminator, UnknownVariant, LengthMismatch, TooMany, DuplicateMember, WrongWireType, MissingMember}
+use Rattle.someip_payload_values.specs.declared.number.Size.{Size}
+use Rattle.someip_payload_values.specs.declared.number.Size.TheVariants.{S16, S32}
+use Rattle.someip_payload_values.specs.declared.shape.Width.{Width}
+use Rattle.someip_payload_values.specs.declared.shape.Width.TheVariants.{W32}
+use Rattle.someip_payload_values.specs.declared.shape.Encoding.{Encoding}
+use Rattle.someip_payload_values.specs.declared.tag.WireType.{WireType}
+use Rattle.someip_payload_values.specs.declared.tag.WireType.TheVariants.{Basic, OwnLength, Length}
+use Rattle.someip_payload_values.specs.Check.{checked}
+use Rattle.someip_payload_values.specs.Data.{Form, bool, unsigned, signed, string, array, fixed, «struct», union, tagged, Forms, no_forms, form_then, Variants, no_variants, variant, Members, member_then, Data, Items, Slots, present, absent, count}
+use Rattle.someip_payload_codec.specs.View.{View}
+use Rattle.someip_payload_values.specs.Numbers.{width_of, limit_of, size_of, field_len, number, framed}
+use Rattle.someip_payload_values.specs.Tags.{TaggedItem, items_bytes, tag_number, own_width, has_wire_type, width_in}
+use Rattle.someip_payload_codec.specs.Grammar.{Picks, Each, Reads, SkipsOthers, ReadsItems, has_required}
 use Rattle.someip_payload_codec.specs.Texts.{SpellsText, IsTerminated}
 use Rattle.someip_payload_codec.specs.Reading.{short_at, skip}
 

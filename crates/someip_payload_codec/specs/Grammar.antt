@@ -3,16 +3,12 @@
 use Rattle.std.specs.Prelude.{◌≡◌, ℕ, ◌+◌, ◌<◌, ◌≤◌, ◌^◌, ◌==◌, ◌||◌, ◌&&◌, Bool, true, false, List, [], ◌∷◌, ◌++◌, Some, None}
 use Rattle.std.specs.Int.{cast_unsigned}
 use Rattle.std.specs.Int.RustNames.{FitsSigned}
-use Rattle.someip_payload_codec.specs.declared.number.Size.TheVariants.{S8}
-use Rattle.someip_payload_codec.specs.declared.shape.Width.{Width}
-use Rattle.someip_payload_codec.specs.Data.{Form, bool, unsigned, signed, string, array, fixed, «struct», union, tagged, Forms, no_forms, form_then, Variants, no_variants, variant, Members, no_members, member_then, Data, truth, uint, int, phrase, list, tuple, nothing, chosen, slotted, Items, no_items, item, Slots, no_slots, present, absent}
-use Rattle.someip_payload_codec.specs.Numbers.{width_of, limit_of, number, typed, is_odd, Framed, Typed, Begins}
-use Rattle.someip_payload_codec.specs.Tags.{TaggedItem, items_bytes, with_id, Skips, own_width, has_wire_type, width_in}
+use Rattle.someip_payload_values.specs.declared.number.Size.TheVariants.{S8}
+use Rattle.someip_payload_values.specs.declared.shape.Width.{Width}
+use Rattle.someip_payload_values.specs.Data.{Form, bool, unsigned, signed, string, array, fixed, «struct», union, tagged, Forms, no_forms, form_then, Variants, no_variants, variant, Members, no_members, member_then, Data, truth, uint, int, phrase, list, tuple, nothing, chosen, slotted, Items, no_items, item, Slots, no_slots, present, absent, count}
+use Rattle.someip_payload_values.specs.Numbers.{width_of, limit_of, number, typed, is_odd, Framed, Typed, Begins}
+use Rattle.someip_payload_values.specs.Tags.{TaggedItem, items_bytes, with_id, Skips, own_width, has_wire_type, width_in}
 use Rattle.someip_payload_codec.specs.Texts.{SpellsText}
-
-abbrev pub count : Items → ℕ
-count no_items = 0
-count (item d ds) = count ds + 1
 
 -- one after the other, each of the same kind
 abbrev pub Each : (Data → List ℕ → Type 0) → Items → List ℕ → Type 0

@@ -4,12 +4,13 @@ use Rattle.std.specs.Option.{option_map}
 use Rattle.std.specs.Ordering.{nat_cmp}
 use Rattle.std.specs.BTreeMap as tree
 use Rattle.std.specs.BTreeMap.{BTreeMap}
-use Rattle.someip_payload_codec.specs.declared.error.PayloadError.{PayloadError}
-use Rattle.someip_payload_codec.specs.declared.value.Value.{Value}
+use Rattle.someip_payload_values.specs.declared.error.PayloadError.{PayloadError}
+use Rattle.someip_payload_values.specs.declared.value.Value.{Value}
 use Rattle.someip_payload_codec.specs.declared.window.Window.{Window}
-use Rattle.someip_payload_codec.specs.Data.{Members, no_members, member_then, Slots, View}
-use Rattle.someip_payload_codec.specs.Steps.{Fails}
-use Rattle.someip_payload_codec.specs.View.{slots_of, seen}
+use Rattle.someip_payload_values.specs.Data.{Members, no_members, member_then, Slots}
+use Rattle.someip_payload_codec.specs.View.{View, seen}
+use Rattle.someip_payload_values.specs.Steps.{Fails}
+use Rattle.someip_payload_values.specs.View.{slots_of}
 
 -- the index of the first member with the Data ID, if there is one
 abbrev pub index_of : ℕ → Members → Option ℕ

@@ -1,14 +1,6 @@
-pub mod Data
 pub mod View
-pub mod Steps
-pub mod Check
-pub mod Numbers
-pub mod Tags
 pub mod Grammar
 pub mod Texts
 pub mod Reading
-pub mod Writing
 pub mod Faults
 pub mod Indexes
-pub mod ValueText
-pub mod Names

@@ -3,24 +3,25 @@ use Rattle.std.specs.Prelude.{ℕ, zero, suc, ◌+◌, ◌-◌, ◌*◌, ◌==�
 use Rattle.std.specs.Int.{byte_len, from_be_bytes, cast_signed}
 use Rattle.std.specs.Str.{is_utf8, encode_utf8_all}
 use Rattle.std.specs.Char.Utf16.{has_unpaired_surrogate, utf16_lossy_chars}
-use Rattle.someip_payload_codec.specs.declared.error.PayloadError.{PayloadError}
-use Rattle.someip_payload_codec.specs.declared.error.PayloadError.TheVariants.{Truncated, BadText, NoTerminator, UnknownVariant, LengthMismatch, TooMany, DuplicateMember, WrongWireType, MissingMember}
-use Rattle.someip_payload_codec.specs.declared.number.Size.{Size}
-use Rattle.someip_payload_codec.specs.declared.number.Size.TheVariants.{S8, S16, S32}
-use Rattle.someip_payload_codec.specs.declared.shape.Width.{Width}
-use Rattle.someip_payload_codec.specs.declared.shape.Width.TheVariants.{W32}
-use Rattle.someip_payload_codec.specs.declared.tag.WireType.{WireType}
-use Rattle.someip_payload_codec.specs.declared.tag.WireType.TheVariants.{Basic, OwnLength, Length}
-use Rattle.someip_payload_codec.specs.declared.tag.Tag.{Tag}
-use Rattle.someip_payload_codec.specs.declared.shape.Encoding.{Encoding}
-use Rattle.someip_payload_codec.specs.declared.shape.Encoding.TheVariants.{Utf8, Utf16}
-use Rattle.someip_payload_codec.specs.Steps.{◌>>=◌}
-use Rattle.someip_payload_codec.specs.Check.{checked}
-use Rattle.someip_payload_codec.specs.Numbers.{width_of, size_of, is_odd}
-use Rattle.someip_payload_codec.specs.Tags.{own_width, has_wire_type, width_in, tag_in}
+use Rattle.someip_payload_values.specs.declared.error.PayloadError.{PayloadError}
+use Rattle.someip_payload_values.specs.declared.error.PayloadError.TheVariants.{Truncated, BadText, NoTerminator, UnknownVariant, LengthMismatch, TooMany, DuplicateMember, WrongWireType, MissingMember}
+use Rattle.someip_payload_values.specs.declared.number.Size.{Size}
+use Rattle.someip_payload_values.specs.declared.number.Size.TheVariants.{S8, S16, S32}
+use Rattle.someip_payload_values.specs.declared.shape.Width.{Width}
+use Rattle.someip_payload_values.specs.declared.shape.Width.TheVariants.{W32}
+use Rattle.someip_payload_values.specs.declared.tag.WireType.{WireType}
+use Rattle.someip_payload_values.specs.declared.tag.WireType.TheVariants.{Basic, OwnLength, Length}
+use Rattle.someip_payload_values.specs.declared.tag.Tag.{Tag}
+use Rattle.someip_payload_values.specs.declared.shape.Encoding.{Encoding}
+use Rattle.someip_payload_values.specs.declared.shape.Encoding.TheVariants.{Utf8, Utf16}
+use Rattle.someip_payload_values.specs.Steps.{◌>>=◌}
+use Rattle.someip_payload_values.specs.Check.{checked}
+use Rattle.someip_payload_values.specs.Numbers.{width_of, size_of, is_odd}
+use Rattle.someip_payload_values.specs.Tags.{own_width, has_wire_type, width_in, tag_in}
 use Rattle.someip_payload_codec.specs.Grammar.{has_required}
-use Rattle.someip_payload_codec.specs.Texts.{utf16_mark}
-use Rattle.someip_payload_codec.specs.Data.{Form, bool, unsigned, signed, string, array, fixed, «struct», union, tagged, Forms, no_forms, form_then, Variants, no_variants, variant, Members, no_members, member_then, Data, truth, uint, int, phrase, list, tuple, nothing, chosen, slotted, Items, no_items, item, Slots, no_slots, present, absent, View}
+use Rattle.someip_payload_values.specs.Texts.{utf16_mark}
+use Rattle.someip_payload_values.specs.Data.{Form, bool, unsigned, signed, string, array, fixed, «struct», union, tagged, Forms, no_forms, form_then, Variants, no_variants, variant, Members, no_members, member_then, Data, truth, uint, int, phrase, list, tuple, nothing, chosen, slotted, Items, no_items, item, Slots, no_slots, present, absent}
+use Rattle.someip_payload_codec.specs.View.{View}
 
 -- the fault that something passes the window's end
 abbrev pub short_at : View → PayloadError

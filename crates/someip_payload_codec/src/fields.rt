@@ -1,16 +1,14 @@
 //! Numbers and bodies at the front of a window.
 
 ghost use Rattle.std.specs.Prelude.{◌≡◌, ◌+◌, ◌<◌, length, IfOk};
-ghost use Rattle.someip_payload_codec.specs.Numbers.{limit_of};
-ghost use Rattle.someip_payload_codec.specs.Steps.{Gives};
+ghost use Rattle.std.specs.Int.{byte_len, from_be_bytes};
+ghost use Rattle.someip_payload_values.specs.Numbers.{limit_of, width_of};
+ghost use Rattle.someip_payload_values.specs.Steps.{Gives};
 ghost use Rattle.someip_payload_codec.specs.View.{seen};
 ghost use Rattle.someip_payload_codec.specs.Reading.{short_at, front_at, number_at, window_at, body_at, tag_at, skip_at};
 
-use crate::error::PayloadError;
-use crate::number::{Size, size_of};
-use crate::shape::Width;
-use crate::tag::{Tag, WireType, tag_in};
 use crate::window::Window;
+use someip_payload_values::{PayloadError, Size, Tag, Width, WireType, size_of, tag_in};
 
 /// Something at the front passes the end of the window.
 pub(crate) fn short(window: Window<'_>) -> PayloadError
@@ -46,27 +44,35 @@ pub(crate) fn number(size: Size, window: Window<'_>) -> Result<(u64, Window<'_>)
     ensures exact { Gives (λ x. (x.0, seen x.1)) result (number_at size (seen window.entry)) }
     ensures below { IfOk result (λ x. x.0 < limit_of size) }
 {
+    let (bytes, rest) = front(window, byte_len(size))?;
+    Ok((number_of(size, bytes), rest))
+}
+
+/// How many bytes a number of this size has.
+fn byte_len(size: Size) -> usize
+    ensures { result ≡ byte_len (width_of size) }
+{
     match size {
-        Size::S8 => {
-            let (bytes, rest) = front(window, 1)?;
-            Ok((u64::from(bytes[0]), rest))
-        }
-        Size::S16 => {
-            let (bytes, rest) = front(window, 2)?;
-            Ok((u64::from(u16::from_be_bytes([bytes[0], bytes[1]])), rest))
-        }
-        Size::S32 => {
-            let (bytes, rest) = front(window, 4)?;
-            let number = u32::from_be_bytes([bytes[0], bytes[1], bytes[2], bytes[3]]);
-            Ok((u64::from(number), rest))
-        }
-        Size::S64 => {
-            let (bytes, rest) = front(window, 8)?;
-            let number = u64::from_be_bytes([
-                bytes[0], bytes[1], bytes[2], bytes[3], bytes[4], bytes[5], bytes[6], bytes[7],
-            ]);
-            Ok((number, rest))
-        }
+        Size::S8 => 1,
+        Size::S16 => 2,
+        Size::S32 => 4,
+        Size::S64 => 8,
+    }
+}
+
+/// The number that has these bytes.
+fn number_of(size: Size, bytes: &[u8]) -> u64
+    requires { length bytes.now ≡ byte_len (width_of size) }
+    ensures exact { result ≡ from_be_bytes (width_of size) bytes.now }
+    ensures below { result < limit_of size }
+{
+    match size {
+        Size::S8 => u64::from(bytes[0]),
+        Size::S16 => u64::from(u16::from_be_bytes([bytes[0], bytes[1]])),
+        Size::S32 => u64::from(u32::from_be_bytes([bytes[0], bytes[1], bytes[2], bytes[3]])),
+        Size::S64 => u64::from_be_bytes([
+            bytes[0], bytes[1], bytes[2], bytes[3], bytes[4], bytes[5], bytes[6], bytes[7],
+        ]),
     }
 }
 

@@ -1,11 +1,11 @@
 //! Laws that the definitions meet, which the contracts of `decode` and `encode` cite.
 
 ghost use Rattle.std.specs.Prelude.{◌≡◌, ◌<◌, ◌++◌, ℕ, List, Ok, length};
-ghost use Rattle.someip_payload_codec.specs.Check.{checked};
-ghost use Rattle.someip_payload_codec.specs.Data.{Form, Data};
+ghost use Rattle.someip_payload_values.specs.Check.{checked};
+ghost use Rattle.someip_payload_values.specs.Data.{Form, Data};
 ghost use Rattle.someip_payload_codec.specs.Grammar.{Reads};
 ghost use Rattle.someip_payload_codec.specs.Reading.{decoded};
-ghost use Rattle.someip_payload_codec.specs.Writing.{encoded};
+ghost use Rattle.someip_payload_values.specs.Writing.{encoded};
 
 /// What `encode` writes is read again as the same value, all of it, whatever bytes follow.
 pub fn what_is_written_is_read_again()

@@ -1,5 +1,6 @@
 //! The codec of SOME/IP payloads: values of a shape, as bytes (SOME/IP Protocol, "Serialization of
-//! Parameters and Data Structures"). `someip_payload` shows all of it, with the texts of shapes.
+//! Parameters and Data Structures"). What is read stands here, and what is written in
+//! `someip_payload_values`. `someip_payload` shows all of both, with the texts of shapes.
 //!
 //! - [`Shape`], with [`Width`], [`Encoding`] and [`Member`]: what a payload is read by; [`Value`]: what it says;
 //! - [`check_shape`]: whether payloads can have a shape; [`MAX_DEPTH`]: how deep it may be;
@@ -7,24 +8,14 @@
 //! - [`laws`]: what the definitions behind the contracts promise.
 #![tactic(auto)]
 
-mod check;
-mod error;
 mod fields;
 pub mod laws;
 mod members;
-mod number;
 mod reading;
-mod shape;
-mod tag;
 mod text;
-mod value;
-mod value_text;
 mod window;
-mod writing;
 
-pub use check::{MAX_DEPTH, check_shape};
-pub use error::PayloadError;
 pub use reading::decode;
-pub use shape::{Encoding, Member, Shape, Width};
-pub use value::Value;
-pub use writing::encode;
+pub use someip_payload_values::{
+    Encoding, MAX_DEPTH, Member, PayloadError, Shape, Value, Width, check_shape, encode,
+};

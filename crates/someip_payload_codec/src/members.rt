@@ -1,12 +1,11 @@
 //! The members of a tagged structure: where each stands, and whether it was read.
 
 ghost use Rattle.std.specs.Prelude.{◌≡◌, map, length, None, IfOk};
-ghost use Rattle.someip_payload_codec.specs.View.{all_members, slots_of};
+ghost use Rattle.someip_payload_values.specs.View.{all_members, slots_of};
 ghost use Rattle.someip_payload_codec.specs.Grammar.{has_required};
 ghost use Rattle.someip_payload_codec.specs.Indexes.{HasIndexes};
 
-use crate::shape::Member;
-use crate::value::Value;
+use someip_payload_values::{Member, Value};
 use std::alloc::{AllocError, Global};
 use std::collections::BTreeMap;
 

@@ -1,25 +1,26 @@
 //! Values from bytes.
 
-ghost use Rattle.std.specs.Prelude.{◌≡◌, ◌≤◌, ℕ, take, length, IfOk, IfErr, Ok, Err};
-ghost use Rattle.someip_payload_codec.specs.Data.{unsigned, signed, bool, tagged, Data};
-ghost use Rattle.someip_payload_codec.specs.Check.{checked};
+ghost use Rattle.std.specs.Prelude.{◌≡◌, ◌≤◌, ◌<◌, ℕ, take, length, Some, None, IfOk, IfErr, Ok, Err};
+ghost use Rattle.std.specs.Int.{cast_signed};
+ghost use Rattle.someip_payload_values.specs.Numbers.{width_of, limit_of};
+ghost use Rattle.someip_payload_values.specs.Data.{unsigned, signed, bool, string, array, fixed, «struct», tagged, Data};
+ghost use Rattle.someip_payload_values.specs.Check.{checked};
 ghost use Rattle.someip_payload_codec.specs.Faults.{FaultIn, IsFirstFault, IsReadingFault, whole};
 ghost use Rattle.someip_payload_codec.specs.Grammar.{Reads};
-ghost use Rattle.someip_payload_codec.specs.View.{form, forms, one_member, all_variants, all_members, data_of, data_of_all, slots_of, seen};
-ghost use Rattle.someip_payload_codec.specs.Steps.{Gives};
+ghost use Rattle.someip_payload_values.specs.View.{form, forms, one_member, all_variants, all_members, data_of, data_of_all, slots_of};
+ghost use Rattle.someip_payload_codec.specs.View.{seen};
+ghost use Rattle.someip_payload_values.specs.Steps.{Gives};
 ghost use Rattle.someip_payload_codec.specs.Reading.{decoded, data_at, data_by, items_at, fixed_at, members_at, union_at, chosen_at, variant_at, member_at, tagged_at, item_at, all_absent};
 ghost use Rattle.someip_payload_codec.specs.Indexes.{HasIndexes, Fills};
 
-use crate::check::check_shape;
-use crate::error::PayloadError;
 use crate::fields::{body, number, sized, skipped, tag};
 use crate::members::{empty_slots, have_required, indexes_of};
-use crate::number::{Size, signed_of, size_of};
-use crate::shape::{Member, Shape, Width};
-use crate::tag::{Tag, has_wire_type, own_width, width_in};
 use crate::text::text;
-use crate::value::Value;
 use crate::window::Window;
+use someip_payload_values::{
+    Encoding, Member, PayloadError, Shape, Size, Tag, Value, Width, check_shape, has_wire_type,
+    own_width, size_of, width_in,
+};
 use std::alloc::Global;
 use std::collections::BTreeMap;
 
@@ -97,6 +98,34 @@ fn signed(size: Size, window: Window<'_>) -> Result<(Value, Window<'_>), Payload
     Ok((Value::Int(signed_of(size, n)), rest))
 }
 
+/// The text of the body after a length field of that width.
+#[tactic(auto, unfolding(crate::specs::Reading::data_by))]
+fn string(
+    alloc: Global,
+    encoding: Encoding,
+    width: Width,
+    window: Window<'_>,
+) -> Result<(Value, Window<'_>), PayloadError>
+    ensures { Gives (λ x. (data_of x.0, seen x.1)) result (data_by width (string encoding width) (seen window.entry)) }
+{
+    let (body, rest) = body(width, window)?;
+    let text = text(alloc, encoding, window.place, body.bytes)?;
+    Ok((Value::Text(text), rest))
+}
+
+/// The signed number whose two's complement has these bits.
+fn signed_of(size: Size, n: u64) -> i64
+    requires { n < limit_of size }
+    ensures { result ≡ cast_signed (width_of size) n }
+{
+    match size {
+        Size::S8 => i64::from((n as u8).cast_signed()),
+        Size::S16 => i64::from((n as u16).cast_signed()),
+        Size::S32 => i64::from((n as u32).cast_signed()),
+        Size::S64 => n.cast_signed(),
+    }
+}
+
 #[cycle(read)]
 fn value<'a>(
     alloc: Global,
@@ -129,32 +158,77 @@ fn value_by<'a>(
         Shape::I16 => signed(Size::S16, window),
         Shape::I32 => signed(Size::S32, window),
         Shape::I64 => signed(Size::S64, window),
-        Shape::Text(encoding, _) => {
-            let (body, rest) = body(width, window)?;
-            let text = text(alloc, *encoding, window.place, body.bytes)?;
-            Ok((Value::Text(text), rest))
-        }
-        Shape::Array(_, max, element) => {
-            let (body, rest) = body(width, window)?;
-            let items = items(alloc, *max, element, body)?;
-            Ok((Value::List(items), rest))
-        }
-        Shape::Fixed(count, element) => {
-            let (items, rest) = fixed(alloc, *count, element, window)?;
-            Ok((Value::List(items), rest))
-        }
-        Shape::Struct(None, shapes) => {
-            let (values, rest) = members(alloc, shapes, window)?;
-            Ok((Value::Struct(values), rest))
-        }
-        Shape::Struct(Some(_), shapes) => {
-            let (body, rest) = body(width, window)?;
-            let (values, _) = members(alloc, shapes, body)?;
-            Ok((Value::Struct(values), rest))
-        }
+        Shape::Text(encoding, _) => string(alloc, *encoding, width, window),
+        Shape::Array(_, max, element) => array(alloc, width, *max, element, window),
+        Shape::Fixed(count, element) => repeated(alloc, *count, element, window),
+        Shape::Struct(None, shapes) => structure(alloc, shapes, window),
+        Shape::Struct(Some(_), shapes) => framed_structure(alloc, width, shapes, window),
         Shape::Union(variants) => union(alloc, width, variants, window),
         Shape::Tagged(_, members) => tagged(alloc, width, members, window),
     }
+}
+
+/// The elements of the body after a length field of that width, at most so many.
+#[cycle(read)]
+#[tactic(auto, unfolding(crate::specs::Reading::data_by))]
+fn array<'a>(
+    alloc: Global,
+    width: Width,
+    max: u32,
+    element: &Shape,
+    window: Window<'a>,
+) -> Result<(Value, Window<'a>), PayloadError>
+    ensures { Gives (λ x. (data_of x.0, seen x.1)) result (data_by width (array width max (form element.now)) (seen window.entry)) }
+{
+    let (body, rest) = body(width, window)?;
+    let items = items(alloc, max, element, body)?;
+    Ok((Value::List(items), rest))
+}
+
+/// So many elements without a length field.
+#[cycle(read)]
+#[tactic(auto, unfolding(crate::specs::Reading::data_by))]
+fn repeated<'a>(
+    alloc: Global,
+    count: u32,
+    element: &Shape,
+    window: Window<'a>,
+) -> Result<(Value, Window<'a>), PayloadError>
+    ensures { Gives (λ x. (data_of x.0, seen x.1)) result (data_at (fixed count (form element.now)) (seen window.entry)) }
+{
+    let (items, rest) = fixed(alloc, count, element, window)?;
+    Ok((Value::List(items), rest))
+}
+
+/// Members without a length field.
+#[cycle(read)]
+#[tactic(auto, unfolding(crate::specs::Reading::data_by))]
+fn structure<'a>(
+    alloc: Global,
+    shapes: &[Shape],
+    window: Window<'a>,
+) -> Result<(Value, Window<'a>), PayloadError>
+    ensures { Gives (λ x. (data_of x.0, seen x.1)) result (data_at («struct» None (forms shapes.now)) (seen window.entry)) }
+{
+    let (values, rest) = members(alloc, shapes, window)?;
+    Ok((Value::Struct(values), rest))
+}
+
+/// Members at the front of the body after a length field of that width. What comes after them in it
+/// is skipped.
+#[cycle(read)]
+#[tactic(auto, unfolding(crate::specs::Reading::data_by))]
+fn framed_structure<'a>(
+    alloc: Global,
+    width: Width,
+    shapes: &[Shape],
+    window: Window<'a>,
+) -> Result<(Value, Window<'a>), PayloadError>
+    ensures { Gives (λ x. (data_of x.0, seen x.1)) result (data_by width («struct» (Some width) (forms shapes.now)) (seen window.entry)) }
+{
+    let (body, rest) = body(width, window)?;
+    let (values, _) = members(alloc, shapes, body)?;
+    Ok((Value::Struct(values), rest))
 }
 
 /// Elements until the window is used up.

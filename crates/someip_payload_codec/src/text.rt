@@ -1,14 +1,10 @@
 //! Texts in the body of a length field.
 
-ghost use Rattle.std.specs.Prelude.{◌≡◌, ◌++◌, true, flat_map, string_bytes, IfOk, OnOk};
-ghost use Rattle.std.specs.Char.Escape.{encode_utf16};
-ghost use Rattle.someip_payload_codec.specs.Texts.{unit_bytes};
-ghost use Rattle.someip_payload_codec.specs.Writing.{text_body};
-ghost use Rattle.someip_payload_codec.specs.Steps.{Gives};
+ghost use Rattle.std.specs.Prelude.{◌≡◌, string_bytes, IfOk};
+ghost use Rattle.someip_payload_values.specs.Steps.{Gives};
 ghost use Rattle.someip_payload_codec.specs.Reading.{without_mark, is_little, unit_of, units_of, utf8_at, utf16_in, text_at};
 
-use crate::error::PayloadError;
-use crate::shape::Encoding;
+use someip_payload_values::{Encoding, PayloadError};
 use std::alloc::{AllocError, Global};
 
 /// The text of a body whose length field stands at the place.
@@ -98,37 +94,4 @@ fn unit(is_big: bool, first: u8, second: u8) -> u16
     } else {
         u16::from_le_bytes([first, second])
     }
-}
-
-/// Adds a text with mark and terminator.
-#[tactic(auto, unfolding(crate::specs::Writing::text_body))]
-pub(crate) fn put_text(encoding: Encoding, text: &str, out: &mut Vec<u8>) -> Result<(), AllocError>
-    ensures { OnOk result (out.new.items ≡ out.old.items ++ text_body encoding text.now) }
-{
-    match encoding {
-        Encoding::Utf8 => {
-            out.extend_from_slice(&[0xef, 0xbb, 0xbf])?;
-            out.extend_from_slice(text.as_bytes())?;
-            out.push(0)?;
-        }
-        Encoding::Utf16 => {
-            out.extend_from_slice(&[0xfe, 0xff])?;
-            for c in text.chars() {
-                put_char(c, out)?;
-            }
-            out.extend_from_slice(&[0, 0])?;
-        }
-    }
-    Ok(())
-}
-
-/// Adds the units of a character, each with its higher byte first.
-fn put_char(c: char, out: &mut Vec<u8>) -> Result<(), AllocError>
-    ensures { OnOk result (out.new.items ≡ out.old.items ++ flat_map (unit_bytes true) (encode_utf16 c)) }
-{
-    let mut pair = [0; 2];
-    for unit in c.encode_utf16(&mut pair) {
-        out.extend_from_slice(&unit.to_be_bytes())?;
-    }
-    Ok(())
 }

@@ -5,9 +5,9 @@ use Rattle.someip_rpc.specs.declared.call.CallKind.TheVariants as kinds
 use Rattle.someip_rpc.specs.declared.request.Reply.TheVariants.{Response}
 use Rattle.someip_node_rules.specs.declared.error.NodeError.{NodeError}
 use Rattle.someip_node_rules.specs.declared.output.Output.{Output}
-use Rattle.someip_node_rules.specs.declared.output.Output.TheVariants.{Accepted, Answered, Called, Known, Request, Sent}
+use Rattle.someip_node_rules.specs.declared.output.Output.TheVariants.{Accepted, Answered, Known, Request, Sent}
 use Rattle.someip_node_laws.specs.WorkedExamples.{asking, client, instance, refusing, server}
-use Rattle.someip_node_laws.specs.WorkedRun.{ack_packet, answer_packet, call_packet, eventgroup, goes, offer_packet, subscribe_packet}
+use Rattle.someip_node_laws.specs.WorkedRun.{ack_packet, eventgroup, goes, offer_packet, subscribe_packet}
 use Rattle.someip_world_steps.specs.declared.step.Step.{Step}
 use Rattle.someip_world_steps.specs.declared.step.Step.TheVariants.{Tick, Deliver, Call, Answer, Restart, Subscribe}
 use Rattle.someip_world_setup.specs.GoodSetups.{IsGoodNetwork, Network}

@@ -7,17 +7,17 @@ use Rattle.std.specs.Str.Parse.{AllDigits}
 use Rattle.std.proofs.lemmas.Bool.{eqb-true}
 use Rattle.std.proofs.lemmas.Fmt.{decimal_is_IsNumeral}
 use Rattle.std.proofs.lemmas.List.Folds.{list_any-append}
-use Rattle.someip_payload_codec.specs.Check.{depth}
-use Rattle.someip_payload_codec.specs.Data.{Form, Forms, Variants, Members}
-use Rattle.someip_payload_codec.specs.View.{form}
-use Rattle.someip_payload_codec.specs.declared.Shape.{Shape}
+use Rattle.someip_payload_values.specs.Check.{depth}
+use Rattle.someip_payload_values.specs.Data.{Form, Forms, Variants, Members}
+use Rattle.someip_payload_values.specs.View.{form}
+use Rattle.someip_payload_values.specs.declared.Shape.{Shape}
 use Rattle.someip_payload.specs.declared.ShapeTextError.{ShapeTextError}
 use Rattle.someip_payload.specs.declared.ShapeTextError.TheVariants as shapes
 use Rattle.someipctl_commands.specs.declared.vector_lines.LineFault.TheVariants.{Bad}
 use Rattle.someipctl_commands.specs.Payload.{argument_bytes}
 use Rattle.someipctl_commands.specs.VectorLines.{AreArguments, fault_of_shape}
-use Rattle.someip_payload_codec.specs.declared.shape.Width.{Width}
-use Rattle.someip_payload_codec.specs.declared.shape.Width.TheVariants.{W8, W16, W32}
+use Rattle.someip_payload_values.specs.declared.shape.Width.{Width}
+use Rattle.someip_payload_values.specs.declared.shape.Width.TheVariants.{W8, W16, W32}
 use Rattle.someip_payload.specs.ShapeText.{IsReadAs, width_text, repeated_text, IsTextOf, bool_text, u8_text, u16_text, u32_text, u64_text, i8_text, i16_text, i32_text, i64_text, utf8_text, utf16_text, array_text, fixed_text, struct_text, union_text, tagged_text, mark_text, tagged_member_text, IsTextOfTaggedMembers, last_tagged, next_tagged, IsTextOfMembers, last_member, next_member, IsTextOfVariants, last_variant, next_variant}
 
 abbrev pub is_blank : ℕ → Bool

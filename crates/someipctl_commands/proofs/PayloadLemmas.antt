@@ -2,12 +2,12 @@
 use Rattle.std.proofs.Common.{◌≡◌, ◌≢◌, ◌⊎◌, ℕ, List, take, drop, Result, Ok, Err, Option, inl, inr, refl, sym, subst}
 use Rattle.std.specs.Io.KnownBytes.{Appends}
 use Rattle.std.proofs.lemmas.List.{take-append-drop}
-use Rattle.someip_payload_codec.specs.declared.PayloadError.{PayloadError}
-use Rattle.someip_payload_codec.specs.declared.PayloadError.TheVariants as faults
-use Rattle.someip_payload_codec.specs.Data.{Form, Data}
-use Rattle.someip_payload_codec.specs.Check.{checked}
+use Rattle.someip_payload_values.specs.declared.PayloadError.{PayloadError}
+use Rattle.someip_payload_values.specs.declared.PayloadError.TheVariants as faults
+use Rattle.someip_payload_values.specs.Data.{Form, Data}
+use Rattle.someip_payload_values.specs.Check.{checked}
 use Rattle.someip_payload_codec.specs.Faults.{FaultIn, IsFirstFault, whole}
-use Rattle.someip_payload_codec.specs.Steps.{Fails}
+use Rattle.someip_payload_values.specs.Steps.{Fails}
 use Rattle.someipctl_inputs.specs.declared.outcome.Outcome.{Outcome}
 use Rattle.someipctl_commands.specs.Payload.{AnswersPayload, IsFaultOf, ShowsPayloadBeginning}
 

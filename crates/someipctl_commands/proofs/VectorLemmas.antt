@@ -6,8 +6,8 @@ use Rattle.std.proofs.Math.Seq.{take-add}
 use Rattle.std.proofs.lemmas.List.{append-nil, length-take-le, take-append-drop, take_all}
 use Rattle.std.proofs.lemmas.List.Elements.{filter-append}
 use Rattle.std.proofs.lemmas.List.FromFn.{length-enumerate_from}
-use Rattle.someip_payload_codec.specs.Check.{depth}
-use Rattle.someip_payload_codec.specs.Data.{Form}
+use Rattle.someip_payload_values.specs.Check.{depth}
+use Rattle.someip_payload_values.specs.Data.{Form}
 use Rattle.someipctl_commands.specs.declared.vector_lines.LineFault.{LineFault}
 use Rattle.someipctl_commands.specs.declared.vector_lines.LineFault.TheVariants.{Bad, OutOfMemory}
 use Rattle.someipctl_commands.specs.Payload.{argument_bytes}

@@ -1,17 +1,17 @@
 -- What the arguments of `payload` say.
 use Rattle.std.specs.Prelude.{◌≡◌, ◌≢◌, ◌⊎◌, ◌≤◌, ℕ, ◌==◌, if◌then◌else◌, List, [], ◌++◌, length, take, codes, decimal, Option, Some, None, Ok, Err}
 use Rattle.std.specs.Io.KnownBytes.{Appends, Keeps}
-use Rattle.someip_payload_codec.specs.declared.Value.{Value}
-use Rattle.someip_payload_codec.specs.declared.PayloadError.{PayloadError}
-use Rattle.someip_payload_codec.specs.declared.PayloadError.TheVariants as faults
-use Rattle.someip_payload_codec.specs.Data.{Form}
-use Rattle.someip_payload_codec.specs.View.{data_of}
+use Rattle.someip_payload_values.specs.declared.Value.{Value}
+use Rattle.someip_payload_values.specs.declared.PayloadError.{PayloadError}
+use Rattle.someip_payload_values.specs.declared.PayloadError.TheVariants as faults
+use Rattle.someip_payload_values.specs.Data.{Form}
+use Rattle.someip_payload_values.specs.View.{data_of}
 use Rattle.someip_payload_codec.specs.Grammar.{Reads}
-use Rattle.someip_payload_codec.specs.Check.{checked, depth}
-use Rattle.someip_payload_codec.specs.Names.{fault_name, fault_place}
+use Rattle.someip_payload_values.specs.Check.{checked, depth}
+use Rattle.someip_payload_values.specs.Names.{fault_name, fault_place}
 use Rattle.someip_payload_codec.specs.Faults.{FaultIn, whole}
 use Rattle.someip_payload.specs.ShapeText.{IsTextOf}
-use Rattle.someip_payload_codec.specs.ValueText.{value_text}
+use Rattle.someip_payload_values.specs.ValueText.{value_text}
 use Rattle.someipctl_inputs.specs.declared.outcome.Outcome.{Outcome}
 use Rattle.someipctl_inputs.specs.declared.outcome.Outcome.TheVariants.{Done, FaultShown}
 use Rattle.std.specs.Result.{result_ok}

@@ -2,9 +2,9 @@
 use Rattle.std.specs.Prelude.{ℕ, suc, ◌≡◌, ◌≤◌, ◌==◌, Bool, true, false, not, List, [], ◌∷◌, ◌++◌, length, filter, codes, Option, Some, None, Result, Ok, Err}
 use Rattle.std.specs.List.{AllByRecursion}
 use Rattle.std.specs.Str.{IsUtf8}
-use Rattle.someip_payload_codec.specs.Data.{Form}
-use Rattle.someip_payload_codec.specs.Check.{depth}
-use Rattle.someip_payload_codec.specs.View.{form}
+use Rattle.someip_payload_values.specs.Data.{Form}
+use Rattle.someip_payload_values.specs.Check.{depth}
+use Rattle.someip_payload_values.specs.View.{form}
 use Rattle.someip_payload.specs.ShapeText.{IsTextOf}
 use Rattle.someipctl_commands.specs.declared.vector_lines.Question.{Question}
 use Rattle.someipctl_commands.specs.declared.vector_lines.Question.TheVariants.{Datagram, Payload}

@@ -8,7 +8,7 @@ ghost use Rattle.hex.specs.Hex.{encode_lower, IsBytes};
 ghost use Rattle.someip_wire.specs.declared.WireError.{WireError};
 ghost use Rattle.someip_wire.specs.Spelling.{MessageValue, spelling};
 ghost use Rattle.someip_wire.specs.Datagram.{Datagram, items};
-ghost use Rattle.someip_payload_codec.specs.Data.{bool};
+ghost use Rattle.someip_payload_values.specs.Data.{bool};
 ghost use Rattle.recording.specs.Packets.{DatagramValue};
 ghost use Rattle.someipctl_print.specs.Items.{lines_from};
 ghost use Rattle.someipctl_commands.specs.RecordedText.{recorded_from, recorded_outcome};

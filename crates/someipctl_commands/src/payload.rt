@@ -2,7 +2,7 @@
 ghost use Rattle.std.specs.Prelude.{◌≡◌, Some, None, IfErr, IfOk, string_bytes};
 ghost use Rattle.std.specs.Option.{option_map};
 ghost use Rattle.someipctl_commands.specs.declared.payload.PayloadRefusal.TheVariants.{CannotWrite, OutOfMemory};
-ghost use Rattle.someip_payload_codec.specs.View.{form};
+ghost use Rattle.someip_payload_values.specs.View.{form};
 ghost use Rattle.someipctl_commands.specs.Payload.{argument_bytes, refusal_of_shape};
 ghost use Rattle.someipctl_commands.specs.Payload.{ShowsPayload, RefusesPayload, Told};
 

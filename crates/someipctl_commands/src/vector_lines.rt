@@ -10,9 +10,9 @@
 //! ```
 ghost use Rattle.std.specs.Prelude.{◌≡◌, ◌==◌, ◌++◌, ◌≤◌, List, ℕ, Err, IfOk, Some, None, MatchOption, ◌≢◌};
 ghost use Rattle.someipctl_commands.specs.declared.vector_lines.LineFault.TheVariants.{Bad, OutOfMemory};
-ghost use Rattle.someip_payload_codec.specs.Check.{depth};
-ghost use Rattle.someip_payload_codec.specs.Data.{Form};
-ghost use Rattle.someip_payload_codec.specs.View.{form};
+ghost use Rattle.someip_payload_values.specs.Check.{depth};
+ghost use Rattle.someip_payload_values.specs.Data.{Form};
+ghost use Rattle.someip_payload_values.specs.View.{form};
 ghost use Rattle.someipctl_commands.specs.Payload.{argument_bytes};
 ghost use Rattle.someipctl_commands.specs.VectorLines.{AreArguments, AsksNothing, IsFoundOf, Says};
 ghost use Rattle.someipctl_commands.specs.VectorLines.{asked_by, asks, fault_of_shape};

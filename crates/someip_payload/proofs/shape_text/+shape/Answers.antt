@@ -3,9 +3,9 @@ use Rattle.std.specs.Fmt.{decimal}
 use Rattle.std.proofs.lemmas.Bool.{false≢true}
 use Rattle.std.proofs.lemmas.Result.{err_from_is_err_and}
 use Rattle.std.proofs.lemmas.List.{length-append}
-use Rattle.someip_payload_codec.specs.declared.shape.Shape.{U8, U16, U32, U64, I8, I16, I32, I64}
-use Rattle.someip_payload_codec.specs.Data.{u8, u16, u32, u64, i8, i16, i32, i64}
-use Rattle.someip_payload_codec.specs.Check.{depth, deepest, deepest_variant, deepest_member}
+use Rattle.someip_payload_values.specs.declared.shape.Shape.{U8, U16, U32, U64, I8, I16, I32, I64}
+use Rattle.someip_payload_values.specs.Data.{u8, u16, u32, u64, i8, i16, i32, i64}
+use Rattle.someip_payload_values.specs.Check.{depth, deepest, deepest_variant, deepest_member}
 use Rattle.someip_payload.specs.ShapeText.{repeated_text, width_text, mark_text}
 use Rattle.someip_payload.proofs.Converse.{by_word, plain, word_there, behind_piece, same_first, same_second, not_read}
 use Rattle.someip_payload.proofs.ConverseParts.{split_front, some_depth, array_is, struct_is, union_is, tagged_is, stops_repeated, stops_bracket, stops_end, no_digit_comma, no_digit_colon, after_open, after_comma, length-repeated, after_bracket, members_none, next_member_of, member_more, member_last, within_more, deepest-push, deepest_variant-push, variants_none, next_variant_of, variant_more, variant_last}

@@ -1,7 +1,7 @@
 use Rattle.std.proofs.Common.{◌≡◌, ◌≤◌, ◌+◌, ◌-◌, ◌*◌, ◌++◌, ℕ, List, codes, drop, length, slice_range}
-use Rattle.someip_payload_codec.specs.Data.{Forms, Variants, Members}
-use Rattle.someip_payload_codec.specs.Check.{deepest, deepest_variant, deepest_member}
-use Rattle.someip_payload_codec.specs.View.{forms, all_variants, all_members}
+use Rattle.someip_payload_values.specs.Data.{Forms, Variants, Members}
+use Rattle.someip_payload_values.specs.Check.{deepest, deepest_variant, deepest_member}
+use Rattle.someip_payload_values.specs.View.{forms, all_variants, all_members}
 use Rattle.someip_payload.specs.ShapeText.{IsTextOfMembers, IsTextOfVariants, IsTextOfTaggedMembers}
 use Rattle.someip_payload.proofs.ConverseParts.{MembersLeft, VariantsLeft}
 use Rattle.someip_payload.proofs.Members.{MembersSoFar, VariantsSoFar}

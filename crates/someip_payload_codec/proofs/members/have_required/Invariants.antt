@@ -1,5 +1,5 @@
 use Rattle.std.proofs.Common.{◌≡◌, drop}
-use Rattle.someip_payload_codec.specs.View.{all_members, slots_of}
+use Rattle.someip_payload_values.specs.View.{all_members, slots_of}
 use Rattle.someip_payload_codec.specs.Grammar.{has_required}
 use Rattle.someip_payload_codec.proofs.members.have_required.Given as goal
 

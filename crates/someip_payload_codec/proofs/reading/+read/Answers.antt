@@ -1,13 +1,13 @@
 use Rattle.std.proofs.Common.{None, is_some, true, false, sym, refl, ◌≡◌, ◌<◌, ◌++◌, ◌∷◌, [], ◌∙◌, ap, length, map, rules, arith}
 use Rattle.std.proofs.lemmas.Result.{err_from_is_err_and}
 use Rattle.std.proofs.lemmas.List.{map_push, length-map, with_items_is}
-use Rattle.someip_payload_codec.specs.Data.{union}
-use Rattle.someip_payload_codec.specs.View.{form, all_variants, all_members, data_of, slots_of, seen}
-use Rattle.someip_payload_codec.specs.Reading.{data_at, data_by, items_at, chosen_at}
-use Rattle.someip_payload_codec.proofs.Shapes.{form-Union, data_of-Some}
+use Rattle.someip_payload_values.specs.Data.{union}
+use Rattle.someip_payload_values.specs.View.{form, all_variants, all_members, data_of, slots_of}
+use Rattle.someip_payload_codec.specs.View.{seen}
+use Rattle.someip_payload_codec.specs.Reading.{data_at, data_by, items_at, chosen_at, item_by, item_at}
+use Rattle.someip_payload_values.proofs.Shapes.{form-Union, data_of-Some}
 use Rattle.someip_payload_codec.proofs.Loops.{items_go_on, items_fail, items_too_many, items_done, fixed_more, fixed_bad, fixed_end, members_go_on, members_fail, members_done, variant_hit, variant_miss, variant_none}
-use Rattle.someip_payload_codec.specs.Reading.{item_by, item_at}
-use Rattle.someip_payload_codec.specs.declared.shape.Shape.{the_lemmas}
+use Rattle.someip_payload_values.specs.declared.shape.Shape.{the_lemmas}
 use Rattle.someip_payload_codec.proofs.TaggedLoops.{none_read, found_in, skip_fills, slots_duplicate, slots_fault, slots_value, tagged_go_on, tagged_fail, tagged_done}
 use Rattle.someip_payload_codec.proofs.Shorter.{item_shorter}
 use Rattle.someip_payload_codec.proofs.reading.+read.Goals as goal

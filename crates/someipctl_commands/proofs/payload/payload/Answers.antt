@@ -1,7 +1,7 @@
 use Rattle.std.proofs.Common.{◌≡◌, Some, string_bytes, rules}
 use Rattle.std.proofs.lemmas.Result.{err_from_is_err_and}
 use Rattle.std.specs.Io.KnownBytes.{Appends}
-use Rattle.someip_payload_codec.specs.View.{form}
+use Rattle.someip_payload_values.specs.View.{form}
 use Rattle.someipctl_commands.specs.Payload.{AnswersPayload, argument_bytes}
 use Rattle.someipctl_commands.proofs.PayloadLemmas.{beginning_told}
 use Rattle.someipctl_commands.proofs.payload.payload.Goals as goal

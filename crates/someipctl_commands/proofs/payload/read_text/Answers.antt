@@ -1,6 +1,6 @@
 use Rattle.std.proofs.Common.{◌≢◌, rules}
-use Rattle.someip_payload_codec.specs.declared.PayloadError.TheVariants as faults
-use Rattle.someip_payload_codec.specs.View.{form}
+use Rattle.someip_payload_values.specs.declared.PayloadError.TheVariants as faults
+use Rattle.someip_payload_values.specs.View.{form}
 use Rattle.someipctl_commands.proofs.PayloadLemmas.{fault_told}
 use Rattle.someipctl_commands.proofs.payload.read_text.Goals as goal
 

@@ -1,0 +1,7 @@
+pub mod Shapes
+pub mod StepLemmas
+pub mod Strings
+mod Writes
+pub mod ErrorKinds
+mod Characters
+mod ValueTexts

@@ -1,0 +1,10 @@
+pub mod Data
+pub mod View
+pub mod Steps
+pub mod Check
+pub mod Numbers
+pub mod Tags
+pub mod Texts
+pub mod Writing
+pub mod ValueText
+pub mod Names

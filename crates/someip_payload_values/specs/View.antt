@@ -1,0 +1,103 @@
+-- What shapes and values stand for.
+use Rattle.std.specs.Prelude.{ℕ, Bool, List, [], ◌∷◌, map, Option, Some, None, Box, string_bytes}
+use Rattle.std.specs.declared.alloc.Global.{Global}
+use Rattle.someip_payload_values.specs.Data.{Form, bool, unsigned, signed, string, array, fixed, «struct», union, tagged, Forms, no_forms, form_then, Variants, no_variants, variant, Members, no_members, member_then, Data, truth, uint, int, phrase, list, tuple, nothing, chosen, slotted, Items, no_items, item, Slots, no_slots, present, absent}
+use Rattle.someip_payload_values.specs.declared.number.Size.TheVariants.{S8, S16, S32, S64}
+use Rattle.someip_payload_values.specs.declared.shape.Shape.{Shape, fold-Shape}
+use Rattle.someip_payload_values.specs.declared.shape.Shape.TheOpen.{Shape-F, Member-F}
+use Rattle.someip_payload_values.specs.declared.shape.Member.{Member, fold-Member}
+use Rattle.someip_payload_values.specs.declared.value.Value.{Value, fold-Value}
+use Rattle.someip_payload_values.specs.declared.value.Value.TheOpen.{Value-F}
+
+abbrev pub forms_of : List Form → Forms
+forms_of [] = no_forms
+forms_of (f ∷ fs) = form_then f (forms_of fs)
+
+abbrev pub variants_of : List (ℕ × Form) → Variants
+variants_of [] = no_variants
+variants_of (v ∷ vs) = variant v.0 v.1 (variants_of vs)
+
+-- a member of a tagged structure: its Data ID, whether it may be absent, and its form
+pub record OneMember : Type 0 where
+  pub id : ℕ
+  pub optional : Bool
+  pub form : Form
+
+abbrev pub members_of : List OneMember → Members
+members_of [] = no_members
+members_of (m ∷ ms) = member_then m.id m.optional m.form (members_of ms)
+
+abbrev pub as_items : List Data → Items
+as_items [] = no_items
+as_items (d ∷ ds) = item d (as_items ds)
+
+abbrev pub as_slots : List (Option Data) → Slots
+as_slots [] = no_slots
+as_slots (Some d ∷ ds) = present d (as_slots ds)
+as_slots (None ∷ ds) = absent (as_slots ds)
+
+-- one level, with each shape inside already seen
+abbrev pub form_step : Shape-F Form OneMember → Form
+form_step Shape-F.Bool = bool
+form_step Shape-F.U8 = unsigned S8
+form_step Shape-F.U16 = unsigned S16
+form_step Shape-F.U32 = unsigned S32
+form_step Shape-F.U64 = unsigned S64
+form_step Shape-F.I8 = signed S8
+form_step Shape-F.I16 = signed S16
+form_step Shape-F.I32 = signed S32
+form_step Shape-F.I64 = signed S64
+form_step (Shape-F.Text encoding w) = string encoding w
+form_step (Shape-F.Array w max f) = array w max f.value
+form_step (Shape-F.Fixed n f) = fixed n f.value
+form_step (Shape-F.Struct w fs) = «struct» w (forms_of fs.items)
+form_step (Shape-F.Union vs) = union (variants_of vs.items)
+form_step (Shape-F.Tagged w ms) = tagged w (members_of ms.items)
+
+abbrev pub member_step : Member-F Form OneMember → OneMember
+member_step m = record { id = m.id; optional = m.is_optional; form = m.shape }
+
+-- what a shape stands for
+abbrev pub form : Shape → Form
+form = fold-Shape Form OneMember form_step member_step
+
+abbrev pub one_member : Member → OneMember
+one_member = fold-Member Form OneMember form_step member_step
+
+abbrev pub forms : List Shape → Forms
+forms ss = forms_of (map form ss)
+
+abbrev pub all_variants : List (ℕ × Shape) → Variants
+all_variants vs = variants_of (map (λ v. (v.0, form v.1)) vs)
+
+abbrev pub all_members : List Member → Members
+all_members ms = members_of (map one_member ms)
+
+abbrev pub data_step : Value-F Data → Data
+data_step (Value-F.Bool b) = truth b
+data_step (Value-F.Uint n) = uint n
+data_step (Value-F.Int z) = int z
+data_step (Value-F.Text s) = phrase (string_bytes s)
+data_step (Value-F.List ds) = list (as_items ds.items)
+data_step (Value-F.Struct ds) = tuple (as_items ds.items)
+data_step (Value-F.Union None) = nothing
+data_step (Value-F.Union (Some v)) = chosen v.0 v.1.value
+data_step (Value-F.Tagged ds) = slotted (as_slots ds.items)
+
+-- what a value stands for
+abbrev pub data_of : Value → Data
+data_of = fold-Value Data data_step
+
+abbrev pub data_of_choice : Option (ℕ × Box Value Global) → Data
+data_of_choice None = nothing
+data_of_choice (Some v) = chosen v.0 (data_of v.1.value)
+
+abbrev pub data_of_all : List Value → Items
+data_of_all vs = as_items (map data_of vs)
+
+abbrev pub slot_of : Option Value → Option Data
+slot_of None = None
+slot_of (Some v) = Some (data_of v)
+
+abbrev pub slots_of : List (Option Value) → Slots
+slots_of vs = as_slots (map slot_of vs)

@@ -1,0 +1,27 @@
+//! SOME/IP payloads: shapes, values, and the bytes that are written of a value (SOME/IP Protocol,
+//! "Serialization of Parameters and Data Structures"). `someip_payload_codec` reads them again.
+//!
+//! - [`Shape`], with [`Width`], [`Encoding`] and [`Member`]: what a payload is read by; [`Value`]: what it says;
+//! - [`check_shape`]: whether payloads can have a shape; [`MAX_DEPTH`]: how deep it may be;
+//! - [`encode`]: a value as bytes; [`PayloadError`]: the first fault;
+//! - [`Size`] and [`size_of`]: of numbers and length fields; [`Tag`], [`WireType`], [`tag_in`],
+//!   [`has_wire_type`], [`own_width`] and [`width_in`]: of the items of tagged structures.
+#![tactic(auto)]
+
+mod check;
+mod error;
+mod number;
+mod shape;
+mod tag;
+mod text;
+mod value;
+mod value_text;
+mod writing;
+
+pub use check::{MAX_DEPTH, check_shape};
+pub use error::PayloadError;
+pub use number::{Size, size_of};
+pub use shape::{Encoding, Member, Shape, Width};
+pub use tag::{Tag, WireType, has_wire_type, own_width, tag_in, width_in};
+pub use value::Value;
+pub use writing::encode;
