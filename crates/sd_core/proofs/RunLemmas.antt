@@ -1,5 +1,5 @@
 -- A run of keys that stand one after the other in the order: its entries, from a first place on.
-use Rattle.std.proofs.Common.{◌≡◌, Bool, true, false, cond, ◌&&◌, List, [], ◌∷◌, map, filter, take_while, refl, ap, sym, ◌∙◌}
+use Rattle.std.proofs.Common.{◌≡◌, Bool, true, false, cond, ◌&&◌, List, [], ◌∷◌, ◌++◌, map, filter, take_while, refl, ap, sym, ◌∙◌}
 use Rattle.std.specs.List.{list_any}
 use Rattle.std.specs.declared.cmp.Ordering.{Ordering}
 use Rattle.std.specs.declared.cmp.Ordering.TheVariants.{Less, Equal, Greater}
@@ -50,3 +50,19 @@ module _ {K X : Type 0} {R : K → K → Ordering} (o : IsTotalOrder R) (p : K �
       cases true false from is start below rest = take_while-cons (λ (d : K × X). p d.0) e (filter (λ d. is_le (R first d.0)) es) ∙ rw is (sym (none_after e.0 from is es below))
       cases false true from is start below rest = let at = start is in absurd (cc)
       cases false false from is start below rest = rest
+
+-- what has an element is not empty
+pub not_empty : {X : Type 0} (xs : List X) (y : X) (ys all : List X) → xs ++ (y ∷ ys) ≡ all → all ≡ [] → ⊥
+not_empty [] y ys all is none = cc
+not_empty (x ∷ xs) y ys all is none = cc
+
+-- a list that begins with an element of the run, and one that does not
+pub next_run : {X : Type 0} (p : X → Bool) (x : X) (xs all : List X) → all ≡ x ∷ xs → p x ≡ true → take_while p all ≡ x ∷ take_while p xs
+next_run p x xs all is of = ap (take_while p) is ∙ take_while-cons p x xs ∙ ap (λ b. cond b (x ∷ take_while p xs) []) of
+
+pub end_run : {X : Type 0} (p : X → Bool) (x : X) (xs all : List X) → all ≡ x ∷ xs → p x ≡ false → take_while p all ≡ []
+end_run p x xs all is of = ap (take_while p) is ∙ take_while-cons p x xs ∙ ap (λ b. cond b (x ∷ take_while p xs) []) of
+
+pub and_false : (a b : Bool) → b ≡ false → (a && b) ≡ false
+and_false true b is = is
+and_false false b is = refl

@@ -25,7 +25,6 @@ use Rattle.sd_core.specs.declared.subscription.Subscription.{Subscription}
 use Rattle.sd_core.specs.SubscriptionKeys.{subscription_cmp}
 use Rattle.sd_core.specs.SubscriptionOrder.{subscriptions_total, exact_subscriptions}
 use Rattle.sd_core.specs.SubscriberTables.{SubscriberMap, count_beside, endpoints_of, is_to, is_to_any, subscribed_until, subscriber_count}
-use Rattle.someip_tables.proofs.SortedEntries.{keys-empty}
 
 -- a reference is there where what it points to is
 pub some_copied : {X : Type 0} (v : Option (Bor X)) → is_some v ≡ is_some (option_copied v)
@@ -141,10 +140,6 @@ set_of_some (y ∷ ys) some = λ is.
     let there : list_any (eq_by_cmp endpoint_cmp y) (sorted_set endpoint_cmp (y ∷ ys)) ≡ true = any-sorted_set endpoints_total exact_endpoints (y ∷ ys) y ∙ ap (λ b. b || list_any (eq_by_cmp endpoint_cmp y) ys) (own_test endpoints_total y) in
     let gone : list_any (eq_by_cmp endpoint_cmp y) (sorted_set endpoint_cmp (y ∷ ys)) ≡ false = ap (list_any (eq_by_cmp endpoint_cmp y)) is in
     cc
-
-pub no_endpoints : (instance : InstanceId) (eventgroups : List ℕ) (live : SubscriberMap) → list_any (is_to_any instance eventgroups) (keys live) ≡ false → endpoints_of instance eventgroups live ≡ []
-no_endpoints instance eventgroups live none =
-    ap (λ ss. sorted_set endpoint_cmp (map (λ (s : Subscription). s.endpoint) ss)) (none_passes (is_to_any instance eventgroups) (keys live) none) ∙ keys-empty (Unit {0}) endpoint_cmp
 
 pub some_endpoints : (instance : InstanceId) (eventgroups : List ℕ) (live : SubscriberMap) → list_any (is_to_any instance eventgroups) (keys live) ≡ true → endpoints_of instance eventgroups live ≢ []
 some_endpoints instance eventgroups live some =

@@ -1,5 +1,5 @@
 -- The subscriptions to an eventgroup, and those to an instance, stand one after the other.
-use Rattle.std.proofs.Common.{◌≡◌, ℕ, Bool, true, false, cond, not, ◌&&◌, ◌||◌, nat_lt, nat_eq, List, [], ◌∷◌, map, filter, take_while, drop, length, ◌≤◌, refl, ap, sym, ◌∙◌, arith}
+use Rattle.std.proofs.Common.{◌≡◌, ℕ, zero, suc, Bool, true, false, cond, not, ◌&&◌, ◌||◌, nat_lt, nat_eq, List, [], ◌∷◌, map, filter, take_while, drop, length, ◌≤◌, refl, ap, sym, ◌∙◌, arith}
 use Rattle.std.specs.List.{list_any}
 use Rattle.std.specs.declared.cmp.Ordering.{Ordering}
 use Rattle.std.specs.declared.cmp.Ordering.TheVariants.{Less, Equal, Greater}
@@ -22,7 +22,7 @@ use Rattle.someip_tables.specs.EndpointOrder.{endpoints_total, exact_endpoints}
 use Rattle.someip_tables.specs.Lastings.{unexpired}
 use Rattle.someip_tables.specs.Retained.{retain}
 use Rattle.someip_tables.proofs.Entries.{own_test, same_by_test, true_from, filter_alike, length-filter_is, from_entries-entries, entries_distinct}
-use Rattle.someip_tables.proofs.Members.{any_filter, any_map, any_same}
+use Rattle.someip_tables.proofs.Members.{any_filter, any_same}
 use Rattle.someip_tables.proofs.Sorted.{any-sorted_set, sorted_set-only}
 use Rattle.sd_core.specs.declared.keys.InstanceId.{InstanceId}
 use Rattle.sd_core.specs.declared.subscription.Subscription.{Subscription}
@@ -261,16 +261,28 @@ past_all {X = X} xs i end = let left = length-drop i xs in none_left (drop i xs)
     none_left [] none = refl
     none_left (y ∷ ys) none = absurd (omega arith)
 
--- what comes of a run, as a set
-pub run_inserted : (instance : InstanceId) (eventgroup : ℕ) (now : ℕ) (m : SubscriberMap) (old new : BTreeSet SocketAddrV4) → AllHaveOctets m
-    → InsertsAll endpoint_cmp old (map (λ e. e.0.endpoint) (filter (λ e. not (has_passed now e.1.until)) (take_while (λ e. is_to instance eventgroup e.0) (from_least instance eventgroup m)))) new
-    → InsertsAll endpoint_cmp old (endpoints_of instance (eventgroup ∷ []) (unexpired now m)) new
-run_inserted instance eventgroup now m old new octets is =
-    (λ q. is.0 q ∙ ap (λ b. list_any (eq_by_cmp endpoint_cmp q) old.keys || b) (same q), is.1)
+-- one is put in
+pub one_moved : (n a t r : Bool) → n ≡ cond t true a → (n || r) ≡ (a || (t || r))
+one_moved n true true r is = ap (λ b. b || r) is
+one_moved n true false r is = ap (λ b. b || r) is
+one_moved n false true r is = ap (λ b. b || r) is
+one_moved n false false r is = ap (λ b. b || r) is
+
+pub endpoints_turned : (a b : SocketAddrV4) → eq_by_cmp endpoint_cmp a b ≡ eq_by_cmp endpoint_cmp b a
+endpoints_turned a b = cases (eq_by_cmp endpoint_cmp a b) (eq_by_cmp endpoint_cmp b a) refl refl
   where
-    same : (q : SocketAddrV4) → list_any (eq_by_cmp endpoint_cmp q) (map (λ (e : Entry). e.0.endpoint) (filter (λ e. not (has_passed now e.1.until)) (take_while (λ e. is_to instance eventgroup e.0) (from_least instance eventgroup m))))
-        ≡ list_any (eq_by_cmp endpoint_cmp q) (endpoints_of instance (eventgroup ∷ []) (unexpired now m))
-    same q =
-        any_map (eq_by_cmp endpoint_cmp q) (λ (e : Entry). e.0.endpoint) (filter (λ e. is_live_at now e) (take_while (λ e. is_to instance eventgroup e.0) (from_least instance eventgroup m)))
-        ∙ any_filter (λ e. eq_by_cmp endpoint_cmp q e.0.endpoint) (λ e. is_live_at now e) (take_while (λ e. is_to instance eventgroup e.0) (from_least instance eventgroup m))
-        ∙ endpoint_in_run instance eventgroup q now m octets
+    cases : (t u : Bool) → eq_by_cmp endpoint_cmp a b ≡ t → eq_by_cmp endpoint_cmp b a ≡ u → t ≡ u
+    cases true true t u = refl
+    cases false false t u = refl
+    cases true false t u = sym (ap (eq_by_cmp endpoint_cmp b) (same_by_test exact_endpoints a b t) ∙ own_test endpoints_total b) ∙ u
+    cases false true t u = sym t ∙ ap (λ k. eq_by_cmp endpoint_cmp k b) (sym (same_by_test exact_endpoints b a u)) ∙ own_test endpoints_total b
+
+-- one that stands behind others stands among all
+pub any_behind : {X : Type 0} (t : X → Bool) (i : ℕ) (xs : List X) → list_any t (drop i xs) ≡ true → list_any t xs ≡ true
+any_behind t zero xs is = is
+any_behind t (suc i) [] is = is
+any_behind t (suc i) (x ∷ xs) is = from (t x) (any_behind t i xs is)
+  where
+    from : (b : Bool) → list_any t xs ≡ true → (b || list_any t xs) ≡ true
+    from true is = refl
+    from false is = is

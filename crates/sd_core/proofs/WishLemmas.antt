@@ -32,7 +32,7 @@ use Rattle.sd_core.specs.EventgroupOrder.{eventgroups_total, exact_eventgroups}
 use Rattle.sd_core.specs.Endings.{ends_at}
 use Rattle.sd_core.specs.Wishes.{Wishes, begun_at, begun_where, counter_in, has_begun, has_ended, is_over, is_renewed_by, is_wished, stands_with, subscribe_of, subscribes, subscribing}
 use Rattle.sd_core.specs.WishTables.{any_begun, any_wished, begun_of, begun_of_any, is_of, is_of_any, least_of, moment_in, moment_of, over_at, wished_of}
-use Rattle.sd_core.proofs.ChangedLemmas.{none_found_in, some_found_in}
+use Rattle.sd_core.proofs.ChangedLemmas.{some_found_in}
 use Rattle.sd_core.proofs.RunLemmas.{filter_twice, run_is}
 use Rattle.someip_tables.proofs.SortedEntries.{entries-retain, keys-empty, none_chosen, same_keys}
 use Rattle.sd_core.proofs.SubscriberLemmas.{some_passes}
@@ -166,17 +166,9 @@ sent_for now instance peer eventgroup wish = cases (is_renewed_by instance event
     cases true (Some counter) there = refl
     cases false v there = refl
 
--- an eventgroup of the instance is wished
-pub wished_in_run : (instance : InstanceId) (m : Wishes) → list_any (λ e. is_wished e.1.stage) (of_instance instance m) ≡ any_wished instance m
-wished_in_run instance m =
-    ap (list_any (λ (e : Entry). is_wished e.1.stage)) (instance_run instance m) ∙ any_filter (λ (e : Entry). is_wished e.1.stage) (λ e. is_of instance e.0) (entries m)
-
 any_sent : (now : ℕ) (instance : InstanceId) (peer : Ipv4Addr) (m : Wishes) → list_any (λ e. is_some (subscribe_of now instance peer e.0 e.1)) (entries m) ≡ any_wished instance m
 any_sent now instance peer m =
     any_same (λ (e : Entry). is_some (subscribe_of now instance peer e.0 e.1)) (λ e. is_renewed_by instance e.0 e.1) (entries m) (λ e. sent_for now instance peer e.0 e.1)
-
-pub none_sent : (now : ℕ) (instance : InstanceId) (peer : Ipv4Addr) (m : Wishes) → any_wished instance m ≡ false → subscribes now instance peer m ≡ []
-none_sent now instance peer m none = none_found_in (λ (e : Entry). subscribe_of now instance peer e.0 e.1) (entries m) (any_sent now instance peer m ∙ none)
 
 pub some_sent : (now : ℕ) (instance : InstanceId) (peer : Ipv4Addr) (m : Wishes) → any_wished instance m ≡ true → subscribes now instance peer m ≢ []
 some_sent now instance peer m some = some_found_in (λ (e : Entry). subscribe_of now instance peer e.0 e.1) (entries m) (any_sent now instance peer m ∙ some)
@@ -185,11 +177,6 @@ pub none_wished : (instance : InstanceId) (m : Wishes) → any_wished instance m
 none_wished instance m none =
     ap (wished_of instance) (sym (from_entries-entries eventgroups_total exact_eventgroups m))
     ∙ none_chosen eventgroups_total exact_eventgroups (is_renewed_by instance) (entries m) none
-
-pub some_wished : (instance : InstanceId) (m : Wishes) → any_wished instance m ≡ true → wished_of instance m ≢ empty
-some_wished instance m some = λ is.
-    some_passes (λ (e : Entry). is_renewed_by instance e.0 e.1) (λ (e : Entry). e.0) (entries m) some
-    (ap (map (λ (e : Entry). e.0)) (sym (entries-retain eventgroups_total exact_eventgroups m (is_renewed_by instance))) ∙ ap keys is ∙ keys-empty Wish eventgroup_cmp)
 
 -- where an eventgroup of the instance is wished, a Subscribe goes out
 pub wished_sent : (now : ℕ) (instance : InstanceId) (peer : Ipv4Addr) (m : Wishes) → wished_of instance m ≢ empty → subscribes now instance peer m ≢ []

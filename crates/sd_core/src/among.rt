@@ -23,11 +23,13 @@ pub(crate) fn keys_among<K: Key, V, F: Fn(&K, &V) -> bool + Drop>(
         → ((key : K) (value : V) → p key value ≡ true → weaker key value ≡ true)
         → IfOk result (λ keys. keys.items ≡ finite.keys (retain (map_of K.cmp table.now.entries) p)) }
 {
-    those
-        .iter()
-        .filter(|key| passes(table, *key, &test))
-        .copied()
-        .collect(alloc)
+    let mut keys = Vec::new(alloc);
+    for key in those {
+        if passes(table, key, &test) {
+            keys.push(*key)?;
+        }
+    }
+    Ok(keys)
 }
 
 /// Whether a key has an entry that passes a test.

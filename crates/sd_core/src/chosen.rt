@@ -21,12 +21,11 @@ pub(crate) fn keys_where<K: Key, V, F: Fn(&K, &V) -> bool + Drop>(
     ensures grows { (p : K → V → Bool) → AnswersPairAs F.Fn test p
         → OnErr result (retain (map_of K.cmp table.now.entries) p ≢ finite.empty) }
 {
-    if !table.iter().any(|(key, value)| test(key, value)) {
-        return Ok(Vec::new(alloc));
+    let mut keys = Vec::new(alloc);
+    for (key, value) in table.iter() {
+        if test(key, value) {
+            keys.push(*key)?;
+        }
     }
-    table
-        .iter()
-        .filter(|(key, value)| test(key, value))
-        .map(|(key, _)| *key)
-        .collect(alloc)
+    Ok(keys)
 }

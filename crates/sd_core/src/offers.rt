@@ -20,7 +20,7 @@ use std::alloc::{AllocError, Global};
 use std::marker::Model;
 
 /// An instance that the node may offer: its version, and when it sends its next Offer while it is up.
-#[derive(Clone, Copy, Debug, PartialEq, Eq)]
+#[derive(Clone, Copy)]
 struct Offering {
     version: Version,
     sending: Option<Sending>,

@@ -3,7 +3,7 @@ use crate::phases::Phases;
 use someip_tables::Moment;
 
 /// When an Offer or a Find of an instance goes out next, and how many went out.
-#[derive(Clone, Copy, Debug, PartialEq, Eq)]
+#[derive(Clone, Copy)]
 pub(crate) struct Sending {
     /// The moment at which the next goes out, in milliseconds since the node's start.
     pub(crate) due: u64,

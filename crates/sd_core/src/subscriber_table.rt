@@ -1,23 +1,24 @@
 //! The table of the subscriptions that a server accepted. Those to an eventgroup stand one after the
 //! other in it, and among them those of a peer: what asks for these looks at no other.
 ghost use Rattle.std.specs.Prelude.{◌≡◌, ◌≢◌, ◌==◌, true, [], ◌∷◌, not, ◌&&◌, if◌then◌else◌, IfOk, OnOk, OnErr};
-ghost use Rattle.std.specs.BTreeSet.{InsertsAll};
+ghost use Rattle.std.specs.BTreeSet.{InsertsAll, IsOrdered};
 ghost use Rattle.std.specs.FinMap as finite;
 ghost use Rattle.std.specs.List.{find, list_any};
 ghost use Rattle.std.specs.declared.cmp.Ordering.TheVariants.{Less};
 ghost use Rattle.std.specs.Ordering.{eq_by_cmp, is_le};
+ghost use Rattle.someip_tables.specs.Deadlines.{has_passed};
 ghost use Rattle.someip_tables.specs.Endpoints.{endpoint_cmp};
 ghost use Rattle.someip_tables.specs.Lastings.{NeedsMemory, unexpired};
 ghost use Rattle.someip_tables.specs.Tables.{map_of};
 ghost use Rattle.sd_core.specs.SubscriptionKeys.{subscription_cmp};
 ghost use Rattle.sd_core.specs.SubscriptionRuns.{AllHaveOctets, HasOctets, least_of, least_to};
 ghost use Rattle.sd_core.specs.SubscriberTables.{count_beside, endpoints_of, is_of_instance, is_of_peer};
-ghost use Rattle.sd_core.specs.SubscriberTables.{is_to, is_to_any, subscribed_until};
+ghost use Rattle.sd_core.specs.SubscriberTables.{is_to, subscribed_until};
 
 use crate::keys::InstanceId;
 use crate::subscription::Subscription;
 use sd_wire::SubscriptionCounter;
-use someip_tables::{Deadline, DeadlineMap, Moment, is_same_key};
+use someip_tables::{Deadline, DeadlineMap, Lasting, Moment, is_same_key};
 use std::alloc::{AllocError, Global};
 use std::cmp::Ordering;
 use std::collections::BTreeSet;
@@ -52,11 +53,16 @@ pub(crate) fn count_beside(table: &SubscriberTable, one: &Subscription, now: Mom
     requires { AllHaveOctets (map_of subscription_cmp table.now) }
     ensures { result ≡ count_beside one.now (unexpired now (map_of subscription_cmp table.now)) }
 {
-    table
-        .iter_from(first_to(one.instance, one.eventgroup))
-        .take_while(|(other, _)| is_to(other, one.instance, one.eventgroup))
-        .filter(|(other, lasting)| !lasting.until.has_passed(now) && !is_same_key(*other, one))
-        .count()
+    let mut count = 0;
+    for (other, lasting) in table.iter_from(first_to(one.instance, one.eventgroup)) {
+        if !is_to(other, one.instance, one.eventgroup) {
+            return count;
+        }
+        if is_live(lasting, now) && !is_same_key(other, one) {
+            count += 1;
+        }
+    }
+    count
 }
 
 /// Whether an endpoint has a live subscription to an eventgroup.
@@ -71,12 +77,15 @@ pub(crate) fn has_endpoint(
     ensures { result ≡ list_any (eq_by_cmp endpoint_cmp endpoint) (endpoints_of instance
         (eventgroup ∷ []) (unexpired now (map_of subscription_cmp table.now))) }
 {
-    table
-        .iter_from(first_to(instance, eventgroup))
-        .take_while(|(one, _)| is_to(one, instance, eventgroup))
-        .any(|(one, lasting)| {
-            !lasting.until.has_passed(now) && is_same_key(&endpoint, &one.endpoint)
-        })
+    for (one, lasting) in table.iter_from(first_to(instance, eventgroup)) {
+        if !is_to(one, instance, eventgroup) {
+            return false;
+        }
+        if is_live(lasting, now) && is_same_key(&endpoint, &one.endpoint) {
+            return true;
+        }
+    }
+    false
 }
 
 /// The endpoints of the live subscriptions to any of these eventgroups.
@@ -93,48 +102,6 @@ pub(crate) fn endpoints(
     ensures grows { OnErr result (endpoints_of instance eventgroups.now
         (unexpired now (map_of subscription_cmp table.now)) ≢ []) }
 {
-    if has_any(table, instance, eventgroups, now) {
-        collect_endpoints(table, alloc, instance, eventgroups, now)
-    } else {
-        Ok(BTreeSet::new(alloc))
-    }
-}
-
-/// Whether there is a live subscription to any of these eventgroups.
-fn has_any(table: &SubscriberTable, instance: InstanceId, eventgroups: &[u16], now: Moment) -> bool
-    requires { AllHaveOctets (map_of subscription_cmp table.now) }
-    ensures { result ≡ list_any (is_to_any instance eventgroups.now)
-        (finite.keys (unexpired now (map_of subscription_cmp table.now))) }
-{
-    eventgroups
-        .iter()
-        .any(|eventgroup| has_live(table, instance, *eventgroup, now))
-}
-
-/// Whether there is a live subscription to an eventgroup.
-fn has_live(table: &SubscriberTable, instance: InstanceId, eventgroup: u16, now: Moment) -> bool
-    requires { AllHaveOctets (map_of subscription_cmp table.now) }
-    ensures { result ≡ list_any (is_to instance eventgroup)
-        (finite.keys (unexpired now (map_of subscription_cmp table.now))) }
-{
-    table
-        .iter_from(first_to(instance, eventgroup))
-        .take_while(|(one, _)| is_to(one, instance, eventgroup))
-        .any(|(_, lasting)| !lasting.until.has_passed(now))
-}
-
-/// The endpoints of the live subscriptions to any of these eventgroups.
-fn collect_endpoints(
-    table: &SubscriberTable,
-    alloc: Global,
-    instance: InstanceId,
-    eventgroups: &[u16],
-    now: Moment,
-) -> Result<BTreeSet<SocketAddrV4>, AllocError>
-    requires { AllHaveOctets (map_of subscription_cmp table.now) }
-    ensures { IfOk result (λ endpoints. endpoints.keys ≡ endpoints_of instance eventgroups.now
-        (unexpired now (map_of subscription_cmp table.now))) }
-{
     let mut endpoints = BTreeSet::new(alloc);
     for eventgroup in eventgroups {
         add_endpoints(&mut endpoints, table, instance, *eventgroup, now)?;
@@ -150,17 +117,22 @@ fn add_endpoints(
     eventgroup: u16,
     now: Moment,
 ) -> Result<(), AllocError>
-    requires { AllHaveOctets (map_of subscription_cmp table.now) }
-    ensures { OnOk result (InsertsAll endpoint_cmp endpoints.old (endpoints_of instance (eventgroup ∷ [])
-        (unexpired now (map_of subscription_cmp table.now))) endpoints.new) }
+    requires octets { AllHaveOctets (map_of subscription_cmp table.now) }
+    requires ordered { IsOrdered endpoint_cmp endpoints.old }
+    ensures added { OnOk result (InsertsAll endpoint_cmp endpoints.old (endpoints_of instance
+        (eventgroup ∷ []) (unexpired now (map_of subscription_cmp table.now))) endpoints.new) }
+    ensures grows { OnErr result (list_any (is_to instance eventgroup)
+        (finite.keys (unexpired now (map_of subscription_cmp table.now))) ≡ true) }
 {
-    endpoints.extend(
-        table
-            .iter_from(first_to(instance, eventgroup))
-            .take_while(|(one, _)| is_to(one, instance, eventgroup))
-            .filter(|(_, lasting)| !lasting.until.has_passed(now))
-            .map(|(one, _)| one.endpoint),
-    )
+    for (one, lasting) in table.iter_from(first_to(instance, eventgroup)) {
+        if !is_to(one, instance, eventgroup) {
+            return Ok(());
+        }
+        if is_live(lasting, now) {
+            endpoints.insert(one.endpoint)?;
+        }
+    }
+    Ok(())
 }
 
 /// Ends the subscriptions of a peer. In each eventgroup they stand together, so it looks at these, and at
@@ -249,6 +221,13 @@ fn first_of(instance: InstanceId, eventgroup: u16, peer: Ipv4Addr) -> Subscripti
         endpoint: SocketAddrV4::new(Ipv4Addr::UNSPECIFIED, 0),
         counter,
     }
+}
+
+/// Whether what lasts so has not passed.
+fn is_live(lasting: &Lasting<()>, now: Moment) -> bool
+    ensures { result ≡ not (has_passed now lasting.now.until) }
+{
+    !lasting.until.has_passed(now)
 }
 
 fn is_to(subscription: &Subscription, instance: InstanceId, eventgroup: u16) -> bool

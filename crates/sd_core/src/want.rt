@@ -16,7 +16,7 @@ use someip_tables::{Deadline, Lasting, Moment, Waits, earlier, is_same_key};
 use std::net::{Ipv4Addr, SocketAddrV4};
 
 /// A wanted instance.
-#[derive(Clone, Copy, Debug, PartialEq, Eq)]
+#[derive(Clone, Copy)]
 pub(crate) struct Want {
     /// The major version in which it is wanted.
     pub(crate) major: u8,

@@ -46,13 +46,16 @@ pub(crate) fn subscribes(
     ensures grows { OnErr result
         (subscribes now instance peer (map_of eventgroup_cmp table.now) ≢ []) }
 {
-    if !has_wish(table, instance) {
-        return Ok(Vec::new(alloc));
+    let mut sent = Vec::new(alloc);
+    for (eventgroup, wish) in wishes_from(table, instance) {
+        if !is_of(eventgroup, instance) {
+            return Ok(sent);
+        }
+        if let Some(subscribe) = wish.subscribe(now, instance, peer, eventgroup) {
+            sent.push(subscribe)?;
+        }
     }
-    wishes_from(table, instance)
-        .take_while(|(eventgroup, _)| is_of(eventgroup, instance))
-        .filter_map(|(eventgroup, wish)| wish.subscribe(now, instance, peer, eventgroup))
-        .collect(alloc)
+    Ok(sent)
 }
 
 /// The wished eventgroups of an instance, by rising Eventgroup ID.
@@ -65,14 +68,16 @@ pub(crate) fn wished_of(
         ≡ finite.keys (wished_of instance (map_of eventgroup_cmp table.now))) }
     ensures grows { OnErr result (wished_of instance (map_of eventgroup_cmp table.now) ≢ finite.empty) }
 {
-    if !has_wish(table, instance) {
-        return Ok(Vec::new(alloc));
+    let mut wished = Vec::new(alloc);
+    for (eventgroup, wish) in wishes_from(table, instance) {
+        if !is_of(eventgroup, instance) {
+            return Ok(wished);
+        }
+        if wish.stage.is_wished() {
+            wished.push(*eventgroup)?;
+        }
     }
-    wishes_from(table, instance)
-        .take_while(|(eventgroup, _)| is_of(eventgroup, instance))
-        .filter(|(_, wish)| wish.stage.is_wished())
-        .map(|(eventgroup, _)| *eventgroup)
-        .collect(alloc)
+    Ok(wished)
 }
 
 /// The eventgroups of an instance whose subscriptions were begun, by rising Eventgroup ID.
@@ -85,14 +90,16 @@ pub(crate) fn begun_of(
         ≡ finite.keys (begun_of instance (map_of eventgroup_cmp table.now))) }
     ensures grows { OnErr result (begun_of instance (map_of eventgroup_cmp table.now) ≢ finite.empty) }
 {
-    if !has_begun(table, instance) {
-        return Ok(Vec::new(alloc));
+    let mut begun = Vec::new(alloc);
+    for (eventgroup, wish) in wishes_from(table, instance) {
+        if !is_of(eventgroup, instance) {
+            return Ok(begun);
+        }
+        if wish.stage.is_begun() {
+            begun.push(*eventgroup)?;
+        }
     }
-    wishes_from(table, instance)
-        .take_while(|(eventgroup, _)| is_of(eventgroup, instance))
-        .filter(|(_, wish)| wish.stage.is_begun())
-        .map(|(eventgroup, _)| *eventgroup)
-        .collect(alloc)
+    Ok(begun)
 }
 
 /// Whether a subscription of an instance was begun.
@@ -103,15 +110,6 @@ pub(crate) fn has_begun(table: &WishTable, instance: InstanceId) -> bool
     wishes_from(table, instance)
         .take_while(|(eventgroup, _)| is_of(eventgroup, instance))
         .any(|(_, wish)| wish.stage.is_begun())
-}
-
-/// Whether an eventgroup of an instance is wished.
-fn has_wish(table: &WishTable, instance: InstanceId) -> bool
-    ensures { result ≡ any_wished instance (map_of eventgroup_cmp table.now) }
-{
-    wishes_from(table, instance)
-        .take_while(|(eventgroup, _)| is_of(eventgroup, instance))
-        .any(|(_, wish)| wish.stage.is_wished())
 }
 
 /// The wishes from the first one of an instance on.

@@ -1,8 +1,5 @@
-use Rattle.std.proofs.Common.{◌≡◌, true, false, sym, ap, ◌∙◌, rules}
-use Rattle.std.proofs.lemmas.Iterator.{items_from_collect, YieldsList-from_map}
-use Rattle.std.proofs.lemmas.Iterator.Consumers.{YieldsList-at, YieldsList-from_rest, YieldsList-from_filter}
-use Rattle.std.proofs.lemmas.Iterator.Search.{YieldsList-from_take_while}
-use Rattle.std.proofs.lemmas.Result.{IfOk-weaker}
+use Rattle.std.proofs.Common.{◌≡◌, true, false, sym, ap, ◌∙◌, append_assoc}
+use Rattle.std.proofs.lemmas.List.{append-nil}
 use Rattle.std.specs.FinMap.{keys}
 use Rattle.someip_tables.specs.Tables.{map_of}
 use Rattle.someip_tables.proofs.SortedEntries.{keys-empty}
@@ -11,31 +8,45 @@ use Rattle.sd_core.specs.Eventgroups.{eventgroup_cmp}
 use Rattle.sd_core.specs.Wishes.{has_begun}
 use Rattle.sd_core.specs.WishTables.{is_of}
 use Rattle.sd_core.proofs.Memory.{on_err}
-use Rattle.sd_core.proofs.WishLemmas.{begun_is, none_begun, run_keys, some_begun}
+use Rattle.sd_core.proofs.RunLemmas.{end_run, next_run, not_empty}
+use Rattle.sd_core.proofs.WishLemmas.{begun_is, run_keys}
 use Rattle.sd_core.proofs.wish_table.begun_of.Goals as goal
 
-pub returns-then-not-has_begun-clause-begun : goal.returns-then-not-has_begun-clause-begun
-returns-then-not-has_begun-clause-begun c =
+pub loop-eventgroup-init : goal.loop-eventgroup-init
+loop-eventgroup-init c =
     let m = map_of eventgroup_cmp c.args.table.now in
-    let none : c.has_begun.result ≡ false = search rules in
-    c.new.ensures.items ∙ sym (ap keys (none_begun (λ eventgroup _. is_of c.args.instance eventgroup) m (sym c.has_begun.ensures ∙ none)) ∙ keys-empty Wish eventgroup_cmp)
+    rw (c.new-begun.ensures.items, c.into_iter-eventgroup-iterator.ensures.into_iter_gives, c.wishes_from-eventgroup-items.ensures.rest)
+    (run_keys c.args.instance (λ wish. has_begun (λ _. true) wish.stage) m ∙ ap keys (begun_is c.args.instance m))
+
+pub loop-eventgroup-preserved : goal.loop-eventgroup-preserved
+loop-eventgroup-preserved c =
+    let of : is_of c.args.instance c.in-Some.eventgroup.now ≡ true = sym c.is_of.ensures ∙ c.if-not-is_of.false in
+    let no : has_begun (λ _. true) c.in-Some.wish.now.stage ≡ false = sym c.is_begun.ensures ∙ c.if-is_begun.false in
+    let run = next_run (λ e. is_of c.args.instance e.0) (c.in-Some.eventgroup.now, c.in-Some.wish.now) c.next.new.self c.loop-eventgroup.eventgroup-iterator c.in-Some.ensures.steps of in
+    rw (run, no) at c.loop-eventgroup.invariant
+
+pub loop-eventgroup-preserved-in-Continue-1 : goal.loop-eventgroup-preserved-in-Continue-1
+loop-eventgroup-preserved-in-Continue-1 c =
+    let of : is_of c.args.instance c.in-Some.eventgroup.now ≡ true = sym c.is_of.ensures ∙ c.if-not-is_of.false in
+    let yes : has_begun (λ _. true) c.in-Some.wish.now.stage ≡ true = sym c.is_begun.ensures ∙ c.if-is_begun.true in
+    let run = next_run (λ e. is_of c.args.instance e.0) (c.in-Some.eventgroup.now, c.in-Some.wish.now) c.next.new.self c.loop-eventgroup.eventgroup-iterator c.in-Some.ensures.steps of in
+    let all = rw (run, yes) at c.loop-eventgroup.invariant in
+    rw (c.in_ok-push.ensures.items, append_assoc) all
+
+pub returns-then-not-is_of-clause-begun : goal.returns-then-not-is_of-clause-begun
+returns-then-not-is_of-clause-begun c =
+    let no : is_of c.args.instance c.in-Some.eventgroup.now ≡ false = sym c.is_of.ensures ∙ c.if-not-is_of.true in
+    let run = end_run (λ e. is_of c.args.instance e.0) (c.in-Some.eventgroup.now, c.in-Some.wish.now) c.next.new.self c.loop-eventgroup.eventgroup-iterator c.in-Some.ensures.steps no in
+    sym (append-nil c.loop-eventgroup.begun.items) ∙ rw run at c.loop-eventgroup.invariant
+
+pub returns-in_err-push-clause-grows : goal.returns-in_err-push-clause-grows
+returns-in_err-push-clause-grows c =
+    let of : is_of c.args.instance c.in-Some.eventgroup.now ≡ true = sym c.is_of.ensures ∙ c.if-not-is_of.false in
+    let yes : has_begun (λ _. true) c.in-Some.wish.now.stage ≡ true = sym c.is_begun.ensures ∙ c.if-is_begun.true in
+    let run = next_run (λ e. is_of c.args.instance e.0) (c.in-Some.eventgroup.now, c.in-Some.wish.now) c.next.new.self c.loop-eventgroup.eventgroup-iterator c.in-Some.ensures.steps of in
+    let all = rw (run, yes) at c.loop-eventgroup.invariant in
+    on_err c.from_residual.result (λ none. not_empty c.loop-eventgroup.begun.items c.in-Some.eventgroup.now _ _ all (ap keys none ∙ keys-empty Wish eventgroup_cmp))
 
 pub returns-clause-begun : goal.returns-clause-begun
 returns-clause-begun c =
-    let m = map_of eventgroup_cmp c.args.table.now in
-    IfOk-weaker c.collect.result _ _
-    (λ n is. is ∙ run_keys c.args.instance (λ wish. has_begun (λ _. true) wish.stage) m ∙ ap keys (begun_is c.args.instance m))
-    (items_from_collect c.collect.result c.collect.ensures.ran
-    (YieldsList-from_map _ (λ e. e.0)
-    (YieldsList-at c.map.ensures.source
-    (YieldsList-from_filter _ (λ e. has_begun (λ _. true) e.1.stage)
-    (YieldsList-at c.filter.ensures.source
-    (YieldsList-from_take_while _ (λ e. is_of c.args.instance e.0) (YieldsList-at c.take_while.ensures.source (YieldsList-from_rest _ c.wishes_from.ensures.rest)) c.take_while.ensures.closure c.take_while.ensures.done (λ x b q k. search rules)))
-    c.filter.ensures.closure (λ x b q k. search rules)))
-    c.map.ensures.closure (λ x r q k. search rules)))
-
-pub returns-clause-grows : goal.returns-clause-grows
-returns-clause-grows c =
-    let m = map_of eventgroup_cmp c.args.table.now in
-    let some : c.has_begun.result ≡ true = search rules in
-    on_err c.collect.result (some_begun (λ eventgroup _. is_of c.args.instance eventgroup) m (sym c.has_begun.ensures ∙ some))
+    sym (append-nil c.loop-eventgroup.begun.items) ∙ rw c.in-None.ensures.steps.0 at c.loop-eventgroup.invariant

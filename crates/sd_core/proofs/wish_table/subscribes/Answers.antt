@@ -1,32 +1,48 @@
-use Rattle.std.proofs.Common.{◌≡◌, true, false, sym, ◌∙◌, rules}
-use Rattle.std.proofs.lemmas.Iterator.{items_from_collect}
-use Rattle.std.proofs.lemmas.Iterator.Consumers.{YieldsList-at, YieldsList-from_rest, YieldsList-from_filter_map}
-use Rattle.std.proofs.lemmas.Iterator.Search.{YieldsList-from_take_while}
-use Rattle.std.proofs.lemmas.Result.{IfOk-weaker}
+use Rattle.std.proofs.Common.{◌≡◌, true, false, None, Some, sym, ◌∙◌, append_assoc}
+use Rattle.std.proofs.lemmas.List.{append-nil}
 use Rattle.someip_tables.specs.Tables.{map_of}
 use Rattle.sd_core.specs.Eventgroups.{eventgroup_cmp}
 use Rattle.sd_core.specs.Wishes.{subscribe_of}
 use Rattle.sd_core.specs.WishTables.{is_of}
 use Rattle.sd_core.proofs.Memory.{on_err}
-use Rattle.sd_core.proofs.WishLemmas.{none_sent, run_subscribes, some_sent}
+use Rattle.sd_core.proofs.RunLemmas.{end_run, next_run, not_empty}
+use Rattle.sd_core.proofs.WishLemmas.{run_subscribes}
 use Rattle.sd_core.proofs.wish_table.subscribes.Goals as goal
 
-pub returns-then-not-has_wish-clause-sent : goal.returns-then-not-has_wish-clause-sent
-returns-then-not-has_wish-clause-sent c =
-    let none : c.has_wish.result ≡ false = search rules in
-    c.new.ensures.items ∙ sym (none_sent c.args.now c.args.instance c.args.peer (map_of eventgroup_cmp c.args.table.now) (sym c.has_wish.ensures ∙ none))
+pub loop-eventgroup-init : goal.loop-eventgroup-init
+loop-eventgroup-init c =
+    rw (c.new-sent.ensures.items, c.into_iter-eventgroup-iterator.ensures.into_iter_gives, c.wishes_from-eventgroup-items.ensures.rest)
+    (run_subscribes c.args.now c.args.instance c.args.peer (map_of eventgroup_cmp c.args.table.now))
+
+pub returns-then-not-is_of-clause-sent : goal.returns-then-not-is_of-clause-sent
+returns-then-not-is_of-clause-sent c =
+    let no : is_of c.args.instance c.in-Some.eventgroup.now ≡ false = sym c.is_of.ensures ∙ c.if-not-is_of.true in
+    let run = end_run (λ e. is_of c.args.instance e.0) (c.in-Some.eventgroup.now, c.in-Some.wish.now) c.next.new.self c.loop-eventgroup.eventgroup-iterator c.in-Some.ensures.steps no in
+    sym (append-nil c.loop-eventgroup.sent.items) ∙ rw run at c.loop-eventgroup.invariant
+
+pub loop-eventgroup-preserved : goal.loop-eventgroup-preserved
+loop-eventgroup-preserved c =
+    let of : is_of c.args.instance c.in-Some.eventgroup.now ≡ true = sym c.is_of.ensures ∙ c.if-not-is_of.false in
+    let none : subscribe_of c.args.now c.args.instance c.args.peer c.in-Some.eventgroup.now c.in-Some.wish.now ≡ None = sym c.subscribe.ensures ∙ c.in_default.is in
+    let run = next_run (λ e. is_of c.args.instance e.0) (c.in-Some.eventgroup.now, c.in-Some.wish.now) c.next.new.self c.loop-eventgroup.eventgroup-iterator c.in-Some.ensures.steps of in
+    rw (run, none) at c.loop-eventgroup.invariant
+
+pub loop-eventgroup-preserved-in-Continue-1 : goal.loop-eventgroup-preserved-in-Continue-1
+loop-eventgroup-preserved-in-Continue-1 c =
+    let of : is_of c.args.instance c.in-Some.eventgroup.now ≡ true = sym c.is_of.ensures ∙ c.if-not-is_of.false in
+    let some : subscribe_of c.args.now c.args.instance c.args.peer c.in-Some.eventgroup.now c.in-Some.wish.now ≡ Some c.in-Some-subscribe.subscribe = sym c.subscribe.ensures ∙ c.in-Some-subscribe.is in
+    let run = next_run (λ e. is_of c.args.instance e.0) (c.in-Some.eventgroup.now, c.in-Some.wish.now) c.next.new.self c.loop-eventgroup.eventgroup-iterator c.in-Some.ensures.steps of in
+    let all = rw (run, some) at c.loop-eventgroup.invariant in
+    rw (c.in_ok-push.ensures.items, append_assoc) all
+
+pub returns-in_err-push-clause-grows : goal.returns-in_err-push-clause-grows
+returns-in_err-push-clause-grows c =
+    let of : is_of c.args.instance c.in-Some.eventgroup.now ≡ true = sym c.is_of.ensures ∙ c.if-not-is_of.false in
+    let some : subscribe_of c.args.now c.args.instance c.args.peer c.in-Some.eventgroup.now c.in-Some.wish.now ≡ Some c.in-Some-subscribe.subscribe = sym c.subscribe.ensures ∙ c.in-Some-subscribe.is in
+    let run = next_run (λ e. is_of c.args.instance e.0) (c.in-Some.eventgroup.now, c.in-Some.wish.now) c.next.new.self c.loop-eventgroup.eventgroup-iterator c.in-Some.ensures.steps of in
+    let all = rw (run, some) at c.loop-eventgroup.invariant in
+    on_err c.from_residual.result (not_empty c.loop-eventgroup.sent.items c.in-Some-subscribe.subscribe _ _ all)
 
 pub returns-clause-sent : goal.returns-clause-sent
 returns-clause-sent c =
-    IfOk-weaker c.collect.result _ _
-    (λ n is. is ∙ run_subscribes c.args.now c.args.instance c.args.peer (map_of eventgroup_cmp c.args.table.now))
-    (items_from_collect c.collect.result c.collect.ensures.ran
-    (YieldsList-from_filter_map _ (λ e. subscribe_of c.args.now c.args.instance c.args.peer e.0 e.1)
-    (YieldsList-at c.filter_map.ensures.source
-    (YieldsList-from_take_while _ (λ e. is_of c.args.instance e.0) (YieldsList-at c.take_while.ensures.source (YieldsList-from_rest _ c.wishes_from.ensures.rest)) c.take_while.ensures.closure c.take_while.ensures.done (λ x b q k. search rules)))
-    c.filter_map.ensures.closure (λ x b q k. search rules)))
-
-pub returns-clause-grows : goal.returns-clause-grows
-returns-clause-grows c =
-    let some : c.has_wish.result ≡ true = search rules in
-    on_err c.collect.result (some_sent c.args.now c.args.instance c.args.peer (map_of eventgroup_cmp c.args.table.now) (sym c.has_wish.ensures ∙ some))
+    sym (append-nil c.loop-eventgroup.sent.items) ∙ rw c.in-None.ensures.steps.0 at c.loop-eventgroup.invariant

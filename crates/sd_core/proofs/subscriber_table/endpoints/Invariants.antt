@@ -3,7 +3,7 @@ use Rattle.someip_tables.specs.Lastings.{unexpired}
 use Rattle.someip_tables.specs.Tables.{map_of}
 use Rattle.sd_core.specs.SubscriptionKeys.{subscription_cmp}
 use Rattle.sd_core.proofs.SubscriptionRunLemmas.{IsCollected}
-use Rattle.sd_core.proofs.subscriber_table.collect_endpoints.Given as goal
+use Rattle.sd_core.proofs.subscriber_table.endpoints.Given as goal
 
 abbrev pub invariant-loop-eventgroup : goal.invariant-loop-eventgroup
 invariant-loop-eventgroup l =

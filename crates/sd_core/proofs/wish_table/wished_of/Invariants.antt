@@ -1,0 +1,13 @@
+use Rattle.std.proofs.Common.{◌≡◌, ◌++◌, map, filter, take_while}
+use Rattle.std.specs.FinMap.{keys}
+use Rattle.someip_tables.specs.Tables.{map_of}
+use Rattle.sd_core.specs.Eventgroups.{eventgroup_cmp}
+use Rattle.sd_core.specs.Wishes.{is_wished}
+use Rattle.sd_core.specs.WishTables.{wished_of, is_of}
+use Rattle.sd_core.proofs.wish_table.wished_of.Given as goal
+
+-- with those that are left of the instance the list has all
+abbrev pub invariant-loop-eventgroup : goal.invariant-loop-eventgroup
+invariant-loop-eventgroup l =
+    l.wished.items ++ map (λ e. e.0) (filter (λ e. is_wished e.1.stage) (take_while (λ e. is_of l.fn.instance e.0) l.eventgroup-iterator))
+    ≡ keys (wished_of l.fn.instance (map_of eventgroup_cmp l.fn.table))
