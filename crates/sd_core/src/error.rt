@@ -3,22 +3,26 @@ ghost use Rattle.std.specs.Prelude.{◌≡◌};
 ghost use Rattle.sd_core.specs.Names.{cause_name};
 
 use std::alloc::AllocError;
-use std::error::Error;
-use std::fmt;
+use thiserror::Error;
 
 /// Why a Subscribe is answered by a Nack (SOME/IP Service Discovery Protocol, "Subscribe Eventgroup
 /// Negative Acknowledgement"), in the order in which they are looked at.
-#[derive(Clone, Copy, Debug, PartialEq, Eq)]
+#[derive(Clone, Copy, Debug, PartialEq, Eq, Error)]
 pub enum Cause {
     /// The instance is not offered.
+    #[error("NotOffered")]
     NotOffered,
     /// The instance is offered with another major version.
+    #[error("WrongMajor")]
     WrongMajor,
     /// The instance has no such eventgroup.
+    #[error("UnknownEventgroup")]
     UnknownEventgroup,
     /// The Subscribe has no IPv4 UDP endpoint option.
+    #[error("NoEndpoint")]
     NoEndpoint,
     /// The eventgroup has as many live subscriptions as it may have, this one not among them.
+    #[error("Full")]
     Full,
 }
 
@@ -37,33 +41,16 @@ impl Cause {
     }
 }
 
-impl fmt::Display for Cause {
-    fn fmt<W: fmt::Write>(&self, f: &mut fmt::Formatter<W>) -> fmt::Result {
-        f.write_str(self.name())
-    }
-}
-
-impl Error for Cause {}
-
 /// Why a Subscribe is not accepted. The subscriptions are as they were.
-#[derive(Clone, Copy, Debug, PartialEq, Eq)]
+#[derive(Clone, Copy, Debug, PartialEq, Eq, Error)]
 pub enum SubscribeError {
     /// It is answered by a Nack.
+    #[error("{0}")]
     Nack(Cause),
     /// Memory ran out.
+    #[error("out of memory")]
     OutOfMemory,
 }
-
-impl fmt::Display for SubscribeError {
-    fn fmt<W: fmt::Write>(&self, f: &mut fmt::Formatter<W>) -> fmt::Result {
-        match self {
-            SubscribeError::Nack(cause) => f.write_str(cause.name()),
-            SubscribeError::OutOfMemory => f.write_str("out of memory"),
-        }
-    }
-}
-
-impl Error for SubscribeError {}
 
 impl From<Cause> for SubscribeError {
     ghost use Rattle.std.specs.Prelude.{◌≡◌};

@@ -3,30 +3,38 @@ ghost use Rattle.std.specs.Prelude.{◌≡◌};
 ghost use Rattle.someip_rpc.specs.Names.{drop_cause_name, rpc_error_name};
 
 use std::alloc::AllocError;
-use std::error::Error;
-use std::fmt;
+use thiserror::Error;
 
 /// Why a call of a core is refused. The core is as it was.
-#[derive(Clone, Copy, Debug, PartialEq, Eq)]
+#[derive(Clone, Copy, Debug, PartialEq, Eq, Error)]
 pub enum RpcError {
     /// The service instance is not offered.
+    #[error("NotOffered")]
     NotOffered,
     /// So many calls wait for an answer that no further one can.
+    #[error("Busy")]
     Busy,
     /// The payload is longer than the message limit.
+    #[error("TooLong")]
     TooLong,
     /// No open request has this token.
+    #[error("UnknownToken")]
     UnknownToken,
     /// No call waits for an answer. No call of a core is refused so: an answer that came is dropped by
     /// this name ([`DropCause::NotPending`]).
+    #[error("NotPending")]
     NotPending,
     /// An ERROR cannot have the code E_OK.
+    #[error("BadErrorCode")]
     BadErrorCode,
     /// The event is not one of the instance, or none of the named eventgroup.
+    #[error("UnknownEvent")]
     UnknownEvent,
     /// The endpoint has no subscription.
+    #[error("NotSubscribed")]
     NotSubscribed,
     /// Memory ran out.
+    #[error("out of memory")]
     OutOfMemory,
 }
 
@@ -49,17 +57,6 @@ impl RpcError {
     }
 }
 
-impl fmt::Display for RpcError {
-    fn fmt<W: fmt::Write>(&self, f: &mut fmt::Formatter<W>) -> fmt::Result {
-        match self {
-            RpcError::OutOfMemory => f.write_str("out of memory"),
-            refusal => f.write_str(refusal.name()),
-        }
-    }
-}
-
-impl Error for RpcError {}
-
 impl From<AllocError> for RpcError {
     ghost use Rattle.std.specs.Prelude.{◌≡◌};
     ghost use Rattle.someip_rpc.specs.declared.error.RpcError.TheVariants.{OutOfMemory};
@@ -73,11 +70,13 @@ impl From<AllocError> for RpcError {
 
 /// Why an answer that came is dropped: what comes from a peer is refused to nobody, and a node tells
 /// its drops by these names. The core is as it was.
-#[derive(Clone, Copy, Debug, PartialEq, Eq)]
+#[derive(Clone, Copy, Debug, PartialEq, Eq, Error)]
 pub enum DropCause {
     /// No call waits for this answer.
+    #[error("NotPending")]
     NotPending,
     /// The Message Type is none that is taken here.
+    #[error("WrongType")]
     WrongType,
 }
 
@@ -92,11 +91,3 @@ impl DropCause {
         }
     }
 }
-
-impl fmt::Display for DropCause {
-    fn fmt<W: fmt::Write>(&self, f: &mut fmt::Formatter<W>) -> fmt::Result {
-        f.write_str(self.name())
-    }
-}
-
-impl Error for DropCause {}

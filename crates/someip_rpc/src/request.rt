@@ -7,9 +7,8 @@ use crate::call::Outgoing;
 use crate::ids::MessageId;
 use crate::service::ServiceRules;
 use someip_wire::{Header, Message, MessageType, ReturnCode};
-use std::error::Error;
-use std::fmt;
 use std::net::SocketAddrV4;
+use thiserror::Error;
 
 /// A request: who asked what.
 #[derive(Clone, Copy, Debug, PartialEq, Eq)]
@@ -78,17 +77,22 @@ impl Asked {
 
 /// Why an instance does not take a message, in the order of its checks (SOME/IP Protocol, "Error
 /// Handling").
-#[derive(Clone, Copy, Debug, PartialEq, Eq)]
+#[derive(Clone, Copy, Debug, PartialEq, Eq, Error)]
 pub enum RequestFault {
     /// The service is not offered, or is another one.
+    #[error("UnknownService")]
     UnknownService,
     /// The Interface Version is not the major version of the service.
+    #[error("WrongInterface")]
     WrongInterface,
     /// The method is declared for no type.
+    #[error("UnknownMethod")]
     UnknownMethod,
     /// The method is not declared for this Message Type, or no method can be.
+    #[error("WrongType")]
     WrongType,
     /// No further request can wait for its answer.
+    #[error("NotReady")]
     NotReady,
 }
 
@@ -119,14 +123,6 @@ impl RequestFault {
         }
     }
 }
-
-impl fmt::Display for RequestFault {
-    fn fmt<W: fmt::Write>(&self, f: &mut fmt::Formatter<W>) -> fmt::Result {
-        f.write_str(self.name())
-    }
-}
-
-impl Error for RequestFault {}
 
 /// What becomes of a message that came to an instance.
 #[derive(Clone, Copy, Debug, PartialEq, Eq)]
