@@ -2,14 +2,15 @@
 use Rattle.std.proofs.Common.{◌≡◌, ℕ, ◌+◌, ◌<◌, ◌==◌, not, true, Vec, Box, Global, Option, Some, None, String, string_bytes, rules, List, [], ◌∷◌, length, drop, get_or, refl, arith}
 use Rattle.std.proofs.lemmas.Bool.Decides.{nat_tests}
 use Rattle.std.proofs.lemmas.List.{drop_more}
+use Rattle.std.specs.Prelude.{ℤ}
 use Rattle.someip_payload_values.specs.declared.shape.Encoding.{Encoding}
 use Rattle.someip_payload_values.specs.declared.shape.Width.{Width}
-use Rattle.someip_payload_values.specs.declared.shape.Shape.{Shape, Text, Union, Tagged, the_lemmas}
+use Rattle.someip_payload_values.specs.declared.shape.Shape.{Shape, U8, U16, U32, U64, I8, I16, I32, I64, Text, Array, Fixed, Struct, Union, Tagged, the_lemmas}
 use Rattle.someip_payload_values.specs.declared.shape.Member.{Member, out-Member}
-use Rattle.someip_payload_values.specs.declared.value.Value.{Value, Text as TextValue, Union as UnionValue, Tagged as TaggedValue, the_lemmas as value_lemmas}
-use Rattle.someip_payload_values.specs.Data.{form_then, variant, member_then, string, union, tagged, phrase, chosen, slotted}
+use Rattle.someip_payload_values.specs.declared.value.Value.{Value, Uint, Int, Text as TextValue, List as ListValue, Struct as StructValue, Union as UnionValue, Tagged as TaggedValue, the_lemmas as value_lemmas}
+use Rattle.someip_payload_values.specs.Data.{u8, u16, u32, u64, i8, i16, i32, i64, form_then, variant, member_then, string, array, fixed, «struct», union, tagged, uint, int, phrase, list, tuple, chosen, slotted}
 use Rattle.someip_payload_values.specs.Check.{has_members, has_variants, has_tagged_members}
-use Rattle.someip_payload_values.specs.View.{form, forms, all_variants, all_members, data_of, data_of_choice, slots_of}
+use Rattle.someip_payload_values.specs.View.{form, forms, all_variants, all_members, data_of, data_of_all, data_of_choice, slots_of}
 
 pub has_members_of : (ss : List Shape) → has_members (forms ss) ≡ not (length ss == 0)
 has_members_of [] = refl
@@ -60,3 +61,48 @@ form-Tagged width ms = search (rules, the_lemmas)
 
 pub data_of-Tagged : (ss : Vec (Option Value) Global) → data_of (TaggedValue ss) ≡ slotted (slots_of ss.items)
 data_of-Tagged ss = search (rules, value_lemmas)
+
+pub form-U8 : form U8 ≡ u8
+form-U8 = search (rules, the_lemmas)
+
+pub form-U16 : form U16 ≡ u16
+form-U16 = search (rules, the_lemmas)
+
+pub form-U32 : form U32 ≡ u32
+form-U32 = search (rules, the_lemmas)
+
+pub form-U64 : form U64 ≡ u64
+form-U64 = search (rules, the_lemmas)
+
+pub form-I8 : form I8 ≡ i8
+form-I8 = search (rules, the_lemmas)
+
+pub form-I16 : form I16 ≡ i16
+form-I16 = search (rules, the_lemmas)
+
+pub form-I32 : form I32 ≡ i32
+form-I32 = search (rules, the_lemmas)
+
+pub form-I64 : form I64 ≡ i64
+form-I64 = search (rules, the_lemmas)
+
+pub form-Array : (width : Width) (most : ℕ) (element : Box Shape Global) → form (Array width most element) ≡ array width most (form element.value)
+form-Array width most element = search (rules, the_lemmas)
+
+pub form-Fixed : (n : ℕ) (element : Box Shape Global) → form (Fixed n element) ≡ fixed n (form element.value)
+form-Fixed n element = search (rules, the_lemmas)
+
+pub form-Struct : (width : Option Width) (ss : Vec Shape Global) → form (Struct width ss) ≡ «struct» width (forms ss.items)
+form-Struct width ss = search (rules, the_lemmas)
+
+pub data_of-Uint : (n : ℕ) → data_of (Uint n) ≡ uint n
+data_of-Uint n = search (rules, value_lemmas)
+
+pub data_of-Int : (z : ℤ) → data_of (Int z) ≡ int z
+data_of-Int z = search (rules, value_lemmas)
+
+pub data_of-List : (vs : Vec Value Global) → data_of (ListValue vs) ≡ list (data_of_all vs.items)
+data_of-List vs = search (rules, value_lemmas)
+
+pub data_of-Struct : (vs : Vec Value Global) → data_of (StructValue vs) ≡ tuple (data_of_all vs.items)
+data_of-Struct vs = search (rules, value_lemmas)

@@ -27,19 +27,19 @@ impl Display for Value {
     }
 }
 
-/// The texts of values, with commas between them, behind an opening bracket and before a closing one.
+/// The texts of values, with commas between them, between an opening and a closing bracket.
 #[cycle(value_text)]
 fn write_between<W: fmt::Write>(
     f: &mut fmt::Formatter<W>,
-    open: &str,
+    opening: &str,
     values: &[Value],
-    close: &str,
+    closing: &str,
 ) -> fmt::Result
-    ensures { WritesOnOk W.write_str_gives f.old result (open.now ++ (listed (map value_text values.now) ++ close.now)) f.new }
+    ensures { WritesOnOk W.write_str_gives f.old result (opening.now ++ (listed (map value_text values.now) ++ closing.now)) f.new }
 {
-    f.write_str(open)?;
+    f.write_str(opening)?;
     write_values(f, values)?;
-    f.write_str(close)
+    f.write_str(closing)
 }
 
 /// The text of a variant, behind its type number.

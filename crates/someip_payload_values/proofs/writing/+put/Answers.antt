@@ -2,9 +2,9 @@ use Rattle.std.proofs.Common.{rules, ◌≡◌, true, string_bytes, refl, ap, �
 use Rattle.std.proofs.lemmas.Result.{err_from_is_err_and}
 use Rattle.std.specs.Str.{is_utf8}
 use Rattle.std.proofs.lemmas.Str.{IsUtf8-string_bytes, is_utf8-from_IsUtf8}
-use Rattle.someip_payload_values.specs.Data.{union, tagged, string, phrase, slotted}
-use Rattle.someip_payload_values.specs.View.{form, all_variants, all_members, data_of, data_of_choice, slots_of}
-use Rattle.someip_payload_values.proofs.Shapes.{form-Text, form-Union, form-Tagged, data_of-Text, data_of-Union, data_of-Tagged}
+use Rattle.someip_payload_values.specs.Data.{u8, u16, u32, u64, i8, i16, i32, i64, array, fixed, «struct», union, tagged, string, uint, int, phrase, list, tuple, slotted}
+use Rattle.someip_payload_values.specs.View.{form, forms, all_variants, all_members, data_of, data_of_all, data_of_choice, slots_of}
+use Rattle.someip_payload_values.proofs.Shapes.{form-U8, form-U16, form-U32, form-U64, form-I8, form-I16, form-I32, form-I64, form-Text, form-Array, form-Fixed, form-Struct, form-Union, form-Tagged, data_of-Uint, data_of-Int, data_of-Text, data_of-List, data_of-Struct, data_of-Union, data_of-Tagged}
 use Rattle.someip_payload_values.specs.Writing.{text_of, body_text, slots_text}
 use Rattle.someip_payload_values.specs.Steps.{◌>>=◌}
 use Rattle.someip_payload_values.proofs.StepLemmas.{fails_too}
@@ -107,3 +107,91 @@ put_tagged-returns-in_err-put_slots t c =
     let text = slots_text (all_members c.args.members.now) (slots_of c.args.slots.now) in
     rw (p.1, p.2, tagged_is c.args.width c.args.members.now c.args.slots.now (omega arith))
     (fails_too c.in_err-put_slots.field-0.0 text (text >>= body_text c.args.width) (λ bad. rw bad refl) c.in_err-put_slots.ensures)
+
+pub put-returns-in-U8-Uint : goal.put-returns-in-U8-Uint
+unfolding text_of
+put-returns-in-U8-Uint t c =
+    let x = c.in-U8-Uint in
+    let f : form c.args.shape.now ≡ u8 = ap form x.is-0 ∙ form-U8 in
+    let d : data_of c.args.value.now ≡ uint x.n = ap data_of x.is-1 ∙ data_of-Uint x.n in
+    rw (f, d) c.put_unsigned.ensures
+
+pub put-returns-in-U16-Uint : goal.put-returns-in-U16-Uint
+unfolding text_of
+put-returns-in-U16-Uint t c =
+    let x = c.in-U16-Uint in
+    let f : form c.args.shape.now ≡ u16 = ap form x.is-0 ∙ form-U16 in
+    let d : data_of c.args.value.now ≡ uint x.n = ap data_of x.is-1 ∙ data_of-Uint x.n in
+    rw (f, d) c.put_unsigned-in-U16-Uint.ensures
+
+pub put-returns-in-U32-Uint : goal.put-returns-in-U32-Uint
+unfolding text_of
+put-returns-in-U32-Uint t c =
+    let x = c.in-U32-Uint in
+    let f : form c.args.shape.now ≡ u32 = ap form x.is-0 ∙ form-U32 in
+    let d : data_of c.args.value.now ≡ uint x.n = ap data_of x.is-1 ∙ data_of-Uint x.n in
+    rw (f, d) c.put_unsigned-in-U32-Uint.ensures
+
+pub put-returns-in-U64-Uint : goal.put-returns-in-U64-Uint
+unfolding text_of
+put-returns-in-U64-Uint t c =
+    let x = c.in-U64-Uint in
+    let f : form c.args.shape.now ≡ u64 = ap form x.is-0 ∙ form-U64 in
+    let d : data_of c.args.value.now ≡ uint x.n = ap data_of x.is-1 ∙ data_of-Uint x.n in
+    rw (f, d) c.put_unsigned-in-U64-Uint.ensures
+
+pub put-returns-in-I8-Int : goal.put-returns-in-I8-Int
+unfolding text_of
+put-returns-in-I8-Int t c =
+    let x = c.in-I8-Int in
+    let f : form c.args.shape.now ≡ i8 = ap form x.is-0 ∙ form-I8 in
+    let d : data_of c.args.value.now ≡ int x.z = ap data_of x.is-1 ∙ data_of-Int x.z in
+    rw (f, d) (search rules)
+
+pub put-returns-in-I16-Int : goal.put-returns-in-I16-Int
+unfolding text_of
+put-returns-in-I16-Int t c =
+    let x = c.in-I16-Int in
+    let f : form c.args.shape.now ≡ i16 = ap form x.is-0 ∙ form-I16 in
+    let d : data_of c.args.value.now ≡ int x.z = ap data_of x.is-1 ∙ data_of-Int x.z in
+    rw (f, d) (search rules)
+
+pub put-returns-in-I32-Int : goal.put-returns-in-I32-Int
+unfolding text_of
+put-returns-in-I32-Int t c =
+    let x = c.in-I32-Int in
+    let f : form c.args.shape.now ≡ i32 = ap form x.is-0 ∙ form-I32 in
+    let d : data_of c.args.value.now ≡ int x.z = ap data_of x.is-1 ∙ data_of-Int x.z in
+    rw (f, d) (search rules)
+
+pub put-returns-in-I64-Int : goal.put-returns-in-I64-Int
+unfolding text_of
+put-returns-in-I64-Int t c =
+    let x = c.in-I64-Int in
+    let f : form c.args.shape.now ≡ i64 = ap form x.is-0 ∙ form-I64 in
+    let d : data_of c.args.value.now ≡ int x.z = ap data_of x.is-1 ∙ data_of-Int x.z in
+    rw (f, d) (search rules)
+
+pub put-returns-in-Array-List : goal.put-returns-in-Array-List
+unfolding text_of
+put-returns-in-Array-List t c =
+    let x = c.in-Array-List in
+    let f : form c.args.shape.now ≡ array x.width x.max (form x.element.value) = ap form x.is-0 ∙ form-Array x.width x.max x.element in
+    let d : data_of c.args.value.now ≡ list (data_of_all x.values.items) = ap data_of x.is-1 ∙ data_of-List x.values in
+    rw (f, d) (search rules)
+
+pub put-returns-in-Fixed-List : goal.put-returns-in-Fixed-List
+unfolding text_of
+put-returns-in-Fixed-List t c =
+    let x = c.in-Fixed-List in
+    let f : form c.args.shape.now ≡ fixed x.count (form x.element.value) = ap form x.is-0 ∙ form-Fixed x.count x.element in
+    let d : data_of c.args.value.now ≡ list (data_of_all x.values.items) = ap data_of x.is-1 ∙ data_of-List x.values in
+    rw (f, d) (search rules)
+
+pub put-returns-in-Struct-Struct : goal.put-returns-in-Struct-Struct
+unfolding text_of
+put-returns-in-Struct-Struct t c =
+    let x = c.in-Struct-Struct in
+    let f : form c.args.shape.now ≡ «struct» x.width (forms x.shapes.items) = ap form x.is-0 ∙ form-Struct x.width x.shapes in
+    let d : data_of c.args.value.now ≡ tuple (data_of_all x.values.items) = ap data_of x.is-1 ∙ data_of-Struct x.values in
+    rw (f, d) (search rules)
