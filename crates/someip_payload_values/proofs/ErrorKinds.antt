@@ -1,5 +1,5 @@
 -- Which errors the check of a shape and writing may have.
-use Rattle.std.proofs.Common.{◌≡◌, ◌⊎◌, inl, inr, ℕ, ◌+◌, ◌^◌, Bool, true, false, cond, ltb, eqb, List, [], ◌++◌, length, Result, Ok, Err, Some, None, refl, subst}
+use Rattle.std.proofs.Common.{◌≡◌, ◌⊎◌, inl, inr, ℕ, ◌^◌, Bool, true, false, cond, ltb, eqb, List, [], ◌++◌, length, Result, Ok, Err, Some, None, refl, subst}
 use Rattle.std.specs.Prelude.{ℤ, IfErr}
 use Rattle.std.specs.Int.{cast_unsigned}
 use Rattle.std.specs.Str.{is_utf8}
