@@ -4,35 +4,29 @@ ghost use Rattle.sd_wire.specs.Faults.{fault_name, fault_place};
 ghost use Rattle.sd_wire.specs.declared.error.SdError.TheVariants.{OutOfMemory};
 
 use std::alloc::{AllocError, AllocFailed};
-use thiserror::Error;
+use std::error::Error;
+use std::fmt;
 
 /// Why a Service Discovery message is not read or not written. The place of a fault of bytes is a
 /// number of bytes from the first of the message; printed, it is the name and the place, as in
 /// `Truncated at 47`. A refused entry is told by its number, as in `TooManyOptions in entry 18`.
-#[derive(Clone, Copy, Debug, Error, PartialEq, Eq)]
+#[derive(Clone, Copy, Debug, PartialEq, Eq)]
 pub enum SdError {
     /// The bytes end before the flags, the entries or the options do. The place is their end.
-    #[error("Truncated at {0}")]
     Truncated(usize),
     /// The length of the entries is no multiple of 16. The place is 4, where it stands.
-    #[error("EntriesLength at {0}")]
     EntriesLength(usize),
     /// An entry is neither Find, Offer, Subscribe nor Ack. Its first byte's place.
-    #[error("UnknownEntryType at {0}")]
     UnknownEntryType(usize),
     /// An option has no room, no length, or another length than its type wants. Its first byte's
     /// place.
-    #[error("OptionLength at {0}")]
     OptionLength(usize),
     /// A run of more than 15 options, or one that would stand at an index above 255. The place is
     /// the number of its entry, counted from 0.
-    #[error("TooManyOptions in entry {0}")]
     TooManyOptions(usize),
     /// Bytes stand after the options. The place of the first.
-    #[error("TrailingBytes at {0}")]
     TrailingBytes(usize),
     /// Memory ran out.
-    #[error("out of memory")]
     OutOfMemory,
 }
 
@@ -68,6 +62,18 @@ impl SdError {
         }
     }
 }
+
+impl fmt::Display for SdError {
+    fn fmt<W: fmt::Write>(&self, f: &mut fmt::Formatter<W>) -> fmt::Result {
+        match self {
+            SdError::OutOfMemory => f.write_str("out of memory"),
+            SdError::TooManyOptions(entry) => write!(f, "{} in entry {entry}", self.name()),
+            _ => write!(f, "{} at {}", self.name(), self.place()),
+        }
+    }
+}
+
+impl Error for SdError {}
 
 impl From<AllocError> for SdError {
     ghost from_gives = { λ _ e. e ≡ OutOfMemory };
