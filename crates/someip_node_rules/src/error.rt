@@ -6,31 +6,25 @@ ghost use Rattle.someip_node_rules.specs.Names.{node_error_name};
 
 use someip_rpc::RpcError;
 use std::alloc::{AllocError, AllocFailed};
-use thiserror::Error;
+use std::error::Error;
+use std::fmt;
 
 /// Why a call of a node is refused. But for `OutOfMemory` the node is as it was.
-#[derive(Clone, Copy, Debug, PartialEq, Eq, Error)]
+#[derive(Clone, Copy, Debug, PartialEq, Eq)]
 pub enum NodeError {
     /// A value of the configuration is outside its range, or two of them clash.
-    #[error("BadConfig")]
     BadConfig,
     /// The delay is outside the range that the configuration gives.
-    #[error("BadDelay")]
     BadDelay,
     /// The clock would go past 2^63 - 1 milliseconds.
-    #[error("ClockPast")]
     ClockPast,
     /// The eventgroup is not one of those that the configuration wants.
-    #[error("NotWanted")]
     NotWanted,
     /// Memory ran out in an earlier call, and the node was not restarted since.
-    #[error("Failed")]
     Failed,
     /// Memory ran out: the node has failed.
-    #[error("out of memory")]
     OutOfMemory,
     /// A call, an answer or a publication is refused, for a reason other than memory.
-    #[error("{0}")]
     Rpc(RpcError),
 }
 
@@ -50,6 +44,18 @@ impl NodeError {
         }
     }
 }
+
+impl fmt::Display for NodeError {
+    fn fmt<W: fmt::Write>(&self, f: &mut fmt::Formatter<W>) -> fmt::Result {
+        match self {
+            NodeError::OutOfMemory => f.write_str("out of memory"),
+            NodeError::Rpc(refusal) => fmt::Display::fmt(refusal, f),
+            refusal => f.write_str(refusal.name()),
+        }
+    }
+}
+
+impl Error for NodeError {}
 
 impl From<AllocError> for NodeError {
     ghost from_gives = { λ _ error. error ≡ OutOfMemory };
