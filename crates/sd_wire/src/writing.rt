@@ -1,7 +1,8 @@
 //! The bytes of messages (SOME/IP Service Discovery, "SOME/IP-SD Header").
 ghost use Rattle.std.specs.Prelude.{◌≡◌, ◌<◌, ◌≤◌, ◌^◌, ◌+◌, ◌++◌, ℕ, List, length, IfOk, IfErr, OnOk, OnErr, Some};
 ghost use Rattle.sd_wire.specs.declared.error.SdError.TheVariants.{OutOfMemory};
-ghost use Rattle.sd_wire.specs.Fields.{number32};
+ghost use Rattle.sd_wire.specs.Fields.{flags_byte, number32};
+ghost use Rattle.sd_wire.specs.Spelling.{sd_bytes};
 ghost use Rattle.sd_wire.specs.Values.{view_message};
 ghost use Rattle.sd_wire.specs.Reading.{Sd};
 ghost use Rattle.sd_wire.specs.Writing.{WritesSd, TooMany, IsWriteError, as_read};
@@ -11,6 +12,7 @@ ghost use Rattle.sd_wire.specs.Encoding.{message_bytes};
 ghost use Rattle.sd_wire.specs.Splitting.{FitsDatagram};
 
 use crate::error::SdError;
+use crate::flags::SdFlags;
 use crate::message::SdMessage;
 use crate::packing::{pack, pool_text};
 use std::alloc::{AllocError, Global};
@@ -71,10 +73,25 @@ fn text_of(alloc: Global, message: &SdMessage) -> Result<Vec<u8>, SdError>
 {
     let (entries, pool) = pack(alloc, message.entries)?;
     let options = pool_text(alloc, &pool)?;
+    Ok(joined(alloc, message.flags, &entries, &options)?)
+}
+
+/// The flags, and the entries and the options, each after its length.
+fn joined(
+    alloc: Global,
+    flags: SdFlags,
+    entries: &[u8],
+    options: &[u8],
+) -> Result<Vec<u8>, AllocError>
+    requires entries { length entries.now < 2 ^ 32 }
+    requires options { length options.now < 2 ^ 32 }
+    ensures { IfOk result (λ text. text.items
+        ≡ sd_bytes (flags_byte flags) 0 0 0 entries.now options.now) }
+{
     let mut text = Vec::new(alloc);
-    text.extend_from_slice(&[message.flags.byte(), 0, 0, 0])?;
-    put_part(&entries, &mut text)?;
-    put_part(&options, &mut text)?;
+    text.extend_from_slice(&[flags.byte(), 0, 0, 0])?;
+    put_part(entries, &mut text)?;
+    put_part(options, &mut text)?;
     Ok(text)
 }
 

@@ -56,14 +56,14 @@ pub(crate) fn put<K: Key, V: Drop>(
     ensures tracks { Tracks K.cmp dues.new held.new }
 {
     let until = lasting.until;
-    let earlier = held.get(&key).map(|x| x.until);
+    let earlier = until_at(held, &key);
     if is_until(earlier, until) {
-        held.insert(key, lasting)?;
+        hold(held, key, lasting)?;
         return Ok(());
     }
     add_due(dues, key, until)?;
-    match held.insert(key, lasting) {
-        Ok(_) => {
+    match hold(held, key, lasting) {
+        Ok(()) => {
             take_due(dues, key, earlier);
             Ok(())
         }
@@ -72,6 +72,21 @@ pub(crate) fn put<K: Key, V: Drop>(
             Err(AllocError)
         }
     }
+}
+
+/// Puts a value under its key, in place of an earlier one, and leaves the deadlines as they are.
+fn hold<K: Key, V: Drop>(
+    held: &mut BTreeMap<K, Lasting<V>>,
+    key: K,
+    lasting: Lasting<V>,
+) -> Result<(), AllocError>
+    ensures ok { OnOk result ((q : K) → get K.cmp held.new q
+        ≡ (if eq_by_cmp K.cmp key q then Some lasting else get K.cmp held.old q)) }
+    ensures err { OnErr result (IsUnchanged held.old held.new) }
+    ensures absent { OnErr result (get K.cmp held.old key ≡ None) }
+{
+    held.insert(key, lasting)?;
+    Ok(())
 }
 
 /// Drops what has passed: as many steps as have passed.
@@ -197,14 +212,20 @@ fn until_of<V>(lasting: &Option<Lasting<V>>) -> Option<Deadline>
     }
 }
 
+/// Until when the value of a key lasts, if it has one.
+fn until_at<K: Key, V>(held: &BTreeMap<K, Lasting<V>>, key: &K) -> Option<Deadline>
+    ensures { result ≡ until_of (get K.cmp held.now key.now) }
+{
+    match held.get(key) {
+        Some(lasting) => Some(lasting.until),
+        None => None,
+    }
+}
+
 fn is_until(earlier: Option<Deadline>, until: Deadline) -> bool
     ensures { IsTrue result ↔ (earlier ≡ Some until) }
 {
-    match (earlier, until) {
-        (Some(Deadline::At(x)), Deadline::At(y)) => x == y,
-        (Some(Deadline::Never), Deadline::Never) => true,
-        _ => false,
-    }
+    earlier == Some(until)
 }
 
 fn add_due<K: Key>(dues: &mut BTreeSet<Due<K>>, key: K, until: Deadline) -> Result<(), AllocError>
