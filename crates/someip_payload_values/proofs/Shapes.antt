@@ -5,10 +5,10 @@ use Rattle.std.proofs.lemmas.List.{drop_more}
 use Rattle.std.specs.Prelude.{ℤ}
 use Rattle.someip_payload_values.specs.declared.shape.Encoding.{Encoding}
 use Rattle.someip_payload_values.specs.declared.shape.Width.{Width}
-use Rattle.someip_payload_values.specs.declared.shape.Shape.{Shape, U8, U16, U32, U64, I8, I16, I32, I64, Text, Array, Fixed, Struct, Union, Tagged, the_lemmas}
+use Rattle.someip_payload_values.specs.declared.shape.Shape.{Shape, Bool, U8, U16, U32, U64, I8, I16, I32, I64, Text, Array, Fixed, Struct, Union, Tagged, the_lemmas}
 use Rattle.someip_payload_values.specs.declared.shape.Member.{Member, out-Member}
 use Rattle.someip_payload_values.specs.declared.value.Value.{Value, Uint, Int, Text as TextValue, List as ListValue, Struct as StructValue, Union as UnionValue, Tagged as TaggedValue, the_lemmas as value_lemmas}
-use Rattle.someip_payload_values.specs.Data.{u8, u16, u32, u64, i8, i16, i32, i64, form_then, variant, member_then, string, array, fixed, «struct», union, tagged, uint, int, phrase, list, tuple, chosen, slotted}
+use Rattle.someip_payload_values.specs.Data.{bool, u8, u16, u32, u64, i8, i16, i32, i64, form_then, variant, member_then, string, array, fixed, «struct», union, tagged, uint, int, phrase, list, tuple, chosen, slotted}
 use Rattle.someip_payload_values.specs.Check.{has_members, has_variants, has_tagged_members}
 use Rattle.someip_payload_values.specs.View.{form, forms, all_variants, all_members, data_of, data_of_all, data_of_choice, slots_of}
 
@@ -61,6 +61,9 @@ form-Tagged width ms = search (rules, the_lemmas)
 
 pub data_of-Tagged : (ss : Vec (Option Value) Global) → data_of (TaggedValue ss) ≡ slotted (slots_of ss.items)
 data_of-Tagged ss = search (rules, value_lemmas)
+
+pub form-Bool : form Bool ≡ bool
+form-Bool = search (rules, the_lemmas)
 
 pub form-U8 : form U8 ≡ u8
 form-U8 = search (rules, the_lemmas)

@@ -2,7 +2,7 @@
 use Rattle.std.proofs.Common.{option_map, ◌≡◌, ℕ, ◌+◌, ◌<◌, ◌≤◌, Vec, Global, Option, Some, None, rules, List, [], ◌∷◌, ◌++◌, map, length, take, get_or, codes, flat_map, refl, sym, ap, ◌∙◌, append_assoc, arith}
 use Rattle.std.proofs.lemmas.Grind.{flat_map-append}
 use Rattle.std.proofs.lemmas.List.{append-nil, length-map, length-take, map_push, take_more}
-use Rattle.someip_payload_values.specs.declared.value.Value.{Value, Tagged, the_lemmas}
+use Rattle.someip_payload_values.specs.declared.value.Value.{Value, List as ListValue, Struct as StructValue, Tagged, the_lemmas}
 use Rattle.someip_payload_values.specs.ValueText.{behind_comma, listed, or_dash, value_text, slot_text}
 
 shown : (os : List (Option Value)) → map or_dash (map (option_map value_text) os) ≡ map slot_text os
@@ -12,6 +12,12 @@ shown (Some v ∷ os) = ap (λ texts. value_text v ∷ texts) (shown os)
 
 pub value_text-Tagged : (ss : Vec (Option Value) Global) → value_text (Tagged ss) ≡ codes "{" ++ (listed (map slot_text ss.items) ++ codes "}")
 value_text-Tagged ss = search (rules, the_lemmas, shown)
+
+pub value_text-List : (vs : Vec Value Global) → value_text (ListValue vs) ≡ codes "[" ++ (listed (map value_text vs.items) ++ codes "]")
+value_text-List vs = search (rules, the_lemmas)
+
+pub value_text-Struct : (vs : Vec Value Global) → value_text (StructValue vs) ≡ codes "(" ++ (listed (map value_text vs.items) ++ codes ")")
+value_text-Struct vs = search (rules, the_lemmas)
 
 listed_more : (texts : List (List ℕ)) (text : List ℕ) → 0 < length texts → listed (texts ++ text ∷ []) ≡ listed texts ++ (codes "," ++ text)
 listed_more [] text some = absurd (omega arith)

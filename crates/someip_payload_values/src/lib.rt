@@ -4,8 +4,9 @@
 //! - [`Shape`], with [`Width`], [`Encoding`] and [`Member`]: what a payload is read by; [`Value`]: what it says;
 //! - [`check_shape`]: whether payloads can have a shape; [`MAX_DEPTH`]: how deep it may be;
 //! - [`encode`]: a value as bytes; [`PayloadError`]: the first fault;
-//! - [`Size`] and [`size_of`]: of numbers and length fields; [`Tag`], [`WireType`], [`tag_in`],
-//!   [`has_wire_type`], [`own_width`] and [`width_in`]: of the items of tagged structures.
+//! - what reading needs as well: the [`Size`] of a number, with [`size_of`]; the [`Tag`] and the
+//!   [`WireType`] of an item of a tagged structure, with [`tag_in`], [`has_wire_type`], [`own_width`]
+//!   and [`width_in`].
 #![tactic(auto)]
 
 mod check;

@@ -1,11 +1,11 @@
 use Rattle.std.proofs.Common.{None, is_some, true, false, sym, refl, ◌≡◌, ◌<◌, ◌++◌, ◌∷◌, [], ◌∙◌, ap, length, map, rules, arith}
 use Rattle.std.proofs.lemmas.Result.{err_from_is_err_and}
 use Rattle.std.proofs.lemmas.List.{map_push, length-map, with_items_is}
-use Rattle.someip_payload_values.specs.Data.{union}
+use Rattle.someip_payload_values.specs.Data.{bool, u8, u16, u32, u64, i8, i16, i32, i64, string, array, fixed, union, tagged}
 use Rattle.someip_payload_values.specs.View.{form, all_variants, all_members, data_of, slots_of}
 use Rattle.someip_payload_codec.specs.View.{seen}
 use Rattle.someip_payload_codec.specs.Reading.{data_at, data_by, items_at, chosen_at, item_by, item_at}
-use Rattle.someip_payload_values.proofs.Shapes.{form-Union, data_of-Some}
+use Rattle.someip_payload_values.proofs.Shapes.{form-Bool, form-U8, form-U16, form-U32, form-U64, form-I8, form-I16, form-I32, form-I64, form-Text, form-Array, form-Fixed, form-Union, form-Tagged, data_of-Some}
 use Rattle.someip_payload_codec.proofs.Loops.{items_go_on, items_fail, items_too_many, items_done, fixed_more, fixed_bad, fixed_end, members_go_on, members_fail, members_done, variant_hit, variant_miss, variant_none}
 use Rattle.someip_payload_values.specs.declared.shape.Shape.{the_lemmas}
 use Rattle.someip_payload_codec.proofs.TaggedLoops.{none_read, found_in, skip_fills, slots_duplicate, slots_fault, slots_value, tagged_go_on, tagged_fail, tagged_done}
@@ -181,3 +181,85 @@ tagged_item-returns-clause-exact t c =
     (slots_value c.in_ok-tag.tag c.args.window.place (seen c.in_ok-tag.rest) c.args.members.now c.args.indexes.now c.args.slots.now c.in-Some.field-0.now c.index-members-index.result c.index-slots-index.result
     c.requires.indexes c.in-Some.ensures.value c.requires.lens c.index-members-index.is c.index-slots-index.is
     c.in_ok-value.value (seen c.in_ok-value.rest) none c.in_ok-value.ensures)
+
+pub value_by-returns-in-Bool : goal.value_by-returns-in-Bool
+unfolding data_by
+value_by-returns-in-Bool t c =
+    let f : form c.args.shape.now ≡ bool = ap form c.in-Bool.is ∙ form-Bool in
+    rw f c.truth.ensures
+
+pub value_by-returns-in-U8 : goal.value_by-returns-in-U8
+unfolding data_by
+value_by-returns-in-U8 t c =
+    let f : form c.args.shape.now ≡ u8 = ap form c.in-U8.is ∙ form-U8 in
+    rw f c.unsigned.ensures
+
+pub value_by-returns-in-U16 : goal.value_by-returns-in-U16
+unfolding data_by
+value_by-returns-in-U16 t c =
+    let f : form c.args.shape.now ≡ u16 = ap form c.in-U16.is ∙ form-U16 in
+    rw f c.unsigned-in-U16.ensures
+
+pub value_by-returns-in-U32 : goal.value_by-returns-in-U32
+unfolding data_by
+value_by-returns-in-U32 t c =
+    let f : form c.args.shape.now ≡ u32 = ap form c.in-U32.is ∙ form-U32 in
+    rw f c.unsigned-in-U32.ensures
+
+pub value_by-returns-in-U64 : goal.value_by-returns-in-U64
+unfolding data_by
+value_by-returns-in-U64 t c =
+    let f : form c.args.shape.now ≡ u64 = ap form c.in-U64.is ∙ form-U64 in
+    rw f c.unsigned-in-U64.ensures
+
+pub value_by-returns-in-I8 : goal.value_by-returns-in-I8
+unfolding data_by
+value_by-returns-in-I8 t c =
+    let f : form c.args.shape.now ≡ i8 = ap form c.in-I8.is ∙ form-I8 in
+    rw f c.signed.ensures
+
+pub value_by-returns-in-I16 : goal.value_by-returns-in-I16
+unfolding data_by
+value_by-returns-in-I16 t c =
+    let f : form c.args.shape.now ≡ i16 = ap form c.in-I16.is ∙ form-I16 in
+    rw f c.signed-in-I16.ensures
+
+pub value_by-returns-in-I32 : goal.value_by-returns-in-I32
+unfolding data_by
+value_by-returns-in-I32 t c =
+    let f : form c.args.shape.now ≡ i32 = ap form c.in-I32.is ∙ form-I32 in
+    rw f c.signed-in-I32.ensures
+
+pub value_by-returns-in-I64 : goal.value_by-returns-in-I64
+unfolding data_by
+value_by-returns-in-I64 t c =
+    let f : form c.args.shape.now ≡ i64 = ap form c.in-I64.is ∙ form-I64 in
+    rw f c.signed-in-I64.ensures
+
+pub value_by-returns-in-Text : goal.value_by-returns-in-Text
+unfolding data_by
+value_by-returns-in-Text t c =
+    let x = c.in-Text in
+    let f : form c.args.shape.now ≡ string x.encoding x.field-1 = ap form x.is ∙ form-Text x.encoding x.field-1 in
+    rw f c.string.ensures
+
+pub value_by-returns-in-Array : goal.value_by-returns-in-Array
+unfolding data_by
+value_by-returns-in-Array t c =
+    let x = c.in-Array in
+    let f : form c.args.shape.now ≡ array x.field-0 x.max (form x.element.value) = ap form x.is ∙ form-Array x.field-0 x.max x.element in
+    rw f (search rules)
+
+pub value_by-returns-in-Fixed : goal.value_by-returns-in-Fixed
+unfolding data_by
+value_by-returns-in-Fixed t c =
+    let x = c.in-Fixed in
+    let f : form c.args.shape.now ≡ fixed x.count (form x.element.value) = ap form x.is ∙ form-Fixed x.count x.element in
+    rw f (search rules)
+
+pub value_by-returns-in-Tagged : goal.value_by-returns-in-Tagged
+unfolding data_by
+value_by-returns-in-Tagged t c =
+    let x = c.in-Tagged in
+    let f : form c.args.shape.now ≡ tagged x.field-0 (all_members x.members.items) = ap form x.is ∙ form-Tagged x.field-0 x.members in
+    rw f (search rules)

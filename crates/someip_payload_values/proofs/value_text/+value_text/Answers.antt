@@ -3,7 +3,7 @@ use Rattle.std.proofs.Output.{has_written_append, has_written_of_eq}
 use Rattle.std.proofs.lemmas.List.{take_all}
 use Rattle.std.specs.Fmt.{HasWritten, IsPlainFormatter}
 use Rattle.someip_payload_values.specs.ValueText.{listed, value_text, slot_text}
-use Rattle.someip_payload_values.proofs.ValueTexts.{value_text-Tagged, slots_more, slots_first}
+use Rattle.someip_payload_values.proofs.ValueTexts.{value_text-List, value_text-Struct, value_text-Tagged, slots_more, slots_first}
 use Rattle.someip_payload_values.proofs.value_text.+value_text.Goals as goal
 use Rattle.someip_payload_values.proofs.value_text.+value_text.Goals.{write_slots-then-i-gt0+in_ok-write, write_slots-else-i-gt0, write_slots-in-None+in_ok-write-in-None, write_slots-in-Some+in_ok-fmt-in-Some}
 
@@ -31,4 +31,14 @@ write_slots-returns g t c p done = rw (← take_all c.loop-i.i c.args.slots.now 
 pub ValueDisplay::fmt-returns-in-Tagged-clause-writes : goal.ValueDisplay::fmt-returns-in-Tagged-clause-writes
 ValueDisplay::fmt-returns-in-Tagged-clause-writes g t c p done =
     let e : value_text c.args.self.now ≡ codes "{" ++ (listed (map slot_text c.in-Tagged.slots.items) ++ codes "}") = ap value_text c.in-Tagged.is ∙ value_text-Tagged c.in-Tagged.slots in
+    rw e (search rules)
+
+pub ValueDisplay::fmt-returns-in-List-clause-writes : goal.ValueDisplay::fmt-returns-in-List-clause-writes
+ValueDisplay::fmt-returns-in-List-clause-writes g t c p done =
+    let e : value_text c.args.self.now ≡ codes "[" ++ (listed (map value_text c.in-List.values.items) ++ codes "]") = ap value_text c.in-List.is ∙ value_text-List c.in-List.values in
+    rw e (search rules)
+
+pub ValueDisplay::fmt-returns-in-Struct-clause-writes : goal.ValueDisplay::fmt-returns-in-Struct-clause-writes
+ValueDisplay::fmt-returns-in-Struct-clause-writes g t c p done =
+    let e : value_text c.args.self.now ≡ codes "(" ++ (listed (map value_text c.in-Struct.values.items) ++ codes ")") = ap value_text c.in-Struct.is ∙ value_text-Struct c.in-Struct.values in
     rw e (search rules)
