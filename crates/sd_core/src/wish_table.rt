@@ -107,9 +107,15 @@ pub(crate) fn has_begun(table: &WishTable, instance: InstanceId) -> bool
     ensures { result ≡ any_begun (λ eventgroup beginning. is_of instance eventgroup)
         (map_of eventgroup_cmp table.now) }
 {
-    wishes_from(table, instance)
-        .take_while(|(eventgroup, _)| is_of(eventgroup, instance))
-        .any(|(_, wish)| wish.stage.is_begun())
+    for (eventgroup, wish) in wishes_from(table, instance) {
+        if !is_of(eventgroup, instance) {
+            return false;
+        }
+        if wish.stage.is_begun() {
+            return true;
+        }
+    }
+    false
 }
 
 /// The wishes from the first one of an instance on.

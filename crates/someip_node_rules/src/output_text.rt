@@ -1,13 +1,15 @@
 //! The texts of what a node gives.
-ghost use Rattle.std.specs.Prelude.{◌++◌, ◌∷◌, [], codes, Some};
+ghost use Rattle.std.specs.Prelude.{◌++◌, ◌∷◌, [], codes, decimal, Some};
 ghost use Rattle.std.specs.Fmt.{WritesOnOk};
 ghost use Rattle.std.specs.Net.Text.{socket_v4_text};
 ghost use Rattle.hex.specs.Hex.{encode_lower};
 ghost use Rattle.someip_node_rules.specs.OutputWords.{bytes_word, code_word, id_word, ids_word};
-ghost use Rattle.someip_node_rules.specs.OutputWords.{instance_word, message_word, output_text, token_word};
+ghost use Rattle.someip_node_rules.specs.OutputWords.{instance_word, message_word, output_text, token_word, words_text};
+ghost use Rattle.sd_core.specs.Names.{cause_name};
 
 use crate::output::Output;
-use sd_core::{Eventgroup, InstanceId};
+use sd_core::{Cause, Eventgroup, InstanceId};
+use sd_wire::SubscriptionCounter;
 use someip_rpc::MessageId;
 use someip_wire::ReturnCode;
 use std::fmt;
@@ -27,12 +29,7 @@ impl Display for Output {
 
     fn fmt<W: fmt::Write>(&self, f: &mut fmt::Formatter<W>) -> fmt::Result {
         match self {
-            Output::Sent { from, to, bytes } => {
-                write!(f, "sent")?;
-                write_endpoint(f, *from)?;
-                write_endpoint(f, *to)?;
-                write_bytes(f, bytes.as_slice())
-            }
+            Output::Sent { from, to, bytes } => write_sent(f, *from, *to, bytes.as_slice()),
             Output::Called { message, session } => {
                 write!(f, "call")?;
                 write_call(f, *message, *session)
@@ -46,39 +43,19 @@ impl Display for Output {
                 session,
                 code,
                 payload,
-            } => {
-                write!(f, "answer")?;
-                write_call(f, *message, *session)?;
-                write_code(f, *code)?;
-                write_bytes(f, payload.as_slice())
-            }
+            } => write_answer(f, *message, *session, *code, payload.as_slice()),
             Output::Request {
                 token,
                 instance,
                 method,
                 payload,
-            } => {
-                write!(f, "request")?;
-                write_token(f, *token)?;
-                write_instance(f, *instance)?;
-                write_id(f, *method)?;
-                write_bytes(f, payload.as_slice())
-            }
+            } => write_request(f, *token, *instance, *method, payload.as_slice()),
             Output::Event {
                 instance,
                 event,
                 payload,
-            } => {
-                write!(f, "event")?;
-                write_instance(f, *instance)?;
-                write_id(f, *event)?;
-                write_bytes(f, payload.as_slice())
-            }
-            Output::Known { instance, endpoint } => {
-                write!(f, "known")?;
-                write_instance(f, *instance)?;
-                write_endpoint(f, *endpoint)
-            }
+            } => write_event(f, *instance, *event, payload.as_slice()),
+            Output::Known { instance, endpoint } => write_known(f, *instance, *endpoint),
             Output::Gone { instance } => {
                 write!(f, "gone")?;
                 write_instance(f, *instance)
@@ -86,11 +63,7 @@ impl Display for Output {
             Output::Subscribed {
                 eventgroup,
                 counter,
-            } => {
-                write!(f, "subscribed")?;
-                write_eventgroup(f, *eventgroup)?;
-                write!(f, " {}", counter.number())
-            }
+            } => write_subscribed(f, *eventgroup, *counter),
             Output::Unsubscribed { eventgroup } => {
                 write!(f, "unsubscribed")?;
                 write_eventgroup(f, *eventgroup)
@@ -99,21 +72,137 @@ impl Display for Output {
                 eventgroup,
                 endpoint,
                 counter,
-            } => {
-                write!(f, "accepted")?;
-                write_eventgroup(f, *eventgroup)?;
-                write_endpoint(f, *endpoint)?;
-                write!(f, " {}", counter.number())
-            }
-            Output::Nacked { eventgroup, cause } => {
-                write!(f, "nacked")?;
-                write_eventgroup(f, *eventgroup)?;
-                write!(f, " {}", cause.name())
-            }
+            } => write_accepted(f, *eventgroup, *endpoint, *counter),
+            Output::Nacked { eventgroup, cause } => write_nacked(f, *eventgroup, *cause),
             Output::Rebooted { peer } => write!(f, "reboot {peer}"),
             Output::Dropped { reason } => write!(f, "dropped {}", reason.name()),
         }
     }
+}
+
+/// A datagram that is sent.
+fn write_sent<W: fmt::Write>(
+    f: &mut fmt::Formatter<W>,
+    from: SocketAddrV4,
+    to: SocketAddrV4,
+    bytes: &[u8],
+) -> fmt::Result
+    ensures { WritesOnOk W.write_str_gives f.old result
+        (words_text (codes "sent" ∷ socket_v4_text from ∷ socket_v4_text to ∷ bytes_word bytes.now ∷ [])) f.new }
+{
+    write!(f, "sent")?;
+    write_endpoint(f, from)?;
+    write_endpoint(f, to)?;
+    write_bytes(f, bytes)
+}
+
+/// The answer to a call.
+fn write_answer<W: fmt::Write>(
+    f: &mut fmt::Formatter<W>,
+    message: MessageId,
+    session: u16,
+    code: ReturnCode,
+    payload: &[u8],
+) -> fmt::Result
+    ensures { WritesOnOk W.write_str_gives f.old result
+        (words_text (codes "answer" ∷ message_word message ∷ id_word session ∷ code_word code.0 ∷ bytes_word payload.now ∷ [])) f.new }
+{
+    write!(f, "answer")?;
+    write_call(f, message, session)?;
+    write_code(f, code)?;
+    write_bytes(f, payload)
+}
+
+/// A request to an instance.
+fn write_request<W: fmt::Write>(
+    f: &mut fmt::Formatter<W>,
+    token: Option<u64>,
+    instance: InstanceId,
+    method: u16,
+    payload: &[u8],
+) -> fmt::Result
+    ensures { WritesOnOk W.write_str_gives f.old result
+        (words_text (codes "request" ∷ token_word token ∷ instance_word instance ∷ id_word method ∷ bytes_word payload.now ∷ [])) f.new }
+{
+    write!(f, "request")?;
+    write_token(f, token)?;
+    write_instance(f, instance)?;
+    write_id(f, method)?;
+    write_bytes(f, payload)
+}
+
+/// An event of an instance.
+fn write_event<W: fmt::Write>(
+    f: &mut fmt::Formatter<W>,
+    instance: InstanceId,
+    event: u16,
+    payload: &[u8],
+) -> fmt::Result
+    ensures { WritesOnOk W.write_str_gives f.old result
+        (words_text (codes "event" ∷ instance_word instance ∷ id_word event ∷ bytes_word payload.now ∷ [])) f.new }
+{
+    write!(f, "event")?;
+    write_instance(f, instance)?;
+    write_id(f, event)?;
+    write_bytes(f, payload)
+}
+
+/// An offer that is known.
+fn write_known<W: fmt::Write>(
+    f: &mut fmt::Formatter<W>,
+    instance: InstanceId,
+    endpoint: SocketAddrV4,
+) -> fmt::Result
+    ensures { WritesOnOk W.write_str_gives f.old result
+        (words_text (codes "known" ∷ instance_word instance ∷ socket_v4_text endpoint ∷ [])) f.new }
+{
+    write!(f, "known")?;
+    write_instance(f, instance)?;
+    write_endpoint(f, endpoint)
+}
+
+/// A subscription that was acknowledged.
+fn write_subscribed<W: fmt::Write>(
+    f: &mut fmt::Formatter<W>,
+    eventgroup: Eventgroup,
+    counter: SubscriptionCounter,
+) -> fmt::Result
+    ensures { WritesOnOk W.write_str_gives f.old result
+        (words_text (codes "subscribed" ∷ instance_word eventgroup.instance ∷ id_word eventgroup.id ∷ decimal counter ∷ [])) f.new }
+{
+    write!(f, "subscribed")?;
+    write_eventgroup(f, eventgroup)?;
+    write!(f, " {}", counter.number())
+}
+
+/// A Subscribe that was accepted.
+fn write_accepted<W: fmt::Write>(
+    f: &mut fmt::Formatter<W>,
+    eventgroup: Eventgroup,
+    endpoint: SocketAddrV4,
+    counter: SubscriptionCounter,
+) -> fmt::Result
+    ensures { WritesOnOk W.write_str_gives f.old result
+        (words_text (codes "accepted" ∷ instance_word eventgroup.instance ∷ id_word eventgroup.id ∷ socket_v4_text endpoint ∷ decimal counter ∷ [])) f.new }
+{
+    write!(f, "accepted")?;
+    write_eventgroup(f, eventgroup)?;
+    write_endpoint(f, endpoint)?;
+    write!(f, " {}", counter.number())
+}
+
+/// A Subscribe that was answered by a Nack.
+fn write_nacked<W: fmt::Write>(
+    f: &mut fmt::Formatter<W>,
+    eventgroup: Eventgroup,
+    cause: Cause,
+) -> fmt::Result
+    ensures { WritesOnOk W.write_str_gives f.old result
+        (words_text (codes "nacked" ∷ instance_word eventgroup.instance ∷ id_word eventgroup.id ∷ cause_name cause ∷ [])) f.new }
+{
+    write!(f, "nacked")?;
+    write_eventgroup(f, eventgroup)?;
+    write!(f, " {}", cause.name())
 }
 
 /// A call: its Message ID and its Session ID, each behind a space.
