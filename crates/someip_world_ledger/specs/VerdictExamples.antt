@@ -1,5 +1,6 @@
--- Worked runs over a server a and a client b. Each ends with a delivery, before which b began again and made a call of the key
--- that an earlier call had: an answer, an ERROR or a oneway of the earlier call breaks clean reuse, and one of the later does not.
+-- Worked runs over a server a and a client b, each of which ends with a delivery. Before it b began again, and made a call or a
+-- subscription with the key that an earlier one had: an ERROR, a oneway or an Ack of the earlier one breaks clean reuse, and what is
+-- sent of the later does not. In the last run the segments of two answers to one call are mixed.
 use Rattle.std.specs.Prelude.{◌≡◌, ◌++◌, ℕ, List, [], ◌∷◌, length, replicate, Result, Some}
 use Rattle.someip_rpc.specs.declared.call.CallKind.TheVariants as kinds
 use Rattle.someip_rpc.specs.declared.request.Reply.TheVariants.{Response}

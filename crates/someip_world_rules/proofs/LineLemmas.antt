@@ -1,8 +1,8 @@
 -- Each line of a trace tells of the step of its index.
-use Rattle.std.proofs.Common.{◌≡◌, ℕ, zero, suc, ◌+◌, ◌≤◌, ◌<◌, Bool, true, false, eqb, cond, List, [], ◌∷◌, length, slice_get, Some, Ok, arith, refl, sym, subst, ◌∙◌}
+use Rattle.std.proofs.Common.{◌≡◌, ℕ, zero, suc, ◌+◌, ◌≤◌, ◌<◌, Bool, true, false, eqb, cond, List, [], ◌∷◌, ◌++◌, length, slice_get, Some, Ok, arith, refl, sym, ap, subst, ◌∙◌}
 use Rattle.std.specs.List.{AllByRecursion, Contains, filter}
 use Rattle.std.proofs.lemmas.Bool.{eq-eqb}
-use Rattle.std.proofs.lemmas.List.Elements.{Contains-append_right}
+use Rattle.std.proofs.lemmas.List.Elements.{Contains-append_right, filter_map-append}
 use Rattle.someip_node_rules.specs.declared.config.Config.{Config}
 use Rattle.someip_node_rules.proofs.MemberLemmas.{all_weaker, at_member}
 use Rattle.someip_world_steps.specs.declared.step.Step.{Step}
@@ -11,7 +11,7 @@ use Rattle.someip_world_rules.specs.declared.line.Line.{Line}
 use Rattle.someip_world_rules.specs.Runs.{run_of, world_of}
 use Rattle.someip_world_rules.specs.Turns.{IsOfStep}
 use Rattle.someip_world_rules.proofs.Fronts.{got}
-use Rattle.someip_world_rules.proofs.TurnLemmas.{AreWithin, ends_in, told_more, told_turn}
+use Rattle.someip_world_rules.proofs.TurnLemmas.{AreWithin, ends_in, told_in_front, told_more, told_turn}
 
 -- what passes a test and is among some is among those that pass it
 pub kept : {X : Type 0} (p : X → Bool) (xs : List X) (x : X) → Contains xs x → p x ≡ true → Contains (filter p xs) x
@@ -55,3 +55,23 @@ module _ (nodes : List SetupNode) (configs : List Config) (steps : List Step) (l
       cases : (k : ℕ) → line.step ≡ k → 1 ≤ line.step → line.step < 1 + length steps → IsOfStep nodes configs steps line
       cases zero e low high = absurd (omega (arith, e, low))
       cases (suc i) e low high = let one = got steps i (omega (arith, e, high)) in at_step i one.0 is one.1 among (omega (arith, e))
+
+-- ---- what was told before a step
+
+-- what stands in a list stands there in a longer one
+get_front : {X : Type 0} (xs ys : List X) (n : ℕ) (x : X) → slice_get xs n ≡ Some x → slice_get (xs ++ ys) n ≡ Some x
+get_front [] ys n x is = absurd cc
+get_front (y ∷ xs) ys zero x is = is
+get_front (y ∷ xs) ys (suc n) x is = get_front xs ys n x is
+
+-- so a datagram has its number in more lines
+still_numbered : (before more : List Line) (number : ℕ) (d : Dispatch) → dispatch_at before number ≡ Some d → dispatch_at (before ++ more) number ≡ Some d
+still_numbered before more zero d is = absurd cc
+still_numbered before more (suc n) d is =
+    ap (λ ds. slice_get ds n) (filter_map-append dispatch_in before more) ∙ get_front (dispatches_in before) (dispatches_in more) n d is
+
+pub numbered_in_trace : (nodes : List SetupNode) (configs : List Config) (steps : List Step) (lines : List Line) (i : ℕ) (s : Step) (t : Turn nodes configs steps i s)
+    → run_of nodes configs steps ≡ Ok lines → (number : ℕ) (d : Dispatch) → dispatch_at t.before.lines number ≡ Some d → dispatch_at lines number ≡ Some d
+numbered_in_trace nodes configs steps lines i s t is number d at =
+    let front = told_in_front nodes configs steps lines i s is t in
+    ap (λ ls. dispatch_at ls number) front.1 ∙ still_numbered t.before.lines front.0 number d at

@@ -254,6 +254,20 @@ module _ (nodes : List SetupNode) (configs : List Config) (steps : List Step) (l
       (told_within (i + 1) t.place (given_in (done_with t.history t.deed)))
       late.within
 
+  -- what was told before it stands at their front
+  front_of : (final : World) → LeadTo nodes configs steps final → final.lines ≡ lines → (t : Turn nodes configs steps i s) → (more : List Line) × (lines ≡ t.before.lines ++ more)
+  front_of final is ends t =
+      let next : World = world_after (i + 1) t.place t.before t.history (done_with t.history t.deed) in
+      let way = went_through nodes 1 (world_of nodes configs) final steps i s is t.here in
+      let counted : suc i ≡ i + 1 = omega arith in
+      let same : next ≡ way.next = let leads = subst (λ k. LeadTo nodes configs (take k steps) way.next) counted way.leads in let other = t.leads in cc in
+      let late = told_more nodes (i + 1 + 1) way.next final (drop (suc i) steps) way.rest in
+      let own : List Line = told_lines (i + 1) t.place (given_in (done_with t.history t.deed)) in
+      (own ++ late.more, sym ends ∙ late.is ∙ ap (λ x. x.lines ++ late.more) (sym same) ∙ append_assoc t.before.lines own late.more)
+
+  pub told_in_front : run_of nodes configs steps ≡ Ok lines → (t : Turn nodes configs steps i s) → (more : List Line) × (lines ≡ t.before.lines ++ more)
+  told_in_front is t = let end = ends_in nodes configs steps lines is in front_of end.0 end.1 end.2 t
+
   pub told_turn : run_of nodes configs steps ≡ Ok lines → slice_get steps i ≡ Some s → ToldTurn nodes configs steps lines i s
   told_turn is here =
       let end = ends_in nodes configs steps lines is in

@@ -8,18 +8,18 @@ use std::net::SocketAddrV4;
 /// What a line of a trace tells.
 #[derive(Drop)]
 pub enum Told {
-    /// The node gave this.
+    /// The node, or the liar, gave this.
     Gave(Output),
     /// The node refused what the step asked of it, and is as it was.
     Refused(NodeError),
 }
 
-/// A line of a trace: what a node gave in a step.
+/// A line of a trace: what a node or a liar gave in a step.
 #[derive(Drop)]
 pub struct Line {
     /// The step's index, counted from 1.
     pub step: usize,
-    /// The node's place in the setup, counted from 0.
+    /// The place of the node, or of the liar, in the setup, counted from 0.
     pub node: usize,
     /// What is told. The datagrams of a run have numbers: those that its lines tell count from 1.
     pub told: Told,
@@ -30,7 +30,8 @@ pub struct Line {
 pub struct Datagram<'a> {
     /// The endpoint from which it was sent.
     pub from: SocketAddrV4,
-    /// The endpoint to which it was sent: that of a node, or the multicast endpoint of Service Discovery.
+    /// The endpoint to which it was sent: that of a node or the multicast endpoint of Service Discovery, and
+    /// any where a liar sent it.
     pub to: SocketAddrV4,
     /// Its bytes.
     pub bytes: &'a [u8],

@@ -1,6 +1,6 @@
 //! Laws of every run, whatever its nodes, configurations and steps. Each is the contract of a function
 //! that does nothing.
-ghost use Rattle.std.specs.Prelude.{◌≡◌, ◌≢◌, true, ◌<◌, ◌≤◌, ◌^◌, ℕ, List, length, [], ◌∷◌, Option, Some, Ok, slice_get, take};
+ghost use Rattle.std.specs.Prelude.{◌≡◌, ◌≢◌, ◌++◌, true, ◌<◌, ◌≤◌, ◌^◌, ℕ, List, length, [], ◌∷◌, Option, Some, Ok, slice_get, take};
 ghost use Rattle.std.specs.List.{AllByRecursion, Contains};
 ghost use Rattle.std.specs.declared.net.socket_addr.SocketAddrV4.{SocketAddrV4};
 ghost use Rattle.someip_wire.specs.Spelling.{Fits, MessageValue, spelling};
@@ -32,11 +32,11 @@ ghost use Rattle.someip_world_steps.specs.declared.step.Step.{Step};
 ghost use Rattle.someip_world_steps.specs.declared.step.Step.TheVariants.{Publish, PublishTo};
 ghost use Rattle.someip_world_setup.specs.declared.setup_node.SetupNode.{SetupNode};
 ghost use Rattle.someip_world_rules.specs.declared.line.Line.{Line};
-ghost use Rattle.someip_world_rules.specs.Turns.{IsOfRun, IsOfStep, LeadTo, TakesIt, ToldTurn};
+ghost use Rattle.someip_world_rules.specs.Turns.{IsOfRun, IsOfStep, LeadTo, TakesIt, ToldTurn, Turn};
 ghost use Rattle.sd_wire.specs.Kinds.{is_offer};
 ghost use Rattle.someip_world_rules.specs.Announced.{AllFits, FitNodes, FitsStep, IsConfigured, KnowsAsConfigured, KnowsHonestAsConfigured};
 ghost use Rattle.someip_world_rules.specs.Liars.{HasNoLiars};
-ghost use Rattle.someip_world_rules.specs.Deliveries.{Restarted, dispatches_in};
+ghost use Rattle.someip_world_rules.specs.Deliveries.{Dispatch, Restarted, dispatch_at, dispatches_in};
 ghost use Rattle.someip_world_rules.specs.Origins.{HasOrigins, WasMet, WasSent};
 ghost use Rattle.someip_world_rules.specs.RunExamples.{CanPublish, GivesJust, subscribed_for};
 ghost use Rattle.someip_world_rules.specs.Runs.{AreCopies, IsRun, World, run_of};
@@ -60,6 +60,19 @@ pub fn each_line_tells_of_its_step()
     ensures { (nodes : List SetupNode) (configs : List Config) (steps : List Step) (lines : List Line)
         (line : Line) → run_of nodes configs steps ≡ Ok lines → Contains lines line
         → IsOfStep nodes configs steps line }
+{}
+
+/// What was told before a step of a run stands at the front of its trace. So the datagram of a number that a
+/// step delivers is the datagram of that number in the trace, sent in the step whose line tells of it.
+pub fn a_trace_begins_with_what_was_told()
+    ensures front { (nodes : List SetupNode) (configs : List Config) (steps : List Step)
+        (lines : List Line) (i : ℕ) (s : Step) (turn : Turn nodes configs steps i s)
+        → run_of nodes configs steps ≡ Ok lines → (more : List Line) × (lines ≡ turn.before.lines ++ more) }
+    ensures numbered { (nodes : List SetupNode) (configs : List Config) (steps : List Step)
+        (lines : List Line) (i : ℕ) (s : Step) (turn : Turn nodes configs steps i s)
+        → run_of nodes configs steps ≡ Ok lines → (number : ℕ) (dispatch : Dispatch)
+        → dispatch_at turn.before.lines number ≡ Some dispatch
+        → dispatch_at lines number ≡ Some dispatch }
 {}
 
 /// An event that is published in a run is sent once to each endpoint that is live at its node in that

@@ -3,7 +3,7 @@
 use crate::line::Line;
 use crate::reuse::Reuse;
 
-/// What all nodes gave in a run, and the verdict on it.
+/// What all nodes and liars gave in a run, and the verdict on it.
 #[derive(Drop)]
 pub struct Trace {
     /// What they gave, in the order in which it came.

@@ -61,7 +61,8 @@ module _ (nodes : List SetupNode) (configs : List Config) (steps : List Step) wh
   abbrev pub OffersAreConfigured : ℕ → Type 0
   OffersAreConfigured n = (w : World) → n ≤ length steps → LeadTo nodes configs (take n steps) w → KnowsAsConfigured configs w
 
-  -- keys are reused cleanly in all steps before one, by the verdict: the run is clean, or a later step is the first that breaks it
+  -- by the verdict keys are reused cleanly in the first so many steps: the run has so many, and is clean, or the first step that
+  -- breaks it has an index behind them
   abbrev pub IsCleanUpTo : Reuse → ℕ → Type 0
   IsCleanUpTo Clean n = n ≤ length steps
   IsCleanUpTo (Broken at) n = n < at
@@ -100,8 +101,8 @@ module _ (nodes : List SetupNode) (configs : List Config) (steps : List Step) wh
       × (IsCleanUpTo verdict line.step → IsSafelyAcknowledged nodes configs steps of.n eventgroup counter)
 
   -- A run with a verdict, told by some lines, is safe. Up to the step that the verdict names, or in all steps, each answer and each
-  -- event that is handed up is safe, and each subscription that a client tells of or counts on; and so is what each line tells of.
-  -- In all steps, events go to those who are subscribed, and the offers that nodes know are configured
+  -- event that is handed up is safe, and each subscription that a client tells of or counts on; and so is what each line tells of
+  -- answers, events and subscriptions. In all steps, events go to those who are subscribed, and the offers that nodes know are configured
   pub record IsSafe (lines : List Line) (verdict : Reuse) : Type 0 where
     pub answers : (n : ℕ) → IsCleanUpTo verdict (suc n) → AnswersAreSafe n
     pub events : (n : ℕ) → IsCleanUpTo verdict (suc n) → EventsAreSafe n
@@ -170,7 +171,7 @@ module _ (nodes : List SetupNode) (configs : List Config) (steps : List Step) wh
 
   -- A run with a verdict, told by some lines, is safe among liars. Up to the step that the verdict names, or in all steps, each
   -- answer and each event is safe that is handed up of a message that came from no liar, and each subscription that a client tells
-  -- of or counts on, whose server is no liar; and so is what each line tells of. In all steps, each node sends its events to those
+  -- of or counts on, whose server is no liar; and so is what each line tells of these. In all steps, each node sends its events to those
   -- who are subscribed, and the offers that nodes know from peers that are no liars are configured
   pub record IsSafeAmongLiars (lines : List Line) (verdict : Reuse) : Type 0 where
     pub answers : (n : ℕ) → IsCleanUpTo verdict (suc n) → HonestAnswersAreSafe n

@@ -27,9 +27,10 @@ ghost use Rattle.someip_world_safety.specs.Subscriptions.{HonestSubscriptionsAre
 
 /// A client counts itself subscribed, before each step up to which keys are reused cleanly, only where the
 /// server at which the subscription was begun accepted a Subscribe that belongs to this beginning, and no
-/// exchange of its key was begun since. Where it tells in a step that it is subscribed, by an Ack that came from
-/// a server, that server accepted the Subscribe so. It is no liar, all that is given fits its fields, nodes have
-/// addresses of their own, and none has that of the group.
+/// exchange of its key was begun since. Where it tells that it is subscribed, by an Ack that came from a server,
+/// in a step up to which and with which keys are reused cleanly, that server accepted the Subscribe so. The server
+/// is no liar, all that is given fits its fields, nodes have addresses of their own, and none has that of the
+/// group.
 pub fn subscriptions_were_accepted()
     ensures honest { (nodes : List SetupNode) (configs : List Config) (steps : List Step)
         → AllFits nodes configs steps → HaveOwnAddresses configs → AreOffGroup configs
