@@ -8,8 +8,9 @@ use Rattle.someip_node_rules.proofs.MemberLemmas.{all_weaker, at_member}
 use Rattle.someip_world_steps.specs.declared.step.Step.{Step}
 use Rattle.someip_world_setup.specs.declared.setup_node.SetupNode.{SetupNode}
 use Rattle.someip_world_rules.specs.declared.line.Line.{Line}
+use Rattle.someip_world_rules.specs.Deliveries.{Dispatch, dispatch_at, dispatch_in, dispatches_in}
 use Rattle.someip_world_rules.specs.Runs.{run_of, world_of}
-use Rattle.someip_world_rules.specs.Turns.{IsOfStep}
+use Rattle.someip_world_rules.specs.Turns.{IsOfStep, Turn}
 use Rattle.someip_world_rules.proofs.Fronts.{got}
 use Rattle.someip_world_rules.proofs.TurnLemmas.{AreWithin, ends_in, told_in_front, told_more, told_turn}
 
