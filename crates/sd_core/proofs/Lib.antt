@@ -1,4 +1,3 @@
-pub mod Memory
 pub mod ShownLemmas
 pub mod ChangedLemmas
 pub mod ShownChanges
@@ -8,9 +7,4 @@ pub mod SeekLemmas
 pub mod MomentLemmas
 pub mod OfferLawLemmas
 pub mod FindLawLemmas
-pub mod RunLemmas
-pub mod SubscriberLemmas
-pub mod SubscriptionRunLemmas
 pub mod WishLemmas
-pub mod OctetLemmas
-pub mod PeerLemmas

@@ -1,29 +1,46 @@
--- How wishes are kept: what each waits for, and where those of an instance stand.
-use Rattle.std.specs.Prelude.{ℕ, Bool, List, Option, None}
-use Rattle.std.specs.Option.{option_and_then}
-use Rattle.std.specs.List.{list_any}
-use Rattle.std.specs.Ordering.{eq_by_cmp}
+-- The table of the wishes of a client (SOME/IP Service Discovery Protocol, "Publish/Subscribe"), and where those of an
+-- instance stand in it.
+use Rattle.std.specs.Prelude.{ℕ, Bool, List}
+use Rattle.std.specs.Coded.{Coded}
 use Rattle.std.specs.FinMap as finite
-use Rattle.someip_tables.specs.Deadlines.{millis_of}
+use Rattle.std.specs.FinMap.{FinMap}
+use Rattle.std.specs.List.{filter_map, list_any}
+use Rattle.std.specs.Ordering.{eq_by_cmp}
+use Rattle.std.specs.declared.net.ipv4_addr.Ipv4Addr.{Ipv4Addr}
+use Rattle.someip_tables.specs.Changed.{each_changed}
 use Rattle.someip_tables.specs.Retained.{retain}
-use Rattle.sd_core.specs.declared.keys.InstanceId.{InstanceId}
-use Rattle.sd_core.specs.declared.eventgroup.Eventgroup.{Eventgroup}
-use Rattle.sd_core.specs.declared.wish.Beginning.{Beginning}
-use Rattle.sd_core.specs.declared.wish.Stage.{Stage}
-use Rattle.sd_core.specs.declared.wish.Stage.TheVariants.{Unwished, Waiting, Begun}
-use Rattle.sd_core.specs.declared.wish.Wish.{Wish}
-use Rattle.sd_core.specs.Keys.{instance_cmp}
-use Rattle.sd_core.specs.Wishes.{Wishes, begun_where, has_begun, is_over, is_renewed_by}
+use Rattle.sd_instances.specs.declared.keys.InstanceId.{InstanceId}
+use Rattle.sd_instances.specs.declared.eventgroup.Eventgroup.{Eventgroup}
+use Rattle.sd_instances.specs.Keys.{instance_cmp}
+use Rattle.sd_instances.specs.Eventgroups.{eventgroup_cmp, coded_eventgroup}
+use Rattle.sd_wishes.specs.declared.wish.Beginning.{Beginning}
+use Rattle.sd_wishes.specs.declared.wish.OutgoingSubscribe.{OutgoingSubscribe}
+use Rattle.sd_wishes.specs.declared.wish.Wish.{Wish}
+use Rattle.sd_wishes.specs.Wishes.{coded_wish, ended_wish, has_begun, is_over, is_renewed_by, offered_wish, subscribe_of}
 
--- the moment at which the time of the Ack of a subscription passes
-abbrev pub moment_in : Stage → Option ℕ
-moment_in Unwished = None
-moment_in Waiting = None
-moment_in (Begun beginning) = option_and_then millis_of beginning.until
+-- the eventgroups that were wished, and how far each wish is
+abbrev pub Wishes : Type 0
+Wishes = FinMap eventgroup_cmp Wish
 
--- the moment that a wish waits for
-abbrev pub moment_of : Wish → Option ℕ
-moment_of wish = moment_in wish.stage
+-- its code, by which a proof tells tables apart
+abbrev pub coded_wishes : Coded Wishes
+coded_wishes = finite.code coded_eventgroup coded_wish
+
+-- each wished eventgroup of the instance sends a Subscribe to the peer that offers it
+abbrev pub offered : ℕ → InstanceId → Ipv4Addr → Wishes → Wishes
+offered now instance peer wishes = each_changed (offered_wish now instance peer) wishes
+
+-- the Subscribes that go out to that peer, by rising eventgroup
+abbrev pub subscribes : ℕ → InstanceId → Ipv4Addr → Wishes → List OutgoingSubscribe
+subscribes now instance peer wishes = filter_map (λ e. subscribe_of now instance peer e.0 e.1) (finite.entries wishes)
+
+-- the eventgroups whose subscriptions pass a test
+abbrev pub begun_where : (Eventgroup → Beginning → Bool) → Wishes → Wishes
+begun_where test wishes = retain wishes (λ eventgroup wish. has_begun (test eventgroup) wish.stage)
+
+-- the subscriptions that pass a test end; the wishes stand
+abbrev pub ended_where : (Eventgroup → Beginning → Bool) → Wishes → Wishes
+ended_where test wishes = each_changed (λ eventgroup wish. ended_wish (test eventgroup) wish) wishes
 
 -- an eventgroup is of an instance
 abbrev pub is_of : InstanceId → Eventgroup → Bool

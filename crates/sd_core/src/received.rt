@@ -1,5 +1,5 @@
 //! An Offer as it arrives, and what becomes of it.
-use crate::keys::InstanceId;
+use sd_instances::InstanceId;
 use sd_wire::Ttl;
 use std::net::{Ipv4Addr, SocketAddrV4};
 use thiserror::Error;

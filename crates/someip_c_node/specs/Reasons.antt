@@ -1,7 +1,7 @@
 -- The numbers of reasons.
 use Rattle.std.specs.Prelude.{ℕ}
-use Rattle.sd_core.specs.declared.error.Cause.{Cause}
-use Rattle.sd_core.specs.declared.error.Cause.TheVariants as cause
+use Rattle.sd_subscribers.specs.declared.error.Cause.{Cause}
+use Rattle.sd_subscribers.specs.declared.error.Cause.TheVariants as cause
 use Rattle.someip_rpc.specs.declared.error.DropCause.{DropCause}
 use Rattle.someip_rpc.specs.declared.error.DropCause.TheVariants as answer
 use Rattle.someip_rpc.specs.declared.request.RequestFault.{RequestFault}

@@ -4,7 +4,7 @@ use Rattle.std.proofs.Common.{Bool, IsTrue, IsFalse}
 use Rattle.sd_wire.specs.Fronts.{front_lengths}
 use Rattle.someip_node_rules.specs.Entries.{fronts}
 use Rattle.std.proofs.lemmas.List.{append-nil}
-use Rattle.sd_core.specs.declared.keys.InstanceId.{InstanceId}
+use Rattle.sd_instances.specs.declared.keys.InstanceId.{InstanceId}
 use Rattle.someip_node_rules.specs.declared.config.Config.{Config}
 use Rattle.someip_node_rules.specs.Outcomes.{endings}
 use Rattle.someip_node_rules.specs.Setups.{wanted_instances}
@@ -20,7 +20,7 @@ use Rattle.someip_tp.specs.Parts.{parts_at}
 use Rattle.sd_core.specs.Endings.{ends_at}
 use Rattle.sd_core.specs.OfferTables.{after_tick}
 use Rattle.sd_core.specs.SeekTables.{seek_after_tick}
-use Rattle.sd_core.specs.Wishes.{ended_where}
+use Rattle.sd_core.specs.WishTables.{ended_where}
 use Rattle.someip_node_rules.specs.Setups.{limits_of}
 use Rattle.someip_node_rules.specs.Tables.{passed_instances}
 use Rattle.someip_node_engine.proofs.TableLemmas.{same_tables}

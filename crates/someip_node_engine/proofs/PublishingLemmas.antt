@@ -2,8 +2,8 @@
 use Rattle.std.proofs.Common.{◌≡◌, ℕ, Bool, List, ◌++◌, map, Option, None, Some, Result, Ok, Err, IsSome, refl, sym, ap, subst, ◌∙◌, append-nil}
 use Rattle.std.specs.Option.{option_map}
 use Rattle.std.specs.declared.net.socket_addr.SocketAddrV4.{SocketAddrV4}
-use Rattle.sd_core.specs.SubscriberTables.{endpoints_of}
-use Rattle.sd_core.specs.declared.keys.InstanceId.{InstanceId}
+use Rattle.sd_subscribers.specs.SubscriberTables.{endpoints_of}
+use Rattle.sd_instances.specs.declared.keys.InstanceId.{InstanceId}
 use Rattle.someip_rpc.specs.declared.error.RpcError.{RpcError}
 use Rattle.someip_rpc.specs.declared.publication.Subscriber.{Subscriber}
 use Rattle.someip_rpc.specs.Servers.{Server}

@@ -3,7 +3,7 @@ ghost use Rattle.std.specs.Prelude.{◌≡◌, ◌≤◌, ◌++◌, length, map,
 ghost use Rattle.std.specs.List.{flat_map};
 ghost use Rattle.someip_wire.specs.View.{view};
 ghost use Rattle.someip_tables.specs.Lastings.{unexpired};
-ghost use Rattle.sd_core.specs.SubscriberTables.{endpoints_of};
+ghost use Rattle.sd_subscribers.specs.SubscriberTables.{endpoints_of};
 ghost use Rattle.someip_node_rules.specs.Calls.{eventgroups_of, subscriber_at};
 ghost use Rattle.someip_node_engine.specs.Handled.{Handled};
 ghost use Rattle.someip_node_rules.specs.Inputs as input;

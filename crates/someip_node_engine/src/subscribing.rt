@@ -2,7 +2,7 @@
 ghost use Rattle.std.specs.Prelude.{◌≡◌, ◌++◌, ◌∷◌, [], map, None, IfOk, OnOk, OnErr};
 ghost use Rattle.std.specs.List.{flat_map, fold};
 ghost use Rattle.sd_wire.specs.Values.{view_entry};
-ghost use Rattle.sd_core.specs.SubscriberTables.{nack_cause};
+ghost use Rattle.sd_subscribers.specs.SubscriberTables.{nack_cause};
 ghost use Rattle.someip_node_rules.specs.declared.output.Output.TheVariants.{Accepted, Nacked};
 ghost use Rattle.someip_node_rules.specs.Entries.{ack_entry};
 ghost use Rattle.someip_node_rules.specs.Items.{changed};

@@ -1,7 +1,7 @@
 //! The eventgroups that the application wishes, and the offers that it stops.
 ghost use Rattle.std.specs.Prelude.{◌≡◌, ◌≤◌, length, map, IfOk, OnOk};
 ghost use Rattle.sd_wire.specs.Values.{view_entry};
-ghost use Rattle.sd_core.specs.Wishes.{sent_at_once, wish_of};
+ghost use Rattle.sd_wishes.specs.Wishes.{sent_at_once, wish_of};
 ghost use Rattle.std.specs.FinMap as finite;
 ghost use Rattle.someip_node_rules.specs.Calls.{standing_of, stop_offer_of, stop_subscribe_of, wish_entries_by};
 ghost use Rattle.someip_node_engine.specs.Handled.{Handled};

@@ -33,9 +33,9 @@ use Rattle.sd_wire.proofs.AloneLemmas.{endpoint_fronts}
 use Rattle.sd_wire.proofs.FrontLemmas.{lengths_are}
 use Rattle.sd_session.specs.declared.stamp.Channel.{Channel}
 use Rattle.sd_session.specs.Peers.{may_hold}
-use Rattle.sd_core.specs.declared.eventgroup.Eventgroup as groups
-use Rattle.sd_core.specs.declared.wish.Beginning.{Beginning}
-use Rattle.sd_core.specs.Wishes.{sent_at_once, wish_of}
+use Rattle.sd_instances.specs.declared.eventgroup.Eventgroup as groups
+use Rattle.sd_wishes.specs.declared.wish.Beginning.{Beginning}
+use Rattle.sd_wishes.specs.Wishes.{sent_at_once, wish_of}
 use Rattle.someip_node_rules.specs.declared.config.Config.{Config}
 use Rattle.someip_node_rules.specs.declared.receiver.Receiver.{Receiver}
 use Rattle.someip_node_rules.specs.declared.receiver.Receiver.TheVariants.{Group, Peer}

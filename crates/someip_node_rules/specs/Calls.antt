@@ -12,13 +12,14 @@ use Rattle.someip_wire.specs.Spelling.{MessageValue}
 use Rattle.someip_tables.specs.Endpoints.{endpoint_cmp}
 use Rattle.someip_tables.specs.Lastings.{expired}
 use Rattle.sd_wire.specs.Values.{EntryValue}
-use Rattle.sd_core.specs.declared.eventgroup.Eventgroup.{Eventgroup}
-use Rattle.sd_core.specs.declared.keys.InstanceId.{InstanceId}
-use Rattle.sd_core.specs.declared.wish.Beginning.{Beginning}
+use Rattle.sd_instances.specs.declared.eventgroup.Eventgroup.{Eventgroup}
+use Rattle.sd_instances.specs.declared.keys.InstanceId.{InstanceId}
+use Rattle.sd_wishes.specs.declared.wish.Beginning.{Beginning}
 use Rattle.sd_core.specs.Endings.{ends_at}
-use Rattle.sd_core.specs.Sendings.{due_at}
-use Rattle.sd_core.specs.SubscriberTables.{endpoints_of}
-use Rattle.sd_core.specs.Wishes.{begun_where, sent_at_once, standing, wish_of}
+use Rattle.sd_instances.specs.Sendings.{due_at}
+use Rattle.sd_subscribers.specs.SubscriberTables.{endpoints_of}
+use Rattle.sd_wishes.specs.Wishes.{sent_at_once, standing, wish_of}
+use Rattle.sd_core.specs.WishTables.{begun_where}
 use Rattle.someip_rpc.specs.declared.call.Call.{Call}
 use Rattle.someip_rpc.specs.declared.call.CallKind.{CallKind}
 use Rattle.someip_rpc.specs.declared.error.RpcError.{RpcError}

@@ -28,7 +28,7 @@ use Rattle.sd_wire.specs.Values.{ReadValue, SdValue, good, bad_run}
 use Rattle.sd_session.specs.declared.stamp.Channel.{Channel}
 use Rattle.sd_session.specs.declared.stamp.Channel.TheVariants.{Multicast, Unicast}
 use Rattle.sd_session.specs.Peers.{may_hold}
-use Rattle.sd_core.specs.declared.keys.InstanceId.{InstanceId}
+use Rattle.sd_instances.specs.declared.keys.InstanceId.{InstanceId}
 use Rattle.someip_node_rules.specs.declared.config.Config.{Config}
 use Rattle.someip_node_rules.specs.declared.drops.DropReason.TheVariants.{BadRun, NoPort, NotSd, Own, PeersFull, Sd, Tp, Wire}
 use Rattle.someip_node_rules.specs.declared.target.Target.{Target}

@@ -9,13 +9,13 @@ use Rattle.std.specs.declared.net.socket_addr.SocketAddrV4.{SocketAddrV4}
 use Rattle.sd_wire.specs.declared.entry.EventgroupEntry.{EventgroupEntry}
 use Rattle.sd_wire.specs.declared.entry.ServiceEntry.{ServiceEntry}
 use Rattle.sd_wire.specs.Values.{EntryValue}
-use Rattle.sd_core.specs.declared.error.Cause.{Cause}
-use Rattle.sd_core.specs.declared.keys.InstanceId.{InstanceId}
-use Rattle.sd_core.specs.declared.subscribe.Subscribe.{Subscribe}
-use Rattle.sd_core.specs.declared.subscribe.SubscribeRules.{SubscribeRules}
+use Rattle.sd_subscribers.specs.declared.error.Cause.{Cause}
+use Rattle.sd_instances.specs.declared.keys.InstanceId.{InstanceId}
+use Rattle.sd_subscribers.specs.declared.subscribe.Subscribe.{Subscribe}
+use Rattle.sd_subscribers.specs.declared.subscribe.SubscribeRules.{SubscribeRules}
 use Rattle.sd_core.specs.declared.version.Sought.{Sought}
 use Rattle.sd_core.specs.OfferTables.{answering}
-use Rattle.sd_core.specs.SubscriberTables.{nack_cause, subscription_at}
+use Rattle.sd_subscribers.specs.SubscriberTables.{nack_cause, subscription_at}
 use Rattle.someip_node_rules.specs.declared.config.OfferedService.{OfferedService}
 use Rattle.someip_node_rules.specs.declared.drops.DropReason.TheVariants.{NoEndpoint}
 use Rattle.someip_node_rules.specs.declared.output.Output.TheVariants.{Accepted, Nacked}

@@ -11,7 +11,7 @@ use Rattle.someip_node_rules.specs.Steps.{NodeView, StandsFor}
 use Rattle.someip_node_rules.specs.Copies.{IsCopy, IsCopyOfOffer, IsCopyOfWant}
 use Rattle.someip_node_rules.specs.declared.config.OfferedService.{OfferedService}
 use Rattle.someip_node_rules.specs.declared.config.WantedService.{WantedService}
-use Rattle.sd_core.specs.declared.keys.InstanceId.{InstanceId}
+use Rattle.sd_instances.specs.declared.keys.InstanceId.{InstanceId}
 use Rattle.someip_node_rules.specs.declared.config.Config.{Config}
 use Rattle.someip_node_rules.specs.declared.error.NodeError.{NodeError}
 use Rattle.someip_node_rules.specs.declared.output.Output.{Output}

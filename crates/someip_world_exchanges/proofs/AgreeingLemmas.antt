@@ -4,8 +4,8 @@ use Rattle.std.specs.List.{AllByRecursion, Contains, fold}
 use Rattle.std.specs.Option.{option_map_or}
 use Rattle.std.proofs.lemmas.List.Elements.{Contains-append_cases, Contains-append_left, Contains-append_right}
 use Rattle.std.specs.declared.net.ipv4_addr.Ipv4Addr.{Ipv4Addr}
-use Rattle.sd_core.specs.declared.eventgroup.Eventgroup.{Eventgroup}
-use Rattle.sd_core.specs.declared.wish.Beginning.{Beginning}
+use Rattle.sd_instances.specs.declared.eventgroup.Eventgroup.{Eventgroup}
+use Rattle.sd_wishes.specs.declared.wish.Beginning.{Beginning}
 use Rattle.someip_node_rules.specs.History.{History, answers_of, historic, met}
 use Rattle.someip_node_rules.specs.Items.{Item}
 use Rattle.someip_node_rules.specs.Plans.{Rule, Work, does, rule}

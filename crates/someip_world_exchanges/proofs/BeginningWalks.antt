@@ -10,7 +10,7 @@ use Rattle.sd_wire.specs.Fronts.{front_lengths, fronts_of}
 use Rattle.sd_wire.specs.Splitting.{AreFronts}
 use Rattle.sd_wire.specs.Values.{EntryValue}
 use Rattle.sd_wire.proofs.FrontLemmas.{lengths_are}
-use Rattle.sd_core.specs.declared.eventgroup.Eventgroup.{Eventgroup}
+use Rattle.sd_instances.specs.declared.eventgroup.Eventgroup.{Eventgroup}
 use Rattle.sd_core.specs.declared.received.ReceivedOffer.{ReceivedOffer}
 use Rattle.someip_node_rules.specs.Entries.{fronts}
 use Rattle.someip_node_rules.specs.History.{History, answers_of, historic}

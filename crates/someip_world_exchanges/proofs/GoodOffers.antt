@@ -7,8 +7,8 @@ use Rattle.std.specs.Ordering.{nat_cmp}
 use Rattle.std.specs.Option.{IfSome}
 use Rattle.std.proofs.lemmas.Bool.{and_parts, eqb-true}
 use Rattle.std.proofs.lemmas.Map.Views.{IfSome-get}
-use Rattle.sd_core.specs.KeyOrder.{exact_instances, instances_total}
-use Rattle.sd_core.specs.declared.keys.InstanceId.{InstanceId}
+use Rattle.sd_instances.specs.KeyOrder.{exact_instances, instances_total}
+use Rattle.sd_instances.specs.declared.keys.InstanceId.{InstanceId}
 use Rattle.someip_node_rules.specs.declared.config.Config.{Config}
 use Rattle.someip_node_rules.specs.declared.config.OfferedService.{OfferedService}
 use Rattle.someip_node_rules.specs.GoodConfigs.{are_good_methods, has_good_eventgroups, has_own_ports, is_good, is_good_common, is_good_instance, is_good_offer, is_good_port, is_good_want, is_within}

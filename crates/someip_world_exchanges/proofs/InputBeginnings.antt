@@ -29,9 +29,9 @@ use Rattle.sd_wire.specs.Program.{reading}
 use Rattle.sd_wire.specs.Values.{EntryValue, ReadValue, SdValue, good, bad_run}
 use Rattle.sd_session.specs.declared.stamp.Channel.{Channel}
 use Rattle.sd_session.specs.Peers.{may_hold}
-use Rattle.sd_core.specs.declared.eventgroup.Eventgroup.{Eventgroup}
-use Rattle.sd_core.specs.declared.keys.InstanceId.{InstanceId}
-use Rattle.sd_core.specs.declared.wish.Beginning.{Beginning}
+use Rattle.sd_instances.specs.declared.eventgroup.Eventgroup.{Eventgroup}
+use Rattle.sd_instances.specs.declared.keys.InstanceId.{InstanceId}
+use Rattle.sd_wishes.specs.declared.wish.Beginning.{Beginning}
 use Rattle.someip_node_rules.specs.declared.config.OfferedService.{OfferedService}
 use Rattle.someip_node_rules.specs.declared.config.WantedService.{WantedService}
 use Rattle.someip_node_rules.specs.declared.drops.DropReason.TheVariants.{NoPort, NotSd, Own, PeersFull}

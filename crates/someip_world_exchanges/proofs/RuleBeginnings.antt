@@ -12,18 +12,18 @@ use Rattle.std.specs.declared.net.socket_addr.SocketAddrV4.{SocketAddrV4}
 use Rattle.someip_tables.proofs.Entries.{same_by_test}
 use Rattle.someip_tables.proofs.Trees.{get-map_of}
 use Rattle.sd_wire.specs.Values.{EntryValue}
-use Rattle.sd_core.specs.declared.eventgroup.Eventgroup.{Eventgroup}
-use Rattle.sd_core.specs.declared.keys.InstanceId.{InstanceId}
+use Rattle.sd_instances.specs.declared.eventgroup.Eventgroup.{Eventgroup}
+use Rattle.sd_instances.specs.declared.keys.InstanceId.{InstanceId}
 use Rattle.sd_core.specs.declared.received.KnownOffer.{KnownOffer}
 use Rattle.sd_core.specs.declared.received.ReceivedOffer.{ReceivedOffer}
 use Rattle.sd_core.specs.declared.received.Uncounted.{Uncounted}
 use Rattle.sd_core.specs.declared.received.Uncounted.TheVariants.{Unwanted}
 use Rattle.sd_core.specs.declared.received.Uncounted.TheVariants as left_out
-use Rattle.sd_core.specs.EventgroupOrder.{exact_eventgroups}
-use Rattle.sd_core.specs.KeyOrder.{exact_instances, instances_total}
-use Rattle.sd_core.specs.Keys.{instance_cmp}
+use Rattle.sd_instances.specs.EventgroupOrder.{exact_eventgroups}
+use Rattle.sd_instances.specs.KeyOrder.{exact_instances, instances_total}
+use Rattle.sd_instances.specs.Keys.{instance_cmp}
 use Rattle.sd_core.specs.SeekTables.{known_at, offer_refusal, uncounted}
-use Rattle.sd_core.specs.Wishes.{counter_in, sent_at_once, subscribing, wish_of}
+use Rattle.sd_wishes.specs.Wishes.{counter_in, sent_at_once, subscribing, wish_of}
 use Rattle.someip_node_rules.specs.declared.config.Config.{Config}
 use Rattle.someip_node_rules.specs.declared.config.WantedService.{WantedService}
 use Rattle.someip_node_rules.specs.Calls.{wish_entries, wish_entries_by}

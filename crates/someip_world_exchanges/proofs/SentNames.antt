@@ -38,7 +38,7 @@ use Rattle.someip_world_exchanges.specs.declared.naming.Side.TheVariants.{Answer
 use Rattle.someip_world_exchanges.specs.Openings.{OpensBy}
 use Rattle.someip_world_exchanges.proofs.Among.{among_all, one_among}
 use Rattle.someip_world_exchanges.proofs.CallOpenings.{call_named_opens, opener_of}
-use Rattle.sd_core.specs.declared.keys.InstanceId.{InstanceId}
+use Rattle.sd_instances.specs.declared.keys.InstanceId.{InstanceId}
 use Rattle.someip_rpc.specs.Calls.{kind_of_call}
 use Rattle.someip_rpc.specs.declared.call.CallKind.{CallKind}
 use Rattle.someip_rpc.specs.declared.call.CallKind.TheVariants as calls

@@ -2,7 +2,7 @@
 use Rattle.std.proofs.Common.{◌≡◌, ℕ, List, Option, None, Some, Ok, arith, refl, ap, sym, subst, ◌∙◌}
 use Rattle.std.specs.List.{Contains, flat_map}
 use Rattle.std.specs.declared.net.ipv4_addr.Ipv4Addr.{Ipv4Addr}
-use Rattle.sd_core.specs.declared.eventgroup.Eventgroup.{Eventgroup}
+use Rattle.sd_instances.specs.declared.eventgroup.Eventgroup.{Eventgroup}
 use Rattle.someip_node_rules.specs.declared.error.NodeError.{NodeError}
 use Rattle.someip_node_rules.specs.History.{History, answers_of, historic}
 use Rattle.someip_node_rules.specs.Inputs.{Input, plan_of, refusal_of}

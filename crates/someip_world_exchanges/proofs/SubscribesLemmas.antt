@@ -17,15 +17,16 @@ use Rattle.std.proofs.lemmas.Map.Views.{IfSome-get}
 use Rattle.someip_tables.specs.Distinct.{are_distinct}
 use Rattle.someip_tables.proofs.Entries.{entries_distinct, none_found, own_test, same_by_test}
 use Rattle.sd_wire.specs.Values.{EntryValue}
-use Rattle.sd_core.specs.declared.eventgroup.Eventgroup.{Eventgroup}
-use Rattle.sd_core.specs.declared.keys.InstanceId.{InstanceId}
-use Rattle.sd_core.specs.declared.wish.Beginning.{Beginning}
-use Rattle.sd_core.specs.declared.wish.OutgoingSubscribe.{OutgoingSubscribe}
-use Rattle.sd_core.specs.declared.wish.Wish.{Wish}
-use Rattle.sd_core.specs.EventgroupOrder.{eventgroups_total, exact_eventgroups}
-use Rattle.sd_core.specs.KeyOrder.{exact_instances, instances_total}
-use Rattle.sd_core.specs.Keys.{instance_cmp}
-use Rattle.sd_core.specs.Wishes.{counter_in, first_wish, is_renewed_by, is_wished, subscribe_of, subscribes, subscribing, wish_of}
+use Rattle.sd_instances.specs.declared.eventgroup.Eventgroup.{Eventgroup}
+use Rattle.sd_instances.specs.declared.keys.InstanceId.{InstanceId}
+use Rattle.sd_wishes.specs.declared.wish.Beginning.{Beginning}
+use Rattle.sd_wishes.specs.declared.wish.OutgoingSubscribe.{OutgoingSubscribe}
+use Rattle.sd_wishes.specs.declared.wish.Wish.{Wish}
+use Rattle.sd_instances.specs.EventgroupOrder.{eventgroups_total, exact_eventgroups}
+use Rattle.sd_instances.specs.KeyOrder.{exact_instances, instances_total}
+use Rattle.sd_instances.specs.Keys.{instance_cmp}
+use Rattle.sd_wishes.specs.Wishes.{counter_in, first_wish, is_renewed_by, is_wished, subscribe_of, subscribing, wish_of}
+use Rattle.sd_core.specs.WishTables.{subscribes}
 use Rattle.someip_node_rules.specs.declared.config.Config.{Config}
 use Rattle.someip_node_rules.specs.declared.config.WantedService.{WantedService}
 use Rattle.someip_node_rules.specs.Entries.{subscribe_entry}

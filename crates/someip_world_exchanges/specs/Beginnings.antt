@@ -9,7 +9,7 @@ use Rattle.sd_wire.specs.declared.entry.EntryHead.TheVariants as heads
 use Rattle.sd_wire.specs.declared.entry.EventgroupEntry.{EventgroupEntry}
 use Rattle.sd_wire.specs.Kinds.{is_subscribe}
 use Rattle.sd_wire.specs.Values.{EntryValue}
-use Rattle.sd_core.specs.declared.eventgroup.Eventgroup.{Eventgroup}
+use Rattle.sd_instances.specs.declared.eventgroup.Eventgroup.{Eventgroup}
 use Rattle.someip_node_rules.specs.Learning.{eventgroup_in}
 use Rattle.someip_node_rules.specs.Outputs.{Given, Announces, Sends, Tells}
 use Rattle.someip_node_rules.specs.WishQuestions.{same_eventgroup}

@@ -9,9 +9,9 @@ use Rattle.std.specs.declared.net.ipv4_addr.Ipv4Addr.{Ipv4Addr}
 use Rattle.std.specs.declared.net.socket_addr.SocketAddrV4.{SocketAddrV4}
 use Rattle.someip_tables.specs.Endpoints.{address_cmp, endpoint_cmp}
 use Rattle.someip_tables.specs.EndpointOrder.{addresses_total, exact_addresses, endpoints_total, exact_endpoints, exact_pair}
-use Rattle.sd_core.specs.declared.eventgroup.Eventgroup.{Eventgroup}
-use Rattle.sd_core.specs.EventgroupOrder.{eventgroups_total, exact_eventgroups}
-use Rattle.sd_core.specs.Eventgroups.{eventgroup_cmp}
+use Rattle.sd_instances.specs.declared.eventgroup.Eventgroup.{Eventgroup}
+use Rattle.sd_instances.specs.EventgroupOrder.{eventgroups_total, exact_eventgroups}
+use Rattle.sd_instances.specs.Eventgroups.{eventgroup_cmp}
 use Rattle.someip_rpc.specs.declared.ids.MessageId.{MessageId}
 use Rattle.someip_rpc.specs.IdOrder.{messages_total, exact_messages}
 use Rattle.someip_rpc.specs.Ids.{message_cmp}

@@ -6,7 +6,7 @@ ghost use Rattle.std.specs.Net.Socket.{v4_ip};
 ghost use Rattle.std.specs.declared.net.ipv4_addr.Ipv4Addr.{Ipv4Addr};
 ghost use Rattle.std.specs.declared.net.socket_addr.SocketAddrV4.{SocketAddrV4};
 ghost use Rattle.someip_wire.specs.Spelling.{MessageValue};
-ghost use Rattle.sd_core.specs.declared.eventgroup.Eventgroup.{Eventgroup};
+ghost use Rattle.sd_instances.specs.declared.eventgroup.Eventgroup.{Eventgroup};
 ghost use Rattle.someip_node_rules.specs.History.{History};
 ghost use Rattle.someip_node_rules.specs.Inputs.{Input};
 ghost use Rattle.someip_node_rules.specs.Outputs as outputs;

@@ -6,7 +6,7 @@ use Rattle.std.specs.Option.{option_map}
 use Rattle.someip_wire.specs.Spelling.{MessageValue}
 use Rattle.someip_tp.specs.Sent.{is_long}
 use Rattle.someip_tp.specs.declared.key.ReassemblyKey.{ReassemblyKey}
-use Rattle.sd_core.specs.declared.eventgroup.Eventgroup.{Eventgroup}
+use Rattle.sd_instances.specs.declared.eventgroup.Eventgroup.{Eventgroup}
 use Rattle.someip_rpc.specs.Sessions.{session_after, session_after_last}
 use Rattle.someip_rpc.specs.declared.ids.EventId.{EventId}
 use Rattle.someip_node_rules.specs.CallQuestions.{times_published}

@@ -6,7 +6,7 @@ use Rattle.std.specs.List.{list_any}
 use Rattle.std.specs.Ordering.{nat_cmp}
 use Rattle.std.specs.Option.{option_map_or}
 use Rattle.std.specs.Cmp.Lexicographic.{slice_cmp}
-use Rattle.sd_core.specs.Eventgroups.{eventgroup_cmp}
+use Rattle.sd_instances.specs.Eventgroups.{eventgroup_cmp}
 use Rattle.someip_rpc.specs.Ids as rpc
 use Rattle.someip_world_steps.specs.declared.step.Step.{Step}
 use Rattle.someip_world_steps.specs.declared.step.Step.TheVariants as steps

@@ -1,6 +1,6 @@
 //! Which exchanges a step opens.
 ghost use Rattle.std.specs.Prelude.{◌≡◌, OnOk};
-ghost use Rattle.sd_core.specs.Eventgroups.{eventgroup_cmp};
+ghost use Rattle.sd_instances.specs.Eventgroups.{eventgroup_cmp};
 ghost use Rattle.someip_tables.specs.Tables.{map_of};
 ghost use Rattle.someip_world_ledger.specs.Booking.{opened_by, opened_by_all, subscribed};
 ghost use Rattle.someip_world_ledger.specs.Views.{view_openings};

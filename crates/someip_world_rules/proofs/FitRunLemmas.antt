@@ -19,7 +19,7 @@ use Rattle.sd_wire.specs.Splitting.{FitsDatagram}
 use Rattle.sd_wire.specs.Values.{EntryValue, good}
 use Rattle.sd_wire.specs.Writing.{EntryFits}
 use Rattle.sd_session.specs.declared.stamp.Stamp.{Stamp}
-use Rattle.sd_core.specs.declared.keys.InstanceId.{InstanceId}
+use Rattle.sd_instances.specs.declared.keys.InstanceId.{InstanceId}
 use Rattle.someip_node_rules.specs.declared.config.Config.{Config}
 use Rattle.someip_node_rules.specs.declared.config.OfferedService.{OfferedService}
 use Rattle.someip_node_rules.specs.declared.config.WantedService.{WantedService}

@@ -9,7 +9,7 @@ use Rattle.sd_wire.specs.declared.entry.EntryHead.TheVariants.{Service}
 use Rattle.sd_wire.specs.Endpoints.{first_udp_endpoint, options_of}
 use Rattle.sd_wire.specs.Kinds.{is_offer}
 use Rattle.sd_wire.specs.Values.{EntryValue}
-use Rattle.sd_core.specs.declared.keys.InstanceId.{InstanceId}
+use Rattle.sd_instances.specs.declared.keys.InstanceId.{InstanceId}
 use Rattle.sd_core.specs.declared.received.KnownOffer.{KnownOffer}
 use Rattle.someip_node_rules.specs.History.{History}
 use Rattle.someip_node_rules.specs.Inputs.{Datagram}

@@ -3,8 +3,8 @@
 ghost use Rattle.std.specs.Prelude.{◌≡◌, ◌≤◌, ℕ, true, false, nat_lt, List, length, take, slice_get, Some, Ok, Err};
 ghost use Rattle.std.specs.Net.Socket.{v4_ip};
 ghost use Rattle.std.specs.declared.net.socket_addr.SocketAddrV4.{SocketAddrV4};
-ghost use Rattle.sd_core.specs.declared.eventgroup.Eventgroup.{Eventgroup};
-ghost use Rattle.sd_core.specs.declared.keys.InstanceId.{InstanceId};
+ghost use Rattle.sd_instances.specs.declared.eventgroup.Eventgroup.{Eventgroup};
+ghost use Rattle.sd_instances.specs.declared.keys.InstanceId.{InstanceId};
 ghost use Rattle.someip_rpc.specs.declared.call.CallKind.{CallKind};
 ghost use Rattle.someip_rpc.specs.declared.request.Reply.{Reply};
 ghost use Rattle.someip_node_rules.specs.History.{History};

@@ -9,8 +9,8 @@ use Rattle.someip_tables.specs.EndpointOrder.{exact_addresses}
 use Rattle.sd_wire.specs.declared.entry.EventgroupEntry.{EventgroupEntry}
 use Rattle.sd_wire.specs.Kinds.{is_ack, is_subscribe}
 use Rattle.sd_wire.specs.Values.{EntryValue}
-use Rattle.sd_core.specs.declared.eventgroup.Eventgroup.{Eventgroup}
-use Rattle.sd_core.specs.SubscriberTables.{subscription_at}
+use Rattle.sd_instances.specs.declared.eventgroup.Eventgroup.{Eventgroup}
+use Rattle.sd_subscribers.specs.SubscriberTables.{subscription_at}
 use Rattle.someip_node_rules.specs.declared.config.Config.{Config}
 use Rattle.someip_node_rules.specs.Bringing.{Brings, WasBrought}
 use Rattle.someip_node_rules.specs.Handling.{same_address}

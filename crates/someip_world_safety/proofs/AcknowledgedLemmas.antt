@@ -5,12 +5,12 @@ use Rattle.std.proofs.lemmas.Bool.{ltb-false, ltb-true}
 use Rattle.std.specs.Net.Socket.{v4_ip}
 use Rattle.std.specs.declared.net.ipv4_addr.Ipv4Addr.{Ipv4Addr}
 use Rattle.sd_wire.specs.declared.entry.EventgroupEntry.{EventgroupEntry}
-use Rattle.sd_core.specs.declared.eventgroup.Eventgroup.{Eventgroup}
-use Rattle.sd_core.specs.declared.wish.Acked.TheVariants as acked_as
-use Rattle.sd_core.specs.declared.wish.Beginning.{Beginning}
-use Rattle.sd_core.specs.declared.wish.Stage.TheVariants.{Begun}
-use Rattle.sd_core.specs.declared.wish.SubscribeAnswer.{SubscribeAnswer}
-use Rattle.sd_core.specs.Wishes.{is_subscribed, told_by_ack}
+use Rattle.sd_instances.specs.declared.eventgroup.Eventgroup.{Eventgroup}
+use Rattle.sd_wishes.specs.declared.wish.Acked.TheVariants as acked_as
+use Rattle.sd_wishes.specs.declared.wish.Beginning.{Beginning}
+use Rattle.sd_wishes.specs.declared.wish.Stage.TheVariants.{Begun}
+use Rattle.sd_wishes.specs.declared.wish.SubscribeAnswer.{SubscribeAnswer}
+use Rattle.sd_wishes.specs.Wishes.{is_subscribed, told_by_ack}
 use Rattle.someip_node_rules.specs.declared.config.Config.{Config}
 use Rattle.someip_node_rules.specs.declared.output.Output.TheVariants.{Subscribed}
 use Rattle.someip_node_rules.specs.Bringing.{Brings}

@@ -17,7 +17,7 @@ use Rattle.someip_tp.specs.SegmentOffers.{SegmentOffer, judgement, message_at, o
 use Rattle.someip_tp.specs.Keys.{segment_key}
 use Rattle.someip_tp.specs.TpHeader.{segment_in}
 use Rattle.sd_wire.specs.Values.{EntryValue}
-use Rattle.sd_core.specs.declared.keys.InstanceId.{InstanceId}
+use Rattle.sd_instances.specs.declared.keys.InstanceId.{InstanceId}
 use Rattle.someip_rpc.specs.Answers.{answer_drop}
 use Rattle.someip_rpc.specs.declared.error.DropCause.{DropCause}
 use Rattle.someip_rpc.specs.declared.ids.MessageId.{MessageId}

@@ -11,14 +11,14 @@ use Rattle.std.specs.declared.net.socket_addr.SocketAddrV4.{SocketAddrV4}
 use Rattle.someip_tables.proofs.Entries.{same_by_test}
 use Rattle.someip_tables.specs.EndpointOrder.{exact_addresses}
 use Rattle.sd_wire.specs.declared.entry.EventgroupEntry.{EventgroupEntry}
-use Rattle.sd_core.specs.declared.eventgroup.Eventgroup.{Eventgroup}
+use Rattle.sd_instances.specs.declared.eventgroup.Eventgroup.{Eventgroup}
 use Rattle.sd_core.specs.declared.received.ReceivedOffer.{ReceivedOffer}
 use Rattle.sd_core.specs.declared.received.Uncounted.{Uncounted}
 use Rattle.sd_core.specs.declared.received.Uncounted.TheVariants as left_out
-use Rattle.sd_core.specs.declared.wish.Beginning.{Beginning}
-use Rattle.sd_core.specs.declared.wish.SubscribeAnswer.{SubscribeAnswer}
+use Rattle.sd_wishes.specs.declared.wish.Beginning.{Beginning}
+use Rattle.sd_wishes.specs.declared.wish.SubscribeAnswer.{SubscribeAnswer}
 use Rattle.sd_core.specs.SeekTables.{uncounted}
-use Rattle.sd_core.specs.Wishes.{is_over, is_with}
+use Rattle.sd_wishes.specs.Wishes.{is_over, is_with}
 use Rattle.someip_node_rules.specs.Bringing.{WasBrought}
 use Rattle.someip_node_rules.specs.History.{History, answers_of, met}
 use Rattle.someip_node_rules.specs.Inputs.{Input}

@@ -13,18 +13,19 @@ use Rattle.someip_tables.specs.Distinct.{are_distinct}
 use Rattle.someip_tables.specs.EndpointOrder.{exact_addresses}
 use Rattle.someip_tables.proofs.Entries.{entries_distinct, none_found, own_test, same_by_test}
 use Rattle.sd_wire.specs.Values.{EntryValue}
-use Rattle.sd_core.specs.declared.eventgroup.Eventgroup.{Eventgroup}
-use Rattle.sd_core.specs.declared.keys.InstanceId.{InstanceId}
+use Rattle.sd_instances.specs.declared.eventgroup.Eventgroup.{Eventgroup}
+use Rattle.sd_instances.specs.declared.keys.InstanceId.{InstanceId}
 use Rattle.sd_core.specs.declared.received.ReceivedOffer.{ReceivedOffer}
-use Rattle.sd_core.specs.declared.wish.Beginning.{Beginning}
-use Rattle.sd_core.specs.declared.wish.OutgoingSubscribe.{OutgoingSubscribe}
-use Rattle.sd_core.specs.declared.wish.Stage.TheVariants.{Begun}
-use Rattle.sd_core.specs.declared.wish.Wish.{Wish}
-use Rattle.sd_core.specs.EventgroupOrder.{eventgroups_total, exact_eventgroups}
-use Rattle.sd_core.specs.Eventgroups.{eventgroup_cmp}
-use Rattle.sd_core.specs.Keys.{instance_cmp}
+use Rattle.sd_wishes.specs.declared.wish.Beginning.{Beginning}
+use Rattle.sd_wishes.specs.declared.wish.OutgoingSubscribe.{OutgoingSubscribe}
+use Rattle.sd_wishes.specs.declared.wish.Stage.TheVariants.{Begun}
+use Rattle.sd_wishes.specs.declared.wish.Wish.{Wish}
+use Rattle.sd_instances.specs.EventgroupOrder.{eventgroups_total, exact_eventgroups}
+use Rattle.sd_instances.specs.Eventgroups.{eventgroup_cmp}
+use Rattle.sd_instances.specs.Keys.{instance_cmp}
 use Rattle.sd_core.specs.SeekTables.{uncounted}
-use Rattle.sd_core.specs.Wishes.{counter_in, is_over, is_renewed_by, is_wished, is_with, stands_with, subscribe_of, subscribes, subscribing, wish_of}
+use Rattle.sd_wishes.specs.Wishes.{counter_in, is_over, is_renewed_by, is_wished, is_with, stands_with, subscribe_of, subscribing, wish_of}
+use Rattle.sd_core.specs.WishTables.{subscribes}
 use Rattle.someip_node_rules.specs.History.{History, answers_of}
 use Rattle.someip_node_rules.specs.Items as items
 use Rattle.someip_node_rules.specs.Items.{Item}

@@ -9,11 +9,11 @@ use Rattle.std.specs.declared.net.socket_addr.SocketAddrV4.{SocketAddrV4}
 use Rattle.someip_tables.proofs.Entries.{same_by_test}
 use Rattle.someip_tables.specs.declared.deadline.Deadline.{Deadline}
 use Rattle.sd_wire.specs.declared.entry.EventgroupEntry.{EventgroupEntry}
-use Rattle.sd_core.specs.declared.eventgroup.Eventgroup.{Eventgroup}
+use Rattle.sd_instances.specs.declared.eventgroup.Eventgroup.{Eventgroup}
 use Rattle.sd_core.specs.declared.received.ReceivedOffer.{ReceivedOffer}
-use Rattle.sd_core.specs.declared.wish.Beginning.{Beginning}
-use Rattle.sd_core.specs.declared.wish.SubscribeAnswer.{SubscribeAnswer}
-use Rattle.sd_core.specs.EventgroupOrder.{exact_eventgroups}
+use Rattle.sd_wishes.specs.declared.wish.Beginning.{Beginning}
+use Rattle.sd_wishes.specs.declared.wish.SubscribeAnswer.{SubscribeAnswer}
+use Rattle.sd_instances.specs.EventgroupOrder.{exact_eventgroups}
 use Rattle.someip_node_rules.specs.declared.config.Config.{Config}
 use Rattle.someip_node_rules.specs.History.{History, met}
 use Rattle.someip_node_rules.specs.Inputs.{plan_of}

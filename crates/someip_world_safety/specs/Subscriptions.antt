@@ -7,8 +7,8 @@ use Rattle.std.specs.declared.net.socket_addr.SocketAddrV4.{SocketAddrV4}
 use Rattle.someip_tables.specs.declared.deadline.Deadline.{Deadline}
 use Rattle.sd_wire.specs.declared.entry.EventgroupEntry.{EventgroupEntry}
 use Rattle.sd_wire.specs.Kinds.{is_subscribe}
-use Rattle.sd_core.specs.declared.eventgroup.Eventgroup.{Eventgroup}
-use Rattle.sd_core.specs.SubscriberTables.{subscription_at}
+use Rattle.sd_instances.specs.declared.eventgroup.Eventgroup.{Eventgroup}
+use Rattle.sd_subscribers.specs.SubscriberTables.{subscription_at}
 use Rattle.someip_node_rules.specs.declared.config.Config.{Config}
 use Rattle.someip_node_rules.specs.History.{History}
 use Rattle.someip_node_rules.specs.Inputs.{Datagram}

@@ -7,8 +7,8 @@ use Rattle.std.specs.Option.{option_map}
 use Rattle.std.specs.Str.Parse.{digits_value}
 use Rattle.hex.specs.Hex.{decode_of, decode_sized}
 use Rattle.std.specs.declared.net.socket_addr.SocketAddrV4.{SocketAddrV4}
-use Rattle.sd_core.specs.declared.keys.InstanceId.{InstanceId}
-use Rattle.sd_core.specs.declared.eventgroup.Eventgroup.{Eventgroup}
+use Rattle.sd_instances.specs.declared.keys.InstanceId.{InstanceId}
+use Rattle.sd_instances.specs.declared.eventgroup.Eventgroup.{Eventgroup}
 use Rattle.someip_wire.specs.declared.header.ReturnCode.{ReturnCode}
 use Rattle.someip_world_steps.specs.declared.step_words.WordFault.{WordFault}
 use Rattle.someip_world_steps.specs.declared.step_words.WordFault.TheVariants.{Bad, OutOfMemory}

@@ -3,7 +3,7 @@ use Rattle.std.proofs.Common.{◌≡◌, ℕ, true, List, [], ◌∷◌, ◌++�
 use Rattle.std.specs.FinMap as finite
 use Rattle.std.specs.List.{AllByRecursion, Contains, cons_option, flat_map}
 use Rattle.std.specs.Option.{option_map_or}
-use Rattle.sd_core.specs.declared.eventgroup.Eventgroup.{Eventgroup}
+use Rattle.sd_instances.specs.declared.eventgroup.Eventgroup.{Eventgroup}
 use Rattle.someip_node_laws.specs.Fitting.{FitsWire}
 use Rattle.someip_node_rules.specs.GoodConfigs.{is_good}
 use Rattle.someip_node_rules.specs.History.{History}

@@ -8,7 +8,7 @@ use Rattle.std.specs.Ordering.{eq_by_cmp}
 use Rattle.std.specs.declared.net.ipv4_addr.Ipv4Addr.{Ipv4Addr}
 use Rattle.std.proofs.lemmas.List.Elements.{Contains-append_cases, Contains-append_left, Contains-append_right, filter-append}
 use Rattle.someip_tables.proofs.Entries.{own_test, same_by_test}
-use Rattle.sd_core.specs.EventgroupOrder.{eventgroups_total, exact_eventgroups}
+use Rattle.sd_instances.specs.EventgroupOrder.{eventgroups_total, exact_eventgroups}
 use Rattle.someip_node_rules.specs.WishQuestions.{same_eventgroup}
 use Rattle.someip_world_exchanges.specs.Beginnings.{SentSubscribe, about, begun_after, counter_after}
 use Rattle.someip_world_exchanges.specs.KeyOrder.{exact_subscriptions, subscription_cmp, subscriptions_total}

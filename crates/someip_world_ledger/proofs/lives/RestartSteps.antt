@@ -8,7 +8,7 @@ use Rattle.someip_node_rules.specs.CallQuestions.{times_published}
 use Rattle.someip_node_rules.specs.Questions.{clock_at}
 use Rattle.someip_node_rules.specs.WishQuestions.{course_at}
 use Rattle.std.specs.Ordering.{nat_cmp}
-use Rattle.sd_core.specs.Eventgroups.{eventgroup_cmp}
+use Rattle.sd_instances.specs.Eventgroups.{eventgroup_cmp}
 use Rattle.someip_rpc.specs.Ids.{event_cmp}
 use Rattle.someip_rpc.specs.Sessions.{session_after, session_after_last}
 use Rattle.someip_node_rules.specs.declared.config.Config.{Config}

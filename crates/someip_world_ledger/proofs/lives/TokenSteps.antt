@@ -4,7 +4,7 @@ use Rattle.std.specs.FinMap as finite
 use Rattle.std.specs.List.{AllZip}
 use Rattle.std.specs.Option.{option_map}
 use Rattle.std.specs.declared.net.socket_addr.SocketAddrV4.{SocketAddrV4}
-use Rattle.sd_core.specs.declared.keys.InstanceId.{InstanceId}
+use Rattle.sd_instances.specs.declared.keys.InstanceId.{InstanceId}
 use Rattle.someip_wire.specs.declared.header.Header.{Header}
 use Rattle.someip_node_rules.specs.declared.output.Output.TheVariants.{Request}
 use Rattle.someip_node_rules.specs.Bringing.{Brings}

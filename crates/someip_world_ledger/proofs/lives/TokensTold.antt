@@ -9,7 +9,7 @@ use Rattle.std.proofs.lemmas.Bool.{or_parts}
 use Rattle.std.proofs.lemmas.List.Elements.{Contains-append_right, Contains-get_or}
 use Rattle.std.proofs.lemmas.Map.Lookups.{exact_unsigned}
 use Rattle.someip_tables.proofs.Entries.{own_test, same_by_test}
-use Rattle.sd_core.specs.declared.keys.InstanceId.{InstanceId}
+use Rattle.sd_instances.specs.declared.keys.InstanceId.{InstanceId}
 use Rattle.someip_node_rules.specs.declared.output.Output.{Output}
 use Rattle.someip_node_rules.specs.declared.output.Output.TheVariants.{Request}
 use Rattle.someip_node_rules.specs.History.{History}

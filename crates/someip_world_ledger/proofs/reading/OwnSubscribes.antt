@@ -5,7 +5,7 @@ use Rattle.std.specs.Net.Socket.{v4_ip}
 use Rattle.std.specs.declared.net.ipv4_addr.Ipv4Addr.{Ipv4Addr}
 use Rattle.std.specs.declared.net.socket_addr.SocketAddrV4.{SocketAddrV4}
 use Rattle.std.proofs.lemmas.Bool.{and_parts}
-use Rattle.sd_core.specs.declared.keys.InstanceId.{InstanceId}
+use Rattle.sd_instances.specs.declared.keys.InstanceId.{InstanceId}
 use Rattle.sd_wire.specs.declared.entry.EntryHead.{EntryHead}
 use Rattle.sd_wire.specs.declared.entry.EntryHead.TheVariants as heads
 use Rattle.sd_wire.specs.declared.entry.EventgroupEntry.{EventgroupEntry}

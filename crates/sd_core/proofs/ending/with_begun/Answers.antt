@@ -6,8 +6,8 @@ use Rattle.std.proofs.lemmas.Iterator.Consumers.{YieldsList-at, YieldsList-from_
 use Rattle.std.specs.BTreeSet.{InsertsAll, IsFromIterResult}
 use Rattle.std.specs.declared.alloc.AllocError.{AllocError}
 use Rattle.someip_tables.specs.Tables.{map_of}
-use Rattle.sd_core.specs.Eventgroups.{eventgroup_cmp}
-use Rattle.sd_core.proofs.SubscriptionRunLemmas.{past_all}
+use Rattle.sd_instances.specs.Eventgroups.{eventgroup_cmp}
+use Rattle.sd_subscribers.proofs.SubscriptionRunLemmas.{past_all}
 use Rattle.sd_core.proofs.WishLemmas.{IsGathered, gathered_none, gathered_more, gathered_all}
 use Rattle.sd_core.proofs.ending.with_begun.Goals as goal
 

@@ -1,8 +1,8 @@
 use Rattle.std.proofs.Common.{◌≡◌, ◌++◌, filter_map, take_while}
 use Rattle.someip_tables.specs.Tables.{map_of}
-use Rattle.sd_core.specs.Eventgroups.{eventgroup_cmp}
-use Rattle.sd_core.specs.Wishes.{subscribe_of, subscribes}
-use Rattle.sd_core.specs.WishTables.{is_of}
+use Rattle.sd_instances.specs.Eventgroups.{eventgroup_cmp}
+use Rattle.sd_wishes.specs.Wishes.{subscribe_of}
+use Rattle.sd_core.specs.WishTables.{subscribes, is_of}
 use Rattle.sd_core.proofs.wish_table.subscribes.Given as goal
 
 -- with those that are left of the instance the list has all

@@ -3,12 +3,12 @@ use Rattle.std.proofs.lemmas.List.{append-nil}
 use Rattle.std.specs.FinMap.{keys}
 use Rattle.someip_tables.specs.Tables.{map_of}
 use Rattle.someip_tables.proofs.SortedEntries.{keys-empty}
-use Rattle.sd_core.specs.declared.wish.Wish.{Wish}
-use Rattle.sd_core.specs.Eventgroups.{eventgroup_cmp}
-use Rattle.sd_core.specs.Wishes.{is_wished}
+use Rattle.sd_wishes.specs.declared.wish.Wish.{Wish}
+use Rattle.sd_instances.specs.Eventgroups.{eventgroup_cmp}
+use Rattle.sd_wishes.specs.Wishes.{is_wished}
 use Rattle.sd_core.specs.WishTables.{is_of}
-use Rattle.sd_core.proofs.Memory.{on_err}
-use Rattle.sd_core.proofs.RunLemmas.{end_run, next_run, not_empty}
+use Rattle.sd_subscribers.proofs.Memory.{on_err}
+use Rattle.sd_subscribers.proofs.RunLemmas.{end_run, next_run, not_empty}
 use Rattle.sd_core.proofs.WishLemmas.{run_keys}
 use Rattle.sd_core.proofs.wish_table.wished_of.Goals as goal
 

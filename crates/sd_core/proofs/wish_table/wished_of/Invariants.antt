@@ -1,8 +1,8 @@
 use Rattle.std.proofs.Common.{◌≡◌, ◌++◌, map, filter, take_while}
 use Rattle.std.specs.FinMap.{keys}
 use Rattle.someip_tables.specs.Tables.{map_of}
-use Rattle.sd_core.specs.Eventgroups.{eventgroup_cmp}
-use Rattle.sd_core.specs.Wishes.{is_wished}
+use Rattle.sd_instances.specs.Eventgroups.{eventgroup_cmp}
+use Rattle.sd_wishes.specs.Wishes.{is_wished}
 use Rattle.sd_core.specs.WishTables.{wished_of, is_of}
 use Rattle.sd_core.proofs.wish_table.wished_of.Given as goal
 
