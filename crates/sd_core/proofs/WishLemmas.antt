@@ -6,7 +6,7 @@ use Rattle.std.specs.declared.cmp.Ordering.{Ordering}
 use Rattle.std.specs.declared.cmp.Ordering.TheVariants.{Less, Equal, Greater}
 use Rattle.std.specs.Ordering.{eq_by_cmp, is_le, nat_cmp, ordering_then, ordering_reverse}
 use Rattle.std.specs.Cmp.{IsTotalOrder}
-use Rattle.std.specs.BTreeSet.{BTreeSet, InsertsAll, IsFromIterResult, IsOrdered}
+use Rattle.std.specs.BTreeSet.{BTreeSet, InsertsAll, IsOrdered}
 use Rattle.std.proofs.lemmas.Bool.{or_left, or_right}
 use Rattle.std.specs.declared.net.ipv4_addr.Ipv4Addr.{Ipv4Addr}
 use Rattle.std.specs.FinMap.{FinMap, IsAntisymmetric, empty, entries, entries_sorted, get, get-empty, keys, same_map, contains_key-keys}
@@ -274,8 +274,9 @@ IsGathered due all rest m n =
     IsOrdered eventgroup_cmp n
     × ((q : Eventgroup) → (list_any (eq_by_cmp eventgroup_cmp q) n.keys || is_some (get (begun_of_any rest m) q)) ≡ (list_any (eq_by_cmp eventgroup_cmp q) due || is_some (get (begun_of_any all m) q)))
 
-pub gathered_none : (due : List Eventgroup) (all : List InstanceId) (m : Wishes) (n : BTreeSet Eventgroup) → IsFromIterResult eventgroup_cmp due n → IsGathered due all all m n
-gathered_none due all m n is = (is.1, λ q. ap (λ b. b || is_some (get (begun_of_any all m) q)) (is.0 q))
+pub gathered_none : (due : List Eventgroup) (all : List InstanceId) (m : Wishes) (old new : BTreeSet Eventgroup) → old.keys ≡ [] → InsertsAll eventgroup_cmp old due new → IsGathered due all all m new
+gathered_none due all m old new none is =
+    (is.1, λ q. ap (λ b. b || is_some (get (begun_of_any all m) q)) (is.0 q ∙ ap (λ ks. list_any (eq_by_cmp eventgroup_cmp q) ks || list_any (eq_by_cmp eventgroup_cmp q) due) none))
 
 pub gathered_more : (due : List Eventgroup) (all : List InstanceId) (instance : InstanceId) (rest : List InstanceId) (m : Wishes) (old new : BTreeSet Eventgroup)
     → IsGathered due all (instance ∷ rest) m old → InsertsAll eventgroup_cmp old (keys (begun_of instance m)) new → IsGathered due all rest m new

@@ -1,6 +1,6 @@
 -- The table of the wishes of a client (SOME/IP Service Discovery Protocol, "Publish/Subscribe"), and where those of an
 -- instance stand in it.
-use Rattle.std.specs.Prelude.{ℕ, Bool, List}
+use Rattle.std.specs.Prelude.{ℕ, Bool, ◌&&◌, List}
 use Rattle.std.specs.Coded.{Coded}
 use Rattle.std.specs.FinMap as finite
 use Rattle.std.specs.FinMap.{FinMap}
@@ -53,6 +53,10 @@ is_of_any instances eventgroup = list_any (eq_by_cmp instance_cmp eventgroup.ins
 -- what no eventgroup of an instance comes before
 abbrev pub least_of : InstanceId → Eventgroup
 least_of instance = record { instance = instance; id = 0 }
+
+-- the eventgroups of an instance whose wishes pass a test
+abbrev pub passing_of : InstanceId → (Wish → Bool) → Wishes → Wishes
+passing_of instance test wishes = retain wishes (λ eventgroup wish. is_of instance eventgroup && test wish)
 
 -- the wished eventgroups of an instance
 abbrev pub wished_of : InstanceId → Wishes → Wishes

@@ -1,6 +1,6 @@
 //! Why subscriptions end, and their end.
 ghost use Rattle.std.specs.Prelude.{◌≡◌, ◌≢◌, ◌||◌, IfOk, OnOk, OnErr, is_some};
-ghost use Rattle.std.specs.BTreeSet.{IsOrdered};
+ghost use Rattle.std.specs.BTreeSet.{InsertsAll, IsOrdered};
 ghost use Rattle.std.specs.FinMap as finite;
 ghost use Rattle.std.specs.List.{list_any};
 ghost use Rattle.std.specs.Ordering.{eq_by_cmp};
@@ -133,9 +133,22 @@ fn with_begun(
         ≡ (list_any (eq_by_cmp eventgroup_cmp q) others.now || is_some
         (finite.get (begun_of_any instances.now (map_of eventgroup_cmp table.now)) q))) }
 {
-    let mut all: BTreeSet<Eventgroup> = others.iter().copied().collect(alloc)?;
+    let mut all = BTreeSet::new(alloc);
+    add_all(&mut all, others)?;
     for instance in instances {
-        all.extend(begun_of(table, alloc, *instance)?)?;
+        let begun = begun_of(table, alloc, *instance)?;
+        add_all(&mut all, &begun)?;
     }
     Ok(all)
+}
+
+/// Adds eventgroups to others.
+fn add_all(all: &mut BTreeSet<Eventgroup>, more: &[Eventgroup]) -> Result<(), AllocError>
+    requires { IsOrdered eventgroup_cmp all.old }
+    ensures { OnOk result (InsertsAll eventgroup_cmp all.old more.now all.new) }
+{
+    for eventgroup in more {
+        all.insert(*eventgroup)?;
+    }
+    Ok(())
 }

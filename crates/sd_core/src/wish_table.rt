@@ -1,17 +1,17 @@
 //! The table of the wishes of a client. Those of an instance stand one after the other in it: what asks
 //! for these looks at no other.
-ghost use Rattle.std.specs.Prelude.{◌≡◌, ◌≢◌, ◌<◌, ◌^◌, [], IfOk, OnErr, filter, length};
+ghost use Rattle.std.specs.Prelude.{◌≡◌, ◌≢◌, ◌<◌, ◌^◌, [], Bool, IfOk, OnErr, filter, length};
 ghost use Rattle.std.specs.FinMap as finite;
 ghost use Rattle.std.specs.Map.Iter.{ShowsInOrder, deref_pair};
 ghost use Rattle.std.specs.Ordering.{is_le};
-ghost use Rattle.someip_tables.specs.Tables.{map_of};
+ghost use Rattle.someip_tables.specs.Tables.{map_of, AnswersAs};
 ghost use Rattle.sd_wishes.specs.declared.wish.Wish.{Wish};
 ghost use Rattle.sd_instances.specs.declared.eventgroup.Eventgroup.{Eventgroup};
 ghost use Rattle.sd_instances.specs.Eventgroups.{eventgroup_cmp};
 ghost use Rattle.sd_wishes.specs.Wishes.{wish_of};
 ghost use Rattle.sd_core.specs.WishTables.{subscribes};
 ghost use Rattle.sd_core.specs.WishTables.{any_begun, any_wished, begun_of, is_of};
-ghost use Rattle.sd_core.specs.WishTables.{least_of, wished_of};
+ghost use Rattle.sd_core.specs.WishTables.{least_of, passing_of, wished_of};
 
 use sd_instances::{Eventgroup, InstanceId};
 use sd_wishes::{OutgoingSubscribe, Wish};
@@ -51,9 +51,10 @@ pub(crate) fn subscribes(
         if !is_of(eventgroup, instance) {
             return Ok(sent);
         }
-        if let Some(subscribe) = wish.subscribe(now, instance, peer, eventgroup) {
-            sent.push(subscribe)?;
-        }
+        let Some(subscribe) = wish.subscribe(now, instance, peer, eventgroup) else {
+            continue;
+        };
+        sent.push(subscribe)?;
     }
     Ok(sent)
 }
@@ -68,16 +69,7 @@ pub(crate) fn wished_of(
         ≡ finite.keys (wished_of instance (map_of eventgroup_cmp table.now))) }
     ensures grows { OnErr result (wished_of instance (map_of eventgroup_cmp table.now) ≢ finite.empty) }
 {
-    let mut wished = Vec::new(alloc);
-    for (eventgroup, wish) in wishes_from(table, instance) {
-        if !is_of(eventgroup, instance) {
-            return Ok(wished);
-        }
-        if wish.stage.is_wished() {
-            wished.push(*eventgroup)?;
-        }
-    }
-    Ok(wished)
+    keys_of(table, alloc, instance, |wish| wish.stage.is_wished())
 }
 
 /// The eventgroups of an instance whose subscriptions were begun, by rising Eventgroup ID.
@@ -90,16 +82,33 @@ pub(crate) fn begun_of(
         ≡ finite.keys (begun_of instance (map_of eventgroup_cmp table.now))) }
     ensures grows { OnErr result (begun_of instance (map_of eventgroup_cmp table.now) ≢ finite.empty) }
 {
-    let mut begun = Vec::new(alloc);
+    keys_of(table, alloc, instance, |wish| wish.stage.is_begun())
+}
+
+/// The eventgroups of an instance whose wishes pass a test, by rising Eventgroup ID.
+fn keys_of<F: Fn(&Wish) -> bool + Drop>(
+    table: &WishTable,
+    alloc: Global,
+    instance: InstanceId,
+    test: F,
+) -> Result<Vec<Eventgroup>, AllocError>
+    requires { F.IsAlwaysCallable test }
+    ensures chosen { (p : Wish → Bool) → AnswersAs F.Fn test p → IfOk result (λ keys. keys.items
+        ≡ finite.keys (passing_of instance p (map_of eventgroup_cmp table.now))) }
+    ensures grows { (p : Wish → Bool) → AnswersAs F.Fn test p
+        → OnErr result (passing_of instance p (map_of eventgroup_cmp table.now) ≢ finite.empty) }
+{
+    let mut keys = Vec::new(alloc);
     for (eventgroup, wish) in wishes_from(table, instance) {
         if !is_of(eventgroup, instance) {
-            return Ok(begun);
+            return Ok(keys);
         }
-        if wish.stage.is_begun() {
-            begun.push(*eventgroup)?;
+        if !test(wish) {
+            continue;
         }
+        keys.push(*eventgroup)?;
     }
-    Ok(begun)
+    Ok(keys)
 }
 
 /// Whether a subscription of an instance was begun.

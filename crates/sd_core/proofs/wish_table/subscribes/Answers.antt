@@ -20,15 +20,15 @@ returns-then-not-is_of-clause-sent c =
     let run = end_run (λ e. is_of c.args.instance e.0) (c.in-Some.eventgroup.now, c.in-Some.wish.now) c.next.new.self c.loop-eventgroup.eventgroup-iterator c.in-Some.ensures.steps no in
     sym (append-nil c.loop-eventgroup.sent.items) ∙ rw run at c.loop-eventgroup.invariant
 
-pub loop-eventgroup-preserved : goal.loop-eventgroup-preserved
-loop-eventgroup-preserved c =
+pub loop-eventgroup-preserved-in_default : goal.loop-eventgroup-preserved-in_default
+loop-eventgroup-preserved-in_default c =
     let of : is_of c.args.instance c.in-Some.eventgroup.now ≡ true = sym c.is_of.ensures ∙ c.if-not-is_of.false in
     let none : subscribe_of c.args.now c.args.instance c.args.peer c.in-Some.eventgroup.now c.in-Some.wish.now ≡ None = sym c.subscribe.ensures ∙ c.in_default.is in
     let run = next_run (λ e. is_of c.args.instance e.0) (c.in-Some.eventgroup.now, c.in-Some.wish.now) c.next.new.self c.loop-eventgroup.eventgroup-iterator c.in-Some.ensures.steps of in
     rw (run, none) at c.loop-eventgroup.invariant
 
-pub loop-eventgroup-preserved-in-Continue-1 : goal.loop-eventgroup-preserved-in-Continue-1
-loop-eventgroup-preserved-in-Continue-1 c =
+pub loop-eventgroup-preserved : goal.loop-eventgroup-preserved
+loop-eventgroup-preserved c =
     let of : is_of c.args.instance c.in-Some.eventgroup.now ≡ true = sym c.is_of.ensures ∙ c.if-not-is_of.false in
     let some : subscribe_of c.args.now c.args.instance c.args.peer c.in-Some.eventgroup.now c.in-Some.wish.now ≡ Some c.in-Some-subscribe.subscribe = sym c.subscribe.ensures ∙ c.in-Some-subscribe.is in
     let run = next_run (λ e. is_of c.args.instance e.0) (c.in-Some.eventgroup.now, c.in-Some.wish.now) c.next.new.self c.loop-eventgroup.eventgroup-iterator c.in-Some.ensures.steps of in
