@@ -1,5 +1,3 @@
-pub mod Memory
-pub mod RunLemmas
 pub mod SubscriberLemmas
 pub mod SubscriptionRunLemmas
 pub mod OctetLemmas

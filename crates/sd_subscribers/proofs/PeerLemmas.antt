@@ -22,7 +22,7 @@ use Rattle.sd_subscribers.specs.SubscriptionKeys.{subscription_cmp}
 use Rattle.sd_subscribers.specs.SubscriptionOrder.{subscriptions_total, exact_subscriptions}
 use Rattle.sd_subscribers.specs.SubscriberTables.{SubscriberMap, is_of_peer}
 use Rattle.sd_subscribers.specs.SubscriptionRuns.{AllHaveOctets, HasOctets, least_of}
-use Rattle.sd_subscribers.proofs.RunLemmas.{less_by_test}
+use Rattle.someip_tables.proofs.RunLemmas.{less_by_test}
 use Rattle.sd_subscribers.proofs.SubscriptionRunLemmas.{le_then, tied_le, place_first}
 
 -- ---- where the subscriptions of a peer stand after another one

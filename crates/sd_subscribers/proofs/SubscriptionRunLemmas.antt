@@ -22,7 +22,7 @@ use Rattle.someip_tables.specs.EndpointOrder.{endpoints_total, exact_endpoints}
 use Rattle.someip_tables.specs.Lastings.{unexpired}
 use Rattle.someip_tables.specs.Retained.{retain}
 use Rattle.someip_tables.proofs.Entries.{own_test, same_by_test, true_from, filter_alike, length-filter_is, from_entries-entries, entries_distinct}
-use Rattle.someip_tables.proofs.Members.{any_filter, any_same}
+use Rattle.someip_tables.proofs.Members.{any_filter, any_same, or_false, or_moved}
 use Rattle.someip_tables.proofs.Sorted.{any-sorted_set, sorted_set-only}
 use Rattle.sd_instances.specs.declared.keys.InstanceId.{InstanceId}
 use Rattle.sd_subscribers.specs.declared.subscription.Subscription.{Subscription}
@@ -32,7 +32,7 @@ use Rattle.sd_subscribers.specs.SubscriptionKeys.{subscription_cmp}
 use Rattle.sd_subscribers.specs.SubscriptionOrder.{subscriptions_total, exact_subscriptions}
 use Rattle.sd_subscribers.specs.SubscriberTables.{SubscriberMap, count_beside, endpoints_of, is_of_instance, is_to, is_to_any}
 use Rattle.sd_subscribers.specs.SubscriptionRuns.{AllHaveOctets, HasOctets, least_to, unspecified}
-use Rattle.sd_subscribers.proofs.RunLemmas.{run_is, filter_twice}
+use Rattle.someip_tables.proofs.RunLemmas.{run_is, filter_twice}
 use Rattle.sd_subscribers.proofs.SubscriberLemmas.{any_endpoint, any_unexpired, others_counted}
 
 pub le_then : (a b : Ordering) → is_le a ≡ true → is_le b ≡ true → is_le (ordering_then a b) ≡ true
@@ -143,10 +143,6 @@ counted_beside s now m octets =
     ∙ ap (λ n. len (retain_keys (retain n (λ _ lasting. not (has_passed now lasting.until))) (λ k. to k && other k))) (from_entries-entries subscriptions_total exact_subscriptions m)
     ∙ others_counted s (unexpired now m)
 
-pub or_false : (b : Bool) → b ≡ (b || false)
-or_false true = refl
-or_false false = refl
-
 -- whether an endpoint is among those to an eventgroup
 pub endpoint_in_run : (instance : InstanceId) (eventgroup : ℕ) (endpoint : SocketAddrV4) (now : ℕ) (m : SubscriberMap) → AllHaveOctets m
     → list_any (λ e. not (has_passed now e.1.until) && eq_by_cmp endpoint_cmp endpoint e.0.endpoint) (take_while (λ e. is_to instance eventgroup e.0) (from_least instance eventgroup m))
@@ -233,10 +229,6 @@ IsCollected instance all rest live n =
     IsOrdered endpoint_cmp n
     × ((q : SocketAddrV4) → (list_any (eq_by_cmp endpoint_cmp q) n.keys || list_any (eq_by_cmp endpoint_cmp q) (endpoints_of instance rest live)) ≡ list_any (eq_by_cmp endpoint_cmp q) (endpoints_of instance all live))
 
-pub or_moved : (a b c d e : Bool) → c ≡ (a || d) → (d || b) ≡ e → (c || b) ≡ (a || e)
-or_moved true b c d e is so = ap (λ x. x || b) is
-or_moved false b c d e is so = ap (λ x. x || b) is ∙ so
-
 pub collected_more : (instance : InstanceId) (all : List ℕ) (g : ℕ) (gs : List ℕ) (live : SubscriberMap) (old new : BTreeSet SocketAddrV4)
     → IsCollected instance all (g ∷ gs) live old → InsertsAll endpoint_cmp old (endpoints_of instance (g ∷ []) live) new → IsCollected instance all gs live new
 collected_more instance all g gs live old new is more =
@@ -260,22 +252,6 @@ past_all {X = X} xs i end = let left = length-drop i xs in none_left (drop i xs)
     none_left : (ys : List X) → length ys ≡ 0 → ys ≡ []
     none_left [] none = refl
     none_left (y ∷ ys) none = absurd (omega arith)
-
--- one is put in
-pub one_moved : (n a t r : Bool) → n ≡ cond t true a → (n || r) ≡ (a || (t || r))
-one_moved n true true r is = ap (λ b. b || r) is
-one_moved n true false r is = ap (λ b. b || r) is
-one_moved n false true r is = ap (λ b. b || r) is
-one_moved n false false r is = ap (λ b. b || r) is
-
-pub endpoints_turned : (a b : SocketAddrV4) → eq_by_cmp endpoint_cmp a b ≡ eq_by_cmp endpoint_cmp b a
-endpoints_turned a b = cases (eq_by_cmp endpoint_cmp a b) (eq_by_cmp endpoint_cmp b a) refl refl
-  where
-    cases : (t u : Bool) → eq_by_cmp endpoint_cmp a b ≡ t → eq_by_cmp endpoint_cmp b a ≡ u → t ≡ u
-    cases true true t u = refl
-    cases false false t u = refl
-    cases true false t u = sym (ap (eq_by_cmp endpoint_cmp b) (same_by_test exact_endpoints a b t) ∙ own_test endpoints_total b) ∙ u
-    cases false true t u = sym t ∙ ap (λ k. eq_by_cmp endpoint_cmp k b) (sym (same_by_test exact_endpoints b a u)) ∙ own_test endpoints_total b
 
 -- one that stands behind others stands among all
 pub any_behind : {X : Type 0} (t : X → Bool) (i : ℕ) (xs : List X) → list_any t (drop i xs) ≡ true → list_any t xs ≡ true

@@ -63,6 +63,15 @@ none_taken p (x ∷ xs) none = take_while-cons p x xs ∙ cases (p x) none
 pub none_at_end : {X : Type 0} (p : X → Bool) (xs : List X) → list_any p xs ≡ false → take_while p (reverse xs) ≡ []
 none_at_end p xs none = none_taken p (reverse xs) (sym (list_any-IsPermutation p xs (reverse xs) (IsPermutation-reverse xs)) ∙ none)
 
+-- the last of a list comes first where it is turned
+pub last_first : {X : Type 0} (xs : List X) (n : ℕ) (x : X) → n + 1 ≡ length xs → x ≡ get_or xs n x → reverse xs ≡ x ∷ reverse (take n xs)
+last_first [] n x len is = absurd (omega (arith, len))
+last_first (y ∷ []) zero x len is = ap (λ z. z ∷ []) (sym is)
+last_first (y ∷ []) (suc n) x len is = absurd (omega (arith, len))
+last_first (y ∷ z ∷ zs) zero x len is = absurd (omega (arith, len))
+last_first (y ∷ z ∷ zs) (suc n) x len is =
+    reverse-append (y ∷ []) (z ∷ zs) ∙ ap (λ l. l ++ y ∷ []) (last_first (z ∷ zs) n x (omega (arith, len)) is) ∙ ap (λ l. x ∷ l) (sym (reverse-append (y ∷ []) (take n (z ∷ zs))))
+
 -- ---- a list that falls rises from its end
 
 all_pushed : {X : Type 0} (P : X → Type 0) (xs : List X) (y : X) → AllByRecursion P xs → P y → AllByRecursion P (xs ++ y ∷ [])

@@ -2,6 +2,7 @@ pub mod Outcomes
 pub mod Entries
 pub mod MapLaws
 pub mod Members
+pub mod RunLemmas
 pub mod Sorted
 pub mod Trees
 pub mod DueLemmas

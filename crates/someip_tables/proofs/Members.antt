@@ -22,6 +22,22 @@ pub any_same : {X : Type 0} (t u : X → Bool) (xs : List X) → ((x : X) → t 
 any_same t u [] same = refl
 any_same t u (x ∷ xs) same = rw (same x) (ap (λ b. u x || b) (any_same t u xs same))
 
+pub or_false : (b : Bool) → b ≡ (b || false)
+or_false true = refl
+or_false false = refl
+
+-- what was found in a part is found, with the rest of it
+pub or_moved : (a b c d e : Bool) → c ≡ (a || d) → (d || b) ≡ e → (c || b) ≡ (a || e)
+or_moved true b c d e is so = ap (λ x. x || b) is
+or_moved false b c d e is so = ap (λ x. x || b) is ∙ so
+
+-- and what is put in
+pub one_moved : (n a t r : Bool) → n ≡ cond t true a → (n || r) ≡ (a || (t || r))
+one_moved n true true r is = ap (λ b. b || r) is
+one_moved n true false r is = ap (λ b. b || r) is
+one_moved n false true r is = ap (λ b. b || r) is
+one_moved n false false r is = ap (λ b. b || r) is
+
 pub both_or_none : (a b : Bool) → (a ≡ true → b ≡ true) → (b ≡ true → a ≡ true) → a ≡ b
 both_or_none true b f g = sym (f refl)
 both_or_none false true f g = g refl

@@ -21,3 +21,8 @@ if_ok_both (Err e) both p q = tt
 
 pub not_none : {X : Type 0} (v : Option X) → is_some v ≡ true → v ≢ None
 not_none v some none = cc
+
+-- what holds where memory ran out, and in any case
+pub on_err : {T E P : Type 0} (r : Result T E) → P → OnErr r P
+on_err (Ok x) p = tt
+on_err (Err e) p = p

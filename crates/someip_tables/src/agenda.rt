@@ -143,10 +143,14 @@ fn last_keys<K: Key>(dues: &[Due<K>], alloc: Global, now: Moment) -> Result<Vec<
     ensures { IfOk result (λ keys. keys.items
         ≡ map (λ due. due.key) (take_while (λ due. nat_le due.at now) (reverse dues.now))) }
 {
-    let millis = now.as_millis();
-    dues.iter()
-        .rev()
-        .take_while(|due| due.at <= millis)
-        .map(|due| due.key)
-        .collect(alloc)
+    let mut keys = Vec::new(alloc);
+    let mut rest = dues;
+    while let [earlier @ .., due] = rest {
+        if now.as_millis() < due.at {
+            return Ok(keys);
+        }
+        keys.push(due.key)?;
+        rest = earlier;
+    }
+    Ok(keys)
 }

@@ -141,11 +141,14 @@ pub(crate) fn expired_keys<K: Key>(
     ensures collected { IfOk result (IsFromIterResult K.cmp
         (map (λ due. due.key) (take_while (λ due. nat_le due.at now) dues.now.keys))) }
 {
-    let millis = now.as_millis();
-    dues.iter()
-        .take_while(|due| due.at <= millis)
-        .map(|due| due.key)
-        .collect(alloc)
+    let mut keys = BTreeSet::new(alloc);
+    for due in dues.iter() {
+        if now.as_millis() < due.at {
+            return Ok(keys);
+        }
+        keys.insert(due.key)?;
+    }
+    Ok(keys)
 }
 
 /// Drops each entry that a test refuses. The test is asked once for each entry.
@@ -190,9 +193,13 @@ pub(crate) fn count_unexpired<K: Key, V, F: Fn(&K) -> bool + Drop>(
     ensures counted { (p : K → Bool) → AnswersAs F.Fn of p → result
         ≡ length (filter (λ e. not (has_passed now e.1.until) && p e.0) held.now.entries) }
 {
-    held.iter()
-        .filter(|(key, lasting)| !lasting.until.has_passed(now) && of(key))
-        .count()
+    let mut count = 0;
+    for (key, lasting) in held.iter() {
+        if !lasting.until.has_passed(now) && of(key) {
+            count += 1;
+        }
+    }
+    count
 }
 
 /// Keeps the deadlines of the keys that the map has.

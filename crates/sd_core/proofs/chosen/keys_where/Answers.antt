@@ -1,7 +1,7 @@
 use Rattle.std.proofs.Common.{◌≡◌, ◌∙◌, true, false, refl, sym}
 use Rattle.std.proofs.lemmas.List.{append-nil}
 use Rattle.someip_tables.proofs.SortedEntries.{keys_chosen, some_chosen}
-use Rattle.sd_subscribers.proofs.Memory.{on_err}
+use Rattle.someip_tables.proofs.Outcomes.{on_err}
 use Rattle.sd_core.proofs.chosen.keys_where.Goals as goal
 
 pub loop-key-init : goal.loop-key-init

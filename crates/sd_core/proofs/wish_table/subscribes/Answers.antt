@@ -4,8 +4,8 @@ use Rattle.someip_tables.specs.Tables.{map_of}
 use Rattle.sd_instances.specs.Eventgroups.{eventgroup_cmp}
 use Rattle.sd_wishes.specs.Wishes.{subscribe_of}
 use Rattle.sd_core.specs.WishTables.{is_of}
-use Rattle.sd_subscribers.proofs.Memory.{on_err}
-use Rattle.sd_subscribers.proofs.RunLemmas.{end_run, next_run, not_empty}
+use Rattle.someip_tables.proofs.Outcomes.{on_err}
+use Rattle.someip_tables.proofs.RunLemmas.{end_run, next_run, not_empty}
 use Rattle.sd_core.proofs.WishLemmas.{run_subscribes}
 use Rattle.sd_core.proofs.wish_table.subscribes.Goals as goal
 

@@ -3,13 +3,16 @@ use Rattle.std.specs.FinMap as finite
 use Rattle.std.specs.List.{list_any}
 use Rattle.std.specs.Ordering.{eq_by_cmp, is_le}
 use Rattle.someip_tables.specs.Deadlines.{has_passed}
+use Rattle.std.specs.Cmp.{eq_by_cmp_equiv}
 use Rattle.someip_tables.specs.Endpoints.{endpoint_cmp}
+use Rattle.someip_tables.specs.EndpointOrder.{endpoints_total}
 use Rattle.someip_tables.specs.Tables.{map_of}
 use Rattle.sd_subscribers.specs.SubscriptionKeys.{subscription_cmp}
 use Rattle.sd_subscribers.specs.SubscriberTables.{is_to}
-use Rattle.sd_subscribers.proofs.Memory.{on_err}
-use Rattle.sd_subscribers.proofs.RunLemmas.{end_run, next_run}
-use Rattle.sd_subscribers.proofs.SubscriptionRunLemmas.{endpoint_in_run, endpoints_turned, live_in_run, one_moved, or_false}
+use Rattle.someip_tables.proofs.Outcomes.{on_err}
+use Rattle.someip_tables.proofs.RunLemmas.{end_run, next_run}
+use Rattle.someip_tables.proofs.Members.{one_moved, or_false}
+use Rattle.sd_subscribers.proofs.SubscriptionRunLemmas.{endpoint_in_run, live_in_run}
 use Rattle.sd_subscribers.proofs.subscriber_table.add_endpoints.Goals as goal
 
 pub loop-one-init : goal.loop-one-init
@@ -35,7 +38,7 @@ loop-one-preserved-in_ok-insert c =
     let run = next_run (λ e. is_to c.args.instance c.args.eventgroup e.0) (c.in-Some.one.now, c.in-Some.lasting.now) c.next.new.self c.loop-one.one-iterator c.in-Some.ensures.steps of in
     let some = rw (run, live) at c.loop-one.invariant.2 in (
       c.insert.ensures.ordered,
-      λ q. one_moved _ _ _ _ (c.in_ok-insert.ensures.updates.0 q ∙ ap (λ b. cond b true (list_any (eq_by_cmp endpoint_cmp q) c.loop-one.endpoints.keys)) (endpoints_turned c.in-Some.one.now.endpoint q)) ∙ rw (run, live) at (c.loop-one.invariant.1 q),
+      λ q. one_moved _ _ _ _ (c.in_ok-insert.ensures.updates.0 q ∙ ap (λ b. cond b true (list_any (eq_by_cmp endpoint_cmp q) c.loop-one.endpoints.keys)) ((eq_by_cmp_equiv endpoints_total).symm c.in-Some.one.now.endpoint q)) ∙ rw (run, live) at (c.loop-one.invariant.1 q),
       λ _. some refl,
     )
 

@@ -5,7 +5,7 @@ use Rattle.someip_tables.specs.Deadlines.{has_passed}
 use Rattle.someip_tables.specs.Tables.{map_of}
 use Rattle.sd_subscribers.specs.SubscriptionKeys.{subscription_cmp}
 use Rattle.sd_subscribers.specs.SubscriberTables.{is_to}
-use Rattle.sd_subscribers.proofs.RunLemmas.{and_false, end_run, next_run}
+use Rattle.someip_tables.proofs.RunLemmas.{and_false, end_run, next_run}
 use Rattle.sd_subscribers.proofs.SubscriptionRunLemmas.{counted_beside}
 use Rattle.sd_subscribers.proofs.subscriber_table.count_beside.Goals as goal
 use Rattle.sd_subscribers.proofs.subscriber_table.count_beside.Goals.{else-is_live-via-then-is_live+else-not-is_same_key, else-is_live-via-else-is_live}

@@ -7,7 +7,7 @@ use Rattle.someip_tables.specs.Tables.{map_of}
 use Rattle.sd_subscribers.specs.SubscriptionKeys.{subscription_cmp}
 use Rattle.sd_subscribers.proofs.SubscriptionRunLemmas.{IsCollected, any_behind, any_of_several, collected_all, collected_more, past_all}
 use Rattle.sd_subscribers.specs.SubscriberTables.{is_to}
-use Rattle.sd_subscribers.proofs.Memory.{on_err}
+use Rattle.someip_tables.proofs.Outcomes.{on_err}
 use Rattle.sd_subscribers.proofs.SubscriberLemmas.{some_endpoints}
 use Rattle.sd_subscribers.proofs.subscriber_table.endpoints.Goals as goal
 

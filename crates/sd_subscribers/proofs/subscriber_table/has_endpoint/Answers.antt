@@ -6,7 +6,7 @@ use Rattle.someip_tables.specs.Endpoints.{endpoint_cmp}
 use Rattle.someip_tables.specs.Tables.{map_of}
 use Rattle.sd_subscribers.specs.SubscriptionKeys.{subscription_cmp}
 use Rattle.sd_subscribers.specs.SubscriberTables.{is_to}
-use Rattle.sd_subscribers.proofs.RunLemmas.{and_false, end_run, next_run}
+use Rattle.someip_tables.proofs.RunLemmas.{and_false, end_run, next_run}
 use Rattle.sd_subscribers.proofs.SubscriptionRunLemmas.{endpoint_in_run}
 use Rattle.sd_subscribers.proofs.subscriber_table.has_endpoint.Goals as goal
 use Rattle.sd_subscribers.proofs.subscriber_table.has_endpoint.Goals.{else-is_live-via-then-is_live+else-is_same_key, else-is_live-via-else-is_live}
