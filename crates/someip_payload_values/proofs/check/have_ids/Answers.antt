@@ -1,5 +1,4 @@
-use Rattle.std.proofs.Common.{sym, ◌∙◌, ap, not, ◌≡◌, true, false, Bool, ◌∷◌}
-use Rattle.someip_payload_values.specs.View.{all_members}
+use Rattle.std.proofs.Common.{sym, ◌∙◌, ◌∷◌}
 use Rattle.someip_payload_values.proofs.OtherNumbers.{one_more, ids_on, ids_large, ids_again, ids_done, was_there, was_none}
 use Rattle.someip_payload_values.proofs.check.have_ids.Goals as goal
 use Rattle.someip_payload_values.proofs.check.have_ids.Goals.{then-member-gt-MAX_DATA_ID-via-then-member-gt-MAX_DATA_ID as large, then-member-gt-MAX_DATA_ID-via-else-member-gt-MAX_DATA_ID+in_ok-insert+then-not-branch as again}
@@ -8,9 +7,9 @@ pub returns-then-member-gt-MAX_DATA_ID : goal.returns-then-member-gt-MAX_DATA_ID
 returns-then-member-gt-MAX_DATA_ID c =
     let (earlier, so_far, has) = c.loop-member.invariant in
     elim c.then-member-gt-MAX_DATA_ID.branch [
-      large w ↦ sym (ids_large earlier c.args.members.now c.loop-member.member-index c.member-item.result c.loop-member-test.true c.member-item.is w.if-member-gt-MAX_DATA_ID.true) ∙ so_far
-    | again w ↦ sym (ids_again earlier c.args.members.now c.loop-member.member-index c.member-item.result c.loop-member-test.true c.member-item.is
-        (sym (has c.member-item.result.id) ∙ was_there _ _ w.in_ok-insert.ensures.added w.if-not-branch.true)) ∙ so_far
+      | large w ↦ sym (ids_large earlier c.args.members.now c.loop-member.member-index c.member-item.result c.loop-member-test.true c.member-item.is w.if-member-gt-MAX_DATA_ID.true) ∙ so_far
+      | again w ↦ sym (ids_again earlier c.args.members.now c.loop-member.member-index c.member-item.result c.loop-member-test.true c.member-item.is
+          (sym (has c.member-item.result.id) ∙ was_there _ _ w.in_ok-insert.ensures.added w.if-not-branch.true)) ∙ so_far
     ]
 
 pub loop-member-preserved : goal.loop-member-preserved
