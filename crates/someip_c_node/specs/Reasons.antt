@@ -10,8 +10,8 @@ use Rattle.someip_wire.specs.declared.error.WireError.{WireError}
 use Rattle.someip_wire.specs.declared.error.WireError.TheVariants as wire
 use Rattle.sd_wire.specs.declared.error.SdError.{SdError}
 use Rattle.sd_wire.specs.declared.error.SdError.TheVariants as sd
-use Rattle.someip_tp.specs.declared.error.TpError.{TpError}
-use Rattle.someip_tp.specs.declared.error.TpError.TheVariants as tp
+use Rattle.someip_segments.specs.declared.error.TpError.{TpError}
+use Rattle.someip_segments.specs.declared.error.TpError.TheVariants as tp
 use Rattle.someip_node_rules.specs.declared.drops.DropReason.{DropReason}
 use Rattle.someip_node_rules.specs.declared.drops.DropReason.TheVariants as drops
 

@@ -33,7 +33,7 @@ impl<R: Reassembly> Model for Node<R> {
     ghost use Rattle.std.specs.Prelude.{◌≡◌, false, if◌then◌else◌, None, Some};
     ghost use Rattle.std.specs.Coded.{codes};
     ghost use Rattle.someip_node_rules.specs.contracts.config.Config as config_row;
-    ghost use Rattle.someip_tp.specs.Parts.{coded_parts};
+    ghost use Rattle.someip_reassembly.specs.Parts.{coded_parts};
     ghost use Rattle.someip_node_rules.specs.Steps.{NodeView};
     ghost use Rattle.someip_node_rules.specs.SubscriberLimits.{AreWithinLimits};
     ghost use Rattle.someip_node_rules.specs.Tables.{coded_held, coded_stamps_to};

@@ -16,7 +16,7 @@ use Rattle.sd_wire.specs.Values.{EntryValue, view_entry}
 use Rattle.someip_node_engine.specs.declared.giving.Giving.{Giving}
 use Rattle.someip_node_rules.specs.declared.receiver.Receiver.TheVariants.{Group}
 use Rattle.someip_tables.specs.Lastings.{unexpired}
-use Rattle.someip_tp.specs.Parts.{parts_at}
+use Rattle.someip_reassembly.specs.Parts.{parts_at}
 use Rattle.sd_core.specs.Endings.{ends_at}
 use Rattle.sd_core.specs.OfferTables.{after_tick}
 use Rattle.sd_core.specs.SeekTables.{seek_after_tick}

@@ -1,12 +1,12 @@
 -- What is given of what the parts of a node say of a message.
 use Rattle.std.specs.Prelude.{ℕ, Bool, true, false, List, [], ◌∷◌, Option, None, Some, Result, Ok, Err}
 use Rattle.someip_wire.specs.declared.header.Header.{Header}
-use Rattle.someip_tp.specs.declared.error.TpError.{TpError}
-use Rattle.someip_tp.specs.declared.key.ReassemblyKey.{ReassemblyKey}
-use Rattle.someip_tp.specs.declared.reassembly.Offered.{Offered}
-use Rattle.someip_tp.specs.declared.reassembly.Offered.TheVariants.{Part, Whole}
-use Rattle.someip_tp.specs.SegmentOffers.{SegmentOffer, offer, parts_less}
-use Rattle.someip_tp.specs.Parts.{Parts}
+use Rattle.someip_segments.specs.declared.error.TpError.{TpError}
+use Rattle.someip_reassembly.specs.declared.key.ReassemblyKey.{ReassemblyKey}
+use Rattle.someip_reassembly.specs.declared.reassembly.Offered.{Offered}
+use Rattle.someip_reassembly.specs.declared.reassembly.Offered.TheVariants.{Part, Whole}
+use Rattle.someip_reassembly.specs.SegmentOffers.{SegmentOffer, offer, parts_less}
+use Rattle.someip_reassembly.specs.Parts.{Parts}
 use Rattle.sd_instances.specs.declared.keys.InstanceId.{InstanceId}
 use Rattle.someip_rpc.specs.declared.error.DropCause.{DropCause}
 use Rattle.someip_rpc.specs.declared.ids.CallKey.{CallKey}

@@ -41,7 +41,7 @@ impl<R: Reassembly> Model for Engine<R> {
     ghost use Rattle.someip_node_rules.specs.GoodConfigs.{greatest_message_limit};
     ghost use Rattle.someip_tables.specs.Endpoints.{address_cmp};
     ghost use Rattle.someip_tables.specs.Tables.{map_of};
-    ghost use Rattle.someip_tp.specs.Parts.{NoneAfter, coded_parts};
+    ghost use Rattle.someip_reassembly.specs.Parts.{NoneAfter, coded_parts};
     ghost use Rattle.someip_node_rules.specs.OfferQuestions.{versions_of};
     ghost use Rattle.someip_node_rules.specs.SeekQuestions.{majors_of};
     ghost use Rattle.someip_node_rules.specs.Setups.{limits_of, ports_of};

@@ -2,7 +2,7 @@
 ghost use Rattle.std.specs.Prelude.{◌≡◌, ◌≤◌, ◌<◌, ◌+◌, ◌^◌, ◌++◌, ◌∷◌, [], length, IfOk, OnOk};
 ghost use Rattle.someip_wire.specs.Spelling.{spelling};
 ghost use Rattle.someip_wire.specs.View.{view};
-ghost use Rattle.someip_tp.specs.Sent.{view_piece, piece_message};
+ghost use Rattle.someip_segments.specs.Sent.{view_piece, piece_message};
 ghost use Rattle.someip_node_rules.specs.Outputs.{datagram_of, datagrams_of};
 ghost use Rattle.someip_node_rules.specs.GoodConfigs.{greatest_message_limit};
 

@@ -1,9 +1,9 @@
 //! Segments that come.
 ghost use Rattle.std.specs.Prelude.{◌≡◌, ◌++◌, ◌%◌, true, is_ok, IfOk, OnOk, OnErr};
-ghost use Rattle.someip_tp.specs.Keys.{segment_key};
-ghost use Rattle.someip_tp.specs.SegmentOffers.{judgement, message_at, parts_after, parts_less};
-ghost use Rattle.someip_tp.specs.Parts.{NoneAfter};
-ghost use Rattle.someip_tp.specs.TpHeader.{segment_in};
+ghost use Rattle.someip_reassembly.specs.Keys.{segment_key};
+ghost use Rattle.someip_reassembly.specs.SegmentOffers.{judgement, message_at, parts_after, parts_less};
+ghost use Rattle.someip_reassembly.specs.Parts.{NoneAfter};
+ghost use Rattle.someip_segments.specs.TpHeader.{segment_in};
 ghost use Rattle.someip_node_engine.specs.Arrivals.{is_of_application, segment_offer, refused_as, parts_once_taken};
 ghost use Rattle.someip_node_rules.specs.Handling.{completed_plan, segment_plan};
 ghost use Rattle.someip_node_rules.specs.Messages.{completed, completed_by};

@@ -6,7 +6,7 @@ ghost use Rattle.someip_tables.specs.Tables.{map_of};
 ghost use Rattle.sd_instances.specs.Keys.{instance_cmp};
 ghost use Rattle.sd_core.specs.OfferTables.{started};
 ghost use Rattle.sd_core.specs.SeekTables.{searching};
-ghost use Rattle.someip_tp.specs.Parts.{NoneAfter};
+ghost use Rattle.someip_reassembly.specs.Parts.{NoneAfter};
 ghost use Rattle.someip_node_rules.specs.GoodConfigs.{greatest_message_limit, is_good, is_good_delay};
 ghost use Rattle.someip_node_rules.specs.OfferQuestions.{version_of, versions_of};
 ghost use Rattle.someip_node_rules.specs.SeekQuestions.{majors_of};

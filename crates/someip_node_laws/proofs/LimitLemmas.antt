@@ -1,6 +1,6 @@
 -- How much of what came a node holds.
 use Rattle.std.proofs.Common.{List, [], ◌∷◌}
-use Rattle.someip_tp.specs.Parts.{Limits}
+use Rattle.someip_reassembly.specs.Parts.{Limits}
 use Rattle.someip_tp.specs.Wholes.{IsWithin}
 use Rattle.someip_tp.proofs.BoundLemmas.{within_nothing, within_after, within_less, within_at}
 use Rattle.someip_node_rules.specs.DiscoveryQuestions.{parts_by, parts_in}

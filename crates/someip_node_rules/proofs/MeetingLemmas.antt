@@ -9,10 +9,10 @@ use Rattle.std.specs.declared.net.socket_addr.SocketAddrV4.{SocketAddrV4}
 use Rattle.someip_wire.specs.declared.header.Header.{Header}
 use Rattle.someip_wire.specs.declared.header.MessageType.{MessageType}
 use Rattle.someip_wire.specs.declared.header.MessageType.TheVariants as kinds
-use Rattle.someip_tp.specs.declared.error.TpError.{TpError}
-use Rattle.someip_tp.specs.declared.reassembly.Offered.{Offered}
-use Rattle.someip_tp.specs.declared.reassembly.Offered.TheVariants.{Part, Whole}
-use Rattle.someip_tp.specs.SegmentOffers.{SegmentOffer, judgement}
+use Rattle.someip_segments.specs.declared.error.TpError.{TpError}
+use Rattle.someip_reassembly.specs.declared.reassembly.Offered.{Offered}
+use Rattle.someip_reassembly.specs.declared.reassembly.Offered.TheVariants.{Part, Whole}
+use Rattle.someip_reassembly.specs.SegmentOffers.{SegmentOffer, judgement}
 use Rattle.sd_wire.specs.declared.entry.EventgroupEntry.{EventgroupEntry}
 use Rattle.sd_session.specs.declared.peers.Seen.{Seen}
 use Rattle.sd_session.specs.declared.peers.Seen.TheVariants.{Same}

@@ -6,8 +6,8 @@ use Rattle.std.specs.FinMap as finite
 use Rattle.std.specs.FinMap.{FinMap}
 use Rattle.std.specs.declared.net.ipv4_addr.Ipv4Addr.{Ipv4Addr}
 use Rattle.someip_tables.specs.Endpoints.{address_cmp}
-use Rattle.someip_tp.specs.SegmentOffers.{parts_after, parts_less}
-use Rattle.someip_tp.specs.Parts.{Limits, Parts, parts_at}
+use Rattle.someip_reassembly.specs.SegmentOffers.{parts_after, parts_less}
+use Rattle.someip_reassembly.specs.Parts.{Limits, Parts, parts_at}
 use Rattle.sd_session.specs.declared.peers.Stamps.{Stamps}
 use Rattle.sd_session.specs.declared.stamp.Stamp.{Stamp}
 use Rattle.sd_session.specs.Peers.{Held, stamps_after, stamps_or_none}

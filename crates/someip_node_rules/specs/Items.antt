@@ -5,10 +5,10 @@ use Rattle.std.specs.declared.net.ipv4_addr.Ipv4Addr.{Ipv4Addr}
 use Rattle.std.specs.declared.net.socket_addr.SocketAddrV4.{SocketAddrV4}
 use Rattle.someip_tables.specs.Deadlines.{deadline_after}
 use Rattle.someip_tables.specs.Lastings.{unexpired}
-use Rattle.someip_tp.specs.declared.key.ReassemblyKey.{ReassemblyKey}
-use Rattle.someip_tp.specs.SegmentOffers.{SegmentOffer, parts_after}
-use Rattle.someip_tp.specs.SegmentOffers.{parts_less}
-use Rattle.someip_tp.specs.Parts.{parts_at}
+use Rattle.someip_reassembly.specs.declared.key.ReassemblyKey.{ReassemblyKey}
+use Rattle.someip_reassembly.specs.SegmentOffers.{SegmentOffer, parts_after}
+use Rattle.someip_reassembly.specs.SegmentOffers.{parts_less}
+use Rattle.someip_reassembly.specs.Parts.{parts_at}
 use Rattle.sd_session.specs.declared.stamp.Channel.{Channel}
 use Rattle.sd_session.specs.declared.stamp.Stamp.{Stamp}
 use Rattle.sd_session.specs.Peers.{stamps_after, stamps_of}

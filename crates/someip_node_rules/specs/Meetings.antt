@@ -5,8 +5,8 @@ use Rattle.std.specs.declared.net.ipv4_addr.Ipv4Addr.{Ipv4Addr}
 use Rattle.std.specs.declared.net.socket_addr.SocketAddrV4.{SocketAddrV4}
 use Rattle.someip_wire.specs.declared.header.Header.{Header}
 use Rattle.someip_wire.specs.declared.header.MessageType.TheVariants as kinds
-use Rattle.someip_tp.specs.declared.reassembly.Offered.TheVariants.{Whole}
-use Rattle.someip_tp.specs.SegmentOffers.{SegmentOffer, judgement}
+use Rattle.someip_reassembly.specs.declared.reassembly.Offered.TheVariants.{Whole}
+use Rattle.someip_reassembly.specs.SegmentOffers.{SegmentOffer, judgement}
 use Rattle.sd_wire.specs.declared.entry.EventgroupEntry.{EventgroupEntry}
 use Rattle.sd_wire.specs.Values.{EntryValue}
 use Rattle.sd_instances.specs.declared.keys.InstanceId.{InstanceId}

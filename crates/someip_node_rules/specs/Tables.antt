@@ -8,7 +8,7 @@ use Rattle.std.specs.declared.net.ipv4_addr.Ipv4Addr.{Ipv4Addr}
 use Rattle.std.specs.declared.net.socket_addr.SocketAddrV4.{SocketAddrV4}
 use Rattle.someip_tables.specs.Endpoints.{address_cmp, coded_address}
 use Rattle.someip_tables.specs.Lastings.{expired, unexpired}
-use Rattle.someip_tp.specs.Parts.{Parts}
+use Rattle.someip_reassembly.specs.Parts.{Parts}
 use Rattle.sd_session.specs.declared.stamp.Stamp.{Stamp}
 use Rattle.sd_session.specs.Peers.{Held, coded_stamp, coded_stamps}
 use Rattle.sd_session.specs.Sessions.{first}

@@ -4,7 +4,7 @@ ghost use Rattle.someip_node_rules.specs.Names.{drop_name};
 
 use sd_wire::SdError;
 use someip_rpc::{DropCause, RequestFault};
-use someip_tp::TpError;
+use someip_segments::TpError;
 use someip_wire::WireError;
 use thiserror::Error;
 

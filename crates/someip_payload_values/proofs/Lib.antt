@@ -5,3 +5,4 @@ mod Writes
 pub mod ErrorKinds
 mod Characters
 mod ValueTexts
+mod OtherNumbers

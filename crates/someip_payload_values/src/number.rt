@@ -71,10 +71,9 @@ pub(crate) fn put_bytes(size: Size, n: u64, out: &mut Vec<u8>) -> Result<(), All
     ensures { OnOk result (out.new.items ≡ out.old.items ++ number size n) }
 {
     match size {
-        Size::S8 => out.push(n as u8)?,
-        Size::S16 => out.extend_from_slice(&(n as u16).to_be_bytes())?,
-        Size::S32 => out.extend_from_slice(&(n as u32).to_be_bytes())?,
-        Size::S64 => out.extend_from_slice(&n.to_be_bytes())?,
+        Size::S8 => out.extend_from_slice(&[n as u8]),
+        Size::S16 => out.extend_from_slice(&(n as u16).to_be_bytes()),
+        Size::S32 => out.extend_from_slice(&(n as u32).to_be_bytes()),
+        Size::S64 => out.extend_from_slice(&n.to_be_bytes()),
     }
-    Ok(())
 }

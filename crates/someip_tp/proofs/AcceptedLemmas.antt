@@ -10,25 +10,25 @@ use Rattle.std.proofs.lemmas.Option.{slice_get-get_or, slice_get_within, get_or_
 use Rattle.std.specs.Ordering.{nat_cmp}
 use Rattle.std.specs.FinMap.{get, insert, remove, empty, len, get-insert, get-remove, get-empty}
 use Rattle.someip_wire.specs.Spelling.{MessageValue, Fits}
-use Rattle.someip_tp.specs.declared.key.ReassemblyKey.{ReassemblyKey}
+use Rattle.someip_reassembly.specs.declared.key.ReassemblyKey.{ReassemblyKey}
 use Rattle.someip_tp.specs.declared.calls.TpCall.{TpCall}
 use Rattle.someip_tp.specs.declared.calls.TpCall.TheVariants as call
-use Rattle.someip_tp.specs.Keys.{key_cmp, same_key}
-use Rattle.someip_tp.specs.Segments.{SegmentValue, segment_at, segment_header, segment_message}
-use Rattle.someip_tp.specs.TpHeader.{segment_in}
-use Rattle.someip_tp.specs.Sent.{segments_of}
-use Rattle.someip_tp.specs.Parts.{Limits, Part, Parts, parts_at}
-use Rattle.someip_tp.specs.SegmentOffers.{SegmentOffer, offer, judgement, kept, parts_after, part_under, no_part, with_offer, is_unaligned, is_too_long, conflicts, message_of, message_at, parts_less}
-use Rattle.someip_tp.specs.Slices.{byte_at}
+use Rattle.someip_reassembly.specs.Keys.{key_cmp, same_key}
+use Rattle.someip_segments.specs.Segments.{SegmentValue, segment_at, segment_header, segment_message}
+use Rattle.someip_segments.specs.TpHeader.{segment_in}
+use Rattle.someip_segments.specs.Sent.{segments_of}
+use Rattle.someip_reassembly.specs.Parts.{Limits, Part, Parts, parts_at}
+use Rattle.someip_reassembly.specs.SegmentOffers.{SegmentOffer, offer, judgement, kept, parts_after, part_under, no_part, with_offer, is_unaligned, is_too_long, conflicts, message_of, message_at, parts_less}
+use Rattle.someip_reassembly.specs.Slices.{byte_at}
 use Rattle.someip_tp.specs.Calls.{parts_after_call, parts_through}
 use Rattle.someip_tp.specs.Accepted.{IsSegmentOf, HoldsOnly, where_it_stands, accepted_after, accepted_through}
-use Rattle.someip_tp.proofs.Placed.{over, get-added}
-use Rattle.someip_tp.proofs.SliceLemmas.{byte_within}
-use Rattle.someip_tp.proofs.KeyOrder.{keys_total, same_from_test}
-use Rattle.someip_tp.proofs.SegmentsLemmas.{are_segments}
-use Rattle.someip_tp.proofs.SegmentTexts.{read_as_sent}
+use Rattle.someip_reassembly.proofs.Placed.{over, get-added}
+use Rattle.someip_reassembly.proofs.SliceLemmas.{byte_within}
+use Rattle.someip_reassembly.proofs.KeyOrder.{keys_total, same_from_test}
+use Rattle.someip_segments.proofs.SegmentsLemmas.{are_segments}
+use Rattle.someip_segments.proofs.SegmentTexts.{read_as_sent}
 use Rattle.someip_tp.proofs.WholeLemmas.{whole_from_message}
-use Rattle.someip_tp.proofs.OfferLemmas.{judged_by}
+use Rattle.someip_reassembly.proofs.OfferLemmas.{judged_by}
 use Rattle.someip_tp.proofs.BoundLemmas.{left_same, removed_same}
 
 -- ---- the segments of a message

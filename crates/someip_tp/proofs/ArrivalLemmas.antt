@@ -9,28 +9,28 @@ use Rattle.std.proofs.lemmas.List.Elements.{All-contains, All-from_recursion}
 use Rattle.std.proofs.lemmas.Option.{slice_get-get_or, slice_get_within, slice_get_past, get_or_from_slice_get}
 use Rattle.std.specs.FinMap.{get, insert, remove, keys, len, get-insert, get-remove}
 use Rattle.someip_wire.specs.Spelling.{MessageValue}
-use Rattle.someip_tp.specs.declared.key.ReassemblyKey.{ReassemblyKey}
+use Rattle.someip_reassembly.specs.declared.key.ReassemblyKey.{ReassemblyKey}
 use Rattle.someip_tp.specs.declared.calls.TpCall.{TpCall}
 use Rattle.someip_tp.specs.declared.calls.TpCall.TheVariants as call
-use Rattle.someip_tp.specs.Keys.{same_key}
+use Rattle.someip_reassembly.specs.Keys.{same_key}
 use Rattle.someip_tables.specs.Retained.{kept_if as passed}
-use Rattle.someip_tp.specs.Segments.{SegmentValue, segment_at, segment_header}
-use Rattle.someip_tp.specs.Sent.{segments_of}
-use Rattle.someip_tp.specs.Parts.{Limits, Part, Parts, is_gone, parts_at}
-use Rattle.someip_tp.specs.SegmentOffers.{SegmentOffer, offer, placed, passes, differ, kept, parts_after, part_under, no_part, with_offer, total_of, is_unaligned, is_too_long, conflicts, message_of, message_at, parts_less}
-use Rattle.someip_tp.specs.Slices.{byte_at}
+use Rattle.someip_segments.specs.Segments.{SegmentValue, segment_at, segment_header}
+use Rattle.someip_segments.specs.Sent.{segments_of}
+use Rattle.someip_reassembly.specs.Parts.{Limits, Part, Parts, is_gone, parts_at}
+use Rattle.someip_reassembly.specs.SegmentOffers.{SegmentOffer, offer, placed, passes, differ, kept, parts_after, part_under, no_part, with_offer, total_of, is_unaligned, is_too_long, conflicts, message_of, message_at, parts_less}
+use Rattle.someip_reassembly.specs.Slices.{byte_at}
 use Rattle.someip_tp.specs.Wholes.{IsWhole}
 use Rattle.someip_tp.specs.Calls.{parts_through}
 use Rattle.someip_tp.specs.Accepted.{offered_segment, IsSegmentOf, HoldsOnly}
 use Rattle.someip_tp.specs.Arrivals.{offered_under, StandsThrough, AllArrive}
-use Rattle.someip_tp.proofs.Placed.{over, get-added, none_differs}
-use Rattle.someip_tp.proofs.SliceLemmas.{byte_from}
-use Rattle.someip_tp.proofs.PartialLemmas.{any_place, no_place_passes}
-use Rattle.someip_tp.proofs.KeyOrder.{keys_total, exact_keys, same_from_test, test_from_same}
+use Rattle.someip_reassembly.proofs.Placed.{over, get-added, none_differs}
+use Rattle.someip_reassembly.proofs.SliceLemmas.{byte_from}
+use Rattle.someip_reassembly.proofs.PartialLemmas.{any_place, no_place_passes}
+use Rattle.someip_reassembly.proofs.KeyOrder.{keys_total, exact_keys, same_from_test, test_from_same}
 use Rattle.someip_tables.proofs.Entries.{get-retain}
-use Rattle.someip_tp.proofs.SegmentsLemmas.{are_segments}
+use Rattle.someip_segments.proofs.SegmentsLemmas.{are_segments}
 use Rattle.someip_tp.proofs.WholeLemmas.{message_from_whole}
-use Rattle.someip_tp.proofs.OfferLemmas.{judged_by}
+use Rattle.someip_reassembly.proofs.OfferLemmas.{judged_by}
 use Rattle.someip_tp.proofs.BoundLemmas.{fewer, left_same}
 use Rattle.someip_tp.proofs.AcceptedLemmas.{IsAt, segment_is, segment_byte, last_ends, begins, accepts}
 

@@ -6,25 +6,25 @@ use Rattle.std.proofs.lemmas.Bool.{or_left}
 use Rattle.std.proofs.lemmas.Bool.Decides.{nat_tests}
 use Rattle.std.specs.Ordering.{nat_cmp, eq_by_cmp}
 use Rattle.std.specs.FinMap.{get, insert, remove, keys, len, empty, contains_key-keys, len-entries, entries, empty_of_len, get-empty, get-insert, get-remove, len-empty, len-insert, len-remove}
-use Rattle.someip_tp.specs.declared.key.ReassemblyKey.{ReassemblyKey}
-use Rattle.someip_tp.specs.Keys.{key_cmp}
+use Rattle.someip_reassembly.specs.declared.key.ReassemblyKey.{ReassemblyKey}
+use Rattle.someip_reassembly.specs.Keys.{key_cmp}
 use Rattle.someip_tables.specs.Retained.{kept_if}
-use Rattle.someip_tp.specs.Parts.{Limits, Part, Parts, is_gone, parts_at}
-use Rattle.someip_tp.specs.declared.reassembly.Offered.{Offered}
-use Rattle.someip_tp.specs.declared.error.TpError.{TpError}
-use Rattle.someip_tp.specs.declared.error.TpError.TheVariants.{Unaligned, TooLong, Conflict, NoSlot, OutOfMemory}
-use Rattle.someip_tp.specs.SegmentOffers.{SegmentOffer as Segment, offer, part_or_whole, conflicts, is_unaligned, is_too_long, part_under, no_part, with_offer, parts_after, parts_less, message_at, kept as offer_kept}
-use Rattle.someip_tp.specs.Slices.{byte_at}
+use Rattle.someip_reassembly.specs.Parts.{Limits, Part, Parts, is_gone, parts_at}
+use Rattle.someip_reassembly.specs.declared.reassembly.Offered.{Offered}
+use Rattle.someip_segments.specs.declared.error.TpError.{TpError}
+use Rattle.someip_segments.specs.declared.error.TpError.TheVariants.{Unaligned, TooLong, Conflict, NoSlot, OutOfMemory}
+use Rattle.someip_reassembly.specs.SegmentOffers.{SegmentOffer as Segment, offer, part_or_whole, conflicts, is_unaligned, is_too_long, part_under, no_part, with_offer, parts_after, parts_less, message_at, kept as offer_kept}
+use Rattle.someip_reassembly.specs.Slices.{byte_at}
 use Rattle.someip_tp.specs.Wholes.{IsWithin}
 use Rattle.someip_tp.specs.declared.calls.TpCall.{TpCall}
 use Rattle.someip_tp.specs.declared.calls.TpCall.TheVariants.{Offer, Take, Expire, Clear}
 use Rattle.someip_tp.specs.Calls.{parts_after_call, parts_through}
 use Rattle.std.proofs.lemmas.Option.{slice_get_within}
-use Rattle.someip_tp.proofs.Placed.{over, get-added}
-use Rattle.someip_tp.proofs.SliceLemmas.{byte_within}
-use Rattle.someip_tp.proofs.KeyOrder.{keys_total, exact_keys}
+use Rattle.someip_reassembly.proofs.Placed.{over, get-added}
+use Rattle.someip_reassembly.proofs.SliceLemmas.{byte_within}
+use Rattle.someip_reassembly.proofs.KeyOrder.{keys_total, exact_keys}
 use Rattle.someip_tables.proofs.Entries.{own_test, get-retain}
-use Rattle.someip_tp.proofs.OfferLemmas.{offered_by}
+use Rattle.someip_reassembly.proofs.OfferLemmas.{offered_by}
 
 -- ---- a map with fewer keys is no larger
 

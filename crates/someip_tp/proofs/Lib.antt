@@ -1,15 +1,6 @@
-pub mod SegmentsLemmas
-pub mod SliceLemmas
-pub mod Placed
-pub mod KeyOrder
-pub mod PartialLemmas
-pub mod StoreLemmas
 pub mod WholeLemmas
 pub mod BoundLemmas
-pub mod MomentLemmas
-pub mod OfferLemmas
-pub mod SegmentTexts
-pub mod SentLemmas
+pub mod CallMoments
 pub mod AcceptedLemmas
 pub mod ArrivalLemmas
 pub mod Intervals

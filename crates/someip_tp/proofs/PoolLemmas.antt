@@ -6,12 +6,12 @@ use Rattle.std.specs.List.{list_any}
 use Rattle.std.proofs.lemmas.Bool.Decides.{nat_tests}
 use Rattle.std.proofs.lemmas.Bool.{eqb-true}
 use Rattle.std.proofs.lemmas.Option.{same_Some}
-use Rattle.someip_tp.specs.SegmentOffers.{SegmentOffer, placed, conflicts, passes, differ, total_of}
+use Rattle.someip_reassembly.specs.SegmentOffers.{SegmentOffer, placed, conflicts, passes, differ, total_of}
 use Rattle.someip_tp.specs.declared.pool.room.Room.{Room}
 use Rattle.someip_tp.specs.declared.pool.part.RoomPart.TheInside.{Inside}
 use Rattle.someip_tp.specs.Rooms.{held_bytes, Continues, IsConsistent}
 use Rattle.someip_tp.specs.RoomParts.{view_part, IsSoundIn}
-use Rattle.someip_tp.proofs.PartialLemmas.{no_conflict, any_place}
+use Rattle.someip_reassembly.proofs.PartialLemmas.{no_conflict, any_place}
 use Rattle.someip_tp.proofs.RoomLemmas.{reaches_as, held_byte}
 
 -- what a segment that contradicts nothing leaves fit

@@ -15,15 +15,15 @@ use Rattle.std.proofs.lemmas.List.Elements.{All-append, All-take, All-drop, All-
 use Rattle.std.proofs.lemmas.List.Kept.{AllPairs-cons}
 use Rattle.std.proofs.lemmas.List.Quantifiers.{all_pairs_remove}
 use Rattle.someip_tables.specs.Distinct.{are_distinct}
-use Rattle.someip_tp.specs.declared.key.ReassemblyKey.{ReassemblyKey}
-use Rattle.someip_tp.specs.Keys.{key_cmp, same_key}
-use Rattle.someip_tp.specs.Parts.{Part}
-use Rattle.someip_tp.specs.Partials.{Entry}
+use Rattle.someip_reassembly.specs.declared.key.ReassemblyKey.{ReassemblyKey}
+use Rattle.someip_reassembly.specs.Keys.{key_cmp, same_key}
+use Rattle.someip_reassembly.specs.Parts.{Part}
+use Rattle.someip_reassembly.specs.Partials.{Entry}
 use Rattle.someip_tp.specs.RoomParts.{PartInRoom}
 use Rattle.someip_tp.specs.Pools.{entries_of, AreRising, GoesAt, Finds}
-use Rattle.someip_tp.specs.Stores.{StandsAt, parts_of_entries}
-use Rattle.someip_tp.proofs.KeyOrder.{keys_total, exact_keys, same_from_test, test_from_same}
-use Rattle.someip_tp.proofs.StoreLemmas.{none_stands}
+use Rattle.someip_reassembly.specs.Stores.{StandsAt, parts_of_entries}
+use Rattle.someip_reassembly.proofs.KeyOrder.{keys_total, exact_keys, same_from_test, test_from_same}
+use Rattle.someip_reassembly.proofs.StoreLemmas.{none_stands}
 use Rattle.someip_tp.proofs.SlotLemmas.{as_many, entries_left, changed_entries, own_entry}
 
 -- ---- no key stands twice

@@ -10,15 +10,15 @@ use Rattle.std.proofs.lemmas.Bool.{eqb-true, eq-eqb, and_parts}
 use Rattle.std.proofs.lemmas.Bool.Decides.{nat_tests}
 use Rattle.std.proofs.lemmas.List.{length-take-le}
 use Rattle.std.proofs.lemmas.Option.{slice_get_within, slice_get-get_or}
-use Rattle.someip_tp.specs.SegmentOffers.{differ, placed, added}
-use Rattle.someip_tp.specs.Slices.{byte_at, Agree, IsFront, AppendsFront}
+use Rattle.someip_reassembly.specs.SegmentOffers.{differ, placed, added}
+use Rattle.someip_reassembly.specs.Slices.{byte_at, Agree, IsFront, AppendsFront}
 use Rattle.someip_tp.specs.declared.pool.block.Block.{Block}
 use Rattle.someip_tp.specs.declared.pool.room.Room.{Room}
 use Rattle.someip_tp.specs.Blocks.{is_held, other_end, IsInterval}
 use Rattle.someip_tp.specs.Rooms.{held_bytes, Continues, IsConsistent}
-use Rattle.someip_tp.proofs.Placed.{over, get-added, agree_where_none_differs}
-use Rattle.someip_tp.proofs.SliceLemmas.{byte_within, byte_from, byte_past, byte_before}
-use Rattle.someip_tp.proofs.PartialLemmas.{a_place_passes, no_place_passes}
+use Rattle.someip_reassembly.proofs.Placed.{over, get-added, agree_where_none_differs}
+use Rattle.someip_reassembly.proofs.SliceLemmas.{byte_within, byte_from, byte_past, byte_before}
+use Rattle.someip_reassembly.proofs.PartialLemmas.{a_place_passes, no_place_passes}
 use Rattle.someip_tp.proofs.Intervals.{from_start}
 use Rattle.someip_tp.proofs.BlockLemmas.{held_within}
 

@@ -10,16 +10,16 @@ use Rattle.std.proofs.lemmas.List.Elements.{All-append, All-take, All-drop, All-
 use Rattle.std.proofs.lemmas.Option.{same_Some}
 use Rattle.someip_tables.specs.Distinct.{are_distinct}
 use Rattle.someip_tables.proofs.Entries as entries
-use Rattle.someip_tp.specs.declared.key.ReassemblyKey.{ReassemblyKey}
-use Rattle.someip_tp.specs.Keys.{key_cmp, same_key}
-use Rattle.someip_tp.specs.Partials.{Entry}
+use Rattle.someip_reassembly.specs.declared.key.ReassemblyKey.{ReassemblyKey}
+use Rattle.someip_reassembly.specs.Keys.{key_cmp, same_key}
+use Rattle.someip_reassembly.specs.Partials.{Entry}
 use Rattle.someip_tp.specs.RoomParts.{PartInRoom}
 use Rattle.someip_tp.specs.Pools.{entries_of}
-use Rattle.someip_tp.specs.Stores.{StandsAt, parts_of_entries}
-use Rattle.someip_tp.specs.Parts.{is_gone}
-use Rattle.someip_tp.specs.SegmentOffers.{SegmentOffer, with_offer, message_of, message_at, parts_less, part_under}
-use Rattle.someip_tp.proofs.KeyOrder.{same_from_test}
-use Rattle.someip_tp.proofs.StoreLemmas.{stands, message_there, entry_under, parts_less_whole, changed_parts, count_is}
+use Rattle.someip_reassembly.specs.Stores.{StandsAt, parts_of_entries}
+use Rattle.someip_reassembly.specs.Parts.{is_gone}
+use Rattle.someip_reassembly.specs.SegmentOffers.{SegmentOffer, with_offer, message_of, message_at, parts_less, part_under}
+use Rattle.someip_reassembly.proofs.KeyOrder.{same_from_test}
+use Rattle.someip_reassembly.proofs.StoreLemmas.{stands, message_there, entry_under, parts_less_whole, changed_parts, count_is}
 
 -- ---- all but one
 

@@ -8,11 +8,11 @@ use Rattle.std.proofs.lemmas.List.FromFn.{length-map-range_with_len, get_or-map-
 use Rattle.std.proofs.lemmas.Option.{slice_get_past, slice_get_within, slice_get-get_or}
 use Rattle.std.specs.Ordering.{nat_cmp}
 use Rattle.std.specs.FinMap.{FinMap, get, keys, contains_key}
-use Rattle.someip_tp.specs.Parts.{Part}
-use Rattle.someip_tp.specs.SegmentOffers.{message_of, are_exactly_below}
-use Rattle.someip_tp.specs.Slices.{AreFront}
+use Rattle.someip_reassembly.specs.Parts.{Part}
+use Rattle.someip_reassembly.specs.SegmentOffers.{message_of, are_exactly_below}
+use Rattle.someip_reassembly.specs.Slices.{AreFront}
 use Rattle.someip_tp.specs.Wholes.{IsWhole}
-use Rattle.someip_tp.proofs.PartialLemmas.{not_all_in_range, a_place_passes, whole_is, message_is, front_length}
+use Rattle.someip_reassembly.proofs.PartialLemmas.{not_all_in_range, a_place_passes, whole_is, message_is, front_length}
 
 in_range : (test : ℕ → Bool) (n q : ℕ) → list_all test (range_with_len 0 n) ≡ true → q < n → test q ≡ true
 in_range test n q all lt = cases (test q) refl

@@ -2,14 +2,14 @@
 use Rattle.std.specs.Prelude.{◌≡◌, ℕ, ◌&&◌, if◌then◌else◌, List, [], ◌∷◌, length, slice_get, Option, Some, None, Contains, is_ok}
 use Rattle.std.specs.FinMap.{get}
 use Rattle.someip_wire.specs.Spelling.{MessageValue}
-use Rattle.someip_tp.specs.declared.key.ReassemblyKey.{ReassemblyKey}
+use Rattle.someip_reassembly.specs.declared.key.ReassemblyKey.{ReassemblyKey}
 use Rattle.someip_tp.specs.declared.calls.TpCall.{TpCall}
 use Rattle.someip_tp.specs.declared.calls.TpCall.TheVariants.{Offer as OfferCall, Take, Expire, Clear}
-use Rattle.someip_tp.specs.Keys.{same_key}
-use Rattle.someip_tp.specs.Segments.{SegmentValue}
-use Rattle.someip_tp.specs.Sent.{segments_of}
-use Rattle.someip_tp.specs.Parts.{Limits, Part, Parts, parts_at}
-use Rattle.someip_tp.specs.SegmentOffers.{SegmentOffer, offer, judgement, parts_after}
+use Rattle.someip_reassembly.specs.Keys.{same_key}
+use Rattle.someip_segments.specs.Segments.{SegmentValue}
+use Rattle.someip_segments.specs.Sent.{segments_of}
+use Rattle.someip_reassembly.specs.Parts.{Limits, Part, Parts, parts_at}
+use Rattle.someip_reassembly.specs.SegmentOffers.{SegmentOffer, offer, judgement, parts_after}
 use Rattle.someip_tp.specs.Calls.{parts_after_call}
 
 -- a segment as it is offered under a key

@@ -2,13 +2,13 @@
 use Rattle.std.specs.Prelude.{◌≢◌, ℕ, ◌+◌, ◌<◌, if◌then◌else◌, List, [], ◌∷◌, Contains}
 use Rattle.std.specs.List.{AllByRecursion}
 use Rattle.someip_wire.specs.Spelling.{MessageValue}
-use Rattle.someip_tp.specs.declared.key.ReassemblyKey.{ReassemblyKey}
+use Rattle.someip_reassembly.specs.declared.key.ReassemblyKey.{ReassemblyKey}
 use Rattle.someip_tp.specs.declared.calls.TpCall.{TpCall}
 use Rattle.someip_tp.specs.declared.calls.TpCall.TheVariants.{Offer as OfferCall, Take, Expire, Clear}
-use Rattle.someip_tp.specs.Keys.{same_key}
-use Rattle.someip_tp.specs.Sent.{segments_of}
-use Rattle.someip_tp.specs.Parts.{Limits}
-use Rattle.someip_tp.specs.SegmentOffers.{SegmentOffer, offer}
+use Rattle.someip_reassembly.specs.Keys.{same_key}
+use Rattle.someip_segments.specs.Sent.{segments_of}
+use Rattle.someip_reassembly.specs.Parts.{Limits}
+use Rattle.someip_reassembly.specs.SegmentOffers.{SegmentOffer, offer}
 use Rattle.someip_tp.specs.Accepted.{offered_segment, IsSegmentOf}
 
 -- the segments that calls offer under a key, in order

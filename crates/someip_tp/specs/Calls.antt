@@ -5,8 +5,8 @@ use Rattle.someip_tp.specs.declared.calls.TpCall.{TpCall}
 use Rattle.someip_tp.specs.declared.calls.TpCall.TheVariants.{Offer, Take, Expire, Clear}
 use Rattle.someip_tp.specs.declared.calls.TpAnswer.{TpAnswer}
 use Rattle.someip_tp.specs.declared.calls.TpAnswer.TheVariants.{Offered, Taken, Dropped}
-use Rattle.someip_tp.specs.Parts.{Limits, Parts, NoneAfter, parts_at}
-use Rattle.someip_tp.specs.SegmentOffers.{offer, judgement, parts_after, message_at, parts_less}
+use Rattle.someip_reassembly.specs.Parts.{Limits, Parts, NoneAfter, parts_at}
+use Rattle.someip_reassembly.specs.SegmentOffers.{offer, judgement, parts_after, message_at, parts_less}
 
 -- what a call asks of its caller
 abbrev pub MayCall : TpCall → Parts → Type 0

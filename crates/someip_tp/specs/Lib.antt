@@ -1,13 +1,3 @@
-pub mod Names
-pub mod TpHeader
-pub mod Segments
-pub mod Sent
-pub mod Keys
-pub mod Parts
-pub mod SegmentOffers
-pub mod Slices
-pub mod Partials
-pub mod Stores
 pub mod Calls
 pub mod Wholes
 pub mod Moments

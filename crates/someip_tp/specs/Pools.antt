@@ -3,10 +3,10 @@ use Rattle.std.specs.Prelude.{◌≡◌, ◌+◌, ◌≤◌, ℕ, List, map, len
 use Rattle.std.specs.List.{All, AllPairs}
 use Rattle.std.specs.List.Sorted.{IsPartitionPoint}
 use Rattle.std.specs.declared.cmp.Ordering.TheVariants.{Less, Greater}
-use Rattle.someip_tp.specs.declared.key.ReassemblyKey.{ReassemblyKey}
-use Rattle.someip_tp.specs.Keys.{key_cmp}
-use Rattle.someip_tp.specs.Partials.{Entry}
-use Rattle.someip_tp.specs.Stores.{StandsAt}
+use Rattle.someip_reassembly.specs.declared.key.ReassemblyKey.{ReassemblyKey}
+use Rattle.someip_reassembly.specs.Keys.{key_cmp}
+use Rattle.someip_reassembly.specs.Partials.{Entry}
+use Rattle.someip_reassembly.specs.Stores.{StandsAt}
 use Rattle.someip_tp.specs.Rooms.{IsConsistent}
 use Rattle.someip_tp.specs.RoomParts.{PartInRoom}
 use Rattle.someip_tp.specs.declared.pool.room.Room.{Room}

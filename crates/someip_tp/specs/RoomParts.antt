@@ -1,7 +1,7 @@
 -- A message that has come in part, in the room of its slot.
 use Rattle.std.specs.Prelude.{◌≡◌, ◌≢◌, ◌%◌, ◌≤◌, ℕ, Some, refl}
 use Rattle.std.specs.Coded.{Coded, code_by, coded×, coded_ℕ}
-use Rattle.someip_tp.specs.Partials.{Entry, coded_entry}
+use Rattle.someip_reassembly.specs.Partials.{Entry, coded_entry}
 use Rattle.someip_tp.specs.Rooms.{held_bytes, IsConsistent}
 use Rattle.someip_tp.specs.declared.pool.part.RoomPart.TheInside.{Inside}
 

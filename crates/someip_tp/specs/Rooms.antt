@@ -2,7 +2,7 @@
 use Rattle.std.specs.Prelude.{◌≡◌, ◌+◌, ◌*◌, ◌/◌, ◌<◌, ◌≤◌, ℕ, true, length, take, vec_capacity}
 use Rattle.std.specs.Ordering.{nat_cmp}
 use Rattle.std.specs.FinMap.{FinMap, empty, retain_keys}
-use Rattle.someip_tp.specs.SegmentOffers.{placed, added}
+use Rattle.someip_reassembly.specs.SegmentOffers.{placed, added}
 use Rattle.someip_tp.specs.Blocks.{is_held, other_end, AreTied, AreUpTo}
 use Rattle.someip_tp.specs.declared.pool.room.Room.{Room}
 

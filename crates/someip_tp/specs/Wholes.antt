@@ -1,8 +1,8 @@
 -- What a whole message is, and what bounds the parts.
 use Rattle.std.specs.Prelude.{◌≡◌, ℕ, ◌<◌, ◌≤◌, List, length, slice_get, Some, IsSome}
 use Rattle.std.specs.FinMap.{get, len}
-use Rattle.someip_tp.specs.declared.key.ReassemblyKey.{ReassemblyKey}
-use Rattle.someip_tp.specs.Parts.{Limits, Part, Parts}
+use Rattle.someip_reassembly.specs.declared.key.ReassemblyKey.{ReassemblyKey}
+use Rattle.someip_reassembly.specs.Parts.{Limits, Part, Parts}
 
 -- the part holds exactly the bytes of this message, and knows its total
 abbrev pub IsWhole : Part → List ℕ → Type 0

@@ -3,9 +3,8 @@ ghost use Rattle.std.specs.Prelude.{◌≡◌, ◌≤◌, ◌++◌, ◌∷◌, [
 ghost use Rattle.std.specs.FinMap as map;
 ghost use Rattle.someip_tp.specs.Calls.{MayCall, MayCalls, answer_to, answers_to, parts_after_call, parts_through, taken_by, taken_through};
 
-use crate::error::TpError;
-use crate::key::ReassemblyKey;
-use crate::reassembly::{Offered, Reassembly};
+use someip_reassembly::{Offered, Reassembly, ReassemblyKey};
+use someip_segments::TpError;
 use std::alloc::{AllocError, Global};
 
 /// A call of a store.

@@ -1,5 +1,7 @@
 //! SOME/IP-TP: messages with more than 1400 bytes of payload are sent in segments (SOME/IP Protocol,
-//! "Transporting large SOME/IP messages by UDP"), and put together again by their receiver.
+//! "Transporting large SOME/IP messages by UDP"), and put together again by their receiver. What is sent
+//! stands in `someip_segments`, and what a store of parts promises in `someip_reassembly`, with a plain
+//! body; here stand the body in memory that is reserved once, and the laws.
 //!
 //! - [`Segments`]: the segments of a message;
 //! - [`Sent`]: the pieces of a message as it is sent, alone or in segments;
@@ -13,30 +15,16 @@
 //! - [`laws`]: what the definitions behind the contracts promise, whatever body keeps them.
 #![tactic(auto)]
 
-mod appending;
 mod calls;
-mod error;
-mod key;
 pub mod laws;
 mod moments;
-mod partial;
-mod partials;
 mod pool;
-mod reassembly;
-mod segment;
-mod segment_list;
-mod segments;
-mod sent;
-mod slices;
 
-pub use appending::{append_message, append_piece, append_segment};
 pub use calls::{TpAnswer, TpCall, run_calls};
-pub use error::TpError;
-pub use key::ReassemblyKey;
 pub use moments::{are_in_time, calls_in_time_may_be_made, no_part_is_ahead_of_its_caller};
 pub use pool::IntervalPool;
-pub use reassembly::{Offered, Reassembly};
-pub use segment::{Segment, read_segment};
-pub use segment_list::SegmentList;
-pub use segments::Segments;
-pub use sent::{Sent, SentPiece, ShortMessage};
+pub use someip_reassembly::{Offered, Reassembly, ReassemblyKey, SegmentList};
+pub use someip_segments::{
+    Segment, Segments, Sent, SentPiece, ShortMessage, TpError, append_message, append_piece,
+    append_segment, read_segment,
+};

@@ -1,12 +1,12 @@
 //! When a store may be called: the moments of the segments that are offered never fall.
 ghost use Rattle.std.specs.Prelude.{◌≡◌, ◌≢◌, ◌≤◌, ◌↔◌, ℕ, List, Result, Err, true};
 ghost use Rattle.std.specs.FinMap as map;
-ghost use Rattle.someip_tp.specs.declared.key.ReassemblyKey.{ReassemblyKey};
+ghost use Rattle.someip_reassembly.specs.declared.key.ReassemblyKey.{ReassemblyKey};
 ghost use Rattle.someip_tp.specs.declared.calls.TpCall.{TpCall};
-ghost use Rattle.someip_tp.specs.declared.error.TpError.{TpError};
-ghost use Rattle.someip_tp.specs.declared.reassembly.Offered.{Offered};
-ghost use Rattle.someip_tp.specs.Parts.{Limits, Parts, NoneAfter, parts_at};
-ghost use Rattle.someip_tp.specs.SegmentOffers.{SegmentOffer, parts_after, parts_less};
+ghost use Rattle.someip_segments.specs.declared.error.TpError.{TpError};
+ghost use Rattle.someip_reassembly.specs.declared.reassembly.Offered.{Offered};
+ghost use Rattle.someip_reassembly.specs.Parts.{Limits, Parts, NoneAfter, parts_at};
+ghost use Rattle.someip_reassembly.specs.SegmentOffers.{SegmentOffer, parts_after, parts_less};
 ghost use Rattle.someip_tp.specs.Calls.{MayCalls};
 ghost use Rattle.someip_tp.specs.Moments.{AreInTime, moment_after};
 

@@ -9,10 +9,10 @@ use Rattle.someip_wire.specs.declared.header.MessageType.{MessageType}
 use Rattle.someip_wire.specs.declared.header.MessageType.TheVariants as kinds
 use Rattle.someip_wire.specs.Kinds.{has_tp_flag, with_tp_flag}
 use Rattle.someip_wire.specs.Spelling.{Fits, MessageValue, spelling}
-use Rattle.someip_tp.specs.Segments.{SegmentValue, segment_header, segments_within}
-use Rattle.someip_tp.specs.Sent.{PieceValue, Alone, InSegment, is_long, piece_message, segments_of, sent}
-use Rattle.someip_tp.proofs.SentLemmas.{all_fit}
-use Rattle.someip_tp.specs.SegmentOffers.{SegmentOffer}
+use Rattle.someip_segments.specs.Segments.{SegmentValue, segment_header, segments_within}
+use Rattle.someip_segments.specs.Sent.{PieceValue, Alone, InSegment, is_long, piece_message, segments_of, sent}
+use Rattle.someip_segments.proofs.SentLemmas.{all_fit}
+use Rattle.someip_reassembly.specs.SegmentOffers.{SegmentOffer}
 use Rattle.someip_rpc.specs.declared.call.CallKind.{CallKind}
 use Rattle.someip_rpc.specs.declared.call.CallKind.TheVariants as calls
 use Rattle.someip_rpc.specs.declared.request.Reply.{Reply}

@@ -1,9 +1,9 @@
 -- Clean reuse of keys: when a step breaks it, and the verdict on a run.
 use Rattle.std.specs.Prelude.{true, ◌≡◌, ◌≢◌, ◌<◌, ℕ, ◌+◌, List, length, Ok}
 use Rattle.someip_wire.specs.Spelling.{MessageValue}
-use Rattle.someip_tp.specs.Keys.{segment_key}
-use Rattle.someip_tp.specs.Sent.{is_long}
-use Rattle.someip_tp.specs.declared.key.ReassemblyKey.{ReassemblyKey}
+use Rattle.someip_reassembly.specs.Keys.{segment_key}
+use Rattle.someip_segments.specs.Sent.{is_long}
+use Rattle.someip_reassembly.specs.declared.key.ReassemblyKey.{ReassemblyKey}
 use Rattle.someip_node_rules.specs.Outputs as outputs
 use Rattle.someip_node_rules.specs.Questions.{clock_at}
 use Rattle.someip_node_rules.specs.declared.config.Config.{Config}

@@ -6,7 +6,7 @@ use Rattle.std.specs.BTreeMap as tree
 use Rattle.std.specs.List.{filter_map, flat_map, list_any}
 use Rattle.std.specs.Option.{option_map, option_map_or}
 use Rattle.std.specs.Ordering.{nat_cmp}
-use Rattle.someip_tp.specs.Sent.{is_long}
+use Rattle.someip_segments.specs.Sent.{is_long}
 use Rattle.sd_instances.specs.Eventgroups.{eventgroup_cmp}
 use Rattle.sd_instances.specs.Keys.{instance_cmp}
 use Rattle.sd_instances.specs.declared.keys.InstanceId.{InstanceId}

@@ -1,6 +1,6 @@
 -- The reassembly keys of messages, by their numbers.
 use Rattle.someip_wire.specs.Kinds.{kind_byte}
-use Rattle.someip_tp.specs.declared.key.ReassemblyKey.{ReassemblyKey}
+use Rattle.someip_reassembly.specs.declared.key.ReassemblyKey.{ReassemblyKey}
 use Rattle.someip_world_ledger.specs.declared.stream.Stream.{Stream}
 
 -- the fields of a reassembly key, its Message Type as a number

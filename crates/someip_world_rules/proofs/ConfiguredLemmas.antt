@@ -4,8 +4,8 @@ use Rattle.std.specs.List.{AllByRecursion, Contains}
 use Rattle.std.specs.declared.net.socket_addr.SocketAddrV4.{SocketAddrV4}
 use Rattle.someip_tables.specs.declared.lasting.Lasting.{Lasting}
 use Rattle.someip_wire.specs.Spelling.{Fits, spelling}
-use Rattle.someip_tp.specs.Sent.{PieceValue, piece_message, sent}
-use Rattle.someip_tp.proofs.SentLemmas.{all_fit}
+use Rattle.someip_segments.specs.Sent.{PieceValue, piece_message, sent}
+use Rattle.someip_segments.proofs.SentLemmas.{all_fit}
 use Rattle.sd_wire.specs.declared.entry.ServiceEntry.{ServiceEntry}
 use Rattle.sd_wire.specs.Kinds.{is_offer}
 use Rattle.sd_instances.specs.declared.keys.InstanceId.{InstanceId}

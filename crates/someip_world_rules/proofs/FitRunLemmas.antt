@@ -11,9 +11,9 @@ use Rattle.someip_wire.specs.declared.header.MessageType.{MessageType}
 use Rattle.someip_wire.specs.declared.header.MessageType.TheVariants as kinds
 use Rattle.someip_wire.specs.Kinds.{with_tp_flag}
 use Rattle.someip_wire.specs.Spelling.{Fits, IsBytes, MessageValue, spelling}
-use Rattle.someip_tp.specs.Segments.{segment_header, segments_within}
-use Rattle.someip_tp.specs.Sent.{Alone, InSegment, is_long, piece_message, segments_of, sent}
-use Rattle.someip_tp.proofs.SentLemmas.{all_fit}
+use Rattle.someip_segments.specs.Segments.{segment_header, segments_within}
+use Rattle.someip_segments.specs.Sent.{Alone, InSegment, is_long, piece_message, segments_of, sent}
+use Rattle.someip_segments.proofs.SentLemmas.{all_fit}
 use Rattle.sd_wire.specs.Spelling.{HeadFits}
 use Rattle.sd_wire.specs.Splitting.{FitsDatagram}
 use Rattle.sd_wire.specs.Values.{EntryValue, good}

@@ -6,7 +6,7 @@ use Rattle.std.specs.declared.net.socket_addr.SocketAddrV4.{SocketAddrV4}
 use Rattle.someip_wire.specs.declared.header.Header.{Header}
 use Rattle.someip_wire.specs.declared.header.MessageType.TheVariants as kinds
 use Rattle.someip_wire.specs.Spelling.{MessageValue}
-use Rattle.someip_tp.specs.Sent.{is_long}
+use Rattle.someip_segments.specs.Sent.{is_long}
 use Rattle.sd_instances.specs.declared.keys.InstanceId.{InstanceId}
 use Rattle.someip_rpc.specs.declared.request.Asked.{Asked}
 use Rattle.someip_rpc.specs.declared.request.Reply.{Reply}

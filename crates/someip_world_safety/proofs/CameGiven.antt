@@ -4,11 +4,11 @@ use Rattle.std.specs.List.{AllByRecursion}
 use Rattle.std.specs.Net.Socket.{v4_ip}
 use Rattle.std.proofs.lemmas.Grind.{flat_map-append}
 use Rattle.someip_wire.specs.declared.header.Header.{Header}
-use Rattle.someip_tp.specs.declared.error.TpError.{TpError}
-use Rattle.someip_tp.specs.declared.reassembly.Offered.{Offered}
-use Rattle.someip_tp.specs.declared.reassembly.Offered.TheVariants.{Part, Whole}
-use Rattle.someip_tp.specs.SegmentOffers.{judgement, message_at, parts_after}
-use Rattle.someip_tp.specs.Parts.{Limits}
+use Rattle.someip_segments.specs.declared.error.TpError.{TpError}
+use Rattle.someip_reassembly.specs.declared.reassembly.Offered.{Offered}
+use Rattle.someip_reassembly.specs.declared.reassembly.Offered.TheVariants.{Part, Whole}
+use Rattle.someip_reassembly.specs.SegmentOffers.{judgement, message_at, parts_after}
+use Rattle.someip_reassembly.specs.Parts.{Limits}
 use Rattle.someip_node_rules.specs.declared.config.Config.{Config}
 use Rattle.someip_node_rules.specs.DiscoveryQuestions.{parts_in}
 use Rattle.someip_node_rules.specs.Handling.{target_of}

@@ -7,10 +7,10 @@ use Rattle.std.specs.Prelude.{bytes_eq}
 use Rattle.std.proofs.lemmas.Slice.Eq.{bytes_eq-Decides}
 use Rattle.someip_wire.specs.declared.header.Header.{Header}
 use Rattle.someip_wire.specs.Spelling.{MessageValue}
-use Rattle.someip_tp.specs.declared.key.ReassemblyKey.{ReassemblyKey}
+use Rattle.someip_reassembly.specs.declared.key.ReassemblyKey.{ReassemblyKey}
 use Rattle.someip_tp.specs.Accepted.{HoldsOnly}
-use Rattle.someip_tp.specs.SegmentOffers.{SegmentOffer, message_at, parts_after}
-use Rattle.someip_tp.specs.Parts.{Limits, Part, parts_at}
+use Rattle.someip_reassembly.specs.SegmentOffers.{SegmentOffer, message_at, parts_after}
+use Rattle.someip_reassembly.specs.Parts.{Limits, Part, parts_at}
 use Rattle.someip_tp.proofs.BoundLemmas.{left_same}
 use Rattle.someip_node_rules.specs.declared.config.Config.{Config}
 use Rattle.someip_node_rules.specs.Bringing.{Brings}

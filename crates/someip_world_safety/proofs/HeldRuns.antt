@@ -7,10 +7,10 @@ use Rattle.std.proofs.lemmas.Bool.{eqb-true, eqb-false}
 use Rattle.someip_wire.specs.declared.header.Header.{Header}
 use Rattle.someip_tables.specs.EndpointOrder.{addresses_total, exact_addresses}
 use Rattle.someip_tables.proofs.Entries.{own_test, same_by_test}
-use Rattle.someip_tp.specs.declared.key.ReassemblyKey.{ReassemblyKey}
-use Rattle.someip_tp.specs.Keys.{key_cmp}
-use Rattle.someip_tp.specs.SegmentOffers.{SegmentOffer}
-use Rattle.someip_tp.specs.Parts.{Limits, Part}
+use Rattle.someip_reassembly.specs.declared.key.ReassemblyKey.{ReassemblyKey}
+use Rattle.someip_reassembly.specs.Keys.{key_cmp}
+use Rattle.someip_reassembly.specs.SegmentOffers.{SegmentOffer}
+use Rattle.someip_reassembly.specs.Parts.{Limits, Part}
 use Rattle.someip_node_rules.specs.declared.config.Config.{Config}
 use Rattle.someip_node_rules.specs.declared.error.NodeError.{NodeError}
 use Rattle.someip_node_rules.specs.Bringing.{Brings}

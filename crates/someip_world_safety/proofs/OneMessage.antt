@@ -5,8 +5,8 @@ use Rattle.std.specs.Net.Socket.{v4_ip}
 use Rattle.std.specs.declared.net.socket_addr.SocketAddrV4.{SocketAddrV4}
 use Rattle.someip_wire.specs.Reading.{items_of}
 use Rattle.someip_wire.specs.Spelling.{Fits, MessageValue, spelling}
-use Rattle.someip_tp.specs.Sent.{piece_message, sent}
-use Rattle.someip_tp.proofs.SentLemmas.{all_fit}
+use Rattle.someip_segments.specs.Sent.{piece_message, sent}
+use Rattle.someip_segments.proofs.SentLemmas.{all_fit}
 use Rattle.someip_node_rules.specs.declared.config.Config.{Config}
 use Rattle.someip_node_rules.specs.declared.output.Output.TheVariants.{Sent}
 use Rattle.someip_node_rules.specs.Entries.{discovery_message}

@@ -6,15 +6,15 @@ use Rattle.someip_wire.specs.declared.header.MessageType.{MessageType}
 use Rattle.someip_wire.specs.declared.header.MessageType.TheVariants as kinds
 use Rattle.someip_wire.specs.Kinds.{has_tp_flag, with_tp_flag, without_tp_flag}
 use Rattle.someip_wire.specs.Spelling.{Fits, MessageValue, spelling}
-use Rattle.someip_tp.specs.declared.key.ReassemblyKey.{ReassemblyKey}
+use Rattle.someip_reassembly.specs.declared.key.ReassemblyKey.{ReassemblyKey}
 use Rattle.someip_tp.specs.Accepted.{IsSegmentOf}
-use Rattle.someip_tp.specs.Keys.{segment_key}
-use Rattle.someip_tp.specs.SegmentOffers.{SegmentOffer, offer}
-use Rattle.someip_tp.specs.Segments.{SegmentValue, segment_header, segment_message}
-use Rattle.someip_tp.specs.Sent.{PieceValue, is_long, piece_message, segments_of, sent}
-use Rattle.someip_tp.specs.TpHeader.{segment_in}
+use Rattle.someip_reassembly.specs.Keys.{segment_key}
+use Rattle.someip_reassembly.specs.SegmentOffers.{SegmentOffer, offer}
+use Rattle.someip_segments.specs.Segments.{SegmentValue, segment_header, segment_message}
+use Rattle.someip_segments.specs.Sent.{PieceValue, is_long, piece_message, segments_of, sent}
+use Rattle.someip_segments.specs.TpHeader.{segment_in}
 use Rattle.someip_tp.proofs.AcceptedLemmas.{own_read, segment_is}
-use Rattle.someip_tp.proofs.SentLemmas.{all_fit}
+use Rattle.someip_segments.proofs.SentLemmas.{all_fit}
 use Rattle.someip_node_rules.specs.declared.output.Output.TheVariants.{Sent}
 use Rattle.someip_node_rules.specs.Entries.{discovery_message}
 use Rattle.someip_node_laws.specs.Fitting.{FitsWire}

@@ -5,7 +5,7 @@ use Rattle.std.specs.List.{Contains}
 use Rattle.std.specs.declared.net.ipv4_addr.Ipv4Addr.{Ipv4Addr}
 use Rattle.std.specs.declared.net.socket_addr.SocketAddrV4.{SocketAddrV4}
 use Rattle.someip_wire.specs.Spelling.{MessageValue}
-use Rattle.someip_tp.specs.Sent.{is_long}
+use Rattle.someip_segments.specs.Sent.{is_long}
 use Rattle.sd_instances.specs.declared.eventgroup.Eventgroup.{Eventgroup}
 use Rattle.someip_rpc.specs.declared.call.Call.{Call}
 use Rattle.someip_rpc.specs.declared.ids.EventId.{EventId}

@@ -11,7 +11,7 @@ ghost use Rattle.someipctl_print.specs.Lines.{segment_lines, has_no_tp_header};
 
 use crate::output::{Buffer, CannotWrite, write_hex};
 use crate::parts::{Part, put_parts};
-use someip_tp::read_segment;
+use someip_segments::read_segment;
 use someip_wire::{Message, MessageType};
 use std::io::Write;
 

@@ -1,13 +1,11 @@
 //! Reassembly in slots that are reserved once.
 ghost use Rattle.std.specs.Prelude.{◌≡◌, ◌≢◌, ◌≤◌, ◌%◌, ℕ, Err};
-ghost use Rattle.someip_tp.specs.Parts.{NoneAfter};
-ghost use Rattle.someip_tp.specs.SegmentOffers.{offer, judgement, parts_after};
+ghost use Rattle.someip_reassembly.specs.Parts.{NoneAfter};
+ghost use Rattle.someip_reassembly.specs.SegmentOffers.{offer, judgement, parts_after};
 
-use crate::error::TpError;
-use crate::key::ReassemblyKey;
-use crate::partials::Arrived;
 use crate::pool::slots::Slots;
-use crate::reassembly::{Offered, Reassembly};
+use someip_reassembly::{Arrived, Offered, Reassembly, ReassemblyKey};
+use someip_segments::TpError;
 use std::alloc::Global;
 use std::marker::Model;
 
@@ -27,7 +25,7 @@ pub struct IntervalPool {
 }
 
 impl Model for IntervalPool {
-    ghost use Rattle.someip_tp.specs.Stores.{Store, coded_store, parts_of_entries};
+    ghost use Rattle.someip_reassembly.specs.Stores.{Store, coded_store, parts_of_entries};
     ghost use Rattle.someip_tp.specs.Pools.{ArePooled, entries_in};
 
     ghost Value = { Store };
@@ -43,7 +41,7 @@ impl Model for IntervalPool {
 }
 
 impl Reassembly for IntervalPool {
-    ghost use Rattle.someip_tp.specs.Stores.{Store};
+    ghost use Rattle.someip_reassembly.specs.Stores.{Store};
 
     ghost parts = { λ s. s.parts };
 

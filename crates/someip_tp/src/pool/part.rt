@@ -1,14 +1,15 @@
 //! A message that has come in part, in the room of its slot.
 ghost use Rattle.std.specs.Prelude.{◌≡◌, ◌+◌, ◌%◌, ◌++◌, ◌≤◌, [], false, true, OnOk, OnErr, is_some, unwrap_or, length, nat_le};
 ghost use Rattle.std.specs.FinMap as map;
-ghost use Rattle.someip_tp.specs.Keys.{key_cmp};
-ghost use Rattle.someip_tp.specs.Parts.{is_gone};
-ghost use Rattle.someip_tp.specs.SegmentOffers.{offer, no_part, conflicts, with_offer, message_of};
+ghost use Rattle.someip_reassembly.specs.Keys.{key_cmp};
+ghost use Rattle.someip_reassembly.specs.Parts.{is_gone};
+ghost use Rattle.someip_reassembly.specs.SegmentOffers.{offer, no_part, conflicts, with_offer, message_of};
 ghost use Rattle.someip_tp.specs.Rooms.{IsConsistent, held_bytes};
 
-use crate::key::{ReassemblyKey, compare};
-use crate::partial::{differ, passes, total_of, total_with};
+use crate::pool::key_order::compare;
 use crate::pool::room::Room;
+use someip_reassembly::ReassemblyKey;
+use someip_reassembly::totals::{differ, passes, total_of, total_with};
 use std::alloc::AllocError;
 use std::cmp::Ordering;
 use std::marker::Model;

@@ -3,13 +3,13 @@ ghost use Rattle.std.specs.Prelude.{◌≡◌, ◌≢◌, ◌↔◌, ◌+◌, �
 ghost use Rattle.std.specs.List.{list_any};
 ghost use Rattle.std.specs.FinMap as map;
 ghost use Rattle.std.specs.FinMap.{get, keys};
-ghost use Rattle.someip_tp.specs.SegmentOffers.{differ, passes, placed, added};
-ghost use Rattle.someip_tp.specs.Slices.{byte_at, Agree, IsFront, AppendsFront};
+ghost use Rattle.someip_reassembly.specs.SegmentOffers.{differ, passes, placed, added};
+ghost use Rattle.someip_reassembly.specs.Slices.{byte_at, Agree, IsFront, AppendsFront};
 ghost use Rattle.someip_tp.specs.Blocks.{is_held, other_end, AreTied, AreUpTo};
 ghost use Rattle.someip_tp.specs.Rooms.{IsConsistent, held_bytes, Continues};
 
 use crate::pool::block::{Block, hold_all, is_held};
-use crate::slices::begin_alike;
+use someip_reassembly::begin_alike;
 use std::alloc::{AllocError, Global};
 
 /// The room of a slot: the bytes of a message at their places, and which of them are held. All that

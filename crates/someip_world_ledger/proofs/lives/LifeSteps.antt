@@ -2,7 +2,7 @@
 use Rattle.std.proofs.Common.{◌≡◌, ℕ, suc, Bool, true, false, if◌then◌else◌, List, Option, None, Some, Ok, Err, refl, sym, subst, ◌∙◌}
 use Rattle.std.specs.declared.net.socket_addr.SocketAddrV4.{SocketAddrV4}
 use Rattle.someip_wire.specs.Spelling.{MessageValue}
-use Rattle.someip_tp.specs.declared.key.ReassemblyKey.{ReassemblyKey}
+use Rattle.someip_reassembly.specs.declared.key.ReassemblyKey.{ReassemblyKey}
 use Rattle.someip_node_rules.specs.History.{History}
 use Rattle.someip_node_rules.specs.Inputs as inputs
 use Rattle.someip_node_rules.specs.Inputs.{Input}

@@ -11,11 +11,11 @@ use Rattle.someip_wire.specs.declared.header.MessageType.TheVariants as kinds
 use Rattle.someip_wire.specs.Kinds.{has_tp_flag, with_tp_flag, without_tp_flag}
 use Rattle.someip_wire.specs.Reading.{items_of}
 use Rattle.someip_wire.specs.Spelling.{Fits, MessageValue, spelling}
-use Rattle.someip_tp.specs.Keys.{segment_key}
-use Rattle.someip_tp.specs.declared.key.ReassemblyKey.{ReassemblyKey}
-use Rattle.someip_tp.specs.Segments.{segment_header, segments_within}
-use Rattle.someip_tp.specs.Sent.{PieceValue, Alone, InSegment, is_long, piece_message, segments_of, sent}
-use Rattle.someip_tp.proofs.SentLemmas.{all_fit}
+use Rattle.someip_reassembly.specs.Keys.{segment_key}
+use Rattle.someip_reassembly.specs.declared.key.ReassemblyKey.{ReassemblyKey}
+use Rattle.someip_segments.specs.Segments.{segment_header, segments_within}
+use Rattle.someip_segments.specs.Sent.{PieceValue, Alone, InSegment, is_long, piece_message, segments_of, sent}
+use Rattle.someip_segments.proofs.SentLemmas.{all_fit}
 use Rattle.sd_wire.specs.declared.entry.EntryHead.{EntryHead}
 use Rattle.sd_wire.specs.declared.entry.EntryHead.TheVariants as heads
 use Rattle.sd_wire.specs.declared.entry.EventgroupKind.{EventgroupKind}

@@ -8,8 +8,8 @@ use Rattle.std.proofs.lemmas.List.{append-nil, map-append}
 use Rattle.std.proofs.lemmas.List.Elements.{Contains-append_cases, Contains-append_left, Contains-append_right, Contains-get_or}
 use Rattle.someip_wire.specs.declared.header.Header.{Header}
 use Rattle.someip_wire.specs.Spelling.{MessageValue, spelling}
-use Rattle.someip_tp.specs.Segments.{SegmentValue, segment_at, segment_header, segments_within}
-use Rattle.someip_tp.specs.Sent.{PieceValue, Alone, InSegment, is_long, piece_message, segments_of, sent}
+use Rattle.someip_segments.specs.Segments.{SegmentValue, segment_at, segment_header, segments_within}
+use Rattle.someip_segments.specs.Sent.{PieceValue, Alone, InSegment, is_long, piece_message, segments_of, sent}
 use Rattle.someip_node_rules.specs.declared.output.Output.{Output}
 use Rattle.someip_node_rules.specs.declared.output.Output.TheVariants.{Sent}
 use Rattle.someip_node_rules.specs.Entries.{discovery_message}

@@ -3,9 +3,9 @@ use Rattle.std.proofs.Common.{◌≡◌, arith, ℕ, ◌+◌, Bool, true, false,
 use Rattle.std.specs.List.{Contains}
 use Rattle.std.specs.declared.net.socket_addr.SocketAddrV4.{SocketAddrV4}
 use Rattle.someip_wire.specs.Spelling.{MessageValue}
-use Rattle.someip_tp.specs.Keys.{segment_key}
-use Rattle.someip_tp.specs.Sent.{is_long}
-use Rattle.someip_tp.specs.declared.key.ReassemblyKey.{ReassemblyKey}
+use Rattle.someip_reassembly.specs.Keys.{segment_key}
+use Rattle.someip_segments.specs.Sent.{is_long}
+use Rattle.someip_reassembly.specs.declared.key.ReassemblyKey.{ReassemblyKey}
 use Rattle.someip_node_rules.specs.declared.output.Output.TheVariants.{Sent}
 use Rattle.someip_node_laws.specs.Fitting.{FitsWire}
 use Rattle.someip_node_rules.specs.GoodConfigs.{is_good}

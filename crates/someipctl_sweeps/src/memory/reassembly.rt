@@ -1,5 +1,5 @@
 //! Both bodies of reassembly.
-ghost use Rattle.someip_tp.specs.Parts.{NoneAfter};
+ghost use Rattle.someip_reassembly.specs.Parts.{NoneAfter};
 
 use crate::memory::answers::Answers;
 use crate::memory::sweep::Subject;

@@ -57,7 +57,7 @@ pub chosen-returns : goal.chosen-returns
 unfolding chosen_at
 chosen-returns t c =
     let e = data_of-Some c.args.kind c.in_ok-value-2.value in
-    rw (e, c.in_ok-value-2.ensures.ok) (search rules)
+    rw (e, c.in_ok-value-2.ensures.ok, c.in_ok-body.ensures, c.in_ok-value.ensures) refl
 
 pub fixed-returns-in_err-value : goal.fixed-returns-in_err-value
 fixed-returns-in_err-value t c =

@@ -1,4 +1,4 @@
-use Rattle.someip_tp.proofs.MomentLemmas.{none_in_empty, later, none_after-offer, none_after-offered, none_after-take, none_after-parts_at}
+use Rattle.someip_reassembly.proofs.MomentLemmas.{none_in_empty, later, none_after-offer, none_after-offered, none_after-take, none_after-parts_at}
 use Rattle.someip_tp.proofs.moments.no_part_is_ahead_of_its_caller.Goals as goal
 
 pub returns : goal.returns

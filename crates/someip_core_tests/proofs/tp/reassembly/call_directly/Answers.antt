@@ -1,6 +1,6 @@
 use Rattle.std.proofs.Common.{sym, subst, arith}
-use Rattle.someip_tp.specs.Parts.{NoneAfter}
-use Rattle.someip_tp.proofs.MomentLemmas.{none_in_empty, later, none_after-offered}
+use Rattle.someip_reassembly.specs.Parts.{NoneAfter}
+use Rattle.someip_reassembly.proofs.MomentLemmas.{none_in_empty, later, none_after-offered}
 use Rattle.someip_core_tests.proofs.tp.reassembly.call_directly.Goals as goal
 
 pub offer-first-requires-clause-moments : goal.offer-first-requires-clause-moments

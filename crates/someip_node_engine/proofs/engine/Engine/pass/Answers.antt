@@ -2,8 +2,8 @@ use Rattle.std.proofs.Common.{◌∙◌, ◌+◌, refl, sym, ap, subst, arith}
 use Rattle.std.specs.List.Sorted.{IsStrictlySortedBy}
 use Rattle.sd_instances.specs.Eventgroups.{eventgroup_cmp}
 use Rattle.sd_instances.specs.Keys.{instance_cmp}
-use Rattle.someip_tp.specs.Parts.{parts_at}
-use Rattle.someip_tp.proofs.MomentLemmas.{later, none_after-parts_at}
+use Rattle.someip_reassembly.specs.Parts.{parts_at}
+use Rattle.someip_reassembly.proofs.MomentLemmas.{later, none_after-parts_at}
 use Rattle.sd_core.specs.Endings.{ends_at}
 use Rattle.std.specs.FinMap as finite
 use Rattle.someip_tables.specs.Lastings.{expired}

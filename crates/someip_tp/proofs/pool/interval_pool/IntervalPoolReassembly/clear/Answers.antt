@@ -1,7 +1,7 @@
 use Rattle.std.proofs.Common.{sym, subst}
-use Rattle.someip_tp.specs.Parts.{NoneAfter}
-use Rattle.someip_tp.specs.Stores.{parts_of_entries}
-use Rattle.someip_tp.proofs.MomentLemmas.{none_in_empty}
+use Rattle.someip_reassembly.specs.Parts.{NoneAfter}
+use Rattle.someip_reassembly.specs.Stores.{parts_of_entries}
+use Rattle.someip_reassembly.proofs.MomentLemmas.{none_in_empty}
 use Rattle.someip_tp.proofs.pool.interval_pool.IntervalPoolReassembly.clear.Goals as goal
 
 pub returns-clause-moments : goal.returns-clause-moments

@@ -1,9 +1,9 @@
 use Rattle.std.proofs.Common.{sym, ap, subst, ◌∙◌}
-use Rattle.someip_tp.specs.Parts.{Limits, NoneAfter, parts_at}
-use Rattle.someip_tp.specs.Stores.{parts_of_entries}
+use Rattle.someip_reassembly.specs.Parts.{Limits, NoneAfter, parts_at}
+use Rattle.someip_reassembly.specs.Stores.{parts_of_entries}
 use Rattle.someip_tp.specs.Pools.{entries_in}
-use Rattle.someip_tp.proofs.MomentLemmas.{none_after-parts_at}
-use Rattle.someip_tp.proofs.StoreLemmas.{left_parts}
+use Rattle.someip_reassembly.proofs.MomentLemmas.{none_after-parts_at}
+use Rattle.someip_reassembly.proofs.StoreLemmas.{left_parts}
 use Rattle.someip_tp.proofs.RisingLemmas.{apart}
 use Rattle.someip_tp.proofs.pool.interval_pool.IntervalPoolReassembly.expire.Goals as goal
 

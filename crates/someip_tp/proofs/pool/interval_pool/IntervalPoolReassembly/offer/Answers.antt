@@ -1,10 +1,10 @@
 use Rattle.std.proofs.Common.{◌≡◌, ap, subst, ◌∙◌}
-use Rattle.someip_tp.specs.Parts.{Limits, parts_at}
-use Rattle.someip_tp.specs.SegmentOffers.{SegmentOffer, offer}
-use Rattle.someip_tp.specs.Stores.{Offers, parts_of_entries}
+use Rattle.someip_reassembly.specs.Parts.{Limits, parts_at}
+use Rattle.someip_reassembly.specs.SegmentOffers.{SegmentOffer, offer}
+use Rattle.someip_reassembly.specs.Stores.{Offers, parts_of_entries}
 use Rattle.someip_tp.specs.Pools.{entries_in}
-use Rattle.someip_tp.proofs.MomentLemmas.{none_after-offered_by}
-use Rattle.someip_tp.proofs.StoreLemmas.{left_parts, judged_so, changed_so}
+use Rattle.someip_reassembly.proofs.MomentLemmas.{none_after-offered_by}
+use Rattle.someip_reassembly.proofs.StoreLemmas.{left_parts, judged_so, changed_so}
 use Rattle.someip_tp.proofs.RisingLemmas.{apart}
 use Rattle.someip_tp.proofs.pool.interval_pool.IntervalPoolReassembly.offer.Goals as goal
 

@@ -1,8 +1,8 @@
 use Rattle.std.proofs.Common.{sym, ap, subst, ◌∙◌}
-use Rattle.someip_tp.specs.Parts.{NoneAfter}
-use Rattle.someip_tp.specs.SegmentOffers.{parts_less}
-use Rattle.someip_tp.specs.Stores.{parts_of_entries}
-use Rattle.someip_tp.proofs.MomentLemmas.{none_after-take}
+use Rattle.someip_reassembly.specs.Parts.{NoneAfter}
+use Rattle.someip_reassembly.specs.SegmentOffers.{parts_less}
+use Rattle.someip_reassembly.specs.Stores.{parts_of_entries}
+use Rattle.someip_reassembly.proofs.MomentLemmas.{none_after-take}
 use Rattle.someip_tp.proofs.pool.interval_pool.IntervalPoolReassembly.take.Goals as goal
 
 pub returns-in_err-taken-clause-moments : goal.returns-in_err-taken-clause-moments

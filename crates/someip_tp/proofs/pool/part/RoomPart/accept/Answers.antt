@@ -1,10 +1,10 @@
 use Rattle.std.proofs.Common.{◌≡◌, false, ap, ◌∙◌, length}
 use Rattle.std.specs.FinMap.{get}
-use Rattle.someip_tp.specs.SegmentOffers.{SegmentOffer, offer, conflicts}
+use Rattle.someip_reassembly.specs.SegmentOffers.{SegmentOffer, offer, conflicts}
 use Rattle.someip_tp.specs.Rooms.{held_bytes}
 use Rattle.someip_tp.specs.RoomParts.{view_part}
-use Rattle.someip_tp.proofs.Placed.{agree_where_none_differs}
-use Rattle.someip_tp.proofs.PartialLemmas.{no_conflict}
+use Rattle.someip_reassembly.proofs.Placed.{agree_where_none_differs}
+use Rattle.someip_reassembly.proofs.PartialLemmas.{no_conflict}
 use Rattle.someip_tp.proofs.PoolLemmas.{fit_of, last_past, before_end, sound_still}
 use Rattle.someip_tp.proofs.pool.part.RoomPart.accept.Goals as goal
 

@@ -1,9 +1,9 @@
 use Rattle.std.proofs.Common.{◌≡◌, true, ap, ◌∙◌, refl, [], ◌++◌, unwrap_or}
 use Rattle.std.specs.Option.{is_some}
 use Rattle.std.proofs.lemmas.Result.{on_ok_weaker}
-use Rattle.someip_tp.specs.SegmentOffers.{message_of}
+use Rattle.someip_reassembly.specs.SegmentOffers.{message_of}
 use Rattle.someip_tp.specs.RoomParts.{view_part}
-use Rattle.someip_tp.proofs.PartialLemmas.{message_appended}
+use Rattle.someip_reassembly.proofs.PartialLemmas.{message_appended}
 use Rattle.someip_tp.proofs.PoolLemmas.{held_below}
 use Rattle.someip_tp.proofs.pool.part.RoomPart.append_message.Goals as goal
 

@@ -1,6 +1,6 @@
 use Rattle.std.proofs.Common.{◌≡◌, ℕ, ◌<◌, ◌+◌, ◌*◌, Some}
 use Rattle.std.specs.FinMap.{get}
-use Rattle.someip_tp.specs.Slices.{byte_at}
+use Rattle.someip_reassembly.specs.Slices.{byte_at}
 use Rattle.someip_tp.specs.Rooms.{held_bytes}
 use Rattle.someip_tp.proofs.pool.room.Room.clashes.Given as goal
 

@@ -1,5 +1,5 @@
 use Rattle.std.proofs.Common.{◌≡◌, ◌≤◌, not, length}
-use Rattle.someip_tp.specs.Parts.{is_gone}
+use Rattle.someip_reassembly.specs.Parts.{is_gone}
 use Rattle.someip_tp.specs.Pools.{ArePooled, SameBounds, entries_in}
 use Rattle.someip_tp.proofs.SlotLemmas.{kept_from}
 use Rattle.someip_tp.proofs.pool.slots.Slots.free_each_gone.Given as goal

@@ -1,0 +1,3 @@
+pub mod SegmentsLemmas
+pub mod SegmentTexts
+pub mod SentLemmas

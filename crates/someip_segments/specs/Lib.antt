@@ -1,0 +1,4 @@
+pub mod Names
+pub mod TpHeader
+pub mod Segments
+pub mod Sent

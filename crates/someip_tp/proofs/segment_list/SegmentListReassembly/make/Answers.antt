@@ -1,8 +1,0 @@
-use Rattle.std.proofs.Common.{sym, subst}
-use Rattle.someip_tp.specs.Parts.{NoneAfter}
-use Rattle.someip_tp.specs.Stores.{parts_of_entries}
-use Rattle.someip_tp.proofs.MomentLemmas.{none_in_empty}
-use Rattle.someip_tp.proofs.segment_list.SegmentListReassembly.make.Goals as goal
-
-pub returns-clause-moments : goal.returns-clause-moments
-returns-clause-moments c = λ at. subst (λ items. NoneAfter at (parts_of_entries items)) (sym c.new.ensures.items) (none_in_empty at)
