@@ -1,7 +1,7 @@
 //! Tests of the program below its `main`: what its commands do, and how it ends.
 //!
 //! Tests stand over the crates that they try, since a crate is proved again with its tests. Commands with what they
-//! print are the cases of `someip_cases`; here stands what no command line shows.
+//! print are the cases of `someipctl_trials`; here stands what no command line shows.
 //!
 //! - `cli`: what words come to, and the texts and statuses of failures;
 //! - `commands`: captures and payloads;

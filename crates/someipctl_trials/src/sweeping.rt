@@ -1,5 +1,6 @@
 //! What the program's words ask for, one after the other.
 
+use crate::cases::run_cases;
 use crate::error::SweepError;
 use crate::findings::Findings;
 use crate::memory::sweep_memory;
@@ -10,14 +11,17 @@ use std::alloc::Global;
 use std::rt::{Env, Files};
 use std::{env, fs, io};
 
+/// The file of the cases.
+const CASES: &str = "cases";
+
 /// The file of the setup.
-const SETUP: &str = "two.toml";
+const SETUP: &str = "examples/runs/two.toml";
 
 /// The file of the setup with a liar.
-const SETUP_WITH_LIAR: &str = "liars.toml";
+const SETUP_WITH_LIAR: &str = "examples/runs/liars.toml";
 
 /// The file of the vectors.
-const VECTORS: &str = "all.txt";
+const VECTORS: &str = "examples/vectors/all.txt";
 
 /// The schedules that are drawn over the setup of two nodes.
 const SCHEDULES: Schedules = Schedules {
@@ -66,11 +70,12 @@ fn sweep_each<R: Files + Print + AllocGlobal>(
     Ok(is_clean)
 }
 
-/// Makes the sweep of a word, and prints what it comes to. A number asks for the lines of its schedule. It answers
-/// whether nothing was found.
+/// Makes the sweep of a word, and prints what it comes to, or runs the cases. A number asks for the lines of its
+/// schedule. It answers whether nothing was found.
 fn sweep<R: Files + Print + AllocGlobal>(rt: &R, word: &str) -> Result<bool, SweepError> {
     let mut findings = Findings::new(rt.alloc());
     let done = match word {
+        "cases" => return run_all_cases(rt),
         "schedules" => sweep_schedules(rt, SETUP, SCHEDULES, &mut findings)?,
         "liars" => sweep_schedules(rt, SETUP_WITH_LIAR, AMONG_LIARS, &mut findings)?,
         "inputs" => sweep_inputs(rt, &mut findings)?,
@@ -78,6 +83,13 @@ fn sweep<R: Files + Print + AllocGlobal>(rt: &R, word: &str) -> Result<bool, Swe
         number => return print_schedule_of(rt, number),
     };
     Ok(print(rt, done.as_str(), findings.lines())?)
+}
+
+/// Runs the cases. What they print is judged by who reads it.
+fn run_all_cases<R: Files + Print + AllocGlobal>(rt: &R) -> Result<bool, SweepError> {
+    let text = read_text(rt, CASES)?;
+    run_cases(rt, text.as_str())?;
+    Ok(true)
 }
 
 /// Makes the sweep over schedules for the setup of a file.

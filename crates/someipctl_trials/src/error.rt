@@ -26,7 +26,7 @@ impl fmt::Display for SweepError {
             SweepError::Usage => {
                 write!(
                     f,
-                    "usage: someipctl_sweeps [memory SWEEP again|left-out|bare] [schedules] [liars] [inputs] [fronts] [NUMBER] [liars-NUMBER]"
+                    "usage: someipctl_trials [memory SWEEP again|left-out|bare] [cases] [schedules] [liars] [inputs] [fronts] [NUMBER] [liars-NUMBER]"
                 )
             }
             SweepError::CannotRead => write!(f, "cannot read the data"),

@@ -1,4 +1,4 @@
-use Rattle.someipctl_sweeps.proofs.memory.reassembly.Store.act.Goals as goal
+use Rattle.someipctl_trials.proofs.memory.reassembly.Store.act.Goals as goal
 
 pub invariant_of-kept : goal.invariant_of-kept
 invariant_of-kept g c = record { timely = c.take-taken.ensures.moments c.in-Take-Some.kept.now c.in-Take-Some.kept.timely }

@@ -1,10 +1,12 @@
-//! `someipctl_sweeps`: tries the stack over many inputs that loops make, and while memory is refused, and prints what
-//! it finds wrong.
+//! `someipctl_trials`: runs the commands of a file, and prints what each of them does; and tries the stack over many
+//! inputs that loops make, and while memory is refused, and prints what it finds wrong.
 //!
-//! Its words are names of sweeps: `schedules`, `liars`, `inputs` and `fronts`, and before them may stand
-//! `memory SWEEP again|left-out|bare`. docs/SWEEPS.md tells what each does.
+//! Its words are `cases`, which runs the commands of the file `cases` of `data/`, and names of sweeps: `schedules`,
+//! `liars`, `inputs` and `fronts`. Before them may stand `memory SWEEP again|left-out|bare`. docs/SWEEPS.md tells what
+//! each sweep does, and the crate's file `stdout` what comes of the words in `args`.
 #![tactic(auto)]
 
+mod cases;
 mod draws;
 mod error;
 mod findings;
