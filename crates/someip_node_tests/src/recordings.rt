@@ -1,6 +1,6 @@
 //! What is told of the packets that a recording gives no datagram of, and recordings that are not read or
 //! written whole.
-use crate::endings::is_printed;
+use crate::printed::is_printed;
 use crate::slow::{Limits, SlowWriter};
 use someipctl_commands::LeftOut;
 use someipctl_commands::recordings::{RecordingFault, show_recording};

@@ -1,5 +1,6 @@
 //! What arguments come to, how the program ends, and the texts for standard error.
-use crate::endings::{is_end, is_printed};
+use crate::endings::is_end;
+use crate::printed::is_printed;
 use crate::slow::{Limits, SlowWriter, UNLIMITED};
 use recording::RecordingError;
 use rows::{ROWS, Wanted};

@@ -1,15 +1,9 @@
 //! How what the program does ends. One function takes the failure, so that no other has to drop it: one that does
 //! takes the prover far longer.
+use crate::printed::is_printed;
 use someipctl_cli::Failure;
 use someipctl_inputs::Outcome;
 use std::alloc::Global;
-use std::fmt::Display;
-
-/// Whether a value is printed so.
-pub fn is_printed<D: Display>(alloc: Global, value: &D, text: &str) -> Option<bool> {
-    let printed = value.to_string(alloc).ok()?;
-    Some(printed.as_str() == text)
-}
 
 /// Whether this is the text of a failure, where one is named.
 fn has_text(alloc: Global, failure: &Failure<'_>, text: Option<&str>) -> bool {
