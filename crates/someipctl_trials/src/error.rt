@@ -20,21 +20,28 @@ pub enum SweepError {
     OutOfMemory,
 }
 
-impl fmt::Display for SweepError {
-    fn fmt<W: fmt::Write>(&self, f: &mut fmt::Formatter<W>) -> fmt::Result {
+impl SweepError {
+    /// What it says, behind the place of it.
+    fn what(&self) -> &'static str {
         match self {
             SweepError::Usage => {
-                write!(
-                    f,
-                    "usage: someipctl_trials [memory SWEEP again|left-out|bare] [cases] [schedules] [liars] [inputs] [fronts] [NUMBER] [liars-NUMBER]"
-                )
+                "usage: someipctl_trials [memory SWEEP again|left-out|bare] [cases] [schedules] [liars] [inputs] [fronts] [NUMBER] [liars-NUMBER]"
             }
-            SweepError::CannotRead => write!(f, "cannot read the data"),
-            SweepError::BadVector(number) => write!(f, "line {number}: bad vector"),
-            SweepError::BadSetup => write!(f, "bad setup"),
-            SweepError::CannotWrite => write!(f, "cannot write"),
-            SweepError::OutOfMemory => write!(f, "out of memory"),
+            SweepError::CannotRead => "cannot read the data",
+            SweepError::BadVector(_) => "bad vector",
+            SweepError::BadSetup => "bad setup",
+            SweepError::CannotWrite => "cannot write",
+            SweepError::OutOfMemory => "out of memory",
         }
+    }
+}
+
+impl fmt::Display for SweepError {
+    fn fmt<W: fmt::Write>(&self, f: &mut fmt::Formatter<W>) -> fmt::Result {
+        if let SweepError::BadVector(number) = self {
+            write!(f, "line {number}: ")?;
+        }
+        f.write_str(self.what())
     }
 }
 

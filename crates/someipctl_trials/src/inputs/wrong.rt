@@ -25,19 +25,28 @@ pub enum InputWrong {
     OutOfMemory,
 }
 
+impl InputWrong {
+    /// What is wrong.
+    fn what(&self) -> &'static str {
+        match self {
+            InputWrong::PastEnd => "a place past the end",
+            InputWrong::NotWritten => "what was read is not written",
+            InputWrong::NotReadAgain => "what was written is not read as it was",
+            InputWrong::OtherFront => "the messages before the change are read otherwise",
+            InputWrong::TwoFirsts => "the first message is read in two ways",
+            InputWrong::Refused(_) => "the node refuses the datagram",
+            InputWrong::OtherAnswer => "the node answers a call otherwise",
+            InputWrong::OutOfMemory => "out of memory",
+        }
+    }
+}
+
 impl fmt::Display for InputWrong {
     fn fmt<W: fmt::Write>(&self, f: &mut fmt::Formatter<W>) -> fmt::Result {
+        f.write_str(self.what())?;
         match self {
-            InputWrong::PastEnd => write!(f, "a place past the end"),
-            InputWrong::NotWritten => write!(f, "what was read is not written"),
-            InputWrong::NotReadAgain => write!(f, "what was written is not read as it was"),
-            InputWrong::OtherFront => {
-                write!(f, "the messages before the change are read otherwise")
-            }
-            InputWrong::TwoFirsts => write!(f, "the first message is read in two ways"),
-            InputWrong::Refused(error) => write!(f, "the node refuses the datagram: {error}"),
-            InputWrong::OtherAnswer => write!(f, "the node answers a call otherwise"),
-            InputWrong::OutOfMemory => write!(f, "out of memory"),
+            InputWrong::Refused(error) => write!(f, ": {error}"),
+            _ => Ok(()),
         }
     }
 }

@@ -37,46 +37,55 @@ pub enum ScheduleWrong {
     OutOfMemory,
 }
 
+impl ScheduleWrong {
+    /// The step at which it is wrong, if it is at one.
+    fn step(&self) -> Option<usize> {
+        match self {
+            ScheduleWrong::NoCall(step)
+            | ScheduleWrong::NotSubscribed(step)
+            | ScheduleWrong::NothingCame(step)
+            | ScheduleWrong::TwoTexts(step)
+            | ScheduleWrong::OtherSender(step)
+            | ScheduleWrong::OtherPeer(step)
+            | ScheduleWrong::NotAnswered(step)
+            | ScheduleWrong::NotPublished(step)
+            | ScheduleWrong::NotConfigured(step)
+            | ScheduleWrong::OtherSubscribers(step)
+            | ScheduleWrong::NotSilent(step) => Some(*step),
+            ScheduleWrong::BadLine | ScheduleWrong::NoTrace(_) | ScheduleWrong::OutOfMemory => None,
+        }
+    }
+
+    /// What is wrong, but for the step.
+    fn what(&self) -> &'static str {
+        match self {
+            ScheduleWrong::BadLine => "a drawn line is no step",
+            ScheduleWrong::NoTrace(_) => "the run has no trace",
+            ScheduleWrong::NoCall(_) => "handed up for no call that waits",
+            ScheduleWrong::NotSubscribed(_) => "event without a subscription",
+            ScheduleWrong::NothingCame(_) => "handed up though nothing came of a peer",
+            ScheduleWrong::TwoTexts(_) => "an output has two texts",
+            ScheduleWrong::OtherSender(_) => "given by another",
+            ScheduleWrong::OtherPeer(_) => "taken of another peer",
+            ScheduleWrong::NotAnswered(_) => "an answer that its server did not give",
+            ScheduleWrong::NotPublished(_) => "an event that its server did not publish",
+            ScheduleWrong::NotConfigured(_) => "an offer that its server is not configured with",
+            ScheduleWrong::OtherSubscribers(_) => "an event goes to others than its subscribers",
+            ScheduleWrong::NotSilent(_) => "a liar that nobody heard changes something",
+            ScheduleWrong::OutOfMemory => "out of memory",
+        }
+    }
+}
+
 impl fmt::Display for ScheduleWrong {
     fn fmt<W: fmt::Write>(&self, f: &mut fmt::Formatter<W>) -> fmt::Result {
-        match self {
-            ScheduleWrong::BadLine => write!(f, "a drawn line is no step"),
-            ScheduleWrong::NoTrace(error) => write!(f, "{error}"),
-            ScheduleWrong::NoCall(step) => {
-                write!(f, "step {step}: handed up for no call that waits")
-            }
-            ScheduleWrong::NotSubscribed(step) => {
-                write!(f, "step {step}: event without a subscription")
-            }
-            ScheduleWrong::NothingCame(step) => {
-                write!(f, "step {step}: handed up though nothing came of a peer")
-            }
-            ScheduleWrong::TwoTexts(step) => write!(f, "step {step}: an output has two texts"),
-            ScheduleWrong::OtherSender(step) => write!(f, "step {step}: given by another"),
-            ScheduleWrong::OtherPeer(step) => write!(f, "step {step}: taken of another peer"),
-            ScheduleWrong::NotAnswered(step) => {
-                write!(f, "step {step}: an answer that its server did not give")
-            }
-            ScheduleWrong::NotPublished(step) => {
-                write!(f, "step {step}: an event that its server did not publish")
-            }
-            ScheduleWrong::NotConfigured(step) => {
-                write!(
-                    f,
-                    "step {step}: an offer that its server is not configured with"
-                )
-            }
-            ScheduleWrong::OtherSubscribers(step) => {
-                write!(
-                    f,
-                    "step {step}: an event goes to others than its subscribers"
-                )
-            }
-            ScheduleWrong::NotSilent(step) => {
-                write!(f, "step {step}: a liar that nobody heard changes something")
-            }
-            ScheduleWrong::OutOfMemory => write!(f, "out of memory"),
+        if let ScheduleWrong::NoTrace(error) = self {
+            return write!(f, "{error}");
         }
+        if let Some(step) = self.step() {
+            write!(f, "step {step}: ")?;
+        }
+        f.write_str(self.what())
     }
 }
 
