@@ -1,6 +1,6 @@
 # memory: each growth of memory is refused in turn.
 #
-# The program someipctl_sweeps does the calls of one kind, three times in one process; it ends with status 1 and says
+# The program someipctl_trials does the calls of one kind, three times in one process; it ends with status 1 and says
 # which act answered otherwise than it has to. The program someipctl is judged by what it prints.
 #
 # Some calls ask for memory a second time where the first is refused, and go on. So where a run does not differ although
@@ -58,7 +58,7 @@ sweep_kind() {
     echo unrefused >"$scratch/unrefused"
     growth=1
     while :; do
-        call_until_refused "$growth" "$scratch/unrefused" 0 "$sweeps_program" memory "$1" "$2"
+        call_until_refused "$growth" "$scratch/unrefused" 0 "$trials_program" memory "$1" "$2"
         [ "$seen" -ge "$growth" ] || break
         growths=$((growths + 1))
         came=$(cat "$scratch/out")
@@ -74,9 +74,9 @@ sweep_kind() {
 
 # The acts that take no memory meet no growth: with them there are as many as without them.
 sweep_without_memory() {
-    call_refused 0 1 "$sweeps_program" memory "$1" again
+    call_refused 0 1 "$trials_program" memory "$1" again
     whole=$seen
-    call_refused 0 1 "$sweeps_program" memory "$1" bare
+    call_refused 0 1 "$trials_program" memory "$1" bare
     growth=0
     row=0
     [ "$whole" = "$seen" ] || tell_growth "$1" "$whole growths with the acts that take no memory, $seen without them"

@@ -1,7 +1,9 @@
-//! Tests of nodes, of the node for other languages, of setups, of schedules and of runs.
+//! Tests of nodes, of the node for other languages, of setups, of schedules and of runs, and of the program below its
+//! `main`: what its commands do, and how it ends.
 //!
 //! Tests stand over the crates that they try, since a crate is proved again with its tests. What is tried
-//! stands in tables of plain data, and the rows of one kind are tried by one test.
+//! stands in tables of plain data, and the rows of one kind are tried by one test. Commands with what they print are
+//! the cases of `someipctl_trials`; of the program stands here what no command line shows.
 //!
 //! - `acts`, `nodes`: what is done with a node, and the nodes that it is done with;
 //! - `worked`, `requests`, `discovery`, `moments`, `waking`, `drops`, `configs`: the rows;
@@ -9,7 +11,14 @@
 //! - `starts`, `carried`: the node for other languages, its start by a text, and two whose outputs are taken
 //!   and carried by hand;
 //! - `setup`, `schedule`: what is read of setups and of schedules;
-//! - `world`, `bodies`: short runs, and runs over both bodies of reassembly.
+//! - `world`, `bodies`: short runs, and runs over both bodies of reassembly;
+//! - `cli`: what words come to, and the texts and statuses of failures;
+//! - `commands`: captures and payloads;
+//! - `failing`: commands over a reader and a writer that fail, for each of their calls;
+//! - `recordings`: what is left out of a recording, and recordings that are not written whole;
+//! - `laws`: the laws of the commands and of the command line;
+//! - `printed`, `endings`, `slow`: how values are printed, how what the program does ends, and readers and writers
+//!   that move few bytes a call.
 #![tactic(auto)]
 
 #[cfg(test)]
@@ -19,6 +28,10 @@ mod bodies;
 #[cfg(test)]
 mod carried;
 #[cfg(test)]
+mod cli;
+#[cfg(test)]
+mod commands;
+#[cfg(test)]
 mod configs;
 #[cfg(test)]
 mod discovery;
@@ -27,17 +40,27 @@ mod drops;
 #[cfg(test)]
 mod embedding;
 #[cfg(test)]
+mod endings;
+#[cfg(test)]
+mod failing;
+#[cfg(test)]
+mod laws;
+#[cfg(test)]
 mod moments;
 #[cfg(test)]
 mod nodes;
 #[cfg(test)]
 mod printed;
 #[cfg(test)]
+mod recordings;
+#[cfg(test)]
 mod requests;
 #[cfg(test)]
 mod schedule;
 #[cfg(test)]
 mod setup;
+#[cfg(test)]
+mod slow;
 #[cfg(test)]
 mod starts;
 #[cfg(test)]

@@ -20,4 +20,4 @@ mod program;
 pub use command::{Command, LineError, command_of};
 pub use failure::Failure;
 pub use help::answer_error;
-pub use program::{answer, answer_aloud, report, run, words_of};
+pub use program::{answer, report, run, words_of};

@@ -37,29 +37,6 @@ fn answer_words<R: Files + Print + Eprint + AllocGlobal>(rt: &R, words: &[String
     }
 }
 
-/// The same of these words, but what kept it from its work is told on standard output, for a program that shows
-/// one call after the other.
-pub fn answer_aloud<R: Files + Print + Eprint + AllocGlobal>(
-    rt: &R,
-    words: &[String],
-) -> io::Result<u8> {
-    match run(rt, words) {
-        Ok(outcome) => Ok(outcome.status()),
-        Err(failure) => tell(rt, failure),
-    }
-}
-
-/// Prints what the program prints to standard error, and gives the exit status.
-fn tell<R: Print>(rt: &R, failure: Failure<'_>) -> io::Result<u8> {
-    let status = failure.status();
-    match &failure {
-        // The text of a usage fault is whole lines.
-        Failure::Usage(error) => print!(rt; "{error}")?,
-        other => println!(rt; "{other}")?,
-    }
-    Ok(status)
-}
-
 /// Prints why the program failed, and gives its exit status.
 pub fn report<R: Eprint>(rt: &R, failure: Failure<'_>) -> u8
     ensures { result ≡ status_of_failure failure.entry }

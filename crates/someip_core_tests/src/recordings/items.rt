@@ -1,41 +1,90 @@
-//! The records of a file.
-use recording::{Record, Recording, RecordingError};
-use std::alloc::{AllocError, Global};
+//! What a file holds, and whether it gives that.
+use recording::{Datagram, Endpoint, Record, Recording, RecordingError, Skipped, Time};
+use std::alloc::Global;
 
-/// The records of a file in order, and its fault, if there is one.
-pub(crate) fn items_of(
-    alloc: Global,
-    file: &[u8],
-) -> Result<Vec<Result<Record<'_>, RecordingError>>, AllocError> {
-    let mut items = Vec::new(alloc);
-    match Recording::open(alloc, file) {
-        Ok(mut recording) => {
-            while let Some(item) = recording.next() {
-                items.push(item)?;
-                if item.is_err() {
-                    return Ok(items);
-                }
-            }
-        }
-        Err(e) => items.push(Err(e))?,
-    }
-    Ok(items)
+/// What a file gives.
+#[derive(Clone, Copy)]
+pub(crate) enum Wanted {
+    /// A datagram of 1, 2, 3 at this second and nanosecond.
+    At(u64, u32),
+    /// A datagram without bytes at this second and nanosecond.
+    EmptyAt(u64, u32),
+    /// A datagram of these bytes without a time.
+    Untimed(&'static [u8]),
+    /// A packet without a datagram.
+    Other(Skipped),
+    /// A fault.
+    Ends(RecordingError),
 }
 
-/// Whether what was found is what was wanted.
-pub(crate) fn is_item(
-    found: &Result<Record<'_>, RecordingError>,
-    wanted: &Result<Record<'static>, RecordingError>,
-) -> bool {
-    match (found, wanted) {
-        (Ok(Record::Datagram(found)), Ok(Record::Datagram(wanted))) => {
-            found.time == wanted.time
-                && found.from == wanted.from
-                && found.to == wanted.to
-                && found.payload == wanted.payload
+/// A time.
+fn time(seconds: u64, nanoseconds: u32) -> Option<Time> {
+    Some(Time {
+        seconds,
+        nanoseconds,
+    })
+}
+
+impl Wanted {
+    /// Whether a record is the one that is wanted.
+    fn is_record(self, found: &Record<'_>) -> bool {
+        match (self, found) {
+            (Wanted::At(seconds, nanoseconds), Record::Datagram(found)) => {
+                is_sent(found, time(seconds, nanoseconds), &[1, 2, 3])
+            }
+            (Wanted::EmptyAt(seconds, nanoseconds), Record::Datagram(found)) => {
+                is_sent(found, time(seconds, nanoseconds), &[])
+            }
+            (Wanted::Untimed(payload), Record::Datagram(found)) => is_sent(found, None, payload),
+            (Wanted::Other(skipped), Record::Other(found)) => skipped == *found,
+            _ => false,
         }
-        (Ok(Record::Other(found)), Ok(Record::Other(wanted))) => found == wanted,
-        (Err(found), Err(wanted)) => found == wanted,
-        _ => false,
     }
+
+    /// Whether a fault is the one that is wanted.
+    fn is_fault(self, found: RecordingError) -> bool {
+        match self {
+            Wanted::Ends(fault) => fault == found,
+            _ => false,
+        }
+    }
+}
+
+/// Whether a datagram is the one that each file sends, at this time and with this payload.
+fn is_sent(found: &Datagram<'_>, time: Option<Time>, payload: &[u8]) -> bool {
+    let from = Endpoint {
+        ip: [192, 168, 0, 1],
+        port: 30490,
+    };
+    let to = Endpoint {
+        ip: [192, 168, 0, 2],
+        port: 30501,
+    };
+    found.time == time && found.from == from && found.to == to && found.payload == payload
+}
+
+/// Whether a file gives these, one by one, and nothing else.
+pub(crate) fn gives(alloc: Global, file: &[u8], wanted: &[Wanted]) -> bool {
+    match Recording::open(alloc, file) {
+        Ok(mut recording) => has_left(&mut recording, wanted),
+        Err(fault) => match wanted {
+            [wanted] => wanted.is_fault(fault),
+            _ => false,
+        },
+    }
+}
+
+/// Whether these are left to come in a recording, one by one, and nothing else.
+fn has_left(recording: &mut Recording<'_>, wanted: &[Wanted]) -> bool {
+    for wanted in wanted {
+        let is_wanted = match recording.next() {
+            Some(Ok(found)) => wanted.is_record(&found),
+            Some(Err(found)) => wanted.is_fault(found),
+            None => false,
+        };
+        if !is_wanted {
+            return false;
+        }
+    }
+    recording.next().is_none()
 }

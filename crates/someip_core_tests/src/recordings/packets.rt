@@ -1,7 +1,8 @@
 //! Packets of each link type, and each reason for which one gives no datagram.
-use super::items::{is_item, items_of};
+use super::items::Wanted::Other;
+use super::items::{Wanted, gives};
 use crate::rows::Row;
-use recording::{Datagram, Endpoint, Record, RecordingError, Skipped, Time};
+use recording::Skipped;
 use std::alloc::{AllocError, Global};
 
 /// The header of a file of classic pcap, but for the lower half of the link type: the numbers have their
@@ -31,74 +32,21 @@ fn file_of(alloc: Global, link: u16, packet: &[u8]) -> Result<Vec<u8>, AllocErro
     Ok(file)
 }
 
-/// The datagram that a packet gives: the three bytes 1, 2 and 3, or none.
-#[derive(Clone, Copy)]
-enum Given {
-    Sent,
-    Empty,
-}
-
 /// A link type, the bytes of a packet, and what it gives.
-pub(super) struct Packet(u16, &'static [u8], Result<Given, Skipped>);
+pub(super) struct Packet(u16, &'static [u8], Wanted);
 
 impl Row for Packet {
     fn is_right(&self, alloc: Global) -> Option<bool> {
         let file = file_of(alloc, self.0, self.1).ok()?;
-        let items = items_of(alloc, &file).ok()?;
-        Some(self.is_given(&items))
+        Some(gives(alloc, &file, &[self.2]))
     }
 }
 
-impl Packet {
-    /// Whether this is all that the file gives.
-    fn is_given(&self, items: &[Result<Record<'_>, RecordingError>]) -> bool {
-        match items {
-            [found] => is_item(found, &self.wanted()),
-            _ => false,
-        }
-    }
+/// What a packet gives: the three bytes 1, 2 and 3, at the time of each packet.
+const SENT: Wanted = Wanted::At(1, 1000);
 
-    /// What is wanted as it is read.
-    fn wanted(&self) -> Result<Record<'static>, RecordingError> {
-        match self.2 {
-            Ok(Given::Sent) => Ok(Record::Datagram(SENT)),
-            Ok(Given::Empty) => Ok(Record::Datagram(EMPTY)),
-            Err(skipped) => Ok(Record::Other(skipped)),
-        }
-    }
-}
-
-const SENT: Datagram<'static> = Datagram {
-    time: Some(Time {
-        seconds: 1,
-        nanoseconds: 1000,
-    }),
-    from: Endpoint {
-        ip: [192, 168, 0, 1],
-        port: 30490,
-    },
-    to: Endpoint {
-        ip: [192, 168, 0, 2],
-        port: 30501,
-    },
-    payload: &[1, 2, 3],
-};
-
-const EMPTY: Datagram<'static> = Datagram {
-    time: Some(Time {
-        seconds: 1,
-        nanoseconds: 1000,
-    }),
-    from: Endpoint {
-        ip: [192, 168, 0, 1],
-        port: 30490,
-    },
-    to: Endpoint {
-        ip: [192, 168, 0, 2],
-        port: 30501,
-    },
-    payload: &[],
-};
+/// A datagram without bytes.
+const EMPTY: Wanted = Wanted::EmptyAt(1, 1000);
 
 pub(super) const PACKETS: &[Packet] = &[
     // Ethernet, in which nothing pads.
@@ -109,7 +57,7 @@ pub(super) const PACKETS: &[Packet] = &[
             0x11, 0, 0, 0xc0, 0xa8, 0, 1, 0xc0, 0xa8, 0, 2, 0x77, 0x1a, 0x77, 0x25, 0, 0x0b, 0, 0,
             1, 2, 3,
         ],
-        Ok(Given::Sent),
+        SENT,
     ),
     // Bytes that Ethernet pads, up to 60.
     Packet(
@@ -120,7 +68,7 @@ pub(super) const PACKETS: &[Packet] = &[
             1, 2, 3, 0xee, 0xee, 0xee, 0xee, 0xee, 0xee, 0xee, 0xee, 0xee, 0xee, 0xee, 0xee, 0xee,
             0xee, 0xee,
         ],
-        Ok(Given::Sent),
+        SENT,
     ),
     // One VLAN tag.
     Packet(
@@ -130,7 +78,7 @@ pub(super) const PACKETS: &[Packet] = &[
             0x40, 0, 0x40, 0x11, 0, 0, 0xc0, 0xa8, 0, 1, 0xc0, 0xa8, 0, 2, 0x77, 0x1a, 0x77, 0x25,
             0, 0x0b, 0, 0, 1, 2, 3,
         ],
-        Ok(Given::Sent),
+        SENT,
     ),
     // Two VLAN tags.
     Packet(
@@ -140,7 +88,7 @@ pub(super) const PACKETS: &[Packet] = &[
             0x1f, 0x12, 0x34, 0x40, 0, 0x40, 0x11, 0, 0, 0xc0, 0xa8, 0, 1, 0xc0, 0xa8, 0, 2, 0x77,
             0x1a, 0x77, 0x25, 0, 0x0b, 0, 0, 1, 2, 3,
         ],
-        Ok(Given::Sent),
+        SENT,
     ),
     // An old second tag.
     Packet(
@@ -150,7 +98,7 @@ pub(super) const PACKETS: &[Packet] = &[
             0x1f, 0x12, 0x34, 0x40, 0, 0x40, 0x11, 0, 0, 0xc0, 0xa8, 0, 1, 0xc0, 0xa8, 0, 2, 0x77,
             0x1a, 0x77, 0x25, 0, 0x0b, 0, 0, 1, 2, 3,
         ],
-        Ok(Given::Sent),
+        SENT,
     ),
     // Three VLAN tags.
     Packet(
@@ -160,7 +108,7 @@ pub(super) const PACKETS: &[Packet] = &[
             0x45, 0, 0, 0x1f, 0x12, 0x34, 0x40, 0, 0x40, 0x11, 0, 0, 0xc0, 0xa8, 0, 1, 0xc0, 0xa8,
             0, 2, 0x77, 0x1a, 0x77, 0x25, 0, 0x0b, 0, 0, 1, 2, 3,
         ],
-        Err(Skipped::NotIpv4),
+        Other(Skipped::NotIpv4),
     ),
     // IPv6.
     Packet(
@@ -170,22 +118,22 @@ pub(super) const PACKETS: &[Packet] = &[
             0x40, 0x11, 0, 0, 0xc0, 0xa8, 0, 1, 0xc0, 0xa8, 0, 2, 0x77, 0x1a, 0x77, 0x25, 0, 0x0b,
             0, 0, 1, 2, 3,
         ],
-        Err(Skipped::NotIpv4),
+        Other(Skipped::NotIpv4),
     ),
     // Half a header of Ethernet.
     Packet(
         1,
         &[2, 0, 0, 0, 0, 1, 2, 0, 0, 0, 0, 2, 8],
-        Err(Skipped::NotIpv4),
+        Other(Skipped::NotIpv4),
     ),
     // A tag and no more.
     Packet(
         1,
         &[2, 0, 0, 0, 0, 1, 2, 0, 0, 0, 0, 2, 0x81, 0, 0, 5],
-        Err(Skipped::NotIpv4),
+        Other(Skipped::NotIpv4),
     ),
     // No bytes.
-    Packet(1, &[], Err(Skipped::NotIpv4)),
+    Packet(1, &[], Other(Skipped::NotIpv4)),
     // Linux cooked.
     Packet(
         113,
@@ -194,7 +142,7 @@ pub(super) const PACKETS: &[Packet] = &[
             0x40, 0x11, 0, 0, 0xc0, 0xa8, 0, 1, 0xc0, 0xa8, 0, 2, 0x77, 0x1a, 0x77, 0x25, 0, 0x0b,
             0, 0, 1, 2, 3,
         ],
-        Ok(Given::Sent),
+        SENT,
     ),
     // Linux cooked with IPv6.
     Packet(
@@ -204,7 +152,7 @@ pub(super) const PACKETS: &[Packet] = &[
             0x40, 0, 0x40, 0x11, 0, 0, 0xc0, 0xa8, 0, 1, 0xc0, 0xa8, 0, 2, 0x77, 0x1a, 0x77, 0x25,
             0, 0x0b, 0, 0, 1, 2, 3,
         ],
-        Err(Skipped::NotIpv4),
+        Other(Skipped::NotIpv4),
     ),
     // The second form of Linux cooked.
     Packet(
@@ -214,13 +162,13 @@ pub(super) const PACKETS: &[Packet] = &[
             0x34, 0x40, 0, 0x40, 0x11, 0, 0, 0xc0, 0xa8, 0, 1, 0xc0, 0xa8, 0, 2, 0x77, 0x1a, 0x77,
             0x25, 0, 0x0b, 0, 0, 1, 2, 3,
         ],
-        Ok(Given::Sent),
+        SENT,
     ),
     // The same, cut in its header.
     Packet(
         276,
         &[8, 0, 0, 0, 0, 0, 0, 2, 0, 1, 0, 6, 2, 0, 0, 0, 0, 1, 0],
-        Err(Skipped::NotIpv4),
+        Other(Skipped::NotIpv4),
     ),
     // Raw IP.
     Packet(
@@ -229,7 +177,7 @@ pub(super) const PACKETS: &[Packet] = &[
             0x45, 0, 0, 0x1f, 0x12, 0x34, 0x40, 0, 0x40, 0x11, 0, 0, 0xc0, 0xa8, 0, 1, 0xc0, 0xa8,
             0, 2, 0x77, 0x1a, 0x77, 0x25, 0, 0x0b, 0, 0, 1, 2, 3,
         ],
-        Ok(Given::Sent),
+        SENT,
     ),
     // Raw IPv4.
     Packet(
@@ -238,7 +186,7 @@ pub(super) const PACKETS: &[Packet] = &[
             0x45, 0, 0, 0x1f, 0x12, 0x34, 0x40, 0, 0x40, 0x11, 0, 0, 0xc0, 0xa8, 0, 1, 0xc0, 0xa8,
             0, 2, 0x77, 0x1a, 0x77, 0x25, 0, 0x0b, 0, 0, 1, 2, 3,
         ],
-        Ok(Given::Sent),
+        SENT,
     ),
     // Raw IP that is IPv6.
     Packet(
@@ -247,7 +195,7 @@ pub(super) const PACKETS: &[Packet] = &[
             0x65, 0, 0, 0x1f, 0x12, 0x34, 0x40, 0, 0x40, 0x11, 0, 0, 0xc0, 0xa8, 0, 1, 0xc0, 0xa8,
             0, 2, 0x77, 0x1a, 0x77, 0x25, 0, 0x0b, 0, 0, 1, 2, 3,
         ],
-        Err(Skipped::NotIpv4),
+        Other(Skipped::NotIpv4),
     ),
     // A link type that is not read.
     Packet(
@@ -257,7 +205,7 @@ pub(super) const PACKETS: &[Packet] = &[
             0x11, 0, 0, 0xc0, 0xa8, 0, 1, 0xc0, 0xa8, 0, 2, 0x77, 0x1a, 0x77, 0x25, 0, 0x0b, 0, 0,
             1, 2, 3,
         ],
-        Err(Skipped::LinkType),
+        Other(Skipped::LinkType),
     ),
     // Options of IPv4.
     Packet(
@@ -266,7 +214,7 @@ pub(super) const PACKETS: &[Packet] = &[
             0x46, 0, 0, 0x23, 0x12, 0x34, 0x40, 0, 0x40, 0x11, 0, 0, 0xc0, 0xa8, 0, 1, 0xc0, 0xa8,
             0, 2, 1, 1, 1, 0, 0x77, 0x1a, 0x77, 0x25, 0, 0x0b, 0, 0, 1, 2, 3,
         ],
-        Ok(Given::Sent),
+        SENT,
     ),
     // A header length of 16.
     Packet(
@@ -275,7 +223,7 @@ pub(super) const PACKETS: &[Packet] = &[
             0x44, 0, 0, 0x1b, 0x12, 0x34, 0x40, 0, 0x40, 0x11, 0, 0, 0xc0, 0xa8, 0, 1, 0xc0, 0xa8,
             0, 2, 0x77, 0x1a, 0x77, 0x25, 0, 0x0b, 0, 0, 1, 2, 3,
         ],
-        Err(Skipped::NotIpv4),
+        Other(Skipped::NotIpv4),
     ),
     // 19 bytes.
     Packet(
@@ -284,7 +232,7 @@ pub(super) const PACKETS: &[Packet] = &[
             0x45, 0, 0, 0x1f, 0x12, 0x34, 0x40, 0, 0x40, 0x11, 0, 0, 0xc0, 0xa8, 0, 1, 0xc0, 0xa8,
             0,
         ],
-        Err(Skipped::NotIpv4),
+        Other(Skipped::NotIpv4),
     ),
     // More fragments follow.
     Packet(
@@ -293,7 +241,7 @@ pub(super) const PACKETS: &[Packet] = &[
             0x45, 0, 0, 0x1f, 0x12, 0x34, 0x20, 0, 0x40, 0x11, 0, 0, 0xc0, 0xa8, 0, 1, 0xc0, 0xa8,
             0, 2, 0x77, 0x1a, 0x77, 0x25, 0, 0x0b, 0, 0, 1, 2, 3,
         ],
-        Err(Skipped::Fragment),
+        Other(Skipped::Fragment),
     ),
     // A later fragment.
     Packet(
@@ -302,7 +250,7 @@ pub(super) const PACKETS: &[Packet] = &[
             0x45, 0, 0, 0x1f, 0x12, 0x34, 0, 1, 0x40, 0x11, 0, 0, 0xc0, 0xa8, 0, 1, 0xc0, 0xa8, 0,
             2, 0x77, 0x1a, 0x77, 0x25, 0, 0x0b, 0, 0, 1, 2, 3,
         ],
-        Err(Skipped::Fragment),
+        Other(Skipped::Fragment),
     ),
     // A later fragment of TCP.
     Packet(
@@ -311,7 +259,7 @@ pub(super) const PACKETS: &[Packet] = &[
             0x45, 0, 0, 0x1f, 0x12, 0x34, 0x1f, 0xff, 0x40, 6, 0, 0, 0xc0, 0xa8, 0, 1, 0xc0, 0xa8,
             0, 2, 0x77, 0x1a, 0x77, 0x25, 0, 0x0b, 0, 0, 1, 2, 3,
         ],
-        Err(Skipped::Fragment),
+        Other(Skipped::Fragment),
     ),
     // The reserved bit alone.
     Packet(
@@ -320,7 +268,7 @@ pub(super) const PACKETS: &[Packet] = &[
             0x45, 0, 0, 0x1f, 0x12, 0x34, 0x80, 0, 0x40, 0x11, 0, 0, 0xc0, 0xa8, 0, 1, 0xc0, 0xa8,
             0, 2, 0x77, 0x1a, 0x77, 0x25, 0, 0x0b, 0, 0, 1, 2, 3,
         ],
-        Ok(Given::Sent),
+        SENT,
     ),
     // TCP.
     Packet(
@@ -329,7 +277,7 @@ pub(super) const PACKETS: &[Packet] = &[
             0x45, 0, 0, 0x1f, 0x12, 0x34, 0x40, 0, 0x40, 6, 0, 0, 0xc0, 0xa8, 0, 1, 0xc0, 0xa8, 0,
             2, 0x77, 0x1a, 0x77, 0x25, 0, 0x0b, 0, 0, 1, 2, 3,
         ],
-        Err(Skipped::NotUdp),
+        Other(Skipped::NotUdp),
     ),
     // TCP, cut.
     Packet(
@@ -338,7 +286,7 @@ pub(super) const PACKETS: &[Packet] = &[
             0x45, 0, 0, 0x63, 0x12, 0x34, 0x40, 0, 0x40, 6, 0, 0, 0xc0, 0xa8, 0, 1, 0xc0, 0xa8, 0,
             2, 0x77, 0x1a, 0x77, 0x25, 0, 0x0b, 0, 0, 1, 2, 3,
         ],
-        Err(Skipped::NotUdp),
+        Other(Skipped::NotUdp),
     ),
     // Cut by a byte.
     Packet(
@@ -347,7 +295,7 @@ pub(super) const PACKETS: &[Packet] = &[
             0x45, 0, 0, 0x1f, 0x12, 0x34, 0x40, 0, 0x40, 0x11, 0, 0, 0xc0, 0xa8, 0, 1, 0xc0, 0xa8,
             0, 2, 0x77, 0x1a, 0x77, 0x25, 0, 0x0b, 0, 0, 1, 2,
         ],
-        Err(Skipped::Cut),
+        Other(Skipped::Cut),
     ),
     // Cut in the options.
     Packet(
@@ -356,7 +304,7 @@ pub(super) const PACKETS: &[Packet] = &[
             0x4f, 0, 0, 0x14, 0x12, 0x34, 0x40, 0, 0x40, 0x11, 0, 0, 0xc0, 0xa8, 0, 1, 0xc0, 0xa8,
             0, 2,
         ],
-        Err(Skipped::Cut),
+        Other(Skipped::Cut),
     ),
     // A Total Length with no room for UDP.
     Packet(
@@ -365,7 +313,7 @@ pub(super) const PACKETS: &[Packet] = &[
             0x45, 0, 0, 0x1b, 0x12, 0x34, 0x40, 0, 0x40, 0x11, 0, 0, 0xc0, 0xa8, 0, 1, 0xc0, 0xa8,
             0, 2, 0x77, 0x1a, 0x77, 0x25, 0, 0x0b, 0, 0, 1, 2, 3,
         ],
-        Err(Skipped::BadUdpLength),
+        Other(Skipped::BadUdpLength),
     ),
     // A Total Length below the header.
     Packet(
@@ -374,7 +322,7 @@ pub(super) const PACKETS: &[Packet] = &[
             0x45, 0, 0, 0, 0x12, 0x34, 0x40, 0, 0x40, 0x11, 0, 0, 0xc0, 0xa8, 0, 1, 0xc0, 0xa8, 0,
             2, 0x77, 0x1a, 0x77, 0x25, 0, 0x0b, 0, 0, 1, 2, 3,
         ],
-        Err(Skipped::BadUdpLength),
+        Other(Skipped::BadUdpLength),
     ),
     // A UDP Length of 7.
     Packet(
@@ -383,7 +331,7 @@ pub(super) const PACKETS: &[Packet] = &[
             0x45, 0, 0, 0x1f, 0x12, 0x34, 0x40, 0, 0x40, 0x11, 0, 0, 0xc0, 0xa8, 0, 1, 0xc0, 0xa8,
             0, 2, 0x77, 0x1a, 0x77, 0x25, 0, 7, 0, 0, 1, 2, 3,
         ],
-        Err(Skipped::BadUdpLength),
+        Other(Skipped::BadUdpLength),
     ),
     // A UDP Length of 8.
     Packet(
@@ -392,7 +340,7 @@ pub(super) const PACKETS: &[Packet] = &[
             0x45, 0, 0, 0x1f, 0x12, 0x34, 0x40, 0, 0x40, 0x11, 0, 0, 0xc0, 0xa8, 0, 1, 0xc0, 0xa8,
             0, 2, 0x77, 0x1a, 0x77, 0x25, 0, 8, 0, 0, 1, 2, 3,
         ],
-        Ok(Given::Empty),
+        EMPTY,
     ),
     // A UDP Length of one more than there is.
     Packet(
@@ -401,7 +349,7 @@ pub(super) const PACKETS: &[Packet] = &[
             0x45, 0, 0, 0x1f, 0x12, 0x34, 0x40, 0, 0x40, 0x11, 0, 0, 0xc0, 0xa8, 0, 1, 0xc0, 0xa8,
             0, 2, 0x77, 0x1a, 0x77, 0x25, 0, 0x0c, 0, 0, 1, 2, 3,
         ],
-        Err(Skipped::BadUdpLength),
+        Other(Skipped::BadUdpLength),
     ),
     // A UDP Length of one less than there is.
     Packet(
@@ -410,6 +358,6 @@ pub(super) const PACKETS: &[Packet] = &[
             0x45, 0, 0, 0x20, 0x12, 0x34, 0x40, 0, 0x40, 0x11, 0, 0, 0xc0, 0xa8, 0, 1, 0xc0, 0xa8,
             0, 2, 0x77, 0x1a, 0x77, 0x25, 0, 0x0b, 0, 0, 1, 2, 3, 9,
         ],
-        Ok(Given::Sent),
+        SENT,
     ),
 ];

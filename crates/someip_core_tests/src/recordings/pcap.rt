@@ -1,6 +1,6 @@
 //! Files of classic pcap.
 use super::files::File;
-use super::files::Wanted::{At, Ends};
+use super::items::Wanted::{At, Ends};
 use recording::RecordingError;
 
 /// An IPv4 packet of UDP with the payload 1, 2, 3.

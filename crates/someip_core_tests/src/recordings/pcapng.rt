@@ -1,6 +1,6 @@
 //! Files of pcapng.
 use super::files::File;
-use super::files::Wanted::{At, Ends, Other, Untimed};
+use super::items::Wanted::{At, Ends, Other, Untimed};
 use recording::{RecordingError, Skipped};
 
 /// The head of a section, the highest byte first.

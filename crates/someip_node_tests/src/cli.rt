@@ -1,0 +1,174 @@
+//! What arguments come to, how the program ends, and the texts for standard error.
+use crate::endings::is_end;
+use crate::printed::is_printed;
+use crate::slow::{Limits, SlowWriter, UNLIMITED};
+use recording::RecordingError;
+use rows::{ROWS, Wanted};
+use someip_world::{SetupError, StepFault};
+use someipctl_cli::{Failure, LineError, answer_error, command_of, run};
+use someipctl_commands::payload::PayloadRefusal;
+use someipctl_commands::ports::PortsError;
+use someipctl_commands::recordings::RecordingFault;
+use someipctl_commands::show::ShowError;
+use someipctl_commands::vectors::VectorsError;
+use someipctl_run::{RunFault, SetupFault, read_setup};
+use std::alloc::{AllocError, Global};
+
+mod rows;
+
+/// The path that a failure may name.
+const PATH: &str = "a/b.txt";
+
+/// Whether a failure has this text for standard error and this exit status.
+fn is_told(alloc: Global, failure: Failure<'_>, text: &str, status: u8) -> bool {
+    is_end(alloc, Err(failure), Some(text), status)
+}
+
+/// Whether the fault of a text that is no setup is printed so by itself. The program prints it by way of its own.
+fn is_setup_fault(alloc: Global, mut text: &[u8], wanted: &str) -> bool {
+    match read_setup(alloc, &mut text).err() {
+        Some(fault) => is_printed(alloc, &fault, wanted) == Some(true),
+        None => false,
+    }
+}
+
+/// Each failure, its text for standard error and its exit status. The cases of the program tell of other faults of
+/// setups.
+#[test]
+fn failures_have_texts_and_statuses(rt: HostRuntime) {
+    let alloc = rt.alloc();
+    let bad_hex = Failure::of_show(ShowError::BadHex(2), PATH);
+    assert!(rt; is_told(alloc, bad_hex, "line 2: bad hex", 1));
+    let no_memory = Failure::of_show(ShowError::OutOfMemory, PATH);
+    assert!(rt; is_told(alloc, no_memory, "out of memory", 3));
+    let unread = Failure::of_show(ShowError::CannotRead, PATH);
+    assert!(rt; is_told(alloc, unread, "cannot read a/b.txt", 4));
+    let unwritten = Failure::of_show(ShowError::CannotWrite, PATH);
+    assert!(rt; is_told(alloc, unwritten, "cannot write", 4));
+    let bad_vector = Failure::of_vectors(VectorsError::BadVector(3), PATH);
+    assert!(rt; is_told(alloc, bad_vector, "line 3: bad vector", 1));
+    let bad_shape = Failure::of_payload(PayloadRefusal::BadShape(7));
+    assert!(rt; is_told(alloc, bad_shape, "bad shape at 7", 1));
+    let bad_payload = Failure::of_payload(PayloadRefusal::BadHex);
+    assert!(rt; is_told(alloc, bad_payload, "bad hex", 1));
+    let usage = "error: a word is no UTF-8\n\nUsage: someipctl <COMMAND>";
+    assert!(rt; is_told(alloc, Failure::NotText, usage, 2));
+}
+
+/// Each failure of a setup, a run or a recording, its text for standard error and its exit status.
+#[test]
+fn failures_of_runs_and_recordings_have_texts_and_statuses(rt: HostRuntime) {
+    let alloc = rt.alloc();
+    assert!(rt; is_setup_fault(alloc, b"group = \n", "setup: NotToml -"));
+    let clash = Failure::of_setup(SetupFault::Refused(SetupError::Clash("port")), PATH);
+    assert!(rt; is_told(alloc, clash, "setup: Clash port", 1));
+    let unread = Failure::of_setup(SetupFault::CannotRead, PATH);
+    assert!(rt; is_told(alloc, unread, "cannot read a/b.txt", 4));
+    let bad_line = Failure::of_run(RunFault::BadLine(3), PATH);
+    assert!(rt; is_told(alloc, bad_line, "line 3: bad step", 1));
+    let bad_step = Failure::of_run(RunFault::BadStep(1, StepFault::BadDelay), PATH);
+    assert!(rt; is_told(alloc, bad_step, "step 1: BadDelay", 1));
+    let block = RecordingFault::BadRecording(RecordingError::BlockLength(28));
+    let bad_recording = Failure::of_recording(block, "x");
+    assert!(rt; is_told(alloc, bad_recording, "recording: BlockLength at 28", 1));
+    let unread = Failure::of_recording(RecordingFault::CannotRead, "x");
+    assert!(rt; is_told(alloc, unread, "cannot read x", 4));
+    let ports = Failure::of_ports(PortsError::BadPorts, "0");
+    let usage =
+        "error: invalid value '0' for '--ports <PORTS>': ports are numbers from 1 to 65535 with commas between them\n\nUsage: someipctl recording [OPTIONS] <FILE>";
+    assert!(rt; is_told(alloc, ports, usage, 2));
+}
+
+/// Whether the answer to words without a command ends with a status, and the writer took nothing, or a text that
+/// begins so.
+fn is_answered(
+    alloc: Global,
+    words: &[&str],
+    limits: Limits,
+    status: u8,
+    beginning: &[u8],
+) -> bool {
+    let mut writer = SlowWriter::new(alloc, limits);
+    let ended = match command_of(alloc, words) {
+        Ok(_) => false,
+        Err(error) => is_end(alloc, answer_error(error, &mut writer), None, status),
+    };
+    let taken = writer.taken.as_slice();
+    ended && taken.is_empty() == beginning.is_empty() && taken.starts_with(beginning)
+}
+
+/// Help is printed, and told where it cannot be; a fault of usage is not printed.
+#[test]
+fn help_is_printed_and_usage_is_not(rt: HostRuntime) {
+    let alloc = rt.alloc();
+    let help = b"Prints the messages of a capture, one a line\n\nUsage: ";
+    let broken = Limits {
+        most: 1,
+        fails_at: 0,
+        takes_nothing: false,
+    };
+    assert!(rt; is_answered(alloc, &["someipctl", "help", "show"], UNLIMITED, 0, help));
+    assert!(rt; is_answered(alloc, &["someipctl", "help", "show"], broken, 4, b""));
+    assert!(rt; is_answered(alloc, &["someipctl", "list"], UNLIMITED, 2, b""));
+    assert!(rt; is_answered(alloc, &["someipctl"], UNLIMITED, 2, b""));
+}
+
+/// The words of a line.
+fn words_of(alloc: Global, line: &str) -> Result<Vec<String>, AllocError> {
+    let mut words = Vec::new(alloc);
+    for word in line.split(' ') {
+        words.push(String::from_str(alloc, word)?)?;
+    }
+    Ok(words)
+}
+
+/// Whether a whole run of the program on the words of a line ends with this exit status.
+fn is_run(rt: &HostRuntime, line: &str, status: u8) -> Option<bool> {
+    let words = words_of(rt.alloc(), line).ok()?;
+    Some(is_end(rt.alloc(), run(rt, &words), None, status))
+}
+
+/// Runs of the program whose whole text is that of `clap`, and their exit statuses. Others are its cases.
+#[test]
+fn runs_end_with_a_status(rt: HostRuntime) {
+    assert!(rt; is_run(&rt, "someipctl help", 0) == Some(true));
+    assert!(rt; is_run(&rt, "someipctl list", 2) == Some(true));
+    assert!(rt; is_run(&rt, "someipctl", 2) == Some(true));
+}
+
+/// Whether an answer that is no command is what is wanted.
+fn is_refusal(alloc: Global, error: &LineError, wanted: Wanted) -> Option<bool> {
+    let part = match (error, wanted) {
+        (LineError::Help(_), Wanted::Help(part)) => part,
+        (LineError::Usage(_), Wanted::Usage(part)) => part,
+        _ => return Some(false),
+    };
+    let text = error.to_string(alloc).ok()?;
+    Some(text.contains(part))
+}
+
+/// Whether words come to what is wanted.
+fn come_to(alloc: Global, words: &[&str], wanted: Wanted) -> Option<bool> {
+    match command_of(alloc, words) {
+        Ok(command) => Some(matches!(wanted, Wanted::Is(other) if other == command)),
+        Err(error) => is_refusal(alloc, &error, wanted),
+    }
+}
+
+/// Whether the words of a row come to what is wanted.
+fn is_right(alloc: Global, words: &str, wanted: Wanted) -> Option<bool> {
+    let words: Vec<&str> = words.split('|').collect(alloc).ok()?;
+    come_to(alloc, &words, wanted)
+}
+
+#[test]
+fn words_come_to_a_command_or_a_text(rt: HostRuntime) {
+    let none = Wanted::Usage("requires a subcommand but one was not provided");
+    assert!(rt; come_to(rt.alloc(), &[], none) == Some(true));
+    for (words, wanted) in ROWS {
+        assert!(rt;
+            is_right(rt.alloc(), words, *wanted) == Some(true),
+            "{words}"
+        );
+    }
+}

@@ -1,0 +1,175 @@
+//! What the program's words ask for, one after the other.
+
+use crate::cases::run_cases;
+use crate::error::SweepError;
+use crate::findings::Findings;
+use crate::memory::sweep_memory;
+use crate::schedules::Schedules;
+use crate::{fronts, inputs, schedules};
+use someip_world::Setup;
+use std::alloc::Global;
+use std::rt::{Env, Files};
+use std::{env, fs, io};
+
+/// The file of the cases.
+const CASES: &str = "cases";
+
+/// The file of the setup.
+const SETUP: &str = "examples/runs/two.toml";
+
+/// The file of the setup with a liar.
+const SETUP_WITH_LIAR: &str = "examples/runs/liars.toml";
+
+/// The file of the vectors.
+const VECTORS: &str = "examples/vectors/all.txt";
+
+/// The schedules that are drawn over the setup of two nodes.
+const SCHEDULES: Schedules = Schedules {
+    all: "schedules",
+    one: "schedule",
+    count: 1000,
+};
+
+/// The schedules that are drawn among liars.
+const AMONG_LIARS: Schedules = Schedules {
+    all: "liars",
+    one: "liars",
+    count: 400,
+};
+
+/// Does what the program's words ask for, and prints what each comes to. It answers whether nothing was found.
+pub fn sweep_all<R: Files + Env + Print + AllocGlobal>(rt: &R) -> Result<bool, SweepError> {
+    let words = words_of(rt)?;
+    match words.as_slice() {
+        [_, memory, name, way, rest @ ..] if memory.as_str() == "memory" => {
+            let is_clean = sweep_memory(rt, name.as_str(), way.as_str())?;
+            Ok(sweep_each(rt, rest)? && is_clean)
+        }
+        [_, rest @ ..] => sweep_each(rt, rest),
+        [] => Ok(true),
+    }
+}
+
+/// The words, the program's name among them. So much memory is taken before the sweep over memory that is refused.
+fn words_of<R: Env + AllocGlobal>(rt: &R) -> Result<Vec<String>, SweepError> {
+    match env::args(rt) {
+        Ok(words) => Ok(words.collect(rt.alloc())?),
+        Err(_) => Err(SweepError::OutOfMemory),
+    }
+}
+
+/// Makes the sweep of each word.
+fn sweep_each<R: Files + Print + AllocGlobal>(
+    rt: &R,
+    words: &[String],
+) -> Result<bool, SweepError> {
+    let mut is_clean = true;
+    for word in words {
+        is_clean = sweep(rt, word.as_str())? && is_clean;
+    }
+    Ok(is_clean)
+}
+
+/// Makes the sweep of a word, and prints what it comes to, or runs the cases. A number asks for the lines of its
+/// schedule. It answers whether nothing was found.
+fn sweep<R: Files + Print + AllocGlobal>(rt: &R, word: &str) -> Result<bool, SweepError> {
+    let mut findings = Findings::new(rt.alloc());
+    let done = match word {
+        "cases" => return run_all_cases(rt),
+        "schedules" => sweep_schedules(rt, SETUP, SCHEDULES, &mut findings)?,
+        "liars" => sweep_schedules(rt, SETUP_WITH_LIAR, AMONG_LIARS, &mut findings)?,
+        "inputs" => sweep_inputs(rt, &mut findings)?,
+        "fronts" => fronts::sweep(rt.alloc(), &mut findings)?,
+        number => return print_schedule_of(rt, number),
+    };
+    Ok(print(rt, done.as_str(), findings.lines())?)
+}
+
+/// Runs the cases. What they print is judged by who reads it.
+fn run_all_cases<R: Files + Print + AllocGlobal>(rt: &R) -> Result<bool, SweepError> {
+    let text = read_text(rt, CASES)?;
+    run_cases(rt, text.as_str())?;
+    Ok(true)
+}
+
+/// Makes the sweep over schedules for the setup of a file.
+fn sweep_schedules<R: Files + AllocGlobal>(
+    rt: &R,
+    path: &str,
+    schedules: Schedules,
+    findings: &mut Findings,
+) -> Result<String, SweepError> {
+    let setup = read_setup(rt, path)?;
+    let done = schedules::sweep(rt.alloc(), &setup, schedules, findings)?;
+    Ok(done)
+}
+
+fn sweep_inputs<R: Files + AllocGlobal>(
+    rt: &R,
+    findings: &mut Findings,
+) -> Result<String, SweepError> {
+    let setup = read_setup(rt, SETUP)?;
+    let text = read_text(rt, VECTORS)?;
+    inputs::sweep(rt.alloc(), &setup, text.as_str(), findings)
+}
+
+/// Prints the lines of the schedule of a number, among liars where `liars-` stands before it.
+fn print_schedule_of<R: Files + Print + AllocGlobal>(
+    rt: &R,
+    word: &str,
+) -> Result<bool, SweepError> {
+    match word.strip_prefix("liars-") {
+        Some(number) => print_schedule(rt, number, SETUP_WITH_LIAR),
+        None => print_schedule(rt, word, SETUP),
+    }
+}
+
+/// Prints the lines of the schedule of a number for the setup of a file.
+fn print_schedule<R: Files + Print + AllocGlobal>(
+    rt: &R,
+    number: &str,
+    path: &str,
+) -> Result<bool, SweepError> {
+    let Ok(seed) = number.parse::<u64>() else {
+        return Err(SweepError::Usage);
+    };
+    let setup = read_setup(rt, path)?;
+    let text = schedules::text_of(rt.alloc(), &setup, seed)?;
+    print!(rt; "{text}")?;
+    Ok(true)
+}
+
+/// The setup of a file.
+fn read_setup<R: Files + AllocGlobal>(rt: &R, path: &str) -> Result<Setup, SweepError> {
+    let text = read_text(rt, path)?;
+    setup_of(rt.alloc(), text.as_str())
+}
+
+fn setup_of(alloc: Global, text: &str) -> Result<Setup, SweepError> {
+    match Setup::read(alloc, text) {
+        Ok(setup) => Ok(setup),
+        Err(_) => Err(SweepError::BadSetup),
+    }
+}
+
+/// The text of a file of the data.
+fn read_text<R: Files + AllocGlobal>(rt: &R, path: &str) -> Result<String, SweepError> {
+    match fs::read_to_string(rt, path) {
+        Ok(text) => Ok(text),
+        Err(_) => Err(SweepError::CannotRead),
+    }
+}
+
+/// Prints what a sweep comes to: a line with its counts, and one for each finding. It answers whether there
+/// is none.
+fn print<R: Print>(rt: &R, done: &str, findings: &[String]) -> io::Result<bool> {
+    match findings.len() {
+        0 => println!(rt; "{done}, no finding")?,
+        1 => println!(rt; "{done}, 1 finding")?,
+        count => println!(rt; "{done}, {count} findings")?,
+    }
+    for finding in findings {
+        println!(rt; "{finding}")?;
+    }
+    Ok(findings.is_empty())
+}
