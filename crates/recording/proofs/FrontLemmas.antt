@@ -18,11 +18,11 @@ use Rattle.recording.specs.declared.interface.Interface.{Interface}
 use Rattle.recording.specs.Numbers.{number32}
 use Rattle.recording.specs.Times.{classic_time}
 use Rattle.recording.specs.Packets.{RecordValue, record_of}
-use Rattle.recording.specs.Classic.{packet_len, packet_fault, packet_record}
+use Rattle.recording.specs.Classic.{header_in, classic_in, packet_len, packet_fault, packet_record}
 use Rattle.recording.specs.Blocks.{BlockValue, kind_of, block_kind, magic_order, block_order, order_in, total_len, closing_len, block_fault, block_in}
 use Rattle.recording.specs.Sections.{Meaning, meaning_of, interfaces_after}
 use Rattle.recording.specs.Records.{part_len, or_fault, part_meaning, format_after, section_after}
-use Rattle.recording.specs.Held.{held_limit, interface_limit, head_len, tells_len, wanted, is_too_long, with_interfaces, held_meaning, CanFollow}
+use Rattle.recording.specs.Held.{held_limit, interface_limit, head_len, tells_len, wanted, is_too_long, with_interfaces, held_meaning, classic_start, start_of, CanFollow}
 use Rattle.recording.specs.Steps.{Fails}
 
 -- ---- ranges and numbers
@@ -196,9 +196,9 @@ meaning-front (Classic c) interfaces p w r le =
 meaning-front (Blocks o) interfaces p w r le =
     let head = head-held (Blocks o) w le in
     block-front o interfaces p w r _ _ _ head refl refl refl (λ is_b is_c is_d.
-      let all : tells_len (Blocks o) w ≡ true = rw (le-ltb (length w) 12 head, is_b, is_c, is_d) refl in
-      let within : (total_len o w - 12) + 12 ≤ length w = rw all at le in
-      omega (arith, within))
+    let all : tells_len (Blocks o) w ≡ true = rw (le-ltb (length w) 12 head, is_b, is_c, is_d) refl in
+    let within : (total_len o w - 12) + 12 ≤ length w = rw all at le in
+    omega (arith, within))
 
 -- the interfaces behind a part that is whole
 section-front : (format : Format) (interfaces : List Interface) (w r : List ℕ) → head_len format ≤ length w → part_len format w ≤ length w
@@ -309,3 +309,39 @@ move e one other is fails = rw is fails
 pub fails-same : (e : RecordingError) (format : Format) (before : List Interface) (p : ℕ) (held bytes : List ℕ) → IsSame format before p held bytes → is_too_long format held ≡ false
     → Fails e (part_meaning format before p held) → Fails e (held_meaning format before p bytes)
 fails-same e format before p held bytes s short fails = fails-held e format before p bytes (s.long ∙ short) (move e _ _ s.meaning fails)
+
+-- ---- the start of a file
+
+abbrev header : ByteOrder → Bool → ℕ → declared_classic.Classic
+header o micro link = record { order = o; micro = micro; link = link }
+
+header-front : (o : ByteOrder) (micro : Bool) (w r : List ℕ) → 24 ≤ length w → header_in o micro (w ++ r) ≡ header_in o micro w
+header-front o micro w r le = ap (λ n. header o micro (n % 0x10000)) (number32-front o w r 20 (omega (arith, le)))
+
+abbrev by_magic : ℕ → declared_classic.Classic → declared_classic.Classic → declared_classic.Classic → declared_classic.Classic → Option declared_classic.Classic
+by_magic n one two three four =
+    cond (eqb n 0xa1b2c3d4) (Some one) (cond (eqb n 0xa1b23c4d) (Some two) (cond (eqb n 0xd4c3b2a1) (Some three) (cond (eqb n 0x4d3cb2a1) (Some four) None)))
+
+classic-front : (w r : List ℕ) → 24 ≤ length w → classic_in (w ++ r) ≡ classic_in w
+classic-front w r le =
+    ap (λ n. by_magic n (header_in Big true (w ++ r)) (header_in Big false (w ++ r)) (header_in Little true (w ++ r)) (header_in Little false (w ++ r))) (number32-front Big w r 0 (omega (arith, le)))
+    ∙ ap (λ c. by_magic (number32 Big w 0) c (header_in Big false (w ++ r)) (header_in Little true (w ++ r)) (header_in Little false (w ++ r))) (header-front Big true w r le)
+    ∙ ap (λ c. by_magic (number32 Big w 0) (header_in Big true w) c (header_in Little true (w ++ r)) (header_in Little false (w ++ r))) (header-front Big false w r le)
+    ∙ ap (λ c. by_magic (number32 Big w 0) (header_in Big true w) (header_in Big false w) c (header_in Little false (w ++ r))) (header-front Little true w r le)
+    ∙ ap (λ c. by_magic (number32 Big w 0) (header_in Big true w) (header_in Big false w) (header_in Little true w) c) (header-front Little false w r le)
+
+abbrev start_by : Bool → Bool → Bool → Option declared_classic.Classic → Option (Format × ℕ)
+start_by a b c q = cond a None (cond b (Some (Blocks Big, 0)) (cond c None (classic_start q)))
+
+start-front : (w r : List ℕ) → 24 ≤ length w → start_of (w ++ r) ≡ start_of w
+start-front w r le =
+    ap (λ a. start_by a (eqb (number32 Big (w ++ r) 0) 0x0a0d0d0a) (ltb (length (w ++ r)) 24) (classic_in (w ++ r))) (longer 12 w r (omega (arith, le)) ∙ sym (le-ltb (length w) 12 (omega (arith, le))))
+    ∙ ap (λ n. start_by (ltb (length w) 12) (eqb n 0x0a0d0d0a) (ltb (length (w ++ r)) 24) (classic_in (w ++ r))) (number32-front Big w r 0 (omega (arith, le)))
+    ∙ ap (λ c. start_by (ltb (length w) 12) (eqb (number32 Big w 0) 0x0a0d0d0a) c (classic_in (w ++ r))) (longer 24 w r le ∙ sym (le-ltb (length w) 24 le))
+    ∙ ap (λ q. start_by (ltb (length w) 12) (eqb (number32 Big w 0) 0x0a0d0d0a) (ltb (length w) 24) q) (classic-front w r le)
+
+-- where the head of a file is held, or all of it, what follows changes nothing
+pub start-same : (is_whole : Bool) (w r : List ℕ) → CanFollow is_whole r → (is_whole ≡ true) ⊎ (24 ≤ length w) → start_of (w ++ r) ≡ start_of w
+start-same true w r is told = ap start_of (ap (λ (b : List ℕ). w ++ b) is ∙ append-nil w)
+start-same false w r follows (inl whole) = absurd cc
+start-same false w r follows (inr le) = start-front w r le

@@ -62,9 +62,9 @@ held_from-part format interfaces p (b ∷ bytes) meaning some is =
     ∙ ap (λ m. items_after m (held_from (format_after format (b ∷ bytes)) (section_after format interfaces (b ∷ bytes)) (p + part_len format (b ∷ bytes)) (drop (part_len format (b ∷ bytes)) (b ∷ bytes)))) is
 
 -- what is left behind a part
-pub held_behind : (format : Format) (before after : List Interface) (p q : ℕ) (held bytes : List ℕ) (part : Part) → 0 < length bytes → IsPart format before after p held bytes part → q ≡ p + part.len
+pub part_behind : (format : Format) (before after : List Interface) (p q : ℕ) (held bytes : List ℕ) (part : Part) → 0 < length bytes → IsPart format before after p held bytes part → q ≡ p + part.len
     → held_from format before p bytes ≡ items_after (Ok (given_in held part.packet)) (held_from part.format after q (drop part.len bytes))
-held_behind format before after p q held bytes part some is place =
+part_behind format before after p q held bytes part some is place =
     rw (is.format_is, is.interfaces, place, is.len) (held_from-part format before p bytes (Ok (given_in held part.packet)) some is.meaning)
 
 fault_alone : (format : Format) (interfaces : List Interface) (p : ℕ) (bytes : List ℕ) (e : RecordingError) → 0 < length bytes
@@ -96,7 +96,7 @@ held_on format first before after start p0 len held rest part lt so_far is lies 
     let place : p0 + (len + part.len) ≡ (p0 + len) + part.len = omega arith in
     so_far
     ∙ ap (λ (bytes : List ℕ). held_from format before (p0 + len) bytes) front
-    ∙ held_behind format before after (p0 + len) (p0 + (len + part.len)) (drop len held) (drop len held ++ rest) part some is place
+    ∙ part_behind format before after (p0 + len) (p0 + (len + part.len)) (drop len held) (drop len held ++ rest) part some is place
     ∙ ap (λ (bytes : List ℕ). items_after (Ok (given_in (drop len held) part.packet)) (held_from part.format after (p0 + (len + part.len)) bytes))
     (ap (drop part.len) (sym front) ∙ drop-drop part.len len (held ++ rest))
     ∙ ap (λ (given : Option RecordValue). items_after (Ok given) (held_from part.format after (p0 + (len + part.len)) (drop (len + part.len) (held ++ rest))))

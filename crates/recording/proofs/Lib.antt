@@ -4,6 +4,7 @@ pub mod OptionLemmas
 pub mod RangeLemmas
 pub mod FrontLemmas
 pub mod HeldLemmas
+pub mod ReaderLemmas
 pub mod ItemLemmas
 pub mod SectionLemmas
 pub mod FieldSpelling

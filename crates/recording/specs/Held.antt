@@ -90,13 +90,14 @@ start_of file =
     else (if nat_lt (length file) 24 then None
     else classic_start (classic_in file)))
 
-abbrev pub held_after : List ℕ → Option (Format × ℕ) → List Item
-held_after file None = Err (NotRecording 0) ∷ []
-held_after file (Some start) = held_from start.0 [] start.1 (drop start.1 file)
+-- the items behind the start of a file, whose first byte has place p
+abbrev pub held_behind : List Interface → ℕ → List ℕ → Option (Format × ℕ) → List Item
+held_behind interfaces p file None = Err (NotRecording 0) ∷ []
+held_behind interfaces p file (Some start) = held_from start.0 interfaces (p + start.1) (drop start.1 file)
 
 -- the items of a file, the last of which is a fault, if there is one
 abbrev pub held_of : List ℕ → List Item
-held_of file = held_after file (start_of file)
+held_of file = held_behind [] 0 file (start_of file)
 
 -- ---- a reader
 
@@ -112,7 +113,7 @@ pub record ReaderValue : Type 0 where
 
 -- the items of the bytes from place p of a recording on
 abbrev pub items_by : Stage → List Interface → ℕ → List ℕ → List Item
-items_by Head interfaces p bytes = held_of bytes
+items_by Head interfaces p bytes = held_behind interfaces p bytes (start_of bytes)
 items_by (Inside format) interfaces p bytes = held_from format interfaces p bytes
 items_by Over interfaces p bytes = []
 

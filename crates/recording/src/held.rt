@@ -11,7 +11,7 @@ use crate::classic::wanted_packet;
 use crate::error::RecordingError;
 use crate::format::Format;
 use crate::interface::Interface;
-use crate::packet::Packet;
+use crate::packet::{Packet, behind};
 use crate::parts::{Part, front_part};
 
 /// The most bytes of a packet or block, with its header, that are held.
@@ -58,9 +58,9 @@ pub(crate) fn next_told(
         format = part.format;
         let start = len;
         len += part.len;
-        if let Some(packet) = part.packet {
+        if let Some(_) = part.packet {
             return Ok(Told {
-                packet: Some(packet.behind(start)),
+                packet: behind(part.packet, start),
                 format,
                 len,
             });

@@ -1,5 +1,6 @@
 //! The datagram in a packet.
 ghost use Rattle.std.specs.Prelude.{◌≡◌, ◌≤◌, ◌<◌, ◌+◌, ◌^◌, Some, None, Ok, Err, Option, length, drop, IfOk, IfErr, OnOk};
+ghost use Rattle.std.specs.Prelude.{IfSome, option_map};
 ghost use Rattle.recording.specs.Packets.{network_place, network_at, ethernet_protocol, after_tag};
 ghost use Rattle.recording.specs.Packets.{is_tag, ipv4_fault, udp_fault, header_len, total_len};
 ghost use Rattle.recording.specs.Packets.{datagram_in, record_of, carried_in};
@@ -32,19 +33,20 @@ pub(crate) struct Packet {
     pub(crate) end: usize,
 }
 
-impl Packet {
-    /// The same packet, by where it lies in bytes of which so many stand before those that its places
-    /// count.
-    pub(crate) fn behind(self, len: usize) -> Packet
-        requires { (self.start ≤ self.end) × (self.end + len < 2 ^ 64) }
-        ensures { result ≡ packet_behind len self }
-    {
-        Packet {
-            time: self.time,
-            link: self.link,
-            start: self.start + len,
-            end: self.end + len,
-        }
+/// A packet, if there is one, by where it lies in bytes of which so many stand before those that its
+/// places count.
+pub(crate) fn behind(packet: Option<Packet>, len: usize) -> Option<Packet>
+    requires { IfSome packet (λ k. (k.start ≤ k.end) × (k.end + len < 2 ^ 64)) }
+    ensures { result ≡ option_map (packet_behind len) packet }
+{
+    match packet {
+        Some(packet) => Some(Packet {
+            time: packet.time,
+            link: packet.link,
+            start: packet.start + len,
+            end: packet.end + len,
+        }),
+        None => None,
     }
 }
 

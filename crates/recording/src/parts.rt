@@ -1,8 +1,8 @@
 //! The packets and the blocks of a file, one after the other.
-ghost use Rattle.std.specs.Prelude.{◌≡◌, ◌≤◌, ◌<◌, Ok, length, drop, IfOk, IfErr, OnOk, option_map};
+ghost use Rattle.std.specs.Prelude.{◌≡◌, ◌≤◌, ◌<◌, Ok, length, drop, IfOk, IfErr, OnOk};
 ghost use Rattle.recording.specs.Records.{part_meaning, part_len, format_after, section_after};
 ghost use Rattle.recording.specs.Records.{items_from};
-ghost use Rattle.recording.specs.View.{given_in, packet_behind, LiesIn};
+ghost use Rattle.recording.specs.View.{given_in, LiesIn};
 ghost use Rattle.recording.specs.Steps.{Fails, IsLast};
 ghost use Rattle.recording.specs.Parts.{IsFound};
 
@@ -11,7 +11,7 @@ use crate::classic::front_packet;
 use crate::error::RecordingError;
 use crate::format::Format;
 use crate::interface::Interface;
-use crate::packet::{Packet, record_at};
+use crate::packet::{Packet, behind, record_at};
 use crate::record::Record;
 use crate::section::take_block;
 
@@ -99,21 +99,10 @@ pub(crate) fn front_part(
             let (block, len) = front_block(order, place, rest)?;
             let packet = take_block(interfaces, place, &block)?;
             Ok(Part {
-                packet: in_block(block.body, packet),
+                packet: behind(packet, 8),
                 format: Format::Blocks(block.order),
                 len,
             })
         }
-    }
-}
-
-/// A packet of a block's body, by where it lies in the block.
-fn in_block(body: &[u8], packet: Option<Packet>) -> Option<Packet>
-    requires { LiesIn body.now packet }
-    ensures { result ≡ option_map (packet_behind 8) packet }
-{
-    match packet {
-        Some(packet) => Some(packet.behind(8)),
-        None => None,
     }
 }

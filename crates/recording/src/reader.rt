@@ -1,5 +1,5 @@
 //! A recording that is read as it comes.
-ghost use Rattle.std.specs.Prelude.{◌≡◌, ◌≤◌, ◌<◌, ◌++◌, ℕ, List, [], false, None, length, take};
+ghost use Rattle.std.specs.Prelude.{◌≡◌, ◌≤◌, ◌<◌, ◌-◌, ◌++◌, drop, ℕ, List, [], false, None, length, take};
 ghost use Rattle.std.specs.Prelude.{IfOk, IfErr, OnOk, OnErr, option_map};
 ghost use Rattle.std.specs.Io.{ReadsAtMost};
 ghost use Rattle.std.specs.Io.KnownBytes.{Keeps, Consumes, IsAtEnd};
@@ -13,7 +13,7 @@ use crate::error::RecordingError;
 use crate::format::Format;
 use crate::held::{HELD_LEN, next_told};
 use crate::interface::Interface;
-use crate::packet::{Packet, record_at};
+use crate::packet::{Packet, behind, record_at};
 use crate::record::Record;
 use crate::recording::format_of;
 use crate::stage::Stage;
@@ -168,10 +168,7 @@ impl RecordingReader {
             held,
             self.is_whole,
         )?;
-        self.packet = match told.packet {
-            Some(packet) => Some(packet.behind(self.start)),
-            None => None,
-        };
+        self.packet = behind(told.packet, self.start);
         self.stage = Stage::Inside(told.format);
         self.start += told.len;
         self.place += told.len;
@@ -232,12 +229,21 @@ impl RecordingReader {
     {
         let held = self.bytes.len() - self.start;
         if held <= self.start {
-            let (front, back) = self.bytes.split_at_mut(self.start);
-            front[..held].copy_from_slice(back);
+            to_front(&mut self.bytes, self.start);
             self.bytes.truncate(held);
             self.start = 0;
         }
     }
+}
+
+/// Copies the bytes from a place on to the front.
+fn to_front(bytes: &mut [u8], start: usize)
+    requires { (start ≤ length bytes.old) × (length bytes.old - start ≤ start) }
+    ensures { take (length bytes.old - start) bytes.new ≡ drop start bytes.old }
+{
+    let len = bytes.len() - start;
+    let (front, back) = bytes.split_at_mut(start);
+    front[..len].copy_from_slice(back);
 }
 
 /// Appends what one read gives, and says how many bytes that is: none at the end.

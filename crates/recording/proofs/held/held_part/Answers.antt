@@ -1,6 +1,6 @@
-use Rattle.std.proofs.Common.{◌≡◌, ◌≤◌, ◌⊎◌, ◌++◌, false, length, true, List, ℕ, Ok, sym, ◌∙◌, ap, arith, inl, inr}
+use Rattle.std.proofs.Common.{◌≡◌, ◌≤◌, ◌⊎◌, ◌++◌, false, length, true, Ok, sym, ◌∙◌, ap, arith, inl, inr}
 use Rattle.std.proofs.lemmas.Result.{err_from_is_err_and}
-use Rattle.recording.specs.Held.{wanted, is_too_long, held_limit}
+use Rattle.recording.specs.Held.{wanted, is_too_long}
 use Rattle.recording.specs.View.{given_in}
 use Rattle.recording.specs.Records.{section_after}
 use Rattle.recording.proofs.FrontLemmas.{same, is_held, long-told, held-meant, few, many, fails-same}
@@ -20,8 +20,8 @@ returns-in_err-part-clause-fault c =
     let short : is_too_long c.args.format c.args.held.now ≡ false = is_held c.args.format c.args.held.now (omega (arith, c.if-wanted-gt-HELD_LEN.false, c.wanted-wanted.ensures)) in
     let p = err_from_is_err_and c.from_residual.result c.from_residual.ensures.1 in
     rw (p.1, p.2) (λ rest follows.
-      fails-same c.in_err-part.field-0.0 c.args.format c.args.interfaces.now.items c.args.place c.args.held.now (c.args.held.now ++ rest)
-      (same c.args.is_whole c.args.format c.args.interfaces.now.items c.args.place c.args.held.now rest follows told) short c.in_err-part.ensures.err)
+    fails-same c.in_err-part.field-0.0 c.args.format c.args.interfaces.now.items c.args.place c.args.held.now (c.args.held.now ++ rest)
+    (same c.args.is_whole c.args.format c.args.interfaces.now.items c.args.place c.args.held.now rest follows told) short c.in_err-part.ensures.err)
 
 pub returns-then-len-gt-INTERFACES-clause-fault : goal.returns-then-len-gt-INTERFACES-clause-fault
 returns-then-len-gt-INTERFACES-clause-fault c =
