@@ -1,7 +1,7 @@
 -- Ranges of ranges, and of lists that go on.
 use Rattle.std.proofs.Common.{◌≡◌, ℕ, ◌+◌, ◌-◌, ◌≤◌, List, [], ◌++◌, length, take, drop, Option, Some, None, refl, sym, ap, ◌∙◌, arith}
 use Rattle.std.specs.Prelude.{slice_range, option_map}
-use Rattle.std.proofs.lemmas.List.{drop-drop, drop-take, take-take, length-take, length-drop}
+use Rattle.std.proofs.lemmas.List.{drop-drop, drop-take, take-take, take_all, take-append-le, take-append-drop, length-take, length-drop}
 use Rattle.recording.specs.declared.packet.Packet.{Packet}
 use Rattle.recording.specs.Packets.{RecordValue, record_of}
 use Rattle.recording.specs.View.{record_at, given_in, packet_behind, LiesIn}
@@ -35,3 +35,20 @@ given-behind xs body from to (Some k) is le lies =
     let room : length body ≤ to - from = rw is short in
     ap (λ (captured : List ℕ). Some (record_of k.time k.link captured))
     (ap (λ (b : List ℕ). slice_range b k.start k.end) is ∙ range-range xs from to k.start k.end lies.0 (omega (arith, le, room, lies.1)))
+
+-- a front, and what stands behind a part of it
+pub take-both : (i m : ℕ) (xs : List ℕ) → take (i + m) xs ≡ take i xs ++ take m (drop i xs)
+take-both i m xs =
+    sym (take-append-drop i (take (i + m) xs))
+    ∙ ap (λ (front : List ℕ). front ++ drop i (take (i + m) xs)) (take-take i (i + m) xs (omega arith))
+    ∙ ap (λ (back : List ℕ). take i xs ++ back) (drop-take i m xs)
+
+-- what a list has after room was made behind it, a part of that was written, and the rest was cut
+pub written : (bytes zeros whole tail : List ℕ) (held n total room : ℕ) → held ≡ length bytes → length whole ≡ total → held + n ≤ length whole
+    → take held whole ≡ take held (take (held + room) bytes ++ zeros) → take (held + n) (take total (whole ++ tail)) ≡ bytes ++ take n (drop held whole)
+written bytes zeros whole tail held n total room is is_total within same =
+    let kept = length-take (held + room) bytes in
+    ap (take (held + n)) (ap (λ k. take k (whole ++ tail)) (sym is_total) ∙ take-append-le (length whole) whole tail (omega arith) ∙ take_all (length whole) whole (omega arith))
+    ∙ take-both held n whole
+    ∙ ap (λ (front : List ℕ). front ++ take n (drop held whole))
+    (same ∙ take-append-le held (take (held + room) bytes) zeros (omega (arith, kept, is)) ∙ take-take held (held + room) bytes (omega arith) ∙ take_all held bytes (omega (arith, is)))

@@ -1,7 +1,8 @@
 -- What comes next of a reader, by what the bytes that it holds tell.
 use Rattle.std.proofs.Common.{◌≡◌, ℕ, ◌+◌, ◌<◌, ◌≤◌, Bool, true, false, List, [], ◌∷◌, ◌++◌, length, drop, Option, Some, None, Result, Ok, Err, refl, sym, ap, ◌∙◌, arith}
 use Rattle.std.specs.Prelude.{option_map, IfOk, IfErr}
-use Rattle.std.proofs.lemmas.List.{drop-drop, drop_all, drop-append-le, length-drop, take_rest}
+use Rattle.std.specs.Io.KnownBytes.{Consumes}
+use Rattle.std.proofs.lemmas.List.{append-nil, drop-drop, drop_all, drop-append-le, length-drop, take_rest}
 use Rattle.recording.specs.declared.format.Format.{Format}
 use Rattle.recording.specs.declared.interface.Interface.{Interface}
 use Rattle.recording.specs.declared.packet.Packet.{Packet}
@@ -14,7 +15,7 @@ use Rattle.recording.specs.Steps.{IsLast}
 use Rattle.recording.specs.Packets.{RecordValue}
 use Rattle.recording.specs.View.{record_at, given_in, packet_behind, LiesIn}
 use Rattle.recording.specs.Records.{Item, items_after}
-use Rattle.recording.specs.Held.{held_from, start_of, held_behind, items_by, left, ReaderValue, wanted, CanFollow, IsNext, TakesTold, EndsTold}
+use Rattle.recording.specs.Held.{held_limit, IsAfterRead, held_from, start_of, held_behind, items_by, left, ReaderValue, wanted, CanFollow, IsNext, TakesTold, EndsTold}
 use Rattle.recording.proofs.RangeLemmas.{given-behind}
 use Rattle.recording.proofs.HeldLemmas.{held_from-nil}
 
@@ -82,3 +83,23 @@ pub opened : (format : Format) (interfaces : List Interface) (p len : ℕ) (byte
 opened format interfaces p len bytes start rest within is =
     ap (held_behind interfaces p (drop start bytes ++ rest)) is
     ∙ ap (λ (b : List ℕ). held_from format interfaces (p + len) b) (drop-append-le len (drop start bytes) rest within ∙ ap (λ (b : List ℕ). b ++ rest) (drop-drop len start bytes))
+
+-- ---- a read
+
+consumes_none : (known : Option (List ℕ)) → Consumes known known []
+consumes_none None = tt
+consumes_none (Some xs) = refl
+
+abbrev with_held : ReaderValue → List ℕ → Option RecordValue → ReaderValue
+with_held r held current = record { stage = r.stage; interfaces = r.interfaces; place = r.place; held = held; is_whole = r.is_whole; current = current }
+
+-- no read forgets the record, and changes nothing else
+pub unread : (r : ReaderValue) (known : Option (List ℕ)) → (r.is_whole ≡ false → held_limit ≤ length r.held) → IsAfterRead r (with_held r r.held None) known known
+unread r known enough = record {
+  bytes = [];
+  consumed = consumes_none known;
+  is = ap (λ (held : List ℕ). with_held r held None) (sym (append-nil r.held));
+  whole = λ is. (is, refl);
+  end = λ not is. absurd (let same : false ≡ true = sym not ∙ is in cc);
+  more = λ not none. enough not;
+}

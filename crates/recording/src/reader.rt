@@ -1,5 +1,5 @@
 //! A recording that is read as it comes.
-ghost use Rattle.std.specs.Prelude.{◌≡◌, ◌≤◌, ◌<◌, ◌-◌, ◌++◌, drop, ℕ, List, [], false, None, length, take};
+ghost use Rattle.std.specs.Prelude.{◌≡◌, ◌≤◌, ◌<◌, ◌+◌, ◌-◌, ◌++◌, drop, ℕ, List, [], false, None, length, take};
 ghost use Rattle.std.specs.Prelude.{IfOk, IfErr, OnOk, OnErr, option_map};
 ghost use Rattle.std.specs.Io.{ReadsAtMost};
 ghost use Rattle.std.specs.Io.KnownBytes.{Keeps, Consumes, IsAtEnd};
@@ -257,12 +257,27 @@ fn append_read<R: Read>(reader: &mut R, bytes: &mut Vec<u8>) -> io::Result<usize
 {
     let held = bytes.len();
     bytes.resize(held + ROOM, 0)?;
-    let read = read_once(reader, &mut bytes[held..]);
+    let read = read_behind(reader, bytes, held);
     match read {
         Ok(len) => bytes.truncate(held + len),
         Err(_) => bytes.truncate(held),
     }
     read
+}
+
+/// Reads once to the place behind the bytes that are held.
+fn read_behind<R: Read>(reader: &mut R, bytes: &mut [u8], held: usize) -> io::Result<usize>
+    requires { held ≤ length bytes.old }
+    ensures len { length bytes.new ≡ length bytes.old }
+    ensures front { take held bytes.new ≡ take held bytes.old }
+    ensures bound { IfOk result (λ n. held + n ≤ length bytes.new) }
+    ensures read { IfOk result (λ n. Consumes (R.remaining reader.old) (R.remaining reader.new)
+        (take n (drop held bytes.new))) }
+    ensures end { IfOk result (λ n. n ≡ 0 → held < length bytes.old
+        → IsAtEnd (R.remaining reader.new)) }
+    ensures unread { OnErr result (Keeps (R.remaining reader.old) (R.remaining reader.new)) }
+{
+    read_once(reader, &mut bytes[held..])
 }
 
 /// Reads once, and again where a signal interrupts it.

@@ -1,6 +1,6 @@
-use Rattle.std.proofs.Common.{◌≡◌, ◌∙◌, ◌≤◌, ◌⊎◌, ◌+◌, ◌++◌, ℕ, true, List, sym, ap, arith, refl, length, drop, Some, inl, inr}
+use Rattle.std.proofs.Common.{◌≡◌, ◌∙◌, ◌≤◌, ◌⊎◌, ◌+◌, ◌++◌, ℕ, true, List, refl, length, drop, Some, inl, inr}
 use Rattle.std.proofs.lemmas.List.{take_rest}
-use Rattle.recording.specs.Held.{start_of, held_from, items_by, CanFollow, left}
+use Rattle.recording.specs.Held.{start_of, held_from, items_by, CanFollow}
 use Rattle.recording.specs.declared.stage.Stage.TheVariants.{Head, Inside}
 use Rattle.std.specs.Prelude.{option_map}
 use Rattle.recording.specs.View.{record_at}

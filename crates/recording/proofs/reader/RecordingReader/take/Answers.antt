@@ -1,9 +1,9 @@
-use Rattle.std.proofs.Common.{◌≡◌, ◌∙◌, ◌≤◌, ◌++◌, ◌+◌, ℕ, [], true, false, List, sym, ap, arith, length, drop, Option, Some, None}
+use Rattle.std.proofs.Common.{◌≡◌, ◌∙◌, ◌≤◌, [], true, false, ap, length, drop, Option, None}
 use Rattle.std.specs.Prelude.{option_map}
 use Rattle.std.proofs.lemmas.List.{take_rest}
 use Rattle.recording.specs.declared.packet.Packet.{Packet}
 use Rattle.recording.specs.View.{record_at, packet_behind, LiesIn}
-use Rattle.recording.specs.Held.{TakesTold, EndsTold, CanFollow}
+use Rattle.recording.specs.Held.{EndsTold}
 use Rattle.recording.proofs.ReaderLemmas.{comes, record_comes, too_few, nothing}
 use Rattle.recording.proofs.reader.RecordingReader.take.Goals as goal
 use Rattle.recording.proofs.reader.RecordingReader.take.Goals.{in-Some, in-None+then-self, in-None+else-self}
