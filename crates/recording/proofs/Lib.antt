@@ -5,6 +5,7 @@ pub mod RangeLemmas
 pub mod FrontLemmas
 pub mod HeldLemmas
 pub mod ReaderLemmas
+pub mod GivenLemmas
 pub mod ItemLemmas
 pub mod SectionLemmas
 pub mod FieldSpelling

@@ -1,10 +1,10 @@
 -- Ranges of ranges, and of lists that go on.
-use Rattle.std.proofs.Common.{◌≡◌, ℕ, ◌+◌, ◌-◌, ◌≤◌, List, [], ◌++◌, length, take, drop, Option, Some, None, refl, sym, ap, ◌∙◌, arith}
+use Rattle.std.proofs.Common.{◌≡◌, ℕ, ◌+◌, ◌-◌, ◌≤◌, List, ◌++◌, length, take, drop, Option, Some, None, refl, sym, ap, ◌∙◌, arith}
 use Rattle.std.specs.Prelude.{slice_range, option_map}
-use Rattle.std.proofs.lemmas.List.{drop-drop, drop-take, take-take, take_all, take-append-le, take-append-drop, length-take, length-drop}
+use Rattle.std.proofs.lemmas.List.{drop-drop, drop-take, take-take, take_all, take-append-le, take-append-drop, length-take}
 use Rattle.recording.specs.declared.packet.Packet.{Packet}
-use Rattle.recording.specs.Packets.{RecordValue, record_of}
-use Rattle.recording.specs.View.{record_at, given_in, packet_behind, LiesIn}
+use Rattle.recording.specs.Packets.{record_of}
+use Rattle.recording.specs.View.{given_in, packet_behind, LiesIn}
 
 -- a range of a front that holds it
 pub range-take : (n : ℕ) (xs : List ℕ) (i j : ℕ) → i ≤ j → j ≤ n → slice_range (take n xs) i j ≡ slice_range xs i j

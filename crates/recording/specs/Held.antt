@@ -1,7 +1,8 @@
 -- What a reader gives of a recording that holds one packet or block of it at a time.
-use Rattle.std.specs.Prelude.{◌≡◌, ⊤, ℕ, zero, suc, ◌+◌, ◌%◌, ◌<◌, ◌≤◌, Bool, true, false, nat_lt, ◌==◌, not, ◌&&◌, if◌then◌else◌, List, [], ◌∷◌, ◌++◌, length, drop, Option, Some, None, is_none, Result, Ok, Err}
+use Rattle.std.specs.Prelude.{◌≡◌, ◌⊎◌, ⊤, ℕ, zero, suc, ◌+◌, ◌%◌, ◌<◌, ◌≤◌, Bool, true, false, nat_lt, ◌==◌, not, ◌&&◌, if◌then◌else◌, List, [], ◌∷◌, ◌++◌, length, drop, Option, Some, None, is_none, Result, Ok, Err}
+use Rattle.recording.specs.declared.error.RecordingError.{RecordingError}
 use Rattle.std.specs.Io.KnownBytes.{Consumes, IsAtEnd}
-use Rattle.recording.specs.declared.error.RecordingError.TheVariants.{NotRecording, BlockTooLong, TooManyInterfaces}
+use Rattle.recording.specs.declared.error.RecordingError.TheVariants.{NotRecording, Truncated, BadOrder, BlockLength, UnknownInterface, BlockTooLong, TooManyInterfaces, OutOfMemory}
 use Rattle.recording.specs.declared.number.ByteOrder.TheVariants.{Big}
 use Rattle.recording.specs.declared.classic.Classic as declared_classic
 use Rattle.recording.specs.declared.format.Format.{Format}
@@ -98,6 +99,30 @@ held_behind interfaces p file (Some start) = held_from start.0 interfaces (p + s
 -- the items of a file, the last of which is a fault, if there is one
 abbrev pub held_of : List ℕ → List Item
 held_of file = held_behind [] 0 file (start_of file)
+
+-- ---- beside the items of a slice
+
+-- a fault of what is not held
+abbrev pub IsLimit : RecordingError → Type 0
+IsLimit (BlockTooLong p) = ⊤
+IsLimit (TooManyInterfaces p) = ⊤
+IsLimit (NotRecording p) = ⊥
+IsLimit (Truncated p) = ⊥
+IsLimit (BadOrder p) = ⊥
+IsLimit (BlockLength p) = ⊥
+IsLimit (UnknownInterface p) = ⊥
+IsLimit OutOfMemory = ⊥
+
+-- what is given is the same, or a beginning of it and then the fault of what is not held
+abbrev pub IsGiven : List Item → List Item → Type 0
+IsGiven items given =
+    (given ≡ items)
+    ⊎ ((front others : List Item) × (fault : RecordingError) × IsLimit fault × (items ≡ front ++ others) × (given ≡ front ++ Err fault ∷ []))
+
+-- the same for a file that may be no recording
+abbrev pub IsRead : Result (List Item) RecordingError → List Item → Type 0
+IsRead (Ok items) given = IsGiven items given
+IsRead (Err fault) given = given ≡ Err fault ∷ []
 
 -- ---- a reader
 

@@ -1,5 +1,5 @@
 -- What clauses see of a record: not where its payload lies.
-use Rattle.std.specs.Prelude.{ℕ, ◌+◌, ◌≤◌, ⊤, List, length, slice_range, Option, Some, None, IfSome, option_map}
+use Rattle.std.specs.Prelude.{ℕ, ◌+◌, ◌≤◌, List, length, slice_range, Option, IfSome, option_map}
 use Rattle.recording.specs.declared.record.Datagram as declared_datagram
 use Rattle.recording.specs.declared.record.Record as declared_record
 use Rattle.recording.specs.declared.record.Record.TheVariants.{Datagram, Other}
