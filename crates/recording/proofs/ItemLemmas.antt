@@ -2,7 +2,7 @@
 use Rattle.std.proofs.Common.{◌≡◌, ℕ, zero, suc, ◌+◌, ◌<◌, ◌≤◌, List, [], ◌∷◌, length, drop, Err, refl, sym, ap, ◌∙◌, arith}
 use Rattle.std.proofs.lemmas.List.{drop-drop, drop_all, length-drop}
 use Rattle.recording.specs.declared.error.RecordingError.{RecordingError}
-use Rattle.recording.specs.declared.error.RecordingError.TheVariants.{NotRecording, Truncated, BadOrder, BlockLength, UnknownInterface, OutOfMemory}
+use Rattle.recording.specs.declared.error.RecordingError.TheVariants.{NotRecording, Truncated, BadOrder, BlockLength, UnknownInterface, BlockTooLong, TooManyInterfaces, OutOfMemory}
 use Rattle.recording.specs.declared.format.Format.{Format}
 use Rattle.recording.specs.declared.format.Format.TheVariants.{Classic, Blocks}
 use Rattle.recording.specs.declared.interface.Interface.{Interface}
@@ -90,3 +90,5 @@ fails_last (Truncated p) format interfaces place file left lt is fails = sym is 
 fails_last (BadOrder p) format interfaces place file left lt is fails = sym is ∙ left_fault format interfaces place file (BadOrder p) lt fails
 fails_last (BlockLength p) format interfaces place file left lt is fails = sym is ∙ left_fault format interfaces place file (BlockLength p) lt fails
 fails_last (UnknownInterface p) format interfaces place file left lt is fails = sym is ∙ left_fault format interfaces place file (UnknownInterface p) lt fails
+fails_last (BlockTooLong p) format interfaces place file left lt is fails = sym is ∙ left_fault format interfaces place file (BlockTooLong p) lt fails
+fails_last (TooManyInterfaces p) format interfaces place file left lt is fails = sym is ∙ left_fault format interfaces place file (TooManyInterfaces p) lt fails

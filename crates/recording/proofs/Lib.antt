@@ -1,6 +1,11 @@
 pub mod TimeLemmas
 pub mod PacketLemmas
 pub mod OptionLemmas
+pub mod RangeLemmas
+pub mod FrontLemmas
+pub mod HeldLemmas
+pub mod ReaderLemmas
+pub mod GivenLemmas
 pub mod ItemLemmas
 pub mod SectionLemmas
 pub mod FieldSpelling

@@ -32,6 +32,13 @@ classic_file = classic_head ++ (packet_head ++ sent_bytes)
 abbrev pub cut_file : List ℕ
 cut_file = classic_file ++ take 20 (packet_head ++ sent_bytes)
 
+-- the head of a packet of which with it 16,777,217 bytes were captured, one more than a reader holds; and one fewer
+abbrev pub too_long_head : List ℕ
+too_long_head = 5 ∷ 0 ∷ 0 ∷ 0 ∷ 7 ∷ 0 ∷ 0 ∷ 0 ∷ 0xf1 ∷ 0xff ∷ 0xff ∷ 0 ∷ 0xf1 ∷ 0xff ∷ 0xff ∷ 0 ∷ []
+
+abbrev pub long_head : List ℕ
+long_head = 5 ∷ 0 ∷ 0 ∷ 0 ∷ 7 ∷ 0 ∷ 0 ∷ 0 ∷ 0xf0 ∷ 0xff ∷ 0xff ∷ 0 ∷ 0xf0 ∷ 0xff ∷ 0xff ∷ 0 ∷ []
+
 -- pcapng: the head of a section and an interface of raw IPv4, the lowest byte first; a packet after 3,000,001
 -- microseconds; the same the highest byte first, where the interface has nanoseconds
 abbrev pub little_section : List ℕ

@@ -9,6 +9,7 @@ pub mod Records
 pub mod View
 pub mod Steps
 pub mod Parts
+pub mod Held
 pub mod Examples
 pub mod Spelling
 pub mod PacketSpelling

@@ -1,7 +1,9 @@
 //! The blocks of pcapng, by their lengths.
-ghost use Rattle.std.specs.Prelude.{◌≡◌, ◌≤◌, ◌<◌, ◌+◌, Some, None, Ok, Err, length, drop, IfOk, IfErr, OnOk};
+ghost use Rattle.std.specs.Prelude.{◌≡◌, ◌≤◌, ◌-◌, Some, None, Ok, Err, length, slice_range, IfOk, IfErr, OnOk};
 ghost use Rattle.recording.specs.Blocks.{block_fault, block_in, block_len, block_order, kind_of};
 ghost use Rattle.recording.specs.Blocks.{magic_order};
+ghost use Rattle.recording.specs.declared.format.Format.TheVariants.{Blocks};
+ghost use Rattle.recording.specs.Held.{wanted};
 ghost use Rattle.recording.specs.View.{view_block};
 
 use crate::error::RecordingError;
@@ -38,20 +40,20 @@ pub(crate) struct Block<'a> {
     pub(crate) body: &'a [u8],
 }
 
-/// The block at a place of a section with this order, and the place where the block ends.
-pub(crate) fn block_at(
+/// The block that these bytes of a section with this order begin with, and how many of them it has. They
+/// are the rest of a file from a place on.
+pub(crate) fn front_block(
     order: ByteOrder,
-    file: &[u8],
     place: usize,
+    rest: &[u8],
 ) -> Result<(Block<'_>, usize), RecordingError>
-    requires { place ≤ length file.now }
-    ensures fault { IfErr result (λ e. block_fault order place (drop place file.now) ≡ Some e) }
-    ensures none { OnOk result (block_fault order place (drop place file.now) ≡ None) }
-    ensures block { IfOk result (λ r. view_block r.0 ≡ block_in order (drop place file.now)) }
-    ensures end { IfOk result (λ r. (r.1 ≡ place + block_len order (drop place file.now))
-        × (r.1 ≤ length file.now) × (place < r.1)) }
+    ensures fault { IfErr result (λ e. block_fault order place rest.now ≡ Some e) }
+    ensures none { OnOk result (block_fault order place rest.now ≡ None) }
+    ensures block { IfOk result (λ r. view_block r.0 ≡ block_in order rest.now) }
+    ensures len { IfOk result (λ r. r.1 ≡ block_len order rest.now) }
+    ensures within { IfOk result (λ r. (12 ≤ r.1) × (r.1 ≤ length rest.now)) }
+    ensures body { IfOk result (λ r. r.0.body.now ≡ slice_range rest.now 8 (r.1 - 4)) }
 {
-    let rest = &file[place..];
     if rest.len() < 12 {
         return Err(RecordingError::Truncated(place));
     }
@@ -70,7 +72,23 @@ pub(crate) fn block_at(
         return Err(RecordingError::BlockLength(place));
     }
     let body = &rest[8..size - 4];
-    Ok((Block { kind, order, body }, place + size))
+    Ok((Block { kind, order, body }, size))
+}
+
+/// How many bytes of a section with this order have to be held before the block at their front is told:
+/// those of its head, and then as many as that says.
+pub(crate) fn wanted_block(order: ByteOrder, held: &[u8]) -> usize
+    ensures { result ≡ wanted (Blocks order) held.now }
+{
+    if held.len() < 12 {
+        return 12;
+    }
+    let kind = kind_of(u32_at(order, held, 0));
+    let Some(order) = block_order(order, kind, held) else {
+        return 12;
+    };
+    let size = u32_at(order, held, 4) as usize;
+    if size < 12 || size % 4 != 0 { 12 } else { size }
 }
 
 /// What the block of a type is.

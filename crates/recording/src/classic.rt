@@ -1,12 +1,13 @@
 //! The packets of classic pcap.
-ghost use Rattle.std.specs.Prelude.{◌≡◌, ◌≤◌, ◌<◌, ◌+◌, Some, None, length, drop, IfOk, IfErr, OnOk};
+ghost use Rattle.std.specs.Prelude.{◌≡◌, ◌≤◌, Some, None, length, IfOk, IfErr, OnOk};
 ghost use Rattle.recording.specs.Classic.{classic_in, packet_fault, packet_len, packet_record, packet_time};
-ghost use Rattle.recording.specs.View.{view_record};
+ghost use Rattle.recording.specs.declared.format.Format.TheVariants as formats;
+ghost use Rattle.recording.specs.Held.{wanted};
+ghost use Rattle.recording.specs.View.{record_at};
 
 use crate::error::RecordingError;
 use crate::number::{ByteOrder, u32_at};
-use crate::packet::record_of;
-use crate::record::Record;
+use crate::packet::Packet;
 use crate::time::{Time, classic_time};
 
 /// The header of a file, but for what is not looked at.
@@ -42,33 +43,45 @@ pub(crate) fn classic_in(file: &[u8]) -> Option<Classic>
     })
 }
 
-/// The record of the packet at a place, and the place where the packet ends.
-pub(crate) fn packet_at(
+/// The packet that these bytes begin with: the rest of a file from a place on.
+pub(crate) fn front_packet(
     classic: Classic,
-    file: &[u8],
     place: usize,
-) -> Result<(Record<'_>, usize), RecordingError>
-    requires { place ≤ length file.now }
-    ensures fault { IfErr result (λ e. packet_fault classic place (drop place file.now) ≡ Some e) }
-    ensures none { OnOk result (packet_fault classic place (drop place file.now) ≡ None) }
-    ensures record { IfOk result (λ r.
-        view_record r.0 ≡ packet_record classic (drop place file.now)) }
-    ensures end { IfOk result (λ r. (r.1 ≡ place + packet_len classic (drop place file.now))
-        × (r.1 ≤ length file.now)) }
+    rest: &[u8],
+) -> Result<Packet, RecordingError>
+    ensures fault { IfErr result (λ e. packet_fault classic place rest.now ≡ Some e) }
+    ensures none { OnOk result (packet_fault classic place rest.now ≡ None) }
+    ensures record { IfOk result (λ packet.
+        record_at rest.now packet ≡ packet_record classic rest.now) }
+    ensures len { IfOk result (λ packet. packet.end ≡ packet_len classic rest.now) }
+    ensures within { IfOk result (λ packet.
+        (packet.start ≡ 16) × (16 ≤ packet.end) × (packet.end ≤ length rest.now)) }
 {
-    let rest = &file[place..];
     if rest.len() < 16 {
         return Err(RecordingError::Truncated(place));
     }
-    let size = u32_at(classic.order, rest, 8) as usize + 16;
-    if rest.len() < size {
+    let end = u32_at(classic.order, rest, 8) as usize + 16;
+    if rest.len() < end {
         return Err(RecordingError::Truncated(place));
     }
-    let time = packet_time(classic, rest);
-    Ok((
-        record_of(Some(time), classic.link, &rest[16..size]),
-        place + size,
-    ))
+    Ok(Packet {
+        time: Some(packet_time(classic, rest)),
+        link: classic.link,
+        start: 16,
+        end,
+    })
+}
+
+/// How many bytes have to be held before the packet at their front is told: those of its head, and then
+/// as many as that says.
+pub(crate) fn wanted_packet(classic: Classic, held: &[u8]) -> usize
+    ensures { result ≡ wanted (formats.Classic classic) held.now }
+{
+    if held.len() < 16 {
+        16
+    } else {
+        u32_at(classic.order, held, 8) as usize + 16
+    }
 }
 
 /// The time of the packet at the front.

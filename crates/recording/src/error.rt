@@ -9,9 +9,9 @@ use thiserror::Error;
 /// Printed, it is the name and the place, as in `Truncated at 24`.
 ///
 /// The packets or blocks of a file are judged one after the other. The faults of one block are judged
-/// in this order: fewer than 12 bytes; the byte order of a section; the total length; whether the file
-/// holds so many bytes; the total length at the end; whether the body has the fields of its kind, and
-/// then the captured bytes; the interface.
+/// in this order: fewer than 12 bytes; the byte order of a section; the total length, and whether a
+/// reader holds so much; whether the file holds so many bytes; the total length at the end; whether the
+/// body has the fields of its kind, and then the captured bytes; the interface.
 #[derive(Clone, Copy, Debug, PartialEq, Eq, Error)]
 pub enum RecordingError {
     /// The file is neither classic pcap nor pcapng, or has not even the header of its format: 24
@@ -31,6 +31,14 @@ pub enum RecordingError {
     /// A packet of an interface that the section has not described. The block's first byte.
     #[error("UnknownInterface at {0}")]
     UnknownInterface(usize),
+    /// A packet or block that with its header is longer than 16 MiB (16,777,216 bytes), where the
+    /// recording is read as it comes: a reader holds no more. Its first byte.
+    #[error("BlockTooLong at {0}")]
+    BlockTooLong(usize),
+    /// A block that describes one interface more than 65,536 of its section, where the recording is
+    /// read as it comes. Its first byte.
+    #[error("TooManyInterfaces at {0}")]
+    TooManyInterfaces(usize),
     /// Memory ran out.
     #[error("out of memory")]
     OutOfMemory,

@@ -1,7 +1,7 @@
 //! Laws of the definitions behind the contracts. Each is the contract of a function that does nothing:
 //! it says what recordings are, whatever code reads them.
-ghost use Rattle.std.specs.Prelude.{◌≡◌, ℕ, List, [], ◌∷◌, Option, Ok, Err};
-ghost use Rattle.recording.specs.declared.error.RecordingError.TheVariants.{Truncated};
+ghost use Rattle.std.specs.Prelude.{◌≡◌, ℕ, List, [], ◌∷◌, ◌++◌, Option, Ok, Err};
+ghost use Rattle.recording.specs.declared.error.RecordingError.TheVariants.{Truncated, BlockTooLong};
 ghost use Rattle.recording.specs.declared.error.RecordingError.TheVariants.{NotRecording};
 ghost use Rattle.recording.specs.declared.time.Time.{Time};
 ghost use Rattle.recording.specs.Packets.{DatagramValue, datagram_in};
@@ -9,7 +9,8 @@ ghost use Rattle.recording.specs.PacketSpelling.{Carries};
 ghost use Rattle.recording.specs.Spelling.{IsBytes, IsRecording};
 ghost use Rattle.recording.specs.Records.{Item, items_of};
 ghost use Rattle.recording.specs.Examples.{sent_at, classic_head, classic_file, cut_file, blocks_file};
-ghost use Rattle.recording.specs.Examples.{little_packet};
+ghost use Rattle.recording.specs.Examples.{little_packet, too_long_head, long_head};
+ghost use Rattle.recording.specs.Held.{held_of, IsRead};
 
 /// Examples: classic pcap with no packet, with one, and with a part of another; two sections of pcapng
 /// in the two orders of bytes; blocks without a section.
@@ -19,6 +20,17 @@ pub fn worked_recordings()
     ensures cut { items_of cut_file ≡ Ok (sent_at 5 7000 ∷ Err (Truncated 71) ∷ []) }
     ensures blocks { items_of blocks_file ≡ Ok (sent_at 3 1000 ∷ sent_at 0 3000001 ∷ []) }
     ensures none { items_of little_packet ≡ Err (NotRecording 0) }
+{}
+
+/// A reader that holds one packet or block at a time gives what `Recording` gives of the same bytes, or
+/// a beginning of that and then the fault of what it does not hold. Examples: a recording that is cut;
+/// a packet that is one byte too long, and one that is not, and is not there.
+pub fn readers_give_what_recordings_give()
+    ensures same { (file : List ℕ) → IsRead (items_of file) (held_of file) }
+    ensures cut { held_of cut_file ≡ sent_at 5 7000 ∷ Err (Truncated 71) ∷ [] }
+    ensures blocks { held_of blocks_file ≡ sent_at 3 1000 ∷ sent_at 0 3000001 ∷ [] }
+    ensures too_long { held_of (classic_head ++ too_long_head) ≡ Err (BlockTooLong 24) ∷ [] }
+    ensures long { held_of (classic_head ++ long_head) ≡ Err (Truncated 24) ∷ [] }
 {}
 
 /// A file is a recording in one way at most, and what that holds is what the plain program reads. Each

@@ -3,6 +3,8 @@
 //! taken is the list of the interfaces of a pcapng section.
 //!
 //! - [`Recording`]: what a recording holds, one after the other;
+//! - [`RecordingReader`]: the same of a recording that is read as it comes, of which one packet or block
+//!   is held at a time;
 //! - [`Record`]: a [`Datagram`], or why a packet gives none, [`Skipped`];
 //! - [`Time`], [`Endpoint`]: when a datagram was recorded, and where it came from and went to;
 //! - [`RecordingError`]: the fault that ends a recording;
@@ -13,17 +15,21 @@ mod block;
 mod classic;
 mod error;
 mod format;
+mod held;
 mod interface;
 pub mod laws;
 mod number;
 mod packet;
 mod parts;
+mod reader;
 mod record;
 mod recording;
 mod section;
+mod stage;
 mod time;
 
 pub use error::RecordingError;
+pub use reader::{Next, RecordingReader};
 pub use record::{Datagram, Endpoint, Record, Skipped};
 pub use recording::Recording;
 pub use time::Time;

@@ -1,9 +1,10 @@
 //! The datagram in a packet.
-ghost use Rattle.std.specs.Prelude.{◌≡◌, ◌≤◌, ◌+◌, Some, None, Ok, Err, Option, length, drop, IfOk, IfErr, OnOk};
+ghost use Rattle.std.specs.Prelude.{◌≡◌, ◌≤◌, ◌<◌, ◌+◌, ◌^◌, Some, None, Ok, Err, Option, length, drop, IfOk, IfErr, OnOk};
+ghost use Rattle.std.specs.Prelude.{IfSome, option_map};
 ghost use Rattle.recording.specs.Packets.{network_place, network_at, ethernet_protocol, after_tag};
 ghost use Rattle.recording.specs.Packets.{is_tag, ipv4_fault, udp_fault, header_len, total_len};
 ghost use Rattle.recording.specs.Packets.{datagram_in, record_of, carried_in};
-ghost use Rattle.recording.specs.View.{view_datagram, view_record};
+ghost use Rattle.recording.specs.View.{view_datagram, view_record, record_at, packet_behind};
 
 use crate::number::network_u16_at;
 use crate::record::{Datagram, Endpoint, Record, Skipped};
@@ -19,8 +20,46 @@ const IPV4: u16 = 228;
 
 const COOKED_2: u16 = 276;
 
+/// A packet as it was captured, by where its bytes lie.
+#[derive(Clone, Copy, Debug, PartialEq, Eq)]
+pub(crate) struct Packet {
+    /// When it was recorded, where that is said.
+    pub(crate) time: Option<Time>,
+    /// Its link type.
+    pub(crate) link: u16,
+    /// Where its first byte lies.
+    pub(crate) start: usize,
+    /// The place after its last byte.
+    pub(crate) end: usize,
+}
+
+/// A packet, if there is one, by where it lies in bytes of which so many stand before those that its
+/// places count.
+pub(crate) fn behind(packet: Option<Packet>, len: usize) -> Option<Packet>
+    requires { IfSome packet (λ k. (k.start ≤ k.end) × (k.end + len < 2 ^ 64)) }
+    ensures { result ≡ option_map (packet_behind len) packet }
+{
+    match packet {
+        Some(packet) => Some(Packet {
+            time: packet.time,
+            link: packet.link,
+            start: packet.start + len,
+            end: packet.end + len,
+        }),
+        None => None,
+    }
+}
+
+/// What a packet that lies in these bytes gives.
+pub(crate) fn record_at(bytes: &[u8], packet: Packet) -> Record<'_>
+    requires { (packet.start ≤ packet.end) × (packet.end ≤ length bytes.now) }
+    ensures { view_record result ≡ record_at bytes.now packet }
+{
+    record_of(packet.time, packet.link, &bytes[packet.start..packet.end])
+}
+
 /// What a packet of this link type gives.
-pub(crate) fn record_of(time: Option<Time>, link: u16, packet: &[u8]) -> Record<'_>
+fn record_of(time: Option<Time>, link: u16, packet: &[u8]) -> Record<'_>
     ensures { view_record result ≡ record_of time link packet.now }
 {
     match datagram_in(time, link, packet) {

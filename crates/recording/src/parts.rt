@@ -1,28 +1,29 @@
 //! The packets and the blocks of a file, one after the other.
-ghost use Rattle.std.specs.Prelude.{◌≡◌, ◌≤◌, ◌<◌, ◌+◌, ◌∷◌, [], Ok, Err, length, drop, IfOk, IfErr, OnOk};
+ghost use Rattle.std.specs.Prelude.{◌≡◌, ◌≤◌, ◌<◌, Ok, length, drop, IfOk, IfErr, OnOk};
 ghost use Rattle.recording.specs.Records.{part_meaning, part_len, format_after, section_after};
 ghost use Rattle.recording.specs.Records.{items_from};
-ghost use Rattle.recording.specs.View.{view_record, view_option};
+ghost use Rattle.recording.specs.View.{given_in, LiesIn};
 ghost use Rattle.recording.specs.Steps.{Fails, IsLast};
 ghost use Rattle.recording.specs.Parts.{IsFound};
 
-use crate::block::block_at;
-use crate::classic::packet_at;
+use crate::block::front_block;
+use crate::classic::front_packet;
 use crate::error::RecordingError;
 use crate::format::Format;
 use crate::interface::Interface;
+use crate::packet::{Packet, behind, record_at};
 use crate::record::Record;
 use crate::section::take_block;
 
-/// A packet or a block.
+/// A packet or a block at the front of bytes.
 #[derive(Clone, Copy, Debug, PartialEq, Eq)]
-pub(crate) struct Part<'a> {
-    /// The record in it, if there is one.
-    pub(crate) record: Option<Record<'a>>,
+pub(crate) struct Part {
+    /// The packet that it is, or that is in it, if there is one.
+    pub(crate) packet: Option<Packet>,
     /// The format behind it.
     pub(crate) format: Format,
-    /// Where it ends.
-    pub(crate) end: usize,
+    /// How many bytes it has.
+    pub(crate) len: usize,
 }
 
 /// A record, and where its packet or block ends.
@@ -51,12 +52,13 @@ pub(crate) fn next_record<'a>(
         (items_from format interfaces.old.items place (drop place file.now))) }
 {
     while place < file.len() {
-        let part = part_at(format, interfaces, file, place)?;
+        let rest = &file[place..];
+        let part = front_part(format, interfaces, place, rest)?;
         format = part.format;
-        place = part.end;
-        if let Some(record) = part.record {
+        place += part.len;
+        if let Some(packet) = part.packet {
             return Ok(Some(Found {
-                record,
+                record: record_at(rest, packet),
                 format,
                 end: place,
             }));
@@ -65,42 +67,41 @@ pub(crate) fn next_record<'a>(
     Ok(None)
 }
 
-/// The packet or the block at a place of the file. The interfaces are those behind it.
-fn part_at<'a>(
+/// The packet or the block that these bytes begin with: the rest of a file from a place on. The
+/// interfaces are those behind it.
+pub(crate) fn front_part(
     format: Format,
     interfaces: &mut Vec<Interface>,
-    file: &'a [u8],
     place: usize,
-) -> Result<Part<'a>, RecordingError>
-    requires { place < length file.now }
-    ensures meaning { IfOk result (λ part.
-        part_meaning format interfaces.old.items place (drop place file.now)
-        ≡ Ok (view_option part.record)) }
+    rest: &[u8],
+) -> Result<Part, RecordingError>
+    ensures meaning { IfOk result (λ part. part_meaning format interfaces.old.items place rest.now
+        ≡ Ok (given_in rest.now part.packet)) }
+    ensures packet { IfOk result (λ part. LiesIn rest.now part.packet) }
     ensures err { IfErr result (λ e.
-        Fails e (part_meaning format interfaces.old.items place (drop place file.now))) }
-    ensures format { IfOk result (λ part. part.format ≡ format_after format (drop place file.now)) }
+        Fails e (part_meaning format interfaces.old.items place rest.now)) }
+    ensures format { IfOk result (λ part. part.format ≡ format_after format rest.now) }
     ensures interfaces { OnOk result (interfaces.new.items
-        ≡ section_after format interfaces.old.items (drop place file.now)) }
-    ensures end { IfOk result (λ part. part.end ≡ place + part_len format (drop place file.now)) }
-    ensures within { IfOk result (λ part. part.end ≤ length file.now) }
-    ensures further { IfOk result (λ part. place < part.end) }
+        ≡ section_after format interfaces.old.items rest.now) }
+    ensures len { IfOk result (λ part. part.len ≡ part_len format rest.now) }
+    ensures within { IfOk result (λ part. (0 < part.len) × (part.len ≤ length rest.now)) }
 {
     match format {
         Format::Classic(classic) => {
-            let (record, end) = packet_at(classic, file, place)?;
+            let packet = front_packet(classic, place, rest)?;
             Ok(Part {
-                record: Some(record),
+                packet: Some(packet),
                 format,
-                end,
+                len: packet.end,
             })
         }
         Format::Blocks(order) => {
-            let (block, end) = block_at(order, file, place)?;
-            let record = take_block(interfaces, place, &block)?;
+            let (block, len) = front_block(order, place, rest)?;
+            let packet = take_block(interfaces, place, &block)?;
             Ok(Part {
-                record,
+                packet: behind(packet, 8),
                 format: Format::Blocks(block.order),
-                end,
+                len,
             })
         }
     }

@@ -2,25 +2,26 @@
 ghost use Rattle.std.specs.Prelude.{◌≡◌, ◌≤◌, ◌+◌, List, Some, None, Ok, Err, length, IfOk, IfErr, OnOk};
 ghost use Rattle.recording.specs.Sections.{meaning_of, interfaces_after, least_body, simple_record};
 ghost use Rattle.recording.specs.Sections.{timed_record, block_time, captured_len};
-ghost use Rattle.recording.specs.View.{view_block, view_record, view_option};
+ghost use Rattle.recording.specs.View.{view_block, given_in, LiesIn};
 ghost use Rattle.recording.specs.Steps.{Fails};
 
 use crate::block::{Block, BlockKind};
 use crate::error::RecordingError;
 use crate::interface::{Interface, interface_in};
 use crate::number::{u16_at, u32_at};
-use crate::packet::record_of;
-use crate::record::Record;
+use crate::packet::Packet;
 use crate::time::{Time, tick_time};
 
-/// Takes a block, at this place of the file, into its section, and gives the record in it, if one is.
-pub(crate) fn take_block<'a>(
+/// Takes a block, at this place of the file, into its section, and gives the packet in its body, if one
+/// is.
+pub(crate) fn take_block(
     interfaces: &mut Vec<Interface>,
     place: usize,
-    block: &Block<'a>,
-) -> Result<Option<Record<'a>>, RecordingError>
-    ensures ok { IfOk result (λ given.
-        meaning_of interfaces.old.items place (view_block block.now) ≡ Ok (view_option given)) }
+    block: &Block<'_>,
+) -> Result<Option<Packet>, RecordingError>
+    ensures ok { IfOk result (λ packet. meaning_of interfaces.old.items place (view_block block.now)
+        ≡ Ok (given_in block.now.body.now packet)) }
+    ensures within { IfOk result (LiesIn block.now.body.now) }
     ensures after { OnOk result
         (interfaces.new.items ≡ interfaces_after interfaces.old.items (view_block block.now)) }
     ensures err { IfErr result (λ e.
@@ -40,13 +41,13 @@ pub(crate) fn take_block<'a>(
         }
         BlockKind::OldPacket => {
             let index = u16_at(block.order, block.body, 0) as usize;
-            timed_record(interfaces, place, block, index)
+            timed_packet(interfaces, place, block, index)
         }
         BlockKind::EnhancedPacket => {
             let index = u32_at(block.order, block.body, 0) as usize;
-            timed_record(interfaces, place, block, index)
+            timed_packet(interfaces, place, block, index)
         }
-        BlockKind::SimplePacket => simple_record(interfaces, place, block),
+        BlockKind::SimplePacket => simple_packet(interfaces, place, block),
         BlockKind::Other => Ok(None),
     }
 }
@@ -65,16 +66,17 @@ fn least_body(kind: BlockKind) -> usize
     }
 }
 
-/// The record of a packet with a time, of the interface with this number.
-fn timed_record<'a>(
+/// The packet with a time, of the interface with this number.
+fn timed_packet(
     interfaces: &[Interface],
     place: usize,
-    block: &Block<'a>,
+    block: &Block<'_>,
     index: usize,
-) -> Result<Option<Record<'a>>, RecordingError>
+) -> Result<Option<Packet>, RecordingError>
     requires { 20 ≤ length block.now.body.now }
-    ensures ok { IfOk result (λ given.
-        timed_record interfaces.now place (view_block block.now) index ≡ Ok (view_option given)) }
+    ensures ok { IfOk result (λ packet. timed_record interfaces.now place (view_block block.now) index
+        ≡ Ok (given_in block.now.body.now packet)) }
+    ensures within { IfOk result (LiesIn block.now.body.now) }
     ensures err { IfErr result (λ e.
         timed_record interfaces.now place (view_block block.now) index ≡ Err e) }
 {
@@ -87,7 +89,12 @@ fn timed_record<'a>(
         return Err(RecordingError::UnknownInterface(place));
     };
     let time = block_time(*interface, block);
-    Ok(Some(record_of(Some(time), interface.link, &body[20..end])))
+    Ok(Some(Packet {
+        time: Some(time),
+        link: interface.link,
+        start: 20,
+        end,
+    }))
 }
 
 /// The time of a packet with one: the upper half of the ticks stands first, in either order.
@@ -104,15 +111,16 @@ fn block_time(interface: Interface, block: &Block<'_>) -> Time
     )
 }
 
-/// The record of a packet without a time, which is of the first interface.
-fn simple_record<'a>(
+/// The packet without a time, which is of the first interface.
+fn simple_packet(
     interfaces: &[Interface],
     place: usize,
-    block: &Block<'a>,
-) -> Result<Option<Record<'a>>, RecordingError>
+    block: &Block<'_>,
+) -> Result<Option<Packet>, RecordingError>
     requires { 4 ≤ length block.now.body.now }
-    ensures ok { IfOk result (λ given.
-        simple_record interfaces.now place (view_block block.now) ≡ Ok (view_option given)) }
+    ensures ok { IfOk result (λ packet. simple_record interfaces.now place (view_block block.now)
+        ≡ Ok (given_in block.now.body.now packet)) }
+    ensures within { IfOk result (LiesIn block.now.body.now) }
     ensures err { IfErr result (λ e.
         simple_record interfaces.now place (view_block block.now) ≡ Err e) }
 {
@@ -124,7 +132,12 @@ fn simple_record<'a>(
         u32_at(block.order, block.body, 0),
         block.body.len() - 4,
     );
-    Ok(Some(record_of(None, interface.link, &block.body[4..4 + size])))
+    Ok(Some(Packet {
+        time: None,
+        link: interface.link,
+        start: 4,
+        end: 4 + size,
+    }))
 }
 
 /// How many bytes of a packet were captured: all, but at most what the interface has for a limit, where

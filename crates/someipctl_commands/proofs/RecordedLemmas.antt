@@ -4,7 +4,7 @@ use Rattle.std.specs.List.{list_any}
 use Rattle.std.specs.Option.{option_to_list}
 use Rattle.std.proofs.lemmas.List.{length-drop}
 use Rattle.recording.specs.declared.RecordingError.{RecordingError}
-use Rattle.recording.specs.declared.RecordingError.TheVariants.{NotRecording, Truncated, BadOrder, BlockLength, UnknownInterface}
+use Rattle.recording.specs.declared.RecordingError.TheVariants.{NotRecording, Truncated, BadOrder, BlockLength, UnknownInterface, BlockTooLong, TooManyInterfaces}
 use Rattle.recording.specs.declared.RecordingError.TheVariants as recorded
 use Rattle.recording.specs.declared.Skipped.{Skipped}
 use Rattle.recording.specs.declared.Skipped.TheVariants.{LinkType, NotIpv4, Fragment, NotUdp, Cut, BadUdpLength}
@@ -234,6 +234,8 @@ refuses_fault file ports endpoints (Truncated p) a keeps is = ((file, refl, is),
 refuses_fault file ports endpoints (BadOrder p) a keeps is = ((file, refl, is), keeps)
 refuses_fault file ports endpoints (BlockLength p) a keeps is = ((file, refl, is), keeps)
 refuses_fault file ports endpoints (UnknownInterface p) a keeps is = ((file, refl, is), keeps)
+refuses_fault file ports endpoints (BlockTooLong p) a keeps is = ((file, refl, is), keeps)
+refuses_fault file ports endpoints (TooManyInterfaces p) a keeps is = ((file, refl, is), keeps)
 refuses_fault file ports endpoints recorded.OutOfMemory a keeps is = refuses_memory file ports endpoints a
 
 -- ---- what holds of the file that was read holds of what the reader had left
