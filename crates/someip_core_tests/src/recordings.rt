@@ -8,6 +8,7 @@ mod items;
 mod packets;
 mod pcap;
 mod pcapng;
+mod reading;
 
 #[test]
 fn packets_give_datagrams(rt: HostRuntime) {
@@ -22,6 +23,12 @@ fn classic_files(rt: HostRuntime) {
 #[test]
 fn block_files(rt: HostRuntime) {
     check(&rt, rt.alloc(), "pcapng FILES", pcapng::FILES);
+    check(&rt, rt.alloc(), "pcapng LONG", pcapng::LONG);
+}
+
+#[test]
+fn readers(rt: HostRuntime) {
+    check(&rt, rt.alloc(), "READERS", reading::READERS);
 }
 
 #[test]
@@ -32,6 +39,7 @@ fn errors_are_printed(rt: HostRuntime) {
 #[test]
 fn laws_hold() {
     laws::worked_recordings();
+    laws::readers_give_what_recordings_give();
     laws::each_recording_is_read_in_one_way();
     laws::a_packet_gives_the_datagram_that_it_carries();
 }

@@ -11,5 +11,10 @@ pub(super) const PRINTED: &[Printed<RecordingError>] = &[
         RecordingError::UnknownInterface(48),
         "UnknownInterface at 48",
     ),
+    Printed(RecordingError::BlockTooLong(24), "BlockTooLong at 24"),
+    Printed(
+        RecordingError::TooManyInterfaces(48),
+        "TooManyInterfaces at 48",
+    ),
     Printed(RecordingError::OutOfMemory, "out of memory"),
 ];

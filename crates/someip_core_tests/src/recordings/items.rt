@@ -1,5 +1,7 @@
 //! What a file holds, and whether it gives that.
-use recording::{Datagram, Endpoint, Record, Recording, RecordingError, Skipped, Time};
+use recording::{
+    Datagram, Endpoint, Next, Record, Recording, RecordingError, RecordingReader, Skipped, Time,
+};
 use std::alloc::Global;
 
 /// What a file gives.
@@ -87,4 +89,36 @@ fn has_left(recording: &mut Recording<'_>, wanted: &[Wanted]) -> bool {
         }
     }
     recording.next().is_none()
+}
+
+/// Whether a reader gives these of a file, one by one, and nothing else, where at most so many bytes come at
+/// once.
+pub(crate) fn reads(alloc: Global, file: &[u8], most: usize, wanted: &[Wanted]) -> bool {
+    let mut reader = RecordingReader::new(alloc);
+    let mut rest = file;
+    let mut left = wanted.iter();
+    for _ in 0..u64::MAX {
+        let is_wanted = match reader.next() {
+            Ok(Next::Unread) => {
+                let (mut part, others) = rest.split_at(most.min(rest.len()));
+                rest = others;
+                reader.read_from(&mut part).is_ok()
+            }
+            Ok(Next::Record) => comes(left.next(), reader.record()),
+            Ok(Next::End) => return left.next().is_none(),
+            Err(fault) => left.next().is_some_and(|wanted| wanted.is_fault(fault)),
+        };
+        if !is_wanted {
+            return false;
+        }
+    }
+    false
+}
+
+/// Whether a record is the one that comes next.
+fn comes(wanted: Option<&Wanted>, found: Option<Record<'_>>) -> bool {
+    match (wanted, found) {
+        (Some(wanted), Some(found)) => wanted.is_record(&found),
+        _ => false,
+    }
 }

@@ -1,21 +1,21 @@
 //! Files of pcapng.
-use super::files::File;
+use super::files::{File, Slice};
 use super::items::Wanted::{At, Ends, Other, Untimed};
 use recording::{RecordingError, Skipped};
 
 /// The head of a section, the highest byte first.
-const BIG_SECTION: &[u8] = &[
+pub(super) const BIG_SECTION: &[u8] = &[
     0x0a, 0x0d, 0x0d, 0x0a, 0, 0, 0, 0x1c, 0x1a, 0x2b, 0x3c, 0x4d, 0, 1, 0, 0, 0xff, 0xff, 0xff,
     0xff, 0xff, 0xff, 0xff, 0xff, 0, 0, 0, 0x1c,
 ];
 
 /// An interface of raw IPv4.
-const BIG_INTERFACE: &[u8] = &[
+pub(super) const BIG_INTERFACE: &[u8] = &[
     0, 0, 0, 1, 0, 0, 0, 0x14, 0, 0xe4, 0, 0, 0, 0, 0, 0, 0, 0, 0, 0x14,
 ];
 
 /// A packet of interface 0, at 2^32 and 1,000,001 ticks, which is padded.
-const BIG_ENHANCED: &[u8] = &[
+pub(super) const BIG_ENHANCED: &[u8] = &[
     0, 0, 0, 6, 0, 0, 0, 0x40, 0, 0, 0, 0, 0, 0, 0, 1, 0, 0x0f, 0x42, 0x41, 0, 0, 0, 0x1f, 0, 0, 0,
     0x1f, 0x45, 0, 0, 0x1f, 0x12, 0x34, 0x40, 0, 0x40, 0x11, 0, 0, 0xc0, 0xa8, 0, 1, 0xc0, 0xa8, 0,
     2, 0x77, 0x1a, 0x77, 0x25, 0, 0x0b, 0, 0, 1, 2, 3, 0xee, 0, 0, 0, 0x40,
@@ -477,18 +477,6 @@ pub(super) const FILES: &[File] = &[
         ],
         &[Ends(RecordingError::UnknownInterface(76))],
     ),
-    // The order of the section before.
-    File(
-        &[
-            LITTLE_SECTION,
-            LITTLE_INTERFACE,
-            BIG_SECTION,
-            &[
-                1, 0, 0, 0, 0x14, 0, 0, 0, 0xe4, 0, 0, 0, 0, 0, 0, 0, 0x14, 0, 0, 0,
-            ],
-        ],
-        &[Ends(RecordingError::Truncated(76))],
-    ),
     // No byte order.
     File(
         &[
@@ -519,5 +507,21 @@ pub(super) const FILES: &[File] = &[
             0x0a, 0x0d, 0x0d, 0x0a, 0, 0, 0, 0x1c, 0x1a, 0x2b, 0x3c, 0x4d,
         ]],
         &[Ends(RecordingError::Truncated(0))],
+    ),
+];
+
+/// A file whose last block says that it is longer than a reader holds.
+pub(super) const LONG: &[Slice] = &[
+    // The order of the section before.
+    Slice(
+        &[
+            LITTLE_SECTION,
+            LITTLE_INTERFACE,
+            BIG_SECTION,
+            &[
+                1, 0, 0, 0, 0x14, 0, 0, 0, 0xe4, 0, 0, 0, 0, 0, 0, 0, 0x14, 0, 0, 0,
+            ],
+        ],
+        &[Ends(RecordingError::Truncated(76))],
     ),
 ];
