@@ -18,6 +18,7 @@ mod wrong;
 
 use crate::error::SweepError;
 use crate::findings::Findings;
+use deed::sources_in;
 use judging::judge;
 use promises::judge_promises;
 use reached::Reached;
@@ -66,8 +67,9 @@ fn judge_seed(
     let mut schedule = Schedule::new(alloc, setup, seed)?;
     schedule.draw()?;
     reached.note(&schedule);
-    judge(alloc, setup.nodes(), &schedule)?;
-    judge_promises(alloc, setup.nodes(), &schedule, reached)?;
+    let sources = sources_in(alloc, setup.nodes(), schedule.trace.lines.as_slice())?;
+    judge(alloc, setup.nodes(), &schedule, &sources)?;
+    judge_promises(alloc, setup.nodes(), &schedule, &sources, reached)?;
     if is_quiet(seed) && has_liar(setup.nodes()) {
         judge_silence(alloc, setup, &schedule)?;
     }

@@ -88,7 +88,8 @@ fn lines_of(lines: &[Line], index: usize) -> &[Line] {
     lines.get(start..end).unwrap_or(&[])
 }
 
-fn source_of(step: &Step, sources: &[Source]) -> Option<Source> {
+/// Where the datagram came from that a step delivers, if it delivers one.
+pub fn source_of(step: &Step, sources: &[Source]) -> Option<Source> {
     match step {
         Step::Deliver { number, .. } => sources.get(number.saturating_sub(1) as usize).copied(),
         _ => None,

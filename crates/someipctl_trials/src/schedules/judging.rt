@@ -1,28 +1,29 @@
 //! Whether the lines of a run hang together.
 
+use crate::schedules::deed::{Source, source_of};
 use crate::schedules::life::Life;
 use crate::schedules::schedule::Schedule;
 use crate::schedules::telling::prints_its_line;
 use crate::schedules::wrong::ScheduleWrong;
-use someip_node::Output;
 use someip_world::{Line, SetupNode, Step, Told};
 use someip_world_rules::place_of;
 use std::alloc::{AllocError, Global};
 
-/// Judges the run of a schedule over the nodes of a setup by its lines alone.
+/// Judges the run of a schedule over the nodes of a setup by its lines alone, where datagrams came from these
+/// sources.
 pub fn judge(
     alloc: Global,
     nodes: &[SetupNode],
     schedule: &Schedule<'_>,
+    sources: &[Source],
 ) -> Result<(), ScheduleWrong> {
     let lines = schedule.trace.lines.as_slice();
     judge_texts(alloc, lines)?;
-    let senders = senders_in(alloc, lines)?;
     let mut lives = lives_of(alloc, nodes)?;
     for (place, step) in schedule.steps.iter().enumerate() {
         let node = place_of(nodes, step.node().as_str()).unwrap_or(0);
         if let Some(life) = lives.get_mut(node) {
-            take_step(life, step, node, &senders);
+            take_step(life, step, node, sources);
             take_lines(life, step, place.saturating_add(1), lines)?;
         }
     }
@@ -50,27 +51,11 @@ fn lives_of(alloc: Global, nodes: &[SetupNode]) -> Result<Vec<Life>, AllocError>
     Ok(lives)
 }
 
-/// The place in the setup of the node that sent each datagram.
-fn senders_in(alloc: Global, lines: &[Line]) -> Result<Vec<usize>, AllocError> {
-    let mut senders = Vec::new(alloc);
-    for line in lines {
-        if let Told::Gave(Output::Sent { .. }) = &line.told {
-            senders.push(line.node)?;
-        }
-    }
-    Ok(senders)
-}
-
 /// Takes a step of the node at a place of the setup.
-fn take_step(life: &mut Life, step: &Step, node: usize, senders: &[usize]) {
-    match step {
-        Step::Restart { .. } => life.begin_anew(),
-        Step::Deliver { number, .. } => {
-            let sender = senders.get(number.saturating_sub(1) as usize);
-            if *sender.unwrap_or(&node) != node {
-                life.hear();
-            }
-        }
+fn take_step(life: &mut Life, step: &Step, node: usize, sources: &[Source]) {
+    match (step, source_of(step, sources)) {
+        (Step::Restart { .. }, _) => life.begin_anew(),
+        (_, Some(source)) if source.sender != node => life.hear(),
         _ => {}
     }
 }

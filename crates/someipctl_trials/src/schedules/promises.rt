@@ -1,6 +1,6 @@
 //! Whether a run keeps what is promised of runs, among liars too.
 
-use crate::schedules::deed::{Deed, Source, deed_at, sources_in};
+use crate::schedules::deed::{Deed, Source, deed_at};
 use crate::schedules::life::needs_peer;
 use crate::schedules::past::Past;
 use crate::schedules::reached::Reached;
@@ -15,18 +15,19 @@ use someip_world::{Line, SetupNode, Told};
 use std::alloc::Global;
 use std::net::SocketAddrV4;
 
-/// Judges the run of a schedule over the nodes of a setup, and notes what liars reach in it.
+/// Judges the run of a schedule over the nodes of a setup, where datagrams came from these sources, and notes what
+/// liars reach in it.
 pub fn judge_promises(
     alloc: Global,
     nodes: &[SetupNode],
     schedule: &Schedule<'_>,
+    sources: &[Source],
     reached: &mut Reached,
 ) -> Result<(), ScheduleWrong> {
-    let sources = sources_in(alloc, nodes, schedule.trace.lines.as_slice())?;
     let mut past = Past::new(alloc);
     let mut subscribers = Subscribers::new(alloc);
     for place in 0..schedule.steps.len() {
-        if let Some(deed) = deed_at(nodes, schedule, &sources, place) {
+        if let Some(deed) = deed_at(nodes, schedule, sources, place) {
             subscribers.take_step(&deed);
             for line in deed.told {
                 judge_line(nodes, &past, &deed, line)?;
