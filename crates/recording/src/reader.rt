@@ -1,5 +1,5 @@
 //! A recording that is read as it comes.
-ghost use Rattle.std.specs.Prelude.{◌≡◌, ◌≤◌, ◌<◌, ◌+◌, ◌-◌, ◌++◌, drop, ℕ, List, [], false, None, length, take};
+ghost use Rattle.std.specs.Prelude.{◌≡◌, ◌≤◌, ◌<◌, ◌+◌, ◌-◌, ◌^◌, ◌++◌, drop, ℕ, List, [], false, None, length, take};
 ghost use Rattle.std.specs.Prelude.{IfOk, IfErr, OnOk, OnErr, option_map};
 ghost use Rattle.std.specs.Io.{ReadsAtMost};
 ghost use Rattle.std.specs.Io.KnownBytes.{Keeps, Consumes, IsAtEnd};
@@ -122,6 +122,8 @@ impl RecordingReader {
         ensures ended { OnErr result ((rest : List ℕ) → left self.new rest ≡ []) }
         // Nothing is read.
         ensures whole { self.new.is_whole ≡ self.old.is_whole }
+        // Places are numbers of 64 bits.
+        ensures bounded { self.new.place < 2 ^ 64 }
     {
         self.packet = None;
         let next = match self.stage {
