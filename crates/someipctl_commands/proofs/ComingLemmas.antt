@@ -59,7 +59,7 @@ comes_both a b c k l m items others one other =
       consumed = consumes_both k l m one.seen other.seen one.consumed other.consumed;
       follows = λ rest f. subst (CanFollow a.is_whole) (sym (place rest)) (one.follows (other.seen ++ rest) (other.follows rest f));
       came = λ rest f.
-      ap (left a) (place rest) ∙ one.came (other.seen ++ rest) (other.follows rest f) ∙ ap (λ (l : List Item). items ++ l) (other.came rest f) ∙ sym (append_assoc items others (left c rest));
+          ap (left a) (place rest) ∙ one.came (other.seen ++ rest) (other.follows rest f) ∙ ap (λ (l : List Item). items ++ l) (other.came rest f) ∙ sym (append_assoc items others (left c rest));
       at_end = λ was. ends_both k l m one.seen b.is_whole c.is_whole one.consumed (one.at_end was) other.at_end;
     }
 
@@ -83,8 +83,8 @@ comes_record b c known is whole =
 
 pub comes_end : (b c : ReaderValue) (known : Option (List ℕ)) → IsNext b c next.End → c.is_whole ≡ b.is_whole → Comes b c known known []
 comes_end b c known is whole = quiet b c known [] whole (λ rest f.
-  let n = is rest (rw whole at f) in
-  n.0 ∙ sym n.1)
+    let n = is rest (rw whole at f) in
+    n.0 ∙ sym n.1)
 
 last_is : (e : RecordingError) (items : List Item) → (e ≡ OutOfMemory → ⊥) → IsLast e items → items ≡ Err e ∷ []
 last_is OutOfMemory items not is = absurd (not refl)
@@ -99,7 +99,7 @@ last_is (TooManyInterfaces p) items not is = is
 pub comes_fault : (b c : ReaderValue) (known : Option (List ℕ)) (e : RecordingError) → (e ≡ OutOfMemory → ⊥) → ((rest : List ℕ) → CanFollow b.is_whole rest → IsLast e (left b rest))
     → ((rest : List ℕ) → left c rest ≡ []) → c.is_whole ≡ b.is_whole → Comes b c known known (Err e ∷ [])
 comes_fault b c known e not last none whole = quiet b c known (Err e ∷ []) whole (λ rest f.
-  last_is e (left b rest) not (last rest (rw whole at f)) ∙ ap (λ (l : List Item). Err e ∷ l) (sym (none rest)))
+    last_is e (left b rest) not (last rest (rw whole at f)) ∙ ap (λ (l : List Item). Err e ∷ l) (sym (none rest)))
 
 follows_read : (before after : Bool) (bytes rest : List ℕ) → (before ≡ true → (after ≡ true) × (bytes ≡ [])) → CanFollow after rest → CanFollow before (bytes ++ rest)
 follows_read false after bytes rest whole f = tt

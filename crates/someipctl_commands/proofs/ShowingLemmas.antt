@@ -11,13 +11,14 @@ use Rattle.recording.specs.Records.{Item}
 use Rattle.recording.specs.Held.{ReaderValue, CanFollow, held_of, left}
 use Rattle.someipctl_inputs.specs.Outcomes.{fault_outcome}
 use Rattle.someipctl_print.specs.Sending.{Sends, Stops}
-use Rattle.someipctl_print.proofs.SendingLemmas.{Sends-flush, Sends-nil, Sends-trans, Stops-after, Stops-before}
+use Rattle.someipctl_print.proofs.SendingLemmas.{Sends-all, Stops-flush, Sends-flush, Sends-nil, Sends-trans, Stops-after, Stops-before}
 use Rattle.someipctl_commands.specs.declared.recordings.Shown.{Shown}
+use Rattle.someipctl_commands.specs.declared.recordings.ShownRecording.{ShownRecording}
 use Rattle.someipctl_commands.specs.LeftOut.{counted, left_out_of, nothing_left_out, plus, total}
 use Rattle.someipctl_commands.specs.ShownText.{has_fault}
 use Rattle.someipctl_commands.specs.RecordedText.{asked_in, asked_of, is_asked, recorded_from}
 use Rattle.someipctl_commands.specs.Coming.{Comes}
-use Rattle.someipctl_commands.specs.RecordingResult.{BeginsRecording, PutsRecording, fault_among, nothing_shown, shown_after, shown_recording, text_of}
+use Rattle.someipctl_commands.specs.RecordingResult.{BeginsRecording, PutsRecording, ShowsRecording, fault_among, nothing_shown, shown_after, shown_recording, text_of}
 use Rattle.someipctl_commands.proofs.ComingLemmas.{begin, comes_both, comes_none, whole_file, part_file}
 use Rattle.someipctl_commands.proofs.RecordedLemmas.{after-append, after-none, any-append, asked-append, fault-append, left_out-append, plus-none, plus-nothing, recorded-append, Stops-none}
 
@@ -87,14 +88,15 @@ pub shown_more : (ports : Option (List ℕ)) (endpoints : Bool) (r new : ReaderV
     → IsShown ports endpoints r were are before after held shown → Comes r new are now items → Sends after held later waits []
     → Sends later waits last rest (recorded_from endpoints (shown.datagrams + 1) (asked_of ports items)) → more ≡ shown_after ports shown items → fault_among items ≡ None
     → IsShown ports endpoints new were now before last rest more
-shown_more ports endpoints r new were are now before after later last held waits rest shown more items is comes sends prints counts none =
-    (is.0 ++ items,
-    comes_both begin r new were are now is.0 items is.1 comes,
-    subst (Sends before [] last rest) (next_text ports endpoints shown is.0 items is.3)
-        (Sends-trans before later last [] waits rest (recorded_from endpoints 1 (asked_of ports is.0)) (recorded_from endpoints (shown.datagrams + 1) (asked_of ports items))
-        (Sends-flush before after later [] held waits (recorded_from endpoints 1 (asked_of ports is.0)) is.2 sends) prints),
-    counts ∙ ap (λ s. shown_after ports s items) is.3 ∙ after-append ports nothing_shown is.0 items,
-    fault-append is.0 items is.4 ∙ none)
+shown_more ports endpoints r new were are now before after later last held waits rest shown more items is comes sends prints counts none = (
+  is.0 ++ items,
+  comes_both begin r new were are now is.0 items is.1 comes,
+  subst (Sends before [] last rest) (next_text ports endpoints shown is.0 items is.3)
+      (Sends-trans before later last [] waits rest (recorded_from endpoints 1 (asked_of ports is.0)) (recorded_from endpoints (shown.datagrams + 1) (asked_of ports items))
+      (Sends-flush before after later [] held waits (recorded_from endpoints 1 (asked_of ports is.0)) is.2 sends) prints),
+  counts ∙ ap (λ s. shown_after ports s items) is.3 ∙ after-append ports nothing_shown is.0 items,
+  fault-append is.0 items is.4 ∙ none,
+)
 
 -- a record counts as one at most
 pub count_one : (ports : Option (List ℕ)) (s : Shown) (r : RecordValue) → (shown_after ports s (Ok r ∷ [])).datagrams + total (shown_after ports s (Ok r ∷ [])).left_out ≤ (s.datagrams + total s.left_out) + 1
@@ -130,3 +132,22 @@ puts_all ports endpoints r new were are now before after later held waits shown 
       counts = ap (λ (s : Shown). s.left_out) is.3 ∙ plus-none (left_out_of is.0)
           ∙ sym (ap left_out_of f.2 ∙ left_out-append is.0 items ∙ ap (plus (left_out_of is.0)) uncounted ∙ plus-nothing (left_out_of is.0));
     }
+
+-- ---- what waited in the buffer
+
+pub puts_begun : (ports : Option (List ℕ)) (endpoints : Bool) (input before later last : Option (List ℕ)) (waits : List ℕ) (shown : ShownRecording) → PutsRecording input ports endpoints shown before later waits
+    → Stops later waits last [] → BeginsRecording input ports endpoints before last
+puts_begun ports endpoints input before later last waits shown p stops =
+    let all = Stops-flush before later last [] waits (text_of ports endpoints p.file) p.sends stops in
+    record { file = p.file; left = p.left; sent = all.sends.sent; unsent = all.unsent; wrote = all.sends.wrote; beginning = all.sends.rest }
+
+pub puts_shown : (ports : Option (List ℕ)) (endpoints : Bool) (input before later last : Option (List ℕ)) (waits new : List ℕ) (shown : ShownRecording) → PutsRecording input ports endpoints shown before later waits
+    → Sends later waits last new [] → new ≡ [] → ShowsRecording input ports endpoints shown before last
+puts_shown ports endpoints input before later last waits new shown p sends empty = record {
+  file = p.file;
+  left = p.left;
+  ends = p.ends;
+  wrote = Sends-all before last [] new (text_of ports endpoints p.file) (Sends-flush before later last [] waits new (text_of ports endpoints p.file) p.sends sends) refl empty;
+  tells = p.tells;
+  counts = p.counts;
+}

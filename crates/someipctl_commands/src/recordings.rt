@@ -123,7 +123,9 @@ fn put_recording<R: Read, W: Write>(
             Coming::End => return Ok(shown.ended(None)),
         }
         if let Some(found) = recording.record() {
-            put_record(alloc, buffer, writer, &found, ports, endpoints, &mut shown, &mut lines)?;
+            put_record(
+                alloc, buffer, writer, &found, ports, endpoints, &mut shown, &mut lines,
+            )?;
         }
     }
     Err(RecordingFault::CannotRead)

@@ -1,4 +1,4 @@
-use Rattle.std.proofs.Common.{◌≡◌, ◌≤◌, [], ap, arith}
+use Rattle.std.proofs.Common.{[], ap, arith}
 use Rattle.recording.specs.Held.{IsNext, ReaderValue}
 use Rattle.recording.specs.declared.Next.TheVariants.{Unread}
 use Rattle.someipctl_print.proofs.SendingLemmas.{OnErr-any, Sends-flush, Stops-flush}

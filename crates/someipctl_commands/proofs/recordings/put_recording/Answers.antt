@@ -1,4 +1,4 @@
-use Rattle.std.proofs.Common.{◌≡◌, ◌+◌, ◌∙◌, [], ◌∷◌, Some, None, Err, refl, sym, ap, arith}
+use Rattle.std.proofs.Common.{◌+◌, ◌∙◌, [], ◌∷◌, Some, None, Err, refl, sym, ap, arith}
 use Rattle.std.specs.Prelude.{option_map}
 use Rattle.recording.specs.View.{view_record}
 use Rattle.someipctl_commands.specs.declared.recordings.Shown.{Shown}
@@ -16,11 +16,11 @@ returns-in_err-lines-clause-begun g c = OnErr-any c.from_residual.result (begins
 
 pub loop-init : goal.loop-init
 loop-init g c = (
-    shown_begin (view_ports c.args.ports) c.args.endpoints c.new-recording.result (g.R.Read.remaining c.args.source.now) (g.W.Write.contents c.args.writer.now) c.args.buffer.now c.nothing-shown.result
-    c.new-recording.ensures c.requires.empty c.nothing-shown.ensures,
-    rw c.nothing-shown.ensures (omega arith),
-    c.in_ok-lines.ensures,
-  )
+  shown_begin (view_ports c.args.ports) c.args.endpoints c.new-recording.result (g.R.Read.remaining c.args.source.now) (g.W.Write.contents c.args.writer.now) c.args.buffer.now c.nothing-shown.result
+      c.new-recording.ensures c.requires.empty c.nothing-shown.ensures,
+  rw c.nothing-shown.ensures (omega arith),
+  c.in_ok-lines.ensures,
+)
 
 pub returns-in_err-coming-clause-begun : goal.returns-in_err-coming-clause-begun
 returns-in_err-coming-clause-begun g c =
@@ -61,19 +61,21 @@ loop-preserved g c =
           let e = w.in_ok-put_record.ensures in
           let counts = ap (λ (s : Shown). s.datagrams + total s.left_out) e.shown in
           let one = count_one ports c.loop.shown (view_record w.in-Some.found) in
-          rw (w.writer-is, w.buffer-is, w.shown-is, w.lines-is)
-          (shown_more ports c.args.endpoints c.loop.recording c.next_coming.new.recording _ _ _ _ _ _ _ c.loop.buffer c.next_coming.new.buffer w.put_record.new.buffer c.loop.shown w.put_record.new.shown _ c.loop.invariant.0 comes
-              c.in_ok-coming.ensures.sends e.ok e.shown refl,
-          omega (arith, counts, one, c.loop.invariant.1, further.0),
-          e.empty)
+          rw (w.writer-is, w.buffer-is, w.shown-is, w.lines-is) (
+            shown_more ports c.args.endpoints c.loop.recording c.next_coming.new.recording _ _ _ _ _ _ _ c.loop.buffer c.next_coming.new.buffer w.put_record.new.buffer c.loop.shown w.put_record.new.shown _ c.loop.invariant.0 comes
+                c.in_ok-coming.ensures.sends e.ok e.shown refl,
+            omega (arith, counts, one, c.loop.invariant.1, further.0),
+            e.empty,
+          )
       | in_default w ↦
           let none = sym c.record.ensures ∙ ap (option_map view_record) w.in_default.is in
           let comes = comes_empty c.loop.recording c.next_coming.new.recording _ _ c.in_ok-coming.coming c.in-Record.is none c.in_ok-coming.ensures.comes in
-          rw (w.writer-is, w.buffer-is, w.shown-is, w.lines-is)
-          (shown_more ports c.args.endpoints c.loop.recording c.next_coming.new.recording _ _ _ _ _ _ _ c.loop.buffer c.next_coming.new.buffer c.next_coming.new.buffer c.loop.shown c.loop.shown [] c.loop.invariant.0 comes
-              c.in_ok-coming.ensures.sends (Sends-nil _ _) (sym (after-none ports c.loop.shown)) refl,
-          omega (arith, c.loop.invariant.1, further.0),
-          c.loop.invariant.2)
+          rw (w.writer-is, w.buffer-is, w.shown-is, w.lines-is) (
+            shown_more ports c.args.endpoints c.loop.recording c.next_coming.new.recording _ _ _ _ _ _ _ c.loop.buffer c.next_coming.new.buffer c.next_coming.new.buffer c.loop.shown c.loop.shown [] c.loop.invariant.0 comes
+                c.in_ok-coming.ensures.sends (Sends-nil _ _) (sym (after-none ports c.loop.shown)) refl,
+            omega (arith, c.loop.invariant.1, further.0),
+            c.loop.invariant.2,
+          )
     ]
 
 pub returns-clause-begun : goal.returns-clause-begun
