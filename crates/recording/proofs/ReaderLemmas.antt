@@ -64,12 +64,12 @@ can-follow : (a b : Bool) (rest : List ℕ) → a ≡ b → CanFollow a rest →
 can-follow a b rest is follows = rw (← is) follows
 
 -- what is next of a reader that has the same left is next of the other
-pub moved : (before inner after : ReaderValue) (next : Next) → inner.is_whole ≡ before.is_whole
+pub moved : (before inner after : ReaderValue) (next : Next) → inner.is_whole ≡ before.is_whole → before.place ≤ inner.place
     → ((rest : List ℕ) → CanFollow before.is_whole rest → left before rest ≡ left inner rest) → IsNext inner after next → IsNext before after next
-moved before inner after Record whole same next = (next.0, next.1, λ rest follows. same rest follows ∙ next.2 rest (can-follow _ _ rest (sym whole) follows))
-moved before inner after Unread whole same next =
+moved before inner after Record whole further same next = (next.0, next.1, omega (arith, further, next.2), λ rest follows. same rest follows ∙ next.3 rest (can-follow _ _ rest (sym whole) follows))
+moved before inner after Unread whole further same next =
     (sym whole ∙ next.0, next.1, λ rest. same rest (can-follow false before.is_whole rest (sym (sym whole ∙ next.0)) tt) ∙ next.2 rest)
-moved before inner after End whole same next = λ rest follows.
+moved before inner after End whole further same next = λ rest follows.
     let n = next rest (can-follow _ _ rest (sym whole) follows) in
     (same rest follows ∙ n.0, n.1)
 

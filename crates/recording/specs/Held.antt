@@ -192,11 +192,11 @@ abbrev pub EndsTold : Bool → List ℕ → Told → Type 0
 EndsTold true held told = told.len ≡ length held
 EndsTold false held told = length (drop told.len held) < wanted told.format (drop told.len held)
 
--- what comes next of a reader, as this is answered: a record, and the others are left; nothing that is known yet, since
--- too few bytes are held and others may follow; nothing
+-- what comes next of a reader, as this is answered: a record, which has some bytes, and the others are left; nothing
+-- that is known yet, since too few bytes are held and others may follow; nothing
 abbrev pub IsNext : ReaderValue → ReaderValue → Next → Type 0
 IsNext before after Record =
-    (r : RecordValue) × (after.current ≡ Some r)
+    (r : RecordValue) × (after.current ≡ Some r) × (before.place < after.place)
     × ((rest : List ℕ) → CanFollow before.is_whole rest → left before rest ≡ Ok r ∷ left after rest)
 IsNext before after Unread =
     (before.is_whole ≡ false) × (length after.held < wanted_by after.stage after.held)

@@ -45,6 +45,7 @@ pub(crate) fn next_told(
         interfaces.old.items interfaces.new.items place held.now rest told) }
     ensures packet { IfOk result (λ told. LiesIn held.now told.packet) }
     ensures within { IfOk result (λ told. told.len ≤ length held.now) }
+    ensures some { IfOk result (λ told. IfSome told.packet (λ _. 0 < told.len)) }
     ensures ends { IfOk result (λ told. IfNone told.packet (EndsTold is_whole held.now told)) }
     ensures fault { IfErr result (λ e. (rest : List ℕ) → CanFollow is_whole rest
         → IsLast e (held_from format interfaces.old.items place (held.now ++ rest))) }

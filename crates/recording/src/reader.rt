@@ -1,5 +1,5 @@
 //! A recording that is read as it comes.
-ghost use Rattle.std.specs.Prelude.{◌≡◌, ◌≤◌, ◌<◌, ◌+◌, ◌-◌, ◌++◌, drop, ℕ, List, [], false, None, length, take};
+ghost use Rattle.std.specs.Prelude.{◌≡◌, ◌≤◌, ◌<◌, ◌+◌, ◌-◌, ◌^◌, ◌++◌, drop, ℕ, List, [], false, None, length, take};
 ghost use Rattle.std.specs.Prelude.{IfOk, IfErr, OnOk, OnErr, option_map};
 ghost use Rattle.std.specs.Io.{ReadsAtMost};
 ghost use Rattle.std.specs.Io.KnownBytes.{Keeps, Consumes, IsAtEnd};
@@ -122,6 +122,9 @@ impl RecordingReader {
         ensures ended { OnErr result ((rest : List ℕ) → left self.new rest ≡ []) }
         // Nothing is read.
         ensures whole { self.new.is_whole ≡ self.old.is_whole }
+        // It only goes forward, and places are numbers of 64 bits.
+        ensures forward { self.old.place ≤ self.new.place }
+        ensures bounded { self.new.place < 2 ^ 64 }
     {
         self.packet = None;
         let next = match self.stage {
@@ -142,6 +145,7 @@ impl RecordingReader {
         ensures fault { IfErr result (λ e. (rest : List ℕ) → CanFollow self.old.is_whole rest
             → IsLast e (left self.old rest)) }
         ensures whole { self.new.is_whole ≡ self.old.is_whole }
+        ensures forward { self.old.place ≤ self.new.place }
     {
         let held = &self.bytes[self.start..];
         if held.len() < HEADER_LEN && !self.is_whole {
@@ -159,6 +163,7 @@ impl RecordingReader {
         ensures fault { IfErr result (λ e. (rest : List ℕ) → CanFollow self.old.is_whole rest
             → IsLast e (left (inside format self.old) rest)) }
         ensures whole { self.new.is_whole ≡ self.old.is_whole }
+        ensures forward { self.old.place ≤ self.new.place }
     {
         let held = &self.bytes[self.start..];
         let told = next_told(

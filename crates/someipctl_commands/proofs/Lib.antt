@@ -8,4 +8,6 @@ pub mod VerdictLemmas
 pub mod PayloadLemmas
 pub mod BlankLemmas
 pub mod RecordedLemmas
+pub mod ComingLemmas
+pub mod ShowingLemmas
 pub mod PortLemmas

@@ -1,115 +1,25 @@
--- The records of a file, what is left out of them, and the heads of lines.
-use Rattle.std.proofs.Common.{◌≡◌, ℕ, zero, suc, ◌+◌, ◌<◌, ◌≤◌, ◌==◌, Bool, true, false, cond, ◌||◌, List, [], ◌∷◌, ◌++◌, length, take, drop, Option, Some, None, is_none, map, Result, Ok, Err, refl, sym, ap, subst, ◌∙◌, append_assoc, arith}
+-- The records of a recording, what is left out of them, and the heads of lines.
+use Rattle.std.proofs.Common.{◌≡◌, ℕ, zero, suc, ◌+◌, ◌<◌, ◌≤◌, ◌==◌, Bool, true, false, cond, ◌||◌, List, [], ◌∷◌, ◌++◌, length, take, drop, Option, Some, None, is_none, map, Ok, Err, refl, sym, ap, ◌∙◌, append_assoc, length-append, arith}
 use Rattle.std.specs.List.{list_any}
 use Rattle.std.specs.Option.{option_to_list}
 use Rattle.std.proofs.lemmas.List.{length-drop}
-use Rattle.recording.specs.declared.RecordingError.{RecordingError}
-use Rattle.recording.specs.declared.RecordingError.TheVariants.{NotRecording, Truncated, BadOrder, BlockLength, UnknownInterface, BlockTooLong, TooManyInterfaces}
-use Rattle.recording.specs.declared.RecordingError.TheVariants as recorded
+use Rattle.std.proofs.lemmas.Grind.{flat_map-append}
+use Rattle.std.proofs.KnownBytes.{Appends-nil}
 use Rattle.recording.specs.declared.Skipped.{Skipped}
 use Rattle.recording.specs.declared.Skipped.TheVariants.{LinkType, NotIpv4, Fragment, NotUdp, Cut, BadUdpLength}
-use Rattle.recording.specs.declared.classic.Classic.{Classic as Header}
-use Rattle.recording.specs.declared.format.Format.{Format}
-use Rattle.recording.specs.declared.format.Format.TheVariants.{Classic, Blocks}
-use Rattle.recording.specs.declared.interface.Interface.{Interface}
-use Rattle.recording.specs.declared.number.ByteOrder.TheVariants.{Big}
-use Rattle.recording.specs.Classic.{classic_in}
-use Rattle.recording.specs.Packets.{DatagramValue, RecordValue}
-use Rattle.recording.specs.Sections.{Meaning}
-use Rattle.recording.specs.Records.{Item, items_of, items_from, items_within, items_after, part_meaning, classic_items}
-use Rattle.recording.specs.Spelling.{IsBytes, IsRecording}
-use Rattle.recording.proofs.RecordingLemmas.{recording_found}
+use Rattle.recording.specs.Packets.{DatagramValue, datagram, other}
+use Rattle.recording.specs.Records.{Item}
+use Rattle.someipctl_print.specs.Sending.{Stops}
 use Rattle.someipctl_commands.specs.declared.left_out.LeftOut.{LeftOut}
-use Rattle.someipctl_commands.specs.LeftOut.{counted, left_out_of, nothing_left_out, total}
+use Rattle.someipctl_commands.specs.declared.recordings.Shown.{Shown}
+use Rattle.someipctl_commands.specs.LeftOut.{counted, left_out_of, nothing_left_out, plus}
+use Rattle.someipctl_commands.specs.ShownText.{has_fault}
 use Rattle.someipctl_commands.specs.Heads.{line_len}
 use Rattle.someipctl_commands.specs.Ports.{port_in}
-use Rattle.someipctl_commands.specs.RecordedText.{asked_in, asked_of, recorded_from, with_heads}
-use Rattle.someipctl_commands.specs.RecordingResult.{opened, fault_among, records_in, IsFaultOf, ShowsRecording, ShowsRecordingBeginning, RefusesRecording, fault_of_input, fault_of_print, fault_of_recording}
-use Rattle.std.specs.Prelude.{IfSome}
-use Rattle.std.specs.Io.KnownBytes.{Keeps}
-use Rattle.std.proofs.KnownBytes.{Appends-nil}
-use Rattle.someipctl_print.specs.Sending.{Stops}
-use Rattle.someipctl_print.proofs.SendingLemmas.{IsSending, IsSending-start}
-use Rattle.someipctl_commands.specs.ShownText.{has_fault}
-use Rattle.someipctl_inputs.specs.declared.input.ReadFault.{ReadFault}
-use Rattle.someipctl_inputs.specs.declared.input.ReadFault.TheVariants as inputs
-use Rattle.someipctl_commands.specs.declared.recordings.ShownRecording.{ShownRecording}
-use Rattle.someipctl_commands.specs.declared.recordings.PrintFault.{PrintFault}
-use Rattle.someipctl_commands.specs.declared.recordings.PrintFault.TheVariants as prints
-use Rattle.someipctl_commands.specs.declared.recordings.RecordingFault.{RecordingFault}
-use Rattle.someipctl_commands.specs.declared.recordings.RecordingFault.TheVariants.{BadRecording, CannotRead, CannotWrite, OutOfMemory}
-use Rattle.someipctl_inputs.proofs.InputLemmas.{WasLeft-read}
-
--- ---- a file holds no more records than bytes
-
-after_bound : (m : Meaning) (others : List Item) (n : ℕ) → length others ≤ n → length (items_after m others) ≤ suc n
-after_bound (Err e) others n h = omega arith
-after_bound (Ok None) others n h = omega (arith, h)
-after_bound (Ok (Some r)) others n h = omega (arith, h)
-
-within_bound : (n : ℕ) (format : Format) (interfaces : List Interface) (p : ℕ) (bytes : List ℕ) → length (items_within n format interfaces p bytes) ≤ n
-unfolding items_within
-within_bound zero format interfaces p bytes = omega arith
-within_bound (suc n) format interfaces p [] = omega arith
-within_bound (suc n) format interfaces p (b ∷ bytes) = after_bound (part_meaning format interfaces p (b ∷ bytes)) _ n (within_bound n _ _ _ _)
-
-classic_bound : (file : List ℕ) (o : Option Header) (items : List Item) → classic_items file o ≡ Ok items → length items ≤ length file
-classic_bound file None items is = absurd cc
-classic_bound file (Some c) items is =
-    let same : items_from (Classic c) [] 24 (drop 24 file) ≡ items = cc in
-    let bound = within_bound (length (drop 24 file)) (Classic c) [] 24 (drop 24 file) in
-    let less = length-drop 24 file in
-    rw (← same) (omega (arith, bound, less))
-
-pub items_bound : (file : List ℕ) (items : List Item) → items_of file ≡ Ok items → length items ≤ length file
-items_bound file items is = go _ _ _ is
-  where
-    go : (a b c : Bool)
-        → cond a (Err (NotRecording 0)) (cond b (Ok (items_from (Blocks Big) [] 0 file)) (cond c (Err (NotRecording 0)) (classic_items file (classic_in file)))) ≡ Ok items
-        → length items ≤ length file
-    go true b c is = absurd cc
-    go false true c is =
-        let same : items_from (Blocks Big) [] 0 file ≡ items = cc in
-        rw (← same) (within_bound (length file) (Blocks Big) [] 0 file)
-    go false false true is = absurd cc
-    go false false false is = classic_bound file (classic_in file) items is
-
--- ---- a file that is no recording
-
-classic_none : (file : List ℕ) (o : Option Header) (e : RecordingError) → classic_items file o ≡ Err e → e ≡ NotRecording 0
-classic_none file None e is = cc
-classic_none file (Some c) e is = absurd cc
-
-none_is : (file : List ℕ) (e : RecordingError) → items_of file ≡ Err e → e ≡ NotRecording 0
-none_is file e is = go _ _ _ is
-  where
-    go : (a b c : Bool)
-        → cond a (Err (NotRecording 0)) (cond b (Ok (items_from (Blocks Big) [] 0 file)) (cond c (Err (NotRecording 0)) (classic_items file (classic_in file)))) ≡ Err e
-        → e ≡ NotRecording 0
-    go true b c is = cc
-    go false true c is = absurd cc
-    go false false true is = cc
-    go false false false is = classic_none file (classic_in file) e is
-
--- then its records are the fault alone
-pub records_none : (file : List ℕ) → IsBytes file → ((items : List Item) → IsRecording items file → ⊥) → records_in file ≡ Err (NotRecording 0) ∷ []
-records_none file fits none = go (items_of file) refl
-  where
-    go : (r : Result (List Item) RecordingError) → items_of file ≡ r → records_in file ≡ Err (NotRecording 0) ∷ []
-    go (Ok items) is = absurd (none items (recording_found items file fits is))
-    go (Err e) is = rw (is, none_is file e is) refl
+use Rattle.someipctl_commands.specs.RecordedText.{asked_in, asked_of, recorded_from, recorded_text, with_heads}
+use Rattle.someipctl_commands.specs.RecordingResult.{fault_among, nothing_shown, shown_after}
 
 -- ---- what is left out
-
-abbrev pub plus : LeftOut → LeftOut → LeftOut
-plus l m = record {
-  link_type = l.link_type + m.link_type;
-  not_ipv4 = l.not_ipv4 + m.not_ipv4;
-  fragmented = l.fragmented + m.fragmented;
-  not_udp = l.not_udp + m.not_udp;
-  cut = l.cut + m.cut;
-  bad_udp_length = l.bad_udp_length + m.bad_udp_length;
-}
 
 one_more : (a b : ℕ) → (a + 1) + b ≡ a + (b + 1)
 one_more a b = omega arith
@@ -121,6 +31,24 @@ plus-counted Fragment l m = rw (one_more l.fragmented m.fragmented) refl
 plus-counted NotUdp l m = rw (one_more l.not_udp m.not_udp) refl
 plus-counted Cut l m = rw (one_more l.cut m.cut) refl
 plus-counted BadUdpLength l m = rw (one_more l.bad_udp_length m.bad_udp_length) refl
+
+more_first : (a b : ℕ) → (a + b) + 1 ≡ (a + 1) + b
+more_first a b = omega arith
+
+pub counted-plus : (kind : Skipped) (l m : LeftOut) → counted kind (plus l m) ≡ plus (counted kind l) m
+counted-plus LinkType l m = rw (more_first l.link_type m.link_type) refl
+counted-plus NotIpv4 l m = rw (more_first l.not_ipv4 m.not_ipv4) refl
+counted-plus Fragment l m = rw (more_first l.fragmented m.fragmented) refl
+counted-plus NotUdp l m = rw (more_first l.not_udp m.not_udp) refl
+counted-plus Cut l m = rw (more_first l.cut m.cut) refl
+counted-plus BadUdpLength l m = rw (more_first l.bad_udp_length m.bad_udp_length) refl
+
+three : (a b c : ℕ) → (a + b) + c ≡ a + (b + c)
+three a b c = omega arith
+
+pub plus-plus : (k l m : LeftOut) → plus (plus k l) m ≡ plus k (plus l m)
+plus-plus k l m =
+    rw (three k.link_type l.link_type m.link_type, three k.not_ipv4 l.not_ipv4 m.not_ipv4, three k.fragmented l.fragmented m.fragmented, three k.not_udp l.not_udp m.not_udp, three k.cut l.cut m.cut, three k.bad_udp_length l.bad_udp_length m.bad_udp_length) refl
 
 no_more : (a : ℕ) → a + 0 ≡ a
 no_more a = omega arith
@@ -134,18 +62,6 @@ none_more a = omega arith
 pub plus-none : (m : LeftOut) → plus nothing_left_out m ≡ m
 plus-none m = rw (none_more m.link_type, none_more m.not_ipv4, none_more m.fragmented, none_more m.not_udp, none_more m.cut, none_more m.bad_udp_length) refl
 
--- a file that is no recording has that fault
-pub none_fault : (file : List ℕ) (e : RecordingError) → IsBytes file → ((items : List Item) → IsRecording items file → ⊥) → e ≡ NotRecording 0 → IsFaultOf file e
-none_fault file e fits none is = subst (IsFaultOf file) (sym is) (ap fault_among (records_none file fits none))
-
--- before the first record nothing is counted
-pub starts : (file : List ℕ) (items : List Item) (l : LeftOut) → items_of file ≡ Ok items → l ≡ nothing_left_out
-    → (fault_among items ≡ fault_among (records_in file)) × (plus l (left_out_of items) ≡ left_out_of (records_in file)) × (total l + length items ≤ length file)
-starts file items l read is =
-    let same : records_in file ≡ items = ap opened read in
-    let bound = items_bound file items read in
-    rw is (sym (ap fault_among same), plus-none (left_out_of items) ∙ sym (ap left_out_of same), omega (arith, bound))
-
 -- ---- what is asked for
 
 pub asked-none : (ports : Option (List ℕ)) (item : Item) (items : List Item) → asked_in ports item ≡ None → asked_of ports (item ∷ items) ≡ asked_of ports items
@@ -153,6 +69,59 @@ asked-none ports item items is = ap (λ o. option_to_list o ++ asked_of ports it
 
 pub asked-some : (ports : Option (List ℕ)) (item : Item) (items : List Item) (d : DatagramValue) → asked_in ports item ≡ Some d → asked_of ports (item ∷ items) ≡ d ∷ asked_of ports items
 asked-some ports item items d is = ap (λ o. option_to_list o ++ asked_of ports items) is
+
+-- the datagrams of items and of others
+pub asked-append : (ports : Option (List ℕ)) (items others : List Item) → asked_of ports (items ++ others) ≡ asked_of ports items ++ asked_of ports others
+asked-append ports items others = flat_map-append (λ item. option_to_list (asked_in ports item)) items others
+
+pub recorded-append : (endpoints : Bool) (k : ℕ) (ds others : List DatagramValue) → recorded_from endpoints k (ds ++ others) ≡ recorded_from endpoints k ds ++ recorded_from endpoints (k + length ds) others
+recorded-append endpoints k [] others = let same : k ≡ k + 0 = omega arith in ap (λ n. recorded_from endpoints n others) same
+recorded-append endpoints k (d ∷ ds) others =
+    let same : (k + 1) + length ds ≡ k + suc (length ds) = omega arith in
+    ap (λ (t : List ℕ). recorded_text endpoints k d ++ t) (recorded-append endpoints (k + 1) ds others ∙ ap (λ n. recorded_from endpoints (k + 1) ds ++ recorded_from endpoints n others) same)
+    ∙ sym (append_assoc (recorded_text endpoints k d) (recorded_from endpoints (k + 1) ds) (recorded_from endpoints (k + suc (length ds)) others))
+
+or_assoc : (a b c : Bool) → (a || (b || c)) ≡ ((a || b) || c)
+or_assoc true b c = refl
+or_assoc false b c = refl
+
+pub any-append : {X : Type 0} (p : X → Bool) (xs ys : List X) → list_any p (xs ++ ys) ≡ (list_any p xs || list_any p ys)
+any-append p [] ys = refl
+any-append p (x ∷ xs) ys = ap (λ b. p x || b) (any-append p xs ys) ∙ or_assoc (p x) (list_any p xs) (list_any p ys)
+
+pub left_out-append : (items others : List Item) → left_out_of (items ++ others) ≡ plus (left_out_of items) (left_out_of others)
+left_out-append [] others = sym (plus-none (left_out_of others))
+left_out-append (Ok (datagram d) ∷ items) others = left_out-append items others
+left_out-append (Ok (other kind) ∷ items) others = ap (counted kind) (left_out-append items others) ∙ counted-plus kind (left_out_of items) (left_out_of others)
+left_out-append (Err fault ∷ items) others = left_out-append items others
+
+pub fault-append : (items others : List Item) → fault_among items ≡ None → fault_among (items ++ others) ≡ fault_among others
+fault-append [] others none = refl
+fault-append (Ok r ∷ items) others none = fault-append items others none
+fault-append (Err fault ∷ items) others none = absurd cc
+
+abbrev so_far : ℕ → Bool → LeftOut → Shown
+so_far n faulty l = record { datagrams = n; is_faulty = faulty; left_out = l }
+
+no_fault : (b : Bool) → (b || false) ≡ b
+no_fault true = refl
+no_fault false = refl
+
+pub after-none : (ports : Option (List ℕ)) (s : Shown) → shown_after ports s [] ≡ s
+after-none ports s = rw (no_more s.datagrams, no_fault s.is_faulty, plus-nothing s.left_out) refl
+
+-- what was shown after items is what was shown of them all
+pub after-append : (ports : Option (List ℕ)) (s : Shown) (items others : List Item) → shown_after ports (shown_after ports s items) others ≡ shown_after ports s (items ++ others)
+after-append ports s items others =
+    let asked = asked-append ports items others in
+    let count : (s.datagrams + length (asked_of ports items)) + length (asked_of ports others) ≡ s.datagrams + length (asked_of ports (items ++ others)) =
+    omega (arith, ap length asked, length-append (asked_of ports items) (asked_of ports others)) in
+    let faulty = ap (λ b. s.is_faulty || b) (ap (list_any (λ (d : DatagramValue). has_fault d.payload)) asked ∙ any-append (λ (d : DatagramValue). has_fault d.payload) (asked_of ports items) (asked_of ports others))
+    ∙ or_assoc s.is_faulty (list_any (λ (d : DatagramValue). has_fault d.payload) (asked_of ports items)) (list_any (λ (d : DatagramValue). has_fault d.payload) (asked_of ports others)) in
+    let left_out = ap (plus s.left_out) (left_out-append items others) ∙ sym (plus-plus s.left_out (left_out_of items) (left_out_of others)) in
+    ap (λ n. so_far n ((s.is_faulty || list_any (λ (d : DatagramValue). has_fault d.payload) (asked_of ports items)) || list_any (λ (d : DatagramValue). has_fault d.payload) (asked_of ports others)) (plus (plus s.left_out (left_out_of items)) (left_out_of others))) count
+    ∙ ap (λ f. so_far (s.datagrams + length (asked_of ports (items ++ others))) f (plus (plus s.left_out (left_out_of items)) (left_out_of others))) (sym faulty)
+    ∙ ap (λ l. so_far (s.datagrams + length (asked_of ports (items ++ others))) (s.is_faulty || list_any (λ (d : DatagramValue). has_fault d.payload) (asked_of ports (items ++ others))) l) (sym left_out)
 
 -- ---- heads
 
@@ -206,99 +175,6 @@ smaller rest back n some is b =
 -- nothing was sent
 pub Stops-none : (a : Option (List ℕ)) (held text : List ℕ) → Stops a held a text
 Stops-none a held text = record { unsent = held ++ text; sends = record { sent = []; wrote = Appends-nil a; rest = refl } }
-
--- a beginning of the text of a file was written
-pub begun : (file : List ℕ) (ports : Option (List ℕ)) (endpoints : Bool) (a b : Option (List ℕ)) → Stops a [] b (recorded_from endpoints 1 (asked_of ports (records_in file)))
-    → ShowsRecordingBeginning (Some file) ports endpoints a b
-begun file ports endpoints a b stops = record {
-  file = file;
-  left = refl;
-  sent = stops.sends.sent;
-  unsent = stops.unsent;
-  wrote = stops.sends.wrote;
-  beginning = stops.sends.rest;
-}
-
-pub refuses_print : (file : List ℕ) (ports : Option (List ℕ)) (endpoints : Bool) (e : PrintFault) (a b : Option (List ℕ))
-    → Stops a [] b (recorded_from endpoints 1 (asked_of ports (records_in file))) → RefusesRecording (Some file) ports endpoints (fault_of_print e) a b
-refuses_print file ports endpoints prints.CannotWrite a b stops = begun file ports endpoints a b stops
-refuses_print file ports endpoints prints.OutOfMemory a b stops = begun file ports endpoints a b stops
-
-pub refuses_memory : (file : List ℕ) (ports : Option (List ℕ)) (endpoints : Bool) (a : Option (List ℕ)) → RefusesRecording (Some file) ports endpoints OutOfMemory a a
-refuses_memory file ports endpoints a = begun file ports endpoints a a (Stops-none a [] _)
-
-pub refuses_fault : (file : List ℕ) (ports : Option (List ℕ)) (endpoints : Bool) (e : RecordingError) (a : Option (List ℕ)) → Keeps a a → IsFaultOf file e
-    → RefusesRecording (Some file) ports endpoints (fault_of_recording e) a a
-refuses_fault file ports endpoints (NotRecording p) a keeps is = ((file, refl, is), keeps)
-refuses_fault file ports endpoints (Truncated p) a keeps is = ((file, refl, is), keeps)
-refuses_fault file ports endpoints (BadOrder p) a keeps is = ((file, refl, is), keeps)
-refuses_fault file ports endpoints (BlockLength p) a keeps is = ((file, refl, is), keeps)
-refuses_fault file ports endpoints (UnknownInterface p) a keeps is = ((file, refl, is), keeps)
-refuses_fault file ports endpoints (BlockTooLong p) a keeps is = ((file, refl, is), keeps)
-refuses_fault file ports endpoints (TooManyInterfaces p) a keeps is = ((file, refl, is), keeps)
-refuses_fault file ports endpoints recorded.OutOfMemory a keeps is = refuses_memory file ports endpoints a
-
--- ---- what holds of the file that was read holds of what the reader had left
-
-pub shows_read : (input : Option (List ℕ)) (file : List ℕ) (ports : Option (List ℕ)) (endpoints : Bool) (shown : ShownRecording) (a b : Option (List ℕ)) → IfSome input (λ known. file ≡ known)
-    → ShowsRecording (Some file) ports endpoints shown a b → ShowsRecording input ports endpoints shown a b
-shows_read input file ports endpoints shown a b read s = record {
-  file = s.file;
-  left = WasLeft-read input file s.file read s.left;
-  whole = s.whole;
-  wrote = s.wrote;
-  tells = s.tells;
-  counts = s.counts;
-}
-
-begins_read : (input : Option (List ℕ)) (file : List ℕ) (ports : Option (List ℕ)) (endpoints : Bool) (a b : Option (List ℕ)) → IfSome input (λ known. file ≡ known)
-    → ShowsRecordingBeginning (Some file) ports endpoints a b → ShowsRecordingBeginning input ports endpoints a b
-begins_read input file ports endpoints a b read s = record {
-  file = s.file;
-  left = WasLeft-read input file s.file read s.left;
-  sent = s.sent;
-  unsent = s.unsent;
-  wrote = s.wrote;
-  beginning = s.beginning;
-}
-
-pub refuses_read : (input : Option (List ℕ)) (file : List ℕ) (ports : Option (List ℕ)) (endpoints : Bool) (fault : RecordingFault) (a b : Option (List ℕ)) → IfSome input (λ known. file ≡ known)
-    → RefusesRecording (Some file) ports endpoints fault a b → RefusesRecording input ports endpoints fault a b
-refuses_read input file ports endpoints (BadRecording e) a b read r = ((r.0.0, WasLeft-read input file r.0.0 read r.0.1, r.0.2), r.1)
-refuses_read input file ports endpoints CannotRead a b read r = r
-refuses_read input file ports endpoints CannotWrite a b read r = begins_read input file ports endpoints a b read r
-refuses_read input file ports endpoints OutOfMemory a b read r = begins_read input file ports endpoints a b read r
-
-pub keeps_same : (a : Option (List ℕ)) → Keeps a a
-keeps_same None = tt
-keeps_same (Some known) = refl
-
--- an input that was not read
-pub refuses_input : (input : Option (List ℕ)) (ports : Option (List ℕ)) (endpoints : Bool) (e : ReadFault) (a : Option (List ℕ)) → Keeps a a → RefusesRecording input ports endpoints (fault_of_input e) a a
-refuses_input input ports endpoints inputs.CannotRead a keeps = keeps
-refuses_input None ports endpoints inputs.OutOfMemory a keeps = begins_read None [] ports endpoints a a tt (begun [] ports endpoints a a (Stops-none a [] _))
-refuses_input (Some known) ports endpoints inputs.OutOfMemory a keeps = begun known ports endpoints a a (Stops-none a [] _)
-
--- ---- printing
-
--- before the first record nothing is printed
-pub begins : (endpoints : Bool) (ports : Option (List ℕ)) (file : List ℕ) (items : List Item) (a : Option (List ℕ)) (held : List ℕ) → items_of file ≡ Ok items
-    → IsSending a held a held (recorded_from endpoints 1 (asked_of ports items)) (recorded_from endpoints 1 (asked_of ports (records_in file)))
-    × (list_any (λ d. has_fault d.payload) (asked_of ports items) ≡ list_any (λ d. has_fault d.payload) (asked_of ports (records_in file)))
-    × (0 + length items ≤ length file)
-begins endpoints ports file items a held read =
-    let same : records_in file ≡ items = ap opened read in
-    let bound = items_bound file items read in
-    subst
-    (λ (r : List Item). IsSending a held a held (recorded_from endpoints 1 (asked_of ports items)) (recorded_from endpoints 1 (asked_of ports r))
-    × (list_any (λ d. has_fault d.payload) (asked_of ports items) ≡ list_any (λ d. has_fault d.payload) (asked_of ports r))
-    × (0 + length items ≤ length file))
-    (sym same) (IsSending-start a held _, refl, omega (arith, bound))
-
--- a datagram that is asked for is the next to be printed
-pub next_asked : (ports : Option (List ℕ)) (old new : List Item) (v : RecordValue) (d : DatagramValue) → old ≡ Ok v ∷ new → Some d ≡ asked_in ports (Ok v)
-    → asked_of ports old ≡ d ∷ asked_of ports new
-next_asked ports old new v d is asked = ap (asked_of ports) is ∙ asked-some ports (Ok v) new d (sym asked)
 
 -- ---- ports
 

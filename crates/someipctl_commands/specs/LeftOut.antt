@@ -28,3 +28,14 @@ left_out_of [] = nothing_left_out
 left_out_of (Ok (datagram d) ∷ items) = left_out_of items
 left_out_of (Ok (other kind) ∷ items) = counted kind (left_out_of items)
 left_out_of (Err fault ∷ items) = left_out_of items
+
+-- so many of each kind, and so many more
+abbrev pub plus : LeftOut → LeftOut → LeftOut
+plus l m = record {
+  link_type = l.link_type + m.link_type;
+  not_ipv4 = l.not_ipv4 + m.not_ipv4;
+  fragmented = l.fragmented + m.fragmented;
+  not_udp = l.not_udp + m.not_udp;
+  cut = l.cut + m.cut;
+  bad_udp_length = l.bad_udp_length + m.bad_udp_length;
+}

@@ -8,5 +8,6 @@ pub mod Vectors
 pub mod LeftOut
 pub mod RecordedText
 pub mod RecordingResult
+pub mod Coming
 pub mod Ports
 pub mod Heads

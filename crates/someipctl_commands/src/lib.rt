@@ -9,6 +9,7 @@
 #![tactic(auto)]
 
 mod capture;
+mod coming;
 mod heads;
 pub mod laws;
 mod left_out;

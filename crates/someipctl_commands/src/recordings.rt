@@ -1,42 +1,42 @@
-//! The command `recording`: the datagrams of a recording of network traffic, message by message.
-ghost use Rattle.std.specs.Prelude.{◌≡◌, ◌≢◌, [], Some, None, Ok, Err, true, OnOk, OnErr, IfOk, IfErr, option_map};
-ghost use Rattle.std.specs.Io.KnownBytes.{Appends};
+//! The command `recording`: the datagrams of a recording of network traffic, message by message, as it is
+//! read.
+ghost use Rattle.std.specs.Prelude.{◌≡◌, ◌<◌, ◌+◌, ◌^◌, ◌||◌, [], ◌∷◌, Ok, true, OnOk, OnErr, IfOk, IfErr, length, option_map};
+ghost use Rattle.std.specs.List.{list_any};
 ghost use Rattle.recording.specs.View.{view_datagram, view_record};
 ghost use Rattle.someipctl_print.specs.Sending.{Sends, Stops};
 ghost use Rattle.someipctl_commands.specs.declared.recordings.RecordingFault.TheVariants as faults;
 ghost use Rattle.someipctl_commands.specs.declared.recordings.PrintFault.TheVariants as prints;
-ghost use Rattle.someipctl_commands.specs.LeftOut.{left_out_of};
+ghost use Rattle.someipctl_commands.specs.LeftOut.{left_out_of, plus, total};
 ghost use Rattle.someipctl_commands.specs.ShownText.{datagram_text, has_fault};
 ghost use Rattle.someipctl_commands.specs.RecordedText.{asked_in, asked_of, is_asked, recorded_from};
-ghost use Rattle.someipctl_commands.specs.RecordedText.{recorded_outcome, recorded_text, with_heads, head_text};
-ghost use Rattle.someipctl_commands.specs.RecordingResult.{IsFaultOf, RefusesRecording, ShowsRecording};
-ghost use Rattle.someipctl_commands.specs.RecordingResult.{fault_among, fault_of_input, fault_of_print, fault_of_recording};
-ghost use Rattle.someipctl_commands.specs.RecordingResult.{records_in, view_ports};
+ghost use Rattle.someipctl_commands.specs.RecordedText.{recorded_text, with_heads, head_text};
+ghost use Rattle.someipctl_commands.specs.RecordingResult.{BeginsRecording, PutsRecording};
+ghost use Rattle.someipctl_commands.specs.RecordingResult.{ShowsRecording, fault_of_print, nothing_shown};
+ghost use Rattle.someipctl_commands.specs.RecordingResult.{shown_after, shown_recording, view_ports};
 
+use crate::coming::{Coming, next_coming};
 use crate::heads::put_with_heads;
 use crate::left_out::LeftOut;
 use crate::readings::read_datagram;
 use crate::show::put_datagram;
-use recording::{Datagram, Record, Recording, RecordingError};
-use someipctl_inputs::{Outcome, ReadFault, read_all};
+use recording::{Datagram, Record, RecordingError, RecordingReader};
+use someipctl_inputs::{Outcome, ReadFault};
 use someipctl_print::{Buffer, CannotWrite};
 use std::alloc::{AllocError, Global};
 use std::io::{Read, Write};
 use thiserror::Error;
 
-/// Why a recording was not shown whole.
+/// Why a recording was not shown up to its end or its fault. A beginning of the text was written, which
+/// may be nothing.
 #[derive(Clone, Copy, Debug, PartialEq, Eq, Error)]
 pub enum RecordingFault {
-    /// The recording has a fault. Nothing was written.
-    #[error("recording: {0}")]
-    BadRecording(RecordingError),
-    /// The recording could not be read. Nothing was written.
+    /// The recording could not be read.
     #[error("{}", ReadFault::CannotRead)]
     CannotRead,
-    /// Writing failed, or took nothing. A beginning of the text was written.
+    /// Writing failed, or took nothing.
     #[error("{}", someipctl_print::CannotWrite)]
     CannotWrite,
-    /// Memory ran out. A beginning of the text was written, which may be nothing.
+    /// Memory ran out.
     #[error("out of memory")]
     OutOfMemory,
 }
@@ -48,6 +48,19 @@ pub struct ShownRecording {
     pub outcome: Outcome,
     /// The packets that give no datagram, whatever ports were asked for.
     pub left_out: LeftOut,
+    /// The fault that ends the recording, if one does. What comes before it was shown.
+    pub fault: Option<RecordingError>,
+}
+
+/// What was shown of a recording so far.
+#[derive(Clone, Copy)]
+struct Shown {
+    /// How many datagrams that were asked for.
+    datagrams: usize,
+    /// Whether a fault of a message was among them.
+    is_faulty: bool,
+    /// The packets that give none.
+    left_out: LeftOut,
 }
 
 /// Why a text was not printed whole.
@@ -57,127 +70,126 @@ enum PrintFault {
     OutOfMemory,
 }
 
-/// Reads a recording whole, looks whether it has a fault, and then writes what it shows: of each
-/// datagram from or to one of the ports, or of all, the lines of `show`, with its time and endpoints
-/// before each where these are asked for.
+/// Writes what a recording shows, as it is read: of each datagram from or to one of the ports, or of all,
+/// the lines of `show`, with its time and endpoints before each where these are asked for. What waits to
+/// be written is written before each read.
 ///
-/// The recording's bytes are held, and no message of it.
+/// One packet or block of the recording is held at a time, and what its datagram says of Service
+/// Discovery.
 pub fn show_recording<R: Read, W: Write>(
     alloc: Global,
-    reader: &mut R,
+    source: &mut R,
     ports: Option<&[u16]>,
     endpoints: bool,
     writer: &mut W,
 ) -> Result<ShownRecording, RecordingFault>
-    // The text was written, and what is told of the recording is so.
-    ensures shown { IfOk result (λ shown. ShowsRecording (R.remaining reader.old)
+    // The text of what comes before the recording's fault was written, or of all of it, and what is told
+    // of the recording is so.
+    ensures shown { IfOk result (λ shown. ShowsRecording (R.remaining source.old)
         (view_ports ports.entry) endpoints shown (W.contents writer.old) (W.contents writer.new)) }
-    // An error names the recording's fault, and leaves nothing written, but for one of writing or of
-    // memory: these leave a beginning of the text.
-    ensures refused { IfErr result (λ fault. RefusesRecording (R.remaining reader.old)
-        (view_ports ports.entry) endpoints fault (W.contents writer.old) (W.contents writer.new)) }
+    // Else a beginning of that text was.
+    ensures begun { OnErr result (BeginsRecording (R.remaining source.old)
+        (view_ports ports.entry) endpoints (W.contents writer.old) (W.contents writer.new)) }
 {
-    let file = read_all(alloc, reader)?;
-    show_recorded(alloc, &file, ports, endpoints, writer)
+    let mut buffer = Buffer::new(alloc)?;
+    let shown = put_recording(alloc, source, ports, endpoints, &mut buffer, writer)?;
+    buffer.flush(writer)?;
+    Ok(shown)
 }
 
-/// Looks whether a recording has a fault, and then writes what it shows, as `show_recording` does.
-pub fn show_recorded<W: Write>(
+/// Prints what a recording shows.
+fn put_recording<R: Read, W: Write>(
     alloc: Global,
-    file: &[u8],
+    source: &mut R,
     ports: Option<&[u16]>,
     endpoints: bool,
+    buffer: &mut Buffer,
     writer: &mut W,
 ) -> Result<ShownRecording, RecordingFault>
-    ensures shown { IfOk result (λ shown. ShowsRecording (Some file.now) (view_ports ports.entry)
-        endpoints shown (W.contents writer.old) (W.contents writer.new)) }
-    ensures refused { IfErr result (λ fault. RefusesRecording (Some file.now)
-        (view_ports ports.entry) endpoints fault (W.contents writer.old) (W.contents writer.new)) }
-    // A recording that is there cannot fail to be read.
-    ensures there { result ≢ Err faults.CannotRead }
+    requires empty { buffer.old ≡ [] }
+    ensures puts { IfOk result (λ shown. PutsRecording (R.remaining source.old)
+        (view_ports ports.entry) endpoints shown (W.contents writer.old) (W.contents writer.new) buffer.new) }
+    ensures begun { OnErr result (BeginsRecording (R.remaining source.old)
+        (view_ports ports.entry) endpoints (W.contents writer.old) (W.contents writer.new)) }
 {
-    let left_out = count_left_out(alloc, file)?;
-    let mut buffer = Buffer::new(alloc)?;
-    let outcome = write_records(alloc, &mut buffer, writer, file, ports, endpoints)?;
-    Ok(ShownRecording { outcome, left_out })
-}
-
-/// Goes over a whole recording, and counts the packets that give no datagram.
-fn count_left_out(alloc: Global, file: &[u8]) -> Result<LeftOut, RecordingError>
-    ensures whole { OnOk result (fault_among (records_in file.now) ≡ None) }
-    ensures counts { IfOk result (λ left_out. left_out ≡ left_out_of (records_in file.now)) }
-    ensures fault { IfErr result (IsFaultOf file.now) }
-{
-    let mut recording = Recording::open(alloc, file)?;
-    let mut left_out = LeftOut::new();
-    while let Some(item) = recording.next() {
-        match item {
-            Ok(Record::Datagram(_)) => {}
-            Ok(Record::Other(kind)) => left_out.add(kind),
-            Err(fault) => return Err(fault),
+    let mut recording = RecordingReader::new(alloc);
+    let mut lines = Buffer::new(alloc)?;
+    let mut shown = Shown::nothing();
+    for _ in 0..u64::MAX {
+        let coming = next_coming(&mut recording, source, buffer, writer)?;
+        match coming {
+            Coming::Record => {}
+            Coming::Fault(fault) => return Ok(shown.ended(Some(fault))),
+            Coming::End => return Ok(shown.ended(None)),
+        }
+        if let Some(found) = recording.record() {
+            put_record(
+                alloc, buffer, writer, &found, ports, endpoints, &mut shown, &mut lines,
+            )?;
         }
     }
-    Ok(left_out)
+    Err(RecordingFault::CannotRead)
 }
 
-/// Writes the text of what is asked of a recording through an empty buffer.
-fn write_records<W: Write>(
-    alloc: Global,
-    buffer: &mut Buffer,
-    writer: &mut W,
-    file: &[u8],
-    ports: Option<&[u16]>,
-    endpoints: bool,
-) -> Result<Outcome, PrintFault>
-    requires empty { buffer.old ≡ [] }
-    requires whole { fault_among (records_in file.now) ≡ None }
-    ensures ok { OnOk result (Appends (W.contents writer.old) (W.contents writer.new)
-        (recorded_from endpoints 1 (asked_of (view_ports ports.entry) (records_in file.now)))) }
-    ensures outcome { IfOk result (λ outcome. outcome
-        ≡ recorded_outcome (asked_of (view_ports ports.entry) (records_in file.now))) }
-    ensures err { OnErr result (Stops (W.contents writer.old) [] (W.contents writer.new)
-        (recorded_from endpoints 1 (asked_of (view_ports ports.entry) (records_in file.now)))) }
-{
-    let outcome = put_records(alloc, buffer, writer, file, ports, endpoints)?;
-    buffer.flush(writer)?;
-    Ok(outcome)
-}
-
-/// Prints the text of what is asked of a recording that has no fault.
-fn put_records<W: Write>(
-    alloc: Global,
-    buffer: &mut Buffer,
-    writer: &mut W,
-    file: &[u8],
-    ports: Option<&[u16]>,
-    endpoints: bool,
-) -> Result<Outcome, PrintFault>
-    requires { fault_among (records_in file.now) ≡ None }
-    ensures ok { OnOk result (Sends (W.contents writer.old) buffer.old (W.contents writer.new)
-        buffer.new (recorded_from endpoints 1 (asked_of (view_ports ports.entry) (records_in file.now)))) }
-    ensures outcome { IfOk result (λ outcome. outcome
-        ≡ recorded_outcome (asked_of (view_ports ports.entry) (records_in file.now))) }
-    ensures err { OnErr result (Stops (W.contents writer.old) buffer.old (W.contents writer.new)
-        (recorded_from endpoints 1 (asked_of (view_ports ports.entry) (records_in file.now)))) }
-{
-    // It was read whole before, so that only memory can end it early.
-    let Ok(mut recording) = Recording::open(alloc, file) else {
-        return Err(PrintFault::OutOfMemory);
-    };
-    let mut lines = Buffer::new(alloc)?;
-    let mut fault_shown = false;
-    let mut k = 0;
-    while let Some(item) = recording.next() {
-        let Ok(found) = item else {
-            return Err(PrintFault::OutOfMemory);
-        };
-        let Some(datagram) = asked_in(ports, &found) else {
-            continue;
-        };
-        k += 1;
-        fault_shown |= put_recorded(alloc, buffer, writer, k, &datagram, endpoints, &mut lines)?;
+impl Shown {
+    /// Before the first record.
+    fn nothing() -> Shown
+        ensures { result ≡ nothing_shown }
+    {
+        Shown {
+            datagrams: 0,
+            is_faulty: false,
+            left_out: LeftOut::new(),
+        }
     }
-    Ok(Outcome::of(fault_shown))
+
+    /// What is told at the end of the recording, or at its fault.
+    fn ended(self, fault: Option<RecordingError>) -> ShownRecording
+        ensures { result ≡ shown_recording self fault }
+    {
+        ShownRecording {
+            outcome: Outcome::of(self.is_faulty),
+            left_out: self.left_out,
+            fault,
+        }
+    }
+}
+
+/// Prints what a record shows, and counts it.
+fn put_record<W: Write>(
+    alloc: Global,
+    buffer: &mut Buffer,
+    writer: &mut W,
+    found: &Record<'_>,
+    ports: Option<&[u16]>,
+    endpoints: bool,
+    shown: &mut Shown,
+    lines: &mut Buffer,
+) -> Result<(), PrintFault>
+    requires empty { lines.old ≡ [] }
+    requires few { shown.old.datagrams + total shown.old.left_out + 1 < 2 ^ 64 }
+    ensures empty { OnOk result (lines.new ≡ []) }
+    ensures ok { OnOk result (Sends (W.contents writer.old) buffer.old (W.contents writer.new)
+        buffer.new (recorded_from endpoints (shown.old.datagrams + 1)
+        (asked_of (view_ports ports.entry) (Ok (view_record found.now) ∷ [])))) }
+    ensures shown { OnOk result (shown.new
+        ≡ shown_after (view_ports ports.entry) shown.old (Ok (view_record found.now) ∷ [])) }
+    ensures err { OnErr result (Stops (W.contents writer.old) buffer.old (W.contents writer.new)
+        (recorded_from endpoints (shown.old.datagrams + 1)
+        (asked_of (view_ports ports.entry) (Ok (view_record found.now) ∷ [])))) }
+{
+    if let Record::Other(kind) = found {
+        shown.left_out.add(*kind);
+        return Ok(());
+    }
+    let Some(datagram) = asked_in(ports, found) else {
+        return Ok(());
+    };
+    let k = shown.datagrams + 1;
+    let is_faulty = put_recorded(alloc, buffer, writer, k, &datagram, endpoints, lines)?;
+    shown.datagrams = k;
+    shown.is_faulty |= is_faulty;
+    Ok(())
 }
 
 /// The datagram of a record, where there is one that came from or went to one of the ports.
@@ -320,25 +332,11 @@ impl From<PrintFault> for RecordingFault {
     }
 }
 
-impl From<RecordingError> for RecordingFault {
-    ghost from_gives = { λ error e. e ≡ fault_of_recording error };
+impl From<CannotWrite> for RecordingFault {
+    ghost from_gives = { λ _ e. e ≡ faults.CannotWrite };
 
-    fn from(error: RecordingError) -> RecordingFault {
-        match error {
-            RecordingError::OutOfMemory => RecordingFault::OutOfMemory,
-            fault => RecordingFault::BadRecording(fault),
-        }
-    }
-}
-
-impl From<ReadFault> for RecordingFault {
-    ghost from_gives = { λ fault e. e ≡ fault_of_input fault };
-
-    fn from(fault: ReadFault) -> RecordingFault {
-        match fault {
-            ReadFault::CannotRead => RecordingFault::CannotRead,
-            ReadFault::OutOfMemory => RecordingFault::OutOfMemory,
-        }
+    fn from(_error: CannotWrite) -> RecordingFault {
+        RecordingFault::CannotWrite
     }
 }
 

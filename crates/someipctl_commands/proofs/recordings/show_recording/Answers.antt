@@ -1,8 +1,14 @@
-use Rattle.std.proofs.lemmas.Result.{err_from_is_err_and}
-use Rattle.someipctl_commands.proofs.RecordedLemmas.{keeps_same, refuses_input}
+use Rattle.someipctl_commands.specs.RecordingResult.{view_ports}
+use Rattle.someipctl_print.proofs.SendingLemmas.{OnErr-any}
+use Rattle.someipctl_commands.proofs.ShowingLemmas.{begins_nothing, puts_begun, puts_shown}
 use Rattle.someipctl_commands.proofs.recordings.show_recording.Goals as goal
 
-pub returns-in_err-file-clause-refused : goal.returns-in_err-file-clause-refused
-returns-in_err-file-clause-refused g c =
-    let p = err_from_is_err_and c.from_residual.result c.from_residual.ensures.1 in
-    rw (p.1, p.2) (refuses_input (g.R.Read.remaining c.args.reader.now) _ _ c.in_err-file.field-0.0 _ (keeps_same _))
+pub returns-in_err-buffer-clause-begun : goal.returns-in_err-buffer-clause-begun
+returns-in_err-buffer-clause-begun g c = OnErr-any c.from_residual.result (begins_nothing (view_ports c.args.ports) c.args.endpoints (g.R.Read.remaining c.args.source.now) (g.W.Write.contents c.args.writer.now))
+
+pub returns-in_err-flush-clause-begun : goal.returns-in_err-flush-clause-begun
+returns-in_err-flush-clause-begun g c =
+    OnErr-any c.from_residual-in_err-flush.result (puts_begun (view_ports c.args.ports) c.args.endpoints _ _ _ _ _ _ c.in_ok-shown.ensures.puts c.in_err-flush.ensures.err)
+
+pub returns-clause-shown : goal.returns-clause-shown
+returns-clause-shown g c = puts_shown (view_ports c.args.ports) c.args.endpoints _ _ _ _ _ _ _ c.in_ok-shown.ensures.puts c.in_ok-flush.ensures.ok c.in_ok-flush.ensures.empty

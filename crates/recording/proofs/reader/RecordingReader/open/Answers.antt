@@ -1,4 +1,4 @@
-use Rattle.std.proofs.Common.{◌≡◌, ◌∙◌, ◌≤◌, ◌⊎◌, ◌+◌, ◌++◌, ℕ, true, List, refl, length, drop, Some, inl, inr}
+use Rattle.std.proofs.Common.{arith, ◌≡◌, ◌∙◌, ◌≤◌, ◌⊎◌, ◌+◌, ◌++◌, ℕ, true, List, refl, length, drop, Some, inl, inr}
 use Rattle.std.proofs.lemmas.List.{take_rest}
 use Rattle.recording.specs.Held.{start_of, held_from, items_by, CanFollow}
 use Rattle.recording.specs.declared.stage.Stage.TheVariants.{Head, Inside}
@@ -27,7 +27,7 @@ returns-clause-next c =
     λ rest follows. rw at_head (opened f.format c.self.inside.interfaces.items c.self.inside.place f.len bytes start rest within (start-same c.self.inside.is_whole (drop start bytes) rest follows told ∙ is)) in
     if_ok c.take.result _ _ (λ next holds. rw (← c.self.view_is) (moved (the_view c.self.inside)
     record { stage = Inside f.format; interfaces = c.self.inside.interfaces.items; place = c.self.inside.place + f.len; held = drop (start + f.len) bytes; is_whole = c.self.inside.is_whole; current = option_map (record_at bytes) c.self.inside.packet }
-    c.take.new.self next refl same holds)) c.take.ensures.next
+    c.take.new.self next refl (omega arith) same holds)) c.take.ensures.next
 
 pub returns-clause-fault : goal.returns-clause-fault
 returns-clause-fault c =
