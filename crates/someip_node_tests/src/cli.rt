@@ -68,8 +68,7 @@ fn failures_of_runs_and_recordings_have_texts_and_statuses(rt: HostRuntime) {
     assert!(rt; is_told(alloc, bad_line, "line 3: bad step", 1));
     let bad_step = Failure::of_run(RunFault::BadStep(1, StepFault::BadDelay), PATH);
     assert!(rt; is_told(alloc, bad_step, "step 1: BadDelay", 1));
-    let block = RecordingFault::BadRecording(RecordingError::BlockLength(28));
-    let bad_recording = Failure::of_recording(block, "x");
+    let bad_recording = Failure::BadRecording(RecordingError::BlockLength(28));
     assert!(rt; is_told(alloc, bad_recording, "recording: BlockLength at 28", 1));
     let unread = Failure::of_recording(RecordingFault::CannotRead, "x");
     assert!(rt; is_told(alloc, unread, "cannot read x", 4));

@@ -1,11 +1,12 @@
 //! What is told of the packets that a recording gives no datagram of, and recordings that are not read or
 //! written whole.
 use crate::printed::is_printed;
-use crate::slow::{Limits, SlowWriter};
+use crate::slow::{Limits, SlowReader, SlowWriter, UNLIMITED};
 use someipctl_commands::LeftOut;
 use someipctl_commands::recordings::{RecordingFault, show_recording};
 use someipctl_inputs::Outcome;
 use std::alloc::Global;
+use std::io::ErrorKind;
 
 /// Counts, in the order of the kinds, and what is told of them.
 type Row = ([usize; 6], &'static str);
@@ -70,7 +71,10 @@ fn is_written(alloc: Global, fails_at: usize) -> bool {
     let taken = writer.taken.as_slice();
     match shown {
         Ok(shown) => {
-            fails_at == TEXT.len() && taken == TEXT && matches!(shown.outcome, Outcome::Done)
+            fails_at == TEXT.len()
+                && taken == TEXT
+                && matches!(shown.outcome, Outcome::Done)
+                && shown.fault.is_none()
         }
         Err(RecordingFault::CannotWrite) => taken.len() == fails_at && TEXT.starts_with(taken),
         Err(_) => false,
@@ -82,4 +86,20 @@ fn recordings_are_written_as_far_as_the_writer_takes_them(rt: HostRuntime) {
     for call in 0..=TEXT.len() {
         assert!(rt; is_written(rt.alloc(), call), "call {call}");
     }
+}
+
+/// Whether this was written of the recording before its read of this number, of a byte each, failed.
+fn is_written_before(alloc: Global, fails_at: usize, text: &[u8]) -> bool {
+    let mut reader = SlowReader::new(FILE, fails_at, ErrorKind::Other);
+    let mut writer = SlowWriter::new(alloc, UNLIMITED);
+    let shown = show_recording(alloc, &mut reader, None, true, &mut writer);
+    matches!(shown, Err(RecordingFault::CannotRead)) && writer.taken.as_slice() == text
+}
+
+#[test]
+fn what_was_read_is_written_before_the_next_read(rt: HostRuntime) {
+    for call in 0..FILE.len() {
+        assert!(rt; is_written_before(rt.alloc(), call, &[]), "call {call}");
+    }
+    assert!(rt; is_written_before(rt.alloc(), FILE.len(), TEXT));
 }

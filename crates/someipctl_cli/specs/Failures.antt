@@ -86,7 +86,6 @@ failure_of_run runs.OutOfMemory path = OutOfMemory
 
 -- why the recording at a path was not shown
 abbrev pub failure_of_recording : RecordingFault → Bor (List ℕ) → Failure
-failure_of_recording (recordings.BadRecording error) path = BadRecording error
 failure_of_recording recordings.CannotRead path = CannotRead path
 failure_of_recording recordings.CannotWrite path = CannotWrite
 failure_of_recording recordings.OutOfMemory path = OutOfMemory

@@ -94,9 +94,12 @@ where N is the line of SCHEDULE by which the second LINE came, and - is what the
 /// Of `recording`.
 pub(crate) const RECORDING_EXAMPLE: &str = "\
 A recording is a file of classic pcap or pcapng, as tcpdump and Wireshark write it. Of each UDP
-datagram over IPv4 in it the lines are printed that `show` prints of a datagram of a capture. Those
-that are printed are counted from 1. Packets without such a datagram are left out, and how many of
-each kind these are is told on standard error at the end, which is no fault.
+datagram over IPv4 in it the lines are printed that `show` prints of a datagram of a capture, as it
+is read. Those that are printed are counted from 1. Packets without such a datagram are left out,
+and how many of each kind these are is told on standard error at the end, which is no fault. A fault
+of the recording ends it: what comes before it is printed, and then the fault on standard error.
+As - the recording comes on standard input:
+  tcpdump -i eth0 -U -w - udp | someipctl recording -
 PORTS are numbers from 1 to 65535 with commas between them, as in 30490,30509.
 So the call
   someipctl recording --ports 30509 examples/one.pcap

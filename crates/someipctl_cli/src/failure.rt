@@ -42,8 +42,8 @@ pub enum Failure<'p> {
     /// A payload is no hex.
     #[error("{}", PayloadRefusal::BadHex)]
     BadPayloadHex,
-    /// A recording has a fault.
-    #[error("{}", RecordingFault::BadRecording(*.0))]
+    /// A recording has a fault. What comes before it was shown.
+    #[error("recording: {0}")]
     BadRecording(RecordingError),
     /// This text names no ports.
     #[error("error: invalid value '{0}' for '--ports <PORTS>': ports are numbers from 1 to 65535 with commas between them\n\nUsage: someipctl recording [OPTIONS] <FILE>")]
@@ -163,7 +163,6 @@ impl<'p> Failure<'p> {
         ensures { result ≡ failure_of_recording fault path.entry }
     {
         match fault {
-            RecordingFault::BadRecording(error) => Failure::BadRecording(error),
             RecordingFault::CannotRead => Failure::CannotRead(path),
             RecordingFault::CannotWrite => Failure::CannotWrite,
             RecordingFault::OutOfMemory => Failure::OutOfMemory,

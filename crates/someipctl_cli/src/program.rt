@@ -11,7 +11,7 @@ use someip_world::Setup;
 use someipctl_chart::chart_schedule;
 use someipctl_commands::payload::payload;
 use someipctl_commands::ports::ports_in;
-use someipctl_commands::recordings::show_recording;
+use someipctl_commands::recordings::{ShownRecording, show_recording};
 use someipctl_commands::show::show;
 use someipctl_commands::vectors::vectors;
 use someipctl_inputs::Outcome;
@@ -22,7 +22,7 @@ use std::{env, fs, io};
 
 /// The program: does what its arguments ask for, tells on standard error what kept it from that, and gives the
 /// exit status.
-pub fn answer<R: Env + Files + Print + Eprint + AllocGlobal>(rt: &R) -> u8 {
+pub fn answer<R: Env + Files + Print + Eprint + Input + AllocGlobal>(rt: &R) -> u8 {
     match words_of(rt) {
         Ok(words) => answer_words(rt, &words),
         Err(failure) => report(rt, failure),
@@ -30,7 +30,7 @@ pub fn answer<R: Env + Files + Print + Eprint + AllocGlobal>(rt: &R) -> u8 {
 }
 
 /// The same of these words, of which the first is the program's name.
-fn answer_words<R: Files + Print + Eprint + AllocGlobal>(rt: &R, words: &[String]) -> u8 {
+fn answer_words<R: Files + Print + Eprint + Input + AllocGlobal>(rt: &R, words: &[String]) -> u8 {
     match run(rt, words) {
         Ok(outcome) => outcome.status(),
         Err(failure) => report(rt, failure),
@@ -63,7 +63,7 @@ pub fn words_of<R: Env + AllocGlobal>(rt: &R) -> Result<Vec<String>, Failure<'st
 }
 
 /// Does what the words ask for, of which the first is the program's name.
-pub fn run<'w, R: Files + Print + Eprint + AllocGlobal>(
+pub fn run<'w, R: Files + Print + Eprint + Input + AllocGlobal>(
     rt: &R,
     words: &'w [String],
 ) -> Result<Outcome, Failure<'w>> {
@@ -73,7 +73,7 @@ pub fn run<'w, R: Files + Print + Eprint + AllocGlobal>(
     }
 }
 
-fn run_command<'w, R: Files + Print + Eprint + AllocGlobal>(
+fn run_command<'w, R: Files + Print + Eprint + Input + AllocGlobal>(
     rt: &R,
     command: Command<'w>,
 ) -> Result<Outcome, Failure<'w>> {
@@ -106,9 +106,9 @@ fn show_file<'p, R: Files + Print + AllocGlobal>(
     show(rt.alloc(), &mut file, &mut io::writer(rt)).map_err(|error| Failure::of_show(error, path))
 }
 
-/// Shows a recording, and then tells on standard error what was left out of it. Whatever is wrong with the
-/// ports is told before the recording is looked at.
-fn show_recorded<'p, R: Files + Print + Eprint + AllocGlobal>(
+/// Shows a recording, and then tells on standard error what was left out of it, and its fault, if it has one.
+/// Whatever is wrong with the ports is told before the recording is looked at.
+fn show_recorded<'p, R: Files + Print + Eprint + Input + AllocGlobal>(
     rt: &R,
     path: &'p str,
     ports: Option<&'p str>,
@@ -120,20 +120,32 @@ fn show_recorded<'p, R: Files + Print + Eprint + AllocGlobal>(
         ))?),
         None => None,
     };
-    let mut file = open_file(rt, path)?;
-    let shown = show_recording(
-        rt.alloc(),
-        &mut file,
-        asked.as_deref(),
-        endpoints,
-        &mut io::writer(rt),
-    )
-    .map_err(|fault| Failure::of_recording(fault, path))?;
+    let shown = show_recording_at(rt, path, asked.as_deref(), endpoints)?;
     if !shown.left_out.is_empty() {
         // Where standard error can't be written, what was printed stands all the same.
         let _ = eprintln!(rt; "recording: {}", shown.left_out);
     }
-    Ok(shown.outcome)
+    match shown.fault {
+        Some(fault) => Err(Failure::BadRecording(fault)),
+        None => Ok(shown.outcome),
+    }
+}
+
+/// Shows the recording at a path, or the one that comes on standard input, which is called `-`.
+fn show_recording_at<'p, R: Files + Print + Input + AllocGlobal>(
+    rt: &R,
+    path: &'p str,
+    ports: Option<&[u16]>,
+    endpoints: bool,
+) -> Result<ShownRecording, Failure<'p>> {
+    let mut writer = io::writer(rt);
+    let shown = if path == "-" {
+        show_recording(rt.alloc(), &mut rt.reader(), ports, endpoints, &mut writer)
+    } else {
+        let mut file = open_file(rt, path)?;
+        show_recording(rt.alloc(), &mut file, ports, endpoints, &mut writer)
+    };
+    shown.map_err(|fault| Failure::of_recording(fault, path))
 }
 
 fn judge_file<'p, R: Files + Print + AllocGlobal>(

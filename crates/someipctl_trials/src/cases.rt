@@ -8,7 +8,7 @@ use std::io;
 use std::rt::Files;
 
 /// Runs the command of each line of a text. Lines that are empty or begin with `#` are skipped.
-pub fn run_cases<R: Files + Print + AllocGlobal>(rt: &R, text: &str) -> io::Result<()> {
+pub fn run_cases<R: Files + Print + Input + AllocGlobal>(rt: &R, text: &str) -> io::Result<()> {
     for line in text.lines() {
         if !line.is_empty() && !line.starts_with('#') {
             run_case(rt, line)?;
@@ -18,7 +18,7 @@ pub fn run_cases<R: Files + Print + AllocGlobal>(rt: &R, text: &str) -> io::Resu
 }
 
 /// Runs one command between a line with its words and one with its exit status.
-fn run_case<R: Files + Print + AllocGlobal>(rt: &R, line: &str) -> io::Result<()> {
+fn run_case<R: Files + Print + Input + AllocGlobal>(rt: &R, line: &str) -> io::Result<()> {
     println!(rt; "> {line}")?;
     let status = answer(&Aloud::new(rt, line));
     println!(rt; "= {status}")
