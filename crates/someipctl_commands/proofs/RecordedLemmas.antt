@@ -1,5 +1,5 @@
 -- The records of a recording, what is left out of them, and the heads of lines.
-use Rattle.std.proofs.Common.{◌≡◌, ℕ, zero, suc, ◌+◌, ◌<◌, ◌≤◌, ◌==◌, Bool, true, false, cond, ◌||◌, List, [], ◌∷◌, ◌++◌, length, take, drop, Option, Some, None, is_none, map, Ok, Err, refl, sym, ap, ◌∙◌, append_assoc, length-append, arith}
+use Rattle.std.proofs.Common.{◌≡◌, ℕ, suc, ◌+◌, ◌<◌, ◌≤◌, ◌==◌, Bool, true, false, cond, ◌||◌, List, [], ◌∷◌, ◌++◌, length, take, drop, Option, Some, None, is_none, map, Ok, Err, refl, sym, ap, ◌∙◌, append_assoc, length-append, arith}
 use Rattle.std.specs.List.{list_any}
 use Rattle.std.specs.Option.{option_to_list}
 use Rattle.std.proofs.lemmas.List.{length-drop}
@@ -17,7 +17,7 @@ use Rattle.someipctl_commands.specs.ShownText.{has_fault}
 use Rattle.someipctl_commands.specs.Heads.{line_len}
 use Rattle.someipctl_commands.specs.Ports.{port_in}
 use Rattle.someipctl_commands.specs.RecordedText.{asked_in, asked_of, recorded_from, recorded_text, with_heads}
-use Rattle.someipctl_commands.specs.RecordingResult.{fault_among, nothing_shown, shown_after}
+use Rattle.someipctl_commands.specs.RecordingResult.{fault_among, shown_after}
 
 -- ---- what is left out
 

@@ -1,10 +1,8 @@
 -- What was shown of a recording so far.
-use Rattle.std.proofs.Common.{◌≡◌, ℕ, ◌+◌, ◌≤◌, Bool, true, false, ◌||◌, List, [], ◌∷◌, ◌++◌, length, Option, Some, None, Ok, Err, refl, sym, ap, ◌∙◌, subst, arith}
+use Rattle.std.proofs.Common.{◌≡◌, ℕ, ◌+◌, ◌≤◌, Bool, true, false, List, [], ◌∷◌, ◌++◌, length, Option, None, Ok, refl, sym, ap, ◌∙◌, subst, arith}
 use Rattle.std.specs.List.{list_any}
-use Rattle.std.specs.Option.{option_to_list}
 use Rattle.std.proofs.lemmas.List.{append-nil}
 use Rattle.recording.specs.declared.RecordingError.{RecordingError}
-use Rattle.recording.specs.declared.Skipped.{Skipped}
 use Rattle.recording.specs.declared.Skipped.TheVariants.{LinkType, NotIpv4, Fragment, NotUdp, Cut, BadUdpLength}
 use Rattle.recording.specs.Packets.{DatagramValue, RecordValue, datagram, other}
 use Rattle.recording.specs.Records.{Item}
@@ -14,13 +12,13 @@ use Rattle.someipctl_print.specs.Sending.{Sends, Stops}
 use Rattle.someipctl_print.proofs.SendingLemmas.{Sends-all, Stops-flush, Sends-flush, Sends-nil, Sends-trans, Stops-after, Stops-before}
 use Rattle.someipctl_commands.specs.declared.recordings.Shown.{Shown}
 use Rattle.someipctl_commands.specs.declared.recordings.ShownRecording.{ShownRecording}
-use Rattle.someipctl_commands.specs.LeftOut.{counted, left_out_of, nothing_left_out, plus, total}
+use Rattle.someipctl_commands.specs.LeftOut.{left_out_of, nothing_left_out, plus, total}
 use Rattle.someipctl_commands.specs.ShownText.{has_fault}
-use Rattle.someipctl_commands.specs.RecordedText.{asked_in, asked_of, is_asked, recorded_from}
+use Rattle.someipctl_commands.specs.RecordedText.{asked_of, is_asked, recorded_from}
 use Rattle.someipctl_commands.specs.Coming.{Comes}
 use Rattle.someipctl_commands.specs.RecordingResult.{BeginsRecording, PutsRecording, ShowsRecording, fault_among, nothing_shown, shown_after, shown_recording, text_of}
 use Rattle.someipctl_commands.proofs.ComingLemmas.{begin, comes_both, comes_none, whole_file, part_file}
-use Rattle.someipctl_commands.proofs.RecordedLemmas.{after-append, after-none, any-append, asked-append, fault-append, left_out-append, plus-none, plus-nothing, recorded-append, Stops-none}
+use Rattle.someipctl_commands.proofs.RecordedLemmas.{after-append, after-none, asked-append, fault-append, left_out-append, plus-none, plus-nothing, recorded-append, Stops-none}
 
 -- the items that came were shown, and none of them is a fault
 abbrev pub IsShown : Option (List ℕ) → Bool → ReaderValue → Option (List ℕ) → Option (List ℕ) → Option (List ℕ) → Option (List ℕ) → List ℕ → Shown → Type 0

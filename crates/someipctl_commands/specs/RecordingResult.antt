@@ -14,7 +14,7 @@ use Rattle.someipctl_commands.specs.declared.recordings.PrintFault.{PrintFault}
 use Rattle.someipctl_commands.specs.declared.recordings.PrintFault.TheVariants as prints
 use Rattle.someipctl_inputs.specs.Inputs.{WasLeft}
 use Rattle.someipctl_inputs.specs.Outcomes.{fault_outcome}
-use Rattle.someipctl_print.specs.Sending.{Sends, Stops}
+use Rattle.someipctl_print.specs.Sending.{Sends}
 use Rattle.someipctl_commands.specs.LeftOut.{left_out_of, nothing_left_out, plus}
 use Rattle.someipctl_commands.specs.ShownText.{has_fault}
 use Rattle.someipctl_commands.specs.RecordedText.{asked_of, recorded_from, recorded_outcome}
