@@ -302,7 +302,12 @@ fn recording_definition<'d>(alloc: Global) -> Result<clap::Command<'d>, AllocErr
         "endpoints",
         "Puts time, sender and receiver before each line",
     );
-    let file = explained(alloc, "file", "FILE", "The path of a recording, - for standard input");
+    let file = explained(
+        alloc,
+        "file",
+        "FILE",
+        "The path of a recording, - for standard input",
+    );
     let first = taking(Ok(command), ports);
     let second = taking(first, endpoints);
     taking(second, file)

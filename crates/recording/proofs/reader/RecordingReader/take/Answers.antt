@@ -23,11 +23,12 @@ returns-clause-next c =
     elim c.match-told.branch [
       | in-Some w ↦
           let some : 0 < told.len = rw (w.in-Some.is) at c.in_ok-told.ensures.some in
-          rw (w.result-is, ← c.self.view_is)
-          (record_at bytes (packet_behind start w.in-Some.field-0),
-          ap (λ (k : Option Packet). option_map (record_at bytes) k) (c.behind-self-inside.ensures ∙ ap (option_map (packet_behind start)) w.in-Some.is),
-          omega (arith, some),
-          λ rest follows. record_comes format before after p bytes start told within w.in-Some.field-0 rest c.self.invariant.0 w.in-Some.is lies (takes rest follows))
+          rw (w.result-is, ← c.self.view_is) (
+            record_at bytes (packet_behind start w.in-Some.field-0),
+            ap (λ (k : Option Packet). option_map (record_at bytes) k) (c.behind-self-inside.ensures ∙ ap (option_map (packet_behind start)) w.in-Some.is),
+            omega (arith, some),
+            λ rest follows. record_comes format before after p bytes start told within w.in-Some.field-0 rest c.self.invariant.0 w.in-Some.is lies (takes rest follows),
+          )
       | in-None+then-self w ↦
           let ends : EndsTold true (drop start bytes) told = rw (c.deref.ensures.value, take_rest, w.in-None.is, w.if-self.true) at c.in_ok-told.ensures.ends in
           rw (w.result-is, ← c.self.view_is) (λ rest follows.
