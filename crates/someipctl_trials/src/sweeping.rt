@@ -38,7 +38,7 @@ const AMONG_LIARS: Schedules = Schedules {
 };
 
 /// Does what the program's words ask for, and prints what each comes to. It answers whether nothing was found.
-pub fn sweep_all<R: Files + Env + Print + AllocGlobal>(rt: &R) -> Result<bool, SweepError> {
+pub fn sweep_all<R: Files + Env + Print + Input + AllocGlobal>(rt: &R) -> Result<bool, SweepError> {
     let words = words_of(rt)?;
     match words.as_slice() {
         [_, memory, name, way, rest @ ..] if memory.as_str() == "memory" => {
@@ -59,7 +59,7 @@ fn words_of<R: Env + AllocGlobal>(rt: &R) -> Result<Vec<String>, SweepError> {
 }
 
 /// Makes the sweep of each word.
-fn sweep_each<R: Files + Print + AllocGlobal>(
+fn sweep_each<R: Files + Print + Input + AllocGlobal>(
     rt: &R,
     words: &[String],
 ) -> Result<bool, SweepError> {
@@ -72,7 +72,7 @@ fn sweep_each<R: Files + Print + AllocGlobal>(
 
 /// Makes the sweep of a word, and prints what it comes to, or runs the cases. A number asks for the lines of its
 /// schedule. It answers whether nothing was found.
-fn sweep<R: Files + Print + AllocGlobal>(rt: &R, word: &str) -> Result<bool, SweepError> {
+fn sweep<R: Files + Print + Input + AllocGlobal>(rt: &R, word: &str) -> Result<bool, SweepError> {
     let mut findings = Findings::new(rt.alloc());
     let done = match word {
         "cases" => return run_all_cases(rt),
@@ -86,7 +86,7 @@ fn sweep<R: Files + Print + AllocGlobal>(rt: &R, word: &str) -> Result<bool, Swe
 }
 
 /// Runs the cases. What they print is judged by who reads it.
-fn run_all_cases<R: Files + Print + AllocGlobal>(rt: &R) -> Result<bool, SweepError> {
+fn run_all_cases<R: Files + Print + Input + AllocGlobal>(rt: &R) -> Result<bool, SweepError> {
     let text = read_text(rt, CASES)?;
     run_cases(rt, text.as_str())?;
     Ok(true)
