@@ -1,0 +1,44 @@
+# The crates of crates.txt, for the scripts that prove some of them. `$here` is the top of the repository.
+
+# A crate of crates.txt, and those that it stands on.
+needed_crates() {
+    awk -F: -v top="$1" '
+        !/^#/ && NF > 1 { split($1, words, " "); below[words[1]] = $2 }
+        END {
+            wanted[top] = 1; found = 1
+            while (found) {
+                found = 0
+                for (crate in wanted) {
+                    n = split(below[crate], names, " ")
+                    for (i = 1; i <= n; i++) if (names[i] in below && !(names[i] in wanted)) { wanted[names[i]] = 1; found = 1 }
+                }
+            }
+            for (crate in wanted) print crate
+        }' "$here/crates.txt"
+}
+
+# Whether the file $1 is there, and no source of the crate $2, of which it was made, is newer.
+is_built() {
+    [ -f "$1" ] || return 1
+    for crate in $(needed_crates "$2"); do
+        [ -z "$(find "$here/crates/$crate/src" -newer "$1" -print -quit)" ] || return 1
+    done
+}
+
+# Copies a crate and those that it stands on, and nothing else, to a folder.
+copy_crates() {
+    mkdir -p "$2/crates" && cp "$here/HANDLES" "$2" && : >"$2/crates.txt" || return 1
+    for crate in $(needed_crates "$1"); do
+        mkdir "$2/crates/$crate" || return 1
+        for part in "$here/crates/$crate"/*; do
+            case ${part##*/} in
+            out | must-fail | wrong-bodies) ;;
+            *) cp -r "$part" "$2/crates/$crate" || return 1 ;;
+            esac
+        done
+        grep "^${crate}[ :]" "$here/crates.txt" >>"$2/crates.txt"
+    done
+}
+
+# The folder of the toolchain.
+kit() { dirname "$(dirname "$(readlink -f "$(command -v rt)")")"; }
