@@ -52,6 +52,11 @@ with_little_memory() { (ulimit -v "$memory" && exec "$@"); }
 # With standard input from a pipe.
 from_pipe() { cat "$piped" | "$@"; }
 
+# With standard input from a pipe that stays open behind these bytes, for two seconds.
+waiting() { { cat "$piped" && sleep 3; } | timeout 2 "$@"; }
+
+from_folder() { "$@" <"$examples"; }
+
 onto_full_device() { "$@" >/dev/full; }
 
 without_input() { "$@" <&-; }
@@ -293,6 +298,45 @@ sweep_large_payload() {
     expect "a large payload in $memory kB" 3 "out of memory" /dev/null
 }
 
+# Doubles a file so many times.
+double() {
+    for _ in $(seq "$2"); do
+        cat "$1" "$1" >"$scratch/doubled"
+        mv "$scratch/doubled" "$1"
+    done
+}
+
+# Writes what `recording` prints of so many packets of a request.
+write_recorded() {
+    seq "$1" | sed "s/\$/ message $request length 8 $header payload -/"
+}
+
+# Reads recordings as they come. `header` is the one of the file, `packets` holds packets of a request.
+sweep_recordings() {
+    head -c 24 "$examples/one.pcap" >"$scratch/header"
+    tail -c +25 "$examples/one.pcap" >"$scratch/packets"
+    piped=$scratch/piped
+    call from_folder recording -
+    expect "recording from_folder" 4 "cannot read -" /dev/null
+
+    double "$scratch/packets" 1
+    cat "$scratch/header" "$scratch/packets" >"$piped"
+    write_recorded 2 >"$scratch/whole"
+    call waiting recording -
+    expect "recording waiting, two packets" 124 "" "$scratch/whole"
+    { cat "$scratch/header" && printf '\0\0\0\0\0\0\0\0\361\377\377\0\37\0\0\0'; } >"$piped"
+    call waiting recording -
+    expect "recording waiting, a packet of 16777201 bytes" 1 "recording: BlockTooLong at 24" /dev/null
+
+    double "$scratch/packets" 18
+    cat "$scratch/header" "$scratch/packets" >"$scratch/input"
+    write_recorded 524288 >"$scratch/whole"
+    memory=20000
+    call with_little_memory recording "$scratch/input"
+    expect "recording of 39 MB in $memory kB" 0 "" "$scratch/whole"
+    rm "$scratch/input" "$scratch/packets"
+}
+
 sweep_files() {
     begin_part files
     sweep_unread
@@ -303,5 +347,6 @@ sweep_files() {
     sweep_large_inputs
     sweep_endless_inputs
     sweep_large_payload
+    sweep_recordings
     end_part
 }
