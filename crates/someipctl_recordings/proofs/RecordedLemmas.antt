@@ -1,23 +1,15 @@
--- The records of a recording, what is left out of them, and the heads of lines.
-use Rattle.std.proofs.Common.{◌≡◌, ℕ, suc, ◌+◌, ◌<◌, ◌≤◌, ◌==◌, Bool, true, false, cond, ◌||◌, List, [], ◌∷◌, ◌++◌, length, take, drop, Option, Some, None, is_none, map, Ok, Err, refl, sym, ap, ◌∙◌, append_assoc, length-append, arith}
-use Rattle.std.specs.List.{list_any}
+-- The records of a recording: what is left out of them, and what is shown of the others.
+use Rattle.std.proofs.Common.{◌≡◌, ℕ, ◌+◌, List, [], ◌∷◌, ◌++◌, None, Ok, Err, refl, sym, ap, ◌∙◌, append_assoc, arith}
 use Rattle.std.specs.Option.{option_to_list}
-use Rattle.std.proofs.lemmas.List.{length-drop}
 use Rattle.std.proofs.lemmas.Grind.{flat_map-append}
-use Rattle.std.proofs.KnownBytes.{Appends-nil}
 use Rattle.recording.specs.declared.Skipped.{Skipped}
 use Rattle.recording.specs.declared.Skipped.TheVariants.{LinkType, NotIpv4, Fragment, NotUdp, Cut, BadUdpLength}
 use Rattle.recording.specs.Packets.{DatagramValue, datagram, other}
 use Rattle.recording.specs.Records.{Item}
-use Rattle.someipctl_print.specs.Sending.{Stops}
 use Rattle.someipctl_recordings.specs.declared.left_out.LeftOut.{LeftOut}
-use Rattle.someipctl_recordings.specs.declared.recordings.Shown.{Shown}
 use Rattle.someipctl_recordings.specs.LeftOut.{counted, left_out_of, nothing_left_out, plus}
-use Rattle.someipctl_commands.specs.ShownText.{has_fault}
-use Rattle.someipctl_recordings.specs.Heads.{line_len}
-use Rattle.someipctl_recordings.specs.Ports.{port_in}
-use Rattle.someipctl_recordings.specs.RecordedText.{asked_in, asked_of, recorded_from, recorded_text, with_heads}
-use Rattle.someipctl_recordings.specs.RecordingResult.{fault_among, shown_after}
+use Rattle.someipctl_recordings.specs.RecordedText.{AskedValue, Progress, after_all, after_datagram, asked_in, asked_of, recorded_from, recorded_text}
+use Rattle.someipctl_recordings.specs.RecordingResult.{fault_among}
 
 -- ---- what is left out
 
@@ -62,113 +54,32 @@ none_more a = omega arith
 pub plus-none : (m : LeftOut) → plus nothing_left_out m ≡ m
 plus-none m = rw (none_more m.link_type, none_more m.not_ipv4, none_more m.fragmented, none_more m.not_udp, none_more m.cut, none_more m.bad_udp_length) refl
 
--- ---- what is asked for
-
-pub asked-none : (ports : Option (List ℕ)) (item : Item) (items : List Item) → asked_in ports item ≡ None → asked_of ports (item ∷ items) ≡ asked_of ports items
-asked-none ports item items is = ap (λ o. option_to_list o ++ asked_of ports items) is
-
-pub asked-some : (ports : Option (List ℕ)) (item : Item) (items : List Item) (d : DatagramValue) → asked_in ports item ≡ Some d → asked_of ports (item ∷ items) ≡ d ∷ asked_of ports items
-asked-some ports item items d is = ap (λ o. option_to_list o ++ asked_of ports items) is
-
--- the datagrams of items and of others
-pub asked-append : (ports : Option (List ℕ)) (items others : List Item) → asked_of ports (items ++ others) ≡ asked_of ports items ++ asked_of ports others
-asked-append ports items others = flat_map-append (λ item. option_to_list (asked_in ports item)) items others
-
-pub recorded-append : (endpoints : Bool) (k : ℕ) (ds others : List DatagramValue) → recorded_from endpoints k (ds ++ others) ≡ recorded_from endpoints k ds ++ recorded_from endpoints (k + length ds) others
-recorded-append endpoints k [] others = let same : k ≡ k + 0 = omega arith in ap (λ n. recorded_from endpoints n others) same
-recorded-append endpoints k (d ∷ ds) others =
-    let same : (k + 1) + length ds ≡ k + suc (length ds) = omega arith in
-    ap (λ (t : List ℕ). recorded_text endpoints k d ++ t) (recorded-append endpoints (k + 1) ds others ∙ ap (λ n. recorded_from endpoints (k + 1) ds ++ recorded_from endpoints n others) same)
-    ∙ sym (append_assoc (recorded_text endpoints k d) (recorded_from endpoints (k + 1) ds) (recorded_from endpoints (k + suc (length ds)) others))
-
-or_assoc : (a b c : Bool) → (a || (b || c)) ≡ ((a || b) || c)
-or_assoc true b c = refl
-or_assoc false b c = refl
-
-pub any-append : {X : Type 0} (p : X → Bool) (xs ys : List X) → list_any p (xs ++ ys) ≡ (list_any p xs || list_any p ys)
-any-append p [] ys = refl
-any-append p (x ∷ xs) ys = ap (λ b. p x || b) (any-append p xs ys) ∙ or_assoc (p x) (list_any p xs) (list_any p ys)
-
 pub left_out-append : (items others : List Item) → left_out_of (items ++ others) ≡ plus (left_out_of items) (left_out_of others)
 left_out-append [] others = sym (plus-none (left_out_of others))
 left_out-append (Ok (datagram d) ∷ items) others = left_out-append items others
 left_out-append (Ok (other kind) ∷ items) others = ap (counted kind) (left_out-append items others) ∙ counted-plus kind (left_out_of items) (left_out_of others)
 left_out-append (Err fault ∷ items) others = left_out-append items others
 
+-- ---- what is asked for
+
+-- the datagrams of items and of others
+pub asked-append : (asked : AskedValue) (items others : List Item) → asked_of asked (items ++ others) ≡ asked_of asked items ++ asked_of asked others
+asked-append asked items others = flat_map-append (λ item. option_to_list (asked_in asked item)) items others
+
 pub fault-append : (items others : List Item) → fault_among items ≡ None → fault_among (items ++ others) ≡ fault_among others
 fault-append [] others none = refl
 fault-append (Ok r ∷ items) others none = fault-append items others none
 fault-append (Err fault ∷ items) others none = absurd cc
 
-abbrev so_far : ℕ → Bool → LeftOut → Shown
-so_far n faulty l = record { datagrams = n; is_faulty = faulty; left_out = l }
+-- ---- what is shown
 
-no_fault : (b : Bool) → (b || false) ≡ b
-no_fault true = refl
-no_fault false = refl
+-- the text of datagrams and of others after them
+pub recorded-append : (asked : AskedValue) (p : Progress) (ds others : List DatagramValue) → recorded_from asked p (ds ++ others) ≡ recorded_from asked p ds ++ recorded_from asked (after_all asked p ds) others
+recorded-append asked p [] others = refl
+recorded-append asked p (d ∷ ds) others =
+    ap (λ (t : List ℕ). recorded_text asked p d ++ t) (recorded-append asked (after_datagram asked p d) ds others)
+    ∙ sym (append_assoc (recorded_text asked p d) (recorded_from asked (after_datagram asked p d) ds) (recorded_from asked (after_all asked p (d ∷ ds)) others))
 
-pub after-none : (ports : Option (List ℕ)) (s : Shown) → shown_after ports s [] ≡ s
-after-none ports s = rw (no_more s.datagrams, no_fault s.is_faulty, plus-nothing s.left_out) refl
-
--- what was shown after items is what was shown of them all
-pub after-append : (ports : Option (List ℕ)) (s : Shown) (items others : List Item) → shown_after ports (shown_after ports s items) others ≡ shown_after ports s (items ++ others)
-after-append ports s items others =
-    let asked = asked-append ports items others in
-    let count : (s.datagrams + length (asked_of ports items)) + length (asked_of ports others) ≡ s.datagrams + length (asked_of ports (items ++ others)) =
-    omega (arith, ap length asked, length-append (asked_of ports items) (asked_of ports others)) in
-    let faulty = ap (λ b. s.is_faulty || b) (ap (list_any (λ (d : DatagramValue). has_fault d.payload)) asked ∙ any-append (λ (d : DatagramValue). has_fault d.payload) (asked_of ports items) (asked_of ports others))
-    ∙ or_assoc s.is_faulty (list_any (λ (d : DatagramValue). has_fault d.payload) (asked_of ports items)) (list_any (λ (d : DatagramValue). has_fault d.payload) (asked_of ports others)) in
-    let left_out = ap (plus s.left_out) (left_out-append items others) ∙ sym (plus-plus s.left_out (left_out_of items) (left_out_of others)) in
-    ap (λ n. so_far n ((s.is_faulty || list_any (λ (d : DatagramValue). has_fault d.payload) (asked_of ports items)) || list_any (λ (d : DatagramValue). has_fault d.payload) (asked_of ports others)) (plus (plus s.left_out (left_out_of items)) (left_out_of others))) count
-    ∙ ap (λ f. so_far (s.datagrams + length (asked_of ports (items ++ others))) f (plus (plus s.left_out (left_out_of items)) (left_out_of others))) (sym faulty)
-    ∙ ap (λ l. so_far (s.datagrams + length (asked_of ports (items ++ others))) (s.is_faulty || list_any (λ (d : DatagramValue). has_fault d.payload) (asked_of ports (items ++ others))) l) (sym left_out)
-
--- ---- heads
-
-pub line_len-least : (text : List ℕ) → 0 < length text → 1 ≤ line_len text
-line_len-least [] some = absurd (omega (arith, some))
-line_len-least (b ∷ bytes) some = go (b == 0x0a)
-  where
-    go : (t : Bool) → 1 ≤ cond t 1 (suc (line_len bytes))
-    go true = omega arith
-    go false = omega arith
-
-pub line_len-most : (text : List ℕ) → line_len text ≤ length text
-line_len-most [] = omega arith
-line_len-most (b ∷ bytes) = go (b == 0x0a) (line_len-most bytes)
-  where
-    go : (t : Bool) → line_len bytes ≤ length bytes → cond t 1 (suc (line_len bytes)) ≤ suc (length bytes)
-    go true h = omega arith
-    go false h = omega (arith, h)
-
--- a line that has begun, and the text behind it
-behind_line : (head text : List ℕ) → with_heads head false text ≡ take (line_len text) text ++ with_heads head true (drop (line_len text) text)
-behind_line head [] = refl
-behind_line head (b ∷ bytes) = go (b == 0x0a) (behind_line head bytes)
-  where
-    go : (t : Bool) → with_heads head false bytes ≡ take (line_len bytes) bytes ++ with_heads head true (drop (line_len bytes) bytes)
-        → b ∷ with_heads head t bytes ≡ take (cond t 1 (suc (line_len bytes))) (b ∷ bytes) ++ with_heads head true (drop (cond t 1 (suc (line_len bytes))) (b ∷ bytes))
-    go true h = refl
-    go false h = ap (λ (t : List ℕ). b ∷ t) h
-
--- a head, the first line, and the text behind it
-pub with_heads-line : (head text : List ℕ) → 0 < length text
-    → with_heads head true text ≡ (head ++ take (line_len text) text) ++ with_heads head true (drop (line_len text) text)
-with_heads-line head [] some = absurd (omega (arith, some))
-with_heads-line head (b ∷ bytes) some =
-    ap (λ (t : List ℕ). head ++ t) (behind_line head (b ∷ bytes)) ∙ sym (append_assoc head (take (line_len (b ∷ bytes)) (b ∷ bytes)) (with_heads head true (drop (line_len (b ∷ bytes)) (b ∷ bytes))))
-
--- the same of a line and what stands behind it
-pub headed : (head rest front back : List ℕ) (n : ℕ) → 0 < length rest → n ≡ line_len rest → front ≡ take n rest → back ≡ drop n rest
-    → with_heads head true rest ≡ (head ++ front) ++ with_heads head true back
-headed head rest front back n some is f b = rw (f, b, is) (with_heads-line head rest some)
-
-pub smaller : (rest back : List ℕ) (n : ℕ) → 0 < length rest → n ≡ line_len rest → back ≡ drop n rest → suc (length back) ≤ length rest
-smaller rest back n some is b =
-    let less = length-drop n rest in
-    let least = line_len-least rest some in
-    let same = ap length b in
-    omega (arith, less, least, same, is, some)
-
-
-
+pub after-append : (asked : AskedValue) (p : Progress) (ds others : List DatagramValue) → after_all asked p (ds ++ others) ≡ after_all asked (after_all asked p ds) others
+after-append asked p [] others = refl
+after-append asked p (d ∷ ds) others = after-append asked (after_datagram asked p d) ds others

@@ -1,25 +1,29 @@
 //! The command `recording`: the datagrams of a recording of network traffic, message by message, as it is
 //! read.
-ghost use Rattle.std.specs.Prelude.{◌≡◌, ◌<◌, ◌+◌, ◌^◌, ◌||◌, [], ◌∷◌, Ok, true, OnOk, OnErr, IfOk, IfErr, length, option_map};
+ghost use Rattle.std.specs.Prelude.{◌≡◌, ◌<◌, ◌+◌, ◌^◌, [], ◌∷◌, Ok, OnOk, OnErr, IfOk, option_map};
 ghost use Rattle.std.specs.List.{list_any};
 ghost use Rattle.recording.specs.View.{view_datagram, view_record};
+ghost use Rattle.someip_reassembly.specs.Parts.{NoneAfter};
 ghost use Rattle.someipctl_print.specs.Sending.{Sends, Stops};
 ghost use Rattle.someipctl_recordings.specs.declared.recordings.RecordingFault.TheVariants as faults;
-ghost use Rattle.someipctl_recordings.specs.declared.recordings.PrintFault.TheVariants as prints;
+ghost use Rattle.someipctl_recordings.specs.Gathered.{IsInTime, view_store};
 ghost use Rattle.someipctl_recordings.specs.LeftOut.{left_out_of, plus, total};
-ghost use Rattle.someipctl_commands.specs.ShownText.{datagram_text, has_fault};
-ghost use Rattle.someipctl_recordings.specs.RecordedText.{asked_in, asked_of, is_asked, recorded_from};
-ghost use Rattle.someipctl_recordings.specs.RecordedText.{recorded_text, with_heads, head_text};
+ghost use Rattle.someipctl_recordings.specs.RecordedText.{AskedValue, after_all, after_datagram, asked_in, asked_of, empty_store};
+ghost use Rattle.someipctl_recordings.specs.RecordedText.{is_asked, is_at_port, recorded_from, recorded_text};
 ghost use Rattle.someipctl_recordings.specs.RecordingResult.{BeginsRecording, PutsRecording};
 ghost use Rattle.someipctl_recordings.specs.RecordingResult.{ShowsRecording, fault_of_print, nothing_shown};
-ghost use Rattle.someipctl_recordings.specs.RecordingResult.{shown_after, shown_recording, view_ports};
+ghost use Rattle.someipctl_recordings.specs.RecordingResult.{progress_of, shown_recording, view_asked, view_limits, view_ports};
 
+use crate::asked::{Asked, WholeLimits};
 use crate::coming::{Coming, next_coming};
-use crate::heads::put_with_heads;
+use crate::datagrams::{Numbered, Telling, put_recorded};
 use crate::left_out::LeftOut;
-use crate::readings::read_datagram;
-use crate::show::put_datagram;
+use crate::moments::moment_of;
 use recording::{Datagram, Record, RecordingError, RecordingReader};
+use someip_reassembly::Reassembly;
+use someipctl_commands::PrintFault;
+use someipctl_commands::services::is_asked_by;
+use someipctl_commands::value_lines::ValueLines;
 use someipctl_inputs::{Outcome, ReadFault};
 use someipctl_print::{Buffer, CannotWrite};
 use std::alloc::{AllocError, Global};
@@ -46,7 +50,7 @@ pub enum RecordingFault {
 pub struct ShownRecording {
     /// Whether a fault of a message was shown.
     pub outcome: Outcome,
-    /// The packets that give no datagram, whatever ports were asked for.
+    /// The packets that give no datagram, whatever was asked for.
     pub left_out: LeftOut,
     /// The fault that ends the recording, if one does. What comes before it was shown.
     pub fault: Option<RecordingError>,
@@ -57,63 +61,85 @@ pub struct ShownRecording {
 struct Shown {
     /// How many datagrams that were asked for.
     datagrams: usize,
+    /// The moment of the last, in milliseconds.
+    now: u64,
     /// Whether a fault of a message was among them.
     is_faulty: bool,
     /// The packets that give none.
     left_out: LeftOut,
 }
 
-/// Why a text was not printed whole.
-#[derive(Clone, Copy)]
-enum PrintFault {
-    CannotWrite,
-    OutOfMemory,
-}
-
-/// Writes what a recording shows, as it is read: of each datagram from or to one of the ports, or of all,
-/// the lines of `show`, with its time and endpoints before each where these are asked for. What waits to
-/// be written is written before each read.
+/// Writes what a recording shows, as it is read: of each datagram that is asked for the lines of `show`,
+/// with its time and endpoints before each where these are asked for, and behind the lines of a segment
+/// that makes its message whole that message, where messages are put together; the body `S` does that.
+/// What waits to be written is written before each read.
 ///
-/// One packet or block of the recording is held at a time, and what its datagram says of Service
-/// Discovery.
-pub fn show_recording<R: Read, W: Write>(
+/// One packet or block of the recording is held at a time, what its datagram says of Service Discovery,
+/// and what the body holds of messages that have come in part.
+pub fn show_recording<S: Reassembly + Drop, R: Read, W: Write>(
     alloc: Global,
     source: &mut R,
-    ports: Option<&[u16]>,
-    endpoints: bool,
+    asked: &Asked<'_>,
     writer: &mut W,
 ) -> Result<ShownRecording, RecordingFault>
     // The text of what comes before the recording's fault was written, or of all of it, and what is told
     // of the recording is so.
-    ensures shown { IfOk result (λ shown. ShowsRecording (R.remaining source.old)
-        (view_ports ports.entry) endpoints shown (W.contents writer.old) (W.contents writer.new)) }
+    ensures shown { IfOk result (λ shown. ShowsRecording (R.remaining source.old) (view_asked asked.now)
+        shown (W.contents writer.old) (W.contents writer.new)) }
     // Else a beginning of that text was.
-    ensures begun { OnErr result (BeginsRecording (R.remaining source.old)
-        (view_ports ports.entry) endpoints (W.contents writer.old) (W.contents writer.new)) }
+    ensures begun { OnErr result (BeginsRecording (R.remaining source.old) (view_asked asked.now)
+        (W.contents writer.old) (W.contents writer.new)) }
 {
     let mut buffer = Buffer::new(alloc)?;
-    let shown = put_recording(alloc, source, ports, endpoints, &mut buffer, writer)?;
+    let mut telling = Telling {
+        alloc,
+        values: ValueLines::new(alloc, asked.types),
+        store: store_for::<S>(alloc, asked.whole)?,
+        bytes: Vec::new(alloc),
+    };
+    let shown = put_recording(source, asked, &mut telling, &mut buffer, writer)?;
     buffer.flush(writer)?;
     Ok(shown)
 }
 
-/// Prints what a recording shows.
-fn put_recording<R: Read, W: Write>(
+/// A store of messages that come in part, where there are limits.
+fn store_for<S: Reassembly + Drop>(
     alloc: Global,
+    limits: Option<WholeLimits>,
+) -> Result<Option<S>, AllocError>
+    ensures store { IfOk result (λ store. view_store S.limits S.parts store
+        ≡ option_map empty_store (option_map view_limits limits)) }
+    ensures in_time { IfOk result (IsInTime S.parts 0) }
+{
+    let Some(limits) = limits else {
+        return Ok(None);
+    };
+    match S::make(alloc, limits.slots, limits.limit, limits.timeout_ms) {
+        Ok(store) => Ok(Some(store)),
+        Err(_) => Err(AllocError),
+    }
+}
+
+/// Prints what a recording shows.
+fn put_recording<S: Reassembly + Drop, R: Read, W: Write>(
     source: &mut R,
-    ports: Option<&[u16]>,
-    endpoints: bool,
+    asked: &Asked<'_>,
+    telling: &mut Telling<'_, S>,
     buffer: &mut Buffer,
     writer: &mut W,
 ) -> Result<ShownRecording, RecordingFault>
     requires empty { buffer.old ≡ [] }
-    ensures puts { IfOk result (λ shown. PutsRecording (R.remaining source.old)
-        (view_ports ports.entry) endpoints shown (W.contents writer.old) (W.contents writer.new) buffer.new) }
-    ensures begun { OnErr result (BeginsRecording (R.remaining source.old)
-        (view_ports ports.entry) endpoints (W.contents writer.old) (W.contents writer.new)) }
+    requires types { telling.old.values.types.now ≡ asked.now.types.now }
+    requires store { view_store S.limits S.parts telling.old.store
+        ≡ option_map empty_store (option_map view_limits asked.now.whole) }
+    requires in_time { IsInTime S.parts 0 telling.old.store }
+    ensures puts { IfOk result (λ shown. PutsRecording (R.remaining source.old) (view_asked asked.now)
+        shown (W.contents writer.old) (W.contents writer.new) buffer.new) }
+    ensures begun { OnErr result (BeginsRecording (R.remaining source.old) (view_asked asked.now)
+        (W.contents writer.old) (W.contents writer.new)) }
 {
-    let mut recording = RecordingReader::new(alloc);
-    let mut lines = Buffer::new(alloc)?;
+    let mut recording = RecordingReader::new(telling.alloc);
+    let mut lines = Buffer::new(telling.alloc)?;
     let mut shown = Shown::nothing();
     for _ in 0..u64::MAX {
         let coming = next_coming(&mut recording, source, buffer, writer)?;
@@ -124,7 +150,7 @@ fn put_recording<R: Read, W: Write>(
         }
         if let Some(found) = recording.record() {
             put_record(
-                alloc, buffer, writer, &found, ports, endpoints, &mut shown, &mut lines,
+                buffer, writer, &found, asked, &mut shown, &mut lines, telling,
             )?;
         }
     }
@@ -138,6 +164,7 @@ impl Shown {
     {
         Shown {
             datagrams: 0,
+            now: 0,
             is_faulty: false,
             left_out: LeftOut::new(),
         }
@@ -156,50 +183,97 @@ impl Shown {
 }
 
 /// Prints what a record shows, and counts it.
-fn put_record<W: Write>(
-    alloc: Global,
+fn put_record<S: Reassembly + Drop, W: Write>(
     buffer: &mut Buffer,
     writer: &mut W,
     found: &Record<'_>,
-    ports: Option<&[u16]>,
-    endpoints: bool,
+    asked: &Asked<'_>,
     shown: &mut Shown,
     lines: &mut Buffer,
+    telling: &mut Telling<'_, S>,
 ) -> Result<(), PrintFault>
     requires empty { lines.old ≡ [] }
     requires few { shown.old.datagrams + total shown.old.left_out + 1 < 2 ^ 64 }
+    requires types { telling.old.values.types.now ≡ asked.now.types.now }
+    requires in_time { IsInTime S.parts shown.old.now telling.old.store }
     ensures empty { OnOk result (lines.new ≡ []) }
     ensures ok { OnOk result (Sends (W.contents writer.old) buffer.old (W.contents writer.new)
-        buffer.new (recorded_from endpoints (shown.old.datagrams + 1)
-        (asked_of (view_ports ports.entry) (Ok (view_record found.now) ∷ [])))) }
-    ensures shown { OnOk result (shown.new
-        ≡ shown_after (view_ports ports.entry) shown.old (Ok (view_record found.now) ∷ [])) }
+        buffer.new (recorded_from (view_asked asked.now)
+        (progress_of shown.old (view_store S.limits S.parts telling.old.store))
+        (asked_of (view_asked asked.now) (Ok (view_record found.now) ∷ [])))) }
+    ensures progress { OnOk result (progress_of shown.new (view_store S.limits S.parts telling.new.store)
+        ≡ after_all (view_asked asked.now)
+        (progress_of shown.old (view_store S.limits S.parts telling.old.store))
+        (asked_of (view_asked asked.now) (Ok (view_record found.now) ∷ []))) }
+    ensures left_out { OnOk result (shown.new.left_out
+        ≡ plus shown.old.left_out (left_out_of (Ok (view_record found.now) ∷ []))) }
+    ensures in_time { OnOk result (IsInTime S.parts shown.new.now telling.new.store) }
     ensures err { OnErr result (Stops (W.contents writer.old) buffer.old (W.contents writer.new)
-        (recorded_from endpoints (shown.old.datagrams + 1)
-        (asked_of (view_ports ports.entry) (Ok (view_record found.now) ∷ [])))) }
+        (recorded_from (view_asked asked.now)
+        (progress_of shown.old (view_store S.limits S.parts telling.old.store))
+        (asked_of (view_asked asked.now) (Ok (view_record found.now) ∷ [])))) }
+    ensures types { telling.new.values.types.now ≡ telling.old.values.types.now }
 {
     if let Record::Other(kind) = found {
         shown.left_out.add(*kind);
         return Ok(());
     }
-    let Some(datagram) = asked_in(ports, found) else {
+    let Some(datagram) = asked_in(asked, found) else {
         return Ok(());
     };
-    let k = shown.datagrams + 1;
-    let is_faulty = put_recorded(alloc, buffer, writer, k, &datagram, endpoints, lines)?;
-    shown.datagrams = k;
+    put_next(buffer, writer, datagram, asked.endpoints, shown, lines, telling)
+}
+
+/// Prints the text of the next datagram that is asked for, and counts it.
+fn put_next<S: Reassembly + Drop, W: Write>(
+    buffer: &mut Buffer,
+    writer: &mut W,
+    datagram: Datagram<'_>,
+    endpoints: bool,
+    shown: &mut Shown,
+    lines: &mut Buffer,
+    telling: &mut Telling<'_, S>,
+) -> Result<(), PrintFault>
+    requires empty { lines.old ≡ [] }
+    requires few { shown.old.datagrams + 1 < 2 ^ 64 }
+    requires in_time { IsInTime S.parts shown.old.now telling.old.store }
+    ensures empty { OnOk result (lines.new ≡ []) }
+    ensures ok { (asked : AskedValue) → asked.types ≡ telling.old.values.types.now → asked.endpoints ≡ endpoints
+        → OnOk result (Sends (W.contents writer.old) buffer.old (W.contents writer.new) buffer.new
+        (recorded_text asked (progress_of shown.old (view_store S.limits S.parts telling.old.store))
+        (view_datagram datagram.entry))) }
+    ensures progress { (asked : AskedValue) → asked.types ≡ telling.old.values.types.now
+        → OnOk result (progress_of shown.new (view_store S.limits S.parts telling.new.store)
+        ≡ after_datagram asked (progress_of shown.old (view_store S.limits S.parts telling.old.store))
+        (view_datagram datagram.entry)) }
+    ensures left_out { shown.new.left_out ≡ shown.old.left_out }
+    ensures in_time { OnOk result (IsInTime S.parts shown.new.now telling.new.store) }
+    ensures err { (asked : AskedValue) → asked.types ≡ telling.old.values.types.now → asked.endpoints ≡ endpoints
+        → OnErr result (Stops (W.contents writer.old) buffer.old (W.contents writer.new)
+        (recorded_text asked (progress_of shown.old (view_store S.limits S.parts telling.old.store))
+        (view_datagram datagram.entry))) }
+    ensures types { telling.new.values.types.now ≡ telling.old.values.types.now }
+{
+    let next = Numbered {
+        k: shown.datagrams + 1,
+        now: moment_of(shown.now, datagram.time),
+        datagram,
+    };
+    let is_faulty = put_recorded(buffer, writer, &next, endpoints, lines, telling)?;
+    shown.datagrams = next.k;
+    shown.now = next.now;
     shown.is_faulty |= is_faulty;
     Ok(())
 }
 
-/// The datagram of a record, where there is one that came from or went to one of the ports.
-fn asked_in<'a>(ports: Option<&[u16]>, found: &Record<'a>) -> Option<Datagram<'a>>
+/// The datagram of a record, where there is one that is asked for.
+fn asked_in<'a>(asked: &Asked<'_>, found: &Record<'a>) -> Option<Datagram<'a>>
     ensures { option_map view_datagram result
-        ≡ asked_in (view_ports ports.entry) (Ok (view_record found.now)) }
+        ≡ asked_in (view_asked asked.now) (Ok (view_record found.now)) }
 {
     match found {
         Record::Datagram(datagram) => {
-            if is_asked(ports, datagram) {
+            if is_asked(asked, datagram) {
                 Some(*datagram)
             } else {
                 None
@@ -209,115 +283,18 @@ fn asked_in<'a>(ports: Option<&[u16]>, found: &Record<'a>) -> Option<Datagram<'a
     }
 }
 
-fn is_asked(ports: Option<&[u16]>, datagram: &Datagram<'_>) -> bool
-    ensures { result ≡ is_asked (view_ports ports.entry) (view_datagram datagram.now) }
+fn is_asked(asked: &Asked<'_>, datagram: &Datagram<'_>) -> bool
+    ensures { result ≡ is_asked (view_asked asked.now) (view_datagram datagram.now) }
+{
+    is_at_port(asked.ports, datagram) && is_asked_by(asked.services, datagram.payload)
+}
+
+fn is_at_port(ports: Option<&[u16]>, datagram: &Datagram<'_>) -> bool
+    ensures { result ≡ is_at_port (view_ports ports.entry) (view_datagram datagram.now) }
 {
     match ports {
         Some(ports) => ports.contains(&datagram.from.port) || ports.contains(&datagram.to.port),
         None => true,
-    }
-}
-
-/// Prints the text of the k-th datagram that is asked for, and says whether a fault is in it. `lines` is
-/// a buffer for lines that get a time and endpoints.
-fn put_recorded<W: Write>(
-    alloc: Global,
-    buffer: &mut Buffer,
-    writer: &mut W,
-    k: usize,
-    datagram: &Datagram<'_>,
-    endpoints: bool,
-    lines: &mut Buffer,
-) -> Result<bool, PrintFault>
-    requires { lines.old ≡ [] }
-    ensures empty { OnOk result (lines.new ≡ []) }
-    ensures ok { OnOk result (Sends (W.contents writer.old) buffer.old (W.contents writer.new)
-        buffer.new (recorded_text endpoints k (view_datagram datagram.now))) }
-    ensures faulty { IfOk result (λ faulty. faulty ≡ has_fault datagram.now.payload.now) }
-    ensures err { OnErr result (Stops (W.contents writer.old) buffer.old (W.contents writer.new)
-        (recorded_text endpoints k (view_datagram datagram.now))) }
-{
-    if endpoints {
-        put_headed(alloc, buffer, writer, k, datagram, lines)
-    } else {
-        put_payload(alloc, buffer, writer, k, datagram.payload)
-    }
-}
-
-/// Prints the text of the k-th datagram with its time and endpoints before each line.
-fn put_headed<W: Write>(
-    alloc: Global,
-    buffer: &mut Buffer,
-    writer: &mut W,
-    k: usize,
-    datagram: &Datagram<'_>,
-    lines: &mut Buffer,
-) -> Result<bool, PrintFault>
-    requires { lines.old ≡ [] }
-    ensures empty { OnOk result (lines.new ≡ []) }
-    ensures ok { OnOk result (Sends (W.contents writer.old) buffer.old (W.contents writer.new)
-        buffer.new (recorded_text true k (view_datagram datagram.now))) }
-    ensures faulty { IfOk result (λ faulty. faulty ≡ has_fault datagram.now.payload.now) }
-    ensures err { OnErr result (Stops (W.contents writer.old) buffer.old (W.contents writer.new)
-        (recorded_text true k (view_datagram datagram.now))) }
-{
-    let (text, faulty) = text_of(alloc, lines, k, datagram.payload)?;
-    put_with_heads(buffer, writer, datagram, &text)?;
-    Ok(faulty)
-}
-
-/// The text of the k-th datagram, and whether a fault is in it, through an empty buffer.
-fn text_of(
-    alloc: Global,
-    buffer: &mut Buffer,
-    k: usize,
-    payload: &[u8],
-) -> Result<(Vec<u8>, bool), AllocError>
-    requires { buffer.old ≡ [] }
-    ensures empty { OnOk result (buffer.new ≡ []) }
-    ensures text { IfOk result (λ r. r.0.items ≡ datagram_text k payload.now) }
-    ensures faulty { IfOk result (λ r. r.1 ≡ has_fault payload.now) }
-{
-    let mut text = Vec::new(alloc);
-    let faulty = put_payload(alloc, buffer, &mut text, k, payload).map_err(|_| AllocError)?;
-    buffer.flush(&mut text).map_err(|_| AllocError)?;
-    Ok((text, faulty))
-}
-
-/// Prints the text of the k-th datagram, which has this payload, and says whether a fault is in it.
-fn put_payload<W: Write>(
-    alloc: Global,
-    buffer: &mut Buffer,
-    writer: &mut W,
-    k: usize,
-    payload: &[u8],
-) -> Result<bool, PrintFault>
-    ensures ok { OnOk result (Sends (W.contents writer.old) buffer.old (W.contents writer.new)
-        buffer.new (datagram_text k payload.now)) }
-    ensures faulty { IfOk result (λ faulty. faulty ≡ has_fault payload.now) }
-    ensures err { OnErr result (Stops (W.contents writer.old) buffer.old (W.contents writer.new)
-        (datagram_text k payload.now)) }
-{
-    let mut readings = Vec::new(alloc);
-    read_datagram(alloc, payload, &mut readings)?;
-    let mut left = readings.as_slice();
-    let faulty = put_datagram(buffer, writer, k, payload, &mut left)?;
-    Ok(faulty)
-}
-
-impl From<CannotWrite> for PrintFault {
-    ghost from_gives = { λ _ e. e ≡ prints.CannotWrite };
-
-    fn from(_error: CannotWrite) -> PrintFault {
-        PrintFault::CannotWrite
-    }
-}
-
-impl From<AllocError> for PrintFault {
-    ghost from_gives = { λ _ e. e ≡ prints.OutOfMemory };
-
-    fn from(_error: AllocError) -> PrintFault {
-        PrintFault::OutOfMemory
     }
 }
 

@@ -1,0 +1,9 @@
+pub mod LeftOut
+pub mod Ports
+pub mod Heads
+pub mod Moments
+pub mod Gathered
+pub mod RecordedText
+pub mod Scenes
+pub mod RecordingResult
+pub mod Coming
