@@ -1,6 +1,6 @@
 -- The ports that a text names.
 use Rattle.std.specs.Prelude.{ℕ, ◌^◌, ◌==◌, ◌&&◌, Bool, false, not, nat_lt, nat_le, if◌then◌else◌, List, [], ◌∷◌, Option, Some, None}
-use Rattle.std.specs.List.{list_all, slice_split}
+use Rattle.std.specs.List.{list_all}
 use Rattle.std.specs.Str.Parse.{digits_value}
 
 -- a digit from 0 to 9
@@ -19,7 +19,3 @@ is_plain word = begins_plain word && list_all is_digit word
 -- the port that a word writes: digits without leading zeros, from 1 to 65535
 abbrev pub port_in : List ℕ → Option ℕ
 port_in word = if is_plain word && nat_lt (digits_value 10 word) (2 ^ 16) then Some (digits_value 10 word) else None
-
--- the words of a text, with commas (2c) between them
-abbrev pub port_words : List ℕ → List (List ℕ)
-port_words text = slice_split (λ b. b == 0x2c) text

@@ -1,13 +1,13 @@
 //! The lines of a datagram of a recording.
-ghost use Rattle.std.specs.Prelude.{◌≡◌, ◌+◌, ◌≤◌, ◌<◌, ◌^◌, [], length, IfOk, OnErr, OnOk};
+ghost use Rattle.std.specs.Prelude.{◌≡◌, ◌+◌, ◌≤◌, [], Some, Ok, length, IfOk, OnErr, OnOk};
 ghost use Rattle.recording.specs.View.{view_datagram};
 ghost use Rattle.someip_wire.specs.Reading.{items_of};
-ghost use Rattle.someip_wire.specs.View.{view_item};
+ghost use Rattle.someip_wire.specs.View.{view, view_item};
 ghost use Rattle.someipctl_print.specs.Sending.{Sends, Stops};
 ghost use Rattle.someipctl_print.specs.Items.{item_len};
-ghost use Rattle.someipctl_recordings.specs.Gathered.{IsInTime, store_after, store_after_all, view_store, view_told};
+ghost use Rattle.someipctl_recordings.specs.Gathered.{IsInTime, store_after, view_store, view_told};
 ghost use Rattle.someipctl_recordings.specs.RecordedText.{gathered_lines, gathers_fault, has_fault_with, headed_text};
-ghost use Rattle.someipctl_recordings.specs.RecordedText.{lines_with, recorded_lines, records_fault, scene_text};
+ghost use Rattle.someipctl_recordings.specs.RecordedText.{lines_with, recorded_lines, records_fault, scene_text, store_after_all};
 ghost use Rattle.someipctl_recordings.specs.Scenes.{scene_by};
 
 use crate::gathering::{Told, tell_item};
@@ -58,18 +58,18 @@ pub(crate) fn put_recorded<S: Reassembly + Drop, W: Write>(
     requires in_time { IsInTime S.parts shown.now.now telling.old.store }
     ensures empty { OnOk result (lines.new ≡ []) }
     ensures ok { OnOk result (Sends (W.contents writer.old) buffer.old (W.contents writer.new) buffer.new
-        (headed_text endpoints (view_datagram shown.now.datagram) (scene_text
-        (scene_by telling.old.values.types.now shown.now) (view_store S.limits S.parts telling.old.store)))) }
+        (headed_text endpoints (view_datagram shown.entry.now.datagram) (scene_text
+        (scene_by telling.old.values.types.now shown.entry.now) (view_store S.limits S.parts telling.old.store)))) }
     ensures faulty { IfOk result (λ faulty. faulty ≡ has_fault_with
-        (scene_by telling.old.values.types.now shown.now) (view_store S.limits S.parts telling.old.store)
-        (items_of shown.now.datagram.payload.now)) }
+        (scene_by telling.old.values.types.now shown.entry.now) (view_store S.limits S.parts telling.old.store)
+        (items_of shown.entry.now.datagram.payload.now)) }
     ensures store { OnOk result (view_store S.limits S.parts telling.new.store ≡ store_after_all
-        (view_store S.limits S.parts telling.old.store) shown.now.now (view_datagram shown.now.datagram)
-        (items_of shown.now.datagram.payload.now)) }
-    ensures in_time { IsInTime S.parts shown.now.now telling.new.store }
+        (view_store S.limits S.parts telling.old.store) shown.entry.now.now (view_datagram shown.entry.now.datagram)
+        (items_of shown.entry.now.datagram.payload.now)) }
+    ensures in_time { IsInTime S.parts shown.entry.now.now telling.new.store }
     ensures err { OnErr result (Stops (W.contents writer.old) buffer.old (W.contents writer.new)
-        (headed_text endpoints (view_datagram shown.now.datagram) (scene_text
-        (scene_by telling.old.values.types.now shown.now) (view_store S.limits S.parts telling.old.store)))) }
+        (headed_text endpoints (view_datagram shown.entry.now.datagram) (scene_text
+        (scene_by telling.old.values.types.now shown.entry.now) (view_store S.limits S.parts telling.old.store)))) }
     ensures types { telling.new.values.types.now ≡ telling.old.values.types.now }
 {
     if !endpoints {
@@ -93,14 +93,14 @@ fn print_to<S: Reassembly + Drop>(
     requires in_time { IsInTime S.parts shown.now.now telling.old.store }
     ensures empty { OnOk result (buffer.new ≡ []) }
     ensures text { OnOk result (text.new.items ≡ scene_text
-        (scene_by telling.old.values.types.now shown.now) (view_store S.limits S.parts telling.old.store)) }
+        (scene_by telling.old.values.types.now shown.entry.now) (view_store S.limits S.parts telling.old.store)) }
     ensures faulty { IfOk result (λ faulty. faulty ≡ has_fault_with
-        (scene_by telling.old.values.types.now shown.now) (view_store S.limits S.parts telling.old.store)
-        (items_of shown.now.datagram.payload.now)) }
+        (scene_by telling.old.values.types.now shown.entry.now) (view_store S.limits S.parts telling.old.store)
+        (items_of shown.entry.now.datagram.payload.now)) }
     ensures store { OnOk result (view_store S.limits S.parts telling.new.store ≡ store_after_all
-        (view_store S.limits S.parts telling.old.store) shown.now.now (view_datagram shown.now.datagram)
-        (items_of shown.now.datagram.payload.now)) }
-    ensures in_time { IsInTime S.parts shown.now.now telling.new.store }
+        (view_store S.limits S.parts telling.old.store) shown.entry.now.now (view_datagram shown.entry.now.datagram)
+        (items_of shown.entry.now.datagram.payload.now)) }
+    ensures in_time { IsInTime S.parts shown.entry.now.now telling.new.store }
     ensures types { telling.new.values.types.now ≡ telling.old.values.types.now }
 {
     let faulty = put_datagram(buffer, text, shown, telling).map_err(|_| AllocError)?;
@@ -117,17 +117,17 @@ fn put_datagram<S: Reassembly + Drop, W: Write>(
 ) -> Result<bool, PrintFault>
     requires in_time { IsInTime S.parts shown.now.now telling.old.store }
     ensures ok { OnOk result (Sends (W.contents writer.old) buffer.old (W.contents writer.new) buffer.new
-        (scene_text (scene_by telling.old.values.types.now shown.now)
+        (scene_text (scene_by telling.old.values.types.now shown.entry.now)
         (view_store S.limits S.parts telling.old.store))) }
     ensures faulty { IfOk result (λ faulty. faulty ≡ has_fault_with
-        (scene_by telling.old.values.types.now shown.now) (view_store S.limits S.parts telling.old.store)
-        (items_of shown.now.datagram.payload.now)) }
+        (scene_by telling.old.values.types.now shown.entry.now) (view_store S.limits S.parts telling.old.store)
+        (items_of shown.entry.now.datagram.payload.now)) }
     ensures store { OnOk result (view_store S.limits S.parts telling.new.store ≡ store_after_all
-        (view_store S.limits S.parts telling.old.store) shown.now.now (view_datagram shown.now.datagram)
-        (items_of shown.now.datagram.payload.now)) }
-    ensures in_time { IsInTime S.parts shown.now.now telling.new.store }
+        (view_store S.limits S.parts telling.old.store) shown.entry.now.now (view_datagram shown.entry.now.datagram)
+        (items_of shown.entry.now.datagram.payload.now)) }
+    ensures in_time { IsInTime S.parts shown.entry.now.now telling.new.store }
     ensures err { OnErr result (Stops (W.contents writer.old) buffer.old (W.contents writer.new)
-        (scene_text (scene_by telling.old.values.types.now shown.now)
+        (scene_text (scene_by telling.old.values.types.now shown.entry.now)
         (view_store S.limits S.parts telling.old.store))) }
     ensures types { telling.new.values.types.now ≡ telling.old.values.types.now }
 {
@@ -147,18 +147,18 @@ fn put_items<S: Reassembly + Drop, W: Write>(
 ) -> Result<bool, PrintFault>
     requires in_time { IsInTime S.parts shown.now.now telling.old.store }
     ensures ok { OnOk result (Sends (W.contents writer.old) buffer.old (W.contents writer.new) buffer.new
-        (lines_with (scene_by telling.old.values.types.now shown.now)
-        (view_store S.limits S.parts telling.old.store) 0 (items_of shown.now.datagram.payload.now))) }
+        (lines_with (scene_by telling.old.values.types.now shown.entry.now)
+        (view_store S.limits S.parts telling.old.store) 0 (items_of shown.entry.now.datagram.payload.now))) }
     ensures faulty { IfOk result (λ faulty. faulty ≡ has_fault_with
-        (scene_by telling.old.values.types.now shown.now) (view_store S.limits S.parts telling.old.store)
-        (items_of shown.now.datagram.payload.now)) }
+        (scene_by telling.old.values.types.now shown.entry.now) (view_store S.limits S.parts telling.old.store)
+        (items_of shown.entry.now.datagram.payload.now)) }
     ensures store { OnOk result (view_store S.limits S.parts telling.new.store ≡ store_after_all
-        (view_store S.limits S.parts telling.old.store) shown.now.now (view_datagram shown.now.datagram)
-        (items_of shown.now.datagram.payload.now)) }
-    ensures in_time { IsInTime S.parts shown.now.now telling.new.store }
+        (view_store S.limits S.parts telling.old.store) shown.entry.now.now (view_datagram shown.entry.now.datagram)
+        (items_of shown.entry.now.datagram.payload.now)) }
+    ensures in_time { IsInTime S.parts shown.entry.now.now telling.new.store }
     ensures err { OnErr result (Stops (W.contents writer.old) buffer.old (W.contents writer.new)
-        (lines_with (scene_by telling.old.values.types.now shown.now)
-        (view_store S.limits S.parts telling.old.store) 0 (items_of shown.now.datagram.payload.now))) }
+        (lines_with (scene_by telling.old.values.types.now shown.entry.now)
+        (view_store S.limits S.parts telling.old.store) 0 (items_of shown.entry.now.datagram.payload.now))) }
     ensures types { telling.new.values.types.now ≡ telling.old.values.types.now }
 {
     let mut faulty = false;
@@ -183,17 +183,17 @@ fn put_recorded_item<S: Reassembly + Drop, W: Write>(
     requires room { place + item_len (view_item item.now) ≤ usize.MAX }
     requires in_time { IsInTime S.parts shown.now.now telling.old.store }
     ensures ok { OnOk result (Sends (W.contents writer.old) buffer.old (W.contents writer.new) buffer.new
-        (recorded_lines (scene_by telling.old.values.types.now shown.now)
+        (recorded_lines (scene_by telling.old.values.types.now shown.entry.now)
         (view_store S.limits S.parts telling.old.store) place (view_item item.now))) }
     ensures faulty { IfOk result (λ faulty. faulty ≡ records_fault
-        (scene_by telling.old.values.types.now shown.now) (view_store S.limits S.parts telling.old.store)
+        (scene_by telling.old.values.types.now shown.entry.now) (view_store S.limits S.parts telling.old.store)
         (view_item item.now)) }
     ensures store { OnOk result (view_store S.limits S.parts telling.new.store ≡ store_after
-        (view_store S.limits S.parts telling.old.store) shown.now.now (view_datagram shown.now.datagram)
+        (view_store S.limits S.parts telling.old.store) shown.entry.now.now (view_datagram shown.entry.now.datagram)
         (view_item item.now)) }
-    ensures in_time { IsInTime S.parts shown.now.now telling.new.store }
+    ensures in_time { IsInTime S.parts shown.entry.now.now telling.new.store }
     ensures err { OnErr result (Stops (W.contents writer.old) buffer.old (W.contents writer.new)
-        (recorded_lines (scene_by telling.old.values.types.now shown.now)
+        (recorded_lines (scene_by telling.old.values.types.now shown.entry.now)
         (view_store S.limits S.parts telling.old.store) place (view_item item.now))) }
     ensures types { telling.new.values.types.now ≡ telling.old.values.types.now }
 {

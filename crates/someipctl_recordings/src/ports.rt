@@ -1,9 +1,11 @@
 //! The ports that a text names.
 ghost use Rattle.std.specs.Prelude.{◌≡◌, IfOk, Some, None, Err, map, is_none, true};
 ghost use Rattle.std.specs.List.{list_any, list_all};
-ghost use Rattle.someipctl_recordings.specs.Ports.{begins_plain, is_digit, is_plain, port_in, port_words};
+ghost use Rattle.someipctl_recordings.specs.Ports.{begins_plain, is_digit, is_plain, port_in};
+ghost use Rattle.someipctl_commands.specs.Words.{comma_words};
 ghost use Rattle.someipctl_recordings.specs.declared.ports.PortsError.TheVariants.{OutOfMemory};
 
+use someipctl_commands::comma_words;
 use std::alloc::{AllocError, AllocFailed, Global};
 use thiserror::Error;
 
@@ -37,10 +39,10 @@ impl<T: Drop> From<AllocFailed<T>> for PortsError {
 /// The ports that a text names: decimal numbers from 1 to 65535 without leading zeros, with commas
 /// between them and nothing else, as in `30490,30509`.
 pub fn ports_in(alloc: Global, text: &str) -> Result<Vec<u16>, PortsError>
-    ensures ok { IfOk result (λ ports. map (λ port. Some port) ports.items ≡ map port_in (port_words text.now)) }
-    ensures bad { (result ≡ Err PortsError.BadPorts) → list_any (λ word. is_none (port_in word)) (port_words text.now) ≡ true }
+    ensures ok { IfOk result (λ ports. map (λ port. Some port) ports.items ≡ map port_in (comma_words text.now)) }
+    ensures bad { (result ≡ Err PortsError.BadPorts) → list_any (λ word. is_none (port_in word)) (comma_words text.now) ≡ true }
 {
-    let words = words_of(alloc, text)?;
+    let words = comma_words(alloc, text)?;
     read_ports(alloc, words.as_slice())
 }
 
@@ -59,13 +61,6 @@ fn read_ports(alloc: Global, words: &[&str]) -> Result<Vec<u16>, PortsError>
         }
     }
     Ok(ports)
-}
-
-/// The words of a text with commas between them.
-fn words_of<'t>(alloc: Global, text: &'t str) -> Result<Vec<&'t str>, AllocError>
-    ensures { IfOk result (λ words. map (λ w. w.now) words.items ≡ port_words text.now) }
-{
-    text.split(',').collect(alloc)
 }
 
 /// The port that a word writes.
