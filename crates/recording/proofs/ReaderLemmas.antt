@@ -15,7 +15,7 @@ use Rattle.recording.specs.Steps.{IsLast}
 use Rattle.recording.specs.Packets.{RecordValue}
 use Rattle.recording.specs.View.{record_at, given_in, packet_behind, LiesIn}
 use Rattle.recording.specs.Records.{Item, items_after}
-use Rattle.recording.specs.Held.{held_limit, IsAfterRead, held_from, start_of, held_behind, items_by, left, ReaderValue, wanted, CanFollow, IsNext, TakesTold, EndsTold}
+use Rattle.recording.specs.Held.{held_limit, IsAfterRead, held_from, start_of, held_behind, items_by, left, ReaderValue, wanted, LacksBytes, CanFollow, IsNext, TakesTold, EndsTold}
 use Rattle.recording.proofs.RangeLemmas.{given-behind}
 use Rattle.recording.proofs.HeldLemmas.{held_from-nil}
 
@@ -41,7 +41,7 @@ module _ (format : Format) (before after : List Interface) (p : ℕ) (bytes : Li
         ∙ ap (λ (given : Option RecordValue). items_after (Ok given) (held_from told.format after (p + told.len) (drop (start + told.len) bytes ++ rest)))
         (given-behind bytes (drop start bytes) start (length bytes) (Some k) (sym (take_rest bytes start)) le (rw is at lies))
 
-    pub too_few : EndsTold false (drop start bytes) told → length (drop (start + told.len) bytes) < wanted told.format (drop (start + told.len) bytes)
+    pub too_few : EndsTold false (drop start bytes) told → LacksBytes (drop (start + told.len) bytes) (wanted told.format (drop (start + told.len) bytes))
     too_few ends = rw (drop-drop told.len start bytes) at ends
 
     pub nothing : (rest : List ℕ) → EndsTold true (drop start bytes) told → rest ≡ [] → held_from told.format after (p + told.len) (drop (start + told.len) bytes ++ rest) ≡ []

@@ -166,6 +166,11 @@ inside format r = record {
 abbrev pub wanted : Format → List ℕ → ℕ
 wanted format bytes = if tells_len format bytes then part_len format bytes else head_len format
 
+-- fewer bytes are held than are wanted, and as many as are wanted can be held
+abbrev pub LacksBytes : List ℕ → ℕ → Type 0
+LacksBytes held wanted = (length held < wanted) × (wanted ≤ held_limit)
+
+-- the same by how far a reader is: before the first byte it wants the header of classic pcap
 abbrev pub wanted_by : Stage → List ℕ → ℕ
 wanted_by Head bytes = 24
 wanted_by (Inside format) bytes = wanted format bytes
@@ -187,19 +192,20 @@ TakesTold format before after p held rest told =
     ≡ items_after (Ok (given_in held told.packet)) (held_from told.format after (p + told.len) (drop told.len (held ++ rest)))
 
 -- the bytes that are held after those that were taken do not tell what is next: they are the last, and none is left; or
--- there are too few
+-- there are too few, and not more are wanted than can be held
 abbrev pub EndsTold : Bool → List ℕ → Told → Type 0
 EndsTold true held told = told.len ≡ length held
-EndsTold false held told = length (drop told.len held) < wanted told.format (drop told.len held)
+EndsTold false held told = LacksBytes (drop told.len held) (wanted told.format (drop told.len held))
 
 -- what comes next of a reader, as this is answered: a record, which has some bytes, and the others are left; nothing
--- that is known yet, since too few bytes are held and others may follow; nothing
+-- that is known yet, since too few bytes are held and others may follow, of which no more are wanted than can be held;
+-- nothing
 abbrev pub IsNext : ReaderValue → ReaderValue → Next → Type 0
 IsNext before after Record =
     (r : RecordValue) × (after.current ≡ Some r) × (before.place < after.place)
     × ((rest : List ℕ) → CanFollow before.is_whole rest → left before rest ≡ Ok r ∷ left after rest)
 IsNext before after Unread =
-    (before.is_whole ≡ false) × (length after.held < wanted_by after.stage after.held)
+    (before.is_whole ≡ false) × LacksBytes after.held (wanted_by after.stage after.held)
     × ((rest : List ℕ) → left before rest ≡ left after rest)
 IsNext before after End = (rest : List ℕ) → CanFollow before.is_whole rest → (left before rest ≡ []) × (left after rest ≡ [])
 
