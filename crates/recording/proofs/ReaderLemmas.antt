@@ -68,10 +68,13 @@ pub moved : (before inner after : ReaderValue) (next : Next) → inner.is_whole 
     → ((rest : List ℕ) → CanFollow before.is_whole rest → left before rest ≡ left inner rest) → IsNext inner after next → IsNext before after next
 moved before inner after Record whole further same next = (next.0, next.1, omega (arith, further, next.2), λ rest follows. same rest follows ∙ next.3 rest (can-follow _ _ rest (sym whole) follows))
 moved before inner after Unread whole further same next =
-    (sym whole ∙ next.0, next.1, λ rest. same rest (can-follow false before.is_whole rest (sym (sym whole ∙ next.0)) tt) ∙ next.2 rest)
-moved before inner after End whole further same next = λ rest follows.
-    let n = next rest (can-follow _ _ rest (sym whole) follows) in
-    (same rest follows ∙ n.0, n.1)
+    (sym whole ∙ next.0, next.1, λ rest. same rest (can-follow false before.is_whole rest (sym (sym whole ∙ next.0)) tt) ∙ next.2 rest, next.3)
+moved before inner after End whole further same next = (
+  λ rest follows.
+      let n = next.0 rest (can-follow _ _ rest (sym whole) follows) in
+      (same rest follows ∙ n.0, n.1),
+  next.1,
+)
 
 pub last-moved : (e : RecordingError) (one other : List Item) → one ≡ other → IsLast e other → IsLast e one
 last-moved e one other is last = rw is last
@@ -91,7 +94,7 @@ consumes_none None = tt
 consumes_none (Some xs) = refl
 
 abbrev with_held : ReaderValue → List ℕ → Option RecordValue → ReaderValue
-with_held r held current = record { stage = r.stage; interfaces = r.interfaces; place = r.place; held = held; is_whole = r.is_whole; current = current }
+with_held r held current = record r { held = held; current = current }
 
 -- no read forgets the record, and changes nothing else
 pub unread : (r : ReaderValue) (known : Option (List ℕ)) → (r.is_whole ≡ false → held_limit ≤ length r.held) → IsAfterRead r (with_held r r.held None) known known
@@ -102,4 +105,7 @@ unread r known enough = record {
   whole = λ is. (is, refl);
   end = λ not is. absurd (let same : false ≡ true = sym not ∙ is in cc);
   more = λ not none. enough not;
+  most = omega arith;
+  full = λ limit. refl;
+  forgets = λ not room. let limit = enough not in absurd (omega (arith, limit, room));
 }

@@ -1,5 +1,5 @@
 -- What a reader gives of a recording that holds one packet or block of it at a time.
-use Rattle.std.specs.Prelude.{◌≡◌, ◌⊎◌, ⊤, ℕ, zero, suc, ◌+◌, ◌%◌, ◌<◌, ◌≤◌, Bool, true, false, nat_lt, ◌==◌, not, ◌&&◌, if◌then◌else◌, List, [], ◌∷◌, ◌++◌, length, drop, Option, Some, None, is_none, Result, Ok, Err}
+use Rattle.std.specs.Prelude.{◌≡◌, ◌⊎◌, ⊤, ℕ, zero, suc, ◌+◌, ◌*◌, ◌%◌, ◌<◌, ◌≤◌, Bool, true, false, nat_lt, ◌==◌, not, ◌&&◌, if◌then◌else◌, List, [], ◌∷◌, ◌++◌, length, drop, Option, Some, None, is_none, Result, Ok, Err}
 use Rattle.recording.specs.declared.error.RecordingError.{RecordingError}
 use Rattle.std.specs.Io.KnownBytes.{Consumes, IsAtEnd}
 use Rattle.recording.specs.declared.error.RecordingError.TheVariants.{NotRecording, Truncated, BadOrder, BlockLength, UnknownInterface, BlockTooLong, TooManyInterfaces, OutOfMemory}
@@ -126,13 +126,23 @@ IsRead (Err fault) given = given ≡ Err fault ∷ []
 
 -- ---- a reader
 
+-- how many bytes one call reads at most
+abbrev pub read_limit : ℕ
+read_limit = 65536
+
+-- how many bytes of a recording are in memory at most: those that are held, as many that were taken, and one read
+abbrev pub memory_limit : ℕ
+memory_limit = 2 * held_limit + read_limit
+
 -- what is seen of a reader: how far it is, the interfaces of its section, the place in the recording of the first byte
--- that is held and not taken yet, those bytes, whether they are the last, and the record that was taken last
+-- that is held and not taken yet, those bytes, how many that were taken stand before them in memory, whether those that
+-- are held are the last, and the record that was taken last
 pub record ReaderValue : Type 0 where
   pub stage : Stage
   pub interfaces : List Interface
   pub place : ℕ
   pub held : List ℕ
+  pub taken : ℕ
   pub is_whole : Bool
   pub current : Option RecordValue
 
@@ -158,6 +168,7 @@ inside format r = record {
   interfaces = r.interfaces;
   place = r.place;
   held = r.held;
+  taken = r.taken;
   is_whole = r.is_whole;
   current = r.current;
 }
@@ -199,22 +210,28 @@ EndsTold false held told = LacksBytes (drop told.len held) (wanted told.format (
 
 -- what comes next of a reader, as this is answered: a record, which has some bytes, and the others are left; nothing
 -- that is known yet, since too few bytes are held and others may follow, of which no more are wanted than can be held;
--- nothing
+-- nothing. Only with a record it has one then.
 abbrev pub IsNext : ReaderValue → ReaderValue → Next → Type 0
 IsNext before after Record =
     (r : RecordValue) × (after.current ≡ Some r) × (before.place < after.place)
     × ((rest : List ℕ) → CanFollow before.is_whole rest → left before rest ≡ Ok r ∷ left after rest)
 IsNext before after Unread =
     (before.is_whole ≡ false) × LacksBytes after.held (wanted_by after.stage after.held)
-    × ((rest : List ℕ) → left before rest ≡ left after rest)
-IsNext before after End = (rest : List ℕ) → CanFollow before.is_whole rest → (left before rest ≡ []) × (left after rest ≡ [])
+    × ((rest : List ℕ) → left before rest ≡ left after rest) × (after.current ≡ None)
+IsNext before after End =
+    ((rest : List ℕ) → CanFollow before.is_whole rest → (left before rest ≡ []) × (left after rest ≡ []))
+    × (after.current ≡ None)
 
 -- what a read changed: what had these bytes left has those left, and the bytes between are held. At least one was read,
--- unless there is none, or as much is held as a packet or block may have.
+-- unless there is none, or as much is held as a packet or block may have: then none is read. Where one may be, no more
+-- bytes that were taken stay in memory than are held.
 pub record IsAfterRead (before after : ReaderValue) (were are : Option (List ℕ)) : Type 0 where
   pub bytes : List ℕ
   pub consumed : Consumes were are bytes
-  pub is : after ≡ record { stage = before.stage; interfaces = before.interfaces; place = before.place; held = before.held ++ bytes; is_whole = after.is_whole; current = None }
+  pub is : after ≡ record { stage = before.stage; interfaces = before.interfaces; place = before.place; held = before.held ++ bytes; taken = after.taken; is_whole = after.is_whole; current = None }
   pub whole : before.is_whole ≡ true → (after.is_whole ≡ true) × (bytes ≡ [])
   pub end : before.is_whole ≡ false → after.is_whole ≡ true → (bytes ≡ []) × IsAtEnd are
   pub more : after.is_whole ≡ false → bytes ≡ [] → held_limit ≤ length before.held
+  pub most : length bytes ≤ read_limit
+  pub full : held_limit ≤ length before.held → bytes ≡ []
+  pub forgets : before.is_whole ≡ false → length before.held < held_limit → after.taken ≤ length before.held

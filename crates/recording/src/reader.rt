@@ -4,7 +4,7 @@ ghost use Rattle.std.specs.Prelude.{IfOk, IfErr, OnOk, OnErr, option_map};
 ghost use Rattle.std.specs.Io.{ReadsAtMost};
 ghost use Rattle.std.specs.Io.KnownBytes.{Keeps, Consumes, IsAtEnd};
 ghost use Rattle.recording.specs.declared.stage.Stage.TheVariants.{Head};
-ghost use Rattle.recording.specs.Held.{inside, left, CanFollow, IsNext, IsAfterRead};
+ghost use Rattle.recording.specs.Held.{inside, left, memory_limit, CanFollow, IsNext, IsAfterRead};
 ghost use Rattle.recording.specs.View.{view_record};
 ghost use Rattle.recording.specs.Steps.{IsLast};
 
@@ -66,7 +66,7 @@ pub struct RecordingReader {
 
 impl Model for RecordingReader {
     ghost use Rattle.std.specs.Prelude.{◌≤◌, ◌<◌, ◌+◌, ◌^◌, drop, length, option_map};
-    ghost use Rattle.recording.specs.Held.{ReaderValue};
+    ghost use Rattle.recording.specs.Held.{ReaderValue, memory_limit};
     ghost use Rattle.recording.specs.View.{record_at, LiesIn};
 
     ghost Value = { ReaderValue };
@@ -76,12 +76,14 @@ impl Model for RecordingReader {
       interfaces = s.interfaces.items;
       place = s.place;
       held = drop s.start s.bytes.items;
+      taken = s.start;
       is_whole = s.is_whole;
       current = option_map (record_at s.bytes.items) s.packet;
     } };
 
     ghost invariant = { λ s. (s.start ≤ length s.bytes.items)
-        × (s.place + length (drop s.start s.bytes.items) < 2 ^ 64) × LiesIn s.bytes.items s.packet };
+        × (s.place + length (drop s.start s.bytes.items) < 2 ^ 64) × LiesIn s.bytes.items s.packet
+        × (length s.bytes.items ≤ memory_limit) };
 }
 
 impl RecordingReader {
@@ -92,6 +94,7 @@ impl RecordingReader {
           interfaces = [];
           place = 0;
           held = [];
+          taken = 0;
           is_whole = false;
           current = None;
         } }
@@ -120,8 +123,13 @@ impl RecordingReader {
             → IsLast e (left self.old rest)) }
         // Then nothing is left.
         ensures ended { OnErr result ((rest : List ℕ) → left self.new rest ≡ []) }
+        // And it has no record.
+        ensures none { OnErr result (self.new.current ≡ None) }
         // Nothing is read.
         ensures whole { self.new.is_whole ≡ self.old.is_whole }
+        // Nothing is forgotten, and no memory is taken for more bytes.
+        ensures kept { self.new.taken + length self.new.held ≡ self.old.taken + length self.old.held }
+        ensures most { self.new.taken + length self.new.held ≤ memory_limit }
         // It only goes forward, and places are numbers of 64 bits.
         ensures forward { self.old.place ≤ self.new.place }
         ensures bounded { self.new.place < 2 ^ 64 }
@@ -140,11 +148,14 @@ impl RecordingReader {
 
     /// Goes on from the beginning of the recording.
     fn open(&mut self) -> Result<Next, RecordingError>
-        requires { self.old.stage ≡ Head }
+        requires head { self.old.stage ≡ Head }
+        requires none { self.old.current ≡ None }
         ensures next { IfOk result (IsNext self.old self.new) }
         ensures fault { IfErr result (λ e. (rest : List ℕ) → CanFollow self.old.is_whole rest
             → IsLast e (left self.old rest)) }
+        ensures none { OnErr result (self.new.current ≡ None) }
         ensures whole { self.new.is_whole ≡ self.old.is_whole }
+        ensures kept { self.new.taken + length self.new.held ≡ self.old.taken + length self.old.held }
         ensures forward { self.old.place ≤ self.new.place }
     {
         let held = &self.bytes[self.start..];
@@ -159,10 +170,13 @@ impl RecordingReader {
 
     /// Goes on where a packet or a block begins.
     fn take(&mut self, format: Format) -> Result<Next, RecordingError>
+        requires { self.old.current ≡ None }
         ensures next { IfOk result (IsNext (inside format self.old) self.new) }
         ensures fault { IfErr result (λ e. (rest : List ℕ) → CanFollow self.old.is_whole rest
             → IsLast e (left (inside format self.old) rest)) }
+        ensures none { OnErr result (self.new.current ≡ None) }
         ensures whole { self.new.is_whole ≡ self.old.is_whole }
+        ensures kept { self.new.taken + length self.new.held ≡ self.old.taken + length self.old.held }
         ensures forward { self.old.place ≤ self.new.place }
     {
         let held = &self.bytes[self.start..];
@@ -212,6 +226,12 @@ impl RecordingReader {
         ensures unread { OnErr result (Keeps (R.remaining reader.old) (R.remaining reader.new)) }
         ensures same { OnErr result ((rest : List ℕ) → left self.new rest ≡ left self.old rest) }
         ensures whole { OnErr result (self.new.is_whole ≡ self.old.is_whole) }
+        // The record is forgotten, and perhaps bytes that were taken, and nothing else changed.
+        ensures kept { OnErr result
+            (self.new ≡ record self.old { taken = self.new.taken; current = None }) }
+        // No memory is lost: it has never more bytes than these.
+        ensures fewer { self.new.taken ≤ self.old.taken }
+        ensures most { self.new.taken + length self.new.held ≤ memory_limit }
     {
         self.packet = None;
         let held = self.bytes.len() - self.start;
@@ -230,7 +250,9 @@ impl RecordingReader {
     /// Forgets what was taken, where that makes room for what is held.
     fn forget_taken(&mut self)
         requires { self.old.current ≡ None }
-        ensures { self.new ≡ self.old }
+        ensures same { self.new ≡ record self.old { taken = self.new.taken } }
+        ensures fewer { self.new.taken ≤ self.old.taken }
+        ensures room { self.new.taken ≤ length self.new.held }
     {
         let held = self.bytes.len() - self.start;
         if held <= self.start {
