@@ -15,7 +15,11 @@ use Rattle.recording.specs.Steps.{IsLast}
 use Rattle.recording.specs.Packets.{RecordValue}
 use Rattle.recording.specs.View.{record_at, given_in, packet_behind, LiesIn}
 use Rattle.recording.specs.Records.{Item, items_after}
-use Rattle.recording.specs.Held.{held_limit, IsAfterRead, held_from, start_of, held_behind, items_by, left, ReaderValue, wanted, LacksBytes, CanFollow, IsNext, TakesTold, EndsTold}
+use Rattle.recording.specs.Held.{held_limit, wanted, LacksBytes}
+use Rattle.recording.specs.Readers.{IsAfterRead, items_by, left, ReaderValue, CanFollow, IsNext}
+use Rattle.recording.specs.HeldItems.{held_from, held_behind}
+use Rattle.recording.specs.Records.{format_of}
+use Rattle.recording.specs.Told.{TakesTold, EndsTold}
 use Rattle.recording.proofs.RangeLemmas.{given-behind}
 use Rattle.recording.proofs.HeldLemmas.{held_from-nil}
 
@@ -81,7 +85,7 @@ last-moved e one other is last = rw is last
 
 -- behind the start of a file the same is left
 pub opened : (format : Format) (interfaces : List Interface) (p len : ℕ) (bytes : List ℕ) (start : ℕ) (rest : List ℕ) → len ≤ length (drop start bytes)
-    → start_of (drop start bytes ++ rest) ≡ Some (format, len)
+    → format_of (drop start bytes ++ rest) ≡ Some (format, len)
     → items_by Head interfaces p (drop start bytes ++ rest) ≡ held_from format interfaces (p + len) (drop (start + len) bytes ++ rest)
 opened format interfaces p len bytes start rest within is =
     ap (held_behind interfaces p (drop start bytes ++ rest)) is

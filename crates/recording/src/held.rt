@@ -1,8 +1,10 @@
 //! The packets and the blocks that held bytes tell, one after the other.
 ghost use Rattle.std.specs.Prelude.{◌≡◌, ◌≤◌, ◌<◌, ◌+◌, ◌^◌, ◌++◌, ℕ, List, false, length, IfOk, IfErr};
 ghost use Rattle.std.specs.Prelude.{IfSome, IfNone};
-ghost use Rattle.recording.specs.Held.{held_from, held_meaning, wanted, CanFollow, IsPart, TakesTold};
-ghost use Rattle.recording.specs.Held.{EndsTold, LacksBytes};
+ghost use Rattle.recording.specs.Held.{held_meaning, wanted, LacksBytes};
+ghost use Rattle.recording.specs.HeldItems.{held_from};
+ghost use Rattle.recording.specs.Readers.{CanFollow};
+ghost use Rattle.recording.specs.Told.{IsPart, TakesTold, EndsTold};
 ghost use Rattle.recording.specs.View.{LiesIn};
 ghost use Rattle.recording.specs.Steps.{Fails, IsLast};
 

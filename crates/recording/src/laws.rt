@@ -10,7 +10,7 @@ ghost use Rattle.recording.specs.Spelling.{IsBytes, IsRecording};
 ghost use Rattle.recording.specs.Records.{Item, items_of};
 ghost use Rattle.recording.specs.Examples.{sent_at, classic_head, classic_file, cut_file, blocks_file};
 ghost use Rattle.recording.specs.Examples.{little_packet, too_long_head, long_head};
-ghost use Rattle.recording.specs.Held.{held_of, IsRead};
+ghost use Rattle.recording.specs.HeldItems.{held_of, IsRead};
 
 /// Examples: classic pcap with no packet, with one, and with a part of another; two sections of pcapng
 /// in the two orders of bytes; blocks without a section.

@@ -4,7 +4,7 @@ ghost use Rattle.std.specs.Prelude.{IfOk, IfErr, OnOk, OnErr, option_map};
 ghost use Rattle.std.specs.Io.{ReadsAtMost};
 ghost use Rattle.std.specs.Io.KnownBytes.{Keeps, Consumes, IsAtEnd};
 ghost use Rattle.recording.specs.declared.stage.Stage.TheVariants.{Head};
-ghost use Rattle.recording.specs.Held.{inside, left, memory_limit, CanFollow, IsNext, IsAfterRead};
+ghost use Rattle.recording.specs.Readers.{inside, left, memory_limit, CanFollow, IsNext, IsAfterRead};
 ghost use Rattle.recording.specs.View.{view_record};
 ghost use Rattle.recording.specs.Steps.{IsLast};
 
@@ -66,7 +66,7 @@ pub struct RecordingReader {
 
 impl Model for RecordingReader {
     ghost use Rattle.std.specs.Prelude.{◌≤◌, ◌<◌, ◌+◌, ◌^◌, drop, length, option_map};
-    ghost use Rattle.recording.specs.Held.{ReaderValue, memory_limit};
+    ghost use Rattle.recording.specs.Readers.{ReaderValue, memory_limit};
     ghost use Rattle.recording.specs.View.{record_at, LiesIn};
 
     ghost Value = { ReaderValue };

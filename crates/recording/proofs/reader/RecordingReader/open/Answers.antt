@@ -1,6 +1,8 @@
 use Rattle.std.proofs.Common.{arith, ◌≡◌, ◌∙◌, ◌≤◌, ◌⊎◌, ◌+◌, ◌++◌, ℕ, true, List, refl, length, drop, Some, inl, inr}
 use Rattle.std.proofs.lemmas.List.{take_rest}
-use Rattle.recording.specs.Held.{start_of, held_from, items_by, CanFollow}
+use Rattle.recording.specs.Records.{format_of}
+use Rattle.recording.specs.HeldItems.{held_from}
+use Rattle.recording.specs.Readers.{items_by, CanFollow}
 use Rattle.recording.specs.declared.stage.Stage.TheVariants.{Head, Inside}
 use Rattle.std.specs.Prelude.{option_map}
 use Rattle.recording.specs.View.{record_at}
@@ -19,7 +21,7 @@ returns-clause-next c =
       | else-held-lt-HEADER_LEN-via-then-held-lt-HEADER_LEN+else-not-self w ↦ inl w.if-not-self.false
       | else-held-lt-HEADER_LEN-via-else-held-lt-HEADER_LEN w ↦ inr ((rw (c.deref.ensures.value, take_rest) at w.if-held-lt-HEADER_LEN.false))
     ] in
-    let is : start_of (drop start bytes) ≡ Some (f.format, f.len) = rw (c.deref.ensures.value, take_rest) at f.ensures.start in
+    let is : format_of (drop start bytes) ≡ Some (f.format, f.len) = rw (c.deref.ensures.value, take_rest) at f.ensures.start in
     let within : f.len ≤ length (drop start bytes) = rw (c.deref.ensures.value, take_rest) at f.ensures.within in
     let at_head : c.self.inside.stage ≡ Head = rw (← c.self.view_is) at c.requires.head in
     let same : (rest : List ℕ) → CanFollow c.self.inside.is_whole rest
@@ -38,7 +40,7 @@ returns-clause-fault c =
       | else-held-lt-HEADER_LEN-via-then-held-lt-HEADER_LEN+else-not-self w ↦ inl w.if-not-self.false
       | else-held-lt-HEADER_LEN-via-else-held-lt-HEADER_LEN w ↦ inr ((rw (c.deref.ensures.value, take_rest) at w.if-held-lt-HEADER_LEN.false))
     ] in
-    let is : start_of (drop start bytes) ≡ Some (f.format, f.len) = rw (c.deref.ensures.value, take_rest) at f.ensures.start in
+    let is : format_of (drop start bytes) ≡ Some (f.format, f.len) = rw (c.deref.ensures.value, take_rest) at f.ensures.start in
     let within : f.len ≤ length (drop start bytes) = rw (c.deref.ensures.value, take_rest) at f.ensures.within in
     let at_head : c.self.inside.stage ≡ Head = rw (← c.self.view_is) at c.requires.head in
     let same : (rest : List ℕ) → CanFollow c.self.inside.is_whole rest

@@ -3,7 +3,7 @@ use Rattle.std.specs.Prelude.{option_map}
 use Rattle.std.proofs.lemmas.List.{take_rest}
 use Rattle.recording.specs.declared.packet.Packet.{Packet}
 use Rattle.recording.specs.View.{record_at, packet_behind, LiesIn}
-use Rattle.recording.specs.Held.{EndsTold}
+use Rattle.recording.specs.Told.{EndsTold}
 use Rattle.recording.proofs.ReaderLemmas.{comes, record_comes, too_few, nothing}
 use Rattle.recording.proofs.reader.RecordingReader.take.Goals as goal
 use Rattle.recording.proofs.reader.RecordingReader.take.Goals.{in-Some, in-None+then-self, in-None+else-self}
