@@ -160,7 +160,8 @@ format-front (Classic c) w r le = refl
 format-front (Blocks o) w r le = ap Blocks (order_in-front o w r le)
 
 abbrev tells : Bool → Bool → Bool → Bool → Bool
-tells a b c d = not a && (not b && (not c && d))
+tells a b c d =
+    is_none (cond a (Some (Truncated 0)) (cond b (Some (BadOrder 0)) (cond c (Some (BlockLength 0)) (cond (not d) (Some (BlockLength 0)) None))))
 
 tells-front : (format : Format) (w r : List ℕ) → head_len format ≤ length w → tells_len format (w ++ r) ≡ tells_len format w
 tells-front (Classic c) w r le = ap not (longer 16 w r le ∙ sym (le-ltb (length w) 16 le))
@@ -259,9 +260,9 @@ head-small : (format : Format) → head_len format ≤ held_limit
 head-small (Classic c) = omega arith
 head-small (Blocks o) = omega arith
 
-both : (a b : Bool) → (a && b) ≡ true → a ≡ true
-both true b is = refl
-both false b is = absurd cc
+none-not : (a : Bool) (e : RecordingError) (others : Option RecordingError) → is_none (cond a (Some e) others) ≡ true → a ≡ false
+none-not true e others is = absurd cc
+none-not false e others is = refl
 
 not-false : (a : Bool) → not a ≡ true → a ≡ false
 not-false true is = absurd cc
@@ -269,7 +270,7 @@ not-false false is = refl
 
 tells-head : (format : Format) (w : List ℕ) → tells_len format w ≡ true → head_len format ≤ length w
 tells-head (Classic c) w is = ltb-false (length w) 16 (not-false _ is)
-tells-head (Blocks o) w is = ltb-false (length w) 12 (not-false _ (both _ _ is))
+tells-head (Blocks o) w is = ltb-false (length w) 12 (none-not _ _ _ is)
 
 -- what is too long is so whatever follows, and that is what is meant
 pub long-told : (format : Format) (before : List Interface) (p : ℕ) (held rest : List ℕ) → held_limit < wanted format held

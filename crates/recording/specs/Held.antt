@@ -1,10 +1,10 @@
 -- One packet or block, as a reader holds it.
-use Rattle.std.specs.Prelude.{ℕ, ◌%◌, ◌<◌, ◌≤◌, Bool, nat_lt, ◌==◌, not, ◌&&◌, if◌then◌else◌, List, length, is_none, Ok, Err}
+use Rattle.std.specs.Prelude.{ℕ, ◌<◌, ◌≤◌, Bool, nat_lt, not, ◌&&◌, if◌then◌else◌, List, length, is_none, Ok, Err}
 use Rattle.recording.specs.declared.error.RecordingError.TheVariants.{BlockTooLong, TooManyInterfaces}
 use Rattle.recording.specs.declared.format.Format.{Format}
 use Rattle.recording.specs.declared.format.Format.TheVariants.{Classic, Blocks}
 use Rattle.recording.specs.declared.interface.Interface.{Interface}
-use Rattle.recording.specs.Blocks.{block_kind, block_order, total_len}
+use Rattle.recording.specs.Blocks.{head_fault}
 use Rattle.recording.specs.Sections.{Meaning}
 use Rattle.recording.specs.Records.{part_len, part_meaning, section_after}
 
@@ -22,14 +22,10 @@ abbrev pub head_len : Format → ℕ
 head_len (Classic c) = 16
 head_len (Blocks order) = 12
 
--- its head is there and tells a length: of a block one of 12 bytes or more in whole groups of 4, in an order that is one
+-- its head is there and tells a length: that of a block has no fault, at whatever place
 abbrev pub tells_len : Format → List ℕ → Bool
 tells_len (Classic c) bytes = not (nat_lt (length bytes) 16)
-tells_len (Blocks order) bytes =
-    not (nat_lt (length bytes) 12)
-    && (not (is_none (block_order order (block_kind order bytes) bytes))
-    && (not (nat_lt (total_len order bytes) 12)
-    && (total_len order bytes % 4 == 0)))
+tells_len (Blocks order) bytes = is_none (head_fault order 0 bytes)
 
 -- its head tells a length that is not held
 abbrev pub is_too_long : Format → List ℕ → Bool
