@@ -16,3 +16,4 @@ pub mod Readers
 pub mod Examples
 pub mod Spelling
 pub mod PacketSpelling
+pub mod HeldSpelling

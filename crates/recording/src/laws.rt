@@ -11,6 +11,7 @@ ghost use Rattle.recording.specs.Records.{Item, items_of};
 ghost use Rattle.recording.specs.Examples.{sent_at, classic_head, classic_file, cut_file, blocks_file};
 ghost use Rattle.recording.specs.Examples.{little_packet, too_long_head, long_head};
 ghost use Rattle.recording.specs.HeldItems.{held_of, IsRead};
+ghost use Rattle.recording.specs.HeldSpelling.{IsHeldWhole};
 
 /// Examples: classic pcap with no packet, with one, and with a part of another; two sections of pcapng
 /// in the two orders of bytes; blocks without a section.
@@ -27,6 +28,8 @@ pub fn worked_recordings()
 /// a packet that is one byte too long, and one that is not, and is not there.
 pub fn readers_give_what_recordings_give()
     ensures same { (file : List ℕ) → IsRead (items_of file) (held_of file) }
+    ensures all { (items : List Item) (file : List ℕ) (r : IsRecording items file)
+        → IsHeldWhole items file r → held_of file ≡ items }
     ensures cut { held_of cut_file ≡ sent_at 5 7000 ∷ Err (Truncated 71) ∷ [] }
     ensures blocks { held_of blocks_file ≡ sent_at 3 1000 ∷ sent_at 0 3000001 ∷ [] }
     ensures too_long { held_of (classic_head ++ too_long_head) ≡ Err (BlockTooLong 24) ∷ [] }
