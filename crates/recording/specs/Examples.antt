@@ -1,7 +1,10 @@
 -- Bytes that the laws speak of as examples.
-use Rattle.std.specs.Prelude.{ℕ, List, [], ◌∷◌, ◌++◌, take, Some, Ok}
+use Rattle.std.specs.Prelude.{ℕ, true, List, [], ◌∷◌, ◌++◌, take, Some, Ok}
+use Rattle.recording.specs.declared.number.ByteOrder.TheVariants.{Little}
+use Rattle.recording.specs.declared.classic.Classic.{Classic}
 use Rattle.recording.specs.Packets.{datagram}
 use Rattle.recording.specs.Records.{Item}
+use Rattle.recording.specs.Spelling.{PacketValue}
 
 -- IPv4 from 192.168.0.1 to 192.168.0.2, and UDP from port 30490 to port 30501 with the payload 1, 2, 3
 abbrev pub sent_bytes : List ℕ
@@ -25,12 +28,22 @@ classic_head = 0xd4 ∷ 0xc3 ∷ 0xb2 ∷ 0xa1 ∷ 2 ∷ 0 ∷ 4 ∷ 0 ∷ 0 ∷
 abbrev pub packet_head : List ℕ
 packet_head = 5 ∷ 0 ∷ 0 ∷ 0 ∷ 7 ∷ 0 ∷ 0 ∷ 0 ∷ 0x1f ∷ 0 ∷ 0 ∷ 0 ∷ 0x1f ∷ 0 ∷ 0 ∷ 0 ∷ []
 
+-- the same header and packet as they are spelled
+abbrev pub little_raw : Classic
+little_raw = record { order = Little; micro = true; link = 228 }
+
+abbrev pub sent_packet : PacketValue
+sent_packet = record { seconds = 5; fraction = 7; original = 31; bytes = sent_bytes }
+
 -- the packet alone, and before a part of another
 abbrev pub classic_file : List ℕ
 classic_file = classic_head ++ (packet_head ++ sent_bytes)
 
+abbrev pub cut_packet : List ℕ
+cut_packet = take 20 (packet_head ++ sent_bytes)
+
 abbrev pub cut_file : List ℕ
-cut_file = classic_file ++ take 20 (packet_head ++ sent_bytes)
+cut_file = classic_file ++ cut_packet
 
 -- the head of a packet of which with it 16,777,217 bytes were captured, one more than a reader holds; and one fewer
 abbrev pub too_long_head : List ℕ
