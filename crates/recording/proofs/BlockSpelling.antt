@@ -10,12 +10,11 @@ use Rattle.recording.specs.declared.number.ByteOrder.{ByteOrder}
 use Rattle.recording.specs.declared.number.ByteOrder.TheVariants.{Big, Little}
 use Rattle.recording.specs.declared.block.BlockKind.{BlockKind}
 use Rattle.recording.specs.declared.block.BlockKind.TheVariants as kinds
-use Rattle.recording.specs.declared.format.Format.{Format}
 use Rattle.recording.specs.declared.format.Format.TheVariants.{Blocks}
 use Rattle.recording.specs.declared.interface.Interface.{Interface}
 use Rattle.recording.specs.Numbers.{number32}
 use Rattle.recording.specs.Blocks.{kind_of, block_kind, block_order, order_in, total_len, block_len, block_fault, block_in}
-use Rattle.recording.specs.Sections.{Meaning, meaning_of, interfaces_after}
+use Rattle.recording.specs.Sections.{meaning_of, interfaces_after}
 use Rattle.recording.specs.Records.{Item, items_from, items_behind, items_of, format_of, items_after, or_fault, part_meaning, part_len, format_after, section_after}
 use Rattle.recording.specs.Spelling.{bytes32, SpelledBlock, head, plain, order_by, number_by, body_by, framed, block_bytes, BlockFits, value_by, blocks_bytes, last_order, BlocksEndAt, IsBlocks, blocks_list}
 use Rattle.recording.proofs.ItemLemmas.{items_from-nil, items_from-part}

@@ -1,6 +1,6 @@
 -- What a reader gives, beside what a slice gives.
 use Rattle.std.proofs.Common.{ℕ, zero, suc, ◌+◌, Bool, true, false, cond, ltb, List, [], ◌∷◌, length, drop, Option, Some, None, Ok, Err, refl, ap, inl, inr, zero-add}
-use Rattle.recording.specs.declared.error.RecordingError.TheVariants.{NotRecording, BlockTooLong, TooManyInterfaces}
+use Rattle.recording.specs.declared.error.RecordingError.TheVariants.{BlockTooLong, TooManyInterfaces}
 use Rattle.recording.specs.declared.format.Format.{Format}
 use Rattle.recording.specs.declared.interface.Interface.{Interface}
 use Rattle.recording.specs.Packets.{RecordValue}

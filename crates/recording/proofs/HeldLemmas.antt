@@ -1,5 +1,5 @@
 -- The items that a reader gives, one after the other.
-use Rattle.std.proofs.Common.{◌≡◌, ℕ, ◌+◌, ◌<◌, ◌≤◌, List, [], ◌∷◌, ◌++◌, length, drop, Option, Err, Ok, sym, ap, ◌∙◌, arith}
+use Rattle.std.proofs.Common.{◌≡◌, ℕ, ◌+◌, ◌<◌, List, [], ◌∷◌, ◌++◌, length, drop, Option, Err, Ok, sym, ap, ◌∙◌, arith}
 use Rattle.std.proofs.lemmas.List.{drop-drop, drop-append-le, length-drop, length-append, take_rest}
 use Rattle.std.specs.Prelude.{option_map}
 use Rattle.recording.specs.declared.error.RecordingError.{RecordingError}

@@ -1,5 +1,5 @@
 -- Of a recording of which it holds each packet and block a reader gives what a slice gives.
-use Rattle.std.proofs.Common.{◌≡◌, ◌≢◌, ℕ, ◌+◌, ◌<◌, ◌≤◌, Bool, true, false, cond, ◌&&◌, eqb, ltb, List, [], ◌∷◌, ◌++◌, length, drop, Option, Some, None, Result, Ok, Err, refl, sym, ap, subst, ◌∙◌, append_assoc, arith, inl, inr}
+use Rattle.std.proofs.Common.{◌≡◌, ℕ, ◌+◌, ◌<◌, ◌≤◌, Bool, true, false, cond, ◌&&◌, eqb, ltb, List, [], ◌∷◌, ◌++◌, length, drop, Option, Some, None, Result, Ok, Err, refl, sym, ap, subst, ◌∙◌, append_assoc, arith, inl, inr}
 use Rattle.std.specs.List.{flat_map, AllByRecursion}
 use Rattle.std.proofs.lemmas.Bool.{le-ltb, ne_eqb}
 use Rattle.std.proofs.lemmas.List.{length-append}
@@ -17,15 +17,15 @@ use Rattle.recording.specs.Classic.{packet_fault, packet_len, packet_record}
 use Rattle.recording.specs.Blocks.{BlockValue, block_fault, block_in}
 use Rattle.recording.specs.Sections.{Meaning, meaning_of, interfaces_after, interfaces_by}
 use Rattle.recording.specs.Records.{Item, items_from, items_behind, items_of, format_of, items_after, or_fault, part_meaning, part_len, format_after, section_after}
-use Rattle.recording.specs.Held.{held_limit, interface_limit, tells_len, is_too_long, with_interfaces, held_meaning}
+use Rattle.recording.specs.Held.{held_limit, interface_limit, tells_len, is_too_long, with_interfaces}
 use Rattle.recording.specs.HeldItems.{held_from, held_behind, held_of}
-use Rattle.recording.specs.Spelling.{PacketValue, PacketFits, packet_bytes, header_bytes, EndsAt, IsClassic, SpelledBlock, head, plain, order_by, BlockFits, block_bytes, value_by, blocks_bytes, last_order, BlocksEndAt, IsBlocks, IsRecording}
-use Rattle.recording.specs.HeldSpelling.{IsHeldPacket, IsHeldBlock, described_by, HoldsInterfaces, HoldsPackets, HoldsBlocks, IsHeldWhole}
+use Rattle.recording.specs.Spelling.{PacketValue, PacketFits, packet_bytes, EndsAt, SpelledBlock, head, plain, order_by, BlockFits, block_bytes, value_by, blocks_bytes, last_order, BlocksEndAt, IsRecording}
+use Rattle.recording.specs.HeldSpelling.{IsHeldPacket, IsHeldBlock, described_by, HoldsInterfaces, IsHeldWhole}
 use Rattle.recording.proofs.FrontLemmas.{held-meant}
 use Rattle.recording.proofs.ItemLemmas.{items_from-nil, items_from-part}
 use Rattle.recording.proofs.HeldLemmas.{held_from-nil, held_from-part}
-use Rattle.recording.proofs.ClassicSpelling.{length-packet_bytes, PacketStep, packet_step, format_of-header, behind-header}
-use Rattle.recording.proofs.BlockSpelling.{BlockStep, block_step, format_of-spelled}
+use Rattle.recording.proofs.ClassicSpelling.{length-packet_bytes, packet_step, format_of-header, behind-header}
+use Rattle.recording.proofs.BlockSpelling.{block_step, format_of-spelled}
 use Rattle.recording.proofs.RecordingLemmas.{recording_read}
 
 -- ---- a part
@@ -89,20 +89,20 @@ packets_same c p (k ∷ packets) end rest fits ends held not =
 -- ---- pcapng
 
 -- how many interfaces a section has behind a block, by its type
-by_number : (o : ByteOrder) (interfaces : List Interface) (v : BlockValue) (a b c d : Bool)
+by_number : (interfaces : List Interface) (v : BlockValue) (a b c d : Bool)
     → length (interfaces_by (cond a kinds.Interface (cond b kinds.OldPacket (cond c kinds.SimplePacket (cond d kinds.EnhancedPacket kinds.Other)))) interfaces v)
     ≡ cond a (length interfaces + 1) (length interfaces)
-by_number o interfaces v true b c d = let more = length-append interfaces (interface_in v.order v.body ∷ []) in omega (arith, more)
-by_number o interfaces v false true c d = refl
-by_number o interfaces v false false true d = refl
-by_number o interfaces v false false false true = refl
-by_number o interfaces v false false false false = refl
+by_number interfaces v true b c d = let more = length-append interfaces (interface_in v.order v.body ∷ []) in omega (arith, more)
+by_number interfaces v false true c d = refl
+by_number interfaces v false false true d = refl
+by_number interfaces v false false false true = refl
+by_number interfaces v false false false false = refl
 
 described : (o : ByteOrder) (interfaces : List Interface) (b : SpelledBlock) → BlockFits b → length (interfaces_after interfaces (value_by o b)) ≡ described_by (length interfaces) b
 described o interfaces (head own rest) fits = refl
 described o interfaces (plain number body) fits =
     let no : eqb number 0x0a0d0d0a ≡ false = ne_eqb _ _ fits.told in
-    rw no (by_number o interfaces _ (eqb number 1) (eqb number 2) (eqb number 3) (eqb number 6))
+    rw no (by_number interfaces _ (eqb number 1) (eqb number 2) (eqb number 3) (eqb number 6))
 
 same_by : (format after : Format) (interfaces later : List Interface) (p q : ℕ) (bytes others : List ℕ) → format ≡ after → interfaces ≡ later → p ≡ q → bytes ≡ others
     → Same after later q others → Same format interfaces p bytes

@@ -1,8 +1,7 @@
 -- What a file holds, by what it is.
-use Rattle.std.proofs.Common.{◌≡◌, ℕ, Bool, true, false, cond, ltb, eqb, List, [], length, Option, Some, None, Result, Ok, Err, refl, sym, ap, ◌∙◌, inl, inr}
+use Rattle.std.proofs.Common.{◌≡◌, ℕ, Bool, true, false, cond, ltb, eqb, List, length, Option, Some, None, Result, Ok, Err, refl, sym, ap, ◌∙◌, inl, inr}
 use Rattle.std.proofs.lemmas.Bool.{ltb-false, eqb-true}
 use Rattle.recording.specs.declared.error.RecordingError.{RecordingError}
-use Rattle.recording.specs.declared.error.RecordingError.TheVariants.{NotRecording}
 use Rattle.recording.specs.declared.number.ByteOrder.TheVariants.{Big}
 use Rattle.recording.specs.declared.classic.Classic.{Classic}
 use Rattle.recording.specs.declared.format.Format.TheVariants.{Blocks}

@@ -41,8 +41,13 @@ pub enum Next {
 ///
 /// It gives what `Recording` gives of the same bytes, if no packet or block is longer with its header
 /// than 16 MiB, and no section of pcapng describes more than 65,536 interfaces; else what comes before
-/// the first of these, and then the fault `BlockTooLong` or `TooManyInterfaces`. It takes 64 KiB of
-/// memory, or twice as much as its longest packet or block, and that of the interfaces.
+/// the first of these, and then the fault `BlockTooLong` or `TooManyInterfaces`.
+///
+/// Its memory is that of the interfaces of a section and a buffer: the bytes that are held, no more that
+/// were taken before them, and room for a read of 64 KiB. The buffer grows by doubling and is kept: it
+/// has 128 KiB for short packets and blocks, and 32 MiB for one of 16 MiB, for which 48 MiB are taken
+/// while it grows. Where a caller reads before `next` wants more, it may have 64 MiB, and 96 while it
+/// grows.
 ///
 /// ```text
 /// loop:  match reader.next()?    Record    reader.record() is the next record
@@ -112,6 +117,9 @@ impl RecordingReader {
 
     /// Goes on to the next record, or to the fault that ends the recording, if what was read tells it.
     /// Nothing comes after a fault.
+    ///
+    /// The head of a recording is told once 24 bytes are held, the header of classic pcap, or all that
+    /// there is. A packet or block is told once it is held whole, and what is too long by its head alone.
     ///
     /// The blocks of pcapng without a packet are skipped. Out of memory, which only the description of
     /// an interface can be, ends the recording as a fault does.
@@ -213,8 +221,8 @@ impl RecordingReader {
         }
     }
 
-    /// Reads once from what has the rest of the recording, unless 16 MiB are held, and forgets the
-    /// record.
+    /// Reads once from what has the rest of the recording, 64 KiB at most and none where 16 MiB are
+    /// held, and forgets the record. What was taken is forgotten where that makes room for what is held.
     ///
     /// An error is one of the read, or of memory, or that a recording of more than 2^64 - 1 bytes was
     /// read.
@@ -229,7 +237,7 @@ impl RecordingReader {
         // The record is forgotten, and perhaps bytes that were taken, and nothing else changed.
         ensures kept { OnErr result
             (self.new ≡ record self.old { taken = self.new.taken; current = None }) }
-        // No memory is lost: it has never more bytes than these.
+        // What was taken grows by no read, and never are more bytes in memory than these.
         ensures fewer { self.new.taken ≤ self.old.taken }
         ensures most { self.new.taken + length self.new.held ≤ memory_limit }
     {
