@@ -16,7 +16,7 @@ use Rattle.recording.specs.Packets.{RecordValue}
 use Rattle.recording.specs.View.{record_at, given_in, packet_behind, LiesIn}
 use Rattle.recording.specs.Records.{Item, items_after}
 use Rattle.recording.specs.Held.{held_limit, wanted, LacksBytes}
-use Rattle.recording.specs.Readers.{IsAfterRead, items_by, left, ReaderValue, CanFollow, IsNext}
+use Rattle.recording.specs.Readers.{IsAfterRead, items_by, to_come, ReaderValue, CanFollow, IsNext}
 use Rattle.recording.specs.HeldItems.{held_from, held_behind}
 use Rattle.recording.specs.Records.{format_of}
 use Rattle.recording.specs.Told.{TakesTold, EndsTold}
@@ -67,9 +67,9 @@ if_err (Err e) P Q step holds = step e holds
 can-follow : (a b : Bool) (rest : List ℕ) → a ≡ b → CanFollow a rest → CanFollow b rest
 can-follow a b rest is follows = rw (← is) follows
 
--- what is next of a reader that has the same left is next of the other
+-- what is next of a reader of which the same is to come is next of the other
 pub moved : (before inner after : ReaderValue) (next : Next) → inner.is_whole ≡ before.is_whole → before.place ≤ inner.place
-    → ((rest : List ℕ) → CanFollow before.is_whole rest → left before rest ≡ left inner rest) → IsNext inner after next → IsNext before after next
+    → ((rest : List ℕ) → CanFollow before.is_whole rest → to_come before rest ≡ to_come inner rest) → IsNext inner after next → IsNext before after next
 moved before inner after Record whole further same next = (next.0, next.1, omega (arith, further, next.2), λ rest follows. same rest follows ∙ next.3 rest (can-follow _ _ rest (sym whole) follows))
 moved before inner after Unread whole further same next =
     (sym whole ∙ next.0, next.1, λ rest. same rest (can-follow false before.is_whole rest (sym (sym whole ∙ next.0)) tt) ∙ next.2 rest, next.3)
@@ -83,7 +83,7 @@ moved before inner after End whole further same next = (
 pub last-moved : (e : RecordingError) (one other : List Item) → one ≡ other → IsLast e other → IsLast e one
 last-moved e one other is last = rw is last
 
--- behind the start of a file the same is left
+-- behind the start of a file the same is to come
 pub opened : (format : Format) (interfaces : List Interface) (p len : ℕ) (bytes : List ℕ) (start : ℕ) (rest : List ℕ) → len ≤ length (drop start bytes)
     → format_of (drop start bytes ++ rest) ≡ Some (format, len)
     → items_by Head interfaces p (drop start bytes ++ rest) ≡ held_from format interfaces (p + len) (drop (start + len) bytes ++ rest)

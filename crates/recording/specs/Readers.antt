@@ -40,9 +40,9 @@ items_by Head interfaces p bytes = held_behind interfaces p bytes (format_of byt
 items_by (Inside format) interfaces p bytes = held_from format interfaces p bytes
 items_by Over interfaces p bytes = []
 
--- what is left to come, where these bytes follow those that are held
-abbrev pub left : ReaderValue → List ℕ → List Item
-left r rest = items_by r.stage r.interfaces r.place (r.held ++ rest)
+-- the items that are to come, where these bytes follow those that are held
+abbrev pub to_come : ReaderValue → List ℕ → List Item
+to_come r rest = items_by r.stage r.interfaces r.place (r.held ++ rest)
 
 -- these bytes can follow those that are held, which are the last or not
 abbrev pub CanFollow : Bool → List ℕ → Type 0
@@ -61,23 +61,23 @@ wanted_by Over bytes = 0
 
 -- ---- what a call does to it
 
--- what comes next of a reader, as this is answered: a record, which has some bytes, and the others are left; nothing
+-- what comes next of a reader, as this is answered: a record, which has some bytes, and the others are to come; nothing
 -- that is known yet, since too few bytes are held and others may follow, of which no more are wanted than can be held;
 -- nothing. Only behind a record the reader has one.
 abbrev pub IsNext : ReaderValue → ReaderValue → Next → Type 0
 IsNext before after Record =
     (r : RecordValue) × (after.current ≡ Some r) × (before.place < after.place)
-    × ((rest : List ℕ) → CanFollow before.is_whole rest → left before rest ≡ Ok r ∷ left after rest)
+    × ((rest : List ℕ) → CanFollow before.is_whole rest → to_come before rest ≡ Ok r ∷ to_come after rest)
 IsNext before after Unread =
     (before.is_whole ≡ false) × LacksBytes after.held (wanted_by after.stage after.held)
-    × ((rest : List ℕ) → left before rest ≡ left after rest) × (after.current ≡ None)
+    × ((rest : List ℕ) → to_come before rest ≡ to_come after rest) × (after.current ≡ None)
 IsNext before after End =
-    ((rest : List ℕ) → CanFollow before.is_whole rest → (left before rest ≡ []) × (left after rest ≡ []))
+    ((rest : List ℕ) → CanFollow before.is_whole rest → (to_come before rest ≡ []) × (to_come after rest ≡ []))
     × (after.current ≡ None)
 
--- what a read changed: what had these bytes left has those left, and the bytes between are held. At least one was read,
--- unless there is none, or as much is held as a packet or block may have: then none is read. Where one may be, no more
--- bytes that were taken stay in memory than are held.
+-- what a read changed: its source had these bytes before those that remain of it, and they are held. At least one was
+-- read, unless there is none, or as much is held as a packet or block may have: then none is read. Where one may be, no
+-- more bytes that were taken stay in memory than were held.
 pub record IsAfterRead (before after : ReaderValue) (were are : Option (List ℕ)) : Type 0 where
   pub bytes : List ℕ
   pub consumed : Consumes were are bytes

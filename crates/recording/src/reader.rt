@@ -4,7 +4,7 @@ ghost use Rattle.std.specs.Prelude.{IfOk, IfErr, OnOk, OnErr, option_map};
 ghost use Rattle.std.specs.Io.{ReadsAtMost};
 ghost use Rattle.std.specs.Io.KnownBytes.{Keeps, Consumes, IsAtEnd};
 ghost use Rattle.recording.specs.declared.stage.Stage.TheVariants.{Head};
-ghost use Rattle.recording.specs.Readers.{inside, left, memory_limit, CanFollow, IsNext, IsAfterRead};
+ghost use Rattle.recording.specs.Readers.{inside, to_come, memory_limit, CanFollow, IsNext, IsAfterRead};
 ghost use Rattle.recording.specs.View.{view_record};
 ghost use Rattle.recording.specs.Steps.{IsLast};
 
@@ -126,11 +126,11 @@ impl RecordingReader {
     pub fn next(&mut self) -> Result<Next, RecordingError>
         // What is answered is so, whatever can follow the bytes that are held.
         ensures next { IfOk result (IsNext self.old self.new) }
-        // A fault is all that was left.
+        // A fault is all that was to come.
         ensures fault { IfErr result (λ e. (rest : List ℕ) → CanFollow self.old.is_whole rest
-            → IsLast e (left self.old rest)) }
-        // Then nothing is left.
-        ensures ended { OnErr result ((rest : List ℕ) → left self.new rest ≡ []) }
+            → IsLast e (to_come self.old rest)) }
+        // Then nothing is to come.
+        ensures ended { OnErr result ((rest : List ℕ) → to_come self.new rest ≡ []) }
         // And it has no record.
         ensures none { OnErr result (self.new.current ≡ None) }
         // Nothing is read.
@@ -160,7 +160,7 @@ impl RecordingReader {
         requires none { self.old.current ≡ None }
         ensures next { IfOk result (IsNext self.old self.new) }
         ensures fault { IfErr result (λ e. (rest : List ℕ) → CanFollow self.old.is_whole rest
-            → IsLast e (left self.old rest)) }
+            → IsLast e (to_come self.old rest)) }
         ensures none { OnErr result (self.new.current ≡ None) }
         ensures whole { self.new.is_whole ≡ self.old.is_whole }
         ensures kept { self.new.taken + length self.new.held ≡ self.old.taken + length self.old.held }
@@ -181,7 +181,7 @@ impl RecordingReader {
         requires { self.old.current ≡ None }
         ensures next { IfOk result (IsNext (inside format self.old) self.new) }
         ensures fault { IfErr result (λ e. (rest : List ℕ) → CanFollow self.old.is_whole rest
-            → IsLast e (left (inside format self.old) rest)) }
+            → IsLast e (to_come (inside format self.old) rest)) }
         ensures none { OnErr result (self.new.current ≡ None) }
         ensures whole { self.new.is_whole ≡ self.old.is_whole }
         ensures kept { self.new.taken + length self.new.held ≡ self.old.taken + length self.old.held }
@@ -230,9 +230,9 @@ impl RecordingReader {
         // What was read is held behind what was, and nothing else changed.
         ensures read { OnOk result
             (IsAfterRead self.old self.new (R.remaining reader.old) (R.remaining reader.new)) }
-        // Nothing was read, and nothing else is left to come.
+        // Nothing was read, and nothing else is to come.
         ensures unread { OnErr result (Keeps (R.remaining reader.old) (R.remaining reader.new)) }
-        ensures same { OnErr result ((rest : List ℕ) → left self.new rest ≡ left self.old rest) }
+        ensures same { OnErr result ((rest : List ℕ) → to_come self.new rest ≡ to_come self.old rest) }
         ensures whole { OnErr result (self.new.is_whole ≡ self.old.is_whole) }
         // The record is forgotten, and perhaps bytes that were taken, and nothing else changed.
         ensures kept { OnErr result
