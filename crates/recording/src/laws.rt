@@ -26,8 +26,9 @@ pub fn worked_recordings()
 {}
 
 /// A reader that holds one packet or block at a time gives what `Recording` gives of the same bytes, or
-/// a beginning of that and then the fault of what it does not hold. Examples: a recording that is cut;
-/// a packet that is one byte too long, and one that is not, and is not there.
+/// a beginning of that and then the fault of what it does not hold. Where it holds each packet and block
+/// that the file is spelled with, and the interfaces of each section, it gives all. Examples: a recording
+/// that is cut; a packet that is one byte too long, and one that is not, and is not there.
 pub fn readers_give_what_recordings_give()
     ensures same { (file : List ℕ) → IsRead (items_of file) (held_of file) }
     ensures all { (items : List Item) (file : List ℕ) (r : IsRecording items file)

@@ -43,11 +43,11 @@ pub enum Next {
 /// than 16 MiB, and no section of pcapng describes more than 65,536 interfaces; else what comes before
 /// the first of these, and then the fault `BlockTooLong` or `TooManyInterfaces`.
 ///
-/// Its memory is that of the interfaces of a section and a buffer: the bytes that are held, no more that
-/// were taken before them, and room for a read of 64 KiB. The buffer grows by doubling and is kept: it
-/// has 128 KiB for short packets and blocks, and 32 MiB for one of 16 MiB, for which 48 MiB are taken
-/// while it grows. Where a caller reads before `next` wants more, it may have 64 MiB, and 96 while it
-/// grows.
+/// Its memory is that of the interfaces of a section and a buffer: at each read the bytes that are held,
+/// at most as many that were taken before them, and room for 64 KiB. The buffer grows by doubling and is
+/// kept: it has 128 KiB for short packets and blocks, and 32 MiB for one of 16 MiB, for which 48 MiB are
+/// taken while it grows. Where a caller reads before `next` wants more, it may have 64 MiB, and 96 while
+/// it grows.
 ///
 /// ```text
 /// loop:  match reader.next()?    Record    reader.record() is the next record
