@@ -4,7 +4,7 @@ use Rattle.recording.specs.declared.number.ByteOrder.TheVariants.{Little}
 use Rattle.recording.specs.declared.classic.Classic.{Classic}
 use Rattle.recording.specs.Packets.{datagram}
 use Rattle.recording.specs.Records.{Item}
-use Rattle.recording.specs.Spelling.{PacketValue}
+use Rattle.recording.specs.Spelling.{PacketValue, SpelledBlock, head, plain}
 
 -- IPv4 from 192.168.0.1 to 192.168.0.2, and UDP from port 30490 to port 30501 with the payload 1, 2, 3
 abbrev pub sent_bytes : List ℕ
@@ -56,6 +56,13 @@ long_head = 5 ∷ 0 ∷ 0 ∷ 0 ∷ 7 ∷ 0 ∷ 0 ∷ 0 ∷ 0xf0 ∷ 0xff ∷ 0x
 -- microseconds; the same the highest byte first, where the interface has nanoseconds
 abbrev pub little_section : List ℕ
 little_section = 0x0a ∷ 0x0d ∷ 0x0d ∷ 0x0a ∷ 0x1c ∷ 0 ∷ 0 ∷ 0 ∷ 0x4d ∷ 0x3c ∷ 0x2b ∷ 0x1a ∷ 1 ∷ 0 ∷ 0 ∷ 0 ∷ 0xff ∷ 0xff ∷ 0xff ∷ 0xff ∷ 0xff ∷ 0xff ∷ 0xff ∷ 0xff ∷ 0x1c ∷ 0 ∷ 0 ∷ 0 ∷ 1 ∷ 0 ∷ 0 ∷ 0 ∷ 0x14 ∷ 0 ∷ 0 ∷ 0 ∷ 0xe4 ∷ 0 ∷ 0 ∷ 0 ∷ 0 ∷ 0 ∷ 0 ∷ 0 ∷ 0x14 ∷ 0 ∷ 0 ∷ 0 ∷ []
+
+-- the first of these as it is spelled
+abbrev pub little_blocks : List SpelledBlock
+little_blocks =
+    head Little (1 ∷ 0 ∷ 0 ∷ 0 ∷ 0xff ∷ 0xff ∷ 0xff ∷ 0xff ∷ 0xff ∷ 0xff ∷ 0xff ∷ 0xff ∷ [])
+    ∷ plain 1 (0xe4 ∷ 0 ∷ 0 ∷ 0 ∷ 0 ∷ 0 ∷ 0 ∷ 0 ∷ [])
+    ∷ []
 
 abbrev pub little_packet : List ℕ
 little_packet = 6 ∷ 0 ∷ 0 ∷ 0 ∷ 0x40 ∷ 0 ∷ 0 ∷ 0 ∷ 0 ∷ 0 ∷ 0 ∷ 0 ∷ 0 ∷ 0 ∷ 0 ∷ 0 ∷ 0xc1 ∷ 0xc6 ∷ 0x2d ∷ 0 ∷ 0x1f ∷ 0 ∷ 0 ∷ 0 ∷ 0x1f ∷ 0 ∷ 0 ∷ 0 ∷ 0x45 ∷ 0 ∷ 0 ∷ 0x1f ∷ 0x12 ∷ 0x34 ∷ 0x40 ∷ 0 ∷ 0x40 ∷ 0x11 ∷ 0 ∷ 0 ∷ 0xc0 ∷ 0xa8 ∷ 0 ∷ 1 ∷ 0xc0 ∷ 0xa8 ∷ 0 ∷ 2 ∷ 0x77 ∷ 0x1a ∷ 0x77 ∷ 0x25 ∷ 0 ∷ 0x0b ∷ 0 ∷ 0 ∷ 1 ∷ 2 ∷ 3 ∷ 0xee ∷ 0x40 ∷ 0 ∷ 0 ∷ 0 ∷ []

@@ -24,6 +24,22 @@ returns-clause-too_long c = λ held. let short = held.rest_held in cc
 pub returns-clause-long : goal.returns-clause-long
 returns-clause-long c = record { packets_held = tt; rest_held = refl }
 
+pub returns-clause-blocks : goal.returns-clause-blocks
+returns-clause-blocks c = (
+  record {
+    rest = [];
+    is = refl;
+    begins = refl;
+    long = lit≤ tt;
+    blocks_fit = (
+      record { number = lit< tt; len = lit< tt; padded = refl; told = tt },
+      (record { number = lit< tt; len = lit< tt; padded = refl; told = λ same. omega (arith, same) }, tt),
+    );
+    ends = refl;
+  },
+  record { blocks_held = (lit≤ tt, (lit≤ tt, tt)); interfaces_held = (lit≤ tt, (lit≤ tt, tt)); rest_held = refl },
+)
+
 pub returns-clause-most : goal.returns-clause-most
 returns-clause-most c = (lit≤ tt, tt)
 
