@@ -9,7 +9,8 @@ use Rattle.recording.specs.declared.stage.Stage.TheVariants.{Head}
 use Rattle.recording.specs.Packets.{RecordValue}
 use Rattle.recording.specs.Records.{Item}
 use Rattle.recording.specs.Steps.{IsLast}
-use Rattle.recording.specs.Held.{ReaderValue, CanFollow, IsNext, IsAfterRead, held_of, items_by, left}
+use Rattle.recording.specs.HeldItems.{held_of}
+use Rattle.recording.specs.Readers.{ReaderValue, CanFollow, IsNext, IsAfterRead, items_by, to_come}
 use Rattle.someipctl_inputs.specs.Inputs.{WasLeft}
 use Rattle.someipctl_recordings.specs.Coming.{Comes, EndsAt, coming_items}
 use Rattle.someipctl_recordings.specs.declared.coming.Coming.{Coming}
@@ -59,13 +60,13 @@ comes_both a b c k l m items others one other =
       consumed = consumes_both k l m one.seen other.seen one.consumed other.consumed;
       follows = λ rest f. subst (CanFollow a.is_whole) (sym (place rest)) (one.follows (other.seen ++ rest) (other.follows rest f));
       came = λ rest f.
-          ap (left a) (place rest) ∙ one.came (other.seen ++ rest) (other.follows rest f) ∙ ap (λ (l : List Item). items ++ l) (other.came rest f) ∙ sym (append_assoc items others (left c rest));
+          ap (to_come a) (place rest) ∙ one.came (other.seen ++ rest) (other.follows rest f) ∙ ap (λ (l : List Item). items ++ l) (other.came rest f) ∙ sym (append_assoc items others (to_come c rest));
       at_end = λ was. ends_both k l m one.seen b.is_whole c.is_whole one.consumed (one.at_end was) other.at_end;
     }
 
 -- without a read
 quiet : (b c : ReaderValue) (known : Option (List ℕ)) (items : List Item) → c.is_whole ≡ b.is_whole
-    → ((rest : List ℕ) → CanFollow c.is_whole rest → left b rest ≡ items ++ left c rest) → Comes b c known known items
+    → ((rest : List ℕ) → CanFollow c.is_whole rest → to_come b rest ≡ items ++ to_come c rest) → Comes b c known known items
 quiet b c known items whole came = record {
   seen = [];
   consumed = consumes_none known;
@@ -83,7 +84,7 @@ comes_record b c known is whole =
 
 pub comes_end : (b c : ReaderValue) (known : Option (List ℕ)) → IsNext b c next.End → c.is_whole ≡ b.is_whole → Comes b c known known []
 comes_end b c known is whole = quiet b c known [] whole (λ rest f.
-    let n = is rest (rw whole at f) in
+    let n = is.0 rest (rw whole at f) in
     n.0 ∙ sym n.1)
 
 last_is : (e : RecordingError) (items : List Item) → (e ≡ OutOfMemory → ⊥) → IsLast e items → items ≡ Err e ∷ []
@@ -96,10 +97,10 @@ last_is (UnknownInterface p) items not is = is
 last_is (BlockTooLong p) items not is = is
 last_is (TooManyInterfaces p) items not is = is
 
-pub comes_fault : (b c : ReaderValue) (known : Option (List ℕ)) (e : RecordingError) → (e ≡ OutOfMemory → ⊥) → ((rest : List ℕ) → CanFollow b.is_whole rest → IsLast e (left b rest))
-    → ((rest : List ℕ) → left c rest ≡ []) → c.is_whole ≡ b.is_whole → Comes b c known known (Err e ∷ [])
+pub comes_fault : (b c : ReaderValue) (known : Option (List ℕ)) (e : RecordingError) → (e ≡ OutOfMemory → ⊥) → ((rest : List ℕ) → CanFollow b.is_whole rest → IsLast e (to_come b rest))
+    → ((rest : List ℕ) → to_come c rest ≡ []) → c.is_whole ≡ b.is_whole → Comes b c known known (Err e ∷ [])
 comes_fault b c known e not last none whole = quiet b c known (Err e ∷ []) whole (λ rest f.
-    last_is e (left b rest) not (last rest (rw whole at f)) ∙ ap (λ (l : List Item). Err e ∷ l) (sym (none rest)))
+    last_is e (to_come b rest) not (last rest (rw whole at f)) ∙ ap (λ (l : List Item). Err e ∷ l) (sym (none rest)))
 
 follows_read : (before after : Bool) (bytes rest : List ℕ) → (before ≡ true → (after ≡ true) × (bytes ≡ [])) → CanFollow after rest → CanFollow before (bytes ++ rest)
 follows_read false after bytes rest whole f = tt
@@ -113,10 +114,10 @@ ends_read true after were are bytes consumed whole end was is = ends_empty were 
 ends_read false after were are bytes consumed whole end was is = ends_any were are (end refl is).1
 
 left_read : (b c : ReaderValue) (bytes rest : List ℕ)
-    → c ≡ record { stage = b.stage; interfaces = b.interfaces; place = b.place; held = b.held ++ bytes; is_whole = c.is_whole; current = None }
-    → left b (bytes ++ rest) ≡ left c rest
+    → c ≡ record b { held = b.held ++ bytes; taken = c.taken; is_whole = c.is_whole; current = None }
+    → to_come b (bytes ++ rest) ≡ to_come c rest
 left_read b c bytes rest is =
-    ap (λ (l : List ℕ). items_by b.stage b.interfaces b.place l) (sym (append_assoc b.held bytes rest)) ∙ sym (ap (λ r. left r rest) is)
+    ap (λ (l : List ℕ). items_by b.stage b.interfaces b.place l) (sym (append_assoc b.held bytes rest)) ∙ sym (ap (λ r. to_come r rest) is)
 
 pub comes_read : (b c : ReaderValue) (were are : Option (List ℕ)) → IsAfterRead b c were are → Comes b c were are []
 comes_read b c were are r = record {
@@ -131,7 +132,7 @@ comes_read b c were are r = record {
 
 -- a reader of which nothing was read yet
 abbrev pub begin : ReaderValue
-begin = record { stage = Head; interfaces = []; place = 0; held = []; is_whole = false; current = None }
+begin = record { stage = Head; interfaces = []; place = 0; held = []; taken = 0; is_whole = false; current = None }
 
 empty : (whole : Bool) → CanFollow whole []
 empty true = refl
@@ -143,7 +144,7 @@ at_most false ys end = tt
 
 -- what a source had left, of which these items came, and no more can
 pub whole_file : (r : ReaderValue) (were are : Option (List ℕ)) (items : List Item) → Comes begin r were are items
-    → ((rest : List ℕ) → CanFollow r.is_whole rest → left r rest ≡ []) → (file : List ℕ) × WasLeft were file × (held_of file ≡ items)
+    → ((rest : List ℕ) → CanFollow r.is_whole rest → to_come r rest ≡ []) → (file : List ℕ) × WasLeft were file × (held_of file ≡ items)
 whole_file r None are items c none =
     (c.seen ++ [], tt, c.came [] (empty r.is_whole) ∙ ap (λ (l : List Item). items ++ l) (none [] (empty r.is_whole)) ∙ append-nil items)
 whole_file r (Some xs) None items c none = absurd c.consumed
@@ -154,11 +155,11 @@ whole_file r (Some xs) (Some ys) items c none =
 -- what a source had left, of which these items came so far
 pub part_file : (r : ReaderValue) (were are : Option (List ℕ)) (items : List Item) → Comes begin r were are items
     → (file : List ℕ) × (others : List Item) × WasLeft were file × (held_of file ≡ items ++ others)
-part_file r None are items c = (c.seen ++ [], left r [], tt, c.came [] (empty r.is_whole))
+part_file r None are items c = (c.seen ++ [], to_come r [], tt, c.came [] (empty r.is_whole))
 part_file r (Some xs) None items c = absurd c.consumed
 part_file r (Some xs) (Some ys) items c =
     let f = at_most r.is_whole ys (c.at_end (λ is. absurd (let same : false ≡ true = is in cc))) in
-    (xs, left r ys, refl, ap held_of c.consumed ∙ c.came ys f)
+    (xs, to_come r ys, refl, ap held_of c.consumed ∙ c.came ys f)
 
 -- ---- by the record that was taken
 

@@ -5,7 +5,8 @@ use Rattle.recording.specs.declared.RecordingError.{RecordingError}
 use Rattle.recording.specs.declared.Skipped.TheVariants.{LinkType, NotIpv4, Fragment, NotUdp, Cut, BadUdpLength}
 use Rattle.recording.specs.Packets.{DatagramValue, RecordValue, datagram, other}
 use Rattle.recording.specs.Records.{Item}
-use Rattle.recording.specs.Held.{ReaderValue, CanFollow, held_of, left}
+use Rattle.recording.specs.HeldItems.{held_of}
+use Rattle.recording.specs.Readers.{ReaderValue, CanFollow, to_come}
 use Rattle.someipctl_inputs.specs.Outcomes.{fault_outcome}
 use Rattle.someipctl_print.specs.Sending.{Sends, Stops}
 use Rattle.someipctl_print.proofs.SendingLemmas.{Sends-all, Stops-flush, Sends-flush, Sends-nil, Sends-trans, Stops-after, Stops-before}
@@ -148,7 +149,7 @@ count_more asked shown more store next r progresses counts =
 
 -- after the last items, of which none is a record
 pub puts_all : (asked : AskedValue) (r new : ReaderValue) (were are now before after later : Option (List ℕ)) (held waits : List ℕ) (shown : Shown) (store : Option StoreValue) (items : List Item) (fault : Option RecordingError)
-    → IsShown asked r were are before after held shown store → Comes r new are now items → ((rest : List ℕ) → CanFollow new.is_whole rest → left new rest ≡ [])
+    → IsShown asked r were are before after held shown store → Comes r new are now items → ((rest : List ℕ) → CanFollow new.is_whole rest → to_come new rest ≡ [])
     → Sends after held later waits [] → fault_among items ≡ fault → asked_of asked items ≡ [] → left_out_of items ≡ nothing_left_out
     → PutsRecording were asked (shown_recording shown fault) before later waits
 puts_all asked r new were are now before after later held waits shown store items fault is comes none sends last unasked uncounted =

@@ -4,7 +4,7 @@ use Rattle.std.specs.Borrow.{Bor}
 use Rattle.std.specs.Io.KnownBytes.{Appends}
 use Rattle.recording.specs.declared.RecordingError.{RecordingError}
 use Rattle.recording.specs.Records.{Item}
-use Rattle.recording.specs.Held.{held_of}
+use Rattle.recording.specs.HeldItems.{held_of}
 use Rattle.someip_reassembly.specs.Parts.{Limits}
 use Rattle.someipctl_commands.specs.declared.PrintFault.{PrintFault}
 use Rattle.someipctl_commands.specs.declared.PrintFault.TheVariants as prints

@@ -1,5 +1,5 @@
 use Rattle.std.proofs.Common.{[], ap, arith}
-use Rattle.recording.specs.Held.{IsNext, ReaderValue}
+use Rattle.recording.specs.Readers.{IsNext, ReaderValue}
 use Rattle.recording.specs.declared.Next.TheVariants.{Unread}
 use Rattle.someipctl_print.proofs.SendingLemmas.{OnErr-any, Sends-flush, Stops-flush}
 use Rattle.someipctl_recordings.proofs.ComingLemmas.{comes_both, comes_unread, comes_read}
