@@ -1,0 +1,3 @@
+pub mod DataTextLemmas
+pub mod PlaceLemmas
+pub mod IndexLemmas

@@ -1,0 +1,101 @@
+//! What a types file says.
+ghost use Rattle.std.specs.Prelude.{◌≡◌, ◌+◌, ◌≤◌, ◌↔◌, ◌++◌, IsTrue, [], length, OnErr, IfOk, OnOk, string_bytes, option_map};
+ghost use Rattle.someip_wire.specs.Spelling.{spelling};
+ghost use Rattle.someip_wire.specs.View.{view};
+ghost use Rattle.someipctl_types.specs.GoodTypes.{IsGoodTypes};
+ghost use Rattle.someipctl_types.specs.Types.{table_for};
+ghost use Rattle.someipctl_types.specs.ValueLine.{value_line, has_value_fault};
+ghost use Rattle.someipctl_types.specs.Views.{typed_view};
+
+use crate::message_key::{MessageKey, key_by};
+use crate::typed_message::TypedMessage;
+use crate::value_line::payload_line;
+use someip_wire::{Header, Message};
+use std::alloc::{AllocError, Global};
+use std::collections::BTreeMap;
+use std::marker::Model;
+
+/// The shapes of the payloads of messages, by service, method or event, and type: what a types file
+/// says.
+#[derive(Drop)]
+pub struct MessageTypes {
+    tables: Vec<TypedMessage>,
+    places: BTreeMap<MessageKey, usize>,
+}
+
+impl Model for MessageTypes {
+    ghost use Rattle.someipctl_types.specs.GoodTypes.{IsGoodTypes};
+    ghost use Rattle.someipctl_types.specs.Types.{TypesValue};
+    ghost use Rattle.someipctl_types.specs.TypesCode.{coded_types};
+    ghost use Rattle.someipctl_types.specs.Views.{types_view, IsIndex};
+
+    ghost Value = { TypesValue };
+
+    ghost coded = { coded_types };
+
+    ghost view = { λ m. types_view m.tables.items };
+
+    ghost invariant = { λ m. IsGoodTypes (types_view m.tables.items) × IsIndex m.places m.tables.items };
+}
+
+impl MessageTypes {
+    /// What says nothing of any message. It takes no memory.
+    pub fn none(alloc: Global) -> MessageTypes
+        ensures { result ≡ [] }
+    {
+        MessageTypes {
+            tables: Vec::new(alloc),
+            places: BTreeMap::new(alloc),
+        }
+    }
+
+    /// Whether nothing is said of any message.
+    pub fn is_empty(&self) -> bool
+        ensures empty { IsTrue result ↔ (self.now ≡ []) }
+        // Each shape is one that payloads can have, and no two tables name the same messages.
+        ensures good { IsGoodTypes self.now }
+    {
+        self.tables.is_empty()
+    }
+
+    /// Puts the line of the value of a message of the k-th datagram behind the text, if a table names
+    /// the message, and says whether it tells a fault. The message begins at the place in the datagram.
+    ///
+    /// ```text
+    /// 0 value speed 42 used 2 of 3
+    /// 0 value fault Truncated at 17
+    /// ```
+    pub fn append_value_line(
+        &self,
+        alloc: Global,
+        k: usize,
+        place: usize,
+        message: &Message<'_>,
+        text: &mut String,
+    ) -> Result<bool, AllocError>
+        requires room { place + length (spelling (view message.now)) ≤ usize.MAX }
+        ensures ok { OnOk result (string_bytes text.new
+            ≡ string_bytes text.old ++ value_line self.now k place (view message.now)) }
+        ensures faulty { IfOk result (λ faulty. faulty ≡ has_value_fault self.now (view message.now)) }
+        // Memory ran out: the text is as it was.
+        ensures err { OnErr result (string_bytes text.new ≡ string_bytes text.old) }
+    {
+        let Some(table) = self.table_for(&message.header) else {
+            return Ok(false);
+        };
+        let (line, faulty) = payload_line(alloc, table, k, place, message.payload)?;
+        text.push_str(line.as_str())?;
+        Ok(faulty)
+    }
+
+    /// The table that names the messages with a header, if there is one.
+    fn table_for(&self, header: &Header) -> Option<&TypedMessage>
+        ensures { option_map (λ t. typed_view t.now) result ≡ table_for self.now header.now }
+    {
+        let key = key_by(header.service, header.method, header.kind);
+        match self.places.get(&key) {
+            Some(place) => self.tables.get(*place),
+            None => None,
+        }
+    }
+}
