@@ -4,3 +4,7 @@ pub mod DataText
 pub mod ValueLine
 pub mod Views
 pub mod GoodTypes
+pub mod Keys
+pub mod Tables
+pub mod Says
+pub mod Refusals

@@ -9,9 +9,13 @@
 #![tactic(auto)]
 
 mod error;
+mod index;
+mod keys;
 mod message_key;
 mod message_types;
+mod tables;
 mod typed_message;
+mod unknown;
 mod value_line;
 
 pub use error::TypesError;
