@@ -8,3 +8,4 @@ pub mod Keys
 pub mod Tables
 pub mod Says
 pub mod Refusals
+pub mod TypesInput

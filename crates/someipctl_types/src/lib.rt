@@ -13,10 +13,12 @@ mod index;
 mod keys;
 mod message_key;
 mod message_types;
+mod reading;
 mod tables;
 mod typed_message;
 mod unknown;
 mod value_line;
 
-pub use error::TypesError;
+pub use error::{TypesError, TypesFault};
 pub use message_types::MessageTypes;
+pub use reading::read_types;
