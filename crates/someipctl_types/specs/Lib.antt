@@ -9,3 +9,4 @@ pub mod Tables
 pub mod Says
 pub mod Refusals
 pub mod TypesInput
+pub mod Examples

@@ -11,6 +11,7 @@
 mod error;
 mod index;
 mod keys;
+pub mod laws;
 mod message_key;
 mod message_types;
 mod reading;
