@@ -1,6 +1,6 @@
 -- Types, messages and trees, for laws by example.
-use Rattle.std.specs.Prelude.{ℕ, codes, List, [], ◌∷◌, ◌++◌, Option, Some, None}
-use Rattle.toml.specs.Data.{Data, array, table, no_items, item, no_members, member}
+use Rattle.std.specs.Prelude.{pos, ℕ, codes, List, [], ◌∷◌, ◌++◌, Option, Some, None}
+use Rattle.toml.specs.Data.{string, integer, Data, array, table, no_items, item, no_members, member}
 use Rattle.someip_wire.specs.declared.header.MessageType.{MessageType}
 use Rattle.someip_wire.specs.declared.header.MessageType.TheVariants.{Notification}
 use Rattle.someip_wire.specs.Spelling.{MessageValue}
@@ -34,6 +34,15 @@ keyed key d = table (member key d no_members)
 
 abbrev pub file_with : Data → Data
 file_with d = keyed (codes "message") (array (item d no_items))
+
+-- the table that says the types above, by rising keys
+abbrev pub speed_data : Data
+speed_data = table (
+  member (codes "method") (integer (pos 0x8001)) (
+  member (codes "name") (string (codes "speed")) (
+  member (codes "service") (integer (pos 0x1234)) (
+  member (codes "shape") (string (codes "struct(u16,u8)")) (
+  member (codes "type") (string (codes "NOTIFICATION")) no_members)))))
 
 -- ---- texts
 
