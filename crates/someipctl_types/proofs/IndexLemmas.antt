@@ -17,7 +17,7 @@ use Rattle.someip_wire.specs.declared.header.Header.{Header}
 use Rattle.someipctl_types.specs.declared.message_key.MessageKey.{MessageKey}
 use Rattle.someipctl_types.specs.declared.typed_message.TypedMessage.{TypedMessage}
 use Rattle.someipctl_types.specs.GoodTypes.{same_messages, has_clash}
-use Rattle.someipctl_types.specs.Types.{names, table_for}
+use Rattle.someipctl_types.specs.Types.{is_for, table_for}
 use Rattle.someipctl_types.specs.Views.{typed_view, types_view, key_of, header_key, key_cmp, IsIndex}
 
 -- ---- keys
@@ -37,8 +37,8 @@ same_keys a b =
 abbrev has_key : MessageKey → TypedMessage → Bool
 has_key key t = eq_by_cmp key_cmp key (key_of t)
 
-names-key : (h : Header) (t : TypedMessage) → has_key (header_key h) t ≡ names h (typed_view t)
-names-key h t = same_keys (header_key h) (key_of t)
+is_for-key : (h : Header) (t : TypedMessage) → has_key (header_key h) t ≡ is_for h (typed_view t)
+is_for-key h t = same_keys (header_key h) (key_of t)
 
 -- ---- look-up
 
@@ -57,14 +57,14 @@ find_at_index {A} p front (x ∷ xs) = by (p x) refl (find_at_index p (front ++ 
         let long : length (front ++ x ∷ []) ≡ length front + 1 = length-append front (x ∷ []) in
         rw is (rw (long, append_assoc front (x ∷ []) xs) at rest)
 
-find-view : (h : Header) (ts : List TypedMessage) → option_map typed_view (find (has_key (header_key h)) ts) ≡ find (names h) (map typed_view ts)
+find-view : (h : Header) (ts : List TypedMessage) → option_map typed_view (find (has_key (header_key h)) ts) ≡ find (is_for h) (map typed_view ts)
 find-view h [] = refl
-find-view h (t ∷ ts) = by (names h (typed_view t)) refl (find-view h ts)
+find-view h (t ∷ ts) = by (is_for h (typed_view t)) refl (find-view h ts)
   where
-    by : (b : Bool) → names h (typed_view t) ≡ b → option_map typed_view (find (has_key (header_key h)) ts) ≡ find (names h) (map typed_view ts)
-        → option_map typed_view (find (has_key (header_key h)) (t ∷ ts)) ≡ find (names h) (map typed_view (t ∷ ts))
-    by true is rest = rw (names-key h t ∙ is, is) refl
-    by false is rest = rw (names-key h t ∙ is, is) rest
+    by : (b : Bool) → is_for h (typed_view t) ≡ b → option_map typed_view (find (has_key (header_key h)) ts) ≡ find (is_for h) (map typed_view ts)
+        → option_map typed_view (find (has_key (header_key h)) (t ∷ ts)) ≡ find (is_for h) (map typed_view (t ∷ ts))
+    by true is rest = rw (is_for-key h t ∙ is, is) refl
+    by false is rest = rw (is_for-key h t ∙ is, is) rest
 
 -- what the map gives is the table that names the messages
 pub table_found : (places : BTreeMap MessageKey ℕ) (ts : List TypedMessage) (h : Header) (place : Option ℕ) → IsIndex places ts → place ≡ tree.get key_cmp places (header_key h)

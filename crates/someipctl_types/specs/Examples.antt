@@ -38,11 +38,11 @@ file_with d = keyed (codes "message") (array (item d no_items))
 -- the table that says the types above, by rising keys
 abbrev pub speed_data : Data
 speed_data = table (
-  member (codes "method") (integer (pos 0x8001)) (
-  member (codes "name") (string (codes "speed")) (
-  member (codes "service") (integer (pos 0x1234)) (
-  member (codes "shape") (string (codes "struct(u16,u8)")) (
-  member (codes "type") (string (codes "NOTIFICATION")) no_members)))))
+    member (codes "method") (integer (pos 0x8001)) (
+    member (codes "name") (string (codes "speed")) (
+    member (codes "service") (integer (pos 0x1234)) (
+    member (codes "shape") (string (codes "struct(u16,u8)")) (
+    member (codes "type") (string (codes "NOTIFICATION")) no_members)))))
 
 -- ---- texts
 
