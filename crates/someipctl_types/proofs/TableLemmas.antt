@@ -46,7 +46,7 @@ tells_too (errors.Missing k) then h = then h
 tells_too (errors.WrongKind k) then h = then h
 tells_too (errors.OutOfRange k) then h = then h
 tells_too (errors.UnknownKey k) then h = absurd h
-tells_too (errors.BadShape k) then h = then h
+tells_too (errors.BadShape k) then h = (then h.0, h.1)
 tells_too (errors.Clash k) then h = absurd h
 
 -- ---- tables

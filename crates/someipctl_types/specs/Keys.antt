@@ -13,13 +13,13 @@ infixl 10 ◌>>=◌
 abbrev pub ◌>>=◌ : {A B : Type 0} → Option A → (A → Option B) → Option B
 o >>= f = option_and_then f o
 
--- an error, but for memory, comes only where something does not hold, and tells of the value at a key
+-- an error, but for memory, comes only where this holds, and tells of the value at a key, which for a bad shape is `shape`
 abbrev pub TellsThat : Type 0 → TypesError → Type 0
 TellsThat Fact OutOfMemory = Unit {0}
 TellsThat Fact (Missing key) = Fact
 TellsThat Fact (WrongKind key) = Fact
 TellsThat Fact (OutOfRange key) = Fact
-TellsThat Fact (BadShape key) = Fact
+TellsThat Fact (BadShape key) = Fact × (key.now ≡ codes "shape")
 TellsThat Fact error = ⊥
 
 -- what is read is what is found, and an error comes only where nothing is

@@ -1,5 +1,5 @@
 -- What unknown keys and clashes refuse.
-use Rattle.std.specs.Prelude.{◌≡◌, Bool, true, false, Result, Ok, Err}
+use Rattle.std.specs.Prelude.{◌≡◌, Bool, true, false, codes, Result, Ok, Err}
 use Rattle.someipctl_types.specs.declared.error.TypesError.{TypesError}
 use Rattle.someipctl_types.specs.declared.error.TypesError.TheVariants.{UnknownKey, Clash, OutOfMemory}
 
@@ -10,8 +10,8 @@ RefusesKey unknown (Err (UnknownKey key)) = unknown ≡ true
 RefusesKey unknown (Err OutOfMemory) = Unit {0}
 RefusesKey unknown (Err error) = ⊥
 
--- an error of comparing tables tells that two name the same messages, or that memory ran out
+-- an error of comparing tables tells that two at `message` name the same messages, or that memory ran out
 abbrev pub TellsClash : Bool → TypesError → Type 0
-TellsClash clash (Clash key) = clash ≡ true
+TellsClash clash (Clash key) = (clash ≡ true) × (key.now ≡ codes "message")
 TellsClash clash OutOfMemory = Unit {0}
 TellsClash clash error = ⊥

@@ -67,15 +67,15 @@ IsReadUnlessMemory types (Err error) = ⊥
 abbrev pub SaysNoTables : Data → Type 0
 SaysNoTables tree = (types : TypesValue) → SaysTables tree types → ⊥
 
--- a tree may be refused by an error: its tables say nothing, whichever of the four that is told by; or it has an unknown
--- key; or two tables name the same messages
+-- a tree may be refused by an error: its tables say nothing, whichever of the four that is told by, where a bad shape
+-- stands at `shape`; or it has an unknown key; or two of the tables at `message` name the same messages
 abbrev pub HasFault : Data → TypesError → Type 0
 HasFault tree (Missing key) = SaysNoTables tree
 HasFault tree (WrongKind key) = SaysNoTables tree
 HasFault tree (OutOfRange key) = SaysNoTables tree
-HasFault tree (BadShape key) = SaysNoTables tree
+HasFault tree (BadShape key) = SaysNoTables tree × (key.now ≡ codes "shape")
 HasFault tree (UnknownKey key) = has_unknown_key tree ≡ true
-HasFault tree (Clash key) = (types : TypesValue) × SaysTables tree types × (has_clash types ≡ true)
+HasFault tree (Clash key) = ((types : TypesValue) × SaysTables tree types × (has_clash types ≡ true)) × (key.now ≡ codes "message")
 HasFault tree OutOfMemory = Unit {0}
 HasFault tree NotToml = ⊥
 

@@ -1,4 +1,4 @@
-use Rattle.std.proofs.Common.{rules, ◌≡◌, true, None}
+use Rattle.std.proofs.Common.{refl, rules, ◌≡◌, true, None}
 use Rattle.someipctl_types.proofs.IndexLemmas.{has_place, empty_index, met_again, met_first}
 use Rattle.std.specs.BTreeMap as tree
 use Rattle.someipctl_types.specs.Views.{key_cmp, key_of}
@@ -10,7 +10,7 @@ loop-i-init c = empty_index c.new-places.result c.args.tables.now c.new-places.e
 pub returns-then-is_some-clause-clash : goal.returns-then-is_some-clause-clash
 returns-then-is_some-clause-clash c =
     let found : has_place c.loop-i.places c.loop-i.i c.args.tables.now c.index-tables-i.result ≡ true = search rules in
-    met_again c.loop-i.places c.loop-i.i c.args.tables.now c.index-tables-i.result c.loop-i-test.true c.index-tables-i.is found c.loop-i.invariant
+    (met_again c.loop-i.places c.loop-i.i c.args.tables.now c.index-tables-i.result c.loop-i-test.true c.index-tables-i.is found c.loop-i.invariant, refl)
 
 pub loop-i-preserved : goal.loop-i-preserved
 loop-i-preserved c =
