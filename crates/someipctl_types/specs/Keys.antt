@@ -13,24 +13,24 @@ infixl 10 ◌>>=◌
 abbrev pub ◌>>=◌ : {A B : Type 0} → Option A → (A → Option B) → Option B
 o >>= f = option_and_then f o
 
--- an error, but for memory, comes only where this holds, and tells of the value at a key, which for a bad shape is `shape`
-abbrev pub TellsThat : Type 0 → TypesError → Type 0
-TellsThat Fact OutOfMemory = Unit {0}
-TellsThat Fact (Missing key) = Fact
-TellsThat Fact (WrongKind key) = Fact
-TellsThat Fact (OutOfRange key) = Fact
-TellsThat Fact (BadShape key) = Fact × (key.now ≡ codes "shape")
-TellsThat Fact error = ⊥
+-- an error, but for memory, tells of a key at which this holds; that of a bad shape is `shape`
+abbrev pub TellsAt : (List ℕ → Type 0) → TypesError → Type 0
+TellsAt Fails OutOfMemory = Unit {0}
+TellsAt Fails (Missing key) = Fails key.now
+TellsAt Fails (WrongKind key) = Fails key.now
+TellsAt Fails (OutOfRange key) = Fails key.now
+TellsAt Fails (BadShape key) = Fails key.now × (key.now ≡ codes "shape")
+TellsAt Fails error = ⊥
 
--- what is read is what is found, and an error comes only where nothing is
-abbrev pub IsAsFound : {X Y : Type 0} → (X → Y) → Result X TypesError → Option Y → Type 0
-IsAsFound view (Ok x) found = found ≡ Some (view x)
-IsAsFound view (Err e) found = TellsThat (found ≡ None) e
+-- what is read at a key is what is found there, and an error comes only where nothing is, and tells of the key
+abbrev pub IsAsFound : {X Y : Type 0} → (X → Y) → Result X TypesError → List ℕ → Option Y → Type 0
+IsAsFound view (Ok x) key found = found ≡ Some (view x)
+IsAsFound view (Err e) key found = TellsAt (λ k. (k ≡ key) × (found ≡ None)) e
 
--- what is read is said, and nothing else is; an error comes only where nothing is
-abbrev pub IsAsSaid : {X Y : Type 0} → (X → Y) → Result X TypesError → (Y → Type 0) → Type 0
-IsAsSaid view (Ok x) Says = Says (view x) × ((y : _) → Says y → y ≡ view x)
-IsAsSaid view (Err e) Says = TellsThat ((y : _) → Says y → ⊥) e
+-- what is read is said, and nothing else is; an error tells of a key at which something fails
+abbrev pub IsAsSaid : {X Y : Type 0} → (X → Y) → Result X TypesError → (Y → Type 0) → (List ℕ → Type 0) → Type 0
+IsAsSaid view (Ok x) Says Fails = Says (view x) × ((y : _) → Says y → y ≡ view x)
+IsAsSaid view (Err e) Says Fails = TellsAt Fails e
 
 -- ---- numbers and texts
 

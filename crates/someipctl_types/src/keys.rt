@@ -1,13 +1,13 @@
 //! The values at the keys of a table.
-ghost use Rattle.std.specs.Prelude.{◌≡◌, ◌≢◌, Ok, IfOk, IfErr, OnOk, string_bytes};
+ghost use Rattle.std.specs.Prelude.{◌≡◌, ◌≢◌, Ok, codes, IfOk, IfErr, OnOk, string_bytes};
 ghost use Rattle.std.specs.List.{list_all};
 ghost use Rattle.std.specs.Option.{option_map};
 ghost use Rattle.toml.specs.View.{view};
 ghost use Rattle.someip_payload_values.specs.Check.{checked};
 ghost use Rattle.someip_payload_values.specs.View.{form};
 ghost use Rattle.someipctl_types.specs.GoodTypes.{is_label, is_visible};
-ghost use Rattle.someipctl_types.specs.Keys.{IsAsFound, IsAsSaid, TellsThat, id_at, id_of, text_at, kind_at, kind_of_word, label_at};
-ghost use Rattle.someipctl_types.specs.Says.{IsShapeText, SaysForm};
+ghost use Rattle.someipctl_types.specs.Keys.{IsAsFound, IsAsSaid, TellsAt, id_at, id_of, text_at, kind_at, kind_of_word, label_at};
+ghost use Rattle.someipctl_types.specs.Says.{IsShapeText, SaysForm, NoForm};
 
 use crate::error::TypesError;
 use someip_payload::{PayloadError, Shape, ShapeTextError, check_shape, read_shape};
@@ -17,7 +17,7 @@ use toml::Value;
 
 /// The ID at a key, from 0 to FFFF.
 pub(crate) fn id_at(table: &Value, key: &'static str) -> Result<u16, TypesError>
-    ensures { IsAsFound (λ n. n) result (id_at key.now (view table.now)) }
+    ensures { IsAsFound (λ n. n) result key.now (id_at key.now (view table.now)) }
 {
     let Some(value) = table.get(key) else {
         return Err(TypesError::Missing(key));
@@ -30,7 +30,7 @@ pub(crate) fn id_at(table: &Value, key: &'static str) -> Result<u16, TypesError>
 
 /// A number of 16 bits.
 fn id_of(key: &'static str, number: i64) -> Result<u16, TypesError>
-    ensures { IsAsFound (λ n. n) result (id_of number) }
+    ensures { IsAsFound (λ n. n) result key.now (id_of number) }
 {
     match u16::try_from(number) {
         Ok(id) => Ok(id),
@@ -40,7 +40,7 @@ fn id_of(key: &'static str, number: i64) -> Result<u16, TypesError>
 
 /// The text at a key.
 fn text_at<'a>(table: &'a Value, key: &'static str) -> Result<&'a str, TypesError>
-    ensures { IsAsFound (λ text. text.now) result (text_at key.now (view table.now)) }
+    ensures { IsAsFound (λ text. text.now) result key.now (text_at key.now (view table.now)) }
 {
     let Some(value) = table.get(key) else {
         return Err(TypesError::Missing(key));
@@ -53,7 +53,7 @@ fn text_at<'a>(table: &'a Value, key: &'static str) -> Result<&'a str, TypesErro
 
 /// The type at the key `type`.
 pub(crate) fn kind_at(table: &Value) -> Result<MessageType, TypesError>
-    ensures { IsAsFound (λ kind. kind) result (kind_at (view table.now)) }
+    ensures { IsAsFound (λ kind. kind) result (codes "type") (kind_at (view table.now)) }
 {
     match kind_of_word(text_at(table, "type")?) {
         Some(kind) => Ok(kind),
@@ -77,14 +77,14 @@ fn kind_of_word(word: &str) -> Option<MessageType>
 
 /// The shape whose text stands at the key `shape`.
 pub(crate) fn shape_at(alloc: Global, table: &Value) -> Result<Shape, TypesError>
-    ensures { IsAsSaid form result (SaysForm (view table.now)) }
+    ensures { IsAsSaid form result (SaysForm (view table.now)) (NoForm (SaysForm (view table.now))) }
 {
     shape_of(alloc, text_at(table, "shape")?)
 }
 
 /// The shape of a text, if payloads can have it.
 fn shape_of(alloc: Global, text: &str) -> Result<Shape, TypesError>
-    ensures { IsAsSaid form result (IsShapeText text.now) }
+    ensures { IsAsSaid form result (IsShapeText text.now) (NoForm (IsShapeText text.now)) }
 {
     match read_shape(alloc, text) {
         Ok(shape) => accepted(alloc, shape),
@@ -96,7 +96,7 @@ fn shape_of(alloc: Global, text: &str) -> Result<Shape, TypesError>
 /// A shape, if payloads can have it.
 fn accepted(alloc: Global, shape: Shape) -> Result<Shape, TypesError>
     ensures ok { IfOk result (λ s. (s ≡ shape) × (checked (form shape) ≡ Ok tt)) }
-    ensures err { IfErr result (TellsThat (checked (form shape) ≢ Ok tt)) }
+    ensures err { IfErr result (TellsAt (λ k. (k ≡ codes "shape") × (checked (form shape) ≢ Ok tt))) }
 {
     refuse_shape(alloc, &shape)?;
     Ok(shape)
@@ -105,7 +105,7 @@ fn accepted(alloc: Global, shape: Shape) -> Result<Shape, TypesError>
 /// Refuses a shape that payloads cannot have.
 fn refuse_shape(alloc: Global, shape: &Shape) -> Result<(), TypesError>
     ensures ok { OnOk result (checked (form shape.now) ≡ Ok tt) }
-    ensures err { IfErr result (TellsThat (checked (form shape.now) ≢ Ok tt)) }
+    ensures err { IfErr result (TellsAt (λ k. (k ≡ codes "shape") × (checked (form shape.now) ≢ Ok tt))) }
 {
     match check_shape(alloc, shape) {
         Ok(()) => Ok(()),
@@ -116,7 +116,8 @@ fn refuse_shape(alloc: Global, shape: &Shape) -> Result<(), TypesError>
 
 /// The name at the key `name`, if it has one.
 pub(crate) fn label_at(alloc: Global, table: &Value) -> Result<Option<String>, TypesError>
-    ensures { IsAsFound (λ name. option_map string_bytes name) result (label_at (view table.now)) }
+    ensures { IsAsFound (λ name. option_map string_bytes name) result (codes "name")
+        (label_at (view table.now)) }
 {
     let Some(value) = table.get("name") else {
         return Ok(None);

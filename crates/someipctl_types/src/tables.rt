@@ -3,7 +3,7 @@ ghost use Rattle.std.specs.Prelude.{◌≡◌, map, option_map, codes};
 ghost use Rattle.std.specs.List.{list_all};
 ghost use Rattle.toml.specs.View.{view};
 ghost use Rattle.someipctl_types.specs.Keys.{IsAsFound, IsAsSaid};
-ghost use Rattle.someipctl_types.specs.Says.{SaysEach, SaysTable};
+ghost use Rattle.someipctl_types.specs.Says.{SaysEach, SaysTable, FailsAt, OneFailsAt};
 ghost use Rattle.someipctl_types.specs.Tables.{as_list, is_table, message_tables};
 ghost use Rattle.someipctl_types.specs.Views.{typed_view, types_view};
 
@@ -15,7 +15,7 @@ use toml::Value;
 
 /// The tables at the key `message`, or none.
 pub(crate) fn message_tables(tree: &Value) -> Result<&[Value], TypesError>
-    ensures { IsAsFound (λ s. map view s.now) result (message_tables (view tree.now)) }
+    ensures { IsAsFound (λ s. map view s.now) result (codes "message") (message_tables (view tree.now)) }
 {
     let Some(value) = tree.get("message") else {
         return Ok(&[]);
@@ -59,7 +59,8 @@ pub(crate) fn typed_messages(
     alloc: Global,
     tables: &[Value],
 ) -> Result<Vec<TypedMessage>, TypesError>
-    ensures { IsAsSaid (λ v. types_view v.items) result (SaysEach (map view tables.now)) }
+    ensures { IsAsSaid (λ v. types_view v.items) result (SaysEach (map view tables.now))
+        (OneFailsAt (map view tables.now)) }
 {
     let mut messages = Vec::new(alloc);
     for table in tables {
@@ -70,7 +71,7 @@ pub(crate) fn typed_messages(
 
 /// What a table says.
 fn typed_message(alloc: Global, table: &Value) -> Result<TypedMessage, TypesError>
-    ensures { IsAsSaid typed_view result (SaysTable (view table.now)) }
+    ensures { IsAsSaid typed_view result (SaysTable (view table.now)) (FailsAt (view table.now)) }
 {
     let service = id_at(table, "service")?;
     let method = id_at(table, "method")?;

@@ -8,7 +8,7 @@ pub returns-in_err-typed_message : goal.returns-in_err-typed_message
 returns-in_err-typed_message c =
     let p = err_from_is_err_and c.from_residual.result c.from_residual.ensures.1 in
     rw (p.1, p.2)
-    (at_fault (types_view c.loop-table.messages.items) c.loop-table.table-index c.args.tables.now _ _ c.loop-table-test.true (rw c.table-item.is at c.in_err-typed_message.ensures) c.loop-table.invariant)
+    (at_fault (types_view c.loop-table.messages.items) c.loop-table.table-index c.args.tables.now _ _ c.loop-table-test.true (rw c.table-item.is at c.in_err-typed_message.ensures))
 
 pub loop-table-preserved : goal.loop-table-preserved
 loop-table-preserved c =
