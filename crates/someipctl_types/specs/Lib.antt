@@ -4,3 +4,9 @@ pub mod DataText
 pub mod ValueLine
 pub mod Views
 pub mod GoodTypes
+pub mod Keys
+pub mod Tables
+pub mod Says
+pub mod Refusals
+pub mod TypesInput
+pub mod Examples

@@ -18,9 +18,9 @@ abbrev pub TypesValue : Type 0
 TypesValue = List TypedMessageValue
 
 -- a table names the messages with a header: service, method and type are the same
-abbrev pub names : Header → TypedMessageValue → Bool
-names h t = (h.service == t.service) && ((h.method == t.method) && (kind_byte h.kind == kind_byte t.kind))
+abbrev pub is_for : Header → TypedMessageValue → Bool
+is_for h t = (h.service == t.service) && ((h.method == t.method) && (kind_byte h.kind == kind_byte t.kind))
 
 -- the table that names the messages with a header, if there is one
 abbrev pub table_for : TypesValue → Header → Option TypedMessageValue
-table_for types h = find (names h) types
+table_for types h = find (is_for h) types

@@ -1,6 +1,6 @@
 -- What types files say as trees of numbers, by which proofs tell them apart.
 use Rattle.std.specs.Prelude.{ℕ, ◌==◌, Bool, if◌then◌else◌, List, Option, Some, None, ◌≡◌, refl}
-use Rattle.std.proofs.Common.{ap}
+use Rattle.std.proofs.Common.{ap, ◌∙◌}
 use Rattle.std.specs.Coded.{Coded, code_by, coded×, coded_ℕ, coded_list, coded_option}
 use base.Stored.{Gv, gnil, gnum, gcons, num}
 use Rattle.someip_wire.specs.contracts.header.MessageType as kind
@@ -132,29 +132,34 @@ abbrev mutual
   members_of_tree (gcons n (gcons o (gcons a b))) = member_then (num n) (numbered_bit (num o)) (form_of_tree a) (members_of_tree b)
   members_of_tree _ = no_members
 
+both : {A B C : Type 0} (f : A → B → C) {a c : A} {b d : B} → a ≡ c → b ≡ d → f a b ≡ f c d
+both f {c = c} {b = b} p q = ap (λ x. f x b) p ∙ ap (f c) q
+
 mutual
   pub same_form : (f : Form) → form_of_tree (form_tree f) ≡ f
   same_form bool = refl
   same_form (unsigned size) = ap unsigned (same_size size)
   same_form (signed size) = ap signed (same_size size)
-  same_form (string encoding width) = cc (same_encoding encoding, same_width width)
-  same_form (array width n f) = cc (same_width width, same_form f)
+  same_form (string encoding width) = both string (same_encoding encoding) (same_width width)
+  same_form (array width n f) = both (λ w g. array w n g) (same_width width) (same_form f)
   same_form (fixed n f) = ap (fixed n) (same_form f)
-  same_form («struct» width fs) = cc (same_width_or width, same_forms fs)
+  same_form («struct» width fs) = both «struct» (same_width_or width) (same_forms fs)
   same_form (union vs) = ap union (same_variants vs)
-  same_form (tagged width ms) = cc (same_width width, same_members ms)
+  same_form (tagged width ms) = both tagged (same_width width) (same_members ms)
 
   pub same_forms : (fs : Forms) → forms_of_tree (forms_tree fs) ≡ fs
   same_forms no_forms = refl
-  same_forms (form_then f fs) = cc (same_form f, same_forms fs)
+  same_forms (form_then f fs) = both form_then (same_form f) (same_forms fs)
 
   pub same_variants : (vs : Variants) → variants_of_tree (variants_tree vs) ≡ vs
   same_variants no_variants = refl
-  same_variants (variant n f vs) = cc (same_form f, same_variants vs)
+  same_variants (variant n f vs) = both (variant n) (same_form f) (same_variants vs)
 
   pub same_members : (ms : Members) → members_of_tree (members_tree ms) ≡ ms
   same_members no_members = refl
-  same_members (member_then id optional f ms) = cc (same_bit optional, same_form f, same_members ms)
+  same_members (member_then id optional f ms) =
+      ap (λ o. member_then id o (form_of_tree (form_tree f)) (members_of_tree (members_tree ms))) (same_bit optional)
+      ∙ both (member_then id optional) (same_form f) (same_members ms)
 
 -- ---- codes
 

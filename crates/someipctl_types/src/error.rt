@@ -1,7 +1,9 @@
 //! Why a text is no types file, or none was read.
 ghost use Rattle.std.specs.Prelude.{◌≡◌};
 ghost use Rattle.someipctl_types.specs.declared.error.TypesError.TheVariants.{OutOfMemory};
+ghost use Rattle.someipctl_types.specs.TypesInput.{fault_of_input};
 
+use someipctl_inputs::ReadFault;
 use std::alloc::{AllocError, AllocFailed};
 use thiserror::Error;
 
@@ -47,5 +49,30 @@ impl<T: Drop> From<AllocFailed<T>> for TypesError {
 
     fn from(_error: AllocFailed<T>) -> TypesError {
         TypesError::OutOfMemory
+    }
+}
+
+/// Why no types file was read.
+#[derive(Debug, Drop, Error)]
+pub enum TypesFault {
+    /// Its text is no types file.
+    #[error("types: {0}")]
+    Refused(TypesError),
+    /// It could not be read.
+    #[error("{}", ReadFault::CannotRead)]
+    CannotRead,
+    /// Memory ran out.
+    #[error("out of memory")]
+    OutOfMemory,
+}
+
+impl From<ReadFault> for TypesFault {
+    ghost from_gives = { λ fault e. e ≡ fault_of_input fault };
+
+    fn from(fault: ReadFault) -> TypesFault {
+        match fault {
+            ReadFault::CannotRead => TypesFault::CannotRead,
+            ReadFault::OutOfMemory => TypesFault::OutOfMemory,
+        }
     }
 }

@@ -9,10 +9,17 @@
 #![tactic(auto)]
 
 mod error;
+mod index;
+mod keys;
+pub mod laws;
 mod message_key;
 mod message_types;
+mod reading;
+mod tables;
 mod typed_message;
+mod unknown;
 mod value_line;
 
-pub use error::TypesError;
+pub use error::{TypesError, TypesFault};
 pub use message_types::MessageTypes;
+pub use reading::read_types;

@@ -13,6 +13,9 @@ use std::alloc::{AllocError, Global};
 /// How many bytes a header has, which stands in front of each payload.
 const HEADER_LEN: usize = 16;
 
+/// How many bytes most lines have room in, so that few of them grow.
+const LINE_LEN: usize = 96;
+
 /// The line of a payload by the table that names its message, which begins at the place in the k-th
 /// datagram; and whether it tells a fault.
 pub(crate) fn payload_line(
@@ -53,7 +56,7 @@ fn read_line(
     ensures { IfOk result (λ line. string_bytes line
         ≡ read_line k (option_map (λ n. string_bytes n.now) name.entry) (data_of value.now) used all) }
 {
-    let mut line = String::new(alloc);
+    let mut line = String::with_capacity(alloc, LINE_LEN)?;
     write!(line, "{k} value ")?;
     put_name(&mut line, name)?;
     write!(line, "{value}")?;
@@ -88,7 +91,7 @@ fn put_used(line: &mut String, used: usize, all: usize) -> Result<(), AllocError
 fn fault_line(alloc: Global, k: usize, name: &str, place: usize) -> Result<String, AllocError>
     ensures { IfOk result (λ line. string_bytes line ≡ fault_line k name.now place) }
 {
-    let mut line = String::new(alloc);
+    let mut line = String::with_capacity(alloc, LINE_LEN)?;
     writeln!(line, "{k} value fault {name} at {place}")?;
     Ok(line)
 }
