@@ -1,7 +1,8 @@
 -- The records of a recording: what is left out of them, and what is shown of the others.
-use Rattle.std.proofs.Common.{◌≡◌, ℕ, ◌+◌, List, [], ◌∷◌, ◌++◌, None, Ok, Err, refl, sym, ap, ◌∙◌, append_assoc, arith}
+use Rattle.std.proofs.Common.{◌≡◌, ℕ, ◌+◌, List, [], ◌∷◌, ◌++◌, None, Some, Ok, Err, refl, sym, ap, ◌∙◌, append_assoc, arith}
 use Rattle.std.specs.Option.{option_to_list}
 use Rattle.std.proofs.lemmas.Grind.{flat_map-append}
+use Rattle.std.proofs.lemmas.List.{append-nil}
 use Rattle.recording.specs.declared.Skipped.{Skipped}
 use Rattle.recording.specs.declared.Skipped.TheVariants.{LinkType, NotIpv4, Fragment, NotUdp, Cut, BadUdpLength}
 use Rattle.recording.specs.Packets.{DatagramValue, datagram, other}
@@ -83,3 +84,10 @@ recorded-append asked p (d ∷ ds) others =
 pub after-append : (asked : AskedValue) (p : Progress) (ds others : List DatagramValue) → after_all asked p (ds ++ others) ≡ after_all asked (after_all asked p ds) others
 after-append asked p [] others = refl
 after-append asked p (d ∷ ds) others = after-append asked (after_datagram asked p d) ds others
+
+-- the next record gives a datagram that is asked for
+pub recorded_one : (asked : AskedValue) (p : Progress) (item : Item) (d : DatagramValue) → asked_in asked item ≡ Some d → recorded_from asked p (asked_of asked (item ∷ [])) ≡ recorded_text asked p d
+recorded_one asked p item d is = ap (λ o. recorded_from asked p (option_to_list o ++ [])) is ∙ append-nil (recorded_text asked p d)
+
+pub after_one : (asked : AskedValue) (p : Progress) (item : Item) (d : DatagramValue) → asked_in asked item ≡ Some d → after_all asked p (asked_of asked (item ∷ [])) ≡ after_datagram asked p d
+after_one asked p item d is = ap (λ o. after_all asked p (option_to_list o ++ [])) is

@@ -221,7 +221,15 @@ fn put_record<S: Reassembly + Drop, W: Write>(
     let Some(datagram) = asked_in(asked, found) else {
         return Ok(());
     };
-    put_next(buffer, writer, datagram, asked.endpoints, shown, lines, telling)
+    put_next(
+        buffer,
+        writer,
+        datagram,
+        asked.endpoints,
+        shown,
+        lines,
+        telling,
+    )
 }
 
 /// Prints the text of the next datagram that is asked for, and counts it.
