@@ -19,7 +19,7 @@ use Rattle.clap.specs.declared.parser.matches.Found.{Found}
 use Rattle.clap.specs.declared.parser.matches.SubCommand.{SubCommand}
 use Rattle.clap.proofs.WalkLemmas.{first_value-rows}
 use Rattle.clap.proofs.OnLiterals.{clap_on_literals}
-use Rattle.someipctl_cli.specs.CommandLine.{IsTaken, cli, is_flag, asked_by_subcommand, asked_by_entered, requested, asked_by_show, show_request, asked_by_payload, asked_by_run, asked_by_vectors, asked_by_recording, asked_by_chart}
+use Rattle.someipctl_cli.specs.CommandLine.{IsTaken, cli, is_flag, asked_by_subcommand, asked_by_entered, requested, asked_by_show, show_request, asked_by_payload, asked_by_run, asked_by_vectors, asked_by_recording, asked_by_chart, RecordingRequest, options_found, options_in, recording_options_of}
 use Rattle.someipctl_cli.proofs.ClapWalkLemmas.{EntersNoHelp, enters_subcommand, has_value, is_wanted, wanted_value}
 
 -- a command alone, as it is among others
@@ -68,12 +68,12 @@ stop_asks a each None named none some = absurd (true≢false (sym some))
 stop_asks a each (Some p) named none some = found_asks p named a.subs each none some
 
 -- `show` asks for something where its argument has a value
-show_some : (capture : Option Text) → is_some capture ≡ true → IsSome (asked_by_show capture)
-show_some None some = absurd (true≢false (sym some))
-show_some (Some capture) some = refl
+show_some : (capture service types : Option Text) → is_some capture ≡ true → IsSome (asked_by_show capture service types)
+show_some None service types some = absurd (true≢false (sym some))
+show_some (Some capture) service types some = refl
 
 show_asks : (s : Shape) → bytes_eq s.name (codes "show") ≡ true → list_all has_value s.rules ≡ true → is_wanted (codes "capture") s ≡ true → Asks s
-show_asks s is valued wanted name met named words none = rw is (show_some _ (wanted_value s (codes "capture") valued wanted words none))
+show_asks s is valued wanted name met named words none = rw is (show_some _ _ _ (wanted_value s (codes "capture") valued wanted words none))
 
 payload_some : (shape hex : Option Text) → is_some shape ≡ true → is_some hex ≡ true → IsSome (asked_by_payload shape hex)
 payload_some None hex some more = absurd (true≢false (sym some))
@@ -103,14 +103,14 @@ run_asks : (s : Shape) → bytes_eq s.name (codes "show") ≡ false → bytes_eq
 run_asks s other another third is valued setup schedule name met named words none =
     rw (other, another, third, is) (run_some _ _ _ _ (wanted_value s (codes "setup") valued setup words none) (wanted_value s (codes "schedule") valued schedule words none))
 
-recording_some : (file ports endpoints : Option Text) → is_some file ≡ true → IsSome (asked_by_recording file ports endpoints)
-recording_some None ports endpoints some = absurd (true≢false (sym some))
-recording_some (Some file) ports endpoints some = refl
+recording_some : (file : Option Text) (options : RecordingRequest) → is_some file ≡ true → IsSome (asked_by_recording file options)
+recording_some None options some = absurd (true≢false (sym some))
+recording_some (Some file) options some = refl
 
 recording_asks : (s : Shape) → bytes_eq s.name (codes "show") ≡ false → bytes_eq s.name (codes "payload") ≡ false → bytes_eq s.name (codes "vectors") ≡ false
     → bytes_eq s.name (codes "run") ≡ false → bytes_eq s.name (codes "recording") ≡ true → list_all has_value s.rules ≡ true → is_wanted (codes "file") s ≡ true → Asks s
 recording_asks s other another third fourth is valued file name met named words none =
-    rw (other, another, third, fourth, is) (recording_some _ _ _ (wanted_value s (codes "file") valued file words none))
+    rw (other, another, third, fourth, is) (recording_some _ _ (wanted_value s (codes "file") valued file words none))
 
 chart_some : (setup schedule : Option Text) → is_some setup ≡ true → is_some schedule ≡ true → IsSome (asked_by_chart setup schedule)
 chart_some None schedule some more = absurd (true≢false (sym some))
@@ -169,12 +169,12 @@ show_capture_taken program (x ∷ []) plain = go (x == 45) refl
     go false e = simp e
 show_capture_taken program (x ∷ (y ∷ ys)) plain = simp plain
 
-pub show_capture_requested : (program capture : Text) → is_flag capture ≡ false → requested (program ∷ codes "show" ∷ capture ∷ []) ≡ Some (show_request capture)
+pub show_capture_requested : (program capture : Text) → is_flag capture ≡ false → requested (program ∷ codes "show" ∷ capture ∷ []) ≡ Some (show_request capture None None)
 unfolding clap_on_literals
 show_capture_requested program [] plain = refl
 show_capture_requested program (x ∷ []) plain = go (x == 45) refl
   where
-    go : (b : Bool) → (x == 45) ≡ b → requested (program ∷ codes "show" ∷ (x ∷ []) ∷ []) ≡ Some (show_request (x ∷ []))
+    go : (b : Bool) → (x == 45) ≡ b → requested (program ∷ codes "show" ∷ (x ∷ []) ∷ []) ≡ Some (show_request (x ∷ []) None None)
     go true e = simp e
     go false e = simp e
 show_capture_requested program (x ∷ (y ∷ ys)) plain = simp plain
@@ -213,10 +213,12 @@ entered_is m name rows e f = go (out-ArgMatches m).subcommand e f
 
 -- what `show` asks for is what its matches ask for
 pub show_in : (m : ArgMatches) (name : Text) (f : Found) → subcommand_rows_of m ≡ Some (name, rows_of f) → bytes_eq name (codes "show") ≡ true
-    → asked_by_show (first_value f (codes "capture")) ≡ asked_by_entered (subcommand_rows_of m)
+    → asked_by_show (first_value f (codes "capture")) (first_value f (codes "service")) (first_value f (codes "types")) ≡ asked_by_entered (subcommand_rows_of m)
 show_in m name f is show =
-    let there : asked_by_subcommand name (rows_of f) ≡ asked_by_show (first_of (codes "capture") (rows_of f)) = rw show refl in
-    ap asked_by_show (first_value-rows f (codes "capture")) ∙ sym there ∙ sym (ap asked_by_entered is)
+    let there : asked_by_subcommand name (rows_of f) ≡ asked_by_show (first_of (codes "capture") (rows_of f)) (first_of (codes "service") (rows_of f)) (first_of (codes "types") (rows_of f)) = rw show refl in
+    ap (λ (a : Option Text). asked_by_show a (first_value f (codes "service")) (first_value f (codes "types"))) (first_value-rows f (codes "capture"))
+    ∙ ap₂ (asked_by_show (first_of (codes "capture") (rows_of f))) (first_value-rows f (codes "service")) (first_value-rows f (codes "types"))
+    ∙ sym there ∙ sym (ap asked_by_entered is)
 
 pub payload_in : (m : ArgMatches) (name : Text) (f : Found) → subcommand_rows_of m ≡ Some (name, rows_of f) → bytes_eq name (codes "show") ≡ false → bytes_eq name (codes "payload") ≡ true
     → asked_by_payload (first_value f (codes "shape")) (first_value f (codes "hex")) ≡ asked_by_entered (subcommand_rows_of m)
@@ -241,15 +243,26 @@ run_in m name f is other another third run =
     ∙ ap₂ (λ (a b : Option Text). asked_by_run (first_of (codes "setup") (rows_of f)) (first_of (codes "schedule") (rows_of f)) a b) (first_value-rows f (codes "expect")) (first_value-rows f (codes "lines"))
     ∙ sym there ∙ sym (ap asked_by_entered is)
 
+-- the options that were found are those of the rows
+options_same : (f : Found) → options_found f ≡ options_in (rows_of f)
+options_same f =
+    let v : Text → Option Text = first_value f in
+    let o : Text → Option Text = λ id. first_of id (rows_of f) in
+    ap₂ (λ (a b : Option Text). recording_options_of a b (v (codes "service")) (v (codes "types")) (v (codes "whole")) (v (codes "whole-limit")) (v (codes "whole-slots")) (v (codes "whole-timeout")))
+    (first_value-rows f (codes "ports")) (first_value-rows f (codes "endpoints"))
+    ∙ ap₂ (λ (a b : Option Text). recording_options_of (o (codes "ports")) (o (codes "endpoints")) a b (v (codes "whole")) (v (codes "whole-limit")) (v (codes "whole-slots")) (v (codes "whole-timeout")))
+    (first_value-rows f (codes "service")) (first_value-rows f (codes "types"))
+    ∙ ap₂ (λ (a b : Option Text). recording_options_of (o (codes "ports")) (o (codes "endpoints")) (o (codes "service")) (o (codes "types")) a b (v (codes "whole-slots")) (v (codes "whole-timeout")))
+    (first_value-rows f (codes "whole")) (first_value-rows f (codes "whole-limit"))
+    ∙ ap₂ (λ (a b : Option Text). recording_options_of (o (codes "ports")) (o (codes "endpoints")) (o (codes "service")) (o (codes "types")) (o (codes "whole")) (o (codes "whole-limit")) a b)
+    (first_value-rows f (codes "whole-slots")) (first_value-rows f (codes "whole-timeout"))
+
 pub recording_in : (m : ArgMatches) (name : Text) (f : Found) → subcommand_rows_of m ≡ Some (name, rows_of f) → bytes_eq name (codes "show") ≡ false → bytes_eq name (codes "payload") ≡ false
     → bytes_eq name (codes "vectors") ≡ false → bytes_eq name (codes "run") ≡ false → bytes_eq name (codes "recording") ≡ true
-    → asked_by_recording (first_value f (codes "file")) (first_value f (codes "ports")) (first_value f (codes "endpoints")) ≡ asked_by_entered (subcommand_rows_of m)
+    → asked_by_recording (first_value f (codes "file")) (options_found f) ≡ asked_by_entered (subcommand_rows_of m)
 recording_in m name f is other another third fourth recording =
-    let there : asked_by_subcommand name (rows_of f) ≡ asked_by_recording (first_of (codes "file") (rows_of f)) (first_of (codes "ports") (rows_of f)) (first_of (codes "endpoints") (rows_of f))
-    = rw (other, another, third, fourth, recording) refl in
-    ap (λ (a : Option Text). asked_by_recording a (first_value f (codes "ports")) (first_value f (codes "endpoints"))) (first_value-rows f (codes "file"))
-    ∙ ap₂ (asked_by_recording (first_of (codes "file") (rows_of f))) (first_value-rows f (codes "ports")) (first_value-rows f (codes "endpoints"))
-    ∙ sym there ∙ sym (ap asked_by_entered is)
+    let there : asked_by_subcommand name (rows_of f) ≡ asked_by_recording (first_of (codes "file") (rows_of f)) (options_in (rows_of f)) = rw (other, another, third, fourth, recording) refl in
+    ap₂ asked_by_recording (first_value-rows f (codes "file")) (options_same f) ∙ sym there ∙ sym (ap asked_by_entered is)
 
 pub chart_in : (m : ArgMatches) (name : Text) (f : Found) → subcommand_rows_of m ≡ Some (name, rows_of f) → bytes_eq name (codes "show") ≡ false → bytes_eq name (codes "payload") ≡ false
     → bytes_eq name (codes "vectors") ≡ false → bytes_eq name (codes "run") ≡ false → bytes_eq name (codes "recording") ≡ false → bytes_eq name (codes "chart") ≡ true

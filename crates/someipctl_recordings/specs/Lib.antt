@@ -1,5 +1,6 @@
 pub mod LeftOut
 pub mod Ports
+pub mod WholeLimits
 pub mod Heads
 pub mod Moments
 pub mod Gathered

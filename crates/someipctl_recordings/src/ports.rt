@@ -75,7 +75,7 @@ fn port_of(word: &str) -> Option<u16>
 }
 
 /// Whether a word is digits, the first of which is no zero.
-fn is_plain(word: &[u8]) -> bool
+pub(crate) fn is_plain(word: &[u8]) -> bool
     ensures { result ≡ is_plain word.now }
 {
     begins_plain(word) && are_digits(word)
