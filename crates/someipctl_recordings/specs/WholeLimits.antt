@@ -40,7 +40,7 @@ pub record SaysLimits (limit slots timeout : Option (List ℕ)) (l : declared_li
   pub slots_is : slots_in slots ≡ Some l.slots
   pub timeout_is : timeout_in timeout ≡ Some l.timeout_ms
 
--- the first of the texts that says none
+-- the text that the error names says none
 abbrev pub IsRefusedLimit : Option (List ℕ) → Option (List ℕ) → Option (List ℕ) → LimitsError → Type 0
 IsRefusedLimit limit slots timeout BadLimit = limit_in limit ≡ None
 IsRefusedLimit limit slots timeout BadSlots = slots_in slots ≡ None
