@@ -7,10 +7,10 @@ use rows::{ROWS, Wanted};
 use someip_world::{SetupError, StepFault};
 use someipctl_cli::{Failure, LineError, answer_error, command_of, run};
 use someipctl_commands::payload::PayloadRefusal;
-use someipctl_commands::ports::PortsError;
-use someipctl_commands::recordings::RecordingFault;
 use someipctl_commands::show::ShowError;
 use someipctl_commands::vectors::VectorsError;
+use someipctl_recordings::RecordingFault;
+use someipctl_recordings::ports::PortsError;
 use someipctl_run::{RunFault, SetupFault, read_setup};
 use std::alloc::{AllocError, Global};
 
