@@ -60,6 +60,8 @@ mod schedule;
 #[cfg(test)]
 mod setup;
 #[cfg(test)]
+mod showing;
+#[cfg(test)]
 mod slow;
 #[cfg(test)]
 mod starts;
