@@ -1,5 +1,6 @@
 //! Recordings whose messages are put together from their segments, over both bodies of reassembly.
 use crate::slow::{SlowWriter, UNLIMITED};
+use others::{ASKED, REFUSED};
 use packets::recording_of;
 use rows::{ROWS, Row};
 use someip_tp::{IntervalPool, Reassembly, SegmentList};
@@ -7,8 +8,10 @@ use someipctl_recordings::{Asked, show_recording};
 use someipctl_types::MessageTypes;
 use std::alloc::{AllocError, Global};
 
+mod others;
 mod packets;
 mod rows;
+mod segments;
 
 /// The text of lines: what stands before each, and the line.
 fn text_of(alloc: Global, lines: &[(&str, &str)]) -> Result<String, AllocError> {
@@ -67,9 +70,19 @@ fn is_right(alloc: Global, row: &Row) -> Option<bool> {
     Some(both_show(alloc, row, &file, text.as_str()))
 }
 
+/// The number of the first row that is not right.
+fn first_wrong(alloc: Global, rows: &[Row]) -> Option<usize> {
+    for (index, row) in rows.iter().enumerate() {
+        if is_right(alloc, row) != Some(true) {
+            return Some(index);
+        }
+    }
+    None
+}
+
 #[test]
 fn messages_are_put_together(rt: HostRuntime) {
-    for (index, row) in ROWS.iter().enumerate() {
-        assert!(rt; is_right(rt.alloc(), row) == Some(true), "row {index}");
-    }
+    assert!(rt; first_wrong(rt.alloc(), ROWS).is_none(), "ROWS");
+    assert!(rt; first_wrong(rt.alloc(), REFUSED).is_none(), "REFUSED");
+    assert!(rt; first_wrong(rt.alloc(), ASKED).is_none(), "ASKED");
 }
