@@ -17,7 +17,7 @@
 //! - `failing`: commands over a reader and a writer that fail, for each of their calls;
 //! - `recordings`: what is left out of a recording, and recordings that are not written whole;
 //! - `wholes`: recordings whose messages are put together, over both bodies of reassembly;
-//! - `services`, `types`, `shown`: texts that name services, types files, and captures over both; `showing`: commands
+//! - `services`, `limits`, `types`, `shown`: texts that name services or say limits, types files, and captures; `showing`: commands
 //!   without what they add;
 //! - `laws`: the laws of the commands, of types files and of the command line;
 //! - `printed`, `endings`, `slow`: how values are printed, how what the program does ends, and readers and writers
@@ -48,6 +48,8 @@ mod endings;
 mod failing;
 #[cfg(test)]
 mod laws;
+#[cfg(test)]
+mod limits;
 #[cfg(test)]
 mod moments;
 #[cfg(test)]
