@@ -1,5 +1,5 @@
 -- What clap's matches say of the command line.
-use Rattle.std.proofs.Common.{◌≡◌, ◌∙◌, ◌||◌, ◌==◌, Bool, cond, true, false, true≢false, refl, sym, ap, ap₂, subst, List, [], ◌∷◌, Option, Some, None, IsSome, is_some, codes, find, option_map, drop, Box, Result}
+use Rattle.std.proofs.Common.{◌≡◌, ◌∙◌, ◌||◌, ◌==◌, Bool, cond, true, false, true≢false, refl, sym, ap, ap₂, subst, List, [], ◌∷◌, Option, Some, None, IsSome, is_some, codes, find, option_map, drop, Box, Result, ◌⊎◌, inl, inr}
 use Rattle.std.specs.List.{list_all}
 use Rattle.std.specs.Option.{option_map_or}
 use Rattle.std.specs.Prelude.{IfOk}
@@ -9,6 +9,12 @@ use Rattle.std.proofs.lemmas.Result.{IfOk-weaker}
 use Rattle.std.specs.Box.{box_value}
 use Rattle.std.specs.declared.alloc.Global.{Global}
 use Rattle.clap.specs.Words.{App, HasMatchesOf, Row, Shape, Text, app_of, built, fault_of, first_of, first_value, found_of, is_simple, is_simple_and_free, rows_of, shape_of, subcommand_name_of, subcommand_rows, subcommand_rows_of}
+use Rattle.clap.specs.Words.{HasKind, IsAmong, Kinds, kind_of}
+use Rattle.clap.specs.declared.Error.{Error}
+use Rattle.clap.specs.declared.error.ErrorKind.{ErrorKind}
+use Rattle.clap.specs.declared.error.ErrorKind.TheVariants as kind
+use Rattle.someipctl_cli.specs.declared.command.LineError.{LineError}
+use Rattle.someipctl_cli.specs.declared.command.LineError.TheVariants.{Usage, Help, OutOfMemory}
 use Rattle.clap.specs.Walk.{answers_to, nothing_held}
 use Rattle.clap.specs.Simple.{entered, label_of, rows_at}
 use Rattle.clap.specs.Faults.{entered_fault, level_fault}
@@ -19,7 +25,7 @@ use Rattle.clap.specs.declared.parser.matches.Found.{Found}
 use Rattle.clap.specs.declared.parser.matches.SubCommand.{SubCommand}
 use Rattle.clap.proofs.WalkLemmas.{first_value-rows}
 use Rattle.clap.proofs.OnLiterals.{clap_on_literals}
-use Rattle.someipctl_cli.specs.CommandLine.{IsTaken, cli, is_flag, asked_by_subcommand, asked_by_entered, requested, asked_by_show, show_request, asked_by_payload, asked_by_run, asked_by_vectors, asked_by_recording, asked_by_chart, RecordingRequest, options_found, options_in, recording_options_of}
+use Rattle.someipctl_cli.specs.CommandLine.{HaveFault, IsLineErrorOf, IsTaken, RefusesWords, cli, is_flag, asked_by_subcommand, asked_by_entered, requested, asked_by_show, show_request, asked_by_payload, asked_by_run, asked_by_vectors, asked_by_recording, asked_by_chart, RecordingRequest, options_found, options_in, recording_options_of}
 use Rattle.someipctl_cli.proofs.ClapWalkLemmas.{EntersNoHelp, enters_subcommand, has_value, is_wanted, wanted_value}
 
 -- a command alone, as it is among others
@@ -196,6 +202,25 @@ parsed_some a words m is matches taken none =
     let parsed = parsed_asks a words m is matches taken in
     let some : is_some (requested words) ≡ true = taken_matches words parsed.1 in
     absurd (true≢false (sym some ∙ sym (ap is_some (none ∙ parsed.0))))
+
+-- ---- what an error of the parse says
+
+help_among : (k : ErrorKind) (faults : Kinds) → k ≡ kind.DisplayHelp → (k ≡ kind.OutOfMemory) ⊎ IsAmong k faults → IsAmong kind.DisplayHelp faults
+help_among k faults is (inl memory) = absurd (let bad : kind.DisplayHelp ≡ kind.OutOfMemory = sym is ∙ memory in cc)
+help_among k faults is (inr among) = subst (λ (k : ErrorKind). IsAmong k faults) is among
+
+other_among : (k : ErrorKind) (faults : Kinds) → (k ≡ kind.OutOfMemory → ⊥) → (k ≡ kind.OutOfMemory) ⊎ IsAmong k faults → IsAmong k faults
+other_among k faults other (inl memory) = absurd (other memory)
+other_among k faults other (inr among) = among
+
+-- help comes for a call for help, and usage for another fault
+pub refuses_words : (a : App) (words : List Text) (from : Error) (l : LineError) → a ≡ cli → (is_simple_and_free a ≡ true → HasKind (fault_of a words) from) → IsLineErrorOf from l → RefusesWords words l
+refuses_words a words from (Help text) is kinds shown =
+    help_among (kind_of from) (fault_of cli words) shown (subst (λ (a : App). (is_simple_and_free a ≡ true → HasKind (fault_of a words) from)) is kinds cli_is_free)
+refuses_words a words from (Usage e) is kinds shown =
+    let among = other_among (kind_of from) (fault_of cli words) shown.2 (subst (λ (a : App). (is_simple_and_free a ≡ true → HasKind (fault_of a words) from)) is kinds cli_is_free) in
+    subst (λ (e : Error). HaveFault words (kind_of e)) (sym shown.0) (shown.1, among)
+refuses_words a words from OutOfMemory is kinds shown = tt
 
 -- a name and rows that a look gave are those of the subcommand
 pub entered_is : (m : ArgMatches) (name : Text) (rows : List Row) → Some name ≡ subcommand_name_of m → Some rows ≡ option_map (λ p. p.1) (subcommand_rows_of m)
