@@ -10,13 +10,12 @@ use Rattle.recording.specs.declared.number.ByteOrder.{ByteOrder}
 use Rattle.recording.specs.declared.number.ByteOrder.TheVariants.{Big, Little}
 use Rattle.recording.specs.declared.block.BlockKind.{BlockKind}
 use Rattle.recording.specs.declared.block.BlockKind.TheVariants as kinds
-use Rattle.recording.specs.declared.format.Format.{Format}
 use Rattle.recording.specs.declared.format.Format.TheVariants.{Blocks}
 use Rattle.recording.specs.declared.interface.Interface.{Interface}
 use Rattle.recording.specs.Numbers.{number32}
 use Rattle.recording.specs.Blocks.{kind_of, block_kind, block_order, order_in, total_len, block_len, block_fault, block_in}
-use Rattle.recording.specs.Sections.{Meaning, meaning_of, interfaces_after}
-use Rattle.recording.specs.Records.{Item, items_from, items_of, items_after, or_fault, part_meaning, part_len, format_after, section_after}
+use Rattle.recording.specs.Sections.{meaning_of, interfaces_after}
+use Rattle.recording.specs.Records.{Item, items_from, items_behind, items_of, format_of, items_after, or_fault, part_meaning, part_len, format_after, section_after}
 use Rattle.recording.specs.Spelling.{bytes32, SpelledBlock, head, plain, order_by, number_by, body_by, framed, block_bytes, BlockFits, value_by, blocks_bytes, last_order, BlocksEndAt, IsBlocks, blocks_list}
 use Rattle.recording.proofs.ItemLemmas.{items_from-nil, items_from-part}
 use Rattle.recording.proofs.ClassicSpelling.{length-bytes32, number32-front, number32-at}
@@ -134,15 +133,44 @@ block_in-spelled : (o own : ByteOrder) (kind : BlockKind) (body bytes rest : Lis
     → block_in o bytes ≡ record { kind = kind; order = own; body = body }
 block_in-spelled o own kind body bytes rest h = rw (h.order_is, h.kind_is, h.frame.total, h.frame.held) refl
 
+-- what is known of a block as it is spelled, in a section with these interfaces, and the bytes behind it
+pub record BlockStep (o : ByteOrder) (interfaces : List Interface) (b : SpelledBlock) (bytes others : List ℕ) : Type 0 where
+  pub some : 0 < length bytes
+  pub meaning : (p : ℕ) → part_meaning (Blocks o) interfaces p bytes ≡ meaning_of interfaces p (value_by o b)
+  pub format_is : format_after (Blocks o) bytes ≡ Blocks (order_by o b)
+  pub section : section_after (Blocks o) interfaces bytes ≡ interfaces_after interfaces (value_by o b)
+  pub len : part_len (Blocks o) bytes ≡ 12 + length (body_by b)
+  pub size : part_len (Blocks o) bytes ≡ length (block_bytes o b)
+  pub behind : drop (part_len (Blocks o) bytes) bytes ≡ others
+
+pub block_step : (o : ByteOrder) (interfaces : List Interface) (b : SpelledBlock) (others : List ℕ) → BlockFits b → BlockStep o interfaces b (block_bytes o b ++ others) others
+block_step o interfaces b others fits =
+    let own = order_by o b in
+    let kind = kind_of (number_by b) in
+    let body = body_by b in
+    let bytes = block_bytes o b ++ others in
+    let h = block_read o b others fits in
+    let total = total_len-spelled o own kind body bytes others h in
+    let is_value : block_in o bytes ≡ value_by o b = block_in-spelled o own kind body bytes others h in
+    let size : block_len o bytes ≡ length (block_bytes o b) = omega (arith, total, h.frame.len, length-append (block_bytes o b) others) in
+    record {
+      some = omega (arith, h.frame.len);
+      meaning = λ p. ap (λ f. or_fault f (meaning_of interfaces p (block_in o bytes))) (block_fault-spelled o own kind body bytes others p h) ∙ ap (meaning_of interfaces p) is_value;
+      format_is = ap Blocks (order_in-spelled o own kind body bytes others h);
+      section = ap (interfaces_after interfaces) is_value;
+      len = omega (arith, total);
+      size = size;
+      behind = drop_at (block_bytes o b) others _ (sym size);
+    }
+
 -- ---- the blocks
 
--- the items at a part, with what is known of it
-items_from-step : (format after : Format) (interfaces later : List Interface) (p q : ℕ) (bytes behind : List ℕ) (meaning : Meaning) → 0 < length bytes
-    → part_meaning format interfaces p bytes ≡ meaning → format_after format bytes ≡ after → section_after format interfaces bytes ≡ later
-    → p + part_len format bytes ≡ q → drop (part_len format bytes) bytes ≡ behind
-    → items_from format interfaces p bytes ≡ items_after meaning (items_from after later q behind)
-items_from-step format after interfaces later p q bytes behind meaning some is is_format is_section is_place is_behind =
-    rw (← is_format, ← is_section, ← is_place, ← is_behind) (items_from-part format interfaces p bytes meaning some is)
+-- the items at a block, with what is known of it
+block_first : (o : ByteOrder) (interfaces : List Interface) (p : ℕ) (b : SpelledBlock) (bytes others : List ℕ) → BlockStep o interfaces b bytes others
+    → items_from (Blocks o) interfaces p bytes
+    ≡ items_after (meaning_of interfaces p (value_by o b)) (items_from (Blocks (order_by o b)) (interfaces_after interfaces (value_by o b)) (p + length (block_bytes o b)) others)
+block_first o interfaces p b bytes others h =
+    rw (← h.format_is, ← h.section, ← h.size, ← h.behind) (items_from-part (Blocks o) interfaces p bytes (meaning_of interfaces p (value_by o b)) h.some (h.meaning p))
 
 blocks_read : (o : ByteOrder) (interfaces : List Interface) (p : ℕ) (blocks : List SpelledBlock) (end : Option RecordingError) (rest : List ℕ) → AllByRecursion BlockFits blocks
     → BlocksEndAt (last_order o blocks) (p + length (blocks_bytes o blocks)) rest end
@@ -154,40 +182,30 @@ blocks_read o interfaces p [] (Some e) (b ∷ rest) fits ends =
     items_from-part (Blocks o) interfaces p (b ∷ rest) (Err e) (omega arith) (ap (λ f. or_fault f (meaning_of interfaces p (block_in o (b ∷ rest)))) fault)
 blocks_read o interfaces p (b ∷ blocks) end rest fits ends =
     let own = order_by o b in
-    let value = value_by o b in
-    let later = interfaces_after interfaces value in
+    let later = interfaces_after interfaces (value_by o b) in
     let others = blocks_bytes own blocks ++ rest in
-    let bytes = block_bytes o b ++ others in
-    let h = block_read o b others fits.0 in
-    let total = total_len-spelled o own (kind_of (number_by b)) (body_by b) bytes others h in
-    let is_value : block_in o bytes ≡ value = block_in-spelled o own (kind_of (number_by b)) (body_by b) bytes others h in
-    let size : block_len o bytes ≡ length (block_bytes o b) = omega (arith, total, h.frame.len, length-append (block_bytes o b) others) in
-    let meaning : part_meaning (Blocks o) interfaces p bytes ≡ meaning_of interfaces p value =
-    ap (λ f. or_fault f (meaning_of interfaces p (block_in o bytes))) (block_fault-spelled o own (kind_of (number_by b)) (body_by b) bytes others p h)
-    ∙ ap (meaning_of interfaces p) is_value in
-    let step : items_from (Blocks o) interfaces p bytes ≡ items_after (meaning_of interfaces p value) (items_from (Blocks own) later (p + length (block_bytes o b)) others) =
-    items_from-step (Blocks o) (Blocks own) interfaces later p (p + length (block_bytes o b)) bytes others (meaning_of interfaces p value) (omega (arith, h.frame.len)) meaning
-    (ap Blocks (order_in-spelled o own (kind_of (number_by b)) (body_by b) bytes others h)) (ap (interfaces_after interfaces) is_value) (omega (arith, size))
-    (drop_at (block_bytes o b) others _ (sym size)) in
     let next : items_from (Blocks own) later (p + length (block_bytes o b)) others ≡ blocks_list own later (p + length (block_bytes o b)) blocks end =
     blocks_read own later (p + length (block_bytes o b)) blocks end rest fits.1
     (subst (λ q. BlocksEndAt (last_order own blocks) q rest end) (omega (arith, length-append (block_bytes o b) (blocks_bytes own blocks))) ends) in
     ap (items_from (Blocks o) interfaces p) (append_assoc (block_bytes o b) (blocks_bytes own blocks) rest)
-    ∙ step
-    ∙ ap (items_after (meaning_of interfaces p value)) next
+    ∙ block_first o interfaces p b (block_bytes o b ++ others) others (block_step o interfaces b others fits.0)
+    ∙ ap (items_after (meaning_of interfaces p (value_by o b))) next
 
 -- ---- the file
 
--- a file that begins with the type of the head of a section is read as blocks
-pub items_of-blocks : (file : List ℕ) → 12 ≤ length file → number32 Big file 0 ≡ 0x0a0d0d0a → items_of file ≡ Ok (items_from (Blocks Big) [] 0 file)
-items_of-blocks file long is =
+-- a file that begins with the type of the head of a section is one of blocks
+pub format_of-blocks : (file : List ℕ) → 12 ≤ length file → number32 Big file 0 ≡ 0x0a0d0d0a → format_of file ≡ Some (Blocks Big, 0)
+format_of-blocks file long is =
     let some : ltb (length file) 12 ≡ false = le-ltb _ _ long in
     let section : eqb (number32 Big file 0) 0x0a0d0d0a ≡ true = eq-eqb _ _ is in
     rw (some, section) refl
 
+pub format_of-spelled : (blocks : List SpelledBlock) (end : Option RecordingError) (file : List ℕ) → IsBlocks blocks end file → format_of file ≡ Some (Blocks Big, 0)
+format_of-spelled blocks end file h = format_of-blocks file h.long (ap (from_be_bytes w32) h.begins)
+
 pub blocks_are_read : (blocks : List SpelledBlock) (end : Option RecordingError) (file : List ℕ) → IsBlocks blocks end file
     → items_of file ≡ Ok (blocks_list Big [] 0 blocks end)
 blocks_are_read blocks end file h =
-    items_of-blocks file h.long (ap (from_be_bytes w32) h.begins)
+    ap (items_behind file) (format_of-spelled blocks end file h)
     ∙ ap (λ (t : List ℕ). Ok (items_from (Blocks Big) [] 0 t)) h.is
     ∙ ap (λ (t : List Item). Ok t) (blocks_read Big [] 0 blocks end h.rest h.blocks_fit (subst (λ q. BlocksEndAt (last_order Big blocks) q h.rest end) (omega arith) h.ends))

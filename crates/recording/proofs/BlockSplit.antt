@@ -1,5 +1,6 @@
 -- Each file that begins with the type of the head of a section is blocks and an end.
 use Rattle.std.proofs.Common.{◌≡◌, ◌≢◌, ℕ, zero, suc, ◌+◌, ◌-◌, ◌%◌, ◌≤◌, Bool, true, false, cond, not, ltb, eqb, List, [], ◌∷◌, ◌++◌, length, get_or, drop, Option, Some, None, refl, sym, ap, subst, ◌∙◌, append_assoc, arith, inl, inr}
+use Rattle.std.specs.Option.{option_or}
 use Rattle.std.specs.Prelude.{slice_range}
 use Rattle.std.specs.Int.{w32, to_be_bytes}
 use Rattle.std.specs.List.{AllByRecursion}
@@ -33,7 +34,8 @@ record IsWhole (o own : ByteOrder) (bytes : List ℕ) : Type 0 where
 lengths : (o own : ByteOrder) (bytes : List ℕ) (one other : RecordingError) (a b d e f : Bool) → block_order o (block_kind o bytes) bytes ≡ Some own
     → ltb (length bytes) 12 ≡ a → ltb (number32 own bytes 4) 12 ≡ b → eqb (number32 own bytes 4 % 4) 0 ≡ d → ltb (length bytes) (number32 own bytes 4) ≡ e
     → eqb (number32 own bytes (number32 own bytes 4 - 4)) (number32 own bytes 4) ≡ f
-    → cond a (Some one) (cond b (Some other) (cond (not d) (Some other) (cond e (Some one) (cond (not f) (Some other) None)))) ≡ None → IsWhole o own bytes
+    → option_or (cond a (Some one) (cond b (Some other) (cond (not d) (Some other) None))) (cond e (Some one) (cond (not f) (Some other) None)) ≡ None
+    → IsWhole o own bytes
 lengths o own bytes one other true b d e f order is_a is_b is_d is_e is_f none = absurd cc
 lengths o own bytes one other false true d e f order is_a is_b is_d is_e is_f none = absurd cc
 lengths o own bytes one other false false false e f order is_a is_b is_d is_e is_f none = absurd cc
@@ -48,15 +50,15 @@ lengths o own bytes one other false false true false true order is_a is_b is_d i
   closing = eqb-true _ _ is_f;
 }
 
-either : (short : Bool) (p : ℕ) → cond short (Some (Truncated p)) (Some (BadOrder p)) ≡ None → ⊥
-either true p is = absurd cc
-either false p is = absurd cc
+either : (short : Bool) (p : ℕ) (others : Option RecordingError) → option_or (cond short (Some (Truncated p)) (Some (BadOrder p))) others ≡ None → ⊥
+either true p others is = absurd cc
+either false p others is = absurd cc
 
 none_is_whole : (o : ByteOrder) (p : ℕ) (bytes : List ℕ) → block_fault o p bytes ≡ None → (own : ByteOrder) × IsWhole o own bytes
 none_is_whole o p bytes h =
     let P : Option ByteOrder → Type 0 = λ q. block_order o (block_kind o bytes) bytes ≡ q → (own : ByteOrder) × IsWhole o own bytes in
     (elim (block_order o (block_kind o bytes) bytes) as P [
-      | None ↦ λ is. absurd (either (ltb (length bytes) 12) p (rw is at h))
+      | None ↦ λ is. absurd (either (ltb (length bytes) 12) p _ (rw is at h))
       | Some own ↦ λ is. (own, lengths o own bytes (Truncated p) (BlockLength p) _ _ _ _ _ is refl refl refl refl refl (rw is at h))
     ]) refl
 

@@ -1,5 +1,5 @@
 -- A file of classic pcap is read as it is spelled.
-use Rattle.std.proofs.Common.{◌≡◌, ℕ, ◌+◌, ◌-◌, ◌*◌, ◌%◌, ◌^◌, ◌<◌, Bool, true, false, ltb, eqb, List, [], ◌∷◌, ◌++◌, length, take, drop, Option, Some, None, Ok, Err, refl, sym, ap, subst, ◌∙◌, append_assoc, arith}
+use Rattle.std.proofs.Common.{◌≡◌, ℕ, ◌+◌, ◌-◌, ◌*◌, ◌%◌, ◌^◌, ◌<◌, Bool, true, false, if◌then◌else◌, ltb, eqb, List, [], ◌∷◌, ◌++◌, length, take, drop, Option, Some, None, Ok, Err, refl, ap, subst, ◌∙◌, append_assoc, arith}
 use Rattle.std.specs.List.{flat_map, AllByRecursion}
 use Rattle.std.proofs.lemmas.Bool.{le-ltb}
 use Rattle.std.proofs.lemmas.List.{take_at, drop_at, length-append}
@@ -12,7 +12,7 @@ use Rattle.recording.specs.declared.format.Format.TheVariants.{Classic}
 use Rattle.recording.specs.Numbers.{number32}
 use Rattle.recording.specs.Packets.{RecordValue}
 use Rattle.recording.specs.Classic.{classic_in, header_in, packet_fault, packet_len, packet_record}
-use Rattle.recording.specs.Records.{Item, items_from, items_of, or_fault}
+use Rattle.recording.specs.Records.{Item, items_from, items_behind, items_of, format_of, or_fault, part_meaning}
 use Rattle.recording.specs.Spelling.{bytes32, PacketValue, PacketFits, packet_bytes, header_bytes, given_by, EndsAt, IsClassic, classic_list}
 use Rattle.recording.proofs.ItemLemmas.{items_from-nil, items_from-part}
 
@@ -75,6 +75,26 @@ packet_record-spelled c k bytes rest h =
     let captured : take (length k.bytes + 16 - 16) (drop 16 bytes) ≡ k.bytes = rw h.behind (take_at k.bytes rest _ (omega arith)) in
     rw (h.captured, captured, h.seconds, h.fraction) refl
 
+-- what is known of a packet as it is spelled, and the bytes behind it
+pub record PacketStep (c : declared_classic.Classic) (k : PacketValue) (bytes others : List ℕ) : Type 0 where
+  pub some : 0 < length bytes
+  pub meaning : (p : ℕ) → part_meaning (Classic c) [] p bytes ≡ Ok (Some (given_by c k))
+  pub len : packet_len c bytes ≡ 16 + length k.bytes
+  pub behind : drop (packet_len c bytes) bytes ≡ others
+
+pub packet_step : (c : declared_classic.Classic) (k : PacketValue) (others : List ℕ) → PacketFits k → PacketStep c k (packet_bytes c.order k ++ others) others
+packet_step c k others fits =
+    let bytes = packet_bytes c.order k ++ others in
+    let h = head_read c.order k others fits in
+    let own = length-packet_bytes c.order k in
+    record {
+      some = omega (arith, h.len);
+      meaning = λ p. ap (λ o. or_fault o (Ok (Some (packet_record c bytes)))) (packet_fault-spelled c p k bytes others h)
+          ∙ ap (λ (r : RecordValue). Ok (Some r)) (packet_record-spelled c k bytes others h);
+      len = omega (arith, h.captured);
+      behind = drop_at (packet_bytes c.order k) others _ (omega (arith, h.captured, own));
+    }
+
 -- ---- the packets
 
 packets_read : (c : declared_classic.Classic) (p : ℕ) (packets : List PacketValue) (end : Option RecordingError) (rest : List ℕ) → AllByRecursion PacketFits packets
@@ -88,17 +108,13 @@ packets_read c p [] (Some e) (b ∷ rest) fits ends =
 packets_read c p (k ∷ packets) end rest fits ends =
     let others = flat_map (packet_bytes c.order) packets ++ rest in
     let bytes = packet_bytes c.order k ++ others in
-    let h = head_read c.order k others fits.0 in
-    let size : packet_len c bytes ≡ length (packet_bytes c.order k) = omega (arith, h.captured, length-packet_bytes c.order k) in
-    let after : drop (packet_len c bytes) bytes ≡ others = drop_at (packet_bytes c.order k) others _ (sym size) in
+    let h = packet_step c k others fits.0 in
     let next : items_from (Classic c) [] (p + packet_len c bytes) others ≡ classic_list c packets end =
     packets_read c (p + packet_len c bytes) packets end rest fits.1
-    (subst (λ q. EndsAt c q rest end) (omega (arith, size, length-append (packet_bytes c.order k) (flat_map (packet_bytes c.order) packets))) ends) in
+    (subst (λ q. EndsAt c q rest end) (omega (arith, h.len, length-packet_bytes c.order k, length-append (packet_bytes c.order k) (flat_map (packet_bytes c.order) packets))) ends) in
     ap (items_from (Classic c) [] p) (append_assoc (packet_bytes c.order k) (flat_map (packet_bytes c.order) packets) rest)
-    ∙ items_from-part (Classic c) [] p bytes (Ok (Some (given_by c k))) (omega (arith, h.len))
-    (ap (λ o. or_fault o (Ok (Some (packet_record c bytes)))) (packet_fault-spelled c p k bytes others h)
-    ∙ ap (λ (r : RecordValue). Ok (Some r)) (packet_record-spelled c k bytes others h))
-    ∙ ap (λ (t : List ℕ). Ok (given_by c k) ∷ items_from (Classic c) [] (p + packet_len c bytes) t) after
+    ∙ items_from-part (Classic c) [] p bytes (Ok (Some (given_by c k))) h.some (h.meaning p)
+    ∙ ap (λ (t : List ℕ). Ok (given_by c k) ∷ items_from (Classic c) [] (p + packet_len c bytes) t) h.behind
     ∙ ap (λ (t : List Item). Ok (given_by c k) ∷ t) next
 
 -- ---- the file
@@ -110,8 +126,8 @@ behind_magic o link free body = free ++ (bytes32 o link ++ body)
 header_read : (o : ByteOrder) (micro : Bool) (x y z w : ℕ) (free : List ℕ) (upper link : ℕ) (body : List ℕ) → length free ≡ 16 → upper < 2 ^ 16 → link < 2 ^ 16
     → ((t : List ℕ) → classic_in (x ∷ y ∷ z ∷ w ∷ t) ≡ Some (header_in o micro (x ∷ y ∷ z ∷ w ∷ t)))
     → ((t : List ℕ) → eqb (number32 Big (x ∷ y ∷ z ∷ w ∷ t) 0) 0x0a0d0d0a ≡ false)
-    → items_of (x ∷ y ∷ z ∷ w ∷ behind_magic o (upper * 0x10000 + link) free body)
-    ≡ Ok (items_from (Classic (record { order = o; micro = micro; link = link })) [] 24 body)
+    → format_of (x ∷ y ∷ z ∷ w ∷ behind_magic o (upper * 0x10000 + link) free body)
+    ≡ Some (Classic (record { order = o; micro = micro; link = link }), 24)
 header_read o micro x y z w free upper link body sixteen upper_fits link_fits is_classic no_blocks =
     let tail = behind_magic o (upper * 0x10000 + link) free body in
     let file = x ∷ y ∷ z ∷ w ∷ tail in
@@ -121,30 +137,38 @@ header_read o micro x y z w free upper link body sixteen upper_fits link_fits is
     let enough : ltb (length file) 24 ≡ false = le-ltb _ _ (omega (arith, len)) in
     let number : number32 o file 20 ≡ upper * 0x10000 + link =
     number32-at o (x ∷ y ∷ z ∷ w ∷ free) (upper * 0x10000 + link) body 20 (omega (arith, sixteen)) (omega (arith, upper_fits, link_fits)) in
-    let behind : drop 24 file ≡ body = sym (ap (drop 24) (append_assoc (x ∷ y ∷ z ∷ w ∷ free) (bytes32 o (upper * 0x10000 + link)) body))
-    ∙ drop_at ((x ∷ y ∷ z ∷ w ∷ free) ++ bytes32 o (upper * 0x10000 + link)) body 24 (omega (arith, sixteen, own, length-append free (bytes32 o (upper * 0x10000 + link)))) in
     let lower : (upper * 0x10000 + link) % 0x10000 ≡ link = omega (arith, link_fits) in
-    rw (some, no_blocks tail, enough, is_classic tail, number, lower, behind) refl
+    rw (some, no_blocks tail, enough, is_classic tail, number, lower) refl
 
-items_of-header : (c : declared_classic.Classic) (free : List ℕ) (upper : ℕ) (body : List ℕ) → length free ≡ 16 → upper < 2 ^ 16 → c.link < 2 ^ 16
-    → items_of (header_bytes c free upper ++ body) ≡ Ok (items_from (Classic c) [] 24 body)
-items_of-header c free upper body sixteen upper_fits link_fits =
+pub format_of-header : (c : declared_classic.Classic) (free : List ℕ) (upper : ℕ) (body : List ℕ) → length free ≡ 16 → upper < 2 ^ 16 → c.link < 2 ^ 16
+    → format_of (header_bytes c free upper ++ body) ≡ Some (Classic c, 24)
+format_of-header c free upper body sixteen upper_fits link_fits =
     by_order c.order c.micro
   where
-    by_order : (o : ByteOrder) (micro : Bool) → items_of (header_bytes (record { order = o; micro = micro; link = c.link }) free upper ++ body)
-        ≡ Ok (items_from (Classic (record { order = o; micro = micro; link = c.link })) [] 24 body)
-    by_order Big true = ap (λ (t : List ℕ). items_of (0xa1 ∷ 0xb2 ∷ 0xc3 ∷ 0xd4 ∷ t)) (append_assoc free _ body)
+    by_order : (o : ByteOrder) (micro : Bool) → format_of (header_bytes (record { order = o; micro = micro; link = c.link }) free upper ++ body)
+        ≡ Some (Classic (record { order = o; micro = micro; link = c.link }), 24)
+    by_order Big true = ap (λ (t : List ℕ). format_of (0xa1 ∷ 0xb2 ∷ 0xc3 ∷ 0xd4 ∷ t)) (append_assoc free _ body)
         ∙ header_read Big true 0xa1 0xb2 0xc3 0xd4 free upper c.link body sixteen upper_fits link_fits (λ t. refl) (λ t. refl)
-    by_order Big false = ap (λ (t : List ℕ). items_of (0xa1 ∷ 0xb2 ∷ 0x3c ∷ 0x4d ∷ t)) (append_assoc free _ body)
+    by_order Big false = ap (λ (t : List ℕ). format_of (0xa1 ∷ 0xb2 ∷ 0x3c ∷ 0x4d ∷ t)) (append_assoc free _ body)
         ∙ header_read Big false 0xa1 0xb2 0x3c 0x4d free upper c.link body sixteen upper_fits link_fits (λ t. refl) (λ t. refl)
-    by_order Little true = ap (λ (t : List ℕ). items_of (0xd4 ∷ 0xc3 ∷ 0xb2 ∷ 0xa1 ∷ t)) (append_assoc free _ body)
+    by_order Little true = ap (λ (t : List ℕ). format_of (0xd4 ∷ 0xc3 ∷ 0xb2 ∷ 0xa1 ∷ t)) (append_assoc free _ body)
         ∙ header_read Little true 0xd4 0xc3 0xb2 0xa1 free upper c.link body sixteen upper_fits link_fits (λ t. refl) (λ t. refl)
-    by_order Little false = ap (λ (t : List ℕ). items_of (0x4d ∷ 0x3c ∷ 0xb2 ∷ 0xa1 ∷ t)) (append_assoc free _ body)
+    by_order Little false = ap (λ (t : List ℕ). format_of (0x4d ∷ 0x3c ∷ 0xb2 ∷ 0xa1 ∷ t)) (append_assoc free _ body)
         ∙ header_read Little false 0x4d 0x3c 0xb2 0xa1 free upper c.link body sixteen upper_fits link_fits (λ t. refl) (λ t. refl)
+
+pub behind-header : (c : declared_classic.Classic) (free : List ℕ) (upper : ℕ) (body : List ℕ) → length free ≡ 16 → drop 24 (header_bytes c free upper ++ body) ≡ body
+behind-header c free upper body sixteen =
+    let magic = length-bytes32 c.order (if c.micro then 0xa1b2c3d4 else 0xa1b23c4d) in
+    let link = length-bytes32 c.order (upper * 0x10000 + c.link) in
+    drop_at (header_bytes c free upper) body 24
+    (omega (arith, sixteen, magic, link, length-append (bytes32 c.order (if c.micro then 0xa1b2c3d4 else 0xa1b23c4d)) (free ++ bytes32 c.order (upper * 0x10000 + c.link)), length-append free (bytes32 c.order (upper * 0x10000 + c.link))))
 
 pub classic_is_read : (c : declared_classic.Classic) (packets : List PacketValue) (end : Option RecordingError) (file : List ℕ) → IsClassic c packets end file
     → items_of file ≡ Ok (classic_list c packets end)
 classic_is_read c packets end file h =
+    let body = flat_map (packet_bytes c.order) packets ++ h.rest in
+    let spelled = header_bytes c h.free h.upper ++ body in
     ap items_of h.is
-    ∙ items_of-header c h.free h.upper (flat_map (packet_bytes c.order) packets ++ h.rest) h.free_len h.upper_fits h.link_fits
+    ∙ ap (items_behind spelled) (format_of-header c h.free h.upper body h.free_len h.upper_fits h.link_fits)
+    ∙ ap (λ (t : List ℕ). Ok (items_from (Classic c) [] 24 t)) (behind-header c h.free h.upper body h.free_len)
     ∙ ap (λ (t : List Item). Ok t) (packets_read c 24 packets end h.rest h.packets_fit h.ends)

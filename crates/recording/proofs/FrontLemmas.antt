@@ -22,7 +22,9 @@ use Rattle.recording.specs.Classic.{header_in, classic_in, packet_len, packet_fa
 use Rattle.recording.specs.Blocks.{BlockValue, kind_of, block_kind, magic_order, block_order, order_in, total_len, closing_len, block_fault, block_in}
 use Rattle.recording.specs.Sections.{Meaning, meaning_of, interfaces_after}
 use Rattle.recording.specs.Records.{part_len, or_fault, part_meaning, format_after, section_after}
-use Rattle.recording.specs.Held.{held_limit, interface_limit, head_len, tells_len, wanted, is_too_long, with_interfaces, held_meaning, classic_start, start_of, CanFollow}
+use Rattle.recording.specs.Held.{held_limit, interface_limit, head_len, tells_len, wanted, is_too_long, with_interfaces, held_meaning}
+use Rattle.recording.specs.Records.{classic_format, format_of}
+use Rattle.recording.specs.Readers.{CanFollow}
 use Rattle.recording.specs.Steps.{Fails}
 
 -- ---- ranges and numbers
@@ -158,7 +160,8 @@ format-front (Classic c) w r le = refl
 format-front (Blocks o) w r le = ap Blocks (order_in-front o w r le)
 
 abbrev tells : Bool → Bool → Bool → Bool → Bool
-tells a b c d = not a && (not b && (not c && d))
+tells a b c d =
+    is_none (cond a (Some (Truncated 0)) (cond b (Some (BadOrder 0)) (cond c (Some (BlockLength 0)) (cond (not d) (Some (BlockLength 0)) None))))
 
 tells-front : (format : Format) (w r : List ℕ) → head_len format ≤ length w → tells_len format (w ++ r) ≡ tells_len format w
 tells-front (Classic c) w r le = ap not (longer 16 w r le ∙ sym (le-ltb (length w) 16 le))
@@ -257,9 +260,9 @@ head-small : (format : Format) → head_len format ≤ held_limit
 head-small (Classic c) = omega arith
 head-small (Blocks o) = omega arith
 
-both : (a b : Bool) → (a && b) ≡ true → a ≡ true
-both true b is = refl
-both false b is = absurd cc
+none-not : (a : Bool) (e : RecordingError) (others : Option RecordingError) → is_none (cond a (Some e) others) ≡ true → a ≡ false
+none-not true e others is = absurd cc
+none-not false e others is = refl
 
 not-false : (a : Bool) → not a ≡ true → a ≡ false
 not-false true is = absurd cc
@@ -267,7 +270,7 @@ not-false false is = refl
 
 tells-head : (format : Format) (w : List ℕ) → tells_len format w ≡ true → head_len format ≤ length w
 tells-head (Classic c) w is = ltb-false (length w) 16 (not-false _ is)
-tells-head (Blocks o) w is = ltb-false (length w) 12 (not-false _ (both _ _ is))
+tells-head (Blocks o) w is = ltb-false (length w) 12 (none-not _ _ _ is)
 
 -- what is too long is so whatever follows, and that is what is meant
 pub long-told : (format : Format) (before : List Interface) (p : ℕ) (held rest : List ℕ) → held_limit < wanted format held
@@ -331,9 +334,9 @@ classic-front w r le =
     ∙ ap (λ c. by_magic (number32 Big w 0) (header_in Big true w) (header_in Big false w) (header_in Little true w) c) (header-front Little false w r le)
 
 abbrev start_by : Bool → Bool → Bool → Option declared_classic.Classic → Option (Format × ℕ)
-start_by a b c q = cond a None (cond b (Some (Blocks Big, 0)) (cond c None (classic_start q)))
+start_by a b c q = cond a None (cond b (Some (Blocks Big, 0)) (cond c None (classic_format q)))
 
-start-front : (w r : List ℕ) → 24 ≤ length w → start_of (w ++ r) ≡ start_of w
+start-front : (w r : List ℕ) → 24 ≤ length w → format_of (w ++ r) ≡ format_of w
 start-front w r le =
     ap (λ a. start_by a (eqb (number32 Big (w ++ r) 0) 0x0a0d0d0a) (ltb (length (w ++ r)) 24) (classic_in (w ++ r))) (longer 12 w r (omega (arith, le)) ∙ sym (le-ltb (length w) 12 (omega (arith, le))))
     ∙ ap (λ n. start_by (ltb (length w) 12) (eqb n 0x0a0d0d0a) (ltb (length (w ++ r)) 24) (classic_in (w ++ r))) (number32-front Big w r 0 (omega (arith, le)))
@@ -341,7 +344,7 @@ start-front w r le =
     ∙ ap (λ q. start_by (ltb (length w) 12) (eqb (number32 Big w 0) 0x0a0d0d0a) (ltb (length w) 24) q) (classic-front w r le)
 
 -- where the head of a file is held, or all of it, what follows changes nothing
-pub start-same : (is_whole : Bool) (w r : List ℕ) → CanFollow is_whole r → (is_whole ≡ true) ⊎ (24 ≤ length w) → start_of (w ++ r) ≡ start_of w
-start-same true w r is told = ap start_of (ap (λ (b : List ℕ). w ++ b) is ∙ append-nil w)
+pub start-same : (is_whole : Bool) (w r : List ℕ) → CanFollow is_whole r → (is_whole ≡ true) ⊎ (24 ≤ length w) → format_of (w ++ r) ≡ format_of w
+start-same true w r is told = ap format_of (ap (λ (b : List ℕ). w ++ b) is ∙ append-nil w)
 start-same false w r follows (inl whole) = absurd cc
 start-same false w r follows (inr le) = start-front w r le

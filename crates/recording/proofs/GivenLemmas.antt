@@ -1,17 +1,13 @@
 -- What a reader gives, beside what a slice gives.
-use Rattle.std.proofs.Common.{ℕ, zero, suc, ◌+◌, Bool, true, false, cond, ltb, eqb, List, [], ◌∷◌, length, drop, Option, Some, None, Ok, Err, refl, ap, inl, inr}
-use Rattle.recording.specs.declared.error.RecordingError.TheVariants.{NotRecording, BlockTooLong, TooManyInterfaces}
-use Rattle.recording.specs.declared.number.ByteOrder.TheVariants.{Big}
-use Rattle.recording.specs.declared.classic.Classic as declared_classic
+use Rattle.std.proofs.Common.{ℕ, zero, suc, ◌+◌, Bool, true, false, cond, ltb, List, [], ◌∷◌, length, drop, Option, Some, None, Ok, Err, refl, ap, inl, inr, zero-add}
+use Rattle.recording.specs.declared.error.RecordingError.TheVariants.{BlockTooLong, TooManyInterfaces}
 use Rattle.recording.specs.declared.format.Format.{Format}
-use Rattle.recording.specs.declared.format.Format.TheVariants.{Classic, Blocks}
 use Rattle.recording.specs.declared.interface.Interface.{Interface}
-use Rattle.recording.specs.Numbers.{number32}
 use Rattle.recording.specs.Packets.{RecordValue}
-use Rattle.recording.specs.Classic.{classic_in}
 use Rattle.recording.specs.Sections.{Meaning}
-use Rattle.recording.specs.Records.{Item, part_len, part_meaning, format_after, section_after, items_after, items_within, items_from, classic_items, items_of}
-use Rattle.recording.specs.Held.{interface_limit, is_too_long, with_interfaces, held_within, held_behind, classic_start, held_of, IsGiven, IsRead}
+use Rattle.recording.specs.Records.{Item, part_len, part_meaning, format_after, section_after, items_after, items_within, items_behind, items_of, format_of}
+use Rattle.recording.specs.Held.{interface_limit, is_too_long, with_interfaces, held_meaning}
+use Rattle.recording.specs.HeldItems.{held_behind, held_of, IsGiven, IsRead}
 
 cons_given : (item : Item) (items given : List Item) → IsGiven items given → IsGiven (item ∷ items) (item ∷ given)
 cons_given item items given (inl same) = inl (ap (λ (l : List Item). item ∷ l) same)
@@ -33,23 +29,19 @@ part_given true p interfaces m items given is = inr ([], items_after m items, Bl
 part_given false p interfaces (Err fault) items given is = inl refl
 part_given false p interfaces (Ok m) items given is = counted (ltb interface_limit (length interfaces)) p m items given is
 
-within_given : (n : ℕ) (format : Format) (interfaces : List Interface) (p : ℕ) (bytes : List ℕ) → IsGiven (items_within n format interfaces p bytes) (held_within n format interfaces p bytes)
-unfolding items_within held_within
+within_given : (n : ℕ) (format : Format) (interfaces : List Interface) (p : ℕ) (bytes : List ℕ) → IsGiven (items_within part_meaning n format interfaces p bytes) (items_within held_meaning n format interfaces p bytes)
+unfolding items_within
 within_given zero format interfaces p bytes = inl refl
 within_given (suc n) format interfaces p [] = inl refl
 within_given (suc n) format interfaces p (b ∷ bytes) =
     part_given (is_too_long format (b ∷ bytes)) p (section_after format interfaces (b ∷ bytes)) (part_meaning format interfaces p (b ∷ bytes)) _ _
     (within_given n (format_after format (b ∷ bytes)) (section_after format interfaces (b ∷ bytes)) (p + part_len format (b ∷ bytes)) (drop (part_len format (b ∷ bytes)) (b ∷ bytes)))
 
-start_given : (file : List ℕ) (a b c : Bool) (q : Option declared_classic.Classic)
-    → IsRead (cond a (Err (NotRecording 0)) (cond b (Ok (items_from (Blocks Big) [] 0 file)) (cond c (Err (NotRecording 0)) (classic_items file q))))
-    (held_behind [] 0 file (cond a None (cond b (Some (Blocks Big, 0)) (cond c None (classic_start q)))))
-start_given file true b c q = refl
-start_given file false true c q = within_given (length file) (Blocks Big) [] 0 file
-start_given file false false true q = refl
-start_given file false false false None = refl
-start_given file false false false (Some c) = within_given (length (drop 24 file)) (Classic c) [] 24 (drop 24 file)
+start_given : (file : List ℕ) (start : Option (Format × ℕ)) → IsRead (items_behind file start) (held_behind [] 0 file start)
+start_given file None = refl
+start_given file (Some s) =
+    rw (zero-add s.1) (within_given (length (drop s.1 file)) s.0 [] s.1 (drop s.1 file))
 
 -- what a reader gives of a file
 pub file_given : (file : List ℕ) → IsRead (items_of file) (held_of file)
-file_given file = start_given file (ltb (length file) 12) (eqb (number32 Big file 0) 0x0a0d0d0a) (ltb (length file) 24) (classic_in file)
+file_given file = start_given file (format_of file)

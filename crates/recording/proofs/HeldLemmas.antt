@@ -1,5 +1,5 @@
 -- The items that a reader gives, one after the other.
-use Rattle.std.proofs.Common.{◌≡◌, ℕ, zero, suc, ◌+◌, ◌<◌, ◌≤◌, List, [], ◌∷◌, ◌++◌, length, drop, Option, Err, Ok, refl, sym, ap, ◌∙◌, arith}
+use Rattle.std.proofs.Common.{◌≡◌, ℕ, ◌+◌, ◌<◌, List, [], ◌∷◌, ◌++◌, length, drop, Option, Err, Ok, sym, ap, ◌∙◌, arith}
 use Rattle.std.proofs.lemmas.List.{drop-drop, drop-append-le, length-drop, length-append, take_rest}
 use Rattle.std.specs.Prelude.{option_map}
 use Rattle.recording.specs.declared.error.RecordingError.{RecordingError}
@@ -12,54 +12,21 @@ use Rattle.recording.specs.Steps.{Fails, IsLast}
 use Rattle.recording.specs.View.{given_in, packet_behind, LiesIn}
 use Rattle.recording.specs.Packets.{RecordValue}
 use Rattle.recording.specs.Records.{Item, part_len, format_after, section_after, items_after}
-use Rattle.recording.specs.Held.{held_meaning, held_within, held_from, IsPart}
-use Rattle.recording.proofs.ItemLemmas.{part_len-some}
+use Rattle.recording.specs.Held.{held_meaning}
+use Rattle.recording.specs.HeldItems.{held_from}
+use Rattle.recording.specs.Told.{IsPart}
+use Rattle.recording.proofs.ItemLemmas.{within-nil, within-part}
 use Rattle.recording.proofs.RangeLemmas.{given-behind}
 
--- more steps than bytes change nothing
-enough : (k n : ℕ) (format : Format) (interfaces : List Interface) (p : ℕ) (bytes : List ℕ) → length bytes ≤ k → length bytes ≤ n
-    → held_within k format interfaces p bytes ≡ held_within n format interfaces p bytes
-unfolding held_within
-enough zero zero format interfaces p bytes le le' = refl
-enough zero (suc n) format interfaces p [] le le' = refl
-enough (suc k) zero format interfaces p [] le le' = refl
-enough (suc k) (suc n) format interfaces p [] le le' = refl
-enough zero (suc n) format interfaces p (b ∷ bytes) le le' = absurd (omega (arith, le))
-enough (suc k) zero format interfaces p (b ∷ bytes) le le' = absurd (omega (arith, le'))
-enough (suc k) (suc n) format interfaces p (b ∷ bytes) le le' =
-    let size = part_len format (b ∷ bytes) in
-    let shorter = length-drop size (b ∷ bytes) in
-    let some = part_len-some format (b ∷ bytes) in
-    ap (items_after (held_meaning format interfaces p (b ∷ bytes)))
-    (enough k n (format_after format (b ∷ bytes)) (section_after format interfaces (b ∷ bytes)) (p + size) (drop size (b ∷ bytes))
-    (omega (arith, shorter, some, le)) (omega (arith, shorter, some, le')))
-
 pub held_from-nil : (format : Format) (interfaces : List Interface) (p : ℕ) → held_from format interfaces p [] ≡ []
-unfolding held_within
-held_from-nil format interfaces p = refl
-
-held_from-cons : (format : Format) (interfaces : List Interface) (p b : ℕ) (bytes : List ℕ)
-    → held_from format interfaces p (b ∷ bytes)
-    ≡ items_after (held_meaning format interfaces p (b ∷ bytes))
-    (held_from (format_after format (b ∷ bytes)) (section_after format interfaces (b ∷ bytes)) (p + part_len format (b ∷ bytes)) (drop (part_len format (b ∷ bytes)) (b ∷ bytes)))
-unfolding held_within
-held_from-cons format interfaces p b bytes =
-    let size = part_len format (b ∷ bytes) in
-    let shorter = length-drop size (b ∷ bytes) in
-    let some = part_len-some format (b ∷ bytes) in
-    ap (items_after (held_meaning format interfaces p (b ∷ bytes)))
-    (enough (length bytes) (length (drop size (b ∷ bytes))) (format_after format (b ∷ bytes)) (section_after format interfaces (b ∷ bytes)) (p + size) (drop size (b ∷ bytes))
-    (omega (arith, shorter, some)) (omega arith))
+held_from-nil = within-nil held_meaning
 
 -- the items of bytes that are left are those of the first part and the others
 pub held_from-part : (format : Format) (interfaces : List Interface) (p : ℕ) (bytes : List ℕ) (meaning : Meaning) → 0 < length bytes
     → held_meaning format interfaces p bytes ≡ meaning
     → held_from format interfaces p bytes
     ≡ items_after meaning (held_from (format_after format bytes) (section_after format interfaces bytes) (p + part_len format bytes) (drop (part_len format bytes) bytes))
-held_from-part format interfaces p [] meaning some is = absurd (omega (arith, some))
-held_from-part format interfaces p (b ∷ bytes) meaning some is =
-    held_from-cons format interfaces p b bytes
-    ∙ ap (λ m. items_after m (held_from (format_after format (b ∷ bytes)) (section_after format interfaces (b ∷ bytes)) (p + part_len format (b ∷ bytes)) (drop (part_len format (b ∷ bytes)) (b ∷ bytes)))) is
+held_from-part = within-part held_meaning
 
 -- what is left behind a part
 pub part_behind : (format : Format) (before after : List Interface) (p q : ℕ) (held bytes : List ℕ) (part : Part) → 0 < length bytes → IsPart format before after p held bytes part → q ≡ p + part.len

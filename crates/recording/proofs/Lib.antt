@@ -16,3 +16,4 @@ pub mod PacketReading
 pub mod BlockSplit
 pub mod RecordingLemmas
 pub mod PacketSplit
+pub mod HeldSpelling

@@ -1,5 +1,5 @@
 -- What comes next of a reader, by what the bytes that it holds tell.
-use Rattle.std.proofs.Common.{◌≡◌, ℕ, ◌+◌, ◌<◌, ◌≤◌, Bool, true, false, List, [], ◌∷◌, ◌++◌, length, drop, Option, Some, None, Result, Ok, Err, refl, sym, ap, ◌∙◌, arith}
+use Rattle.std.proofs.Common.{◌≡◌, ℕ, ◌+◌, ◌≤◌, Bool, true, false, List, [], ◌∷◌, ◌++◌, length, drop, Option, Some, None, Result, Ok, Err, refl, sym, ap, ◌∙◌, arith}
 use Rattle.std.specs.Prelude.{IfOk, IfErr}
 use Rattle.std.specs.Io.KnownBytes.{Consumes}
 use Rattle.std.proofs.lemmas.List.{append-nil, drop-drop, drop_all, drop-append-le, length-drop, take_rest}
@@ -15,7 +15,11 @@ use Rattle.recording.specs.Steps.{IsLast}
 use Rattle.recording.specs.Packets.{RecordValue}
 use Rattle.recording.specs.View.{record_at, given_in, packet_behind, LiesIn}
 use Rattle.recording.specs.Records.{Item, items_after}
-use Rattle.recording.specs.Held.{held_limit, IsAfterRead, held_from, start_of, held_behind, items_by, left, ReaderValue, wanted, CanFollow, IsNext, TakesTold, EndsTold}
+use Rattle.recording.specs.Held.{held_limit, wanted, LacksBytes}
+use Rattle.recording.specs.Readers.{IsAfterRead, items_by, to_come, ReaderValue, CanFollow, IsNext}
+use Rattle.recording.specs.HeldItems.{held_from, held_behind}
+use Rattle.recording.specs.Records.{format_of}
+use Rattle.recording.specs.Told.{TakesTold, EndsTold}
 use Rattle.recording.proofs.RangeLemmas.{given-behind}
 use Rattle.recording.proofs.HeldLemmas.{held_from-nil}
 
@@ -41,7 +45,7 @@ module _ (format : Format) (before after : List Interface) (p : ℕ) (bytes : Li
         ∙ ap (λ (given : Option RecordValue). items_after (Ok given) (held_from told.format after (p + told.len) (drop (start + told.len) bytes ++ rest)))
         (given-behind bytes (drop start bytes) start (length bytes) (Some k) (sym (take_rest bytes start)) le (rw is at lies))
 
-    pub too_few : EndsTold false (drop start bytes) told → length (drop (start + told.len) bytes) < wanted told.format (drop (start + told.len) bytes)
+    pub too_few : EndsTold false (drop start bytes) told → LacksBytes (drop (start + told.len) bytes) (wanted told.format (drop (start + told.len) bytes))
     too_few ends = rw (drop-drop told.len start bytes) at ends
 
     pub nothing : (rest : List ℕ) → EndsTold true (drop start bytes) told → rest ≡ [] → held_from told.format after (p + told.len) (drop (start + told.len) bytes ++ rest) ≡ []
@@ -63,22 +67,25 @@ if_err (Err e) P Q step holds = step e holds
 can-follow : (a b : Bool) (rest : List ℕ) → a ≡ b → CanFollow a rest → CanFollow b rest
 can-follow a b rest is follows = rw (← is) follows
 
--- what is next of a reader that has the same left is next of the other
+-- what is next of a reader of which the same is to come is next of the other
 pub moved : (before inner after : ReaderValue) (next : Next) → inner.is_whole ≡ before.is_whole → before.place ≤ inner.place
-    → ((rest : List ℕ) → CanFollow before.is_whole rest → left before rest ≡ left inner rest) → IsNext inner after next → IsNext before after next
+    → ((rest : List ℕ) → CanFollow before.is_whole rest → to_come before rest ≡ to_come inner rest) → IsNext inner after next → IsNext before after next
 moved before inner after Record whole further same next = (next.0, next.1, omega (arith, further, next.2), λ rest follows. same rest follows ∙ next.3 rest (can-follow _ _ rest (sym whole) follows))
 moved before inner after Unread whole further same next =
-    (sym whole ∙ next.0, next.1, λ rest. same rest (can-follow false before.is_whole rest (sym (sym whole ∙ next.0)) tt) ∙ next.2 rest)
-moved before inner after End whole further same next = λ rest follows.
-    let n = next rest (can-follow _ _ rest (sym whole) follows) in
-    (same rest follows ∙ n.0, n.1)
+    (sym whole ∙ next.0, next.1, λ rest. same rest (can-follow false before.is_whole rest (sym (sym whole ∙ next.0)) tt) ∙ next.2 rest, next.3)
+moved before inner after End whole further same next = (
+  λ rest follows.
+      let n = next.0 rest (can-follow _ _ rest (sym whole) follows) in
+      (same rest follows ∙ n.0, n.1),
+  next.1,
+)
 
 pub last-moved : (e : RecordingError) (one other : List Item) → one ≡ other → IsLast e other → IsLast e one
 last-moved e one other is last = rw is last
 
--- behind the start of a file the same is left
+-- behind the start of a file the same is to come
 pub opened : (format : Format) (interfaces : List Interface) (p len : ℕ) (bytes : List ℕ) (start : ℕ) (rest : List ℕ) → len ≤ length (drop start bytes)
-    → start_of (drop start bytes ++ rest) ≡ Some (format, len)
+    → format_of (drop start bytes ++ rest) ≡ Some (format, len)
     → items_by Head interfaces p (drop start bytes ++ rest) ≡ held_from format interfaces (p + len) (drop (start + len) bytes ++ rest)
 opened format interfaces p len bytes start rest within is =
     ap (held_behind interfaces p (drop start bytes ++ rest)) is
@@ -91,7 +98,7 @@ consumes_none None = tt
 consumes_none (Some xs) = refl
 
 abbrev with_held : ReaderValue → List ℕ → Option RecordValue → ReaderValue
-with_held r held current = record { stage = r.stage; interfaces = r.interfaces; place = r.place; held = held; is_whole = r.is_whole; current = current }
+with_held r held current = record r { held = held; current = current }
 
 -- no read forgets the record, and changes nothing else
 pub unread : (r : ReaderValue) (known : Option (List ℕ)) → (r.is_whole ≡ false → held_limit ≤ length r.held) → IsAfterRead r (with_held r r.held None) known known
@@ -102,4 +109,7 @@ unread r known enough = record {
   whole = λ is. (is, refl);
   end = λ not is. absurd (let same : false ≡ true = sym not ∙ is in cc);
   more = λ not none. enough not;
+  most = omega arith;
+  full = λ limit. refl;
+  forgets = λ not room. let limit = enough not in absurd (omega (arith, limit, room));
 }

@@ -1,14 +1,13 @@
 -- What a file holds, by what it is.
-use Rattle.std.proofs.Common.{◌≡◌, ℕ, Bool, true, false, cond, ltb, eqb, List, [], length, Option, Some, None, Result, Ok, Err, refl, sym, ap, ◌∙◌, inl, inr}
+use Rattle.std.proofs.Common.{◌≡◌, ℕ, Bool, true, false, cond, ltb, eqb, List, length, Option, Some, None, Result, Ok, Err, refl, sym, ap, ◌∙◌, inl, inr}
 use Rattle.std.proofs.lemmas.Bool.{ltb-false, eqb-true}
 use Rattle.recording.specs.declared.error.RecordingError.{RecordingError}
-use Rattle.recording.specs.declared.error.RecordingError.TheVariants.{NotRecording}
 use Rattle.recording.specs.declared.number.ByteOrder.TheVariants.{Big}
 use Rattle.recording.specs.declared.classic.Classic.{Classic}
 use Rattle.recording.specs.declared.format.Format.TheVariants.{Blocks}
 use Rattle.recording.specs.Numbers.{number32}
 use Rattle.recording.specs.Classic.{classic_in}
-use Rattle.recording.specs.Records.{Item, items_from, classic_items, items_of}
+use Rattle.recording.specs.Records.{Item, classic_format, items_behind, items_of}
 use Rattle.recording.specs.Spelling.{IsBytes, IsRecording}
 use Rattle.recording.proofs.ClassicSpelling.{classic_is_read}
 use Rattle.recording.proofs.ClassicSplit.{classic_is_split}
@@ -25,7 +24,7 @@ same_items r one other is_one is_other = let same : Ok one ≡ Ok other = sym is
 
 found : (items : List Item) (file : List ℕ) (a b d : Bool) (q : Option Classic) → IsBytes file → items_of file ≡ Ok items
     → ltb (length file) 12 ≡ a → eqb (number32 Big file 0) 0x0a0d0d0a ≡ b → ltb (length file) 24 ≡ d → classic_in file ≡ q
-    → cond a (Err (NotRecording 0)) (cond b (Ok (items_from (Blocks Big) [] 0 file)) (cond d (Err (NotRecording 0)) (classic_items file q))) ≡ Ok items → IsRecording items file
+    → items_behind file (cond a None (cond b (Some (Blocks Big, 0)) (cond d None (classic_format q)))) ≡ Ok items → IsRecording items file
 found items file true b d q fits read is_a is_b is_d is_q is = absurd cc
 found items file false true d q fits read is_a is_b is_d is_q is =
     let s = blocks_are_split file fits (ltb-false _ _ is_a) (eqb-true _ _ is_b) in

@@ -1,5 +1,6 @@
 -- The blocks of pcapng, by their lengths.
 use Rattle.std.specs.Prelude.{ℕ, ◌+◌, ◌-◌, ◌%◌, nat_lt, ◌==◌, not, if◌then◌else◌, List, length, slice_range, Option, Some, None, is_none, unwrap_or}
+use Rattle.std.specs.Option.{option_or}
 use Rattle.recording.specs.declared.error.RecordingError.{RecordingError}
 use Rattle.recording.specs.declared.error.RecordingError.TheVariants.{Truncated, BadOrder, BlockLength}
 use Rattle.recording.specs.declared.number.ByteOrder.{ByteOrder}
@@ -61,16 +62,25 @@ closing_len order bytes = number32 (order_in order bytes) bytes (total_len order
 abbrev pub block_len : ByteOrder → List ℕ → ℕ
 block_len order bytes = (total_len order bytes - 12) + 12
 
--- the fault of the block at the front, at place p of the file
-abbrev pub block_fault : ByteOrder → ℕ → List ℕ → Option RecordingError
-block_fault order p bytes =
+-- the fault of the head of the block at the front, at place p of the file: of the 12 bytes that tell its length
+abbrev pub head_fault : ByteOrder → ℕ → List ℕ → Option RecordingError
+head_fault order p bytes =
     if nat_lt (length bytes) 12 then Some (Truncated p)
     else (if is_none (block_order order (block_kind order bytes) bytes) then Some (BadOrder p)
     else (if nat_lt (total_len order bytes) 12 then Some (BlockLength p)
     else (if not (total_len order bytes % 4 == 0) then Some (BlockLength p)
-    else (if nat_lt (length bytes) (total_len order bytes) then Some (Truncated p)
+    else None)))
+
+-- the fault of its end, where its head has none
+abbrev pub end_fault : ByteOrder → ℕ → List ℕ → Option RecordingError
+end_fault order p bytes =
+    if nat_lt (length bytes) (total_len order bytes) then Some (Truncated p)
     else (if not (closing_len order bytes == total_len order bytes) then Some (BlockLength p)
-    else None)))))
+    else None)
+
+-- the fault of the block at the front: the first of both
+abbrev pub block_fault : ByteOrder → ℕ → List ℕ → Option RecordingError
+block_fault order p bytes = option_or (head_fault order p bytes) (end_fault order p bytes)
 
 -- the block at the front, where there is no fault
 abbrev pub block_in : ByteOrder → List ℕ → BlockValue

@@ -1,7 +1,10 @@
 -- Bytes that the laws speak of as examples.
-use Rattle.std.specs.Prelude.{ℕ, List, [], ◌∷◌, ◌++◌, take, Some, Ok}
+use Rattle.std.specs.Prelude.{ℕ, true, List, [], ◌∷◌, ◌++◌, take, Some, Ok}
+use Rattle.recording.specs.declared.number.ByteOrder.TheVariants.{Little}
+use Rattle.recording.specs.declared.classic.Classic.{Classic}
 use Rattle.recording.specs.Packets.{datagram}
 use Rattle.recording.specs.Records.{Item}
+use Rattle.recording.specs.Spelling.{PacketValue, SpelledBlock, head, plain}
 
 -- IPv4 from 192.168.0.1 to 192.168.0.2, and UDP from port 30490 to port 30501 with the payload 1, 2, 3
 abbrev pub sent_bytes : List ℕ
@@ -25,12 +28,22 @@ classic_head = 0xd4 ∷ 0xc3 ∷ 0xb2 ∷ 0xa1 ∷ 2 ∷ 0 ∷ 4 ∷ 0 ∷ 0 ∷
 abbrev pub packet_head : List ℕ
 packet_head = 5 ∷ 0 ∷ 0 ∷ 0 ∷ 7 ∷ 0 ∷ 0 ∷ 0 ∷ 0x1f ∷ 0 ∷ 0 ∷ 0 ∷ 0x1f ∷ 0 ∷ 0 ∷ 0 ∷ []
 
+-- the same header and packet as they are spelled
+abbrev pub little_raw : Classic
+little_raw = record { order = Little; micro = true; link = 228 }
+
+abbrev pub sent_packet : PacketValue
+sent_packet = record { seconds = 5; fraction = 7; original = 31; bytes = sent_bytes }
+
 -- the packet alone, and before a part of another
 abbrev pub classic_file : List ℕ
 classic_file = classic_head ++ (packet_head ++ sent_bytes)
 
+abbrev pub cut_packet : List ℕ
+cut_packet = take 20 (packet_head ++ sent_bytes)
+
 abbrev pub cut_file : List ℕ
-cut_file = classic_file ++ take 20 (packet_head ++ sent_bytes)
+cut_file = classic_file ++ cut_packet
 
 -- the head of a packet of which with it 16,777,217 bytes were captured, one more than a reader holds; and one fewer
 abbrev pub too_long_head : List ℕ
@@ -43,6 +56,13 @@ long_head = 5 ∷ 0 ∷ 0 ∷ 0 ∷ 7 ∷ 0 ∷ 0 ∷ 0 ∷ 0xf0 ∷ 0xff ∷ 0x
 -- microseconds; the same the highest byte first, where the interface has nanoseconds
 abbrev pub little_section : List ℕ
 little_section = 0x0a ∷ 0x0d ∷ 0x0d ∷ 0x0a ∷ 0x1c ∷ 0 ∷ 0 ∷ 0 ∷ 0x4d ∷ 0x3c ∷ 0x2b ∷ 0x1a ∷ 1 ∷ 0 ∷ 0 ∷ 0 ∷ 0xff ∷ 0xff ∷ 0xff ∷ 0xff ∷ 0xff ∷ 0xff ∷ 0xff ∷ 0xff ∷ 0x1c ∷ 0 ∷ 0 ∷ 0 ∷ 1 ∷ 0 ∷ 0 ∷ 0 ∷ 0x14 ∷ 0 ∷ 0 ∷ 0 ∷ 0xe4 ∷ 0 ∷ 0 ∷ 0 ∷ 0 ∷ 0 ∷ 0 ∷ 0 ∷ 0x14 ∷ 0 ∷ 0 ∷ 0 ∷ []
+
+-- the first of these as it is spelled
+abbrev pub little_blocks : List SpelledBlock
+little_blocks =
+    head Little (1 ∷ 0 ∷ 0 ∷ 0 ∷ 0xff ∷ 0xff ∷ 0xff ∷ 0xff ∷ 0xff ∷ 0xff ∷ 0xff ∷ 0xff ∷ [])
+    ∷ plain 1 (0xe4 ∷ 0 ∷ 0 ∷ 0 ∷ 0 ∷ 0 ∷ 0 ∷ 0 ∷ [])
+    ∷ []
 
 abbrev pub little_packet : List ℕ
 little_packet = 6 ∷ 0 ∷ 0 ∷ 0 ∷ 0x40 ∷ 0 ∷ 0 ∷ 0 ∷ 0 ∷ 0 ∷ 0 ∷ 0 ∷ 0 ∷ 0 ∷ 0 ∷ 0 ∷ 0xc1 ∷ 0xc6 ∷ 0x2d ∷ 0 ∷ 0x1f ∷ 0 ∷ 0 ∷ 0 ∷ 0x1f ∷ 0 ∷ 0 ∷ 0 ∷ 0x45 ∷ 0 ∷ 0 ∷ 0x1f ∷ 0x12 ∷ 0x34 ∷ 0x40 ∷ 0 ∷ 0x40 ∷ 0x11 ∷ 0 ∷ 0 ∷ 0xc0 ∷ 0xa8 ∷ 0 ∷ 1 ∷ 0xc0 ∷ 0xa8 ∷ 0 ∷ 2 ∷ 0x77 ∷ 0x1a ∷ 0x77 ∷ 0x25 ∷ 0 ∷ 0x0b ∷ 0 ∷ 0 ∷ 1 ∷ 2 ∷ 3 ∷ 0xee ∷ 0x40 ∷ 0 ∷ 0 ∷ 0 ∷ []

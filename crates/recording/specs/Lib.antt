@@ -10,6 +10,10 @@ pub mod View
 pub mod Steps
 pub mod Parts
 pub mod Held
+pub mod HeldItems
+pub mod Told
+pub mod Readers
 pub mod Examples
 pub mod Spelling
 pub mod PacketSpelling
+pub mod HeldSpelling

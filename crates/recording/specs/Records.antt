@@ -53,30 +53,45 @@ items_after (Err fault) others = Err fault ∷ []
 items_after (Ok None) others = others
 items_after (Ok (Some r)) others = Ok r ∷ others
 
--- the items of n packets or blocks at most. Each has 12 bytes at least, so n steps are enough for n bytes.
-unfoldable pub items_within : ℕ → Format → List Interface → ℕ → List ℕ → List Item
-items_within zero format interfaces p bytes = []
-items_within (suc n) format interfaces p [] = []
-items_within (suc n) format interfaces p (b ∷ bytes) =
-    items_after (part_meaning format interfaces p (b ∷ bytes))
-    (items_within n (format_after format (b ∷ bytes)) (section_after format interfaces (b ∷ bytes))
+-- what is meant by the packet or the block at place p of a file, with which these bytes begin, behind these interfaces
+abbrev pub PartMeaning : Type 0
+PartMeaning = Format → List Interface → ℕ → List ℕ → Meaning
+
+-- the items of n packets or blocks at most, by what is meant by each. Each has 12 bytes at least, so n steps are enough
+-- for n bytes.
+unfoldable pub items_within : PartMeaning → ℕ → Format → List Interface → ℕ → List ℕ → List Item
+items_within means zero format interfaces p bytes = []
+items_within means (suc n) format interfaces p [] = []
+items_within means (suc n) format interfaces p (b ∷ bytes) =
+    items_after (means format interfaces p (b ∷ bytes))
+    (items_within means n (format_after format (b ∷ bytes)) (section_after format interfaces (b ∷ bytes))
     (p + part_len format (b ∷ bytes)) (drop (part_len format (b ∷ bytes)) (b ∷ bytes)))
 
 -- the items of the bytes from place p of a file on
 abbrev pub items_from : Format → List Interface → ℕ → List ℕ → List Item
-items_from format interfaces p bytes = items_within (length bytes) format interfaces p bytes
+items_from format interfaces p bytes = items_within part_meaning (length bytes) format interfaces p bytes
 
 -- ---- the file
 
--- the items behind the header of classic pcap, if it is one
-abbrev pub classic_items : List ℕ → Option declared_classic.Classic → Result (List Item) RecordingError
-classic_items file None = Err (NotRecording 0)
-classic_items file (Some c) = Ok (items_from (Classic c) [] 24 (drop 24 file))
+-- the format of classic pcap, whose packets begin at place 24, if the header is one
+abbrev pub classic_format : Option declared_classic.Classic → Option (Format × ℕ)
+classic_format None = None
+classic_format (Some c) = Some (Classic c, 24)
+
+-- the format of a file and the place of its first packet or block: of pcapng, if it begins with the head of a section,
+-- or of classic pcap
+abbrev pub format_of : List ℕ → Option (Format × ℕ)
+format_of file =
+    if nat_lt (length file) 12 then None
+    else (if number32 Big file 0 == 0x0a0d0d0a then Some (Blocks Big, 0)
+    else (if nat_lt (length file) 24 then None
+    else classic_format (classic_in file)))
+
+-- the items of a file behind its start
+abbrev pub items_behind : List ℕ → Option (Format × ℕ) → Result (List Item) RecordingError
+items_behind file None = Err (NotRecording 0)
+items_behind file (Some start) = Ok (items_from start.0 [] start.1 (drop start.1 file))
 
 -- the items of a file: pcapng, if it begins with the head of a section, or classic pcap
 abbrev pub items_of : List ℕ → Result (List Item) RecordingError
-items_of file =
-    if nat_lt (length file) 12 then Err (NotRecording 0)
-    else (if number32 Big file 0 == 0x0a0d0d0a then Ok (items_from (Blocks Big) [] 0 file)
-    else (if nat_lt (length file) 24 then Err (NotRecording 0)
-    else classic_items file (classic_in file)))
+items_of file = items_behind file (format_of file)

@@ -1,8 +1,10 @@
 //! The packets and the blocks that held bytes tell, one after the other.
 ghost use Rattle.std.specs.Prelude.{◌≡◌, ◌≤◌, ◌<◌, ◌+◌, ◌^◌, ◌++◌, ℕ, List, false, length, IfOk, IfErr};
 ghost use Rattle.std.specs.Prelude.{IfSome, IfNone};
-ghost use Rattle.recording.specs.Held.{held_from, held_meaning, wanted, CanFollow, IsPart, TakesTold};
-ghost use Rattle.recording.specs.Held.{EndsTold};
+ghost use Rattle.recording.specs.Held.{held_meaning, wanted, LacksBytes};
+ghost use Rattle.recording.specs.HeldItems.{held_from};
+ghost use Rattle.recording.specs.Readers.{CanFollow};
+ghost use Rattle.recording.specs.Told.{IsPart, TakesTold, EndsTold};
 ghost use Rattle.recording.specs.View.{LiesIn};
 ghost use Rattle.recording.specs.Steps.{Fails, IsLast};
 
@@ -88,7 +90,7 @@ fn held_part(
     ensures within { IfOk result (λ told. IfSome told (λ part.
         (0 < part.len) × (part.len ≤ length held.now))) }
     ensures untold { IfOk result (λ told. IfNone told
-        ((is_whole ≡ false) × (length held.now < wanted format held.now))) }
+        ((is_whole ≡ false) × LacksBytes held.now (wanted format held.now))) }
     ensures kept { IfOk result (λ told. IfNone told
         (interfaces.new.items ≡ interfaces.old.items)) }
     ensures fault { IfErr result (λ e. (rest : List ℕ) → CanFollow is_whole rest

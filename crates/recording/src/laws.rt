@@ -1,16 +1,21 @@
 //! Laws of the definitions behind the contracts. Each is the contract of a function that does nothing:
 //! it says what recordings are, whatever code reads them.
-ghost use Rattle.std.specs.Prelude.{◌≡◌, ℕ, List, [], ◌∷◌, ◌++◌, Option, Ok, Err};
+ghost use Rattle.std.specs.Prelude.{◌≡◌, ℕ, List, [], ◌∷◌, ◌++◌, Option, Some, None, Ok, Err};
 ghost use Rattle.recording.specs.declared.error.RecordingError.TheVariants.{Truncated, BlockTooLong};
 ghost use Rattle.recording.specs.declared.error.RecordingError.TheVariants.{NotRecording};
+ghost use Rattle.recording.specs.declared.number.ByteOrder.TheVariants.{Little};
 ghost use Rattle.recording.specs.declared.time.Time.{Time};
 ghost use Rattle.recording.specs.Packets.{DatagramValue, datagram_in};
 ghost use Rattle.recording.specs.PacketSpelling.{Carries};
-ghost use Rattle.recording.specs.Spelling.{IsBytes, IsRecording};
+ghost use Rattle.recording.specs.Spelling.{IsBytes, IsClassic, IsBlocks, IsRecording};
+ghost use Rattle.recording.specs.Spelling.{head, plain};
 ghost use Rattle.recording.specs.Records.{Item, items_of};
 ghost use Rattle.recording.specs.Examples.{sent_at, classic_head, classic_file, cut_file, blocks_file};
-ghost use Rattle.recording.specs.Examples.{little_packet, too_long_head, long_head};
-ghost use Rattle.recording.specs.Held.{held_of, IsRead};
+ghost use Rattle.recording.specs.Examples.{little_packet, too_long_head, long_head, little_raw};
+ghost use Rattle.recording.specs.Examples.{sent_packet, cut_packet, little_section, little_blocks};
+ghost use Rattle.recording.specs.HeldItems.{held_of, IsRead};
+ghost use Rattle.recording.specs.HeldSpelling.{IsHeldWhole, HoldsPackets, HoldsBlocks};
+ghost use Rattle.recording.specs.HeldSpelling.{HoldsInterfaces};
 
 /// Examples: classic pcap with no packet, with one, and with a part of another; two sections of pcapng
 /// in the two orders of bytes; blocks without a section.
@@ -23,14 +28,30 @@ pub fn worked_recordings()
 {}
 
 /// A reader that holds one packet or block at a time gives what `Recording` gives of the same bytes, or
-/// a beginning of that and then the fault of what it does not hold. Examples: a recording that is cut;
-/// a packet that is one byte too long, and one that is not, and is not there.
+/// a beginning of that and then the fault of what it does not hold. Where it holds each packet and block
+/// that the file is spelled with, and the interfaces of each section, it gives all. Examples: a recording
+/// that is cut; a packet that is one byte too long, and one that is not, and is not there.
 pub fn readers_give_what_recordings_give()
     ensures same { (file : List ℕ) → IsRead (items_of file) (held_of file) }
+    ensures all { (items : List Item) (file : List ℕ) (r : IsRecording items file)
+        → IsHeldWhole items file r → held_of file ≡ items }
     ensures cut { held_of cut_file ≡ sent_at 5 7000 ∷ Err (Truncated 71) ∷ [] }
     ensures blocks { held_of blocks_file ≡ sent_at 3 1000 ∷ sent_at 0 3000001 ∷ [] }
     ensures too_long { held_of (classic_head ++ too_long_head) ≡ Err (BlockTooLong 24) ∷ [] }
     ensures long { held_of (classic_head ++ long_head) ≡ Err (Truncated 24) ∷ [] }
+{}
+
+/// Examples of what a reader holds: a recording that is cut, and one of blocks, as they are spelled; a
+/// packet that is one byte too long, and one that is not; 65,536 interfaces in a section, and one more.
+pub fn what_a_reader_holds()
+    ensures spelled { IsClassic little_raw (sent_packet ∷ []) (Some (Truncated 71)) cut_file }
+    ensures cut { HoldsPackets little_raw (sent_packet ∷ []) cut_packet }
+    ensures too_long { HoldsPackets little_raw [] too_long_head → ⊥ }
+    ensures long { HoldsPackets little_raw [] long_head }
+    ensures blocks { IsBlocks little_blocks None little_section × HoldsBlocks little_blocks [] }
+    ensures most { HoldsInterfaces 65535 (plain 1 [] ∷ []) }
+    ensures more { HoldsInterfaces 65536 (plain 1 [] ∷ []) → ⊥ }
+    ensures next { HoldsInterfaces 65536 (head Little [] ∷ plain 1 [] ∷ []) }
 {}
 
 /// A file is a recording in one way at most, and what that holds is what the plain program reads. Each

@@ -1,10 +1,12 @@
 //! Recordings of network traffic, classic pcap and pcapng: the UDP datagrams over IPv4 in them, with
-//! their times and endpoints. A payload stays where the file's bytes lie, and the only memory that is
-//! taken is the list of the interfaces of a pcapng section.
+//! their times and endpoints.
 //!
-//! - [`Recording`]: what a recording holds, one after the other;
+//! - [`Recording`]: what a recording in memory holds, one after the other. A payload stays where the
+//!   file's bytes lie, and the only memory that is taken is the list of the interfaces of a pcapng
+//!   section;
 //! - [`RecordingReader`]: the same of a recording that is read as it comes, of which one packet or block
-//!   is held at a time;
+//!   is held at a time. It takes memory for that list and for the bytes that it holds, where a payload
+//!   stays until the next read;
 //! - [`Record`]: a [`Datagram`], or why a packet gives none, [`Skipped`];
 //! - [`Time`], [`Endpoint`]: when a datagram was recorded, and where it came from and went to;
 //! - [`RecordingError`]: the fault that ends a recording;

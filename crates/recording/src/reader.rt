@@ -4,7 +4,7 @@ ghost use Rattle.std.specs.Prelude.{IfOk, IfErr, OnOk, OnErr, option_map};
 ghost use Rattle.std.specs.Io.{ReadsAtMost};
 ghost use Rattle.std.specs.Io.KnownBytes.{Keeps, Consumes, IsAtEnd};
 ghost use Rattle.recording.specs.declared.stage.Stage.TheVariants.{Head};
-ghost use Rattle.recording.specs.Held.{inside, left, CanFollow, IsNext, IsAfterRead};
+ghost use Rattle.recording.specs.Readers.{inside, to_come, memory_limit, CanFollow, IsNext, IsAfterRead};
 ghost use Rattle.recording.specs.View.{view_record};
 ghost use Rattle.recording.specs.Steps.{IsLast};
 
@@ -41,8 +41,13 @@ pub enum Next {
 ///
 /// It gives what `Recording` gives of the same bytes, if no packet or block is longer with its header
 /// than 16 MiB, and no section of pcapng describes more than 65,536 interfaces; else what comes before
-/// the first of these, and then the fault `BlockTooLong` or `TooManyInterfaces`. It takes 64 KiB of
-/// memory, or twice as much as its longest packet or block, and that of the interfaces.
+/// the first of these, and then the fault `BlockTooLong` or `TooManyInterfaces`.
+///
+/// Its memory is that of the interfaces of a section and a buffer: at each read the bytes that are held,
+/// at most as many that were taken before them, and room for 64 KiB. The buffer grows by doubling and is
+/// kept: it has 128 KiB for short packets and blocks, and 32 MiB for one of 16 MiB, for which 48 MiB are
+/// taken while it grows. Where a caller reads before `next` wants more, it may have 64 MiB, and 96 while
+/// it grows.
 ///
 /// ```text
 /// loop:  match reader.next()?    Record    reader.record() is the next record
@@ -66,7 +71,7 @@ pub struct RecordingReader {
 
 impl Model for RecordingReader {
     ghost use Rattle.std.specs.Prelude.{◌≤◌, ◌<◌, ◌+◌, ◌^◌, drop, length, option_map};
-    ghost use Rattle.recording.specs.Held.{ReaderValue};
+    ghost use Rattle.recording.specs.Readers.{ReaderValue, memory_limit};
     ghost use Rattle.recording.specs.View.{record_at, LiesIn};
 
     ghost Value = { ReaderValue };
@@ -76,12 +81,14 @@ impl Model for RecordingReader {
       interfaces = s.interfaces.items;
       place = s.place;
       held = drop s.start s.bytes.items;
+      taken = s.start;
       is_whole = s.is_whole;
       current = option_map (record_at s.bytes.items) s.packet;
     } };
 
     ghost invariant = { λ s. (s.start ≤ length s.bytes.items)
-        × (s.place + length (drop s.start s.bytes.items) < 2 ^ 64) × LiesIn s.bytes.items s.packet };
+        × (s.place + length (drop s.start s.bytes.items) < 2 ^ 64) × LiesIn s.bytes.items s.packet
+        × (length s.bytes.items ≤ memory_limit) };
 }
 
 impl RecordingReader {
@@ -92,6 +99,7 @@ impl RecordingReader {
           interfaces = [];
           place = 0;
           held = [];
+          taken = 0;
           is_whole = false;
           current = None;
         } }
@@ -110,18 +118,26 @@ impl RecordingReader {
     /// Goes on to the next record, or to the fault that ends the recording, if what was read tells it.
     /// Nothing comes after a fault.
     ///
+    /// The head of a recording is told once 24 bytes are held, the header of classic pcap, or all that
+    /// there is. A packet or block is told once it is held whole, and what is too long by its head alone.
+    ///
     /// The blocks of pcapng without a packet are skipped. Out of memory, which only the description of
     /// an interface can be, ends the recording as a fault does.
     pub fn next(&mut self) -> Result<Next, RecordingError>
         // What is answered is so, whatever can follow the bytes that are held.
         ensures next { IfOk result (IsNext self.old self.new) }
-        // A fault is all that was left.
+        // A fault is all that was to come.
         ensures fault { IfErr result (λ e. (rest : List ℕ) → CanFollow self.old.is_whole rest
-            → IsLast e (left self.old rest)) }
-        // Then nothing is left.
-        ensures ended { OnErr result ((rest : List ℕ) → left self.new rest ≡ []) }
+            → IsLast e (to_come self.old rest)) }
+        // Then nothing is to come.
+        ensures ended { OnErr result ((rest : List ℕ) → to_come self.new rest ≡ []) }
+        // And it has no record.
+        ensures none { OnErr result (self.new.current ≡ None) }
         // Nothing is read.
         ensures whole { self.new.is_whole ≡ self.old.is_whole }
+        // Nothing is forgotten, and no memory is taken for more bytes.
+        ensures kept { self.new.taken + length self.new.held ≡ self.old.taken + length self.old.held }
+        ensures most { self.new.taken + length self.new.held ≤ memory_limit }
         // It only goes forward, and places are numbers of 64 bits.
         ensures forward { self.old.place ≤ self.new.place }
         ensures bounded { self.new.place < 2 ^ 64 }
@@ -140,11 +156,14 @@ impl RecordingReader {
 
     /// Goes on from the beginning of the recording.
     fn open(&mut self) -> Result<Next, RecordingError>
-        requires { self.old.stage ≡ Head }
+        requires head { self.old.stage ≡ Head }
+        requires none { self.old.current ≡ None }
         ensures next { IfOk result (IsNext self.old self.new) }
         ensures fault { IfErr result (λ e. (rest : List ℕ) → CanFollow self.old.is_whole rest
-            → IsLast e (left self.old rest)) }
+            → IsLast e (to_come self.old rest)) }
+        ensures none { OnErr result (self.new.current ≡ None) }
         ensures whole { self.new.is_whole ≡ self.old.is_whole }
+        ensures kept { self.new.taken + length self.new.held ≡ self.old.taken + length self.old.held }
         ensures forward { self.old.place ≤ self.new.place }
     {
         let held = &self.bytes[self.start..];
@@ -159,10 +178,13 @@ impl RecordingReader {
 
     /// Goes on where a packet or a block begins.
     fn take(&mut self, format: Format) -> Result<Next, RecordingError>
+        requires { self.old.current ≡ None }
         ensures next { IfOk result (IsNext (inside format self.old) self.new) }
         ensures fault { IfErr result (λ e. (rest : List ℕ) → CanFollow self.old.is_whole rest
-            → IsLast e (left (inside format self.old) rest)) }
+            → IsLast e (to_come (inside format self.old) rest)) }
+        ensures none { OnErr result (self.new.current ≡ None) }
         ensures whole { self.new.is_whole ≡ self.old.is_whole }
+        ensures kept { self.new.taken + length self.new.held ≡ self.old.taken + length self.old.held }
         ensures forward { self.old.place ≤ self.new.place }
     {
         let held = &self.bytes[self.start..];
@@ -199,8 +221,8 @@ impl RecordingReader {
         }
     }
 
-    /// Reads once from what has the rest of the recording, unless 16 MiB are held, and forgets the
-    /// record.
+    /// Reads once from what has the rest of the recording, 64 KiB at most and none where 16 MiB are
+    /// held, and forgets the record. What was taken is forgotten where that makes room for what is held.
     ///
     /// An error is one of the read, or of memory, or that a recording of more than 2^64 - 1 bytes was
     /// read.
@@ -208,10 +230,16 @@ impl RecordingReader {
         // What was read is held behind what was, and nothing else changed.
         ensures read { OnOk result
             (IsAfterRead self.old self.new (R.remaining reader.old) (R.remaining reader.new)) }
-        // Nothing was read, and nothing else is left to come.
+        // Nothing was read, and nothing else is to come.
         ensures unread { OnErr result (Keeps (R.remaining reader.old) (R.remaining reader.new)) }
-        ensures same { OnErr result ((rest : List ℕ) → left self.new rest ≡ left self.old rest) }
+        ensures same { OnErr result ((rest : List ℕ) → to_come self.new rest ≡ to_come self.old rest) }
         ensures whole { OnErr result (self.new.is_whole ≡ self.old.is_whole) }
+        // The record is forgotten, and perhaps bytes that were taken, and nothing else changed.
+        ensures kept { OnErr result
+            (self.new ≡ record self.old { taken = self.new.taken; current = None }) }
+        // What was taken grows by no read, and never are more bytes in memory than these.
+        ensures fewer { self.new.taken ≤ self.old.taken }
+        ensures most { self.new.taken + length self.new.held ≤ memory_limit }
     {
         self.packet = None;
         let held = self.bytes.len() - self.start;
@@ -230,7 +258,9 @@ impl RecordingReader {
     /// Forgets what was taken, where that makes room for what is held.
     fn forget_taken(&mut self)
         requires { self.old.current ≡ None }
-        ensures { self.new ≡ self.old }
+        ensures same { self.new ≡ record self.old { taken = self.new.taken } }
+        ensures fewer { self.new.taken ≤ self.old.taken }
+        ensures room { self.new.taken ≤ length self.new.held }
     {
         let held = self.bytes.len() - self.start;
         if held <= self.start {

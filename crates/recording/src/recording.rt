@@ -1,9 +1,8 @@
 //! The records of a recording, one after the other.
 ghost use Rattle.std.specs.Prelude.{◌≡◌, ◌≤◌, ◌∷◌, [], Ok, Err, IfOk, IfErr, OnErr, IfSome, IfNone};
 ghost use Rattle.std.specs.Prelude.{IsOkAnd, List, Some, None, length, drop};
-ghost use Rattle.recording.specs.Held.{start_of};
 ghost use Rattle.recording.specs.declared.error.RecordingError.TheVariants.{NotRecording};
-ghost use Rattle.recording.specs.Records.{Item, items_of, items_from};
+ghost use Rattle.recording.specs.Records.{Item, items_of, format_of};
 ghost use Rattle.recording.specs.Spelling.{IsRecording};
 ghost use Rattle.recording.specs.View.{view_record};
 ghost use Rattle.recording.specs.Steps.{IsLast};
@@ -106,11 +105,8 @@ impl<'a> Recording<'a> {
 
 /// The format of a file, and the place of its first packet or block.
 pub(crate) fn format_of(file: &[u8]) -> Result<(Format, usize), RecordingError>
-    ensures start { IfOk result (λ r. start_of file.now ≡ Some r) }
-    ensures no_start { OnErr result (start_of file.now ≡ None) }
-    ensures ok { IfOk result (λ r.
-        items_of file.now ≡ Ok (items_from r.0 [] r.1 (drop r.1 file.now))) }
-    ensures err { IfErr result (λ e. items_of file.now ≡ Err e) }
+    ensures start { IfOk result (λ r. format_of file.now ≡ Some r) }
+    ensures no_start { OnErr result (format_of file.now ≡ None) }
     ensures none { IfErr result (λ e. e ≡ NotRecording 0) }
     ensures within { IfOk result (λ r. r.1 ≤ length file.now) }
 {

@@ -40,6 +40,7 @@ fn errors_are_printed(rt: HostRuntime) {
 fn laws_hold() {
     laws::worked_recordings();
     laws::readers_give_what_recordings_give();
+    laws::what_a_reader_holds();
     laws::each_recording_is_read_in_one_way();
     laws::a_packet_gives_the_datagram_that_it_carries();
 }

@@ -7,11 +7,13 @@ use rows::{ROWS, Wanted};
 use someip_world::{SetupError, StepFault};
 use someipctl_cli::{Failure, LineError, answer_error, command_of, run};
 use someipctl_commands::payload::PayloadRefusal;
-use someipctl_commands::ports::PortsError;
-use someipctl_commands::recordings::RecordingFault;
+use someipctl_commands::services::ServicesError;
 use someipctl_commands::show::ShowError;
 use someipctl_commands::vectors::VectorsError;
+use someipctl_recordings::ports::PortsError;
+use someipctl_recordings::{LimitsError, RecordingFault};
 use someipctl_run::{RunFault, SetupFault, read_setup};
+use someipctl_types::{TypesError, TypesFault};
 use std::alloc::{AllocError, Global};
 
 mod rows;
@@ -76,6 +78,27 @@ fn failures_of_runs_and_recordings_have_texts_and_statuses(rt: HostRuntime) {
     let usage =
         "error: invalid value '0' for '--ports <PORTS>': ports are numbers from 1 to 65535 with commas between them\n\nUsage: someipctl recording [OPTIONS] <FILE>";
     assert!(rt; is_told(alloc, ports, usage, 2));
+}
+
+/// Each failure of an option or of the file that one names, its text for standard error and its exit status.
+#[test]
+fn failures_of_options_have_texts_and_statuses(rt: HostRuntime) {
+    let alloc = rt.alloc();
+    let usage = "show [OPTIONS] <CAPTURE>";
+    let services = Failure::of_services(ServicesError::BadServices, "12", usage);
+    let told =
+        "error: invalid value '12' for '--service <SERVICES>': services are four hex digits, perhaps with a dot and four more, with commas between them\n\nUsage: someipctl show [OPTIONS] <CAPTURE>";
+    assert!(rt; is_told(alloc, services, told, 2));
+    let no_memory = Failure::of_services(ServicesError::OutOfMemory, "12", usage);
+    assert!(rt; is_told(alloc, no_memory, "out of memory", 3));
+    let clash = Failure::of_types(TypesFault::Refused(TypesError::Clash("message")), PATH);
+    assert!(rt; is_told(alloc, clash, "types: Clash message", 1));
+    let unread = Failure::of_types(TypesFault::CannotRead, PATH);
+    assert!(rt; is_told(alloc, unread, "cannot read a/b.txt", 4));
+    let slots = Failure::BadLimits(LimitsError::BadSlots);
+    let told =
+        "error: invalid value for '--whole-slots <N>': 1 to 1024\n\nUsage: someipctl recording [OPTIONS] <FILE>";
+    assert!(rt; is_told(alloc, slots, told, 2));
 }
 
 /// Whether the answer to words without a command ends with a status, and the writer took nothing, or a text that

@@ -1,8 +1,9 @@
 //! Captures and payloads, of which no command line shows all.
+use crate::showing::show_all;
 use crate::slow::{Limits, NEVER, SlowWriter, UNLIMITED};
 use someipctl_commands::payload::{PayloadRefusal, payload};
 use someipctl_commands::read_capture;
-use someipctl_commands::show::{ShowError, show};
+use someipctl_commands::show::ShowError;
 use someipctl_inputs::Outcome;
 use std::alloc::{AllocError, Global};
 
@@ -65,7 +66,7 @@ fn lines(alloc: Global, heads: &str, byte: &str) -> Result<String, AllocError> {
 /// beginning.
 fn is_shown(alloc: Global, mut capture: &[u8], text: &[u8], limits: Limits) -> bool {
     let mut writer = SlowWriter::new(alloc, limits);
-    let outcome = show(alloc, &mut capture, &mut writer);
+    let outcome = show_all(alloc, &mut capture, &mut writer);
     let taken = writer.taken.as_slice();
     match outcome {
         Ok(Outcome::Done) => taken == text,

@@ -1,11 +1,11 @@
 //! Commands over a reader and a writer that move a byte a call, for each call of theirs that fails.
 use crate::endings::is_end;
+use crate::showing::show_all;
 use crate::slow::{Limits, NEVER, SlowReader, SlowWriter};
 use rows::{Command, End, READINGS, RUNS, Row};
 use someip_world::Setup;
 use someipctl_cli::Failure;
 use someipctl_commands::payload::payload;
-use someipctl_commands::show::show;
 use someipctl_commands::vectors::vectors;
 use someipctl_inputs::Outcome;
 use someipctl_run::{
@@ -93,7 +93,7 @@ fn perform(
     writer: &mut SlowWriter,
 ) -> Result<Outcome, Failure<'static>> {
     match command {
-        Command::Show => match show(alloc, reader, writer) {
+        Command::Show => match show_all(alloc, reader, writer) {
             Ok(outcome) => Ok(outcome),
             Err(error) => Err(Failure::of_show(error, PATH)),
         },

@@ -1,6 +1,8 @@
 //! The laws of the commands and of the command line, called once each.
 use someipctl_cli::laws as words;
 use someipctl_commands::laws as commands;
+use someipctl_recordings::laws as recordings;
+use someipctl_types::laws as types;
 
 #[test]
 fn laws_hold() {
@@ -10,5 +12,13 @@ fn laws_hold() {
     commands::what_lines_say();
     commands::what_vector_lines_say();
     commands::messages_begin_behind_others();
-    commands::recordings_print_what_show_prints();
+    recordings::recordings_print_what_show_prints();
+    types::a_value_has_the_text_of_what_it_says();
+    types::what_lines_say();
+    types::what_has_no_line();
+    types::what_tables_clash();
+    types::what_keys_are_known();
+    types::what_names_are();
+    types::what_types_are_called();
+    types::what_texts_say();
 }

@@ -16,7 +16,10 @@
 //! - `commands`: captures and payloads;
 //! - `failing`: commands over a reader and a writer that fail, for each of their calls;
 //! - `recordings`: what is left out of a recording, and recordings that are not written whole;
-//! - `laws`: the laws of the commands and of the command line;
+//! - `wholes`: recordings whose messages are put together, over both bodies of reassembly;
+//! - `services`, `limits`, `types`, `shown`: texts that name services or say limits, types files, and captures; `showing`: commands
+//!   without what they add;
+//! - `laws`: the laws of the commands, of types files and of the command line;
 //! - `printed`, `endings`, `slow`: how values are printed, how what the program does ends, and readers and writers
 //!   that move few bytes a call.
 #![tactic(auto)]
@@ -46,6 +49,8 @@ mod failing;
 #[cfg(test)]
 mod laws;
 #[cfg(test)]
+mod limits;
+#[cfg(test)]
 mod moments;
 #[cfg(test)]
 mod nodes;
@@ -58,13 +63,23 @@ mod requests;
 #[cfg(test)]
 mod schedule;
 #[cfg(test)]
+mod services;
+#[cfg(test)]
 mod setup;
+#[cfg(test)]
+mod showing;
+#[cfg(test)]
+mod shown;
 #[cfg(test)]
 mod slow;
 #[cfg(test)]
 mod starts;
 #[cfg(test)]
+mod types;
+#[cfg(test)]
 mod waking;
+#[cfg(test)]
+mod wholes;
 #[cfg(test)]
 mod worked;
 #[cfg(test)]

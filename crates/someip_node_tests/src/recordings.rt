@@ -1,10 +1,10 @@
 //! What is told of the packets that a recording gives no datagram of, and recordings that are not read or
 //! written whole.
 use crate::printed::is_printed;
+use crate::showing::show_endpoints;
 use crate::slow::{Limits, SlowReader, SlowWriter, UNLIMITED};
-use someipctl_commands::LeftOut;
-use someipctl_commands::recordings::{RecordingFault, show_recording};
 use someipctl_inputs::Outcome;
+use someipctl_recordings::{LeftOut, RecordingFault};
 use std::alloc::Global;
 use std::io::ErrorKind;
 
@@ -67,7 +67,7 @@ fn is_written(alloc: Global, fails_at: usize) -> bool {
     };
     let mut writer = SlowWriter::new(alloc, limits);
     let mut file = FILE;
-    let shown = show_recording(alloc, &mut file, Some(&[10]), true, &mut writer);
+    let shown = show_endpoints(alloc, &mut file, Some(&[10]), &mut writer);
     let taken = writer.taken.as_slice();
     match shown {
         Ok(shown) => {
@@ -92,7 +92,7 @@ fn recordings_are_written_as_far_as_the_writer_takes_them(rt: HostRuntime) {
 fn is_written_before(alloc: Global, fails_at: usize, text: &[u8]) -> bool {
     let mut reader = SlowReader::new(FILE, fails_at, ErrorKind::Other);
     let mut writer = SlowWriter::new(alloc, UNLIMITED);
-    let shown = show_recording(alloc, &mut reader, None, true, &mut writer);
+    let shown = show_endpoints(alloc, &mut reader, None, &mut writer);
     matches!(shown, Err(RecordingFault::CannotRead)) && writer.taken.as_slice() == text
 }
 

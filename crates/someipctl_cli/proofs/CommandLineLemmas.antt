@@ -1,5 +1,5 @@
 -- What clap's matches say of the command line.
-use Rattle.std.proofs.Common.{◌≡◌, ◌∙◌, ◌||◌, ◌==◌, Bool, cond, true, false, true≢false, refl, sym, ap, ap₂, subst, List, [], ◌∷◌, Option, Some, None, IsSome, is_some, codes, find, option_map, drop, Box, Result}
+use Rattle.std.proofs.Common.{◌≡◌, ◌∙◌, ◌||◌, ◌==◌, Bool, cond, true, false, true≢false, refl, sym, ap, ap₂, subst, List, [], ◌∷◌, Option, Some, None, IsSome, is_some, codes, find, option_map, drop, Box, Result, ◌⊎◌, inl, inr}
 use Rattle.std.specs.List.{list_all}
 use Rattle.std.specs.Option.{option_map_or}
 use Rattle.std.specs.Prelude.{IfOk}
@@ -9,6 +9,12 @@ use Rattle.std.proofs.lemmas.Result.{IfOk-weaker}
 use Rattle.std.specs.Box.{box_value}
 use Rattle.std.specs.declared.alloc.Global.{Global}
 use Rattle.clap.specs.Words.{App, HasMatchesOf, Row, Shape, Text, app_of, built, fault_of, first_of, first_value, found_of, is_simple, is_simple_and_free, rows_of, shape_of, subcommand_name_of, subcommand_rows, subcommand_rows_of}
+use Rattle.clap.specs.Words.{HasKind, IsAmong, Kinds, kind_of}
+use Rattle.clap.specs.declared.Error.{Error}
+use Rattle.clap.specs.declared.error.ErrorKind.{ErrorKind}
+use Rattle.clap.specs.declared.error.ErrorKind.TheVariants as kind
+use Rattle.someipctl_cli.specs.declared.command.LineError.{LineError}
+use Rattle.someipctl_cli.specs.declared.command.LineError.TheVariants.{Usage, Help, OutOfMemory}
 use Rattle.clap.specs.Walk.{answers_to, nothing_held}
 use Rattle.clap.specs.Simple.{entered, label_of, rows_at}
 use Rattle.clap.specs.Faults.{entered_fault, level_fault}
@@ -19,7 +25,7 @@ use Rattle.clap.specs.declared.parser.matches.Found.{Found}
 use Rattle.clap.specs.declared.parser.matches.SubCommand.{SubCommand}
 use Rattle.clap.proofs.WalkLemmas.{first_value-rows}
 use Rattle.clap.proofs.OnLiterals.{clap_on_literals}
-use Rattle.someipctl_cli.specs.CommandLine.{IsTaken, cli, is_flag, asked_by_subcommand, asked_by_entered, requested, asked_by_show, show_request, asked_by_payload, asked_by_run, asked_by_vectors, asked_by_recording, asked_by_chart}
+use Rattle.someipctl_cli.specs.CommandLine.{HaveFault, IsLineErrorOf, IsTaken, RefusesWords, cli, is_flag, asked_by_subcommand, asked_by_entered, requested, asked_by_show, show_request, asked_by_payload, asked_by_run, asked_by_vectors, asked_by_recording, asked_by_chart, RecordingRequest, options_found, options_in, recording_options_of}
 use Rattle.someipctl_cli.proofs.ClapWalkLemmas.{EntersNoHelp, enters_subcommand, has_value, is_wanted, wanted_value}
 
 -- a command alone, as it is among others
@@ -68,12 +74,12 @@ stop_asks a each None named none some = absurd (true≢false (sym some))
 stop_asks a each (Some p) named none some = found_asks p named a.subs each none some
 
 -- `show` asks for something where its argument has a value
-show_some : (capture : Option Text) → is_some capture ≡ true → IsSome (asked_by_show capture)
-show_some None some = absurd (true≢false (sym some))
-show_some (Some capture) some = refl
+show_some : (capture service types : Option Text) → is_some capture ≡ true → IsSome (asked_by_show capture service types)
+show_some None service types some = absurd (true≢false (sym some))
+show_some (Some capture) service types some = refl
 
 show_asks : (s : Shape) → bytes_eq s.name (codes "show") ≡ true → list_all has_value s.rules ≡ true → is_wanted (codes "capture") s ≡ true → Asks s
-show_asks s is valued wanted name met named words none = rw is (show_some _ (wanted_value s (codes "capture") valued wanted words none))
+show_asks s is valued wanted name met named words none = rw is (show_some _ _ _ (wanted_value s (codes "capture") valued wanted words none))
 
 payload_some : (shape hex : Option Text) → is_some shape ≡ true → is_some hex ≡ true → IsSome (asked_by_payload shape hex)
 payload_some None hex some more = absurd (true≢false (sym some))
@@ -103,14 +109,14 @@ run_asks : (s : Shape) → bytes_eq s.name (codes "show") ≡ false → bytes_eq
 run_asks s other another third is valued setup schedule name met named words none =
     rw (other, another, third, is) (run_some _ _ _ _ (wanted_value s (codes "setup") valued setup words none) (wanted_value s (codes "schedule") valued schedule words none))
 
-recording_some : (file ports endpoints : Option Text) → is_some file ≡ true → IsSome (asked_by_recording file ports endpoints)
-recording_some None ports endpoints some = absurd (true≢false (sym some))
-recording_some (Some file) ports endpoints some = refl
+recording_some : (file : Option Text) (options : RecordingRequest) → is_some file ≡ true → IsSome (asked_by_recording file options)
+recording_some None options some = absurd (true≢false (sym some))
+recording_some (Some file) options some = refl
 
 recording_asks : (s : Shape) → bytes_eq s.name (codes "show") ≡ false → bytes_eq s.name (codes "payload") ≡ false → bytes_eq s.name (codes "vectors") ≡ false
     → bytes_eq s.name (codes "run") ≡ false → bytes_eq s.name (codes "recording") ≡ true → list_all has_value s.rules ≡ true → is_wanted (codes "file") s ≡ true → Asks s
 recording_asks s other another third fourth is valued file name met named words none =
-    rw (other, another, third, fourth, is) (recording_some _ _ _ (wanted_value s (codes "file") valued file words none))
+    rw (other, another, third, fourth, is) (recording_some _ _ (wanted_value s (codes "file") valued file words none))
 
 chart_some : (setup schedule : Option Text) → is_some setup ≡ true → is_some schedule ≡ true → IsSome (asked_by_chart setup schedule)
 chart_some None schedule some more = absurd (true≢false (sym some))
@@ -169,12 +175,12 @@ show_capture_taken program (x ∷ []) plain = go (x == 45) refl
     go false e = simp e
 show_capture_taken program (x ∷ (y ∷ ys)) plain = simp plain
 
-pub show_capture_requested : (program capture : Text) → is_flag capture ≡ false → requested (program ∷ codes "show" ∷ capture ∷ []) ≡ Some (show_request capture)
+pub show_capture_requested : (program capture : Text) → is_flag capture ≡ false → requested (program ∷ codes "show" ∷ capture ∷ []) ≡ Some (show_request capture None None)
 unfolding clap_on_literals
 show_capture_requested program [] plain = refl
 show_capture_requested program (x ∷ []) plain = go (x == 45) refl
   where
-    go : (b : Bool) → (x == 45) ≡ b → requested (program ∷ codes "show" ∷ (x ∷ []) ∷ []) ≡ Some (show_request (x ∷ []))
+    go : (b : Bool) → (x == 45) ≡ b → requested (program ∷ codes "show" ∷ (x ∷ []) ∷ []) ≡ Some (show_request (x ∷ []) None None)
     go true e = simp e
     go false e = simp e
 show_capture_requested program (x ∷ (y ∷ ys)) plain = simp plain
@@ -197,6 +203,25 @@ parsed_some a words m is matches taken none =
     let some : is_some (requested words) ≡ true = taken_matches words parsed.1 in
     absurd (true≢false (sym some ∙ sym (ap is_some (none ∙ parsed.0))))
 
+-- ---- what an error of the parse says
+
+help_among : (k : ErrorKind) (faults : Kinds) → k ≡ kind.DisplayHelp → (k ≡ kind.OutOfMemory) ⊎ IsAmong k faults → IsAmong kind.DisplayHelp faults
+help_among k faults is (inl memory) = absurd (let bad : kind.DisplayHelp ≡ kind.OutOfMemory = sym is ∙ memory in cc)
+help_among k faults is (inr among) = subst (λ (k : ErrorKind). IsAmong k faults) is among
+
+other_among : (k : ErrorKind) (faults : Kinds) → (k ≡ kind.OutOfMemory → ⊥) → (k ≡ kind.OutOfMemory) ⊎ IsAmong k faults → IsAmong k faults
+other_among k faults other (inl memory) = absurd (other memory)
+other_among k faults other (inr among) = among
+
+-- help comes for a call for help, and usage for another fault
+pub refuses_words : (a : App) (words : List Text) (from : Error) (l : LineError) → a ≡ cli → (is_simple_and_free a ≡ true → HasKind (fault_of a words) from) → IsLineErrorOf from l → RefusesWords words l
+refuses_words a words from (Help text) is kinds shown =
+    help_among (kind_of from) (fault_of cli words) shown (subst (λ (a : App). (is_simple_and_free a ≡ true → HasKind (fault_of a words) from)) is kinds cli_is_free)
+refuses_words a words from (Usage e) is kinds shown =
+    let among = other_among (kind_of from) (fault_of cli words) shown.2 (subst (λ (a : App). (is_simple_and_free a ≡ true → HasKind (fault_of a words) from)) is kinds cli_is_free) in
+    subst (λ (e : Error). HaveFault words (kind_of e)) (sym shown.0) (shown.1, among)
+refuses_words a words from OutOfMemory is kinds shown = tt
+
 -- a name and rows that a look gave are those of the subcommand
 pub entered_is : (m : ArgMatches) (name : Text) (rows : List Row) → Some name ≡ subcommand_name_of m → Some rows ≡ option_map (λ p. p.1) (subcommand_rows_of m)
     → subcommand_rows_of m ≡ Some (name, rows)
@@ -213,10 +238,12 @@ entered_is m name rows e f = go (out-ArgMatches m).subcommand e f
 
 -- what `show` asks for is what its matches ask for
 pub show_in : (m : ArgMatches) (name : Text) (f : Found) → subcommand_rows_of m ≡ Some (name, rows_of f) → bytes_eq name (codes "show") ≡ true
-    → asked_by_show (first_value f (codes "capture")) ≡ asked_by_entered (subcommand_rows_of m)
+    → asked_by_show (first_value f (codes "capture")) (first_value f (codes "service")) (first_value f (codes "types")) ≡ asked_by_entered (subcommand_rows_of m)
 show_in m name f is show =
-    let there : asked_by_subcommand name (rows_of f) ≡ asked_by_show (first_of (codes "capture") (rows_of f)) = rw show refl in
-    ap asked_by_show (first_value-rows f (codes "capture")) ∙ sym there ∙ sym (ap asked_by_entered is)
+    let there : asked_by_subcommand name (rows_of f) ≡ asked_by_show (first_of (codes "capture") (rows_of f)) (first_of (codes "service") (rows_of f)) (first_of (codes "types") (rows_of f)) = rw show refl in
+    ap (λ (a : Option Text). asked_by_show a (first_value f (codes "service")) (first_value f (codes "types"))) (first_value-rows f (codes "capture"))
+    ∙ ap₂ (asked_by_show (first_of (codes "capture") (rows_of f))) (first_value-rows f (codes "service")) (first_value-rows f (codes "types"))
+    ∙ sym there ∙ sym (ap asked_by_entered is)
 
 pub payload_in : (m : ArgMatches) (name : Text) (f : Found) → subcommand_rows_of m ≡ Some (name, rows_of f) → bytes_eq name (codes "show") ≡ false → bytes_eq name (codes "payload") ≡ true
     → asked_by_payload (first_value f (codes "shape")) (first_value f (codes "hex")) ≡ asked_by_entered (subcommand_rows_of m)
@@ -241,15 +268,26 @@ run_in m name f is other another third run =
     ∙ ap₂ (λ (a b : Option Text). asked_by_run (first_of (codes "setup") (rows_of f)) (first_of (codes "schedule") (rows_of f)) a b) (first_value-rows f (codes "expect")) (first_value-rows f (codes "lines"))
     ∙ sym there ∙ sym (ap asked_by_entered is)
 
+-- the options that were found are those of the rows
+options_same : (f : Found) → options_found f ≡ options_in (rows_of f)
+options_same f =
+    let v : Text → Option Text = first_value f in
+    let o : Text → Option Text = λ id. first_of id (rows_of f) in
+    ap₂ (λ (a b : Option Text). recording_options_of a b (v (codes "service")) (v (codes "types")) (v (codes "whole")) (v (codes "whole-limit")) (v (codes "whole-slots")) (v (codes "whole-timeout")))
+    (first_value-rows f (codes "ports")) (first_value-rows f (codes "endpoints"))
+    ∙ ap₂ (λ (a b : Option Text). recording_options_of (o (codes "ports")) (o (codes "endpoints")) a b (v (codes "whole")) (v (codes "whole-limit")) (v (codes "whole-slots")) (v (codes "whole-timeout")))
+    (first_value-rows f (codes "service")) (first_value-rows f (codes "types"))
+    ∙ ap₂ (λ (a b : Option Text). recording_options_of (o (codes "ports")) (o (codes "endpoints")) (o (codes "service")) (o (codes "types")) a b (v (codes "whole-slots")) (v (codes "whole-timeout")))
+    (first_value-rows f (codes "whole")) (first_value-rows f (codes "whole-limit"))
+    ∙ ap₂ (λ (a b : Option Text). recording_options_of (o (codes "ports")) (o (codes "endpoints")) (o (codes "service")) (o (codes "types")) (o (codes "whole")) (o (codes "whole-limit")) a b)
+    (first_value-rows f (codes "whole-slots")) (first_value-rows f (codes "whole-timeout"))
+
 pub recording_in : (m : ArgMatches) (name : Text) (f : Found) → subcommand_rows_of m ≡ Some (name, rows_of f) → bytes_eq name (codes "show") ≡ false → bytes_eq name (codes "payload") ≡ false
     → bytes_eq name (codes "vectors") ≡ false → bytes_eq name (codes "run") ≡ false → bytes_eq name (codes "recording") ≡ true
-    → asked_by_recording (first_value f (codes "file")) (first_value f (codes "ports")) (first_value f (codes "endpoints")) ≡ asked_by_entered (subcommand_rows_of m)
+    → asked_by_recording (first_value f (codes "file")) (options_found f) ≡ asked_by_entered (subcommand_rows_of m)
 recording_in m name f is other another third fourth recording =
-    let there : asked_by_subcommand name (rows_of f) ≡ asked_by_recording (first_of (codes "file") (rows_of f)) (first_of (codes "ports") (rows_of f)) (first_of (codes "endpoints") (rows_of f))
-    = rw (other, another, third, fourth, recording) refl in
-    ap (λ (a : Option Text). asked_by_recording a (first_value f (codes "ports")) (first_value f (codes "endpoints"))) (first_value-rows f (codes "file"))
-    ∙ ap₂ (asked_by_recording (first_of (codes "file") (rows_of f))) (first_value-rows f (codes "ports")) (first_value-rows f (codes "endpoints"))
-    ∙ sym there ∙ sym (ap asked_by_entered is)
+    let there : asked_by_subcommand name (rows_of f) ≡ asked_by_recording (first_of (codes "file") (rows_of f)) (options_in (rows_of f)) = rw (other, another, third, fourth, recording) refl in
+    ap₂ asked_by_recording (first_value-rows f (codes "file")) (options_same f) ∙ sym there ∙ sym (ap asked_by_entered is)
 
 pub chart_in : (m : ArgMatches) (name : Text) (f : Found) → subcommand_rows_of m ≡ Some (name, rows_of f) → bytes_eq name (codes "show") ≡ false → bytes_eq name (codes "payload") ≡ false
     → bytes_eq name (codes "vectors") ≡ false → bytes_eq name (codes "run") ≡ false → bytes_eq name (codes "recording") ≡ false → bytes_eq name (codes "chart") ≡ true

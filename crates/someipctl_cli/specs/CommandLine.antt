@@ -1,15 +1,18 @@
 -- The command line, and what its words ask for.
 use Rattle.std.specs.Prelude.{◌==◌, ◌≡◌, ◌≢◌, ◌⊎◌, Bool, true, false, List, [], ◌∷◌, codes, Option, Some, None, option_map, if◌then◌else◌}
 use Rattle.std.specs.Str.{bytes_eq}
-use Rattle.clap.specs.Words.{App, IsAmong, Row, Rule, Shape, Text, fault_of, first_of, kind_of}
+use Rattle.std.specs.Borrow.{Bor}
+use Rattle.clap.specs.Words.{App, IsAmong, Row, Rule, Shape, Text, fault_of, first_of, first_value, kind_of}
 use Rattle.clap.specs.Words.{new_app, new_rule, subcommand_of, with_rule, with_subcommand}
 use Rattle.clap.specs.Simple.{on_top}
+use Rattle.clap.specs.declared.parser.matches.Found.{Found}
 use Rattle.clap.specs.declared.Error.{Error}
 use Rattle.clap.specs.declared.error.ErrorKind.{ErrorKind}
 use Rattle.clap.specs.declared.error.ErrorKind.TheVariants as kind
 use Rattle.clap.specs.declared.builder.ArgAction.TheVariants.{SetTrue}
 use Rattle.someipctl_cli.specs.declared.command.Command.{Command}
 use Rattle.someipctl_cli.specs.declared.command.Command.TheVariants.{Show, Payload, Vectors, Run, Recording, Chart}
+use Rattle.someipctl_cli.specs.declared.command.RecordingOptions.{RecordingOptions}
 use Rattle.someipctl_cli.specs.declared.command.LineError.{LineError}
 use Rattle.someipctl_cli.specs.declared.command.LineError.TheVariants.{Usage, Help, OutOfMemory}
 
@@ -26,9 +29,13 @@ valued name = record (new_rule name) { long = Some name; value_names = 1 }
 abbrev pub flag : Text → Rule
 flag name = record (new_rule name) { long = Some name; action = Some SetTrue }
 
--- `show CAPTURE`
+-- the command with the options that name services and a types file
+abbrev pub with_filters : App → App
+with_filters command = with_rule (with_rule command (valued (codes "service"))) (valued (codes "types"))
+
+-- `show [--service SERVICES] [--types FILE] CAPTURE`
 abbrev pub show_usage : Shape
-show_usage = (with_rule (new_app (codes "show")) (required (codes "capture"))).top
+show_usage = (with_rule (with_filters (new_app (codes "show"))) (required (codes "capture"))).top
 
 -- `payload SHAPE HEX`
 abbrev pub payload_usage : Shape
@@ -46,9 +53,15 @@ with_inputs command = with_rule (with_rule command (required (codes "setup"))) (
 abbrev pub run_usage : Shape
 run_usage = (with_inputs (with_rule (with_rule (new_app (codes "run")) (valued (codes "expect"))) (flag (codes "lines")))).top
 
--- `recording [--ports PORTS] [--endpoints] FILE`
+-- the command with the options on messages that are put together
+abbrev pub with_whole : App → App
+with_whole command =
+    with_rule (with_rule (with_rule (with_rule command (flag (codes "whole"))) (valued (codes "whole-limit"))) (valued (codes "whole-slots"))) (valued (codes "whole-timeout"))
+
+-- `recording [--ports PORTS] [--endpoints] [--service SERVICES] [--types FILE] [--whole] [--whole-limit N]
+-- [--whole-slots N] [--whole-timeout MS] FILE`
 abbrev pub recording_options : App
-recording_options = with_rule (with_rule (new_app (codes "recording")) (valued (codes "ports"))) (flag (codes "endpoints"))
+recording_options = with_whole (with_filters (with_rule (with_rule (new_app (codes "recording")) (valued (codes "ports"))) (flag (codes "endpoints"))))
 
 abbrev pub recording_usage : Shape
 recording_usage = (with_rule recording_options (required (codes "file"))).top
@@ -75,28 +88,54 @@ cli = with_subcommand (with_subcommand with_file_commands recording_usage) chart
 
 -- ---- what words ask for
 
+-- the options of `recording`
+pub record RecordingRequest : Type 0 where
+  pub ports : Option Text
+  pub endpoints : Bool
+  pub service : Option Text
+  pub types : Option Text
+  pub whole : Bool
+  pub limit : Option Text
+  pub slots : Option Text
+  pub timeout : Option Text
+
 -- a command, without where its words lie in memory
 pub data Request : Type 0 where
-  show_request : Text → Request
+  show_request : Text → Option Text → Option Text → Request
   payload_request : Text → Text → Request
   vectors_request : Text → Request
   run_request : Text → Text → Option Text → Bool → Request
-  recording_request : Text → Option Text → Bool → Request
+  recording_request : Text → RecordingRequest → Request
   chart_request : Text → Text → Request
+
+abbrev pub text_at : Option (Bor Text) → Option Text
+text_at text = option_map (λ t. t.now) text
+
+abbrev pub asked_by_options : RecordingOptions → RecordingRequest
+asked_by_options o = record {
+  ports = text_at o.ports;
+  endpoints = o.endpoints;
+  service = text_at o.service;
+  types = text_at o.types;
+  whole = o.whole;
+  limit = text_at o.limit;
+  slots = text_at o.slots;
+  timeout = text_at o.timeout;
+}
 
 -- what a command asks for
 abbrev pub asked_by_command : Command → Request
-asked_by_command (Show capture) = show_request capture.now
+asked_by_command (Show capture service types) = show_request capture.now (text_at service) (text_at types)
 asked_by_command (Payload shape hex) = payload_request shape.now hex.now
 asked_by_command (Vectors file) = vectors_request file.now
-asked_by_command (Run setup schedule expect lines) = run_request setup.now schedule.now (option_map (λ trace. trace.now) expect) lines
-asked_by_command (Recording file ports endpoints) = recording_request file.now (option_map (λ text. text.now) ports) endpoints
+asked_by_command (Run setup schedule expect lines) = run_request setup.now schedule.now (text_at expect) lines
+asked_by_command (Recording file options) = recording_request file.now (asked_by_options options)
 asked_by_command (Chart setup schedule) = chart_request setup.now schedule.now
 
--- what `show` asks for, by its argument
-abbrev pub asked_by_show : Option Text → Option Request
-asked_by_show None = None
-asked_by_show (Some capture) = Some (show_request capture)
+-- what `show` asks for, by its argument and options
+abbrev pub asked_by_show : Option Text → Option Text → Option Text → Option Request
+asked_by_show None service types = None
+asked_by_show (Some capture) service types = Some (show_request capture service types)
 
 -- what `payload` asks for, by its arguments
 abbrev pub asked_by_payload : Option Text → Option Text → Option Request
@@ -120,10 +159,34 @@ asked_by_run None schedule expect lines = None
 asked_by_run (Some setup) None expect lines = None
 asked_by_run (Some setup) (Some schedule) expect lines = Some (run_request setup schedule expect (is_on lines))
 
+-- the options of `recording`, by what each matched
+abbrev pub recording_options_of : (ports endpoints service types whole limit slots timeout : Option Text) → RecordingRequest
+recording_options_of ports endpoints service types whole limit slots timeout = record {
+  ports = ports;
+  endpoints = is_on endpoints;
+  service = service;
+  types = types;
+  whole = is_on whole;
+  limit = limit;
+  slots = slots;
+  timeout = timeout;
+}
+
 -- what `recording` asks for, by its argument and options
-abbrev pub asked_by_recording : Option Text → Option Text → Option Text → Option Request
-asked_by_recording None ports endpoints = None
-asked_by_recording (Some file) ports endpoints = Some (recording_request file ports (is_on endpoints))
+abbrev pub asked_by_recording : Option Text → RecordingRequest → Option Request
+asked_by_recording None options = None
+asked_by_recording (Some file) options = Some (recording_request file options)
+
+-- its options among what was matched
+abbrev pub options_found : Found → RecordingRequest
+options_found f =
+    recording_options_of (first_value f (codes "ports")) (first_value f (codes "endpoints")) (first_value f (codes "service")) (first_value f (codes "types"))
+    (first_value f (codes "whole")) (first_value f (codes "whole-limit")) (first_value f (codes "whole-slots")) (first_value f (codes "whole-timeout"))
+
+abbrev pub options_in : List Row → RecordingRequest
+options_in rows =
+    recording_options_of (first_of (codes "ports") rows) (first_of (codes "endpoints") rows) (first_of (codes "service") rows) (first_of (codes "types") rows)
+    (first_of (codes "whole") rows) (first_of (codes "whole-limit") rows) (first_of (codes "whole-slots") rows) (first_of (codes "whole-timeout") rows)
 
 -- what `chart` asks for, by its arguments
 abbrev pub asked_by_chart : Option Text → Option Text → Option Request
@@ -134,14 +197,14 @@ asked_by_chart (Some setup) (Some schedule) = Some (chart_request setup schedule
 -- what a subcommand asks for, by its name and what its arguments matched
 abbrev pub asked_by_subcommand : Text → List Row → Option Request
 asked_by_subcommand name rows =
-    if bytes_eq name (codes "show") then asked_by_show (first_of (codes "capture") rows)
+    if bytes_eq name (codes "show") then asked_by_show (first_of (codes "capture") rows) (first_of (codes "service") rows) (first_of (codes "types") rows)
     else (if bytes_eq name (codes "payload")
     then asked_by_payload (first_of (codes "shape") rows) (first_of (codes "hex") rows)
     else (if bytes_eq name (codes "vectors") then asked_by_vectors (first_of (codes "file") rows)
     else (if bytes_eq name (codes "run")
     then asked_by_run (first_of (codes "setup") rows) (first_of (codes "schedule") rows) (first_of (codes "expect") rows) (first_of (codes "lines") rows)
     else (if bytes_eq name (codes "recording")
-    then asked_by_recording (first_of (codes "file") rows) (first_of (codes "ports") rows) (first_of (codes "endpoints") rows)
+    then asked_by_recording (first_of (codes "file") rows) (options_in rows)
     else (if bytes_eq name (codes "chart") then asked_by_chart (first_of (codes "setup") rows) (first_of (codes "schedule") rows) else None)))))
 
 -- what the subcommand that was entered asks for, where one was

@@ -7,13 +7,17 @@ use Rattle.someipctl_inputs.specs.declared.outcome.Outcome.{Outcome}
 use Rattle.someipctl_inputs.specs.declared.outcome.Outcome.TheVariants.{Done}
 use Rattle.std.specs.Borrow.{Bor}
 use Rattle.someipctl_cli.specs.declared.failure.Failure.{Failure}
-use Rattle.someipctl_cli.specs.declared.failure.Failure.TheVariants.{BadHex, BadVector, BadScheduleLine, BadSetup, BadExpectedLine, BadStep, BadShape, BadPayloadHex, BadRecording, BadPorts, Usage, NotText, OutOfMemory, CannotRead, CannotWrite}
+use Rattle.someipctl_cli.specs.declared.failure.Failure.TheVariants.{BadHex, BadVector, BadScheduleLine, BadSetup, BadExpectedLine, BadStep, BadShape, BadPayloadHex, BadRecording, BadTypes, BadPorts, BadServices, BadLimits, LimitAlone, Usage, NotText, OutOfMemory, CannotRead, CannotWrite}
 use Rattle.someipctl_commands.specs.declared.payload.PayloadRefusal.{PayloadRefusal}
 use Rattle.someipctl_commands.specs.declared.payload.PayloadRefusal.TheVariants as payloads
-use Rattle.someipctl_commands.specs.declared.ports.PortsError.{PortsError}
-use Rattle.someipctl_commands.specs.declared.ports.PortsError.TheVariants as ports
-use Rattle.someipctl_commands.specs.declared.recordings.RecordingFault.{RecordingFault}
-use Rattle.someipctl_commands.specs.declared.recordings.RecordingFault.TheVariants as recordings
+use Rattle.someipctl_recordings.specs.declared.ports.PortsError.{PortsError}
+use Rattle.someipctl_recordings.specs.declared.ports.PortsError.TheVariants as ports
+use Rattle.someipctl_recordings.specs.declared.recordings.RecordingFault.{RecordingFault}
+use Rattle.someipctl_recordings.specs.declared.recordings.RecordingFault.TheVariants as recordings
+use Rattle.someipctl_commands.specs.declared.services.ServicesError.{ServicesError}
+use Rattle.someipctl_commands.specs.declared.services.ServicesError.TheVariants as services
+use Rattle.someipctl_types.specs.declared.TypesFault.{TypesFault}
+use Rattle.someipctl_types.specs.declared.TypesFault.TheVariants as types
 use Rattle.someipctl_commands.specs.declared.show.ShowError.{ShowError}
 use Rattle.someipctl_commands.specs.declared.show.ShowError.TheVariants as shows
 use Rattle.someipctl_commands.specs.declared.vectors.VectorsError.{VectorsError}
@@ -36,7 +40,11 @@ status_of_failure (BadStep index fault) = 1
 status_of_failure (BadShape place) = 1
 status_of_failure BadPayloadHex = 1
 status_of_failure (BadRecording error) = 1
+status_of_failure (BadTypes error) = 1
 status_of_failure (BadPorts text) = 2
+status_of_failure (BadServices text usage) = 2
+status_of_failure (BadLimits error) = 2
+status_of_failure LimitAlone = 2
 status_of_failure (Usage error) = 2
 status_of_failure NotText = 2
 status_of_failure OutOfMemory = 3
@@ -94,6 +102,17 @@ failure_of_recording recordings.OutOfMemory path = OutOfMemory
 abbrev pub failure_of_ports : PortsError → Bor (List ℕ) → Failure
 failure_of_ports ports.BadPorts text = BadPorts text
 failure_of_ports ports.OutOfMemory text = OutOfMemory
+
+-- why a text names no services, of a command that is used so
+abbrev pub failure_of_services : ServicesError → Bor (List ℕ) → Bor (List ℕ) → Failure
+failure_of_services services.BadServices text usage = BadServices text usage
+failure_of_services services.OutOfMemory text usage = OutOfMemory
+
+-- why the types file at a path was not read
+abbrev pub failure_of_types : TypesFault → Bor (List ℕ) → Failure
+failure_of_types (types.Refused error) path = BadTypes error
+failure_of_types types.CannotRead path = CannotRead path
+failure_of_types types.OutOfMemory path = OutOfMemory
 
 -- the answer to a call for help: its text was written whole, or a beginning of it was and then writing failed
 abbrev pub AnswersHelp : List ℕ → Result Outcome Failure → Option (List ℕ) → Option (List ℕ) → Type 0

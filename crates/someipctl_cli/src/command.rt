@@ -11,6 +11,7 @@ ghost use Rattle.someipctl_cli.specs.CommandLine.{asked_by_payload, asked_by_rec
 ghost use Rattle.someipctl_cli.specs.CommandLine.{asked_by_show, asked_by_vectors, chart_usage, cli, is_flag};
 ghost use Rattle.someipctl_cli.specs.CommandLine.{is_on, line, payload_usage, program, recording_usage};
 ghost use Rattle.someipctl_cli.specs.CommandLine.{requested, required, run_usage, show_usage, vectors_usage};
+ghost use Rattle.someipctl_cli.specs.CommandLine.{asked_by_options, options_found, with_filters, with_whole};
 ghost use Rattle.someipctl_cli.specs.CommandLine.{flag as flag_rule, valued, with_inputs};
 
 use crate::examples::{
@@ -30,6 +31,10 @@ pub enum Command<'w> {
     Show {
         /// The capture's path, as it was given.
         capture: &'w str,
+        /// The text of the services whose datagrams are asked for. None asks for all.
+        service: Option<&'w str>,
+        /// The path of a types file, as it was given.
+        types: Option<&'w str>,
     },
     /// Read a payload by its shape.
     Payload {
@@ -58,10 +63,8 @@ pub enum Command<'w> {
     Recording {
         /// The recording's path, as it was given.
         file: &'w str,
-        /// The text of the ports whose datagrams are asked for. None asks for all.
-        ports: Option<&'w str>,
-        /// Whether each line is to begin with the time and the endpoints of its datagram.
-        endpoints: bool,
+        /// What of it is asked for, and what is told.
+        options: RecordingOptions<'w>,
     },
     /// Draw a run of a schedule over the nodes of a setup.
     Chart {
@@ -70,6 +73,27 @@ pub enum Command<'w> {
         /// The schedule's path, as it was given.
         schedule: &'w str,
     },
+}
+
+/// The options of `recording`.
+#[derive(Clone, Copy, PartialEq, Eq)]
+pub struct RecordingOptions<'w> {
+    /// The text of the ports whose datagrams are asked for. None asks for all.
+    pub ports: Option<&'w str>,
+    /// Whether each line is to begin with the time and the endpoints of its datagram.
+    pub endpoints: bool,
+    /// The text of the services whose datagrams are asked for. None asks for all.
+    pub service: Option<&'w str>,
+    /// The path of a types file, as it was given.
+    pub types: Option<&'w str>,
+    /// Whether messages are to be put together from their segments.
+    pub whole: bool,
+    /// The text of how many bytes such a message may have.
+    pub limit: Option<&'w str>,
+    /// The text of how many may have come in part at once.
+    pub slots: Option<&'w str>,
+    /// The text of how many milliseconds a part stands.
+    pub timeout: Option<&'w str>,
 }
 
 /// Why the words give no command. `Usage` and `Help` print as the whole text for the user, to the
@@ -177,7 +201,7 @@ fn show_definition<'d>(alloc: Global) -> Result<clap::Command<'d>, AllocError>
         .about("Prints the messages of a capture, one a line")
         .after_help(SHOW_EXAMPLE);
     let capture = explained(alloc, "capture", "CAPTURE", "The path of a capture");
-    taking(Ok(command), capture)
+    taking(add_filters(alloc, Ok(command)), capture)
 }
 
 /// The command that the matches say.
@@ -198,10 +222,16 @@ fn matched<'w>(matches: &ArgMatches<'w>) -> Option<Command<'w>>
 
 fn show_matched<'w>(matches: &ArgMatches<'w>) -> Option<Command<'w>>
     ensures { option_map asked_by_command result
-        ≡ asked_by_show (first_value (found_of matches.now) (codes "capture")) }
+        ≡ asked_by_show (first_value (found_of matches.now) (codes "capture"))
+        (first_value (found_of matches.now) (codes "service"))
+        (first_value (found_of matches.now) (codes "types")) }
 {
     let capture = matches.get_str("capture")?;
-    Some(Command::Show { capture })
+    Some(Command::Show {
+        capture,
+        service: matches.get_str("service"),
+        types: matches.get_str("types"),
+    })
 }
 
 fn payload_definition<'d>(alloc: Global) -> Result<clap::Command<'d>, AllocError>
@@ -310,21 +340,35 @@ fn recording_definition<'d>(alloc: Global) -> Result<clap::Command<'d>, AllocErr
     );
     let first = taking(Ok(command), ports);
     let second = taking(first, endpoints);
-    taking(second, file)
+    let third = add_filters(alloc, second);
+    taking(add_whole(alloc, third), file)
 }
 
 fn recording_matched<'w>(matches: &ArgMatches<'w>) -> Option<Command<'w>>
     ensures { option_map asked_by_command result
         ≡ asked_by_recording (first_value (found_of matches.now) (codes "file"))
-        (first_value (found_of matches.now) (codes "ports"))
-        (first_value (found_of matches.now) (codes "endpoints")) }
+        (options_found (found_of matches.now)) }
 {
     let file = matches.get_str("file")?;
     Some(Command::Recording {
         file,
+        options: options_matched(matches),
+    })
+}
+
+fn options_matched<'w>(matches: &ArgMatches<'w>) -> RecordingOptions<'w>
+    ensures { asked_by_options result ≡ options_found (found_of matches.now) }
+{
+    RecordingOptions {
         ports: matches.get_str("ports"),
         endpoints: is_given(matches, "endpoints"),
-    })
+        service: matches.get_str("service"),
+        types: matches.get_str("types"),
+        whole: is_given(matches, "whole"),
+        limit: matches.get_str("whole-limit"),
+        slots: matches.get_str("whole-slots"),
+        timeout: matches.get_str("whole-timeout"),
+    }
 }
 
 fn chart_definition<'d>(alloc: Global) -> Result<clap::Command<'d>, AllocError>
@@ -359,6 +403,66 @@ fn add_inputs<'d>(
 {
     let first = taking(command, needed(alloc, "setup", "SETUP"));
     taking(first, needed(alloc, "schedule", "SCHEDULE"))
+}
+
+/// The command with the options that name services and a types file.
+fn add_filters<'d>(
+    alloc: Global,
+    command: Result<clap::Command<'d>, AllocError>,
+) -> Result<clap::Command<'d>, AllocError>
+    ensures app { (app : App) → IfOk command.entry (λ c. app_of c ≡ app)
+        → IfOk result (λ r. app_of r ≡ with_filters app) }
+    ensures local { IfOk command.entry (λ c. (out-Command c).has_globals ≡ false)
+        → IfOk result (λ r. (out-Command r).has_globals ≡ false) }
+{
+    let service = valued_option(
+        alloc,
+        "service",
+        "SERVICES",
+        "Prints only datagrams with a message of one of these services",
+    );
+    let types = valued_option(
+        alloc,
+        "types",
+        "FILE",
+        "Prints the values of the payloads whose shapes this file tells",
+    );
+    taking(taking(command, service), types)
+}
+
+/// The command with the options on messages that are put together.
+fn add_whole<'d>(
+    alloc: Global,
+    command: Result<clap::Command<'d>, AllocError>,
+) -> Result<clap::Command<'d>, AllocError>
+    ensures app { (app : App) → IfOk command.entry (λ c. app_of c ≡ app)
+        → IfOk result (λ r. app_of r ≡ with_whole app) }
+    ensures local { IfOk command.entry (λ c. (out-Command c).has_globals ≡ false)
+        → IfOk result (λ r. (out-Command r).has_globals ≡ false) }
+{
+    let whole = flag(alloc, "whole", "Puts messages together from their segments");
+    let limit = valued_option(
+        alloc,
+        "whole-limit",
+        "N",
+        "The bytes that such a message may have, 1048576 without it",
+    );
+    let slots = valued_option(
+        alloc,
+        "whole-slots",
+        "N",
+        "How many may have come in part at once, 16 without it",
+    );
+    let timeout = valued_option(
+        alloc,
+        "whole-timeout",
+        "MS",
+        "The milliseconds that a part stands after its last segment, 5000 without it",
+    );
+    let first = taking(command, whole);
+    let second = taking(first, limit);
+    let third = taking(second, slots);
+    taking(third, timeout)
 }
 
 /// A command with a further argument, where it is there.

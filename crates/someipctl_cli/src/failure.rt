@@ -3,16 +3,19 @@ ghost use Rattle.std.specs.Prelude.{◌≡◌};
 ghost use Rattle.someipctl_cli.specs.Failures.{status_of_failure, failure_of_show, failure_of_payload};
 ghost use Rattle.someipctl_cli.specs.Failures.{failure_of_expected, failure_of_run, failure_of_setup};
 ghost use Rattle.someipctl_cli.specs.Failures.{failure_of_ports, failure_of_recording, failure_of_vectors};
+ghost use Rattle.someipctl_cli.specs.Failures.{failure_of_services, failure_of_types};
 
 use recording::RecordingError;
 use someip_world::{SetupError, StepFault};
 use someipctl_commands::payload::PayloadRefusal;
-use someipctl_commands::ports::PortsError;
-use someipctl_commands::recordings::RecordingFault;
+use someipctl_commands::services::ServicesError;
 use someipctl_commands::show::ShowError;
 use someipctl_commands::vectors::VectorsError;
 use someipctl_inputs::ReadFault;
+use someipctl_recordings::ports::PortsError;
+use someipctl_recordings::{LimitsError, RecordingFault};
 use someipctl_run::{ExpectedFault, RunFault, SetupFault, SetupRefusal};
+use someipctl_types::{TypesError, TypesFault};
 use thiserror::Error;
 
 /// Why the program did not do its work. Printed, it is the text for standard error.
@@ -45,9 +48,21 @@ pub enum Failure<'p> {
     /// A recording has a fault. What comes before it was shown.
     #[error("recording: {0}")]
     BadRecording(RecordingError),
+    /// The text of a types file is none.
+    #[error("types: {0}")]
+    BadTypes(TypesError),
     /// This text names no ports.
     #[error("error: invalid value '{0}' for '--ports <PORTS>': ports are numbers from 1 to 65535 with commas between them\n\nUsage: someipctl recording [OPTIONS] <FILE>")]
     BadPorts(&'p str),
+    /// This text names no services, of a command that is used so.
+    #[error("error: invalid value '{0}' for '--service <SERVICES>': services are four hex digits, perhaps with a dot and four more, with commas between them\n\nUsage: someipctl {1}")]
+    BadServices(&'p str, &'static str),
+    /// One of the limits of messages that are put together is none.
+    #[error("error: invalid value for '{}': {}\n\nUsage: someipctl recording [OPTIONS] <FILE>", option_of(*.0), .0)]
+    BadLimits(LimitsError),
+    /// Such a limit was given, and messages are not put together.
+    #[error("error: limits of whole messages need '--whole'\n\nUsage: someipctl recording [OPTIONS] <FILE>")]
+    LimitAlone,
     /// The arguments are no call of the program.
     #[error("{0}")]
     Usage(clap::Error),
@@ -80,8 +95,14 @@ impl<'p> Failure<'p> {
             | Failure::BadStep(_, _)
             | Failure::BadShape(_)
             | Failure::BadPayloadHex
-            | Failure::BadRecording(_) => 1,
-            Failure::Usage(_) | Failure::NotText | Failure::BadPorts(_) => 2,
+            | Failure::BadRecording(_)
+            | Failure::BadTypes(_) => 1,
+            Failure::Usage(_)
+            | Failure::NotText
+            | Failure::BadPorts(_)
+            | Failure::BadServices(_, _)
+            | Failure::BadLimits(_)
+            | Failure::LimitAlone => 2,
             Failure::OutOfMemory => 3,
             Failure::CannotRead(_) | Failure::CannotWrite => 4,
         }
@@ -177,5 +198,35 @@ impl<'p> Failure<'p> {
             PortsError::BadPorts => Failure::BadPorts(text),
             PortsError::OutOfMemory => Failure::OutOfMemory,
         }
+    }
+
+    /// Why a text names no services, of a command that is used so.
+    pub fn of_services(error: ServicesError, text: &'p str, usage: &'static str) -> Failure<'p>
+        ensures { result ≡ failure_of_services error text.entry usage.entry }
+    {
+        match error {
+            ServicesError::BadServices => Failure::BadServices(text, usage),
+            ServicesError::OutOfMemory => Failure::OutOfMemory,
+        }
+    }
+
+    /// Why the types file at a path was not read.
+    pub fn of_types(fault: TypesFault, path: &'p str) -> Failure<'p>
+        ensures { result ≡ failure_of_types fault path.entry }
+    {
+        match fault {
+            TypesFault::Refused(error) => Failure::BadTypes(error),
+            TypesFault::CannotRead => Failure::CannotRead(path),
+            TypesFault::OutOfMemory => Failure::OutOfMemory,
+        }
+    }
+}
+
+/// The option that says such a limit.
+fn option_of(error: LimitsError) -> &'static str {
+    match error {
+        LimitsError::BadLimit => "--whole-limit <N>",
+        LimitsError::BadSlots => "--whole-slots <N>",
+        LimitsError::BadTimeout => "--whole-timeout <MS>",
     }
 }

@@ -3,7 +3,7 @@
 ghost use Rattle.std.specs.Prelude.{◌≡◌, ◌∷◌, [], codes, false, true, Some, None, IsSome, ℕ, List};
 ghost use Rattle.someipctl_cli.specs.CommandLine.{CallsForHelp, HaveFault, IsTaken, is_flag, line};
 ghost use Rattle.someipctl_cli.specs.CommandLine.{requested, show_request, vectors_request, run_request};
-ghost use Rattle.someipctl_cli.specs.CommandLine.{recording_request, chart_request};
+ghost use Rattle.someipctl_cli.specs.CommandLine.{recording_options_of, recording_request, chart_request};
 
 use clap::error::ErrorKind;
 
@@ -17,13 +17,13 @@ pub fn words_show_any_capture()
     ensures taken { (program capture : List ℕ) → is_flag capture ≡ false
         → IsTaken (program ∷ codes "show" ∷ capture ∷ []) }
     ensures matched { (program capture : List ℕ) → is_flag capture ≡ false
-        → requested (program ∷ codes "show" ∷ capture ∷ []) ≡ Some (show_request capture) }
+        → requested (program ∷ codes "show" ∷ capture ∷ []) ≡ Some (show_request capture None None) }
 {}
 
 /// What some calls of the program come to.
 pub fn calls_by_example()
     ensures show { requested (line (codes "show" ∷ codes "x" ∷ []))
-        ≡ Some (show_request (codes "x")) }
+        ≡ Some (show_request (codes "x") None None) }
 
     ensures vectors { requested (line (codes "vectors" ∷ codes "x" ∷ []))
         ≡ Some (vectors_request (codes "x")) }
@@ -34,12 +34,17 @@ pub fn calls_by_example()
     ensures run_options { requested (line (codes "run" ∷ codes "--lines" ∷ codes "--expect" ∷ codes "t"
         ∷ codes "x" ∷ codes "y" ∷ [])) ≡ Some (run_request (codes "x") (codes "y") (Some (codes "t")) true) }
 
+    ensures show_options { requested (line (codes "show" ∷ codes "--service" ∷ codes "1111" ∷ codes "--types" ∷ codes "t"
+        ∷ codes "x" ∷ [])) ≡ Some (show_request (codes "x") (Some (codes "1111")) (Some (codes "t"))) }
+
     ensures recording { requested (line (codes "recording" ∷ codes "x" ∷ []))
-        ≡ Some (recording_request (codes "x") None false) }
+        ≡ Some (recording_request (codes "x") (recording_options_of None None None None None None None None)) }
 
     // Options may also stand behind the file, and have their value behind `=`.
     ensures recording_options { requested (line (codes "recording" ∷ codes "x" ∷ codes "--ports=1,2"
-        ∷ codes "--endpoints" ∷ [])) ≡ Some (recording_request (codes "x") (Some (codes "1,2")) true) }
+        ∷ codes "--endpoints" ∷ codes "--whole" ∷ codes "--whole-slots" ∷ codes "4" ∷ []))
+        ≡ Some (recording_request (codes "x") (recording_options_of (Some (codes "1,2")) (Some (codes "true"))
+        None None (Some (codes "true")) None (Some (codes "4")) None)) }
 
     ensures chart { requested (line (codes "chart" ∷ codes "x" ∷ codes "y" ∷ []))
         ≡ Some (chart_request (codes "x") (codes "y")) }

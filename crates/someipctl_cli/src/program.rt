@@ -4,21 +4,29 @@ ghost use Rattle.std.specs.Prelude.{◌≡◌, true, false};
 ghost use Rattle.someipctl_run.specs.declared.form.TraceForm.TheVariants.{Plain, WithLines};
 ghost use Rattle.someipctl_cli.specs.Failures.{status_of_failure};
 
-use crate::command::{Command, command_of};
+use crate::command::{Command, RecordingOptions, command_of};
 use crate::failure::Failure;
 use crate::help::answer_error;
+use someip_tp::IntervalPool;
 use someip_world::Setup;
 use someipctl_chart::chart_schedule;
 use someipctl_commands::payload::payload;
-use someipctl_commands::ports::ports_in;
-use someipctl_commands::recordings::{ShownRecording, show_recording};
+use someipctl_commands::services::{AskedService, services_in};
 use someipctl_commands::show::show;
 use someipctl_commands::vectors::vectors;
 use someipctl_inputs::Outcome;
+use someipctl_recordings::ports::ports_in;
+use someipctl_recordings::{Asked, ShownRecording, WholeLimits, limits_in, show_recording};
 use someipctl_run::{TraceForm, compare_schedule, read_expected, read_setup, run_schedule_in_form};
+use someipctl_types::{MessageTypes, read_types};
 use std::io::ErrorKind;
 use std::rt::{Env, Files};
 use std::{env, fs, io};
+
+/// How `show` and `recording` are used.
+const SHOW_USAGE: &str = "show [OPTIONS] <CAPTURE>";
+
+const RECORDING_USAGE: &str = "recording [OPTIONS] <FILE>";
 
 /// The program: does what its arguments ask for, tells on standard error what kept it from that, and gives the
 /// exit status.
@@ -78,7 +86,11 @@ fn run_command<'w, R: Files + Print + Eprint + Input + AllocGlobal>(
     command: Command<'w>,
 ) -> Result<Outcome, Failure<'w>> {
     match command {
-        Command::Show { capture } => show_file(rt, capture),
+        Command::Show {
+            capture,
+            service,
+            types,
+        } => show_file(rt, capture, service, types),
         Command::Payload { shape, hex } => {
             payload(rt.alloc(), shape, hex, &mut io::writer(rt)).map_err(Failure::of_payload)
         }
@@ -90,37 +102,49 @@ fn run_command<'w, R: Files + Print + Eprint + Input + AllocGlobal>(
             lines,
         } => run_files(rt, setup, schedule, expect, form_of(lines)),
         Command::Chart { setup, schedule } => chart_files(rt, setup, schedule),
-        Command::Recording {
-            file,
-            ports,
-            endpoints,
-        } => show_recorded(rt, file, ports, endpoints),
+        Command::Recording { file, options } => show_recorded(rt, file, options),
     }
 }
 
 fn show_file<'p, R: Files + Print + AllocGlobal>(
     rt: &R,
     path: &'p str,
+    service: Option<&'p str>,
+    types: Option<&'p str>,
 ) -> Result<Outcome, Failure<'p>> {
+    let services = services_of(rt, service, SHOW_USAGE)?;
+    let types = types_at(rt, types)?;
     let mut file = open_file(rt, path)?;
-    show(rt.alloc(), &mut file, &mut io::writer(rt)).map_err(|error| Failure::of_show(error, path))
+    let asked = services.as_deref();
+    show(rt.alloc(), &mut file, asked, &types, &mut io::writer(rt)).map_err(
+        |error| Failure::of_show(error, path),
+    )
 }
 
 /// Shows a recording, and then tells on standard error what was left out of it, and its fault, if it has one.
-/// Whatever is wrong with the ports is told before the recording is looked at.
+/// Whatever is wrong with the options is told before a file is looked at, and whatever is wrong with the types
+/// file before the recording is.
 fn show_recorded<'p, R: Files + Print + Eprint + Input + AllocGlobal>(
     rt: &R,
     path: &'p str,
-    ports: Option<&'p str>,
-    endpoints: bool,
+    options: RecordingOptions<'p>,
 ) -> Result<Outcome, Failure<'p>> {
-    let asked = match ports {
-        Some(text) => Some(ports_in(rt.alloc(), text).map_err(|error| Failure::of_ports(
-            error, text,
-        ))?),
-        None => None,
+    let ports = ports_of(rt, options.ports)?;
+    let services = services_of(rt, options.service, RECORDING_USAGE)?;
+    let whole = whole_of(&options)?;
+    let types = types_at(rt, options.types)?;
+    let asked = Asked {
+        ports: ports.as_deref(),
+        services: services.as_deref(),
+        types: &types,
+        endpoints: options.endpoints,
+        whole,
     };
-    let shown = show_recording_at(rt, path, asked.as_deref(), endpoints)?;
+    end_recording(rt, show_recording_at(rt, path, &asked)?)
+}
+
+/// Tells what was left out of a recording, and its fault, if it has one.
+fn end_recording<R: Eprint>(rt: &R, shown: ShownRecording) -> Result<Outcome, Failure<'static>> {
     if !shown.left_out.is_empty() {
         // Where standard error can't be written, what was printed stands all the same.
         let _ = eprintln!(rt; "recording: {}", shown.left_out);
@@ -131,19 +155,73 @@ fn show_recorded<'p, R: Files + Print + Eprint + Input + AllocGlobal>(
     }
 }
 
+/// The ports that are asked for, if they are named.
+fn ports_of<'p, R: AllocGlobal>(
+    rt: &R,
+    text: Option<&'p str>,
+) -> Result<Option<Vec<u16>>, Failure<'p>> {
+    let Some(text) = text else {
+        return Ok(None);
+    };
+    match ports_in(rt.alloc(), text) {
+        Ok(ports) => Ok(Some(ports)),
+        Err(error) => Err(Failure::of_ports(error, text)),
+    }
+}
+
+/// The services that are asked for, if they are named, of a command that is used so.
+fn services_of<'p, R: AllocGlobal>(
+    rt: &R,
+    text: Option<&'p str>,
+    usage: &'static str,
+) -> Result<Option<Vec<AskedService>>, Failure<'p>> {
+    let Some(text) = text else {
+        return Ok(None);
+    };
+    match services_in(rt.alloc(), text) {
+        Ok(services) => Ok(Some(services)),
+        Err(error) => Err(Failure::of_services(error, text, usage)),
+    }
+}
+
+/// The limits of messages that are put together, if they are.
+fn whole_of<'p>(options: &RecordingOptions<'p>) -> Result<Option<WholeLimits>, Failure<'p>> {
+    if !options.whole {
+        if options.limit.is_some() || options.slots.is_some() || options.timeout.is_some() {
+            return Err(Failure::LimitAlone);
+        }
+        return Ok(None);
+    }
+    match limits_in(options.limit, options.slots, options.timeout) {
+        Ok(limits) => Ok(Some(limits)),
+        Err(error) => Err(Failure::BadLimits(error)),
+    }
+}
+
+/// What the types file at a path says, if there is one.
+fn types_at<'p, R: Files + AllocGlobal>(
+    rt: &R,
+    path: Option<&'p str>,
+) -> Result<MessageTypes, Failure<'p>> {
+    let Some(path) = path else {
+        return Ok(MessageTypes::none(rt.alloc()));
+    };
+    let mut file = open_file(rt, path)?;
+    read_types(rt.alloc(), &mut file).map_err(|fault| Failure::of_types(fault, path))
+}
+
 /// Shows the recording at a path, or the one that comes on standard input, which is called `-`.
 fn show_recording_at<'p, R: Files + Print + Input + AllocGlobal>(
     rt: &R,
     path: &'p str,
-    ports: Option<&[u16]>,
-    endpoints: bool,
+    asked: &Asked<'_>,
 ) -> Result<ShownRecording, Failure<'p>> {
     let mut writer = io::writer(rt);
     let shown = if path == "-" {
-        show_recording(rt.alloc(), &mut rt.reader(), ports, endpoints, &mut writer)
+        show_recording::<IntervalPool, _, _>(rt.alloc(), &mut rt.reader(), asked, &mut writer)
     } else {
         let mut file = open_file(rt, path)?;
-        show_recording(rt.alloc(), &mut file, ports, endpoints, &mut writer)
+        show_recording::<IntervalPool, _, _>(rt.alloc(), &mut file, asked, &mut writer)
     };
     shown.map_err(|fault| Failure::of_recording(fault, path))
 }

@@ -7,7 +7,4 @@ pub mod VectorLemmas
 pub mod VerdictLemmas
 pub mod PayloadLemmas
 pub mod BlankLemmas
-pub mod RecordedLemmas
-pub mod ComingLemmas
-pub mod ShowingLemmas
-pub mod PortLemmas
+pub mod WordLemmas

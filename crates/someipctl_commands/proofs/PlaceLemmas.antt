@@ -6,23 +6,26 @@ use Rattle.std.proofs.lemmas.List.{drop_at}
 use Rattle.someip_wire.specs.declared.WireError.{WireError}
 use Rattle.someip_wire.specs.Spelling.{MessageValue, header_bytes, spelling}
 use Rattle.someip_wire.specs.Datagram.{Datagram, items}
-use Rattle.someipctl_print.specs.Items.{item_lines, lines_from}
+use Rattle.someipctl_print.specs.Items.{item_lines}
+use Rattle.someipctl_types.specs.Types.{TypesValue}
+use Rattle.someipctl_types.specs.ValueLine.{value_line}
+use Rattle.someipctl_commands.specs.ShownText.{lines_from}
 
-lines_from-append : (k place : ℕ) (front others : List MessageValue) (end : Option WireError)
-    → lines_from k place (items (front ++ others) end) ≡ lines_from k place (items front None) ++ lines_from k (place + length (flat_map spelling front)) (items others end)
-lines_from-append k place [] others end = let at : place ≡ place + 0 = omega arith in ap (λ p. lines_from k p (items others end)) at
-lines_from-append k place (m ∷ front) others end =
-    let head = item_lines k place (Ok m) in
+lines_from-append : (types : TypesValue) (k place : ℕ) (front others : List MessageValue) (end : Option WireError)
+    → lines_from types k place (items (front ++ others) end) ≡ lines_from types k place (items front None) ++ lines_from types k (place + length (flat_map spelling front)) (items others end)
+lines_from-append types k place [] others end = let at : place ≡ place + 0 = omega arith in ap (λ p. lines_from types k p (items others end)) at
+lines_from-append types k place (m ∷ front) others end =
+    let head = item_lines k place (value_line types k place m) (Ok m) in
     let next = place + length (spelling m) in
     let at : next + length (flat_map spelling front) ≡ place + length (spelling m ++ flat_map spelling front) = omega (arith, length-append (spelling m) (flat_map spelling front)) in
-    ap (λ (t : List ℕ). head ++ t) (lines_from-append k next front others end)
-    ∙ sym (append_assoc head (lines_from k next (items front None)) (lines_from k (next + length (flat_map spelling front)) (items others end)))
-    ∙ ap (λ p. (head ++ lines_from k next (items front None)) ++ lines_from k p (items others end)) at
+    ap (λ (t : List ℕ). head ++ t) (lines_from-append types k next front others end)
+    ∙ sym (append_assoc head (lines_from types k next (items front None)) (lines_from types k (next + length (flat_map spelling front)) (items others end)))
+    ∙ ap (λ p. (head ++ lines_from types k next (items front None)) ++ lines_from types k p (items others end)) at
 
-pub lines_from-front : (k : ℕ) (front others : List MessageValue) (end : Option WireError)
-    → lines_from k 0 (items (front ++ others) end) ≡ lines_from k 0 (items front None) ++ lines_from k (length (flat_map spelling front)) (items others end)
-lines_from-front k front others end =
-    lines_from-append k 0 front others end ∙ ap (λ n. lines_from k 0 (items front None) ++ lines_from k n (items others end)) (zero-add (length (flat_map spelling front)))
+pub lines_from-front : (k : ℕ) (front others : List MessageValue) (end : Option WireError) (types : TypesValue)
+    → lines_from types k 0 (items (front ++ others) end) ≡ lines_from types k 0 (items front None) ++ lines_from types k (length (flat_map spelling front)) (items others end)
+lines_from-front k front others end types =
+    lines_from-append types k 0 front others end ∙ ap (λ n. lines_from types k 0 (items front None) ++ lines_from types k n (items others end)) (zero-add (length (flat_map spelling front)))
 
 -- the bytes of messages, one of which is cut behind its header
 bytes_at : (front : List MessageValue) (m : MessageValue) (others : List MessageValue) (rest : List ℕ)

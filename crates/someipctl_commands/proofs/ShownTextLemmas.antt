@@ -8,18 +8,19 @@ use Rattle.someip_wire.specs.Datagram.{Datagram, items}
 use Rattle.someip_wire.specs.Reading.{items_of}
 use Rattle.someip_wire.proofs.DatagramLemmas.{items_from-nil}
 use Rattle.someipctl_print.specs.Lines.{empty_line}
-use Rattle.someipctl_print.specs.Items.{lines_from, item_len, is_faulty}
-use Rattle.someipctl_commands.specs.ShownText.{datagram_text, has_fault}
+use Rattle.someipctl_print.specs.Items.{item_len}
+use Rattle.someipctl_types.specs.Types.{TypesValue}
+use Rattle.someipctl_commands.specs.ShownText.{datagram_text, has_fault, lines_from, shows_fault}
 
-pub datagram_text-empty : (k : ℕ) (datagram : List ℕ) → length datagram ≡ 0 → datagram_text k datagram ≡ empty_line k
-datagram_text-empty k datagram none = ap (datagram_text k) (nil_from_length datagram none)
+pub datagram_text-empty : (types : TypesValue) (k : ℕ) (datagram : List ℕ) → length datagram ≡ 0 → datagram_text types k datagram ≡ empty_line k
+datagram_text-empty types k datagram none = ap (datagram_text types k) (nil_from_length datagram none)
 
-pub datagram_text-some : (k : ℕ) (datagram : List ℕ) → 0 < length datagram → datagram_text k datagram ≡ lines_from k 0 (items_of datagram)
-datagram_text-some k [] lt = absurd (omega (arith, lt))
-datagram_text-some k (b ∷ bytes) lt = refl
+pub datagram_text-some : (types : TypesValue) (k : ℕ) (datagram : List ℕ) → 0 < length datagram → datagram_text types k datagram ≡ lines_from types k 0 (items_of datagram)
+datagram_text-some types k [] lt = absurd (omega (arith, lt))
+datagram_text-some types k (b ∷ bytes) lt = refl
 
-pub has_fault-empty : (datagram : List ℕ) → length datagram ≡ 0 → has_fault datagram ≡ false
-has_fault-empty datagram none = ap has_fault (nil_from_length datagram none) ∙ ap (list_any is_faulty) (items_from-nil 0)
+pub has_fault-empty : (types : TypesValue) (datagram : List ℕ) → length datagram ≡ 0 → has_fault types datagram ≡ false
+has_fault-empty types datagram none = ap (has_fault types) (nil_from_length datagram none) ∙ ap (list_any (shows_fault types)) (items_from-nil 0)
 
 -- how many bytes items take
 abbrev pub items_len : List (Result MessageValue WireError) → ℕ

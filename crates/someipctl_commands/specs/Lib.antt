@@ -1,13 +1,9 @@
 pub mod Capture
+pub mod Words
+pub mod Services
 pub mod Readings
 pub mod ShownText
 pub mod ShowResult
 pub mod Payload
 pub mod VectorLines
 pub mod Vectors
-pub mod LeftOut
-pub mod RecordedText
-pub mod RecordingResult
-pub mod Coming
-pub mod Ports
-pub mod Heads

@@ -12,7 +12,7 @@ use Rattle.someipctl_commands.specs.Capture.{lines_of}
 use Rattle.someipctl_print.specs.Lines.{joined}
 use Rattle.someipctl_inputs.specs.Outcomes.{fault_outcome}
 use Rattle.someipctl_commands.specs.Payload.{Told}
-use Rattle.someipctl_commands.specs.ShownText.{datagram_text}
+use Rattle.someipctl_commands.specs.ShownText.{datagram_text, no_types}
 use Rattle.someipctl_inputs.specs.Inputs.{WasLeft}
 use Rattle.someipctl_commands.specs.VectorLines.{Asked, of_datagram, of_payload, Said, asks, expects, AreSaid, IsFirstBadLine}
 
@@ -40,7 +40,7 @@ vectors_in (asks asked ∷ sayings) = record { asked = asked; expected = expecte
 -- the text is what is printed of what a vector asks for: of a datagram that of `show`, where it is the first one,
 -- and of a payload that of `payload`
 abbrev pub IsPrintedOf : Asked → List ℕ → Type 0
-IsPrintedOf (of_datagram bytes) text = text ≡ datagram_text 1 bytes
+IsPrintedOf (of_datagram bytes) text = text ≡ datagram_text no_types 1 bytes
 IsPrintedOf (of_payload shape bytes) text = (outcome : Outcome) × Told shape bytes text outcome
 
 -- a vector passes exactly where that text is the one that it expects

@@ -1,7 +1,6 @@
 //! Laws of the definitions behind the contracts: what the lines of captures and of files of vectors
-//! say, where a message begins in its datagram, and that `recording` prints what `show` does. Each is the
-//! contract of a function that does nothing.
-ghost use Rattle.std.specs.Prelude.{◌≡◌, ◌+◌, ◌++◌, [], ◌∷◌, codes, false, map, true, Option, None};
+//! say, and where a message begins in its datagram. Each is the contract of a function that does nothing.
+ghost use Rattle.std.specs.Prelude.{◌≡◌, ◌+◌, ◌++◌, [], ◌∷◌, codes, true, Option, None};
 ghost use Rattle.std.specs.Prelude.{ℕ, List, drop, length};
 ghost use Rattle.std.specs.List.{flat_map};
 ghost use Rattle.hex.specs.Hex.{encode_lower, IsBytes};
@@ -9,10 +8,8 @@ ghost use Rattle.someip_wire.specs.declared.WireError.{WireError};
 ghost use Rattle.someip_wire.specs.Spelling.{MessageValue, spelling};
 ghost use Rattle.someip_wire.specs.Datagram.{Datagram, items};
 ghost use Rattle.someip_payload_values.specs.Data.{bool};
-ghost use Rattle.recording.specs.Packets.{DatagramValue};
-ghost use Rattle.someipctl_print.specs.Items.{lines_from};
-ghost use Rattle.someipctl_commands.specs.RecordedText.{recorded_from, recorded_outcome};
-ghost use Rattle.someipctl_commands.specs.ShownText.{shown_outcome, text_from};
+ghost use Rattle.someipctl_types.specs.Types.{TypesValue};
+ghost use Rattle.someipctl_commands.specs.ShownText.{lines_from};
 ghost use Rattle.someipctl_commands.specs.VectorLines.{IsBadBehind, Said, Says, asks, expects, is_left_out};
 ghost use Rattle.someipctl_commands.specs.VectorLines.{of_datagram, of_payload};
 ghost use Rattle.someipctl_commands.specs.Payload.{argument_bytes};
@@ -51,20 +48,12 @@ pub fn what_vector_lines_say()
 pub fn messages_begin_behind_others()
     // The lines of messages are those of the ones in front, and then of the others from there on.
     ensures lines { (k : ℕ) (front others : List MessageValue) (end : Option WireError)
-        → lines_from k 0 (items (front ++ others) end) ≡ lines_from k 0 (items front None)
-        ++ lines_from k (length (flat_map spelling front)) (items others end) }
+        (types : TypesValue)
+        → lines_from types k 0 (items (front ++ others) end) ≡ lines_from types k 0 (items front None)
+        ++ lines_from types k (length (flat_map spelling front)) (items others end) }
     // 16 bytes after the ones in front, its payload stands in the datagram.
     ensures payload { (front others : List MessageValue) (message : MessageValue)
         (end : Option WireError) (bytes : List ℕ) → Datagram (front ++ message ∷ others) end bytes
         → (rest : List ℕ)
         × (drop (length (flat_map spelling front) + 16) bytes ≡ message.payload ++ rest) }
-{}
-
-/// Without `--endpoints`, `recording` prints of datagrams what `show` prints of a capture that holds them,
-/// and ends as `show` does.
-pub fn recordings_print_what_show_prints()
-    ensures text { (k : ℕ) (datagrams : List DatagramValue)
-        → recorded_from false k datagrams ≡ text_from k (map (λ d. d.payload) datagrams) }
-    ensures outcome { (datagrams : List DatagramValue)
-        → recorded_outcome datagrams ≡ shown_outcome (map (λ d. d.payload) datagrams) }
 {}

@@ -1,25 +1,30 @@
-//! The commands of `someipctl`: what each reads, does and prints, over readers and writers.
+//! The commands `show`, `payload` and `vectors` of `someipctl`: what each reads, does and prints, over
+//! readers and writers; and what of it `recording` prints too.
 //!
 //! - [`show`]: the messages of a capture;
-//! - [`recordings`]: the messages of a recording of network traffic, and its ports in [`ports`];
+//! - [`services`]: the services whose datagrams are asked for;
+//! - [`value_lines`]: an item of a datagram with the line of its value; [`PrintFault`]: why it was not
+//!   printed;
+//! - [`readings`]: what a datagram holds for Service Discovery, item by item;
 //! - [`payload`]: the value that bytes have by a shape;
 //! - [`vectors`]: whether what is printed is what a file expects;
+//! - [`comma_words`]: the words of an argument;
 //! - [`read_capture`]: the datagrams of a capture;
 //! - [`laws`]: what the definitions behind the contracts promise.
 #![tactic(auto)]
 
 mod capture;
-mod coming;
-mod heads;
 pub mod laws;
-mod left_out;
 pub mod payload;
-pub mod ports;
-mod readings;
-pub mod recordings;
+mod print_fault;
+pub mod readings;
+pub mod services;
 pub mod show;
+pub mod value_lines;
 mod vector_lines;
 pub mod vectors;
+mod words;
 
 pub use capture::{CaptureError, read_capture};
-pub use left_out::LeftOut;
+pub use print_fault::PrintFault;
+pub use words::comma_words;

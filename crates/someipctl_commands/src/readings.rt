@@ -1,5 +1,5 @@
 //! What the Service Discovery messages of a capture hold, read before anything is written.
-ghost use Rattle.std.specs.Prelude.{◌≡◌, ◌++◌, ◌∷◌, [], OnOk, IfOk, is_some, map};
+ghost use Rattle.std.specs.Prelude.{◌≡◌, ◌++◌, ◌∷◌, [], OnOk, IfOk, is_some, map, option_map};
 ghost use Rattle.std.specs.Option.{option_to_list};
 ghost use Rattle.someip_wire.specs.View.{view_item};
 ghost use Rattle.someip_wire.specs.Reading.{items_of};
@@ -51,16 +51,29 @@ fn read_item(
     ensures ok { OnOk result (map view_reading readings.new.items
         ≡ map view_reading readings.old.items ++ option_to_list (discovery_in (view_item item.now))) }
 {
+    let Some(reading) = reading_of(alloc, item)? else {
+        return Ok(());
+    };
+    keep(readings, reading)
+}
+
+/// What an item holds for Service Discovery, where it is such a message. The only error is that memory
+/// ran out.
+pub fn reading_of(
+    alloc: Global,
+    item: &Result<Message<'_>, WireError>,
+) -> Result<Option<Result<SdRead, SdError>>, AllocError>
+    ensures { IfOk result (λ found. option_map view_reading found ≡ discovery_in (view_item item.now)) }
+{
     match item {
         Ok(message) => {
             if !is_discovery(&message.header) {
-                return Ok(());
+                return Ok(None);
             }
             let reading = read_payload(alloc, message.payload)?;
-            keep(readings, reading)?;
-            Ok(())
+            Ok(Some(reading))
         }
-        Err(_) => Ok(()),
+        Err(_) => Ok(None),
     }
 }
 

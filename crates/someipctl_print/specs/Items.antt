@@ -1,5 +1,5 @@
 -- The lines of the items of a datagram.
-use Rattle.std.specs.Prelude.{ℕ, ◌+◌, Bool, true, ◌&&◌, ◌||◌, List, [], ◌∷◌, ◌++◌, length, Result, Ok, Err}
+use Rattle.std.specs.Prelude.{ℕ, ◌+◌, Bool, true, ◌&&◌, ◌||◌, List, ◌++◌, length, Result, Ok, Err}
 use Rattle.someip_wire.specs.declared.WireError.{WireError}
 use Rattle.someip_wire.specs.Kinds.{has_tp_flag}
 use Rattle.someip_wire.specs.Spelling.{MessageValue, spelling}
@@ -7,20 +7,17 @@ use Rattle.someip_wire.specs.Faults.{fault_name, fault_place}
 use Rattle.someipctl_print.specs.Lines.{message_line, segment_lines, has_no_tp_header, fault_line}
 use Rattle.someipctl_print.specs.Discovery.{discovery_in, discovery_lines, has_sd_fault}
 
--- the lines of an item that begins at this place of the k-th datagram
-abbrev pub item_lines : ℕ → ℕ → Result MessageValue WireError → List ℕ
-item_lines k place (Ok message) = message_line k message ++ (segment_lines k (place + 16) message ++ discovery_lines k (place + 16) (discovery_in (Ok message)))
-item_lines k place (Err fault) = fault_line k (fault_name fault) (fault_place fault)
+-- the lines of an item that begins at this place of the k-th datagram; what is told of a message's value stands right
+-- after its line
+abbrev pub item_lines : ℕ → ℕ → List ℕ → Result MessageValue WireError → List ℕ
+item_lines k place value (Ok message) =
+    message_line k message ++ (value ++ (segment_lines k (place + 16) message ++ discovery_lines k (place + 16) (discovery_in (Ok message))))
+item_lines k place value (Err fault) = fault_line k (fault_name fault) (fault_place fault)
 
 -- how many bytes of its datagram an item takes: a message those of its spelling. Nothing comes after a fault
 abbrev pub item_len : Result MessageValue WireError → ℕ
 item_len (Ok message) = length (spelling message)
 item_len (Err fault) = 0
-
--- the lines of these items of the k-th datagram in order, the first of which begins at this place
-abbrev pub lines_from : ℕ → ℕ → List (Result MessageValue WireError) → List ℕ
-lines_from k place [] = []
-lines_from k place (item ∷ items) = item_lines k place item ++ lines_from k (place + item_len item) items
 
 -- a fault is shown of an item: the item is one, or it is a segment whose payload has no room for the TP
 -- header, or a message of Service Discovery whose payload has a fault

@@ -1,5 +1,5 @@
 -- The lines of `show`, byte for byte.
-use Rattle.std.specs.Prelude.{ℕ, ◌+◌, nat_lt, Bool, true, false, if◌then◌else◌, List, [], ◌∷◌, length, drop, codes, decimal}
+use Rattle.std.specs.Prelude.{ℕ, ◌+◌, nat_lt, Bool, true, false, if◌then◌else◌, List, [], ◌∷◌, ◌++◌, length, drop, codes, decimal}
 use Rattle.std.specs.List.{flat_map}
 use Rattle.hex.specs.Hex.{encode_lower}
 use Rattle.someip_wire.specs.declared.MessageType.{MessageType}
@@ -31,14 +31,29 @@ abbrev pub payload_text : List ℕ → List ℕ
 payload_text [] = codes "-"
 payload_text (b ∷ bytes) = encode_lower (b ∷ bytes)
 
--- the line of a message in the k-th datagram
-abbrev pub message_line : ℕ → MessageValue → List ℕ
-message_line k m = joined (
-    decimal k ∷ codes " message " ∷ hex4 m.header.service ∷ codes "." ∷ hex4 m.header.method
-    ∷ codes " length " ∷ decimal (8 + length m.payload)
+-- the word of a line that tells a message, its Message ID, and what stands before its length
+abbrev pub ids_by : List ℕ → ℕ → ℕ → List ℕ
+ids_by word service method = word ++ hex4 service ++ codes "." ++ hex4 method ++ codes " length "
+
+-- the line of the k-th datagram that tells a message, which begins with these IDs
+abbrev pub line_behind : List ℕ → ℕ → MessageValue → List ℕ
+line_behind ids k m = joined (
+    decimal k ∷ ids ∷ decimal (8 + length m.payload)
     ∷ codes " client " ∷ hex4 m.header.client ∷ codes " session " ∷ hex4 m.header.session
     ∷ codes " interface " ∷ hex2 m.header.interface ∷ codes " type " ∷ type_name m.header.kind
     ∷ codes " code " ∷ hex2 m.header.code.0 ∷ codes " payload " ∷ payload_text m.payload ∷ codes "\n" ∷ [])
+
+-- the line of a message in the k-th datagram
+abbrev pub message_line : ℕ → MessageValue → List ℕ
+message_line k m = line_behind (ids_by (codes " message ") m.header.service m.header.method) k m
+
+-- the line of a message that a segment in the k-th datagram makes whole
+abbrev pub whole_line : ℕ → MessageValue → List ℕ
+whole_line k m = line_behind (ids_by (codes " whole ") m.header.service m.header.method) k m
+
+-- the line of a segment in the k-th datagram that is not put together, and why
+abbrev pub dropped_line : ℕ → List ℕ → List ℕ
+dropped_line k name = joined (decimal k ∷ codes " dropped " ∷ name ∷ codes "\n" ∷ [])
 
 -- the line of a fault of the k-th datagram: its name, and its place in the datagram
 abbrev pub fault_line : ℕ → List ℕ → ℕ → List ℕ

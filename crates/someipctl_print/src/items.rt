@@ -20,27 +20,30 @@ use std::io::Write;
 const HEADER_LEN: usize = 16;
 
 /// Prints the lines of an item that begins at a place of the k-th datagram: a message, and after it
-/// what its TP header says where it is a segment, or what its payload says where it is one of Service
-/// Discovery; or the fault that ends the datagram. Says whether a fault is among them.
+/// what is told of its value, what its TP header says where it is a segment, or what its payload says
+/// where it is one of Service Discovery; or the fault that ends the datagram. Says whether a fault is
+/// among them, of which `value` is none.
 pub fn put_item<W: Write>(
     buffer: &mut Buffer,
     writer: &mut W,
     k: usize,
     place: usize,
     item: &Result<Message<'_>, WireError>,
+    value: &[u8],
     found: Option<&Result<SdRead, SdError>>,
 ) -> Result<bool, CannotWrite>
     requires found { view_found found ≡ discovery_in (view_item item.now) }
     requires room { place + item_len (view_item item.now) ≤ usize.MAX }
     ensures ok { OnOk result (Sends (W.contents writer.old) buffer.old
-        (W.contents writer.new) buffer.new (item_lines k place (view_item item.now))) }
+        (W.contents writer.new) buffer.new (item_lines k place value.now (view_item item.now))) }
     ensures faulty { IfOk result (λ faulty. faulty ≡ is_faulty (view_item item.now)) }
     ensures err { OnErr result (Stops (W.contents writer.old) buffer.old
-        (W.contents writer.new) (item_lines k place (view_item item.now))) }
+        (W.contents writer.new) (item_lines k place value.now (view_item item.now))) }
 {
     match item {
         Ok(message) => {
             put_message_line(buffer, writer, k, message)?;
+            buffer.put(writer, value)?;
             put_behind(buffer, writer, k, place + HEADER_LEN, message, found)
         }
         Err(fault) => {

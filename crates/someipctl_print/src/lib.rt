@@ -4,7 +4,8 @@
 //! - [`Buffer`], [`write_text`]: text on its way out;
 //! - [`Part`], [`put_parts`]: the parts of a line;
 //! - [`Word`], [`put_words`], [`put_end`]: the words of a line;
-//! - [`put_item`], [`put_empty`]: the lines of what a datagram holds.
+//! - [`put_item`], [`put_empty`]: the lines of what a datagram holds;
+//! - [`put_whole_line`], [`put_dropped`]: the lines of segments that are put together.
 //!
 //! The lines of messages and segments stand in `lines`, those of Service Discovery in `discovery`,
 //! its options in `options`, and `items` puts them together.
@@ -19,7 +20,7 @@ mod parts;
 mod words;
 
 pub use items::{item_len, put_item};
-pub use lines::put_empty;
+pub use lines::{put_dropped, put_empty, put_whole_line};
 pub use output::{Buffer, CannotWrite, write_text};
 pub use parts::{Part, put_parts};
 pub use words::{Word, put_end, put_words};

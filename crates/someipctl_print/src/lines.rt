@@ -5,8 +5,8 @@ ghost use Rattle.someip_wire.specs.Kinds.{has_tp_flag};
 ghost use Rattle.someip_wire.specs.View.{view};
 ghost use Rattle.someipctl_print.specs.Sending.{Sends, Stops};
 ghost use Rattle.someipctl_print.specs.Parts.{hex2, hex4, part_text};
-ghost use Rattle.someipctl_print.specs.Lines.{joined, type_name, payload_text};
-ghost use Rattle.someipctl_print.specs.Lines.{message_line, fault_line, empty_line, flag_text};
+ghost use Rattle.someipctl_print.specs.Lines.{ids_by, joined, line_behind, type_name, payload_text};
+ghost use Rattle.someipctl_print.specs.Lines.{dropped_line, message_line, fault_line, empty_line, flag_text, whole_line};
 ghost use Rattle.someipctl_print.specs.Lines.{segment_lines, has_no_tp_header};
 
 use crate::output::{Buffer, CannotWrite, write_hex};
@@ -37,14 +37,70 @@ pub(crate) fn put_message_line<W: Write>(
     ensures err { OnErr result (Stops (W.contents writer.old) buffer.old
         (W.contents writer.new) (message_line k (view message.now))) }
 {
+    let ids = ids_text(message.header.service, message.header.method);
+    put_behind_ids(buffer, writer, k, &ids, message)
+}
+
+/// Prints the line of a message, without the TP flag, that a segment in the k-th datagram made whole.
+pub fn put_whole_line<W: Write>(
+    buffer: &mut Buffer,
+    writer: &mut W,
+    k: usize,
+    message: &Message<'_>,
+) -> Result<(), CannotWrite>
+    ensures ok { OnOk result (Sends (W.contents writer.old) buffer.old
+        (W.contents writer.new) buffer.new (whole_line k (view message.now))) }
+    ensures err { OnErr result (Stops (W.contents writer.old) buffer.old
+        (W.contents writer.new) (whole_line k (view message.now))) }
+{
+    let ids = whole_ids_text(message.header.service, message.header.method);
+    put_behind_ids(buffer, writer, k, &ids, message)
+}
+
+/// Prints the line of a segment in the k-th datagram that is not put together.
+pub fn put_dropped<W: Write>(
+    buffer: &mut Buffer,
+    writer: &mut W,
+    k: usize,
+    name: &str,
+) -> Result<(), CannotWrite>
+    ensures ok { OnOk result (Sends (W.contents writer.old) buffer.old
+        (W.contents writer.new) buffer.new (dropped_line k name.now)) }
+    ensures err { OnErr result (Stops (W.contents writer.old) buffer.old
+        (W.contents writer.new) (dropped_line k name.now)) }
+{
+    put_parts(
+        buffer,
+        writer,
+        &[
+            Part::Number(k),
+            Part::Text(" dropped "),
+            Part::Text(name),
+            Part::Text("\n"),
+        ],
+    )
+}
+
+/// Prints a line that tells a message, of which what stands up to its length is there already.
+fn put_behind_ids<W: Write>(
+    buffer: &mut Buffer,
+    writer: &mut W,
+    k: usize,
+    ids: &[u8],
+    message: &Message<'_>,
+) -> Result<(), CannotWrite>
+    ensures ok { OnOk result (Sends (W.contents writer.old) buffer.old
+        (W.contents writer.new) buffer.new (line_behind ids.now k (view message.now))) }
+    ensures err { OnErr result (Stops (W.contents writer.old) buffer.old
+        (W.contents writer.new) (line_behind ids.now k (view message.now))) }
+{
     let header = message.header;
-    let ids = ids_text(header.service, header.method);
     let session = session_text(header.client, header.session);
     let interface = interface_text(header.interface);
     let code = code_text(header.code.0);
     let parts = message_parts(
         k,
-        &ids,
+        ids,
         &session,
         &interface,
         header.kind,
@@ -83,12 +139,21 @@ fn message_parts<'p>(
 
 /// What stands between the number of a message's datagram and its length.
 fn ids_text(service: u16, method: u16) -> [u8; 26]
-    ensures { result ≡ codes " message " ++ hex4 service ++ codes "." ++ hex4 method
-        ++ codes " length " }
+    ensures { result ≡ ids_by (codes " message ") service method }
 {
     let mut text = *b" message 0000.0000 length ";
     write_hex(&service.to_be_bytes(), &mut text[9..13]);
     write_hex(&method.to_be_bytes(), &mut text[14..18]);
+    text
+}
+
+/// The same of a whole message.
+fn whole_ids_text(service: u16, method: u16) -> [u8; 24]
+    ensures { result ≡ ids_by (codes " whole ") service method }
+{
+    let mut text = *b" whole 0000.0000 length ";
+    write_hex(&service.to_be_bytes(), &mut text[7..11]);
+    write_hex(&method.to_be_bytes(), &mut text[12..16]);
     text
 }
 

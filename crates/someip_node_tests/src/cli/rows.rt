@@ -1,7 +1,7 @@
 //! Calls of the program, and what comes of them.
 use Command::{Chart, Payload, Recording, Run, Show, Vectors};
 use Wanted::{Help, Is, Usage};
-use someipctl_cli::Command;
+use someipctl_cli::{Command, RecordingOptions};
 
 /// What words come to.
 #[derive(Clone, Copy)]
@@ -16,6 +16,18 @@ pub enum Wanted {
 
 /// Words with `|` between them, and what they come to.
 pub type Row = (&'static str, Wanted);
+
+/// What is asked for of a recording without options.
+const NO_OPTIONS: RecordingOptions<'static> = RecordingOptions {
+    ports: None,
+    endpoints: false,
+    service: None,
+    types: None,
+    whole: false,
+    limit: None,
+    slots: None,
+    timeout: None,
+};
 
 pub const ROWS: &[Row] = &[
     ("someipctl|vectors|x", Is(Vectors { file: "x" })),
@@ -57,25 +69,63 @@ pub const ROWS: &[Row] = &[
         "someipctl|recording|x",
         Is(Recording {
             file: "x",
-            ports: None,
-            endpoints: false,
+            options: NO_OPTIONS,
         }),
     ),
     (
         "someipctl|recording|--endpoints|--ports|1,2|x",
         Is(Recording {
             file: "x",
-            ports: Some("1,2"),
-            endpoints: true,
+            options: RecordingOptions {
+                ports: Some("1,2"),
+                endpoints: true,
+                ..NO_OPTIONS
+            },
         }),
     ),
     (
         "someipctl|recording|x|--ports=",
         Is(Recording {
             file: "x",
-            ports: Some(""),
-            endpoints: false,
+            options: RecordingOptions {
+                ports: Some(""),
+                ..NO_OPTIONS
+            },
         }),
+    ),
+    (
+        "someipctl|recording|--service|1111|--types|t|--whole|--whole-limit|1400|--whole-slots|2|--whole-timeout|3|x",
+        Is(Recording {
+            file: "x",
+            options: RecordingOptions {
+                ports: None,
+                endpoints: false,
+                service: Some("1111"),
+                types: Some("t"),
+                whole: true,
+                limit: Some("1400"),
+                slots: Some("2"),
+                timeout: Some("3"),
+            },
+        }),
+    ),
+    (
+        "someipctl|recording|x|--whole-timeout=",
+        Is(Recording {
+            file: "x",
+            options: RecordingOptions {
+                timeout: Some(""),
+                ..NO_OPTIONS
+            },
+        }),
+    ),
+    (
+        "someipctl|recording|--whole=1|x",
+        Usage("error: unexpected value '1' for '--whole' found"),
+    ),
+    (
+        "someipctl|recording|--whole-slots|x",
+        Usage("error: the following required arguments were not provided:\n"),
     ),
     (
         "someipctl|recording",
@@ -101,12 +151,70 @@ pub const ROWS: &[Row] = &[
         Usage("Usage: someipctl run <SETUP> <SCHEDULE>\n"),
     ),
     ("someipctl|help|run", Help("  deliver N NODE\n")),
-    ("someipctl|show|x", Is(Show { capture: "x" })),
-    ("someipctl|show|-", Is(Show { capture: "-" })),
-    ("someipctl|show|", Is(Show { capture: "" })),
-    ("someipctl|show|help", Is(Show { capture: "help" })),
-    ("someipctl|show|--|-x", Is(Show { capture: "-x" })),
-    ("other|show|a b", Is(Show { capture: "a b" })),
+    (
+        "someipctl|show|x",
+        Is(Show {
+            capture: "x",
+            service: None,
+            types: None,
+        }),
+    ),
+    (
+        "someipctl|show|--service|1111.8001,2222|--types|t|x",
+        Is(Show {
+            capture: "x",
+            service: Some("1111.8001,2222"),
+            types: Some("t"),
+        }),
+    ),
+    (
+        "someipctl|show|x|--types=|--service=",
+        Is(Show {
+            capture: "x",
+            service: Some(""),
+            types: Some(""),
+        }),
+    ),
+    (
+        "someipctl|show|-",
+        Is(Show {
+            capture: "-",
+            service: None,
+            types: None,
+        }),
+    ),
+    (
+        "someipctl|show|",
+        Is(Show {
+            capture: "",
+            service: None,
+            types: None,
+        }),
+    ),
+    (
+        "someipctl|show|help",
+        Is(Show {
+            capture: "help",
+            service: None,
+            types: None,
+        }),
+    ),
+    (
+        "someipctl|show|--|-x",
+        Is(Show {
+            capture: "-x",
+            service: None,
+            types: None,
+        }),
+    ),
+    (
+        "other|show|a b",
+        Is(Show {
+            capture: "a b",
+            service: None,
+            types: None,
+        }),
+    ),
     (
         "someipctl|payload|u8|-",
         Is(Payload {
@@ -140,7 +248,7 @@ pub const ROWS: &[Row] = &[
     ("someipctl|help", Help("Usage: someipctl <COMMAND>\n")),
     (
         "someipctl|help|show",
-        Help("Usage: someipctl show <CAPTURE>\n"),
+        Help("Usage: someipctl show [OPTIONS] <CAPTURE>\n"),
     ),
     (
         "someipctl|show|--help",

@@ -5,7 +5,7 @@ use Rattle.std.proofs.lemmas.List.{take_rest, drop-append-le, length-drop, lengt
 use Rattle.recording.specs.declared.packet.Packet.{Packet}
 use Rattle.recording.specs.View.{given_in, packet_behind, LiesIn}
 use Rattle.recording.specs.Records.{items_after}
-use Rattle.recording.specs.Held.{held_from}
+use Rattle.recording.specs.HeldItems.{held_from}
 use Rattle.recording.proofs.HeldLemmas.{held_on, fails_alone}
 use Rattle.recording.proofs.held.next_told.Goals as goal
 

@@ -1,5 +1,6 @@
 use Rattle.std.proofs.Common.{◌≡◌, ◌≤◌, ◌+◌, ◌-◌, ◌++◌, ℕ, List, length, drop}
-use Rattle.recording.specs.Held.{held_from, CanFollow}
+use Rattle.recording.specs.HeldItems.{held_from}
+use Rattle.recording.specs.Readers.{CanFollow}
 use Rattle.recording.proofs.held.next_told.Given as goal
 
 -- behind what was taken the same is left as at the start

@@ -9,7 +9,10 @@ pub returns-clause-shape : goal.returns-clause-shape
 returns-clause-shape c =
     let first = c.taking-first.ensures.app (new_app (codes "recording")) (valued (codes "ports")) (search rules) c.valued_option-ports.ensures.rule in
     let second = c.taking-second.ensures.app _ (flag (codes "endpoints")) first c.flag-endpoints.ensures.rule in
-    shape_from_app _ _ (c.taking.ensures.app _ (required (codes "file")) second c.explained-file.ensures.rule)
+    let third = c.add_filters-third.ensures.app _ second in
+    let fourth = c.add_whole.ensures.app _ third in
+    shape_from_app _ _ (c.taking.ensures.app _ (required (codes "file")) fourth c.explained-file.ensures.rule)
 
 pub returns-clause-local : goal.returns-clause-local
-returns-clause-local c = c.taking.ensures.local (c.taking-second.ensures.local (c.taking-first.ensures.local (search rules)))
+returns-clause-local c =
+    c.taking.ensures.local (c.add_whole.ensures.local (c.add_filters-third.ensures.local (c.taking-second.ensures.local (c.taking-first.ensures.local (search rules)))))

@@ -7,8 +7,8 @@ use Rattle.someipctl_cli.proofs.command.show_definition.Goals as goal
 
 pub returns-clause-shape : goal.returns-clause-shape
 returns-clause-shape c =
-    shape_from_app _ _
-    (c.taking.ensures.app (new_app (codes "show")) (required (codes "capture")) (search rules) c.explained-capture.ensures.rule)
+    let filters = c.add_filters.ensures.app (new_app (codes "show")) (search rules) in
+    shape_from_app _ _ (c.taking.ensures.app _ (required (codes "capture")) filters c.explained-capture.ensures.rule)
 
 pub returns-clause-local : goal.returns-clause-local
-returns-clause-local c = c.taking.ensures.local (search rules)
+returns-clause-local c = c.taking.ensures.local (c.add_filters.ensures.local (search rules))

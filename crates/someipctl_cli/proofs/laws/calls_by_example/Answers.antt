@@ -9,6 +9,7 @@ returns c = record {
   vectors = refl;
   run = refl;
   run_options = refl;
+  show_options = refl;
   recording = refl;
   recording_options = refl;
   chart = refl;

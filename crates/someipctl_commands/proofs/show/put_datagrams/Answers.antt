@@ -10,14 +10,15 @@ use Rattle.someipctl_commands.proofs.show.put_datagrams.Goals as goal
 pub returns-in_err-fault_shown-clause-err : goal.returns-in_err-fault_shown-clause-err
 returns-in_err-fault_shown-clause-err g c =
     let next = next_datagram c.args.datagrams.now c.loop-i.i c.index-datagrams-i.result c.deref.result.now c.loop-i-test.true (search rules) in
-    OnErr-any c.from_residual.result (IsSending-stop _ _ _ _ _ _ _ _ _ c.loop-i.invariant.0 (ap (text_from (c.loop-i.i + 1)) next) c.in_err-fault_shown.ensures.err)
+    OnErr-any c.from_residual.result (IsSending-stop _ _ _ _ _ _ _ _ _ c.loop-i.invariant.0 (ap (text_from c.args.values.now.types.now (c.loop-i.i + 1)) next) (rw c.loop-i.invariant.3 at c.in_err-fault_shown.ensures.err))
 
 pub loop-i-preserved : goal.loop-i-preserved
 loop-i-preserved g c =
     let next = next_datagram c.args.datagrams.now c.loop-i.i c.index-datagrams-i.result c.deref.result.now c.loop-i-test.true (search rules) in (
-      IsSending-more _ _ _ _ _ _ _ _ _ _ c.loop-i.invariant.0 (ap (text_from (c.loop-i.i + 1)) next) c.in_ok-fault_shown.ensures.ok,
-      rw c.in_ok-fault_shown.ensures.faulty (any_more has_fault c.loop-i.fault_shown _ _ c.deref.result.now _ next c.loop-i.invariant.1),
+      IsSending-more _ _ _ _ _ _ _ _ _ _ c.loop-i.invariant.0 (ap (text_from c.args.values.now.types.now (c.loop-i.i + 1)) next) (rw c.loop-i.invariant.3 at c.in_ok-fault_shown.ensures.ok),
+      rw (c.in_ok-fault_shown.ensures.faulty, c.loop-i.invariant.3) (any_more (has_fault c.args.values.now.types.now) c.loop-i.fault_shown _ _ c.deref.result.now _ next c.loop-i.invariant.1),
       append_cancel_left (readings_in (items_of c.deref.result.now)) _ _ (sym c.in_ok-fault_shown.ensures.left ∙ (c.loop-i.invariant.2 ∙ ap readings_of next)),
+      c.in_ok-fault_shown.ensures.types ∙ c.loop-i.invariant.3,
     )
 
 pub put_datagram-requires : goal.put_datagram-requires

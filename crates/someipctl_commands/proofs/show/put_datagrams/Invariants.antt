@@ -9,6 +9,7 @@ use Rattle.someipctl_commands.proofs.show.put_datagrams.Given as goal
 abbrev pub invariant-loop-i : goal.invariant-loop-i
 invariant-loop-i g l =
     let all = map (λ d. d.items) l.datagrams in
-    IsSending (g.W.Write.contents l.initial.writer) l.initial.buffer (g.W.Write.contents l.writer) l.buffer (text_from (l.i + 1) (drop l.i all)) (text_from 1 all)
-    × ((l.fault_shown || list_any has_fault (drop l.i all)) ≡ list_any has_fault all)
+    IsSending (g.W.Write.contents l.initial.writer) l.initial.buffer (g.W.Write.contents l.writer) l.buffer (text_from l.fn.values.types.now (l.i + 1) (drop l.i all)) (text_from l.fn.values.types.now 1 all)
+    × ((l.fault_shown || list_any (has_fault l.fn.values.types.now) (drop l.i all)) ≡ list_any (has_fault l.fn.values.types.now) all)
     × (map view_reading l.left ≡ readings_of (drop l.i all))
+    × (l.values.types.now ≡ l.fn.values.types.now)

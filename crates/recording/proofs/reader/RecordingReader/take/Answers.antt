@@ -3,7 +3,7 @@ use Rattle.std.specs.Prelude.{option_map}
 use Rattle.std.proofs.lemmas.List.{take_rest}
 use Rattle.recording.specs.declared.packet.Packet.{Packet}
 use Rattle.recording.specs.View.{record_at, packet_behind, LiesIn}
-use Rattle.recording.specs.Held.{EndsTold}
+use Rattle.recording.specs.Told.{EndsTold}
 use Rattle.recording.proofs.ReaderLemmas.{comes, record_comes, too_few, nothing}
 use Rattle.recording.proofs.reader.RecordingReader.take.Goals as goal
 use Rattle.recording.proofs.reader.RecordingReader.take.Goals.{in-Some, in-None+then-self, in-None+else-self}
@@ -31,12 +31,19 @@ returns-clause-next c =
           )
       | in-None+then-self w ↦
           let ends : EndsTold true (drop start bytes) told = rw (c.deref.ensures.value, take_rest, w.in-None.is, w.if-self.true) at c.in_ok-told.ensures.ends in
-          rw (w.result-is, ← c.self.view_is) (λ rest follows.
-          let empty : rest ≡ [] = rw w.if-self.true at follows in
-          let none = nothing format before after p bytes start told within rest ends empty in
-          (comes format before after p bytes start told within None rest w.in-None.is (takes rest follows) ∙ none, none))
+          rw (w.result-is, ← c.self.view_is) (
+            λ rest follows.
+                let empty : rest ≡ [] = rw w.if-self.true at follows in
+                let none = nothing format before after p bytes start told within rest ends empty in
+                (comes format before after p bytes start told within None rest w.in-None.is (takes rest follows) ∙ none, none),
+            ap (λ (k : Option Packet). option_map (record_at bytes) k) (c.behind-self-inside.ensures ∙ ap (option_map (packet_behind start)) w.in-None.is),
+          )
       | in-None+else-self w ↦
           let ends : EndsTold false (drop start bytes) told = rw (c.deref.ensures.value, take_rest, w.in-None.is, w.if-self.false) at c.in_ok-told.ensures.ends in
-          rw (w.result-is, ← c.self.view_is)
-          (w.if-self.false, too_few format before after p bytes start told within ends, λ rest. comes format before after p bytes start told within None rest w.in-None.is (takes rest (rw w.if-self.false tt)))
+          rw (w.result-is, ← c.self.view_is) (
+            w.if-self.false,
+            too_few format before after p bytes start told within ends,
+            λ rest. comes format before after p bytes start told within None rest w.in-None.is (takes rest (rw w.if-self.false tt)),
+            ap (λ (k : Option Packet). option_map (record_at bytes) k) (c.behind-self-inside.ensures ∙ ap (option_map (packet_behind start)) w.in-None.is),
+          )
     ]

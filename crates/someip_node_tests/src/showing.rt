@@ -1,0 +1,36 @@
+//! Commands that show datagrams, without what their options add.
+use someip_tp::IntervalPool;
+use someipctl_commands::show::{ShowError, show};
+use someipctl_inputs::Outcome;
+use someipctl_recordings::{Asked, RecordingFault, ShownRecording, show_recording};
+use someipctl_types::MessageTypes;
+use std::alloc::Global;
+use std::io::{Read, Write};
+
+/// Shows all of a capture, and no value.
+pub fn show_all<R: Read, W: Write>(
+    alloc: Global,
+    reader: &mut R,
+    writer: &mut W,
+) -> Result<Outcome, ShowError> {
+    let types = MessageTypes::none(alloc);
+    show(alloc, reader, None, &types, writer)
+}
+
+/// Shows the datagrams of a recording at these ports with their endpoints, no value and no whole message.
+pub fn show_endpoints<R: Read, W: Write>(
+    alloc: Global,
+    source: &mut R,
+    ports: Option<&[u16]>,
+    writer: &mut W,
+) -> Result<ShownRecording, RecordingFault> {
+    let types = MessageTypes::none(alloc);
+    let asked = Asked {
+        ports,
+        services: None,
+        types: &types,
+        endpoints: true,
+        whole: None,
+    };
+    show_recording::<IntervalPool, R, W>(alloc, source, &asked, writer)
+}

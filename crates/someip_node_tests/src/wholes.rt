@@ -1,0 +1,88 @@
+//! Recordings whose messages are put together from their segments, over both bodies of reassembly.
+use crate::slow::{SlowWriter, UNLIMITED};
+use others::{ASKED, REFUSED};
+use packets::recording_of;
+use rows::{ROWS, Row};
+use someip_tp::{IntervalPool, Reassembly, SegmentList};
+use someipctl_recordings::{Asked, show_recording};
+use someipctl_types::MessageTypes;
+use std::alloc::{AllocError, Global};
+
+mod others;
+mod packets;
+mod rows;
+mod segments;
+
+/// The text of lines: what stands before each, and the line.
+fn text_of(alloc: Global, lines: &[(&str, &str)]) -> Result<String, AllocError> {
+    let mut text = String::new(alloc);
+    for (head, line) in lines {
+        text.push_str(head)?;
+        text.push_str(" ")?;
+        text.push_str(line)?;
+        text.push_str("\n")?;
+    }
+    Ok(text)
+}
+
+/// Whether this text is shown of a row's recording, over a body.
+fn shows<S: Reassembly + Drop>(
+    alloc: Global,
+    row: &Row,
+    types: &MessageTypes,
+    mut file: &[u8],
+    text: &str,
+) -> bool {
+    let asked = Asked {
+        ports: row.ports,
+        services: row.services,
+        types,
+        endpoints: row.endpoints,
+        whole: row.whole,
+    };
+    let mut writer = SlowWriter::new(alloc, UNLIMITED);
+    match show_recording::<S, _, _>(alloc, &mut file, &asked, &mut writer) {
+        Ok(shown) => {
+            shown.outcome == row.outcome
+                && shown.fault.is_none()
+                && shown.left_out.is_empty()
+                && writer.taken.as_slice() == text.as_bytes()
+        }
+        Err(_) => false,
+    }
+}
+
+/// Whether it is shown over both bodies.
+fn both_show(alloc: Global, row: &Row, file: &[u8], text: &str) -> bool {
+    match MessageTypes::read(alloc, row.types) {
+        Ok(types) => {
+            shows::<IntervalPool>(alloc, row, &types, file, text)
+                && shows::<SegmentList>(alloc, row, &types, file, text)
+        }
+        Err(_) => false,
+    }
+}
+
+/// Whether what a row says is shown.
+fn is_right(alloc: Global, row: &Row) -> Option<bool> {
+    let file = recording_of(alloc, row.packets)?;
+    let text = text_of(alloc, row.shown).ok()?;
+    Some(both_show(alloc, row, &file, text.as_str()))
+}
+
+/// The number of the first row that is not right.
+fn first_wrong(alloc: Global, rows: &[Row]) -> Option<usize> {
+    for (index, row) in rows.iter().enumerate() {
+        if is_right(alloc, row) != Some(true) {
+            return Some(index);
+        }
+    }
+    None
+}
+
+#[test]
+fn messages_are_put_together(rt: HostRuntime) {
+    assert!(rt; first_wrong(rt.alloc(), ROWS).is_none(), "ROWS");
+    assert!(rt; first_wrong(rt.alloc(), REFUSED).is_none(), "REFUSED");
+    assert!(rt; first_wrong(rt.alloc(), ASKED).is_none(), "ASKED");
+}

@@ -1,0 +1,50 @@
+-- The heads of lines.
+use Rattle.std.proofs.Common.{◌≡◌, ℕ, suc, ◌+◌, ◌<◌, ◌≤◌, ◌==◌, Bool, true, false, cond, List, [], ◌∷◌, ◌++◌, length, take, drop, refl, sym, ap, ◌∙◌, append_assoc, arith}
+use Rattle.std.proofs.lemmas.List.{length-drop}
+use Rattle.someipctl_recordings.specs.Heads.{line_len}
+use Rattle.someipctl_recordings.specs.RecordedText.{with_heads}
+
+pub line_len-least : (text : List ℕ) → 0 < length text → 1 ≤ line_len text
+line_len-least [] some = absurd (omega (arith, some))
+line_len-least (b ∷ bytes) some = go (b == 0x0a)
+  where
+    go : (t : Bool) → 1 ≤ cond t 1 (suc (line_len bytes))
+    go true = omega arith
+    go false = omega arith
+
+pub line_len-most : (text : List ℕ) → line_len text ≤ length text
+line_len-most [] = omega arith
+line_len-most (b ∷ bytes) = go (b == 0x0a) (line_len-most bytes)
+  where
+    go : (t : Bool) → line_len bytes ≤ length bytes → cond t 1 (suc (line_len bytes)) ≤ suc (length bytes)
+    go true h = omega arith
+    go false h = omega (arith, h)
+
+-- a line that has begun, and the text behind it
+behind_line : (head text : List ℕ) → with_heads head false text ≡ take (line_len text) text ++ with_heads head true (drop (line_len text) text)
+behind_line head [] = refl
+behind_line head (b ∷ bytes) = go (b == 0x0a) (behind_line head bytes)
+  where
+    go : (t : Bool) → with_heads head false bytes ≡ take (line_len bytes) bytes ++ with_heads head true (drop (line_len bytes) bytes)
+        → b ∷ with_heads head t bytes ≡ take (cond t 1 (suc (line_len bytes))) (b ∷ bytes) ++ with_heads head true (drop (cond t 1 (suc (line_len bytes))) (b ∷ bytes))
+    go true h = refl
+    go false h = ap (λ (t : List ℕ). b ∷ t) h
+
+-- a head, the first line, and the text behind it
+pub with_heads-line : (head text : List ℕ) → 0 < length text
+    → with_heads head true text ≡ (head ++ take (line_len text) text) ++ with_heads head true (drop (line_len text) text)
+with_heads-line head [] some = absurd (omega (arith, some))
+with_heads-line head (b ∷ bytes) some =
+    ap (λ (t : List ℕ). head ++ t) (behind_line head (b ∷ bytes)) ∙ sym (append_assoc head (take (line_len (b ∷ bytes)) (b ∷ bytes)) (with_heads head true (drop (line_len (b ∷ bytes)) (b ∷ bytes))))
+
+-- the same of a line and what stands behind it
+pub headed : (head rest front back : List ℕ) (n : ℕ) → 0 < length rest → n ≡ line_len rest → front ≡ take n rest → back ≡ drop n rest
+    → with_heads head true rest ≡ (head ++ front) ++ with_heads head true back
+headed head rest front back n some is f b = rw (f, b, is) (with_heads-line head rest some)
+
+pub smaller : (rest back : List ℕ) (n : ℕ) → 0 < length rest → n ≡ line_len rest → back ≡ drop n rest → suc (length back) ≤ length rest
+smaller rest back n some is b =
+    let less = length-drop n rest in
+    let least = line_len-least rest some in
+    let same = ap length b in
+    omega (arith, less, least, same, is, some)

@@ -1,0 +1,6 @@
+pub mod PortLemmas
+pub mod HeadLemmas
+pub mod GatheredLemmas
+pub mod RecordedLemmas
+pub mod ComingLemmas
+pub mod ShowingLemmas

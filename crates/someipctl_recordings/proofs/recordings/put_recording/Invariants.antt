@@ -1,0 +1,16 @@
+use Rattle.std.proofs.Common.{◌≡◌, ◌≤◌, ◌+◌, []}
+use Rattle.someipctl_recordings.specs.Gathered.{IsInTime, view_store}
+use Rattle.someipctl_recordings.specs.LeftOut.{total}
+use Rattle.someipctl_recordings.specs.RecordingResult.{view_asked}
+use Rattle.someipctl_recordings.proofs.ShowingLemmas.{IsShown}
+use Rattle.someipctl_recordings.proofs.recordings.put_recording.Given as goal
+
+-- the records that came so far were shown, and are no more than bytes were read
+abbrev pub invariant-loop : goal.invariant-loop
+invariant-loop g l =
+    IsShown (view_asked l.asked) l.recording (g.R.Read.remaining l.fn.source) (g.R.Read.remaining l.source) (g.W.Write.contents l.fn.writer) (g.W.Write.contents l.writer) l.buffer l.shown
+    (view_store g.S.Reassembly.limits g.S.Reassembly.parts l.telling.store)
+    × (l.shown.datagrams + total l.shown.left_out ≤ l.recording.place)
+    × (l.lines ≡ [])
+    × (l.telling.values.types.now ≡ l.asked.types.now)
+    × IsInTime g.S.Reassembly.parts l.shown.now l.telling.store

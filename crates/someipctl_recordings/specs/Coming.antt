@@ -1,0 +1,42 @@
+-- What comes of a recording that is read as it is shown.
+use Rattle.std.specs.Prelude.{◌≡◌, ⊤, ℕ, ◌^◌, ◌<◌, true, List, [], ◌∷◌, ◌++◌, Option, Some, None, Ok, Err}
+use Rattle.std.specs.Io.KnownBytes.{Consumes, IsAtEnd}
+use Rattle.recording.specs.Packets.{RecordValue}
+use Rattle.recording.specs.Records.{Item}
+use Rattle.recording.specs.Readers.{ReaderValue, CanFollow, to_come}
+use Rattle.someipctl_recordings.specs.declared.coming.Coming.{Coming}
+use Rattle.someipctl_recordings.specs.declared.coming.Coming.TheVariants.{Record, Fault, End}
+
+-- the source is at its end, where it was known what it had left
+abbrev pub EndsAt : Option (List ℕ) → Option (List ℕ) → Type 0
+EndsAt None are = ⊤
+EndsAt (Some bytes) are = IsAtEnd are
+
+-- between these two states of a reader, and of what its source has left, these items came: some bytes were read, and what
+-- was to come of the reader, whatever follows them, is these items and what is to come now. Where no more bytes can follow,
+-- the source is at its end.
+pub record Comes (before after : ReaderValue) (were are : Option (List ℕ)) (items : List Item) : Type 0 where
+  pub seen : List ℕ
+  pub consumed : Consumes were are seen
+  pub follows : (rest : List ℕ) → CanFollow after.is_whole rest → CanFollow before.is_whole (seen ++ rest)
+  pub came : (rest : List ℕ) → CanFollow after.is_whole rest → to_come before (seen ++ rest) ≡ items ++ to_come after rest
+  pub at_end : (before.is_whole ≡ true → IsAtEnd were) → after.is_whole ≡ true → EndsAt were are
+
+-- what came, where this is told, and this is the record that the reader took last
+abbrev pub coming_items : Coming → Option RecordValue → List Item
+coming_items Record None = []
+coming_items Record (Some r) = Ok r ∷ []
+coming_items (Fault fault) current = Err fault ∷ []
+coming_items End current = []
+
+-- behind a fault, and at the end, nothing is to come
+abbrev pub IsEnded : Coming → ReaderValue → Type 0
+IsEnded Record r = ⊤
+IsEnded (Fault fault) r = (rest : List ℕ) → CanFollow r.is_whole rest → to_come r rest ≡ []
+IsEnded End r = (rest : List ℕ) → CanFollow r.is_whole rest → to_come r rest ≡ []
+
+-- a record has some bytes, and places are numbers of 64 bits
+abbrev pub IsFurther : Coming → ℕ → ℕ → Type 0
+IsFurther Record before after = (before < after) × (after < 2 ^ 64)
+IsFurther (Fault fault) before after = ⊤
+IsFurther End before after = ⊤

@@ -1,0 +1,10 @@
+pub mod LeftOut
+pub mod Ports
+pub mod WholeLimits
+pub mod Heads
+pub mod Moments
+pub mod Gathered
+pub mod RecordedText
+pub mod Scenes
+pub mod RecordingResult
+pub mod Coming

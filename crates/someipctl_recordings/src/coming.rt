@@ -1,0 +1,63 @@
+//! What comes next of a recording, as it is read.
+ghost use Rattle.std.specs.Prelude.{◌≡◌, ◌≤◌, ◌<◌, ◌^◌, ℕ, List, [], OnOk, OnErr, IfOk};
+ghost use Rattle.someipctl_print.specs.Sending.{Sends, Stops};
+ghost use Rattle.someipctl_recordings.specs.Coming.{Comes, IsEnded, IsFurther, coming_items};
+
+use crate::recordings::RecordingFault;
+use recording::{Next, RecordingError, RecordingReader};
+use someipctl_print::Buffer;
+use std::io;
+use std::io::{ErrorKind, Read, Write};
+
+/// What comes next of a recording.
+#[derive(Clone, Copy)]
+pub(crate) enum Coming {
+    /// A record: that of the reader.
+    Record,
+    /// The fault that ends the recording.
+    Fault(RecordingError),
+    /// Nothing.
+    End,
+}
+
+/// Goes on to the next record of a recording, to its fault or to its end. What waits in the buffer is
+/// written before each read.
+pub(crate) fn next_coming<R: Read, W: Write>(
+    recording: &mut RecordingReader,
+    source: &mut R,
+    buffer: &mut Buffer,
+    writer: &mut W,
+) -> Result<Coming, RecordingFault>
+    ensures comes { IfOk result (λ coming. Comes recording.old recording.new (R.remaining source.old)
+        (R.remaining source.new) (coming_items coming recording.new.current)) }
+    ensures further { IfOk result (λ coming.
+        IsFurther coming recording.old.place recording.new.place) }
+    ensures ended { IfOk result (λ coming. IsEnded coming recording.new) }
+    ensures sends { OnOk result (Sends (W.contents writer.old) buffer.old (W.contents writer.new)
+        buffer.new []) }
+    ensures stops { OnErr result (Stops (W.contents writer.old) buffer.old (W.contents writer.new) []) }
+{
+    for _ in 0..u64::MAX {
+        match recording.next() {
+            Ok(Next::Record) => return Ok(Coming::Record),
+            Ok(Next::End) => return Ok(Coming::End),
+            Err(RecordingError::OutOfMemory) => return Err(RecordingFault::OutOfMemory),
+            Err(fault) => return Ok(Coming::Fault(fault)),
+            Ok(Next::Unread) => {}
+        }
+        buffer.flush(writer)?;
+        match recording.read_from(source) {
+            Ok(()) => {}
+            Err(error) => return Err(fault_of_read(&error)),
+        }
+    }
+    Err(RecordingFault::CannotRead)
+}
+
+/// Why a recording could not be read on.
+fn fault_of_read(error: &io::Error) -> RecordingFault {
+    match error.kind() {
+        ErrorKind::OutOfMemory => RecordingFault::OutOfMemory,
+        _ => RecordingFault::CannotRead,
+    }
+}

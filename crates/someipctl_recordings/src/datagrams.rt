@@ -1,0 +1,287 @@
+//! The lines of a datagram of a recording.
+ghost use Rattle.std.specs.Prelude.{◌≡◌, ◌+◌, ◌≤◌, [], Some, Ok, length, IfOk, OnErr, OnOk};
+ghost use Rattle.recording.specs.View.{view_datagram};
+ghost use Rattle.someip_wire.specs.Reading.{items_of};
+ghost use Rattle.someip_wire.specs.View.{view, view_item};
+ghost use Rattle.someipctl_print.specs.Sending.{Sends, Stops};
+ghost use Rattle.someipctl_print.specs.Items.{item_len};
+ghost use Rattle.someipctl_recordings.specs.Gathered.{IsInTime, store_after, view_store, view_told};
+ghost use Rattle.someipctl_recordings.specs.RecordedText.{gathered_lines, gathers_fault, has_fault_with, headed_text};
+ghost use Rattle.someipctl_recordings.specs.RecordedText.{lines_with, recorded_lines, records_fault, scene_text, store_after_all};
+ghost use Rattle.someipctl_recordings.specs.Scenes.{scene_by};
+
+use crate::gathering::{Told, tell_item};
+use crate::heads::put_with_heads;
+use recording::Datagram;
+use someip_reassembly::Reassembly;
+use someip_wire::{Message, Messages, WireError};
+use someipctl_commands::PrintFault;
+use someipctl_commands::readings::reading_of;
+use someipctl_commands::value_lines::{ValueLines, put_valued_item};
+use someipctl_print::{Buffer, item_len, put_dropped, put_empty, put_whole_line};
+use std::alloc::{AllocError, Global};
+use std::io::Write;
+
+/// What is kept from datagram to datagram.
+#[derive(Drop)]
+pub(crate) struct Telling<'t, S> {
+    pub(crate) alloc: Global,
+    /// Makes the lines of values.
+    pub(crate) values: ValueLines<'t>,
+    /// The messages that have come in part, where messages are put together.
+    pub(crate) store: Option<S>,
+    /// The bytes of the message that was whole last.
+    pub(crate) bytes: Vec<u8>,
+}
+
+/// A datagram that is shown.
+#[derive(Clone, Copy)]
+pub(crate) struct Numbered<'d> {
+    /// Its number.
+    pub(crate) k: usize,
+    /// Its moment, in milliseconds.
+    pub(crate) now: u64,
+    pub(crate) datagram: Datagram<'d>,
+}
+
+/// Prints the text of a datagram, with its time and endpoints before each line where they are asked for,
+/// and says whether a fault is in it. `lines` is a buffer for lines that get them.
+pub(crate) fn put_recorded<S: Reassembly + Drop, W: Write>(
+    buffer: &mut Buffer,
+    writer: &mut W,
+    shown: &Numbered<'_>,
+    endpoints: bool,
+    lines: &mut Buffer,
+    telling: &mut Telling<'_, S>,
+) -> Result<bool, PrintFault>
+    requires empty { lines.old ≡ [] }
+    requires in_time { IsInTime S.parts shown.now.now telling.old.store }
+    ensures empty { OnOk result (lines.new ≡ []) }
+    ensures ok { OnOk result (Sends (W.contents writer.old) buffer.old (W.contents writer.new) buffer.new
+        (headed_text endpoints (view_datagram shown.entry.now.datagram) (scene_text
+        (scene_by telling.old.values.types.now shown.entry.now) (view_store S.limits S.parts telling.old.store)))) }
+    ensures faulty { IfOk result (λ faulty. faulty ≡ has_fault_with
+        (scene_by telling.old.values.types.now shown.entry.now) (view_store S.limits S.parts telling.old.store)
+        (items_of shown.entry.now.datagram.payload.now)) }
+    ensures store { OnOk result (view_store S.limits S.parts telling.new.store ≡ store_after_all
+        (view_store S.limits S.parts telling.old.store) shown.entry.now.now (view_datagram shown.entry.now.datagram)
+        (items_of shown.entry.now.datagram.payload.now)) }
+    ensures in_time { IsInTime S.parts shown.entry.now.now telling.new.store }
+    ensures err { OnErr result (Stops (W.contents writer.old) buffer.old (W.contents writer.new)
+        (headed_text endpoints (view_datagram shown.entry.now.datagram) (scene_text
+        (scene_by telling.old.values.types.now shown.entry.now) (view_store S.limits S.parts telling.old.store)))) }
+    ensures types { telling.new.values.types.now ≡ telling.old.values.types.now }
+{
+    if !endpoints {
+        return put_datagram(buffer, writer, shown, telling);
+    }
+    let mut text = Vec::new(telling.alloc);
+    let faulty = print_to(lines, &mut text, shown, telling)?;
+    put_with_heads(buffer, writer, &shown.datagram, &text)?;
+    Ok(faulty)
+}
+
+/// Appends the text of a datagram to an empty vector, through an empty buffer.
+fn print_to<S: Reassembly + Drop>(
+    buffer: &mut Buffer,
+    text: &mut Vec<u8>,
+    shown: &Numbered<'_>,
+    telling: &mut Telling<'_, S>,
+) -> Result<bool, AllocError>
+    requires empty { buffer.old ≡ [] }
+    requires none { text.old.items ≡ [] }
+    requires in_time { IsInTime S.parts shown.now.now telling.old.store }
+    ensures empty { OnOk result (buffer.new ≡ []) }
+    ensures text { OnOk result (text.new.items ≡ scene_text
+        (scene_by telling.old.values.types.now shown.entry.now) (view_store S.limits S.parts telling.old.store)) }
+    ensures faulty { IfOk result (λ faulty. faulty ≡ has_fault_with
+        (scene_by telling.old.values.types.now shown.entry.now) (view_store S.limits S.parts telling.old.store)
+        (items_of shown.entry.now.datagram.payload.now)) }
+    ensures store { OnOk result (view_store S.limits S.parts telling.new.store ≡ store_after_all
+        (view_store S.limits S.parts telling.old.store) shown.entry.now.now (view_datagram shown.entry.now.datagram)
+        (items_of shown.entry.now.datagram.payload.now)) }
+    ensures in_time { IsInTime S.parts shown.entry.now.now telling.new.store }
+    ensures types { telling.new.values.types.now ≡ telling.old.values.types.now }
+{
+    let faulty = put_datagram(buffer, text, shown, telling).map_err(|_| AllocError)?;
+    buffer.flush(text).map_err(|_| AllocError)?;
+    Ok(faulty)
+}
+
+/// Prints the lines of a datagram, and says whether a fault is among them.
+fn put_datagram<S: Reassembly + Drop, W: Write>(
+    buffer: &mut Buffer,
+    writer: &mut W,
+    shown: &Numbered<'_>,
+    telling: &mut Telling<'_, S>,
+) -> Result<bool, PrintFault>
+    requires in_time { IsInTime S.parts shown.now.now telling.old.store }
+    ensures ok { OnOk result (Sends (W.contents writer.old) buffer.old (W.contents writer.new) buffer.new
+        (scene_text (scene_by telling.old.values.types.now shown.entry.now)
+        (view_store S.limits S.parts telling.old.store))) }
+    ensures faulty { IfOk result (λ faulty. faulty ≡ has_fault_with
+        (scene_by telling.old.values.types.now shown.entry.now) (view_store S.limits S.parts telling.old.store)
+        (items_of shown.entry.now.datagram.payload.now)) }
+    ensures store { OnOk result (view_store S.limits S.parts telling.new.store ≡ store_after_all
+        (view_store S.limits S.parts telling.old.store) shown.entry.now.now (view_datagram shown.entry.now.datagram)
+        (items_of shown.entry.now.datagram.payload.now)) }
+    ensures in_time { IsInTime S.parts shown.entry.now.now telling.new.store }
+    ensures err { OnErr result (Stops (W.contents writer.old) buffer.old (W.contents writer.new)
+        (scene_text (scene_by telling.old.values.types.now shown.entry.now)
+        (view_store S.limits S.parts telling.old.store))) }
+    ensures types { telling.new.values.types.now ≡ telling.old.values.types.now }
+{
+    if shown.datagram.payload.is_empty() {
+        put_empty(buffer, writer, shown.k)?;
+        return Ok(false);
+    }
+    put_items(buffer, writer, shown, telling)
+}
+
+/// Prints the lines of the items of a datagram, and says whether a fault is among them.
+fn put_items<S: Reassembly + Drop, W: Write>(
+    buffer: &mut Buffer,
+    writer: &mut W,
+    shown: &Numbered<'_>,
+    telling: &mut Telling<'_, S>,
+) -> Result<bool, PrintFault>
+    requires in_time { IsInTime S.parts shown.now.now telling.old.store }
+    ensures ok { OnOk result (Sends (W.contents writer.old) buffer.old (W.contents writer.new) buffer.new
+        (lines_with (scene_by telling.old.values.types.now shown.entry.now)
+        (view_store S.limits S.parts telling.old.store) 0 (items_of shown.entry.now.datagram.payload.now))) }
+    ensures faulty { IfOk result (λ faulty. faulty ≡ has_fault_with
+        (scene_by telling.old.values.types.now shown.entry.now) (view_store S.limits S.parts telling.old.store)
+        (items_of shown.entry.now.datagram.payload.now)) }
+    ensures store { OnOk result (view_store S.limits S.parts telling.new.store ≡ store_after_all
+        (view_store S.limits S.parts telling.old.store) shown.entry.now.now (view_datagram shown.entry.now.datagram)
+        (items_of shown.entry.now.datagram.payload.now)) }
+    ensures in_time { IsInTime S.parts shown.entry.now.now telling.new.store }
+    ensures err { OnErr result (Stops (W.contents writer.old) buffer.old (W.contents writer.new)
+        (lines_with (scene_by telling.old.values.types.now shown.entry.now)
+        (view_store S.limits S.parts telling.old.store) 0 (items_of shown.entry.now.datagram.payload.now))) }
+    ensures types { telling.new.values.types.now ≡ telling.old.values.types.now }
+{
+    let mut faulty = false;
+    let mut place = 0;
+    for item in Messages::new(shown.datagram.payload) {
+        faulty |= put_recorded_item(buffer, writer, shown, place, &item, telling)?;
+        place += item_len(&item);
+    }
+    Ok(faulty)
+}
+
+/// Prints the lines of an item that begins at a place, and what is told of it where messages are put
+/// together. Says whether a fault is among them.
+fn put_recorded_item<S: Reassembly + Drop, W: Write>(
+    buffer: &mut Buffer,
+    writer: &mut W,
+    shown: &Numbered<'_>,
+    place: usize,
+    item: &Result<Message<'_>, WireError>,
+    telling: &mut Telling<'_, S>,
+) -> Result<bool, PrintFault>
+    requires room { place + item_len (view_item item.now) ≤ usize.MAX }
+    requires in_time { IsInTime S.parts shown.now.now telling.old.store }
+    ensures ok { OnOk result (Sends (W.contents writer.old) buffer.old (W.contents writer.new) buffer.new
+        (recorded_lines (scene_by telling.old.values.types.now shown.entry.now)
+        (view_store S.limits S.parts telling.old.store) place (view_item item.now))) }
+    ensures faulty { IfOk result (λ faulty. faulty ≡ records_fault
+        (scene_by telling.old.values.types.now shown.entry.now) (view_store S.limits S.parts telling.old.store)
+        (view_item item.now)) }
+    ensures store { OnOk result (view_store S.limits S.parts telling.new.store ≡ store_after
+        (view_store S.limits S.parts telling.old.store) shown.entry.now.now (view_datagram shown.entry.now.datagram)
+        (view_item item.now)) }
+    ensures in_time { IsInTime S.parts shown.entry.now.now telling.new.store }
+    ensures err { OnErr result (Stops (W.contents writer.old) buffer.old (W.contents writer.new)
+        (recorded_lines (scene_by telling.old.values.types.now shown.entry.now)
+        (view_store S.limits S.parts telling.old.store) place (view_item item.now))) }
+    ensures types { telling.new.values.types.now ≡ telling.old.values.types.now }
+{
+    let found = reading_of(telling.alloc, item)?;
+    let told = tell_item(
+        &mut telling.store,
+        shown.now,
+        &shown.datagram,
+        item,
+        &mut telling.bytes,
+    )?;
+    let is_item_faulty = put_valued_item(
+        buffer,
+        writer,
+        shown.k,
+        place,
+        item,
+        found.as_ref(),
+        &mut telling.values,
+    )?;
+    let is_whole_faulty = put_told(
+        buffer,
+        writer,
+        shown.k,
+        told,
+        &telling.bytes,
+        &mut telling.values,
+    )?;
+    Ok(is_item_faulty | is_whole_faulty)
+}
+
+/// Prints what is told of a segment, whose whole message has these bytes, and says whether a fault is in
+/// it.
+fn put_told<W: Write>(
+    buffer: &mut Buffer,
+    writer: &mut W,
+    k: usize,
+    told: Told,
+    bytes: &[u8],
+    values: &mut ValueLines<'_>,
+) -> Result<bool, PrintFault>
+    requires { 16 + length bytes.now ≤ usize.MAX }
+    ensures ok { OnOk result (Sends (W.contents writer.old) buffer.old (W.contents writer.new) buffer.new
+        (gathered_lines values.old.types.now k (view_told told bytes.now))) }
+    ensures faulty { IfOk result (λ faulty. faulty
+        ≡ gathers_fault values.old.types.now (view_told told bytes.now)) }
+    ensures err { OnErr result (Stops (W.contents writer.old) buffer.old (W.contents writer.new)
+        (gathered_lines values.old.types.now k (view_told told bytes.now))) }
+    ensures types { values.new.types.now ≡ values.old.types.now }
+{
+    match told {
+        Told::Nothing => Ok(false),
+        Told::Whole(header) => put_whole(
+            buffer,
+            writer,
+            k,
+            Message {
+                header,
+                payload: bytes,
+            },
+            values,
+        ),
+        Told::Dropped(refusal) => {
+            put_dropped(buffer, writer, k, refusal.name())?;
+            Ok(false)
+        }
+    }
+}
+
+/// Prints the line of a whole message, and that of its value. Says whether a fault is in it.
+fn put_whole<W: Write>(
+    buffer: &mut Buffer,
+    writer: &mut W,
+    k: usize,
+    message: Message<'_>,
+    values: &mut ValueLines<'_>,
+) -> Result<bool, PrintFault>
+    requires { 16 + length message.payload.now ≤ usize.MAX }
+    ensures ok { OnOk result (Sends (W.contents writer.old) buffer.old (W.contents writer.new) buffer.new
+        (gathered_lines values.old.types.now k (Some (Ok (view message.entry))))) }
+    ensures faulty { IfOk result (λ faulty. faulty
+        ≡ gathers_fault values.old.types.now (Some (Ok (view message.entry)))) }
+    ensures err { OnErr result (Stops (W.contents writer.old) buffer.old (W.contents writer.new)
+        (gathered_lines values.old.types.now k (Some (Ok (view message.entry))))) }
+    ensures types { values.new.types.now ≡ values.old.types.now }
+{
+    let faulty = values.make(k, 0, &Ok(message))?;
+    put_whole_line(buffer, writer, k, &message)?;
+    buffer.put(writer, values.line.as_bytes())?;
+    Ok(faulty)
+}

@@ -1,0 +1,133 @@
+//! Lines with the time and the endpoints of their datagram before each.
+ghost use Rattle.std.specs.Prelude.{◌≡◌, ◌∷◌, [], OnOk, OnErr, drop, map, true};
+ghost use Rattle.recording.specs.View.{view_datagram};
+ghost use Rattle.someipctl_print.specs.Sending.{Sends, Stops};
+ghost use Rattle.someipctl_recordings.specs.RecordedText.{endpoint_text, head_text, nine_digits, time_text};
+ghost use Rattle.someipctl_recordings.specs.RecordedText.{with_heads};
+ghost use Rattle.someipctl_recordings.specs.Heads.{line_len};
+ghost use Rattle.someipctl_print.specs.Words.{word_text};
+ghost use Rattle.std.specs.Net.Text.{socket_v4_text};
+
+use recording::{Datagram, Endpoint, Time};
+use someipctl_print::{Buffer, CannotWrite, Part, Word, put_parts, put_words};
+use std::io::Write;
+use std::net::{Ipv4Addr, SocketAddrV4};
+
+/// Prints the text of a datagram with the datagram's time and endpoints before each line.
+pub(crate) fn put_with_heads<W: Write>(
+    buffer: &mut Buffer,
+    writer: &mut W,
+    datagram: &Datagram<'_>,
+    text: &[u8],
+) -> Result<(), CannotWrite>
+    ensures ok { OnOk result (Sends (W.contents writer.old) buffer.old (W.contents writer.new)
+        buffer.new (with_heads (head_text (view_datagram datagram.now)) true text.now)) }
+    ensures err { OnErr result (Stops (W.contents writer.old) buffer.old (W.contents writer.new)
+        (with_heads (head_text (view_datagram datagram.now)) true text.now)) }
+{
+    let mut rest = text;
+    while !rest.is_empty() {
+        let (line, others) = rest.split_at(line_len(rest));
+        put_head(buffer, writer, datagram)?;
+        buffer.put(writer, line)?;
+        rest = others;
+    }
+    Ok(())
+}
+
+/// How many bytes the first line has, with the line feed that ends it.
+fn line_len(text: &[u8]) -> usize
+    ensures { result ≡ line_len text.now }
+{
+    let mut len = 0;
+    for byte in text {
+        len += 1;
+        if *byte == b'\n' {
+            break;
+        }
+    }
+    len
+}
+
+/// Prints what stands before each line of a datagram.
+fn put_head<W: Write>(
+    buffer: &mut Buffer,
+    writer: &mut W,
+    datagram: &Datagram<'_>,
+) -> Result<(), CannotWrite>
+    ensures ok { OnOk result (Sends (W.contents writer.old) buffer.old (W.contents writer.new)
+        buffer.new (head_text (view_datagram datagram.now))) }
+    ensures err { OnErr result (Stops (W.contents writer.old) buffer.old (W.contents writer.new)
+        (head_text (view_datagram datagram.now))) }
+{
+    put_time(buffer, writer, datagram.time)?;
+    put_words(buffer, writer, &endpoint_words(datagram))?;
+    put_parts(buffer, writer, &[Part::Text(" ")])
+}
+
+/// Where a datagram came from, and where it went to.
+fn endpoint_words(datagram: &Datagram<'_>) -> [Word<'static>; 2]
+    ensures { map word_text result ≡ endpoint_text datagram.now.from ∷ endpoint_text datagram.now.to ∷ [] }
+{
+    [
+        Word::Endpoint(address_of(datagram.from)),
+        Word::Endpoint(address_of(datagram.to)),
+    ]
+}
+
+/// Prints a time in seconds, or `-` where there is none.
+fn put_time<W: Write>(
+    buffer: &mut Buffer,
+    writer: &mut W,
+    time: Option<Time>,
+) -> Result<(), CannotWrite>
+    ensures ok { OnOk result (Sends (W.contents writer.old) buffer.old (W.contents writer.new)
+        buffer.new (time_text time)) }
+    ensures err { OnErr result (Stops (W.contents writer.old) buffer.old (W.contents writer.new)
+        (time_text time)) }
+{
+    match time {
+        Some(time) => {
+            put_parts(
+                buffer,
+                writer,
+                &[Part::Number(time.seconds as usize), Part::Text(".")],
+            )?;
+            put_nine_digits(buffer, writer, time.nanoseconds)
+        }
+        None => put_parts(buffer, writer, &[Part::Text("-")]),
+    }
+}
+
+/// Prints a number below 10^9 in nine digits.
+fn put_nine_digits<W: Write>(
+    buffer: &mut Buffer,
+    writer: &mut W,
+    number: u32,
+) -> Result<(), CannotWrite>
+    ensures ok { OnOk result (Sends (W.contents writer.old) buffer.old (W.contents writer.new)
+        buffer.new (nine_digits number)) }
+    ensures err { OnErr result (Stops (W.contents writer.old) buffer.old (W.contents writer.new)
+        (nine_digits number)) }
+{
+    let mut digits = itoa::Buffer::new();
+    let text = digits.format(1_000_000_000 + u64::from(number)).as_bytes();
+    buffer.put(writer, without_first(text))
+}
+
+/// The bytes behind the first.
+fn without_first(bytes: &[u8]) -> &[u8]
+    ensures { result.now ≡ drop 1 bytes.now }
+{
+    match bytes {
+        [] => bytes,
+        [_, others @ ..] => others,
+    }
+}
+
+/// An endpoint, as the standard library knows it.
+fn address_of(endpoint: Endpoint) -> SocketAddrV4
+    ensures { socket_v4_text result ≡ endpoint_text endpoint }
+{
+    SocketAddrV4::new(Ipv4Addr::from_octets(endpoint.ip), endpoint.port)
+}

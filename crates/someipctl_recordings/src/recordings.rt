@@ -1,0 +1,334 @@
+//! The command `recording`: the datagrams of a recording of network traffic, message by message, as it is
+//! read.
+ghost use Rattle.std.specs.Prelude.{◌≡◌, ◌<◌, ◌+◌, ◌^◌, [], ◌∷◌, Ok, OnOk, OnErr, IfOk, option_map};
+ghost use Rattle.std.specs.List.{list_any};
+ghost use Rattle.recording.specs.View.{view_datagram, view_record};
+ghost use Rattle.someip_reassembly.specs.Parts.{NoneAfter};
+ghost use Rattle.someipctl_print.specs.Sending.{Sends, Stops};
+ghost use Rattle.someipctl_recordings.specs.declared.recordings.RecordingFault.TheVariants as faults;
+ghost use Rattle.someipctl_recordings.specs.Gathered.{IsInTime, view_store};
+ghost use Rattle.someipctl_recordings.specs.LeftOut.{left_out_of, plus, total};
+ghost use Rattle.someipctl_recordings.specs.RecordedText.{AskedValue, after_all, after_datagram, asked_in, asked_of, empty_store};
+ghost use Rattle.someipctl_recordings.specs.RecordedText.{is_asked, is_at_port, recorded_from, recorded_text};
+ghost use Rattle.someipctl_recordings.specs.RecordingResult.{BeginsRecording, PutsRecording};
+ghost use Rattle.someipctl_recordings.specs.RecordingResult.{ShowsRecording, fault_of_print, nothing_shown};
+ghost use Rattle.someipctl_recordings.specs.RecordingResult.{progress_of, shown_recording, view_asked, view_limits, view_ports};
+
+use crate::asked::{Asked, WholeLimits};
+use crate::coming::{Coming, next_coming};
+use crate::datagrams::{Numbered, Telling, put_recorded};
+use crate::left_out::LeftOut;
+use crate::moments::moment_of;
+use recording::{Datagram, Record, RecordingError, RecordingReader};
+use someip_reassembly::Reassembly;
+use someipctl_commands::PrintFault;
+use someipctl_commands::services::is_asked_by;
+use someipctl_commands::value_lines::ValueLines;
+use someipctl_inputs::{Outcome, ReadFault};
+use someipctl_print::{Buffer, CannotWrite};
+use std::alloc::{AllocError, Global};
+use std::io::{Read, Write};
+use thiserror::Error;
+
+/// Why a recording was not shown up to its end or its fault. A beginning of the text was written, which
+/// may be nothing.
+#[derive(Clone, Copy, Debug, PartialEq, Eq, Error)]
+pub enum RecordingFault {
+    /// The recording could not be read.
+    #[error("{}", ReadFault::CannotRead)]
+    CannotRead,
+    /// Writing failed, or took nothing.
+    #[error("{}", someipctl_print::CannotWrite)]
+    CannotWrite,
+    /// Memory ran out.
+    #[error("out of memory")]
+    OutOfMemory,
+}
+
+/// How showing a recording ended.
+#[derive(Clone, Copy, Debug, PartialEq, Eq)]
+pub struct ShownRecording {
+    /// Whether a fault of a message was shown.
+    pub outcome: Outcome,
+    /// The packets that give no datagram, whatever was asked for.
+    pub left_out: LeftOut,
+    /// The fault that ends the recording, if one does. What comes before it was shown.
+    pub fault: Option<RecordingError>,
+}
+
+/// What was shown of a recording so far.
+#[derive(Clone, Copy)]
+struct Shown {
+    /// How many datagrams that were asked for.
+    datagrams: usize,
+    /// The moment of the last, in milliseconds.
+    now: u64,
+    /// Whether a fault of a message was among them.
+    is_faulty: bool,
+    /// The packets that give none.
+    left_out: LeftOut,
+}
+
+/// Writes what a recording shows, as it is read: of each datagram that is asked for the lines of `show`,
+/// with its time and endpoints before each where these are asked for, and behind the lines of a segment
+/// that makes its message whole that message, where messages are put together; the body `S` does that.
+/// What waits to be written is written before each read.
+///
+/// One packet or block of the recording is held at a time, what its datagram says of Service Discovery,
+/// and what the body holds of messages that have come in part.
+pub fn show_recording<S: Reassembly + Drop, R: Read, W: Write>(
+    alloc: Global,
+    source: &mut R,
+    asked: &Asked<'_>,
+    writer: &mut W,
+) -> Result<ShownRecording, RecordingFault>
+    // The text of what comes before the recording's fault was written, or of all of it, and what is told
+    // of the recording is so.
+    ensures shown { IfOk result (λ shown. ShowsRecording (R.remaining source.old) (view_asked asked.now)
+        shown (W.contents writer.old) (W.contents writer.new)) }
+    // Else a beginning of that text was.
+    ensures begun { OnErr result (BeginsRecording (R.remaining source.old) (view_asked asked.now)
+        (W.contents writer.old) (W.contents writer.new)) }
+{
+    let mut buffer = Buffer::new(alloc)?;
+    let mut telling = Telling {
+        alloc,
+        values: ValueLines::new(alloc, asked.types),
+        store: store_for::<S>(alloc, asked.whole)?,
+        bytes: Vec::new(alloc),
+    };
+    let shown = put_recording(source, asked, &mut telling, &mut buffer, writer)?;
+    buffer.flush(writer)?;
+    Ok(shown)
+}
+
+/// A store of messages that come in part, where there are limits.
+fn store_for<S: Reassembly + Drop>(
+    alloc: Global,
+    limits: Option<WholeLimits>,
+) -> Result<Option<S>, AllocError>
+    ensures store { IfOk result (λ store. view_store S.limits S.parts store
+        ≡ option_map empty_store (option_map view_limits limits)) }
+    ensures in_time { IfOk result (IsInTime S.parts 0) }
+{
+    let Some(limits) = limits else {
+        return Ok(None);
+    };
+    match S::make(alloc, limits.slots, limits.limit, limits.timeout_ms) {
+        Ok(store) => Ok(Some(store)),
+        Err(_) => Err(AllocError),
+    }
+}
+
+/// Prints what a recording shows.
+fn put_recording<S: Reassembly + Drop, R: Read, W: Write>(
+    source: &mut R,
+    asked: &Asked<'_>,
+    telling: &mut Telling<'_, S>,
+    buffer: &mut Buffer,
+    writer: &mut W,
+) -> Result<ShownRecording, RecordingFault>
+    requires empty { buffer.old ≡ [] }
+    requires types { telling.old.values.types.now ≡ asked.now.types.now }
+    requires store { view_store S.limits S.parts telling.old.store
+        ≡ option_map empty_store (option_map view_limits asked.now.whole) }
+    requires in_time { IsInTime S.parts 0 telling.old.store }
+    ensures puts { IfOk result (λ shown. PutsRecording (R.remaining source.old) (view_asked asked.now)
+        shown (W.contents writer.old) (W.contents writer.new) buffer.new) }
+    ensures begun { OnErr result (BeginsRecording (R.remaining source.old) (view_asked asked.now)
+        (W.contents writer.old) (W.contents writer.new)) }
+{
+    let mut recording = RecordingReader::new(telling.alloc);
+    let mut lines = Buffer::new(telling.alloc)?;
+    let mut shown = Shown::nothing();
+    for _ in 0..u64::MAX {
+        let coming = next_coming(&mut recording, source, buffer, writer)?;
+        match coming {
+            Coming::Record => {}
+            Coming::Fault(fault) => return Ok(shown.ended(Some(fault))),
+            Coming::End => return Ok(shown.ended(None)),
+        }
+        if let Some(found) = recording.record() {
+            put_record(
+                buffer, writer, &found, asked, &mut shown, &mut lines, telling,
+            )?;
+        }
+    }
+    Err(RecordingFault::CannotRead)
+}
+
+impl Shown {
+    /// Before the first record.
+    fn nothing() -> Shown
+        ensures { result ≡ nothing_shown }
+    {
+        Shown {
+            datagrams: 0,
+            now: 0,
+            is_faulty: false,
+            left_out: LeftOut::new(),
+        }
+    }
+
+    /// What is told at the end of the recording, or at its fault.
+    fn ended(self, fault: Option<RecordingError>) -> ShownRecording
+        ensures { result ≡ shown_recording self fault }
+    {
+        ShownRecording {
+            outcome: Outcome::of(self.is_faulty),
+            left_out: self.left_out,
+            fault,
+        }
+    }
+}
+
+/// Prints what a record shows, and counts it.
+fn put_record<S: Reassembly + Drop, W: Write>(
+    buffer: &mut Buffer,
+    writer: &mut W,
+    found: &Record<'_>,
+    asked: &Asked<'_>,
+    shown: &mut Shown,
+    lines: &mut Buffer,
+    telling: &mut Telling<'_, S>,
+) -> Result<(), PrintFault>
+    requires empty { lines.old ≡ [] }
+    requires few { shown.old.datagrams + total shown.old.left_out + 1 < 2 ^ 64 }
+    requires types { telling.old.values.types.now ≡ asked.now.types.now }
+    requires in_time { IsInTime S.parts shown.old.now telling.old.store }
+    ensures empty { OnOk result (lines.new ≡ []) }
+    ensures ok { OnOk result (Sends (W.contents writer.old) buffer.old (W.contents writer.new)
+        buffer.new (recorded_from (view_asked asked.now)
+        (progress_of shown.old (view_store S.limits S.parts telling.old.store))
+        (asked_of (view_asked asked.now) (Ok (view_record found.now) ∷ [])))) }
+    ensures progress { OnOk result (progress_of shown.new (view_store S.limits S.parts telling.new.store)
+        ≡ after_all (view_asked asked.now)
+        (progress_of shown.old (view_store S.limits S.parts telling.old.store))
+        (asked_of (view_asked asked.now) (Ok (view_record found.now) ∷ []))) }
+    ensures left_out { OnOk result (shown.new.left_out
+        ≡ plus shown.old.left_out (left_out_of (Ok (view_record found.now) ∷ []))) }
+    ensures in_time { OnOk result (IsInTime S.parts shown.new.now telling.new.store) }
+    ensures err { OnErr result (Stops (W.contents writer.old) buffer.old (W.contents writer.new)
+        (recorded_from (view_asked asked.now)
+        (progress_of shown.old (view_store S.limits S.parts telling.old.store))
+        (asked_of (view_asked asked.now) (Ok (view_record found.now) ∷ [])))) }
+    ensures types { telling.new.values.types.now ≡ telling.old.values.types.now }
+{
+    if let Record::Other(kind) = found {
+        shown.left_out.add(*kind);
+        return Ok(());
+    }
+    let Some(datagram) = asked_in(asked, found) else {
+        return Ok(());
+    };
+    put_next(
+        buffer,
+        writer,
+        datagram,
+        asked.endpoints,
+        shown,
+        lines,
+        telling,
+    )
+}
+
+/// Prints the text of the next datagram that is asked for, and counts it.
+fn put_next<S: Reassembly + Drop, W: Write>(
+    buffer: &mut Buffer,
+    writer: &mut W,
+    datagram: Datagram<'_>,
+    endpoints: bool,
+    shown: &mut Shown,
+    lines: &mut Buffer,
+    telling: &mut Telling<'_, S>,
+) -> Result<(), PrintFault>
+    requires empty { lines.old ≡ [] }
+    requires few { shown.old.datagrams + 1 < 2 ^ 64 }
+    requires in_time { IsInTime S.parts shown.old.now telling.old.store }
+    ensures empty { OnOk result (lines.new ≡ []) }
+    ensures ok { (asked : AskedValue) → asked.types ≡ telling.old.values.types.now → asked.endpoints ≡ endpoints
+        → OnOk result (Sends (W.contents writer.old) buffer.old (W.contents writer.new) buffer.new
+        (recorded_text asked (progress_of shown.old (view_store S.limits S.parts telling.old.store))
+        (view_datagram datagram.entry))) }
+    ensures progress { (asked : AskedValue) → asked.types ≡ telling.old.values.types.now
+        → OnOk result (progress_of shown.new (view_store S.limits S.parts telling.new.store)
+        ≡ after_datagram asked (progress_of shown.old (view_store S.limits S.parts telling.old.store))
+        (view_datagram datagram.entry)) }
+    ensures left_out { shown.new.left_out ≡ shown.old.left_out }
+    ensures in_time { OnOk result (IsInTime S.parts shown.new.now telling.new.store) }
+    ensures err { (asked : AskedValue) → asked.types ≡ telling.old.values.types.now → asked.endpoints ≡ endpoints
+        → OnErr result (Stops (W.contents writer.old) buffer.old (W.contents writer.new)
+        (recorded_text asked (progress_of shown.old (view_store S.limits S.parts telling.old.store))
+        (view_datagram datagram.entry))) }
+    ensures types { telling.new.values.types.now ≡ telling.old.values.types.now }
+{
+    let next = Numbered {
+        k: shown.datagrams + 1,
+        now: moment_of(shown.now, datagram.time),
+        datagram,
+    };
+    let is_faulty = put_recorded(buffer, writer, &next, endpoints, lines, telling)?;
+    shown.datagrams = next.k;
+    shown.now = next.now;
+    shown.is_faulty |= is_faulty;
+    Ok(())
+}
+
+/// The datagram of a record, where there is one that is asked for.
+fn asked_in<'a>(asked: &Asked<'_>, found: &Record<'a>) -> Option<Datagram<'a>>
+    ensures { option_map view_datagram result
+        ≡ asked_in (view_asked asked.now) (Ok (view_record found.now)) }
+{
+    match found {
+        Record::Datagram(datagram) => {
+            if is_asked(asked, datagram) {
+                Some(*datagram)
+            } else {
+                None
+            }
+        }
+        Record::Other(_) => None,
+    }
+}
+
+fn is_asked(asked: &Asked<'_>, datagram: &Datagram<'_>) -> bool
+    ensures { result ≡ is_asked (view_asked asked.now) (view_datagram datagram.now) }
+{
+    is_at_port(asked.ports, datagram) && is_asked_by(asked.services, datagram.payload)
+}
+
+fn is_at_port(ports: Option<&[u16]>, datagram: &Datagram<'_>) -> bool
+    ensures { result ≡ is_at_port (view_ports ports.entry) (view_datagram datagram.now) }
+{
+    match ports {
+        Some(ports) => ports.contains(&datagram.from.port) || ports.contains(&datagram.to.port),
+        None => true,
+    }
+}
+
+impl From<PrintFault> for RecordingFault {
+    ghost from_gives = { λ fault e. e ≡ fault_of_print fault };
+
+    fn from(fault: PrintFault) -> RecordingFault {
+        match fault {
+            PrintFault::CannotWrite => RecordingFault::CannotWrite,
+            PrintFault::OutOfMemory => RecordingFault::OutOfMemory,
+        }
+    }
+}
+
+impl From<CannotWrite> for RecordingFault {
+    ghost from_gives = { λ _ e. e ≡ faults.CannotWrite };
+
+    fn from(_error: CannotWrite) -> RecordingFault {
+        RecordingFault::CannotWrite
+    }
+}
+
+impl From<AllocError> for RecordingFault {
+    ghost from_gives = { λ _ e. e ≡ faults.OutOfMemory };
+
+    fn from(_error: AllocError) -> RecordingFault {
+        RecordingFault::OutOfMemory
+    }
+}

@@ -1,0 +1,7 @@
+pub mod DataTextLemmas
+pub mod PlaceLemmas
+pub mod IndexLemmas
+pub mod UnknownLemmas
+pub mod TableLemmas
+pub mod ReadLemmas
+pub mod InputLemmas

@@ -1,0 +1,12 @@
+pub mod Types
+pub mod TypesCode
+pub mod DataText
+pub mod ValueLine
+pub mod Views
+pub mod GoodTypes
+pub mod Keys
+pub mod Tables
+pub mod Says
+pub mod Refusals
+pub mod TypesInput
+pub mod Examples
