@@ -108,8 +108,8 @@ impl MessageTypes {
     /// the message, and says whether it tells a fault. The message begins at the place in the datagram.
     ///
     /// ```text
-    /// 0 value speed 42 used 2 of 3
-    /// 0 value fault Truncated at 17
+    /// 1 value speed 42 used 2 of 3
+    /// 2 value fault Truncated at 17
     /// ```
     pub fn append_value_line(
         &self,
