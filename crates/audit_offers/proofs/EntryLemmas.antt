@@ -39,18 +39,18 @@ module _ {K X : Type 0} {R : K → K → Ordering} (o : IsTotalOrder R) (exact :
   by_keys m f (e ∷ es) all = ap₂ (λ v ys. cons_option (option_map (f e.0) v) ys) all.0 (by_keys m f es all.1)
 
 -- what has expired is in the map
-there : {V : Type 0} (now : ℕ) (v : Option (Lasting V)) (lasting : Lasting V) → kept_if (λ l. has_passed now l.until) v ≡ Some lasting → v ≡ Some lasting
-there now None lasting is = absurd (cc)
-there now (Some held) lasting is = cases (has_passed now held.until) is
+pub has_expired : {V : Type 0} (now : ℕ) (v : Option (Lasting V)) (lasting : Lasting V) → kept_if (λ l. has_passed now l.until) v ≡ Some lasting → (v ≡ Some lasting) × (has_passed now lasting.until ≡ true)
+has_expired now None lasting is = absurd (cc)
+has_expired now (Some held) lasting is = cases (has_passed now held.until) refl is
   where
-    cases : (b : Bool) → cond b (Some held) None ≡ Some lasting → Some held ≡ Some lasting
-    cases true e = e
-    cases false e = absurd (cc)
+    cases : (b : Bool) → has_passed now held.until ≡ b → cond b (Some held) None ≡ Some lasting → (Some held ≡ Some lasting) × (has_passed now lasting.until ≡ true)
+    cases true passes e = let same : held ≡ lasting = cc in (e, ap (λ l. has_passed now l.until) (sym same) ∙ passes)
+    cases false passes e = absurd (cc)
 
 module _ {K V : Type 0} {R : K → K → Ordering} (o : IsTotalOrder R) (exact : IsAntisymmetric R) where
   all_there : (now : ℕ) (m : FinMap R (Lasting V)) (es : List (K × Lasting V)) → AllByRecursion (λ e. find R e.0 (entries (expired now m)) ≡ Some e.1) es → AllByRecursion (λ e. get m e.0 ≡ Some e.1) es
   all_there now m [] all = tt
-  all_there now m (e ∷ es) all = (there now (get m e.0) e.1 (sym (get-expired o exact now m e.0) ∙ get-entries (expired now m) e.0 ∙ all.0), all_there now m es all.1)
+  all_there now m (e ∷ es) all = ((has_expired now (get m e.0) e.1 (sym (get-expired o exact now m e.0) ∙ get-entries (expired now m) e.0 ∙ all.0)).0, all_there now m es all.1)
 
   -- the keys of what has expired find its entries
   pub expired_by_keys : {Y : Type 0} (now : ℕ) (m : FinMap R (Lasting V)) (f : K → Lasting V → Y)

@@ -3,15 +3,17 @@ use Rattle.std.specs.Prelude.{◌≢◌}
 use Rattle.std.proofs.Common.{◌≡◌, ℕ, ◌≤◌, nat_le, Bool, true, false, cond, ◌||◌, List, [], ◌∷◌, filter, length, Option, None, Some, refl, ap, ap₂, sym, ◌∙◌, arith}
 use Rattle.std.proofs.lemmas.Bool.{leb-true, le-leb}
 use Rattle.std.specs.List.{list_any}
-use Rattle.std.specs.FinMap.{empty, entries, len-empty, len-entries}
+use Rattle.std.specs.FinMap.{empty, entries, get, get-empty, len-empty, len-entries}
 use Rattle.someip_tables.specs.declared.deadline.Deadline.{Deadline}
 use Rattle.someip_tables.specs.declared.deadline.Deadline.TheVariants.{At, Never}
 use Rattle.someip_tables.specs.declared.lasting.Lasting.{Lasting}
 use Rattle.someip_tables.specs.Deadlines.{has_passed, millis_of}
 use Rattle.someip_tables.specs.Lastings.{expired}
+use Rattle.someip_tables.specs.Retained.{kept_if}
 use Rattle.someip_tables.specs.Waits.{HoldsFrom, is_due_by}
 use Rattle.someip_tables.proofs.DueLemmas.{test_is_true, true_is_test}
 use Rattle.someip_tables.proofs.Entries.{from_entries-entries}
+use Rattle.someip_tables.proofs.Expiry.{get-expired}
 use Rattle.someip_tables.proofs.Firsts.{earlier_due}
 use Rattle.someip_tables.proofs.Members.{both_or_none}
 use Rattle.someip_tables.proofs.SortedEntries.{entries-retain, none_chosen}
@@ -63,6 +65,16 @@ first_tells now offers = (
     found : (b : Bool) → list_any (λ e. has_passed now e.1.until) (entries offers) ≡ b → expired now offers ≢ empty → b ≡ true
     found true is some = refl
     found false is some = absurd (some (none_expired now offers is))
+
+pub none_due : (now : ℕ) (offers : Offers) → is_due_by now (first_deadline offers) ≡ false → expired now offers ≡ empty
+none_due now offers none = none_expired now offers (sym (first_due now (entries offers)) ∙ none)
+
+-- an offer that has expired is among those that have
+pub not_empty : (now : ℕ) (offers : Offers) (key : OfferKey) (lasting : Lasting Standing) → get offers key ≡ Some lasting → has_passed now lasting.until ≡ true → expired now offers ≢ empty
+not_empty now offers key lasting is passes none =
+    let here : get (expired now offers) key ≡ Some lasting = get-expired offers_total exact_offers now offers key ∙ ap (kept_if (λ l. has_passed now l.until)) is ∙ rw passes refl in
+    let gone : get (expired now offers) key ≡ None = ap (λ m. get m key) none ∙ get-empty offer_cmp key in
+    cc
 
 -- two moments that come alike are one
 same_moment : (a b : Option ℕ) → ((now : ℕ) → is_due_by now a ≡ is_due_by now b) → a ≡ b

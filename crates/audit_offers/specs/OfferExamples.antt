@@ -22,9 +22,17 @@ from_node k n = record { datagram = k; from = endpoint n 30490; to = record { ip
 abbrev pub service : ℕ → OfferKey
 service id = record { service = id; instance = 1; major = 1 }
 
--- datagram k: a node offers service 4096 at a port, for so many seconds
+-- datagram k: node n offers service 4096 at an endpoint, for so many seconds
+abbrev pub offer_at : ℕ → ℕ → SocketAddrV4 → ℕ → OfferEntry
+offer_at k n place ttl = record { key = service 4096; endpoint = Some place; ttl = ttl; origin = from_node k n }
+
+-- at a port of its own
 abbrev pub offer : ℕ → ℕ → ℕ → ℕ → OfferEntry
-offer k n port ttl = record { key = service 4096; endpoint = Some (endpoint n port); ttl = ttl; origin = from_node k n }
+offer k n port ttl = offer_at k n (endpoint n port) ttl
+
+-- without an endpoint
+abbrev pub offer_nowhere : ℕ → ℕ → ℕ → OfferEntry
+offer_nowhere k n ttl = record { key = service 4096; endpoint = None; ttl = ttl; origin = from_node k n }
 
 -- datagram k: a node offers it no more
 abbrev pub stop : ℕ → ℕ → OfferEntry

@@ -49,9 +49,14 @@ standing_in (event ∷ earlier) key = changed_by event.at event.shown key (unles
 abbrev pub expiring_in : List Event → ℕ → OfferKey → Option (Lasting Standing)
 expiring_in events now key = kept_if (λ lasting. has_passed now lasting.until) (standing_in events key)
 
--- what an Offer with this endpoint shows after these events
-abbrev pub shown_by_offer : List Event → ℕ → OfferEntry → SocketAddrV4 → Option Finding
-shown_by_offer events now entry endpoint = moved_by entry endpoint (unless_passed now (standing_in events entry.key))
+-- what an Offer shows after these events, by its endpoint if it has one
+abbrev pub shown_by_offer : List Event → ℕ → OfferEntry → Option SocketAddrV4 → Option Finding
+shown_by_offer events now entry None = None
+shown_by_offer events now entry (Some endpoint) = moved_by entry endpoint (unless_passed now (standing_in events entry.key))
+
+-- what an entry shows after these events: a StopOffer nothing
+abbrev pub shown_by : List Event → ℕ → OfferEntry → Option Finding
+shown_by events now entry = if entry.ttl == 0 then None else shown_by_offer events now entry entry.endpoint
 
 -- the book once something was shown
 abbrev pub book_after : ℕ → Shown → OfferTable → OfferTable
