@@ -1,20 +1,25 @@
 -- The key whose moment comes first, by the set of moments.
-use Rattle.std.proofs.Common.{◌≡◌, ℕ, true, false, IsTrue, Option, None, Some, IfSome, IfNone, refl, ap, sym, ◌∙◌}
+use Rattle.std.proofs.Common.{◌≡◌, ◌≢◌, ℕ, ◌==◌, ◌≤◌, nat_le, nat_lt, Bool, true, false, cond, IsTrue, Option, None, Some, IfSome, IfNone, refl, ap, sym, ◌∙◌, arith}
 use Rattle.std.specs.Option.{option_and_then}
 use Rattle.std.specs.declared.cmp.Ordering.{Ordering}
 use Rattle.std.specs.declared.cmp.Ordering.TheVariants.{Less, Equal, Greater}
-use Rattle.std.specs.Ordering.{is_le, is_gt, ordering_reverse}
+use Rattle.std.specs.Ordering.{is_le, is_gt, ordering_reverse, ordering_then}
 use Rattle.std.specs.Cmp.{IsTotalOrder}
 use Rattle.std.specs.BTreeMap.{BTreeMap}
 use Rattle.std.specs.BTreeSet.{BTreeSet, contains}
-use Rattle.std.specs.FinMap.{FinMap, IsAntisymmetric, get}
+use Rattle.std.specs.FinMap.{FinMap, IsAntisymmetric, get, empty, get-empty}
 use Rattle.std.proofs.lemmas.Bool.{eqb-true, eq-eqb}
+use Rattle.std.proofs.lemmas.Bool.Decides.{nat_tests}
 use Rattle.std.specs.Cmp.{nat_cmp_total}
 use Rattle.std.proofs.lemmas.Cmp.{on_total, then_total}
 use Rattle.std.proofs.lemmas.Map.Lookups.{exact_pairs, exact_unsigned}
 use Rattle.std.specs.Ordering.{nat_cmp}
 use Rattle.someip_tables.specs.Agendas.{is_awaited}
+use Rattle.someip_tables.specs.Retained.{kept_if}
 use Rattle.someip_tables.specs.Tables.{map_of}
+use Rattle.someip_tables.specs.Waits.{HoldsFrom, due_by, is_due_by}
+use Rattle.someip_tables.proofs.Entries.{get-retain}
+use Rattle.someip_tables.proofs.MapLaws.{retain_none}
 use Rattle.someip_tables.proofs.Trees.{get-map_of}
 use Rattle.someip_tables.proofs.DueLemmas.{test_is_true, true_is_test}
 use Rattle.audit_tables.specs.declared.due.Due.{Due}
@@ -80,3 +85,63 @@ module _ {K V : Type 0} {R : K → K → Ordering} (o : IsTotalOrder R) where
     one_first moment m (Some due) None a b = absurd (never_none moment m due b a.0)
     one_first moment m (Some one) (Some other) a b =
         ap Some (exact_dues exact one other (tied (due_cmp R one other) (due_cmp R other one) ((dues_total o).antisymm one other) (a.1 other b.0) (b.1 one a.0)))
+
+-- nothing in order comes before the first
+pub not_before : {K : Type 0} (R : K → K → Ordering) (first due : Due K) → is_le (due_cmp R first due) ≡ true → first.at ≤ due.at
+not_before R first due h = cases (nat_lt first.at due.at) (first.at == due.at) refl refl h
+  where
+    cases : (l e : Bool) → nat_lt first.at due.at ≡ l → (first.at == due.at) ≡ e → is_le (ordering_then (cond l Less (cond e Equal Greater)) (R first.key due.key)) ≡ true → first.at ≤ due.at
+    cases true e l is h = grind (arith, nat_tests)
+    cases false true l is h = grind (arith, nat_tests)
+    cases false false l is h = cc
+
+is_come : (now at : ℕ) → at ≤ now → nat_le at now ≡ true
+is_come now at le = grind (arith, nat_tests)
+
+not_come : (now at first : ℕ) → nat_le first now ≡ false → first ≤ at → nat_le at now ≡ false
+not_come now at first before le = grind (arith, nat_tests)
+
+module _ {K V : Type 0} {R : K → K → Ordering} (o : IsTotalOrder R) (exact : IsAntisymmetric R) (moment : V → Option ℕ) (m : FinMap R V) where
+  -- a value that waits is due at its moment
+  due_there : (now : ℕ) (v : Option V) (at : ℕ) → option_and_then moment v ≡ Some at → at ≤ now → kept_if (λ x. is_due_by now (moment x)) v ≡ None → ⊥
+  due_there now None at waits come none = cc
+  due_there now (Some x) at waits come none =
+      let kept : kept_if (λ y. is_due_by now (moment y)) (Some x) ≡ Some x = rw waits (rw (is_come now at come) refl) in
+      cc
+
+  -- the first moment is that from which something is due
+  pub due_from_first : (first : Due K) → IsFirstDue moment m (Some first) → HoldsFrom (Some first.at) (λ now. due_by moment now m ≢ empty)
+  due_from_first first is = λ now. (
+    λ come none. due_there now (get m first.key) first.at is.0 (come_is now come)
+        (sym (get-retain o exact m (λ _ x. is_due_by now (moment x)) first.key) ∙ ap (λ n. get n first.key) none ∙ get-empty R first.key),
+    λ some. at now (nat_le first.at now) refl some,
+  )
+    where
+      come_is : (now : ℕ) → IsTrue (nat_le first.at now) → first.at ≤ now
+      come_is now come = let t : nat_le first.at now ≡ true = test_is_true come in grind (arith, nat_tests)
+
+      late : (now : ℕ) → nat_le first.at now ≡ false → (k : K) (x : V) (v : Option ℕ) → get m k ≡ Some x → moment x ≡ v → is_due_by now v ≡ false
+      late now before k x None there waits = refl
+      late now before k x (Some at) there waits =
+          not_come now at first.at before (not_before R first (record { at = at; key = k }) (is.1 (record { at = at; key = k }) (ap (option_and_then moment) there ∙ waits)))
+
+      at : (now : ℕ) (b : Bool) → nat_le first.at now ≡ b → (due_by moment now m ≢ empty) → IsTrue (nat_le first.at now)
+      at now true come some = true_is_test come
+      at now false before some = absurd (some (retain_none o exact m (λ _ x. is_due_by now (moment x)) (λ k x there. late now before k x (moment x) there refl)))
+
+  -- and where nothing waits, nothing is ever due
+  pub never_due : ((k : K) → option_and_then moment (get m k) ≡ None) → HoldsFrom None (λ now. due_by moment now m ≢ empty)
+  never_due none = λ now. (
+    λ come. never come,
+    λ some. absurd (some (retain_none o exact m (λ _ x. is_due_by now (moment x)) (λ k x there. waits_not now k x (moment x) there refl))),
+  )
+    where
+      never : {Q : Type 0} → IsTrue false → Q
+      never h = cc
+
+      waits_not : (now : ℕ) (k : K) (x : V) (v : Option ℕ) → get m k ≡ Some x → moment x ≡ v → is_due_by now v ≡ false
+      waits_not now k x None there waits = refl
+      waits_not now k x (Some at) there waits =
+          let e : option_and_then moment (get m k) ≡ None = none k in
+          let f : option_and_then moment (get m k) ≡ Some at = ap (option_and_then moment) there ∙ waits in
+          cc
