@@ -1,1 +1,2 @@
 pub mod FirstDues
+pub mod RetainedDues

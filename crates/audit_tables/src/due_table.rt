@@ -1,12 +1,13 @@
 //! A map whose values wait for a moment each, or for none, with the first of them at hand.
-ghost use Rattle.std.specs.Prelude.{◌≡◌, OnOk, OnErr, None};
+ghost use Rattle.std.specs.Prelude.{◌≡◌, OnOk, OnErr, None, Bool};
 ghost use Rattle.std.specs.Option.{option_copied};
 ghost use Rattle.std.specs.FinMap as finite;
-ghost use Rattle.someip_tables.specs.Tables.{map_of};
+ghost use Rattle.someip_tables.specs.Retained.{retain};
+ghost use Rattle.someip_tables.specs.Tables.{map_of, AnswersPairAs};
 ghost use Rattle.audit_tables.specs.Dues.{IsFirstDue, WantsMemory};
 
 use crate::due::Due;
-use crate::tracked::{first_due, put, take_out};
+use crate::tracked::{first_due, put, retain, take_out};
 use someip_tables::{Key, Waits};
 use std::alloc::{AllocError, Global};
 use std::collections::{BTreeMap, BTreeSet};
@@ -74,6 +75,16 @@ impl<K: Key, V: Waits> DueTable<K, V> {
         ensures { map_of K.cmp self.new ≡ finite.remove (map_of K.cmp self.old) key.now }
     {
         take_out(&mut self.held, &mut self.dues, key);
+    }
+
+    /// Keeps the entries that pass a test of key and value, which is asked once for each entry. It takes
+    /// no memory.
+    pub fn retain<F: Fn(&K, &V) -> bool + Drop>(&mut self, keep: F)
+        requires { F.IsAlwaysCallable keep }
+        ensures { (test : K → V → Bool) → AnswersPairAs F.Fn keep test
+            → map_of K.cmp self.new ≡ retain (map_of K.cmp self.old) test }
+    {
+        retain(&mut self.held, &mut self.dues, keep);
     }
 
     /// The key whose moment comes first, by moment and then by key, if one waits for any. It looks at

@@ -1,10 +1,12 @@
 //! An ordered map, and beside it the moments of its values in order: the set holds exactly these.
 ghost use Rattle.std.specs.Prelude.{◌≡◌, ◌≢◌, ◌+◌, true, false, if◌then◌else◌, Some, None, is_some};
-ghost use Rattle.std.specs.Prelude.{IsTrue, IfSome, IfNone, OnOk, OnErr};
+ghost use Rattle.std.specs.Prelude.{Bool, filter, IsTrue, IfSome, IfNone, OnOk, OnErr};
 ghost use Rattle.std.specs.Option.{option_and_then};
-ghost use Rattle.std.specs.BTreeMap.{get, btree_map_len, IsUnchanged};
+ghost use Rattle.std.specs.BTreeMap.{get, btree_map_len, IsOrdered, IsUnchanged};
 ghost use Rattle.std.specs.BTreeSet.{contains};
 ghost use Rattle.std.specs.Ordering.{eq_by_cmp, is_gt};
+ghost use Rattle.someip_tables.specs.Retained.{retain};
+ghost use Rattle.someip_tables.specs.Tables.{map_of, AnswersPairAs};
 ghost use Rattle.audit_tables.specs.Dues.{Tracks, WantsMemory, due_cmp, is_due_of};
 ghost use Rattle.audit_tables.specs.declared.due.Due.{Due};
 
@@ -120,4 +122,42 @@ fn take_due<K: Key>(dues: &mut BTreeSet<Due<K>>, key: K, moment: Option<u64>)
     if let Some(at) = moment {
         dues.remove(&Due { at, key });
     }
+}
+
+/// Drops each entry that a test refuses. The test is asked once for each entry.
+pub(crate) fn retain<K: Key, V: Waits, F: Fn(&K, &V) -> bool + Drop>(
+    held: &mut BTreeMap<K, V>,
+    dues: &mut BTreeSet<Due<K>>,
+    keep: F,
+)
+    requires tracks { Tracks K.cmp V.moment dues.old held.old }
+    requires callable { F.IsAlwaysCallable keep }
+    ensures left { (p : K → V → Bool) → AnswersPairAs F.Fn keep p
+        → map_of K.cmp held.new.entries ≡ retain (map_of K.cmp held.old.entries) p }
+    ensures tracks { Tracks K.cmp V.moment dues.new held.new }
+{
+    retain_entries(held, keep);
+    retain_dues(held, dues);
+}
+
+/// Keeps the entries that a test keeps.
+fn retain_entries<K: Key, V: Waits, F: Fn(&K, &V) -> bool + Drop>(
+    held: &mut BTreeMap<K, V>,
+    keep: F,
+)
+    requires { F.IsAlwaysCallable keep }
+    ensures left { (p : K → V → Bool) → AnswersPairAs F.Fn keep p
+        → held.new.entries ≡ filter (λ e. p e.0 e.1) held.old.entries }
+    ensures no_other { (q : K) → is_some (get K.cmp held.new q) ≡ true
+        → get K.cmp held.new q ≡ get K.cmp held.old q }
+    ensures ordered { IsOrdered K.cmp held.old }
+{
+    held.retain(|key, value| keep(key, value));
+}
+
+/// Keeps the moments of the keys that the map has.
+fn retain_dues<K: Key, V: Waits>(held: &BTreeMap<K, V>, dues: &mut BTreeSet<Due<K>>)
+    ensures { dues.new.keys ≡ filter (λ due. is_some (get K.cmp held.now due.key)) dues.old.keys }
+{
+    dues.retain(|due| held.contains_key(&due.key));
 }
