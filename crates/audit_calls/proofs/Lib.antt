@@ -1,0 +1,3 @@
+pub mod ExcerptLemmas
+pub mod BookLemmas
+pub mod OverdueLemmas
