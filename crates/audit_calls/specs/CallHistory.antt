@@ -15,7 +15,7 @@ use Rattle.audit_calls.specs.Tapped.{Tapped, call_of, call_asked, call_answered,
 -- a message is about this call
 abbrev pub is_this : AuditedCall → Option AuditedCall → Bool
 is_this call None = false
-is_this call (Some other) = eq_by_cmp call_cmp other call
+is_this call (Some other) = eq_by_cmp call_cmp call other
 
 abbrev pub is_about : AuditedCall → Tapped → Bool
 is_about call message = is_this call (call_of message)

@@ -7,4 +7,6 @@ pub mod CallBooks
 pub mod CallCodes
 pub mod Overdue
 pub mod CallHistory
+pub mod BookHistory
+pub mod CallFindings
 pub mod Scenes

@@ -6,13 +6,15 @@
 //! - [`CallRules`]: its settings;
 //! - [`AuditedCall`]: what tells calls apart;
 //! - [`CallFinding`] and [`Unanswered`]: what is told;
-//! - [`laws`]: what the definitions behind the contracts promise, whatever code keeps them.
+//! - [`laws`]: the definitions behind the contracts by example, and [`history_laws`]: what they say over
+//!   all messages of a recording, whatever code keeps them.
 #![tactic(auto)]
 
 mod call;
 mod call_book;
 mod excerpt;
 mod finding;
+pub mod history_laws;
 mod key_laws;
 mod known;
 pub mod laws;
