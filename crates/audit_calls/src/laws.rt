@@ -3,7 +3,8 @@
 //!
 //! In the examples 2 s are given for an answer, the recording begins at moment 1000, and all messages
 //! but those that are said to be others have one key.
-ghost use Rattle.std.specs.Prelude.{◌≡◌, ◌≢◌, ℕ, List, [], ◌∷◌, ◌++◌, replicate, true, false, Some, None};
+ghost use Rattle.std.specs.Prelude.{◌≡◌, ◌↔◌, ℕ, List, [], ◌∷◌, ◌++◌, length, take, replicate, true, false};
+ghost use Rattle.std.specs.Prelude.{Some, None};
 ghost use Rattle.someip_wire.specs.declared.header.MessageType.TheVariants as kinds;
 ghost use Rattle.audit_calls.specs.declared.finding.CallFinding.TheVariants.{KeyReused, Late, Repeated, Unasked};
 ghost use Rattle.audit_calls.specs.declared.known.Known.TheVariants.{Open, Overdue, Answered};
@@ -99,4 +100,10 @@ pub fn excerpts_by_example()
         ≡ false }
     ensures length { same_excerpt (excerpt_of (replicate 65 0)) (excerpt_of (replicate 66 0)) ≡ false }
     ensures zeros { same_excerpt (excerpt_of []) (excerpt_of (0 ∷ [])) ≡ false }
+{}
+
+/// Two payloads are told apart exactly where their lengths differ, or their first 64 bytes.
+pub fn excerpts_tell_payloads_apart()
+    ensures { (a b : List ℕ) → (same_excerpt (excerpt_of a) (excerpt_of b) ≡ true)
+        ↔ ((length a ≡ length b) × (take 64 a ≡ take 64 b)) }
 {}
