@@ -1,0 +1,5 @@
+pub mod FirstLemmas
+pub mod EntryLemmas
+pub mod OfferLemmas
+pub mod DueLemmas
+pub mod HistoryLemmas

@@ -1,0 +1,38 @@
+//! An Offer or a StopOffer of a recording, and what stands by it.
+use crate::key::OfferKey;
+use std::net::SocketAddrV4;
+
+/// The datagram of a recording that something came in.
+#[derive(Clone, Copy, Debug, PartialEq, Eq)]
+pub struct Origin {
+    /// Its number in the recording.
+    pub datagram: u64,
+    /// The endpoint that it was sent from; its address is the sender.
+    pub from: SocketAddrV4,
+    /// The endpoint that it was sent to.
+    pub to: SocketAddrV4,
+}
+
+/// An Offer, or a StopOffer, whose TTL is 0 (SOME/IP Service Discovery Protocol, "Offer Service entry",
+/// "Stop Offer Service entry").
+#[derive(Clone, Copy, Debug, PartialEq, Eq)]
+pub struct OfferEntry {
+    /// What is offered, or no longer is.
+    pub key: OfferKey,
+    /// Where it is offered: the first IPv4 UDP endpoint option. An Offer without one is passed over; of
+    /// a StopOffer it is not looked at.
+    pub endpoint: Option<SocketAddrV4>,
+    /// TTL in seconds; FFFFFF lasts until the next reboot.
+    pub ttl: u32,
+    /// The datagram that it came in.
+    pub origin: Origin,
+}
+
+/// An offer that stands.
+#[derive(Clone, Copy, Debug, PartialEq, Eq)]
+pub struct Standing {
+    /// Where it is offered.
+    pub endpoint: SocketAddrV4,
+    /// The datagram of the newest Offer, from which its TTL counts.
+    pub origin: Origin,
+}
