@@ -1,5 +1,6 @@
 //! An Offer or a StopOffer of a recording, and what stands by it.
 use crate::key::OfferKey;
+use someip_tables::{Deadline, Waits};
 use std::net::SocketAddrV4;
 
 /// The datagram of a recording that something came in.
@@ -35,4 +36,20 @@ pub struct Standing {
     pub endpoint: SocketAddrV4,
     /// The datagram of the newest Offer, from which its TTL counts.
     pub origin: Origin,
+    /// Until when it stands.
+    pub until: Deadline,
+}
+
+/// An offer waits for the moment at which its TTL has passed.
+impl Waits for Standing {
+    ghost use Rattle.audit_offers.specs.OfferRules.{passes_at};
+
+    ghost moment = { passes_at };
+
+    fn waits_for(&self) -> Option<u64> {
+        match self.until {
+            Deadline::At(at) => Some(at),
+            Deadline::Never => None,
+        }
+    }
 }
