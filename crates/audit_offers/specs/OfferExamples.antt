@@ -4,7 +4,7 @@ use Rattle.std.specs.declared.net.ipv4_addr.Ipv4Addr.{Ipv4Addr}
 use Rattle.std.specs.declared.net.socket_addr.SocketAddrV4.{SocketAddrV4}
 use Rattle.audit_offers.specs.declared.entry.OfferEntry.{OfferEntry}
 use Rattle.someip_tables.specs.declared.deadline.Deadline.TheVariants.{At}
-use Rattle.audit_offers.specs.declared.entry.Origin.{Origin}
+use Rattle.audit_tables.specs.declared.origin.Origin.{Origin}
 use Rattle.audit_offers.specs.declared.entry.Standing.{Standing}
 use Rattle.audit_offers.specs.declared.key.OfferKey.{OfferKey}
 use Rattle.audit_offers.specs.OfferHistories.{Event, Entry, BeganAgain}

@@ -11,7 +11,8 @@ use Rattle.someip_tables.specs.Endpoints.{coded_endpoint}
 use Rattle.someip_tables.specs.Retained.{retain}
 use Rattle.audit_tables.specs.Dues.{IsFirstDue}
 use Rattle.audit_offers.specs.declared.entry.OfferEntry.{OfferEntry}
-use Rattle.audit_offers.specs.declared.entry.Origin.{Origin}
+use Rattle.audit_tables.specs.declared.origin.Origin.{Origin}
+use Rattle.audit_tables.specs.Origins.{coded_origin}
 use Rattle.audit_offers.specs.declared.entry.Standing.{Standing}
 use Rattle.audit_offers.specs.declared.finding.Expired.{Expired}
 use Rattle.audit_offers.specs.declared.finding.Finding.{Finding}
@@ -94,11 +95,6 @@ after_due None book = book
 after_due (Some told) book = record book { standing = finite.remove book.standing told.key }
 
 -- ---- codes, by which a proof tells values apart
-
-abbrev pub coded_origin : Coded Origin
-coded_origin =
-    code_by (ℕ × (SocketAddrV4 × SocketAddrV4)) (coded× coded_ℕ (coded× coded_endpoint coded_endpoint)) (λ o. (o.datagram, (o.from, o.to)))
-    (λ c. record { datagram = c.0; from = c.1.0; to = c.1.1 }) (λ _. refl)
 
 abbrev pub coded_standing : Coded Standing
 coded_standing =

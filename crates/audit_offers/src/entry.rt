@@ -1,18 +1,8 @@
 //! An Offer or a StopOffer of a recording, and what stands by it.
 use crate::key::OfferKey;
+use audit_tables::Origin;
 use someip_tables::{Deadline, Waits};
 use std::net::SocketAddrV4;
-
-/// The datagram of a recording that something came in.
-#[derive(Clone, Copy, Debug, PartialEq, Eq)]
-pub struct Origin {
-    /// Its number in the recording.
-    pub datagram: u64,
-    /// The endpoint that it was sent from; its address is the sender.
-    pub from: SocketAddrV4,
-    /// The endpoint that it was sent to.
-    pub to: SocketAddrV4,
-}
 
 /// An Offer, or a StopOffer, whose TTL is 0 (SOME/IP Service Discovery Protocol, "Offer Service entry",
 /// "Stop Offer Service entry").
