@@ -5,29 +5,26 @@ use Rattle.std.specs.Ordering.{eq_by_cmp}
 use Rattle.std.specs.FinMap as finite
 use Rattle.std.specs.declared.net.ipv4_addr.Ipv4Addr.{Ipv4Addr}
 use Rattle.std.specs.declared.net.socket_addr.SocketAddrV4.{SocketAddrV4}
-use Rattle.someip_tables.specs.declared.lasting.Lasting.{Lasting}
-use Rattle.someip_tables.specs.Lastings.{unless_passed}
 use Rattle.someip_tables.proofs.Entries.{get-retain, same_by_test}
-use Rattle.someip_tables.proofs.Expiry.{get-unexpired}
 use Rattle.audit_offers.specs.declared.entry.OfferEntry.{OfferEntry}
 use Rattle.audit_offers.specs.declared.entry.Standing.{Standing}
 use Rattle.audit_offers.specs.declared.finding.Finding.TheVariants.{Full, Moved}
 use Rattle.audit_offers.specs.declared.key.OfferKey.{OfferKey}
 use Rattle.audit_offers.specs.OfferKeys.{offer_cmp}
 use Rattle.audit_offers.specs.OfferOrder.{offers_total, exact_offers}
-use Rattle.audit_offers.specs.OfferRules.{is_of, is_renewed_by, moved_by, offered_at, sender_of, unless_of}
+use Rattle.audit_offers.specs.OfferRules.{has_expired, is_of, is_renewed_by, moved_by, offered_at, sender_of, unless_expired, unless_of}
 use Rattle.audit_offers.specs.OfferTables.{OfferTable, Offers, after_entry, after_offer, is_offered_by, may_hold, stopped, told_by, told_of_offer, told_when_full}
 use Rattle.audit_offers.specs.OfferHistories.{BeganAgain, Entry, Event, Shown, book_after, book_of, changed_by, offered, shown_by, shown_by_offer, standing_after, standing_in, without_expired}
 
 -- ---- one entry
 
 -- a StopOffer ends what is of its sender
-stopped_here : (sender : Ipv4Addr) (v : Option (Lasting Standing)) (b : Bool) → is_offered_by sender v ≡ b → cond b None v ≡ unless_of sender v
+stopped_here : (sender : Ipv4Addr) (v : Option Standing) (b : Bool) → is_offered_by sender v ≡ b → cond b None v ≡ unless_of sender v
 stopped_here sender None true is = refl
 stopped_here sender None false is = refl
-stopped_here sender (Some lasting) b is = cases b (is_of sender lasting.value) (sym is)
+stopped_here sender (Some offer) b is = cases b (is_of sender offer) (sym is)
   where
-    cases : (c d : Bool) → c ≡ d → cond c None (Some lasting) ≡ cond (not d) (Some lasting) None
+    cases : (c d : Bool) → c ≡ d → cond c None (Some offer) ≡ cond (not d) (Some offer) None
     cases true true e = refl
     cases false false e = refl
     cases true false e = absurd (cc)
@@ -104,7 +101,7 @@ not_before now (BeganAgain sender) book true is fits = fits
 get-shown : (now : ℕ) (shown : Shown) (book : OfferTable) (key : OfferKey) → (book_after now shown book).told_full ≡ false
     → finite.get (book_after now shown book).standing key ≡ changed_by now shown key (finite.get book.standing key)
 get-shown now (Entry entry) book key fits = get-entry now entry book key fits
-get-shown now (BeganAgain sender) book key fits = get-retain offers_total exact_offers book.standing (λ _ lasting. not (is_of sender lasting.value)) key
+get-shown now (BeganAgain sender) book key fits = get-retain offers_total exact_offers book.standing (λ _ offer. not (is_of sender offer)) key
 
 -- a book that was never full holds the offers that stand
 pub stands : (limit : ℕ) (events : List Event) (key : OfferKey) → (book_of limit events).told_full ≡ false → finite.get (book_of limit events).standing key ≡ standing_in events key
@@ -112,7 +109,7 @@ stands limit [] key fits = finite.get-empty offer_cmp key
 stands limit (event ∷ earlier) key fits =
     let before = not_before event.at event.shown (without_expired event.at (book_of limit earlier)) (book_of limit earlier).told_full refl fits in
     get-shown event.at event.shown (without_expired event.at (book_of limit earlier)) key fits
-    ∙ ap (changed_by event.at event.shown key) (get-unexpired offers_total exact_offers event.at (book_of limit earlier).standing key ∙ ap (unless_passed event.at) (stands limit earlier key before))
+    ∙ ap (changed_by event.at event.shown key) (get-retain offers_total exact_offers (book_of limit earlier).standing (λ _ offer. not (has_expired event.at offer)) key ∙ ap (unless_expired event.at) (stands limit earlier key before))
 
 told_offer : (limit : ℕ) (events : List Event) (now : ℕ) (entry : OfferEntry) (place : Option SocketAddrV4) → (book_of limit events).told_full ≡ false
     → (after_offer now entry place (without_expired now (book_of limit events))).told_full ≡ false
@@ -124,9 +121,9 @@ told_offer limit events now entry (Some place) before fits = cases (may_hold (wi
         → (if b then record (without_expired now (book_of limit events)) { standing = finite.insert (without_expired now (book_of limit events)).standing entry.key (offered_at now entry place) }
         else record (without_expired now (book_of limit events)) { told_full = true }).told_full ≡ false
         → (if b then moved_by entry place (finite.get (without_expired now (book_of limit events)).standing entry.key) else told_when_full (book_of limit events).told_full)
-        ≡ moved_by entry place (unless_passed now (standing_in events entry.key))
+        ≡ moved_by entry place (unless_expired now (standing_in events entry.key))
     cases true still =
-        ap (moved_by entry place) (get-unexpired offers_total exact_offers now (book_of limit events).standing entry.key ∙ ap (unless_passed now) (stands limit events entry.key before))
+        ap (moved_by entry place) (get-retain offers_total exact_offers (book_of limit events).standing (λ _ offer. not (has_expired now offer)) entry.key ∙ ap (unless_expired now) (stands limit events entry.key before))
     cases false still = absurd (cc)
 
 -- and tells of an entry what these show
@@ -143,9 +140,9 @@ told limit events now entry fits = cases (entry.ttl == 0) (not_before now (Entry
 
 -- ---- that it is full is told once
 
-not_full : (entry : OfferEntry) (place : SocketAddrV4) (v : Option (Lasting Standing)) → moved_by entry place v ≢ Some Full
+not_full : (entry : OfferEntry) (place : SocketAddrV4) (v : Option Standing) → moved_by entry place v ≢ Some Full
 not_full entry place None is = cc
-not_full entry place (Some lasting) is = cases (is_renewed_by entry place lasting.value) is
+not_full entry place (Some offer) is = cases (is_renewed_by entry place offer) is
   where
     cases : (b : Bool) → (if b then None else Some Moved) ≡ Some Full → ⊥
     cases true e = cc

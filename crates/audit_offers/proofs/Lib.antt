@@ -1,5 +1,3 @@
-pub mod FirstLemmas
-pub mod EntryLemmas
 pub mod OfferLemmas
 pub mod DueLemmas
 pub mod HistoryLemmas

@@ -3,7 +3,6 @@ use Rattle.std.proofs.Common.{◌≡◌, ℕ, ◌+◌, ◌<◌, ◌≤◌, nat_l
 use Rattle.std.specs.Result.{IfOk, OnErr}
 use Rattle.std.proofs.lemmas.Bool.{ltb-true}
 use Rattle.std.specs.FinMap as finite
-use Rattle.someip_tables.specs.declared.lasting.Lasting.{Lasting}
 use Rattle.someip_tables.proofs.MapLaws.{len-remove-≤}
 use Rattle.audit_offers.specs.declared.entry.OfferEntry.{OfferEntry}
 use Rattle.audit_offers.specs.declared.entry.Standing.{Standing}
@@ -15,7 +14,7 @@ use Rattle.audit_offers.specs.OfferTables.{Offers, is_offered_by, may_hold, stop
 
 -- none stand
 pub none_within : (offers : Offers) (limit : ℕ) → offers ≡ finite.empty → finite.len offers ≤ limit
-none_within offers limit none = rw (none, finite.len-empty offer_cmp (Lasting Standing)) (omega arith)
+none_within offers limit none = rw (none, finite.len-empty offer_cmp Standing) (omega arith)
 
 -- a StopOffer makes no more
 pub stopped_within : (entry : OfferEntry) (limit : ℕ) (old new : Offers) → finite.len old ≤ limit → new ≡ stopped entry old → finite.len new ≤ limit
@@ -26,11 +25,11 @@ stopped_within entry limit old new few is = rw is (cases (is_offered_by (sender_
     cases false = few
 
 -- an Offer makes one more where there is room
-pub offered_within : {T E : Type 0} (key : OfferKey) (lasting : Lasting Standing) (limit : ℕ) (old new : Offers) (result : Result T E) → finite.len old ≤ limit → may_hold limit old key ≡ true
-    → IfOk result (λ _. new ≡ finite.insert old key lasting) → OnErr result (new ≡ old) → finite.len new ≤ limit
-offered_within key lasting limit old new (Ok told) few may after err = rw (after, finite.len-insert offers_total old key lasting) (cases (is_some (finite.get old key)) may)
+pub offered_within : {T E : Type 0} (key : OfferKey) (offer : Standing) (limit : ℕ) (old new : Offers) (result : Result T E) → finite.len old ≤ limit → may_hold limit old key ≡ true
+    → IfOk result (λ _. new ≡ finite.insert old key offer) → OnErr result (new ≡ old) → finite.len new ≤ limit
+offered_within key offer limit old new (Ok told) few may after err = rw (after, finite.len-insert offers_total old key offer) (cases (is_some (finite.get old key)) may)
   where
     cases : (b : Bool) → (b || nat_lt (finite.len old) limit) ≡ true → cond b (finite.len old) (finite.len old + 1) ≤ limit
     cases true m = few
     cases false m = let below : finite.len old < limit = ltb-true (finite.len old) limit m in omega (arith, below)
-offered_within key lasting limit old new (Err e) few may after err = rw err few
+offered_within key offer limit old new (Err e) few may after err = rw err few

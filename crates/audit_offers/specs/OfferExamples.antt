@@ -3,7 +3,9 @@ use Rattle.std.specs.Prelude.{ℕ, [], ◌∷◌, None, Some}
 use Rattle.std.specs.declared.net.ipv4_addr.Ipv4Addr.{Ipv4Addr}
 use Rattle.std.specs.declared.net.socket_addr.SocketAddrV4.{SocketAddrV4}
 use Rattle.audit_offers.specs.declared.entry.OfferEntry.{OfferEntry}
-use Rattle.audit_offers.specs.declared.entry.Origin.{Origin}
+use Rattle.someip_tables.specs.declared.deadline.Deadline.TheVariants.{At}
+use Rattle.audit_tables.specs.declared.origin.Origin.{Origin}
+use Rattle.audit_offers.specs.declared.entry.Standing.{Standing}
 use Rattle.audit_offers.specs.declared.key.OfferKey.{OfferKey}
 use Rattle.audit_offers.specs.OfferHistories.{Event, Entry, BeganAgain}
 
@@ -37,6 +39,10 @@ offer_nowhere k n ttl = record { key = service 4096; endpoint = None; ttl = ttl;
 -- datagram k: a node offers it no more
 abbrev pub stop : ℕ → ℕ → OfferEntry
 stop k n = record { key = service 4096; endpoint = None; ttl = 0; origin = from_node k n }
+
+-- an offer that stands until a moment
+abbrev pub standing_at : SocketAddrV4 → Origin → ℕ → Standing
+standing_at place origin at = record { endpoint = place; origin = origin; until = At at }
 
 -- an entry comes at a moment
 abbrev pub comes : ℕ → OfferEntry → Event

@@ -1,29 +1,29 @@
 -- The offers that stand.
-use Rattle.std.specs.Prelude.{ℕ, ◌==◌, nat_le, nat_lt, Bool, true, false, not, ◌||◌, if◌then◌else◌, List, [], ◌∷◌, map, Option, None, Some, is_some, refl}
+use Rattle.std.specs.Prelude.{◌≡◌, ℕ, ◌==◌, ◌≤◌, nat_lt, Bool, true, false, not, ◌||◌, if◌then◌else◌, Option, None, Some, is_some, refl}
 use Rattle.std.specs.Coded.{Coded, code_by, coded×, coded_ℕ, coded_bool}
 use Rattle.std.specs.FinMap as finite
 use Rattle.std.specs.FinMap.{FinMap}
 use Rattle.std.specs.declared.net.ipv4_addr.Ipv4Addr.{Ipv4Addr}
 use Rattle.std.specs.declared.net.socket_addr.SocketAddrV4.{SocketAddrV4}
-use Rattle.someip_tables.specs.declared.lasting.Lasting.{Lasting}
-use Rattle.someip_tables.specs.Deadlines.{millis_of}
+use Rattle.someip_tables.specs.declared.deadline.Deadline.{Deadline}
+use Rattle.someip_tables.specs.Deadlines.{coded_deadline}
 use Rattle.someip_tables.specs.Endpoints.{coded_endpoint}
-use Rattle.someip_tables.specs.Lastings.{coded_lasting, expired, unexpired}
 use Rattle.someip_tables.specs.Retained.{retain}
-use Rattle.someip_tables.specs.Waits.{earlier}
+use Rattle.audit_tables.specs.Dues.{IsFirstDue}
 use Rattle.audit_offers.specs.declared.entry.OfferEntry.{OfferEntry}
-use Rattle.audit_offers.specs.declared.entry.Origin.{Origin}
+use Rattle.audit_tables.specs.declared.origin.Origin.{Origin}
+use Rattle.audit_tables.specs.Origins.{coded_origin}
 use Rattle.audit_offers.specs.declared.entry.Standing.{Standing}
 use Rattle.audit_offers.specs.declared.finding.Expired.{Expired}
 use Rattle.audit_offers.specs.declared.finding.Finding.{Finding}
 use Rattle.audit_offers.specs.declared.finding.Finding.TheVariants.{Full}
 use Rattle.audit_offers.specs.declared.key.OfferKey.{OfferKey}
 use Rattle.audit_offers.specs.OfferKeys.{offer_cmp, coded_key}
-use Rattle.audit_offers.specs.OfferRules.{is_of, moved_by, offered_at, sender_of}
+use Rattle.audit_offers.specs.OfferRules.{has_expired, is_of, moved_by, offered_at, passes_at, sender_of}
 
 -- the offers that stand, and until when each does
 abbrev pub Offers : Type 0
-Offers = FinMap offer_cmp (Lasting Standing)
+Offers = FinMap offer_cmp Standing
 
 -- what a book holds, how many offers it may hold, and whether it told that it is full
 pub record OfferTable : Type 0 where
@@ -61,9 +61,9 @@ after_offer now entry (Some endpoint) book =
     else record book { told_full = true }
 
 -- the offer under a key is of a sender
-abbrev pub is_offered_by : Ipv4Addr → Option (Lasting Standing) → Bool
+abbrev pub is_offered_by : Ipv4Addr → Option Standing → Bool
 is_offered_by sender None = false
-is_offered_by sender (Some lasting) = is_of sender lasting.value
+is_offered_by sender (Some offer) = is_of sender offer
 
 -- the offers once a StopOffer came: it ends the offer of its sender
 abbrev pub stopped : OfferEntry → Offers → Offers
@@ -79,56 +79,29 @@ after_entry now entry book =
 
 -- the book once a sender began again: its offers end
 abbrev pub without_sender : Ipv4Addr → OfferTable → OfferTable
-without_sender sender book = record book { standing = retain book.standing (λ _ lasting. not (is_of sender lasting.value)) }
+without_sender sender book = record book { standing = retain book.standing (λ _ offer. not (is_of sender offer)) }
 
 -- ---- what falls due
 
--- the first deadline of these offers, if one passes
-abbrev pub first_among : List (OfferKey × Lasting Standing) → Option ℕ
-first_among [] = None
-first_among (offer ∷ others) = earlier (millis_of offer.1.until) (first_among others)
+-- what is told of the offers once a moment came: the first to expire, by deadline and then by key, if it has; else none has
+abbrev pub FallsDue : ℕ → Offers → Option Expired → Type 0
+FallsDue now offers None = (key : OfferKey) (offer : Standing) → finite.get offers key ≡ Some offer → has_expired now offer ≡ false
+FallsDue now offers (Some told) =
+    IsFirstDue passes_at offers (Some (record { at = told.at; key = told.key })) × (finite.get offers told.key ≡ Some told.offer) × (told.at ≤ now)
 
-abbrev pub first_deadline : Offers → Option ℕ
-first_deadline offers = first_among (finite.entries offers)
-
--- the first deadline, if it has passed
-abbrev pub first_passed : ℕ → Option ℕ → Option ℕ
-first_passed now None = None
-first_passed now (Some at) = if nat_le at now then Some at else None
-
--- what is told of an offer that expires
-abbrev pub expires : ℕ → OfferKey × Lasting Standing → Expired
-expires at offer = record { at = at; key = offer.0; offer = offer.1.value }
-
--- what is told once a deadline passed, if one did: the offers that it was of, by rising key
-abbrev pub told_at : Option ℕ → Offers → List Expired
-told_at None offers = []
-told_at (Some at) offers = map (expires at) (finite.entries (expired at offers))
-
--- and what stands then
-abbrev pub left_at : Option ℕ → Offers → Offers
-left_at None offers = offers
-left_at (Some at) offers = unexpired at offers
-
--- what falls due first, if it has: the offers of the first deadline
-abbrev pub told_due : ℕ → Offers → List Expired
-told_due now offers = told_at (first_passed now (first_deadline offers)) offers
-
--- the book without these
-abbrev pub after_due : ℕ → OfferTable → OfferTable
-after_due now book = record book { standing = left_at (first_passed now (first_deadline book.standing)) book.standing }
+-- the book once it was told: it stands no more
+abbrev pub after_due : Option Expired → OfferTable → OfferTable
+after_due None book = book
+after_due (Some told) book = record book { standing = finite.remove book.standing told.key }
 
 -- ---- codes, by which a proof tells values apart
 
-abbrev pub coded_origin : Coded Origin
-coded_origin =
-    code_by (ℕ × (SocketAddrV4 × SocketAddrV4)) (coded× coded_ℕ (coded× coded_endpoint coded_endpoint)) (λ o. (o.datagram, (o.from, o.to)))
-    (λ c. record { datagram = c.0; from = c.1.0; to = c.1.1 }) (λ _. refl)
-
 abbrev pub coded_standing : Coded Standing
-coded_standing = code_by (SocketAddrV4 × Origin) (coded× coded_endpoint coded_origin) (λ s. (s.endpoint, s.origin)) (λ c. record { endpoint = c.0; origin = c.1 }) (λ _. refl)
+coded_standing =
+    code_by (SocketAddrV4 × (Origin × Deadline)) (coded× coded_endpoint (coded× coded_origin coded_deadline)) (λ s. (s.endpoint, (s.origin, s.until)))
+    (λ c. record { endpoint = c.0; origin = c.1.0; until = c.1.1 }) (λ _. refl)
 
 abbrev pub coded_offers : Coded OfferTable
 coded_offers =
-    code_by (ℕ × (Offers × Bool)) (coded× coded_ℕ (coded× (finite.code coded_key (coded_lasting coded_standing)) coded_bool))
+    code_by (ℕ × (Offers × Bool)) (coded× coded_ℕ (coded× (finite.code coded_key coded_standing) coded_bool))
     (λ b. (b.limit, (b.standing, b.told_full))) (λ c. record { limit = c.0; standing = c.1.0; told_full = c.1.1 }) (λ _. refl)

@@ -1,17 +1,8 @@
 //! An Offer or a StopOffer of a recording, and what stands by it.
 use crate::key::OfferKey;
+use audit_tables::Origin;
+use someip_tables::{Deadline, Waits};
 use std::net::SocketAddrV4;
-
-/// The datagram of a recording that something came in.
-#[derive(Clone, Copy, Debug, PartialEq, Eq)]
-pub struct Origin {
-    /// Its number in the recording.
-    pub datagram: u64,
-    /// The endpoint that it was sent from; its address is the sender.
-    pub from: SocketAddrV4,
-    /// The endpoint that it was sent to.
-    pub to: SocketAddrV4,
-}
 
 /// An Offer, or a StopOffer, whose TTL is 0 (SOME/IP Service Discovery Protocol, "Offer Service entry",
 /// "Stop Offer Service entry").
@@ -35,4 +26,20 @@ pub struct Standing {
     pub endpoint: SocketAddrV4,
     /// The datagram of the newest Offer, from which its TTL counts.
     pub origin: Origin,
+    /// Until when it stands.
+    pub until: Deadline,
+}
+
+/// An offer waits for the moment at which its TTL has passed.
+impl Waits for Standing {
+    ghost use Rattle.audit_offers.specs.OfferRules.{passes_at};
+
+    ghost moment = { passes_at };
+
+    fn waits_for(&self) -> Option<u64> {
+        match self.until {
+            Deadline::At(at) => Some(at),
+            Deadline::Never => None,
+        }
+    }
 }

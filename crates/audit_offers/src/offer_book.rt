@@ -1,22 +1,22 @@
 //! The offers of a recording that stand.
-ghost use Rattle.std.specs.Prelude.{◌≡◌, ◌≤◌, IfOk, OnErr, map, not, is_some, true, false};
-ghost use Rattle.std.specs.Option.{option_copied};
+ghost use Rattle.std.specs.Prelude.{◌≡◌, ◌≢◌, ◌≤◌, IfOk, OnErr, not, true, false};
 ghost use Rattle.std.specs.FinMap as finite;
 ghost use Rattle.std.specs.Net.Socket.{v4_ip};
-ghost use Rattle.someip_tables.specs.Deadlines.{deadline_after};
-ghost use Rattle.someip_tables.specs.Lastings.{NeedsMemory, expired};
+ghost use Rattle.someip_tables.specs.Deadlines.{deadline_after, millis_of};
 ghost use Rattle.someip_tables.specs.Retained.{retain};
 ghost use Rattle.someip_tables.specs.Tables.{map_of};
+ghost use Rattle.someip_tables.specs.Waits.{HoldsFrom, due_by};
+ghost use Rattle.audit_tables.specs.Dues.{WantsMemory};
 ghost use Rattle.audit_offers.specs.OfferKeys.{offer_cmp};
-ghost use Rattle.audit_offers.specs.OfferRules.{is_of, is_renewed_by, moved_by, offered_at, sender_of};
-ghost use Rattle.audit_offers.specs.OfferTables.{after_due, after_entry, after_offer, expires, first_deadline};
-ghost use Rattle.audit_offers.specs.OfferTables.{first_passed, is_offered_by, may_hold, stopped, told_by};
-ghost use Rattle.audit_offers.specs.OfferTables.{told_due, told_of_offer, told_when_full, without_sender};
+ghost use Rattle.audit_offers.specs.OfferRules.{is_of, moved_by, offered_at, passes_at};
+ghost use Rattle.audit_offers.specs.OfferTables.{FallsDue, after_due, after_entry, is_offered_by, may_hold};
+ghost use Rattle.audit_offers.specs.OfferTables.{stopped, told_by, told_when_full, without_sender};
 
 use crate::entry::{OfferEntry, Standing};
 use crate::finding::{Expired, Finding};
 use crate::key::OfferKey;
-use someip_tables::{Deadline, DeadlineMap, Lasting, Moment, is_same_key};
+use audit_tables::DueTable;
+use someip_tables::{Deadline, Moment, is_same_key};
 use std::alloc::{AllocError, Global};
 use std::marker::Model;
 use std::net::{Ipv4Addr, SocketAddrV4};
@@ -25,7 +25,7 @@ use std::net::{Ipv4Addr, SocketAddrV4};
 #[derive(Drop)]
 pub struct OfferBook {
     limit: usize,
-    standing: DeadlineMap<OfferKey, Standing>,
+    standing: DueTable<OfferKey, Standing>,
     told_full: bool,
 }
 
@@ -56,7 +56,7 @@ impl OfferBook {
     {
         OfferBook {
             limit,
-            standing: DeadlineMap::new(alloc),
+            standing: DueTable::new(alloc),
             told_full: false,
         }
     }
@@ -72,7 +72,8 @@ impl OfferBook {
         ensures after { IfOk result (λ told. self.new ≡ after_entry now entry self.old) }
         ensures err { OnErr result (self.new ≡ self.old) }
         ensures grows { OnErr result
-            (NeedsMemory (finite.get self.old.standing entry.key) (deadline_after now entry.ttl)) }
+            (WantsMemory passes_at (finite.get self.old.standing entry.key)
+            (millis_of (deadline_after now entry.ttl))) }
     {
         if entry.ttl == 0 {
             stop(&mut self.standing, &entry);
@@ -94,29 +95,29 @@ impl OfferBook {
         forget(&mut self.standing, sender);
     }
 
-    /// What falls due first, if it has: the offers of the first deadline, by rising key. They stand no
-    /// more then. The caller asks until nothing is left.
-    pub fn due(&mut self, alloc: Global, now: Moment) -> Result<Vec<Expired>, AllocError>
-        ensures told { IfOk result (λ told. told.items ≡ told_due now self.old.standing) }
-        ensures after { IfOk result (λ told. self.new ≡ after_due now self.old) }
-        ensures err { OnErr result (self.new ≡ self.old) }
-        ensures grows { OnErr result
-            (is_some (first_passed now (first_deadline self.old.standing)) ≡ true) }
+    /// The offer that expires first, by deadline and then by key, if its deadline has come. It stands no
+    /// more then. Whoever goes over a recording asks until nothing is left, with the moment of each
+    /// datagram and before it. It takes no memory.
+    pub fn due(&mut self, now: Moment) -> Option<Expired>
+        ensures told { FallsDue now self.old.standing result }
+        ensures after { self.new ≡ after_due result self.old }
     {
-        let Some(at) = first_passed(&self.standing, now) else {
-            return Ok(Vec::new(alloc));
-        };
-        let told = expired_at(&self.standing, alloc, at)?;
-        self.standing.drop_expired(at);
-        Ok(told)
+        let told = first_expired(&self.standing, now);
+        if let Some(expired) = told {
+            self.standing.remove(&expired.key);
+        }
+        told
     }
 
-    /// The first deadline of an offer, in milliseconds, if one passes: at that moment
-    /// [`OfferBook::due`] tells it.
+    /// When [`OfferBook::due`] next tells an offer, in milliseconds: the first deadline, if one passes.
     pub fn next_due(&self) -> Option<u64>
-        ensures { result ≡ first_deadline self.now.standing }
+        ensures { HoldsFrom result
+            (λ now. due_by passes_at now self.now.standing ≢ finite.empty) }
     {
-        first_deadline(&self.standing)
+        match self.standing.first_due() {
+            Some(due) => Some(due.at),
+            None => None,
+        }
     }
 
     /// How many offers stand: no more than the book's limit.
@@ -129,7 +130,7 @@ impl OfferBook {
 }
 
 /// Whether an offer of this key may be held: one is, or they are fewer than the limit.
-fn may_hold(offers: &DeadlineMap<OfferKey, Standing>, limit: usize, key: OfferKey) -> bool
+fn may_hold(offers: &DueTable<OfferKey, Standing>, limit: usize, key: OfferKey) -> bool
     ensures { result ≡ may_hold limit (map_of offer_cmp offers.now) key }
 {
     offers.get(&key).is_some() || offers.len() < limit
@@ -149,7 +150,7 @@ fn tell_full(told_full: &mut bool) -> Option<Finding>
 
 /// An Offer stands in place of what stood under its key.
 fn offer(
-    offers: &mut DeadlineMap<OfferKey, Standing>,
+    offers: &mut DueTable<OfferKey, Standing>,
     now: Moment,
     entry: &OfferEntry,
     endpoint: SocketAddrV4,
@@ -159,15 +160,17 @@ fn offer(
     ensures after { IfOk result (λ told. map_of offer_cmp offers.new
         ≡ finite.insert (map_of offer_cmp offers.old) entry.now.key (offered_at now entry.now endpoint)) }
     ensures err { OnErr result (offers.new ≡ offers.old) }
-    ensures grows { OnErr result (NeedsMemory (finite.get (map_of offer_cmp offers.old) entry.now.key)
-        (deadline_after now entry.now.ttl)) }
+    ensures grows { OnErr result (WantsMemory passes_at
+        (finite.get (map_of offer_cmp offers.old) entry.now.key)
+        (millis_of (deadline_after now entry.now.ttl))) }
 {
     let told = moved_by(entry, endpoint, offers.get(&entry.key));
     let standing = Standing {
         endpoint,
         origin: entry.origin,
+        until: Deadline::after_ttl(now, entry.ttl),
     };
-    offers.insert(entry.key, standing, Deadline::after_ttl(now, entry.ttl))?;
+    offers.insert(entry.key, standing)?;
     Ok(told)
 }
 
@@ -175,11 +178,11 @@ fn offer(
 fn moved_by(
     entry: &OfferEntry,
     endpoint: SocketAddrV4,
-    standing: Option<&Lasting<Standing>>,
+    standing: Option<Standing>,
 ) -> Option<Finding>
-    ensures { result ≡ moved_by entry.now endpoint (option_copied standing.entry) }
+    ensures { result ≡ moved_by entry.now endpoint standing }
 {
-    let offer = standing?.value;
+    let offer = standing?;
     if is_of(&offer, *entry.origin.from.ip()) && is_same_key(&offer.endpoint, &endpoint) {
         None
     } else {
@@ -188,7 +191,7 @@ fn moved_by(
 }
 
 /// A StopOffer ends the offer under its key, if this is of its sender.
-fn stop(offers: &mut DeadlineMap<OfferKey, Standing>, entry: &OfferEntry)
+fn stop(offers: &mut DueTable<OfferKey, Standing>, entry: &OfferEntry)
     ensures { map_of offer_cmp offers.new ≡ stopped entry.now (map_of offer_cmp offers.old) }
 {
     if is_offered_by(offers.get(&entry.key), *entry.origin.from.ip()) {
@@ -197,11 +200,11 @@ fn stop(offers: &mut DeadlineMap<OfferKey, Standing>, entry: &OfferEntry)
 }
 
 /// Whether there is an offer, and it is of a sender.
-fn is_offered_by(standing: Option<&Lasting<Standing>>, sender: Ipv4Addr) -> bool
-    ensures { result ≡ is_offered_by sender (option_copied standing.entry) }
+fn is_offered_by(standing: Option<Standing>, sender: Ipv4Addr) -> bool
+    ensures { result ≡ is_offered_by sender standing }
 {
     match standing {
-        Some(lasting) => is_of(&lasting.value, sender),
+        Some(offer) => is_of(&offer, sender),
         None => false,
     }
 }
@@ -214,49 +217,29 @@ fn is_of(offer: &Standing, sender: Ipv4Addr) -> bool
 }
 
 /// Ends the offers of a sender.
-fn forget(offers: &mut DeadlineMap<OfferKey, Standing>, sender: Ipv4Addr)
+fn forget(offers: &mut DueTable<OfferKey, Standing>, sender: Ipv4Addr)
     ensures { map_of offer_cmp offers.new
-        ≡ retain (map_of offer_cmp offers.old) (λ _ lasting. not (is_of sender lasting.value)) }
+        ≡ retain (map_of offer_cmp offers.old) (λ _ offer. not (is_of sender offer)) }
 {
-    offers.retain(|_, lasting| !is_of(&lasting.value, sender));
+    offers.retain(|_, offer| !is_of(offer, sender));
 }
 
-/// The first deadline of these offers, if one passes.
-fn first_deadline(offers: &DeadlineMap<OfferKey, Standing>) -> Option<u64>
-    ensures { result ≡ first_deadline (map_of offer_cmp offers.now) }
+/// The offer that expires first, if its deadline has come.
+fn first_expired(offers: &DueTable<OfferKey, Standing>, now: Moment) -> Option<Expired>
+    ensures { FallsDue now (map_of offer_cmp offers.now) result }
 {
-    offers.first_deadline()
-}
-
-/// The first deadline of these offers, if it has passed.
-fn first_passed(offers: &DeadlineMap<OfferKey, Standing>, now: Moment) -> Option<Moment>
-    ensures { result ≡ first_passed now (first_deadline (map_of offer_cmp offers.now)) }
-{
-    match first_deadline(offers) {
-        Some(at) if at <= now.as_millis() => Moment::new(at),
-        _ => None,
+    let Some(due) = offers.first_due() else {
+        return None;
+    };
+    if now.as_millis() < due.at {
+        return None;
     }
-}
-
-/// The offers whose deadline has passed at a moment, by rising key. It looks at these alone.
-fn expired_at(
-    offers: &DeadlineMap<OfferKey, Standing>,
-    alloc: Global,
-    at: Moment,
-) -> Result<Vec<Expired>, AllocError>
-    ensures { IfOk result (λ told. told.items
-        ≡ map (expires at) (finite.entries (expired at (map_of offer_cmp offers.now)))) }
-{
-    let keys = offers.expired_keys(alloc, at)?;
-    let mut told = Vec::new(alloc);
-    for key in keys.iter() {
-        if let Some(lasting) = offers.get(key) {
-            told.push(Expired {
-                at: at.as_millis(),
-                key: *key,
-                offer: lasting.value,
-            })?;
-        }
+    match offers.get(&due.key) {
+        Some(offer) => Some(Expired {
+            at: due.at,
+            key: due.key,
+            offer,
+        }),
+        None => None,
     }
-    Ok(told)
 }

@@ -8,5 +8,5 @@ use Rattle.audit_offers.proofs.offer_book.OfferBook.forget.Goals as goal
 
 pub invariant_of-self : goal.invariant_of-self
 invariant_of-self c =
-    let less = len-retain-≤ offers_total exact_offers (map_of offer_cmp c.self.inside.standing) (λ _ lasting. not (is_of c.args.sender lasting.value)) in
+    let less = len-retain-≤ offers_total exact_offers (map_of offer_cmp c.self.inside.standing) (λ _ offer. not (is_of c.args.sender offer)) in
     rw c.forget.ensures (omega (arith, less, c.self.invariant))
