@@ -1,0 +1,5 @@
+pub mod ExcerptLemmas
+pub mod BookLemmas
+pub mod OverdueLemmas
+pub mod HistoryLemmas
+pub mod FindingLemmas

@@ -1,0 +1,12 @@
+pub mod AuditedCalls
+pub mod CallOrder
+pub mod Excerpts
+pub mod KnownCalls
+pub mod Tapped
+pub mod CallBooks
+pub mod CallCodes
+pub mod Overdue
+pub mod CallHistory
+pub mod BookHistory
+pub mod CallFindings
+pub mod Scenes

@@ -1,0 +1,213 @@
+//! What a message makes of the calls that are known, and which of them are due.
+ghost use Rattle.std.specs.Prelude.{◌≡◌, ◌≢◌, ◌≤◌, ◌<◌, ◌+◌, true, false, nat_lt, ◌||◌, is_some};
+ghost use Rattle.std.specs.Prelude.{if◌then◌else◌, Some, None, IfOk, IfSome, IfNone, OnErr, OnOk, ℕ};
+ghost use Rattle.std.specs.FinMap as finite;
+ghost use Rattle.std.specs.Option.{option_and_then};
+ghost use Rattle.std.specs.Ordering.{is_le};
+ghost use Rattle.someip_tables.specs.Tables.{map_of};
+ghost use Rattle.audit_tables.specs.Dues.{IsFirstDue};
+ghost use Rattle.audit_calls.specs.AuditedCalls.{call_cmp};
+ghost use Rattle.audit_calls.specs.KnownCalls.{waits_of, told_of_request, known_by_request};
+ghost use Rattle.audit_calls.specs.KnownCalls.{told_of_answer, known_by_answer};
+ghost use Rattle.audit_calls.specs.CallBooks.{Book, has_room, known, may_be_asked, with_known};
+ghost use Rattle.audit_calls.specs.Overdue.{IsOpenCall, told_cmp, calls_after_due};
+ghost use Rattle.audit_calls.specs.declared.call.AuditedCall.{AuditedCall};
+ghost use Rattle.audit_calls.specs.declared.finding.Unanswered.{Unanswered};
+ghost use Rattle.audit_calls.specs.declared.finding.CallFinding.TheVariants.{Full};
+ghost use Rattle.audit_calls.specs.declared.known.OpenCall.{OpenCall};
+
+use crate::call::AuditedCall;
+use crate::finding::{CallFinding, CallRules, Unanswered};
+use crate::known::{Known, OpenCall, known_at};
+use audit_tables::{Due, DueTable};
+use someip_tables::Moment;
+use std::alloc::AllocError;
+
+/// What is known of calls.
+pub(crate) type Calls = DueTable<AuditedCall, Known>;
+
+/// Takes note of a REQUEST that would open its call so, and says what it shows.
+pub(crate) fn on_request(
+    calls: &mut Calls,
+    rules: &CallRules,
+    full: &mut bool,
+    call: AuditedCall,
+    opened: OpenCall,
+) -> Result<Option<CallFinding>, AllocError>
+    ensures told { IfOk result (λ finding. finding
+        ≡ (if has_room rules.now.limit (map_of call_cmp calls.old) call
+        then told_of_request call.session opened (known opened.since (map_of call_cmp calls.old) call)
+        else if full.old then None else Some Full)) }
+    ensures after { OnOk result (map_of call_cmp calls.new
+        ≡ (if has_room rules.now.limit (map_of call_cmp calls.old) call
+        then finite.insert (map_of call_cmp calls.old) call
+        (known_by_request opened (known opened.since (map_of call_cmp calls.old) call))
+        else map_of call_cmp calls.old)) }
+    ensures full { full.new ≡ (if has_room rules.now.limit (map_of call_cmp calls.old) call
+        then full.old else true) }
+    ensures room { OnErr result (has_room rules.now.limit (map_of call_cmp calls.old) call ≡ true) }
+    ensures grows { OnErr result (finite.insert (map_of call_cmp calls.old) call
+        (known_by_request opened (known opened.since (map_of call_cmp calls.old) call))
+        ≢ map_of call_cmp calls.old) }
+    ensures unchanged { OnErr result (calls.new ≡ calls.old) }
+{
+    let held = calls.get(&call);
+    if !has_room(held, calls.len(), rules.limit) {
+        let told = if *full { None } else { Some(CallFinding::Full) };
+        *full = true;
+        return Ok(told);
+    }
+    let before = known_at(opened.since, held);
+    let (told, known) = judge_request(before, call.session, opened);
+    calls.insert(call, known)?;
+    Ok(told)
+}
+
+/// Whether there is room for a call among so many: it is held, or they are fewer than the limit.
+fn has_room(held: Option<Known>, calls: usize, limit: usize) -> bool
+    ensures { result ≡ is_some held || nat_lt calls limit }
+{
+    held.is_some() || calls < limit
+}
+
+/// What is told of a REQUEST, by what is known of its call, and what is known of it then.
+fn judge_request(
+    known: Option<Known>,
+    session: u16,
+    opened: OpenCall,
+) -> (Option<CallFinding>, Known)
+    ensures told { result.0 ≡ told_of_request session opened known }
+    ensures known { result.1 ≡ known_by_request opened known }
+{
+    match known {
+        Some(Known::Open(call)) if call.excerpt == opened.excerpt => (None, Known::Open(call)),
+        Some(Known::Open(_)) if session != 0 => {
+            (Some(CallFinding::KeyReused), Known::Open(opened))
+        }
+        _ => (None, Known::Open(opened)),
+    }
+}
+
+/// Takes note of an answer to a call, and says what it shows.
+pub(crate) fn on_answer(
+    calls: &mut Calls,
+    rules: &CallRules,
+    full: bool,
+    call: AuditedCall,
+    now: Moment,
+) -> Result<Option<CallFinding>, AllocError>
+    ensures told { IfOk result (λ finding. finding ≡ told_of_answer
+        (may_be_asked rules.now full now) now (known now (map_of call_cmp calls.old) call)) }
+    ensures after { OnOk result (map_of call_cmp calls.new ≡ with_known call
+        (known_by_answer (now + rules.now.answer_ms) (known now (map_of call_cmp calls.old) call))
+        (map_of call_cmp calls.old)) }
+    ensures grows { OnErr result (with_known call
+        (known_by_answer (now + rules.now.answer_ms) (known now (map_of call_cmp calls.old) call))
+        (map_of call_cmp calls.old) ≢ map_of call_cmp calls.old) }
+    ensures unchanged { OnErr result (calls.new ≡ calls.old) }
+{
+    let held = calls.get(&call);
+    let before = known_at(now.as_millis(), held);
+    let told = told_of_answer(before, may_be_asked(rules, full, now), now);
+    if let Some(known) = known_by_answer(before, rules, now) {
+        calls.insert(call, known)?;
+    }
+    Ok(told)
+}
+
+/// What is told of an answer, by what is known of its call.
+fn told_of_answer(known: Option<Known>, may_be_asked: bool, now: Moment) -> Option<CallFinding>
+    ensures { result ≡ told_of_answer may_be_asked now known }
+{
+    match known {
+        None if may_be_asked => None,
+        None => Some(CallFinding::Unasked),
+        Some(Known::Open(_)) => None,
+        Some(Known::Overdue(since)) => Some(CallFinding::Late(
+            now.as_millis().saturating_sub(since),
+        )),
+        Some(Known::Answered(_)) => Some(CallFinding::Repeated),
+    }
+}
+
+/// What is known of its call then.
+fn known_by_answer(known: Option<Known>, rules: &CallRules, now: Moment) -> Option<Known>
+    ensures { result ≡ known_by_answer (now + rules.now.answer_ms) known }
+{
+    match known? {
+        Known::Open(_) | Known::Overdue(_) => Some(Known::Answered(
+            now.as_millis() + u64::from(rules.answer_ms),
+        )),
+        Known::Answered(until) => Some(Known::Answered(until)),
+    }
+}
+
+/// Whether a call of which nothing is known may have been asked: before the recording began, or with no
+/// room for it.
+fn may_be_asked(rules: &CallRules, full: bool, now: Moment) -> bool
+    ensures { result ≡ may_be_asked rules.now full now }
+{
+    now.as_millis() < rules.begins.as_millis() + u64::from(rules.answer_ms) || full
+}
+
+/// The open call whose deadline comes first, if it has come.
+pub(crate) fn next_overdue(calls: &mut Calls, now: Moment) -> Option<Unanswered>
+    ensures open { IfSome result (λ told. IsOpenCall (map_of call_cmp calls.old) told) }
+    ensures passed { IfSome result (λ told. told.until ≤ now) }
+    ensures first { IfSome result (λ told. (other : Unanswered)
+        → IsOpenCall (map_of call_cmp calls.old) other → is_le (told_cmp told other) ≡ true) }
+    ensures none { IfNone result ((other : Unanswered)
+        → IsOpenCall (map_of call_cmp calls.old) other → now < other.until) }
+    ensures after { map_of call_cmp calls.new
+        ≡ calls_after_due now result (map_of call_cmp calls.old) }
+    ensures no_more { finite.len (map_of call_cmp calls.new)
+        ≤ finite.len (map_of call_cmp calls.old) }
+{
+    while let Some(due) = first_due_by(calls, now) {
+        match open_call(calls, &due.key) {
+            Some(call) => {
+                let _ = calls.insert(due.key, Known::Overdue(call.since));
+                return Some(Unanswered {
+                    call: due.key,
+                    k: call.k,
+                    since: call.since,
+                    until: call.until,
+                });
+            }
+            None => calls.remove(&due.key),
+        }
+    }
+    None
+}
+
+/// A call, if it is open.
+fn open_call(calls: &Calls, call: &AuditedCall) -> Option<OpenCall>
+    ensures open { IfSome result (λ open_call. finite.get (map_of call_cmp calls.now) call.now
+        ≡ Some (Known.Open open_call)) }
+    ensures none { IfNone result ((open_call : OpenCall)
+        → finite.get (map_of call_cmp calls.now) call.now ≡ Some (Known.Open open_call) → ⊥) }
+{
+    match calls.get(call) {
+        Some(Known::Open(call)) => Some(call),
+        _ => None,
+    }
+}
+
+/// The call whose moment comes first, if it has come.
+fn first_due_by(calls: &Calls, now: Moment) -> Option<Due<AuditedCall>>
+    ensures first { IfSome result (λ due. IsFirstDue waits_of (map_of call_cmp calls.now) (Some due)) }
+    ensures come { IfSome result (λ due. due.at ≤ now) }
+    ensures none { IfNone result ((call : AuditedCall) (at : ℕ)
+        → option_and_then waits_of (finite.get (map_of call_cmp calls.now) call) ≡ Some at → now < at) }
+{
+    match calls.first_due() {
+        Some(due) => {
+            if due.at <= now.as_millis() {
+                Some(due)
+            } else {
+                None
+            }
+        }
+        None => None,
+    }
+}

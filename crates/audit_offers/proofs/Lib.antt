@@ -1,0 +1,3 @@
+pub mod OfferLemmas
+pub mod DueLemmas
+pub mod HistoryLemmas

@@ -1,0 +1,2 @@
+pub mod WaitLemmas
+pub mod MissingLemmas

@@ -1,0 +1,4 @@
+pub mod MessageKeys
+pub mod SegmentWaits
+pub mod SegmentBooks
+pub mod Pieces

@@ -1,0 +1,4 @@
+pub mod SessionRules
+pub mod SessionBooks
+pub mod Histories
+pub mod Examples

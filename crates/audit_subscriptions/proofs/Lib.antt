@@ -1,0 +1,3 @@
+mod SubscribeLemmas
+mod DueLemmas
+mod HistoryLemmas

@@ -1,0 +1,8 @@
+use Rattle.audit_subscriptions.proofs.HistoryLemmas.{full_noted, full_stays}
+use Rattle.audit_subscriptions.proofs.laws.full_is_told_once.Goals as goal
+
+pub returns-clause-notes : goal.returns-clause-notes
+returns-clause-notes c = full_noted
+
+pub returns-clause-stays : goal.returns-clause-stays
+returns-clause-stays c = full_stays

@@ -1,0 +1,6 @@
+pub mod SubscriptionKeys
+pub mod SubscriptionOrder
+pub mod SubscribeRules
+pub mod SubscribeTables
+pub mod SubscribeHistories
+pub mod SubscribeExamples

@@ -1,0 +1,2 @@
+pub mod FirstDues
+pub mod RetainedDues

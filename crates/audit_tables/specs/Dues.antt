@@ -1,0 +1,37 @@
+-- The moments that the values of a map wait for, by moment and then by key.
+use Rattle.std.specs.Prelude.{◌≡◌, ◌≢◌, ⊤, ℕ, Bool, true, ◌&&◌, Option, None, Some}
+use Rattle.std.specs.Option.{option_and_then}
+use Rattle.std.specs.declared.cmp.Ordering.{Ordering}
+use Rattle.std.specs.Ordering.{nat_cmp, ordering_then, eq_by_cmp, is_le}
+use Rattle.std.specs.BTreeMap as tree
+use Rattle.std.specs.BTreeMap.{BTreeMap}
+use Rattle.std.specs.BTreeSet as sorted
+use Rattle.std.specs.BTreeSet.{BTreeSet}
+use Rattle.std.specs.FinMap.{FinMap, get}
+use Rattle.someip_tables.specs.Agendas.{is_awaited}
+use Rattle.audit_tables.specs.declared.due.Due.{Due}
+
+-- by moment, and then by key
+abbrev pub due_cmp : {K : Type 0} → (K → K → Ordering) → Due K → Due K → Ordering
+due_cmp R a b = ordering_then (nat_cmp a.at b.at) (R a.key b.key)
+
+-- the key whose moment comes first, by moment and then by key, or none where no value waits
+abbrev pub IsFirstDue : {K V : Type 0} {R : K → K → Ordering} → (V → Option ℕ) → FinMap R V → Option (Due K) → Type 0
+IsFirstDue {K} moment m None = (k : K) → option_and_then moment (get m k) ≡ None
+IsFirstDue {K} {R = R} moment m (Some first) =
+    (option_and_then moment (get m first.key) ≡ Some first.at)
+    × ((due : Due K) → option_and_then moment (get m due.key) ≡ Some due.at → is_le (due_cmp R first due) ≡ true)
+
+-- memory may be wanted to put a value that waits for this moment in place of what there is: for a new key, and for a moment
+-- for which it did not wait
+abbrev pub WantsMemory : {V : Type 0} → (V → Option ℕ) → Option V → Option ℕ → Type 0
+WantsMemory moment None at = ⊤
+WantsMemory moment (Some value) at = (moment value ≢ at) × (at ≢ None)
+
+-- the set holds exactly the moments of the map
+abbrev pub Tracks : {K V : Type 0} → (K → K → Ordering) → (V → Option ℕ) → BTreeSet (Due K) → BTreeMap K V → Type 0
+Tracks {K} R moment dues held = (due : Due K) → sorted.contains (due_cmp R) dues due ≡ is_awaited due.at (option_and_then moment (tree.get R held due.key))
+
+-- this is the key, at this moment
+abbrev pub is_due_of : {K : Type 0} → (K → K → Ordering) → K → Option ℕ → Due K → Bool
+is_due_of R key moment due = is_awaited due.at moment && eq_by_cmp R key due.key

@@ -1,0 +1,97 @@
+//! A map whose values wait for a moment each, or for none, with the first of them at hand.
+ghost use Rattle.std.specs.Prelude.{◌≡◌, OnOk, OnErr, None, Bool};
+ghost use Rattle.std.specs.Option.{option_copied};
+ghost use Rattle.std.specs.FinMap as finite;
+ghost use Rattle.someip_tables.specs.Retained.{retain};
+ghost use Rattle.someip_tables.specs.Tables.{map_of, AnswersPairAs};
+ghost use Rattle.audit_tables.specs.Dues.{IsFirstDue, WantsMemory};
+
+use crate::due::Due;
+use crate::tracked::{first_due, put, retain, take_out};
+use someip_tables::{Key, Waits};
+use std::alloc::{AllocError, Global};
+use std::collections::{BTreeMap, BTreeSet};
+use std::marker::Model;
+
+/// A map whose values wait for a moment each, or for none. The moments stand in order beside it, so
+/// each change and the first of them take as many steps as the map is deep.
+#[derive(Drop)]
+pub struct DueTable<K: Key, V: Waits> {
+    held: BTreeMap<K, V>,
+    dues: BTreeSet<Due<K>>,
+}
+
+impl<K: Key, V: Waits> Model for DueTable<K, V> {
+    ghost use Rattle.std.specs.Prelude.{List};
+    ghost use Rattle.audit_tables.specs.Dues.{Tracks};
+
+    ghost Value = { List (K × V) };
+
+    ghost view = { λ m. m.held.entries };
+
+    ghost invariant = { λ m. Tracks K.cmp V.moment m.dues m.held };
+}
+
+impl<K: Key, V: Waits> DueTable<K, V> {
+    /// An empty table. It takes no memory.
+    pub fn new(alloc: Global) -> DueTable<K, V>
+        ensures { map_of K.cmp result ≡ finite.empty }
+    {
+        DueTable {
+            held: BTreeMap::new(alloc),
+            dues: BTreeSet::new(alloc),
+        }
+    }
+
+    /// How many keys have a value.
+    pub fn len(&self) -> usize
+        ensures { result ≡ finite.len (map_of K.cmp self.now) }
+    {
+        self.held.len()
+    }
+
+    /// The value of a key.
+    pub fn get(&self, key: &K) -> Option<V>
+        ensures { result ≡ finite.get (map_of K.cmp self.now) key.now }
+    {
+        self.held.get(key).copied()
+    }
+
+    /// Puts a value under a key, in place of an earlier one. What is refused because memory ran out
+    /// leaves the table as it was, and memory is taken only where the key is new, or waits for a moment
+    /// for which it did not.
+    pub fn insert(&mut self, key: K, value: V) -> Result<(), AllocError>
+        ensures ok { OnOk result
+            (map_of K.cmp self.new ≡ finite.insert (map_of K.cmp self.old) key value) }
+        ensures err { OnErr result (self.new ≡ self.old) }
+        ensures grows { OnErr result (WantsMemory V.moment
+            (finite.get (map_of K.cmp self.old) key) (V.moment value)) }
+    {
+        put(&mut self.held, &mut self.dues, key, value)
+    }
+
+    /// Takes a key out. It takes no memory.
+    pub fn remove(&mut self, key: &K)
+        ensures { map_of K.cmp self.new ≡ finite.remove (map_of K.cmp self.old) key.now }
+    {
+        take_out(&mut self.held, &mut self.dues, key);
+    }
+
+    /// Keeps the entries that pass a test of key and value, which is asked once for each entry. It takes
+    /// no memory.
+    pub fn retain<F: Fn(&K, &V) -> bool + Drop>(&mut self, keep: F)
+        requires { F.IsAlwaysCallable keep }
+        ensures { (test : K → V → Bool) → AnswersPairAs F.Fn keep test
+            → map_of K.cmp self.new ≡ retain (map_of K.cmp self.old) test }
+    {
+        retain(&mut self.held, &mut self.dues, keep);
+    }
+
+    /// The key whose moment comes first, by moment and then by key, if one waits for any. It looks at
+    /// this alone.
+    pub fn first_due(&self) -> Option<Due<K>>
+        ensures { IsFirstDue V.moment (map_of K.cmp self.now) result }
+    {
+        first_due(&self.dues)
+    }
+}

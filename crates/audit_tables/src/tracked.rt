@@ -1,0 +1,163 @@
+//! An ordered map, and beside it the moments of its values in order: the set holds exactly these.
+ghost use Rattle.std.specs.Prelude.{◌≡◌, ◌≢◌, ◌+◌, true, false, if◌then◌else◌, Some, None, is_some};
+ghost use Rattle.std.specs.Prelude.{Bool, filter, IsTrue, IfSome, IfNone, OnOk, OnErr};
+ghost use Rattle.std.specs.Option.{option_and_then};
+ghost use Rattle.std.specs.BTreeMap.{get, btree_map_len, IsOrdered, IsUnchanged};
+ghost use Rattle.std.specs.BTreeSet.{contains};
+ghost use Rattle.std.specs.Ordering.{eq_by_cmp, is_gt};
+ghost use Rattle.someip_tables.specs.Retained.{retain};
+ghost use Rattle.someip_tables.specs.Tables.{map_of, AnswersPairAs};
+ghost use Rattle.audit_tables.specs.Dues.{Tracks, WantsMemory, due_cmp, is_due_of};
+ghost use Rattle.audit_tables.specs.declared.due.Due.{Due};
+
+use crate::due::Due;
+use someip_tables::{Key, Waits};
+use std::alloc::AllocError;
+use std::collections::{BTreeMap, BTreeSet};
+
+/// Puts a value in, in place of an earlier one. A new moment is added before the old one is taken out,
+/// and where the value is refused then, the new one is taken out again.
+pub(crate) fn put<K: Key, V: Waits>(
+    held: &mut BTreeMap<K, V>,
+    dues: &mut BTreeSet<Due<K>>,
+    key: K,
+    value: V,
+) -> Result<(), AllocError>
+    requires { Tracks K.cmp V.moment dues.old held.old }
+    ensures ok { OnOk result ((q : K) → get K.cmp held.new q
+        ≡ (if eq_by_cmp K.cmp key q then Some value else get K.cmp held.old q)) }
+    ensures err { OnErr result (IsUnchanged held.old held.new) }
+    ensures grows { OnErr result (WantsMemory V.moment (get K.cmp held.old key) (V.moment value)) }
+    ensures tracks { Tracks K.cmp V.moment dues.new held.new }
+{
+    let moment = value.waits_for();
+    let earlier = moment_at(held, &key);
+    if earlier == moment {
+        hold(held, key, value)?;
+        return Ok(());
+    }
+    add_due(dues, key, moment)?;
+    match hold(held, key, value) {
+        Ok(()) => {
+            take_due(dues, key, earlier);
+            Ok(())
+        }
+        Err(_) => {
+            take_due(dues, key, moment);
+            Err(AllocError)
+        }
+    }
+}
+
+/// Takes a key out, with its moment.
+pub(crate) fn take_out<K: Key, V: Waits>(
+    held: &mut BTreeMap<K, V>,
+    dues: &mut BTreeSet<Due<K>>,
+    key: &K,
+)
+    requires { Tracks K.cmp V.moment dues.old held.old }
+    ensures held { (q : K) → get K.cmp held.new q
+        ≡ (if eq_by_cmp K.cmp key.now q then None else get K.cmp held.old q) }
+    ensures tracks { Tracks K.cmp V.moment dues.new held.new }
+{
+    let earlier = moment_at(held, key);
+    held.remove(key);
+    take_due(dues, *key, earlier);
+}
+
+/// The first moment, with its key.
+pub(crate) fn first_due<K: Key>(dues: &BTreeSet<Due<K>>) -> Option<Due<K>>
+    ensures found { IfSome result (λ due. IsTrue (contains (due_cmp K.cmp) dues.now due)) }
+    ensures first { IfSome result (λ first. (due : Due K)
+        → IsTrue (contains (due_cmp K.cmp) dues.now due)
+        → is_gt (due_cmp K.cmp first due) ≡ false) }
+    ensures none { IfNone result ((due : Due K)
+        → IsTrue (contains (due_cmp K.cmp) dues.now due) → ⊥) }
+{
+    let first = dues.first()?;
+    Some(*first)
+}
+
+/// Puts a value under its key, in place of an earlier one, and leaves the moments as they are.
+fn hold<K: Key, V: Waits>(held: &mut BTreeMap<K, V>, key: K, value: V) -> Result<(), AllocError>
+    ensures ok { OnOk result ((q : K) → get K.cmp held.new q
+        ≡ (if eq_by_cmp K.cmp key q then Some value else get K.cmp held.old q)) }
+    ensures err { OnErr result (IsUnchanged held.old held.new) }
+    ensures absent { OnErr result (get K.cmp held.old key ≡ None) }
+{
+    held.insert(key, value)?;
+    Ok(())
+}
+
+/// The moment that the value of a key waits for, if it has one.
+fn moment_at<K: Key, V: Waits>(held: &BTreeMap<K, V>, key: &K) -> Option<u64>
+    ensures { result ≡ option_and_then V.moment (get K.cmp held.now key.now) }
+{
+    held.get(key)?.waits_for()
+}
+
+fn add_due<K: Key>(
+    dues: &mut BTreeSet<Due<K>>,
+    key: K,
+    moment: Option<u64>,
+) -> Result<(), AllocError>
+    ensures ok { OnOk result ((due : Due K) → contains (due_cmp K.cmp) dues.new due
+        ≡ (if is_due_of K.cmp key moment due then true
+        else contains (due_cmp K.cmp) dues.old due)) }
+    ensures err { OnErr result ((due : Due K) → contains (due_cmp K.cmp) dues.new due
+        ≡ contains (due_cmp K.cmp) dues.old due) }
+    ensures waits { OnErr result (moment ≢ None) }
+{
+    if let Some(at) = moment {
+        dues.insert(Due { at, key })?;
+    }
+    Ok(())
+}
+
+fn take_due<K: Key>(dues: &mut BTreeSet<Due<K>>, key: K, moment: Option<u64>)
+    ensures { (due : Due K) → contains (due_cmp K.cmp) dues.new due
+        ≡ (if is_due_of K.cmp key moment due then false
+        else contains (due_cmp K.cmp) dues.old due) }
+{
+    if let Some(at) = moment {
+        dues.remove(&Due { at, key });
+    }
+}
+
+/// Drops each entry that a test refuses. The test is asked once for each entry.
+pub(crate) fn retain<K: Key, V: Waits, F: Fn(&K, &V) -> bool + Drop>(
+    held: &mut BTreeMap<K, V>,
+    dues: &mut BTreeSet<Due<K>>,
+    keep: F,
+)
+    requires tracks { Tracks K.cmp V.moment dues.old held.old }
+    requires callable { F.IsAlwaysCallable keep }
+    ensures left { (p : K → V → Bool) → AnswersPairAs F.Fn keep p
+        → map_of K.cmp held.new.entries ≡ retain (map_of K.cmp held.old.entries) p }
+    ensures tracks { Tracks K.cmp V.moment dues.new held.new }
+{
+    retain_entries(held, keep);
+    retain_dues(held, dues);
+}
+
+/// Keeps the entries that a test keeps.
+fn retain_entries<K: Key, V: Waits, F: Fn(&K, &V) -> bool + Drop>(
+    held: &mut BTreeMap<K, V>,
+    keep: F,
+)
+    requires { F.IsAlwaysCallable keep }
+    ensures left { (p : K → V → Bool) → AnswersPairAs F.Fn keep p
+        → held.new.entries ≡ filter (λ e. p e.0 e.1) held.old.entries }
+    ensures no_other { (q : K) → is_some (get K.cmp held.new q) ≡ true
+        → get K.cmp held.new q ≡ get K.cmp held.old q }
+    ensures ordered { IsOrdered K.cmp held.old }
+{
+    held.retain(|key, value| keep(key, value));
+}
+
+/// Keeps the moments of the keys that the map has.
+fn retain_dues<K: Key, V: Waits>(held: &BTreeMap<K, V>, dues: &mut BTreeSet<Due<K>>)
+    ensures { dues.new.keys ≡ filter (λ due. is_some (get K.cmp held.now due.key)) dues.old.keys }
+{
+    dues.retain(|due| held.contains_key(&due.key));
+}
