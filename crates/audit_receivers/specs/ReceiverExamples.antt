@@ -8,7 +8,7 @@ use Rattle.audit_subscriptions.specs.declared.entry.EntryKind.TheVariants.{Answe
 use Rattle.audit_subscriptions.specs.declared.key.SubscriptionKey.{SubscriptionKey}
 use Rattle.audit_receivers.specs.declared.delivery.Delivery.{Delivery}
 use Rattle.audit_receivers.specs.declared.entry.ReceiverEntry.{ReceiverEntry}
-use Rattle.audit_receivers.specs.ReceiverHistories.{Event, Entry, Withdrawn, BeganAgain}
+use Rattle.audit_receivers.specs.ReceiverHistories.{Event, BeganAgain, Delivered, Entry, Withdrawn}
 
 -- 192.168.0.n
 abbrev pub node : ℕ → Ipv4Addr
@@ -48,3 +48,7 @@ withdraws at instance = record { at = at; shown = Withdrawn (record { server = n
 -- a node begins again at a moment
 abbrev pub begins_again : ℕ → ℕ → Event
 begins_again at n = record { at = at; shown = BeganAgain (node n) }
+
+-- an event goes to an endpoint at a moment
+abbrev pub goes : ℕ → Delivery → Event
+goes at delivery = record { at = at; shown = Delivered delivery }
