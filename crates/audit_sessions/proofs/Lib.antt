@@ -1,2 +1,3 @@
 pub mod PairLemmas
 mod HistoryLemmas
+mod ReasonLemmas

@@ -2,3 +2,4 @@ pub mod SessionRules
 pub mod SessionBooks
 pub mod Histories
 pub mod Examples
+pub mod Reasons

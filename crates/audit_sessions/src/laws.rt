@@ -1,13 +1,15 @@
 //! Laws of the definitions behind the contracts. Each is the contract of a function that does nothing:
 //! it says what the messages of a recording show, whatever code keeps the book.
-ghost use Rattle.std.specs.Prelude.{◌≡◌, ◌≤◌, ℕ, List, [], ◌∷◌, length, true, false, Some, None};
+ghost use Rattle.std.specs.Prelude.{◌≡◌, ◌↔◌, ◌≤◌, ℕ, List, [], ◌∷◌, length, true, false, Some, None};
 ghost use Rattle.std.specs.FinMap as finite;
 ghost use Rattle.std.specs.declared.net.ipv4_addr.Ipv4Addr.{Ipv4Addr};
+ghost use Rattle.sd_session.specs.declared.stamp.Stamp.{Stamp};
 ghost use Rattle.audit_sessions.specs.declared.finding.Finding.TheVariants.{Reboot, NotNext, Full};
 ghost use Rattle.audit_sessions.specs.SessionRules.{judged};
 ghost use Rattle.audit_sessions.specs.declared.message.SdMessage.{SdMessage};
 ghost use Rattle.audit_sessions.specs.SessionBooks.{Sessions, may_hold, sessions_after, told_by};
 ghost use Rattle.audit_sessions.specs.Histories.{last_in, sessions_of, shown_after};
+ghost use Rattle.audit_sessions.specs.Reasons.{IsLast, IsNotNext, IsReboot};
 ghost use Rattle.audit_sessions.specs.Examples.{group, node, sent, stamp};
 
 /// What a message shows, by the stamp of the last one, by example. A sender counts from 1 to FFFF with
@@ -91,4 +93,18 @@ pub fn full_is_told_once()
     ensures tells { (message : SdMessage) (book : Sessions)
         → may_hold message book.limit book.last ≡ false → book.told_full ≡ false
         → told_by message book ≡ Some Full }
+{}
+
+/// A reboot and a session that is not the next one are told exactly where their reasons in plain words
+/// hold. What the messages give as the last stamp of a sender to a destination is that of a message among
+/// them since which none came, and no other showed that the sender began again.
+pub fn each_finding_has_its_reason()
+    ensures reboot { (message : SdMessage) (messages : List SdMessage)
+        → (shown_after messages message ≡ Some Reboot) ↔ IsReboot message messages }
+    ensures not_next { (stamp expected : Stamp) (message : SdMessage) (messages : List SdMessage)
+        → (shown_after messages message ≡ Some (NotNext stamp expected))
+        ↔ IsNotNext stamp expected message messages }
+    ensures last { (sender destination : Ipv4Addr) (stamp : Stamp) (messages : List SdMessage)
+        → (last_in messages sender destination ≡ Some stamp)
+        ↔ IsLast sender destination stamp messages }
 {}

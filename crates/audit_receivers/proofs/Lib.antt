@@ -1,0 +1,4 @@
+mod FineLemmas
+pub mod SubscribedLemmas
+pub mod HistoryLemmas
+pub mod ToldLemmas

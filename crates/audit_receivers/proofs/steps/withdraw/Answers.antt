@@ -1,0 +1,5 @@
+use Rattle.audit_receivers.proofs.FineLemmas.{none_found}
+use Rattle.audit_receivers.proofs.steps.withdraw.Goals as goal
+
+pub returns-clause-fine : goal.returns-clause-fine
+returns-clause-fine c = none_found c.clear.new.self _ c.clear.ensures.len
