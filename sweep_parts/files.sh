@@ -52,7 +52,7 @@ with_little_memory() { (ulimit -v "$memory" && exec "$@"); }
 # With standard input from a pipe.
 from_pipe() { cat "$piped" | "$@"; }
 
-# With standard input from a pipe that stays open behind these bytes, for two seconds.
+# With standard input from a pipe that stays open after these bytes, for two seconds.
 waiting() { { cat "$piped" && sleep 3; } | timeout 2 "$@"; }
 
 from_folder() { "$@" <"$examples"; }

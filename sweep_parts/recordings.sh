@@ -1,4 +1,4 @@
-# recordings: small recordings, cut behind each of their bytes and with each byte changed, shown by the built program.
+# recordings: small recordings, cut after each of their bytes and with each byte changed, shown by the built program.
 #
 # Whatever bytes come, the program ends with lines of the kinds that there are and with one named fault at most, in
 # little memory. Of a recording that is cut, what is printed is a beginning of what is printed of the whole.
@@ -19,7 +19,7 @@ are_lines() {
 }
 
 # Whether the lines of standard input tell what was left out, if anything was, and one fault at most, whose place is not
-# behind $1 bytes.
+# after $1 bytes.
 is_told() {
     awk -v size="$1" '
         NR == 1 && /^recording: left out / { next }
@@ -40,17 +40,17 @@ judge_shown() {
     echo "$part: $1: got $(describe "$status" "$scratch/err" "$scratch/out")"
 }
 
-# Cuts the recording of the file $1 behind each byte.
+# Cuts the recording of the file $1 after each byte.
 cut_recording() {
     show_recording "$1"
     cp "$scratch/out" "$scratch/whole"
     for kept in $(seq 0 "$(wc -c <"$1" | tr -d ' ')"); do
         head -c "$kept" "$1" >"$scratch/input"
         show_recording "$scratch/input"
-        judge_shown "${1##*/} cut behind $kept bytes" "$scratch/input"
+        judge_shown "${1##*/} cut after $kept bytes" "$scratch/input"
         is_beginning "$scratch/out" "$scratch/whole" && continue
         findings=$((findings + 1))
-        echo "$part: ${1##*/} cut behind $kept bytes: what is printed is no beginning"
+        echo "$part: ${1##*/} cut after $kept bytes: what is printed is no beginning"
     done
 }
 
