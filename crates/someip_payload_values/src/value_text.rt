@@ -15,8 +15,8 @@ impl Display for Value {
     fn fmt<W: fmt::Write>(&self, f: &mut fmt::Formatter<W>) -> fmt::Result {
         match self {
             Value::Bool(truth) => write!(f, "{truth}"),
-            Value::Uint(number) => write!(f, "{number}"),
-            Value::Int(number) => write!(f, "{number}"),
+            Value::Uint(number) => f.write_str(itoa::Buffer::new().format(*number)),
+            Value::Int(number) => f.write_str(itoa::Buffer::new().format(*number)),
             Value::Text(text) => write_quoted(f, text.as_str()),
             Value::List(values) => write_between(f, "[", values, "]"),
             Value::Struct(values) => write_between(f, "(", values, ")"),
@@ -71,7 +71,7 @@ fn write_values<W: fmt::Write>(f: &mut fmt::Formatter<W>, values: &[Value]) -> f
     };
     first.fmt(f)?;
     for value in rest {
-        write!(f, ",")?;
+        f.write_str(",")?;
         value.fmt(f)?;
     }
     Ok(())
@@ -84,7 +84,7 @@ fn write_slots<W: fmt::Write>(f: &mut fmt::Formatter<W>, slots: &[Option<Value>]
 {
     for (i, slot) in slots.iter().enumerate() {
         if i > 0 {
-            write!(f, ",")?;
+            f.write_str(",")?;
         }
         match slot {
             None => write!(f, "-")?,

@@ -5,7 +5,7 @@ use Rattle.std.specs.Fmt.{HasWritten, IsPlainFormatter}
 use Rattle.someip_payload_values.specs.ValueText.{listed, value_text, slot_text}
 use Rattle.someip_payload_values.proofs.ValueTexts.{value_text-List, value_text-Struct, value_text-Tagged, slots_more, slots_first}
 use Rattle.someip_payload_values.proofs.value_text.+value_text.Goals as goal
-use Rattle.someip_payload_values.proofs.value_text.+value_text.Goals.{write_slots-then-i-gt0+in_ok-write, write_slots-else-i-gt0, write_slots-in-None+in_ok-write-in-None, write_slots-in-Some+in_ok-fmt-in-Some}
+use Rattle.someip_payload_values.proofs.value_text.+value_text.Goals.{write_slots-then-i-gt0+in_ok-write_str, write_slots-else-i-gt0, write_slots-in-None+in_ok-write-in-None, write_slots-in-Some+in_ok-fmt-in-Some}
 
 pub write_slots-loop-i-preserved : goal.write_slots-loop-i-preserved
 write_slots-loop-i-preserved g t c p =
@@ -17,7 +17,7 @@ write_slots-loop-i-preserved g t c p =
     ]
     in
     elim c.if-i-gt0.branch [
-      | write_slots-then-i-gt0+in_ok-write w ↦
+      | write_slots-then-i-gt0+in_ok-write_str w ↦
           let comma : HasWritten g.W.Write.write_str_gives c.loop-i.f (codes ",") c.if-i-gt0.f = search rules in
           has_written_of_eq _ _ _ _ _ (sym (slots_more c.args.slots.now c.loop-i.i c.index-slots-i.result c.loop-i-test.true c.index-slots-i.is w.if-i-gt0.true)) (has_written_append _ _ _ _ _ _ before (has_written_append _ _ _ _ _ _ comma (text comma.plain)))
       | write_slots-else-i-gt0 w ↦
