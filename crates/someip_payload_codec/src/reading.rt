@@ -284,7 +284,7 @@ fn members<'a>(
 ) -> Result<(Vec<Value>, Window<'a>), PayloadError>
     ensures { Gives (λ x. (data_of_all x.0.items, seen x.1)) result (members_at (forms shapes.now) (seen window.entry)) }
 {
-    let mut values = Vec::new(alloc);
+    let mut values = Vec::with_capacity(alloc, shapes.len())?;
     let mut window = window;
     for shape in shapes {
         let (value, rest) = value(alloc, shape, window)?;

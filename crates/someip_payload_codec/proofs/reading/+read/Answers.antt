@@ -36,7 +36,7 @@ items-returns t c =
 
 pub members-returns-in_err-value : goal.members-returns-in_err-value
 members-returns-in_err-value t c =
-    let p = err_from_is_err_and c.from_residual.result c.from_residual.ensures.1 in
+    let p = err_from_is_err_and c.from_residual-in_err-value.result c.from_residual-in_err-value.ensures.1 in
     rw (p.1, p.2) (members_fail c.in_err-value.field-0.0 (map data_of c.loop-shape.values.items) c.args.shapes.now c.loop-shape.shape-index c.shape-item.result (seen c.loop-shape.window) _ c.loop-shape-test.true c.shape-item.is c.in_err-value.ensures c.loop-shape.invariant)
 
 pub members-loop-shape-preserved : goal.members-loop-shape-preserved
