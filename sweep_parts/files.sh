@@ -52,7 +52,7 @@ with_little_memory() { (ulimit -v "$memory" && exec "$@"); }
 # With standard input from a pipe.
 from_pipe() { cat "$piped" | "$@"; }
 
-# With standard input from a pipe that stays open behind these bytes, for two seconds.
+# With standard input from a pipe that stays open after these bytes, for two seconds.
 waiting() { { cat "$piped" && sleep 3; } | timeout 2 "$@"; }
 
 from_folder() { "$@" <"$examples"; }
@@ -93,18 +93,19 @@ onto_short_file() { (trap '' XFSZ && ulimit -f 1 && exec "$@"); }
 # ---- files: what cannot be read, what cannot be written, long words and little memory
 
 # Calls the command that reads an input, $2, in the circumstances $1 on the file $3: `setup` and `schedule` are the two
-# inputs of `run`.
+# inputs of `run`, and `types` is the types file of `show`.
 read_by() {
     case $2 in
     setup) call "$1" run "$3" "$examples/runs/two.txt" ;;
     schedule) call "$1" run "$examples/runs/two.toml" "$3" ;;
+    types) call "$1" show --types "$3" "$examples/speed.txt" ;;
     *) call "$1" "$2" "$3" ;;
     esac
 }
 
 # Each command refuses, in the circumstances $1, a file that cannot be read, at the path $3. $2 says what it is.
 expect_unread() {
-    for command in show vectors setup schedule; do
+    for command in show vectors setup schedule types; do
         read_by "$1" "$command" "$3"
         expect "$command of $2" 4 "cannot read $3" /dev/null
     done
@@ -203,9 +204,11 @@ write_input() {
             line["vectors"] = "datagram -\n> 1 empty"
             line["schedule"] = "call b 1111.0001 0421 -"
             line["setup"] = "0x0421,"
+            line["types"] = line["setup"]
             if (command == "setup") print "group = \"239.0.0.1\"\nnumbers = ["
+            if (command == "types") print "[[message]]\nnumbers = ["
             for (i = 0; i < count; i++) print line[command]
-            if (command == "setup") print "]"
+            if (command == "setup" || command == "types") print "]"
         }'
 }
 
@@ -261,7 +264,7 @@ count_lines() {
     show) echo 625000 ;;
     vectors) echo 4800000 ;;
     schedule) echo 4200000 ;;
-    setup) echo 12500000 ;;
+    setup | types) echo 12500000 ;;
     esac
 }
 
@@ -274,7 +277,7 @@ expect_no_room() {
 
 # Reads inputs of 100 MB where memory has no room for the bytes, or none beside them for what they say.
 sweep_large_inputs() {
-    for command in show vectors schedule setup; do
+    for command in show vectors schedule setup types; do
         write_input "$command" "$(count_lines "$command")" >"$scratch/input"
         expect_no_room "$command" 20000
         expect_no_room "$command" 150000
@@ -285,7 +288,7 @@ sweep_large_inputs() {
 # Reads an input without an end.
 sweep_endless_inputs() {
     memory=20000
-    for command in show vectors schedule setup; do
+    for command in show vectors schedule setup types; do
         read_by with_little_memory "$command" /dev/zero
         expect "$command of endless bytes in $memory kB" 3 "out of memory" /dev/null
     done
@@ -312,7 +315,7 @@ write_recorded() {
 }
 
 # Reads recordings as they come. `header` is the one of the file, `packets` holds packets of a request.
-sweep_recordings() {
+sweep_coming_recordings() {
     head -c 24 "$examples/one.pcap" >"$scratch/header"
     tail -c +25 "$examples/one.pcap" >"$scratch/packets"
     piped=$scratch/piped
@@ -347,6 +350,6 @@ sweep_files() {
     sweep_large_inputs
     sweep_endless_inputs
     sweep_large_payload
-    sweep_recordings
+    sweep_coming_recordings
     end_part
 }

@@ -11,7 +11,7 @@ most_in_a_row=6
 kinds="wire segment-list interval-pool payloads messages sessions offers seeker subscribers subscriptions client server runs"
 kinds_of_nodes="server-node client-node"
 
-# Calls a program whose growth $1 is refused, and the ones behind it, $2 in all. Keeps the exit status, what came on
+# Calls a program whose growth $1 is refused, and the ones after it, $2 in all. Keeps the exit status, what came on
 # standard output and standard error, and how many growths there were.
 call_refused() {
     REFUSED_GROWTH=$1
@@ -31,7 +31,7 @@ is_tolerated() {
     [ "$seen" -ge "$1" ] && [ "$status" = "$3" ] && cmp -s "$scratch/out" "$2"
 }
 
-# Calls the program after the words $2 and $3 with growth $1 refused, and with so many behind it that the call differs
+# Calls the program after the words $2 and $3 with growth $1 refused, and with so many after it that the call differs
 # from one that meets no refusal, which has the text of the file $2 on standard output and the status $3.
 call_until_refused() {
     growth=$1
@@ -120,6 +120,8 @@ sweep_memory() {
         sweep_without_memory "$kind"
     done
     sweep_program show "$examples/segments.txt"
+    sweep_program show --types "$examples/types.toml" "$examples/speed.txt"
+    sweep_program recording --whole --types "$examples/types.toml" "$examples/route.pcap"
     sweep_program payload 'array/8<2,array/8<2,u8>>' 050201020103
     sweep_program vectors "$examples/vectors/two.txt"
     sweep_program run "$examples/runs/two.toml" "$examples/runs/two.txt"

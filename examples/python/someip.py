@@ -190,7 +190,6 @@ OutOfRange = _error(11, "OUT_OF_RANGE")
 UnknownKey = _error(12, "UNKNOWN_KEY")
 Clash = _error(13, "CLASH")
 NoSuchNode = _error(14, "NO_SUCH_NODE")
-BadConfig = _error(15, "BAD_CONFIG")
 BadDelay = _error(16, "BAD_DELAY")
 ClockPast = _error(17, "CLOCK_PAST")
 NotWanted = _error(18, "NOT_WANTED")
@@ -200,7 +199,6 @@ NotOffered = _error(21, "NOT_OFFERED")
 Busy = _error(22, "BUSY")
 TooLong = _error(23, "TOO_LONG")
 UnknownToken = _error(24, "UNKNOWN_TOKEN")
-NotPending = _error(25, "NOT_PENDING")
 BadErrorCode = _error(26, "BAD_ERROR_CODE")
 UnknownEvent = _error(27, "UNKNOWN_EVENT")
 NotSubscribed = _error(28, "NOT_SUBSCRIBED")
@@ -259,7 +257,11 @@ _HANDLE = ctypes.POINTER(_Handle)
 _AT = ctypes.POINTER(_Endpoint)
 _BYTES = (ctypes.c_char_p, ctypes.c_size_t)
 
+# The version of the library that this module is written for.
+VERSION = 1
+
 FUNCTIONS = {
+    "someip_version": (),
     "someip_start": (_HANDLE, *_BYTES, *_BYTES, _U32),
     "someip_restart": (_HANDLE, _U32),
     "someip_close": (_HANDLE,),
@@ -286,6 +288,9 @@ def _load():
         function = getattr(library, name)
         function.argtypes = types
         function.restype = ctypes.c_uint32
+    if library.someip_version() != VERSION:
+        raise ImportError(f"{path} has version {library.someip_version()}, "
+                          f"not {VERSION}")
     return library
 
 

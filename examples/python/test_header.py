@@ -53,6 +53,10 @@ class TestHeader(unittest.TestCase):
             names[name.upper()] = number
         self.assertEqual({"DONE": 0, **names}, self.numbers)
 
+    def test_the_version_is_that_of_the_header(self):
+        version = re.search(r"#define SOMEIP_VERSION (\d+)", self.header)[1]
+        self.assertEqual(someip.VERSION, int(version))
+
     def test_the_structs_are_those_of_the_header(self):
         for name, struct in STRUCTS.items():
             text = re.search(r"typedef struct \{([^}]*)\} %s;" % name,
@@ -62,7 +66,8 @@ class TestHeader(unittest.TestCase):
 
     def test_the_functions_are_those_of_the_header(self):
         functions = {
-            name: [declared(it)[1] for it in arguments.split(",")]
+            name: [declared(it)[1] for it in arguments.split(",")
+                   if it != "void"]
             for name, arguments in re.findall(
                 r"^uint32_t (\w+)\((.*?)\);", self.header, re.M | re.S)}
         self.assertEqual({name: [plain(it) for it in types] for name, types

@@ -50,8 +50,7 @@ same_first a b long same =
 pub tells_apart : (a b : List ℕ) → (same_excerpt (excerpt_of a) (excerpt_of b) ≡ true) ↔ ((length a ≡ length b) × (take 64 a ≡ take 64 b))
 tells_apart a b =
     let first = slice_eq-Decides Decides-eqb (take 64 (a ++ replicate 64 0)) (take 64 (b ++ replicate 64 0)) _ refl in
-    let tests = Decides-and _ _ (Decides-eqb (length a) (length b)) first in
-    (
+    let tests = Decides-and _ _ (Decides-eqb (length a) (length b)) first in (
       λ is. let both = tests.0 is in (both.0, same_first a b both.0 both.1),
       λ both. tests.1 (
         both.0,

@@ -3,3 +3,4 @@ pub mod BookLemmas
 pub mod OverdueLemmas
 pub mod HistoryLemmas
 pub mod FindingLemmas
+pub mod NumberLemmas

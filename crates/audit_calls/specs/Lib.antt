@@ -1,5 +1,6 @@
 pub mod AuditedCalls
 pub mod CallOrder
+pub mod CallNumbers
 pub mod Excerpts
 pub mod KnownCalls
 pub mod Tapped

@@ -1,13 +1,17 @@
 //! What tells the calls of a recording apart.
-ghost use Rattle.std.specs.Prelude.{◌≡◌};
+ghost use Rattle.std.specs.Prelude.{◌≡◌, ◌<◌, ◌^◌, ℕ, length, slice_index};
 ghost use Rattle.audit_calls.specs.AuditedCalls.{asked_call, answered_call};
+ghost use Rattle.audit_calls.specs.CallNumbers.{IsEndpoint, IsIds, endpoint_number, ids_number, spelled};
 
 use someip_wire::Header;
+use std::cmp::Ordering;
 use std::net::SocketAddrV4;
 
 /// What tells the calls of a recording apart: who asks whom, the Message ID, the Request ID and the
 /// Interface Version (SOME/IP Protocol, "Message ID" and "Request ID").
-#[derive(Clone, Copy, Debug, PartialEq, Eq, PartialOrd, Ord)]
+///
+/// Calls are ordered by these fields, one after the other.
+#[derive(Clone, Copy, Debug, PartialEq, Eq)]
 pub struct AuditedCall {
     /// The endpoint that asks.
     pub from: SocketAddrV4,
@@ -48,4 +52,75 @@ impl AuditedCall {
     {
         AuditedCall::asked(to, from, header)
     }
+}
+
+impl PartialOrd for AuditedCall {
+    ghost use Rattle.std.specs.Prelude.{Some, refl};
+    ghost use Rattle.std.specs.Cmp.{partial_order_from_agreeing_total};
+    ghost use Rattle.audit_calls.specs.AuditedCalls.{call_cmp};
+    ghost use Rattle.audit_calls.specs.CallOrder.{calls_total};
+    ghost use Rattle.std.specs.Cmp.Rules.{comparing};
+    ghost use Rattle.std.proofs.Common.{rules};
+
+    ghost partial_cmp = { λ x y. Some (call_cmp x y) };
+
+    ghost laws = { partial_order_from_agreeing_total call_cmp calls_total (λ x y. refl) (Prim.search (comparing, rules)) };
+
+    fn partial_cmp(&self, other: &AuditedCall) -> Option<Ordering> {
+        Some(self.cmp(other))
+    }
+}
+
+/// Endpoints and IDs are compared as numbers, each at once: octet by octet, as a derived order does, took
+/// a third of the time of a look at a table.
+impl Ord for AuditedCall {
+    ghost use Rattle.std.specs.Cmp.Rules.{comparing};
+    ghost use Rattle.std.proofs.Common.{rules};
+    ghost use Rattle.audit_calls.specs.AuditedCalls.{call_cmp};
+    ghost use Rattle.audit_calls.specs.CallOrder.{calls_total};
+
+    ghost cmp = { call_cmp };
+
+    ghost total = { calls_total };
+
+    ghost matches_partial_cmp = { Prim.search (comparing, rules) };
+
+    ghost matches_eq = { Prim.search (comparing, rules) };
+
+    fn cmp(&self, other: &AuditedCall) -> Ordering {
+        let from = number_of(&self.from).cmp(&number_of(&other.from));
+        let to = number_of(&self.to).cmp(&number_of(&other.to));
+        let ids = number_of_ids(self).cmp(&number_of_ids(other));
+        from.then(to)
+            .then(ids)
+            .then(self.interface.cmp(&other.interface))
+    }
+}
+
+/// An endpoint as a number: its octets, and then its port.
+fn number_of(endpoint: &SocketAddrV4) -> u64
+    ensures number { result ≡ endpoint_number endpoint.now }
+    ensures valid { IsEndpoint endpoint.now }
+{
+    number_of_octets(endpoint.ip().octets()) * 65536 + u64::from(endpoint.port())
+}
+
+/// An address as a number.
+fn number_of_octets(octets: [u8; 4]) -> u64
+    ensures number { result ≡ spelled 0 octets }
+    ensures four { length octets ≡ 4 }
+    ensures bytes { (i : ℕ) → slice_index octets i < 256 }
+    ensures fits { result < 2 ^ 32 }
+{
+    let [a, b, c, d] = octets;
+    ((u64::from(a) * 256 + u64::from(b)) * 256 + u64::from(c)) * 256 + u64::from(d)
+}
+
+/// Message ID and Request ID as a number.
+fn number_of_ids(call: &AuditedCall) -> u64
+    ensures number { result ≡ ids_number call.now }
+    ensures valid { IsIds call.now }
+{
+    let message = u64::from(call.service) * 65536 + u64::from(call.method);
+    (message * 65536 + u64::from(call.client)) * 65536 + u64::from(call.session)
 }

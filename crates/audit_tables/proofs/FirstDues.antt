@@ -5,6 +5,7 @@ use Rattle.std.specs.declared.cmp.Ordering.{Ordering}
 use Rattle.std.specs.declared.cmp.Ordering.TheVariants.{Less, Equal, Greater}
 use Rattle.std.specs.Ordering.{is_le, is_gt, ordering_reverse, ordering_then}
 use Rattle.std.specs.Cmp.{IsTotalOrder}
+use Rattle.std.specs.BTreeMap as tree
 use Rattle.std.specs.BTreeMap.{BTreeMap}
 use Rattle.std.specs.BTreeSet.{BTreeSet, contains}
 use Rattle.std.specs.FinMap.{FinMap, IsAntisymmetric, get, empty, get-empty}
@@ -18,12 +19,12 @@ use Rattle.someip_tables.specs.Agendas.{is_awaited}
 use Rattle.someip_tables.specs.Retained.{kept_if}
 use Rattle.someip_tables.specs.Tables.{map_of}
 use Rattle.someip_tables.specs.Waits.{HoldsFrom, due_by, is_due_by}
-use Rattle.someip_tables.proofs.Entries.{get-retain}
+use Rattle.someip_tables.proofs.Entries.{get-retain, own_test}
 use Rattle.someip_tables.proofs.MapLaws.{retain_none}
 use Rattle.someip_tables.proofs.Trees.{get-map_of}
 use Rattle.someip_tables.proofs.DueLemmas.{test_is_true, true_is_test}
 use Rattle.audit_tables.specs.declared.due.Due.{Due}
-use Rattle.audit_tables.specs.Dues.{IsFirstDue, Tracks, due_cmp}
+use Rattle.audit_tables.specs.Dues.{IsFirstDue, Tracks, WantsMemory, due_cmp, is_due_of}
 
 not_above : (o : Ordering) → is_gt o ≡ false → is_le o ≡ true
 not_above Less h = refl
@@ -145,3 +146,25 @@ module _ {K V : Type 0} {R : K → K → Ordering} (o : IsTotalOrder R) (exact :
           let e : option_and_then moment (get m k) ≡ None = none k in
           let f : option_and_then moment (get m k) ≡ Some at = ap (option_and_then moment) there ∙ waits in
           cc
+
+-- a moment that is not in the set is new to its key
+pub wants_new : {K V : Type 0} {R : K → K → Ordering} (o : IsTotalOrder R) (moment : V → Option ℕ) (dues : BTreeSet (Due K)) (held : BTreeMap K V) (key : K) (at : Option ℕ) → Tracks R moment dues held → at ≢ None
+    → ((due : Due K) → is_due_of R key at due ≡ true → contains (due_cmp R) dues due ≡ false) → WantsMemory moment (tree.get R held key) at
+wants_new {K} {V} {R} o moment dues held key None tracks some absent = absurd (some refl)
+wants_new {K} {V} {R} o moment dues held key (Some at) tracks some absent = cases (tree.get R held key) refl
+  where
+    due : Due K
+    due = record { at = at; key = key }
+
+    asked : is_due_of R key (Some at) due ≡ true
+    asked = rw (eq-eqb at at refl) (own_test o key)
+
+    known : (v : Option V) → tree.get R held key ≡ v → option_and_then moment v ≡ Some at → ⊥
+    known v is waits =
+        let there : contains (due_cmp R) dues due ≡ true = tracks due ∙ ap (is_awaited at) (ap (option_and_then moment) is ∙ waits) ∙ eq-eqb at at refl in
+        let not_there = absent due asked in
+        cc
+
+    cases : (v : Option V) → tree.get R held key ≡ v → WantsMemory moment v (Some at)
+    cases None is = tt
+    cases (Some value) is = (λ same. known (Some value) is same, some)

@@ -1,6 +1,6 @@
 //! An ordered map, and beside it the moments of its values in order: the set holds exactly these.
 ghost use Rattle.std.specs.Prelude.{◌≡◌, ◌≢◌, ◌+◌, true, false, if◌then◌else◌, Some, None, is_some};
-ghost use Rattle.std.specs.Prelude.{Bool, filter, IsTrue, IfSome, IfNone, OnOk, OnErr};
+ghost use Rattle.std.specs.Prelude.{Bool, filter, IsTrue, IfSome, IfNone, IfOk, OnOk, OnErr};
 ghost use Rattle.std.specs.Option.{option_and_then};
 ghost use Rattle.std.specs.BTreeMap.{get, btree_map_len, IsOrdered, IsUnchanged};
 ghost use Rattle.std.specs.BTreeSet.{contains};
@@ -31,15 +31,12 @@ pub(crate) fn put<K: Key, V: Waits>(
     ensures tracks { Tracks K.cmp V.moment dues.new held.new }
 {
     let moment = value.waits_for();
-    let earlier = moment_at(held, &key);
-    if earlier == moment {
-        hold(held, key, value)?;
-        return Ok(());
-    }
     add_due(dues, key, moment)?;
     match hold(held, key, value) {
-        Ok(()) => {
-            take_due(dues, key, earlier);
+        Ok(earlier) => {
+            if earlier != moment {
+                take_due(dues, key, earlier);
+            }
             Ok(())
         }
         Err(_) => {
@@ -60,9 +57,9 @@ pub(crate) fn take_out<K: Key, V: Waits>(
         ≡ (if eq_by_cmp K.cmp key.now q then None else get K.cmp held.old q) }
     ensures tracks { Tracks K.cmp V.moment dues.new held.new }
 {
-    let earlier = moment_at(held, key);
-    held.remove(key);
-    take_due(dues, *key, earlier);
+    if let Some(earlier) = held.remove(key) {
+        take_due(dues, *key, earlier.waits_for());
+    }
 }
 
 /// The first moment, with its key.
@@ -78,22 +75,24 @@ pub(crate) fn first_due<K: Key>(dues: &BTreeSet<Due<K>>) -> Option<Due<K>>
     Some(*first)
 }
 
-/// Puts a value under its key, in place of an earlier one, and leaves the moments as they are.
-fn hold<K: Key, V: Waits>(held: &mut BTreeMap<K, V>, key: K, value: V) -> Result<(), AllocError>
+/// Puts a value under its key, in place of an earlier one, and leaves the moments as they are. Tells the
+/// moment that the earlier one waited for.
+fn hold<K: Key, V: Waits>(
+    held: &mut BTreeMap<K, V>,
+    key: K,
+    value: V,
+) -> Result<Option<u64>, AllocError>
+    ensures earlier { IfOk result (λ earlier. earlier
+        ≡ option_and_then V.moment (get K.cmp held.old key)) }
     ensures ok { OnOk result ((q : K) → get K.cmp held.new q
         ≡ (if eq_by_cmp K.cmp key q then Some value else get K.cmp held.old q)) }
     ensures err { OnErr result (IsUnchanged held.old held.new) }
     ensures absent { OnErr result (get K.cmp held.old key ≡ None) }
 {
-    held.insert(key, value)?;
-    Ok(())
-}
-
-/// The moment that the value of a key waits for, if it has one.
-fn moment_at<K: Key, V: Waits>(held: &BTreeMap<K, V>, key: &K) -> Option<u64>
-    ensures { result ≡ option_and_then V.moment (get K.cmp held.now key.now) }
-{
-    held.get(key)?.waits_for()
+    match held.insert(key, value)? {
+        Some(earlier) => Ok(earlier.waits_for()),
+        None => Ok(None),
+    }
 }
 
 fn add_due<K: Key>(
@@ -107,6 +106,8 @@ fn add_due<K: Key>(
     ensures err { OnErr result ((due : Due K) → contains (due_cmp K.cmp) dues.new due
         ≡ contains (due_cmp K.cmp) dues.old due) }
     ensures waits { OnErr result (moment ≢ None) }
+    ensures absent { OnErr result ((due : Due K) → is_due_of K.cmp key moment due ≡ true
+        → contains (due_cmp K.cmp) dues.old due ≡ false) }
 {
     if let Some(at) = moment {
         dues.insert(Due { at, key })?;

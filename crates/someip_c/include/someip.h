@@ -41,8 +41,15 @@
 extern "C" {
 #endif
 
-/* How a call ended: each function returns one of these. After all but SOMEIP_DONE nothing has changed,
- * unless the line says otherwise. */
+/* The version of this header. A program that loads the library when it runs compares it with what
+ * someip_version answers: another number means another header. */
+#define SOMEIP_VERSION 1
+
+/* The version of the library. */
+uint32_t someip_version(void);
+
+/* How a call ended: each function but someip_version returns one of these. After all but SOMEIP_DONE
+ * nothing has changed, unless the line says otherwise. 15 and 25 are not used. */
 enum {
     SOMEIP_DONE = 0,             /* it was done */
     SOMEIP_CLOSED = 1,           /* the handle has no node */
@@ -59,7 +66,6 @@ enum {
     SOMEIP_UNKNOWN_KEY = 12,     /* the setup has a key that the format does not have */
     SOMEIP_CLASH = 13,           /* values of the setup may not be the same */
     SOMEIP_NO_SUCH_NODE = 14,    /* the setup has no node of the name */
-    SOMEIP_BAD_CONFIG = 15,      /* never returned: what a setup says is in range */
     SOMEIP_BAD_DELAY = 16,       /* the delay is outside the range of the setup */
     SOMEIP_CLOCK_PAST = 17,      /* the clock would go past 2^63 - 1 milliseconds */
     SOMEIP_NOT_WANTED = 18,      /* the eventgroup is not one of those that the setup wants */
@@ -69,7 +75,6 @@ enum {
     SOMEIP_BUSY = 22,            /* no further call can wait for its answer */
     SOMEIP_TOO_LONG = 23,        /* the payload is longer than the message limit of the setup */
     SOMEIP_UNKNOWN_TOKEN = 24,   /* no request waits under the token */
-    SOMEIP_NOT_PENDING = 25,     /* never returned */
     SOMEIP_BAD_ERROR_CODE = 26,  /* an ERROR has the code of no error */
     SOMEIP_UNKNOWN_EVENT = 27,   /* there is no such event */
     SOMEIP_NOT_SUBSCRIBED = 28   /* the endpoint has no such subscription */
@@ -120,7 +125,7 @@ enum {
  *  11 a request: 1 unknown service, 2 wrong interface, 3 unknown method, 4 wrong type, 5 not ready
  *  12 a message: 1 truncated, 2 length too small, 3 wrong protocol version, 4 unknown message type
  *  13 a Service Discovery message: 1 truncated, 2 length of the entries, 3 unknown entry type,
- *     4 length of an option, 5 too many options, 6 trailing bytes
+ *     4 length of an option, 6 trailing bytes
  *  14 a segment: 1 unaligned, 2 too long, 3 in conflict with what came, 4 no slot, 6 no header
  */
 typedef struct {

@@ -3,7 +3,7 @@ use Rattle.std.proofs.Common.{◌≡◌, refl, sym, subst, ℕ}
 use Rattle.std.specs.Prelude.{List, Option, None, Some, IsSomeAnd}
 use Rattle.someip_world_setup.specs.Readings.{tree_of}
 use Rattle.someip_c_node.specs.declared.outcome.Outcome.{Outcome}
-use Rattle.someip_c_node.specs.declared.outcome.Outcome.TheVariants.{Done, Closed, Held, OutputsWait, NothingLeft, BufferTooSmall, NothingDue, NotText, NotToml, Missing, WrongKind, OutOfRange, UnknownKey, Clash, NoSuchNode, BadConfig, BadDelay, ClockPast, NotWanted, Failed, OutOfMemory, NotOffered, Busy, TooLong, UnknownToken, NotPending, BadErrorCode, UnknownEvent, NotSubscribed}
+use Rattle.someip_c_node.specs.declared.outcome.Outcome.TheVariants.{Done, Closed, Held, OutputsWait, NothingLeft, BufferTooSmall, NothingDue, NotText, NotToml, Missing, WrongKind, OutOfRange, UnknownKey, Clash, NoSuchNode, BadDelay, ClockPast, NotWanted, Failed, OutOfMemory, NotOffered, Busy, TooLong, UnknownToken, BadErrorCode, UnknownEvent, NotSubscribed}
 use Rattle.someip_c_node.specs.Calls.{CNodeView}
 use Rattle.someip_c_node.specs.Outcomes.{number_of, outcome_of}
 use Rattle.someip_c_node.specs.Starts.{IsNotStarted}
@@ -29,7 +29,6 @@ decodes OutOfRange = refl
 decodes UnknownKey = refl
 decodes Clash = refl
 decodes NoSuchNode = refl
-decodes BadConfig = refl
 decodes BadDelay = refl
 decodes ClockPast = refl
 decodes NotWanted = refl
@@ -39,7 +38,6 @@ decodes NotOffered = refl
 decodes Busy = refl
 decodes TooLong = refl
 decodes UnknownToken = refl
-decodes NotPending = refl
 decodes BadErrorCode = refl
 decodes UnknownEvent = refl
 decodes NotSubscribed = refl
@@ -82,7 +80,6 @@ not_started text name delay OutOfRange new none i = (i, none)
 not_started text name delay UnknownKey new none i = (i, none)
 not_started text name delay Clash new none i = (i, none)
 not_started text name delay NoSuchNode new none i = (i, none)
-not_started text name delay BadConfig new none i = (i, none)
 not_started text name delay BadDelay new none i = (i, none)
 not_started text name delay ClockPast new none i = (i, none)
 not_started text name delay NotWanted new none i = (i, none)
@@ -92,7 +89,6 @@ not_started text name delay NotOffered new none i = (i, none)
 not_started text name delay Busy new none i = (i, none)
 not_started text name delay TooLong new none i = (i, none)
 not_started text name delay UnknownToken new none i = (i, none)
-not_started text name delay NotPending new none i = (i, none)
 not_started text name delay BadErrorCode new none i = (i, none)
 not_started text name delay UnknownEvent new none i = (i, none)
 not_started text name delay NotSubscribed new none i = (i, none)

@@ -10,6 +10,7 @@ pub mod laws;
 mod lives;
 mod place;
 mod receiving;
+mod version;
 
 pub use handle::Handle;
 pub use place::Place;

@@ -1,6 +1,7 @@
 -- From what a node gives to what its call comes to.
 use Rattle.std.proofs.Common.{◌≡◌, ◌∙◌, refl, sym, ap, subst, List, []}
-use Rattle.std.specs.Prelude.{◌≢◌, Result, Ok, Err}
+use Rattle.std.specs.Prelude.{◌≢◌, Option, Some, Result, Ok, Err}
+use Rattle.std.specs.Option.{option_map_or}
 use Rattle.std.specs.Global.{Vec}
 use Rattle.someip_node_rules.specs.declared.error.NodeError.{NodeError}
 use Rattle.someip_node_rules.specs.declared.error.NodeError.TheVariants as error
@@ -17,6 +18,10 @@ use Rattle.someip_c_node.specs.Outcomes.{refusal_outcome}
 abbrev at : NodeView → List Output → CNodeView
 at node waiting = record { node = node; waiting = waiting }
 
+-- what an error is told as, if that is known
+told_by : {is : Option Outcome} {known told : Outcome} → is ≡ Some told → is ≡ Some known → known ≡ told
+told_by of is = ap (λ o. option_map_or (λ x. x) o Done) (sym is ∙ of)
+
 -- ---- what a step comes to
 
 comes : (h : History) (given-in : Result (Work History) NodeError) (given : Result (Vec Output) NodeError) (node : NodeView) (outcome : Outcome) (new : CNodeView)
@@ -24,17 +29,17 @@ comes : (h : History) (given-in : Result (Work History) NodeError) (given : Resu
 comes h (Ok done) (Ok outputs) node outcome new keeps gives =
     subst (λ o. ComesTo h (Ok done) o new) (sym keeps.0) (subst (λ v. ComesTo h (Ok done) Done v) (sym keeps.1) gives)
 comes h (Ok done) (Err error) node outcome new keeps gives =
-    subst (λ o. ComesTo h (Ok done) o new) (sym (keeps.0 ∙ ap refusal_outcome gives.0)) (subst (λ v. ComesTo h (Ok done) OutOfMemory v) (sym keeps.1) (refl, gives.1))
+    subst (λ o. ComesTo h (Ok done) o new) (told_by keeps.0 (ap refusal_outcome gives.0)) (subst (λ v. ComesTo h (Ok done) OutOfMemory v) (sym keeps.1) (refl, gives.1))
 comes h (Err refusal) (Ok outputs) node outcome new keeps gives = absurd gives
 comes h (Err refusal) (Err error) node outcome new keeps gives =
-    subst (λ v. ComesTo h (Err refusal) outcome v) (sym keeps.1) (keeps.0 ∙ ap refusal_outcome gives.0, refl, gives.1)
+    subst (λ v. ComesTo h (Err refusal) outcome v) (sym keeps.1) (sym (ap refusal_outcome gives.0) ∙ keeps.0, refl, gives.1)
 
 -- a node that failed answers that, and stays so
 fails : (old : CNodeView) (given : Result (Vec Output) NodeError) (node : NodeView) (outcome : Outcome) (new : CNodeView)
     → Keeps given (at node old.waiting) outcome new → given ≡ Err error.Failed → node ≡ old.node → (outcome ≡ Failed) × (new ≡ old)
 fails old given node outcome new keeps is same =
     let told = subst (λ g. Keeps g (at node old.waiting) outcome new) is keeps in
-    (told.0, told.1 ∙ ap (λ n. at n old.waiting) same)
+    (sym (told_by told.0 refl), told.1 ∙ ap (λ n. at n old.waiting) same)
 
 -- ---- calls
 

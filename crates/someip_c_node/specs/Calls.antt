@@ -1,5 +1,5 @@
 -- What the calls of a node come to, whose outputs are taken one after the other.
-use Rattle.std.specs.Prelude.{◌≡◌, ◌≢◌, ◌≤◌, ◌<◌, ◌++◌, true, false, ℕ, List, [], ◌∷◌, length, drop, None, Result, Ok, Err}
+use Rattle.std.specs.Prelude.{◌≡◌, ◌≢◌, ◌≤◌, ◌<◌, ◌++◌, true, false, ℕ, List, [], ◌∷◌, length, drop, None, Some, Result, Ok, Err}
 use Rattle.std.specs.Global.{Vec}
 use Rattle.someip_node_rules.specs.declared.error.NodeError.{NodeError}
 use Rattle.someip_node_rules.specs.declared.output.Output.{Output}
@@ -26,7 +26,7 @@ abbrev pub ComesTo : History → Result (Work History) NodeError → Outcome →
 ComesTo h (Ok done) Done new = (new.waiting ≡ done.outputs) × StandsFor new.node done.state
 ComesTo h (Ok done) OutOfMemory new = (new.waiting ≡ []) × HasFailed new.node h
 ComesTo h (Ok done) outcome new = ⊥
-ComesTo h (Err refusal) outcome new = (outcome ≡ refusal_outcome refusal) × (new.waiting ≡ []) × StandsFor new.node h
+ComesTo h (Err refusal) outcome new = (refusal_outcome refusal ≡ Some outcome) × (new.waiting ≡ []) × StandsFor new.node h
 
 -- while outputs wait a call is refused, and changes nothing
 abbrev pub WaitsFirst : CNodeView → Outcome → CNodeView → Type 0
@@ -52,7 +52,7 @@ NeedsNoMemory input old outcome =
 -- what a node gave waits, or its refusal is told
 abbrev pub Keeps : Result (Vec Output) NodeError → CNodeView → Outcome → CNodeView → Type 0
 Keeps (Ok outputs) old outcome new = (outcome ≡ Done) × (new ≡ record { node = old.node; waiting = outputs.items })
-Keeps (Err error) old outcome new = (outcome ≡ refusal_outcome error) × (new ≡ old)
+Keeps (Err error) old outcome new = (refusal_outcome error ≡ Some outcome) × (new ≡ old)
 
 -- ---- taking an output
 

@@ -43,13 +43,13 @@ wire_number (wire.LengthTooSmall place) = 2
 wire_number (wire.WrongProtocolVersion place) = 3
 wire_number (wire.UnknownMessageType place) = 4
 
--- a fault of a Service Discovery message
+-- a fault of a Service Discovery message: too many options is a fault of writing alone, and has no number
 abbrev pub sd_number : SdError → ℕ
 sd_number (sd.Truncated place) = 1
 sd_number (sd.EntriesLength place) = 2
 sd_number (sd.UnknownEntryType place) = 3
 sd_number (sd.OptionLength place) = 4
-sd_number (sd.TooManyOptions place) = 5
+sd_number (sd.TooManyOptions place) = 0
 sd_number (sd.TrailingBytes place) = 6
 sd_number sd.OutOfMemory = 7
 

@@ -93,7 +93,8 @@ fn wire_number(fault: &WireError) -> u32
     }
 }
 
-/// The number of a fault of a Service Discovery message.
+/// The number of a fault of a Service Discovery message that came. `TooManyOptions` is a fault of
+/// writing alone. (5 is no number any more.)
 fn sd_number(fault: &SdError) -> u32
     ensures { result ≡ sd_number fault.now }
 {
@@ -102,7 +103,7 @@ fn sd_number(fault: &SdError) -> u32
         SdError::EntriesLength(_) => 2,
         SdError::UnknownEntryType(_) => 3,
         SdError::OptionLength(_) => 4,
-        SdError::TooManyOptions(_) => 5,
+        SdError::TooManyOptions(_) => 0,
         SdError::TrailingBytes(_) => 6,
         SdError::OutOfMemory => 7,
     }

@@ -1,5 +1,6 @@
 //! What the numbers tell.
-ghost use Rattle.std.specs.Prelude.{◌≡◌, ℕ, Some};
+ghost use Rattle.std.specs.Prelude.{◌≡◌, ◌≢◌, ℕ, None, Some};
+ghost use Rattle.someip_rpc.specs.declared.error.RpcError.TheVariants as rpc;
 ghost use Rattle.someip_node_rules.specs.declared.error.NodeError.TheVariants as refusal;
 ghost use Rattle.someip_c_node.specs.Outcomes.{number_of, outcome_of, refusal_outcome};
 ghost use Rattle.someip_c_node.specs.declared.outcome.Outcome.{Outcome};
@@ -10,9 +11,18 @@ pub fn numbers_tell_outcomes()
     ensures { (outcome : Outcome) → outcome_of (number_of outcome) ≡ Some outcome }
 {}
 
+/// What a started node is refused as has an outcome of its own, but for what no call is refused as; and
+/// the numbers of those tell nothing.
+pub fn what_no_call_is_refused_as_has_no_number()
+    ensures config { refusal_outcome refusal.BadConfig ≡ None }
+    ensures pending { refusal_outcome (refusal.Rpc rpc.NotPending) ≡ None }
+    ensures was_config { outcome_of 15 ≡ None }
+    ensures was_pending { outcome_of 25 ≡ None }
+{}
+
 /// A node that failed before is told by another number than one whose memory runs out in this call.
 pub fn a_node_that_failed_is_told_apart()
-    ensures failed { outcome_of (number_of (refusal_outcome refusal.Failed)) ≡ Some told.Failed }
-    ensures memory { outcome_of (number_of (refusal_outcome refusal.OutOfMemory))
-        ≡ Some told.OutOfMemory }
+    ensures failed { refusal_outcome refusal.Failed ≡ Some told.Failed }
+    ensures memory { refusal_outcome refusal.OutOfMemory ≡ Some told.OutOfMemory }
+    ensures numbers { number_of told.Failed ≢ number_of told.OutOfMemory }
 {}

@@ -1,5 +1,6 @@
 //! A node whose outputs are taken one after the other.
 ghost use Rattle.std.specs.Prelude.{◌≡◌, ◌≢◌, ◌≤◌, ◌<◌, ◌++◌, [], true, false, drop, length, None, Some, IfOk, IfErr, IfSome, IfNone, OnOk};
+ghost use Rattle.someip_node.specs.Refusals.{is_call_refusal};
 ghost use Rattle.someip_node_rules.specs.GoodConfigs.{is_good, is_good_delay};
 ghost use Rattle.someip_node_rules.specs.History.{History, start_of};
 ghost use Rattle.someip_node_rules.specs.Inputs as input;
@@ -44,19 +45,17 @@ impl Model for CNode {
 }
 
 impl CNode {
-    /// A node with this configuration, whose first Offers and Finds go out so many milliseconds after
-    /// the start. No outputs wait.
+    /// A node with a configuration that a setup gave, whose first Offers and Finds go out so many
+    /// milliseconds after the start. No outputs wait.
     ///
-    /// It is refused as `BadConfig`, `BadDelay` or `OutOfMemory`.
-    pub fn start(alloc: Global, config: Config, delay: u32) -> Result<CNode, Outcome>
+    /// It is refused as `BadDelay` or `OutOfMemory`.
+    pub(crate) fn start(alloc: Global, config: Config, delay: u32) -> Result<CNode, Outcome>
+        requires { is_good config ≡ true }
         ensures ok { IfOk result (λ c. (c.waiting ≡ []) × StandsFor c.node (start_of config delay)) }
-        ensures good { OnOk result
-            ((is_good config ≡ true) × (is_good_delay config delay ≡ true)) }
-        ensures bad_config { is_good config ≡ false
-            → IfErr result (λ e. e ≡ outcome.BadConfig) }
-        ensures bad_delay { is_good config ≡ true → is_good_delay config delay ≡ false
+        ensures good { OnOk result (is_good_delay config delay ≡ true) }
+        ensures bad_delay { is_good_delay config delay ≡ false
             → IfErr result (λ e. e ≡ outcome.BadDelay) }
-        ensures memory { is_good config ≡ true → is_good_delay config delay ≡ true
+        ensures memory { is_good_delay config delay ≡ true
             → IfErr result (λ e. e ≡ outcome.OutOfMemory) }
     {
         match Node::start(alloc, config, delay) {
@@ -65,7 +64,8 @@ impl CNode {
                 outputs: Vec::new(alloc),
                 taken: 0,
             }),
-            Err(error) => Err(refusal(error)),
+            Err(NodeError::BadDelay) => Err(Outcome::BadDelay),
+            Err(_) => Err(Outcome::OutOfMemory),
         }
     }
 
@@ -82,7 +82,7 @@ impl CNode {
         }
         match self.node.restart(delay) {
             Ok(()) => Outcome::Done,
-            Err(error) => refusal(error),
+            Err(_) => Outcome::BadDelay,
         }
     }
 
@@ -253,7 +253,8 @@ impl CNode {
 
     /// Keeps what a call gave, so that it can be taken. Nothing waited before.
     fn keep(&mut self, given: Result<Vec<Output>, NodeError>) -> Outcome
-        requires { self.old.waiting ≡ [] }
+        requires none { self.old.waiting ≡ [] }
+        requires refusal { IfErr given (λ error. is_call_refusal error ≡ true) }
         ensures { Keeps given self.old result self.new }
     {
         match given {

@@ -1,5 +1,6 @@
 //! How a call ended.
-ghost use Rattle.std.specs.Prelude.{◌≡◌};
+ghost use Rattle.std.specs.Prelude.{◌≡◌, true, Some};
+ghost use Rattle.someip_node.specs.Refusals.{is_call_refusal, is_rpc_refusal};
 ghost use Rattle.someip_c_node.specs.Outcomes.{number_of, refusal_outcome};
 ghost use Rattle.someip_node_rules.specs.declared.error.NodeError.TheVariants.{Rpc};
 
@@ -40,10 +41,8 @@ pub enum Outcome {
     Clash,
     /// The setup has no node of the name.
     NoSuchNode,
-    /// A value of the configuration is outside its range, or two of them clash.
-    BadConfig,
-    /// The delay is outside the range that the setup gives.
-    BadDelay,
+    /// The delay is outside the range that the setup gives. (15 is no number any more.)
+    BadDelay = 16,
     /// The clock would go past 2^63 - 1 milliseconds.
     ClockPast,
     /// The eventgroup is not one of those that the setup wants.
@@ -60,10 +59,8 @@ pub enum Outcome {
     TooLong,
     /// No request waits under the token.
     UnknownToken,
-    /// No call is pending.
-    NotPending,
-    /// An ERROR has the code of no error.
-    BadErrorCode,
+    /// An ERROR has the code of no error. (25 is no number any more.)
+    BadErrorCode = 26,
     /// There is no such event.
     UnknownEvent,
     /// The endpoint has no such subscription.
@@ -79,13 +76,13 @@ impl Outcome {
     }
 }
 
-/// The refusal of a node, as an outcome.
+/// The refusal of a node that was started, as an outcome.
 pub(crate) fn refusal(error: NodeError) -> Outcome
-    ensures { result ≡ refusal_outcome error }
+    requires { is_call_refusal error ≡ true }
+    ensures { refusal_outcome error ≡ Some result }
 {
     match error {
-        NodeError::BadConfig => Outcome::BadConfig,
-        NodeError::BadDelay => Outcome::BadDelay,
+        NodeError::BadConfig | NodeError::BadDelay => unreachable!(),
         NodeError::ClockPast => Outcome::ClockPast,
         NodeError::NotWanted => Outcome::NotWanted,
         NodeError::Failed => Outcome::Failed,
@@ -96,17 +93,17 @@ pub(crate) fn refusal(error: NodeError) -> Outcome
 
 /// The refusal of a call, an answer or a publication, as an outcome.
 fn rpc_refusal(refusal: RpcError) -> Outcome
-    ensures { result ≡ refusal_outcome (Rpc refusal) }
+    requires { is_rpc_refusal refusal ≡ true }
+    ensures { refusal_outcome (Rpc refusal) ≡ Some result }
 {
     match refusal {
+        RpcError::NotPending | RpcError::OutOfMemory => unreachable!(),
         RpcError::NotOffered => Outcome::NotOffered,
         RpcError::Busy => Outcome::Busy,
         RpcError::TooLong => Outcome::TooLong,
         RpcError::UnknownToken => Outcome::UnknownToken,
-        RpcError::NotPending => Outcome::NotPending,
         RpcError::BadErrorCode => Outcome::BadErrorCode,
         RpcError::UnknownEvent => Outcome::UnknownEvent,
         RpcError::NotSubscribed => Outcome::NotSubscribed,
-        RpcError::OutOfMemory => Outcome::OutOfMemory,
     }
 }

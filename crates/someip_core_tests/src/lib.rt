@@ -5,7 +5,8 @@
 //! Tests stand over the crates that they try, since a crate is proved again with its tests. What is tried
 //! stands in tables of plain data, since the prover reads each line of a test, and little of a table. The
 //! small tables of one kind are tried by one test, which names the table of the first wrong row; a large
-//! one has a test of its own, since several cost the prover more together than alone.
+//! one, or a part of it, has a test of its own, since texts and slices cost the prover more together than
+//! alone.
 #![tactic(auto)]
 
 #[cfg(test)]

@@ -545,6 +545,10 @@ fn faults(rt: HostRuntime) {
 #[test]
 fn refusals(rt: HostRuntime) {
     check(&rt, rt.alloc(), "REFUSED", REFUSED);
+}
+
+#[test]
+fn errors_are_printed(rt: HostRuntime) {
     check(&rt, rt.alloc(), "PRINTED", PRINTED);
     assert!(rt; PayloadError::TooMany(8).place() == 8);
 }

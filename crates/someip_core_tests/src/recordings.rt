@@ -21,8 +21,28 @@ fn classic_files(rt: HostRuntime) {
 }
 
 #[test]
-fn block_files(rt: HostRuntime) {
-    check(&rt, rt.alloc(), "pcapng FILES", pcapng::FILES);
+fn block_sections(rt: HostRuntime) {
+    check(&rt, rt.alloc(), "pcapng SECTIONS", pcapng::SECTIONS);
+}
+
+#[test]
+fn block_times(rt: HostRuntime) {
+    check(&rt, rt.alloc(), "pcapng TIMES", pcapng::TIMES);
+}
+
+#[test]
+fn block_packets(rt: HostRuntime) {
+    check(&rt, rt.alloc(), "pcapng PACKETS", pcapng::PACKETS);
+}
+
+#[test]
+fn block_lengths(rt: HostRuntime) {
+    check(&rt, rt.alloc(), "pcapng LENGTHS", pcapng::LENGTHS);
+}
+
+#[test]
+fn block_interfaces(rt: HostRuntime) {
+    check(&rt, rt.alloc(), "pcapng UNKNOWN", pcapng::UNKNOWN);
     check(&rt, rt.alloc(), "pcapng LONG", pcapng::LONG);
 }
 

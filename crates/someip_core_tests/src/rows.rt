@@ -38,7 +38,11 @@ fn first_wrong<R: Row>(alloc: Global, rows: &[R]) -> Option<usize> {
 
 /// Each row of the table with this name is right.
 pub(crate) fn check<R: Row>(rt: &impl Abort, alloc: Global, name: &str, rows: &[R]) {
-    let wrong = first_wrong(alloc, rows);
+    end_at(rt, name, first_wrong(alloc, rows));
+}
+
+/// Ends the test where a row of the table with this name is wrong.
+pub(crate) fn end_at(rt: &impl Abort, name: &str, wrong: Option<usize>) {
     assert!(rt; wrong.is_none(), "the first wrong row of {name}: {wrong:?}");
 }
 

@@ -2,7 +2,7 @@
 //!
 //! A row is a moment, in milliseconds, and an act: a call of the client, and what has to come of it. Each
 //! call has a function of its own, so that the prover meets one call at a time.
-use crate::rows::{Step, first_wrong_step};
+use crate::rows::{Step, end_at, first_wrong_step};
 use Act::{Answered, Call, CallMany, Clear, Pending, Tick};
 use someip_rpc::{
     Call as Called, CallKey, CallKind, ClientCore, ClientRules, DropCause, MessageId, Outgoing,
@@ -339,7 +339,6 @@ const TABLES: &[(&str, &[At])] = &[
 #[test]
 fn calls_and_their_answers(rt: HostRuntime) {
     for (name, rows) in TABLES {
-        let wrong = first_wrong(rt.alloc(), rows);
-        assert!(rt; wrong.is_none(), "{name}: {wrong:?}");
+        end_at(&rt, name, first_wrong(rt.alloc(), rows));
     }
 }

@@ -1,5 +1,5 @@
 //! Each public call of the tables on its happy path.
-use crate::rows::{Row, Step, check, first_wrong_step};
+use crate::rows::{Row, Step, check, end_at, first_wrong_step};
 use Act::{
     Clear, CountFrom, DropExpired, Expired, Get, HasExpired, Insert, IsEmpty, IsUnexpired, Keep,
     KeepKeys, Len, Remove, Shows, ShowsFrom,
@@ -283,8 +283,7 @@ const TABLES: &[(&str, &[Act])] = &[("STANDING", STANDING), ("CHANGING", CHANGIN
 #[test]
 fn maps_of_deadlines(rt: HostRuntime) {
     for (name, acts) in TABLES {
-        let wrong = first_wrong(rt.alloc(), acts);
-        assert!(rt; wrong.is_none(), "{name}: {wrong:?}");
+        end_at(&rt, name, first_wrong(rt.alloc(), acts));
     }
 }
 

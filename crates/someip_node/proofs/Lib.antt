@@ -1,3 +1,4 @@
 pub mod QuietLemmas
 pub mod HandledLemmas
 pub mod WithinLemmas
+pub mod RefusalLemmas

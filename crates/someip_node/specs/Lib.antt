@@ -1,1 +1,2 @@
 pub mod Finishings
+pub mod Refusals

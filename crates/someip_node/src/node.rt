@@ -1,6 +1,7 @@
 //! A node: its tables, unless memory ran out.
 ghost use Rattle.std.specs.Prelude.{◌≡◌, OnOk, OnErr, IfOk, IfErr, IfSome, IfNone, Err, None, [], true, false};
 ghost use Rattle.someip_node.specs.Finishings.{given_or_error, is_fatal};
+ghost use Rattle.someip_node.specs.Refusals.{is_call_refusal};
 ghost use Rattle.someip_node_rules.specs.GoodConfigs.{is_good, is_good_delay};
 ghost use Rattle.someip_node_rules.specs.History.{History, answers_of, start_of};
 ghost use Rattle.someip_node_rules.specs.Limits.{HoldsWithinLimits};
@@ -140,6 +141,7 @@ impl<R: Reassembly> Node<R> {
         bytes: &[u8],
     ) -> Result<Vec<Output>, NodeError>
         ensures reacts { Reacts self.old (input.Datagram from to bytes.now) result self.new }
+        ensures errors { IfErr result (λ error. is_call_refusal error ≡ true) }
         ensures failed { StaysFailed self.old result self.new }
     {
         let mut giving = begin(self.failed, self.alloc)?;
@@ -156,6 +158,7 @@ impl<R: Reassembly> Node<R> {
     pub fn tick(&mut self, ms: u64) -> Result<Vec<Output>, NodeError>
         ensures reacts { Reacts self.old (input.Tick ms) result self.new }
         ensures quiet { TakesNoMemory self.old (input.Tick ms) result }
+        ensures errors { IfErr result (λ error. is_call_refusal error ≡ true) }
         ensures failed { StaysFailed self.old result self.new }
     {
         let mut giving = begin(self.failed, self.alloc)?;
@@ -199,6 +202,7 @@ impl<R: Reassembly> Node<R> {
     ) -> Result<Vec<Output>, NodeError>
         ensures reacts { Reacts self.old (input.Call kind instance method payload.now)
             result self.new }
+        ensures errors { IfErr result (λ error. is_call_refusal error ≡ true) }
         ensures failed { StaysFailed self.old result self.new }
     {
         let mut giving = begin(self.failed, self.alloc)?;
@@ -221,6 +225,7 @@ impl<R: Reassembly> Node<R> {
         payload: &[u8],
     ) -> Result<Vec<Output>, NodeError>
         ensures reacts { Reacts self.old (input.Answer token reply payload.now) result self.new }
+        ensures errors { IfErr result (λ error. is_call_refusal error ≡ true) }
         ensures failed { StaysFailed self.old result self.new }
     {
         let mut giving = begin(self.failed, self.alloc)?;
@@ -241,6 +246,7 @@ impl<R: Reassembly> Node<R> {
         payload: &[u8],
     ) -> Result<Vec<Output>, NodeError>
         ensures reacts { Reacts self.old (input.Publish instance event payload.now) result self.new }
+        ensures errors { IfErr result (λ error. is_call_refusal error ≡ true) }
         ensures failed { StaysFailed self.old result self.new }
     {
         let mut giving = begin(self.failed, self.alloc)?;
@@ -264,6 +270,7 @@ impl<R: Reassembly> Node<R> {
     ) -> Result<Vec<Output>, NodeError>
         ensures reacts { Reacts self.old
             (input.PublishTo instance eventgroup endpoint event payload.now) result self.new }
+        ensures errors { IfErr result (λ error. is_call_refusal error ≡ true) }
         ensures failed { StaysFailed self.old result self.new }
     {
         let mut giving = begin(self.failed, self.alloc)?;
@@ -285,6 +292,7 @@ impl<R: Reassembly> Node<R> {
     /// `NotWanted` where the configuration has no such eventgroup.
     pub fn subscribe(&mut self, eventgroup: Eventgroup) -> Result<Vec<Output>, NodeError>
         ensures reacts { Reacts self.old (input.Subscribe eventgroup) result self.new }
+        ensures errors { IfErr result (λ error. is_call_refusal error ≡ true) }
         ensures failed { StaysFailed self.old result self.new }
     {
         let mut giving = begin(self.failed, self.alloc)?;
@@ -299,6 +307,7 @@ impl<R: Reassembly> Node<R> {
     /// `NotWanted` where the configuration has no such eventgroup.
     pub fn unsubscribe(&mut self, eventgroup: Eventgroup) -> Result<Vec<Output>, NodeError>
         ensures reacts { Reacts self.old (input.Unsubscribe eventgroup) result self.new }
+        ensures errors { IfErr result (λ error. is_call_refusal error ≡ true) }
         ensures failed { StaysFailed self.old result self.new }
     {
         let mut giving = begin(self.failed, self.alloc)?;
@@ -313,6 +322,7 @@ impl<R: Reassembly> Node<R> {
     /// `NotOffered` where the instance is not offered.
     pub fn stop_offer(&mut self, instance: InstanceId) -> Result<Vec<Output>, NodeError>
         ensures reacts { Reacts self.old (input.StopOffer instance) result self.new }
+        ensures errors { IfErr result (λ error. is_call_refusal error ≡ true) }
         ensures failed { StaysFailed self.old result self.new }
     {
         let mut giving = begin(self.failed, self.alloc)?;

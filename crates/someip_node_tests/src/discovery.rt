@@ -312,18 +312,26 @@ const MANY: &[Row] = &[(
 )];
 
 #[test]
-fn messages_of_discovery(rt: HostRuntime) {
+fn messages_to_a_server(rt: HostRuntime) {
     assert!(rt; gives(rt.alloc(), OFFERS, BAD_RUN));
     assert!(rt; gives(rt.alloc(), OFFERS, FINDS));
     assert!(rt; gives(rt.alloc(), OFFERS, BEGAN_AGAIN));
     assert!(rt; gives(rt.alloc(), OFFERS, STOPPED));
     assert!(rt; gives(rt.alloc(), OFFERS, RISING));
+}
+
+#[test]
+fn subscriptions_and_requests_at_a_server(rt: HostRuntime) {
     assert!(rt; gives(rt.alloc(), OFFERS, LASTING));
     assert!(rt; gives(rt.alloc(), OFFERS, REFUSED));
+    assert!(rt; gives(rt.alloc(), OFFERS, REQUEST_STAYS));
+    assert!(rt; gives(rt.alloc(), OFFERS, MANY));
+}
+
+#[test]
+fn messages_to_a_client(rt: HostRuntime) {
     assert!(rt; gives(rt.alloc(), WANTS, SERVER_BEGAN_AGAIN));
     assert!(rt; gives(rt.alloc(), WANTS, ACKED_OTHERWISE));
     assert!(rt; gives(rt.alloc(), WANTS, SEVERAL_ENDPOINTS));
     assert!(rt; gives(rt.alloc(), WANTS, CALL_STAYS));
-    assert!(rt; gives(rt.alloc(), OFFERS, REQUEST_STAYS));
-    assert!(rt; gives(rt.alloc(), OFFERS, MANY));
 }

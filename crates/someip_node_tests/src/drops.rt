@@ -284,10 +284,14 @@ const OFFERS: &[Row] = &[
 ];
 
 #[test]
-fn drops(rt: HostRuntime) {
+fn drops_at_ports(rt: HostRuntime) {
     assert!(rt; gives(rt.alloc(), NARROW, TO_INSTANCE));
     assert!(rt; gives(rt.alloc(), NARROW, TO_CLIENT));
-    assert!(rt; gives(rt.alloc(), NARROW, TO_DISCOVERY));
     assert!(rt; gives(rt.alloc(), NARROW, ASTRAY));
+}
+
+#[test]
+fn drops_of_discovery(rt: HostRuntime) {
+    assert!(rt; gives(rt.alloc(), NARROW, TO_DISCOVERY));
     assert!(rt; gives(rt.alloc(), WANTS, OFFERS));
 }

@@ -6,6 +6,7 @@ use someip_wire::ReturnCode;
 use someip_world_schedule::{ScheduleError, Step, StepPayload, read_schedule};
 use std::alloc::Global;
 use std::net::{Ipv4Addr, SocketAddrV4};
+use std::process::Abort;
 
 /// Lines that each spell one step.
 const GOOD: &[&[u8]] = &[
@@ -57,7 +58,7 @@ const EMPTY: &[&[u8]] = &[
     b"#\xc3\xa4\n\n#x",
 ];
 
-/// Texts whose first line is bad.
+/// Texts whose first line is bad: words, and ticks.
 const BAD: &[&[u8]] = &[
     b"tick a",
     b"tick",
@@ -86,6 +87,10 @@ const BAD: &[&[u8]] = &[
     b"#\xff",
     b"# \xc3",
     b" # comment",
+];
+
+/// Deliveries, calls and answers that are bad.
+const BAD_CALLS: &[&[u8]] = &[
     b"deliver a 0",
     b"deliver 0",
     b"deliver 01 a",
@@ -122,6 +127,10 @@ const BAD: &[&[u8]] = &[
     b"answer a 01 00 -",
     b"answer a 1 0g -",
     b"answer a 1 00",
+];
+
+/// Errors, events, and what stands behind them, that are bad.
+const BAD_EVENTS: &[&[u8]] = &[
     b"error a 1 -",
     b"publish a 1234.0001 001 -",
     b"publish a 1234.0001 0001",
@@ -407,14 +416,44 @@ const PRINTED: &[(ScheduleError, &str)] = &[
     (ScheduleError::OutOfMemory, "out of memory"),
 ];
 
+/// Ends the test where a text of the table with this name has another count of steps, or another bad line.
+fn check(
+    rt: &impl Abort,
+    alloc: Global,
+    name: &str,
+    texts: &[&[u8]],
+    wanted: Result<usize, ScheduleError>,
+) {
+    let other = first_other(alloc, texts, wanted);
+    assert!(rt; other.is_none(), "{name}: {other:?}");
+}
+
+/// The first line of each text is bad.
+const AT_FIRST: Result<usize, ScheduleError> = Err(ScheduleError::BadLine(1));
+
+#[test]
+fn good_lines(rt: HostRuntime) {
+    check(&rt, rt.alloc(), "GOOD", GOOD, Ok(1));
+}
+
+#[test]
+fn bad_lines(rt: HostRuntime) {
+    check(&rt, rt.alloc(), "BAD", BAD, AT_FIRST);
+}
+
+#[test]
+fn bad_calls(rt: HostRuntime) {
+    check(&rt, rt.alloc(), "BAD_CALLS", BAD_CALLS, AT_FIRST);
+}
+
+#[test]
+fn bad_events(rt: HostRuntime) {
+    check(&rt, rt.alloc(), "BAD_EVENTS", BAD_EVENTS, AT_FIRST);
+}
+
 #[test]
 fn lines_and_steps(rt: HostRuntime) {
-    let good = first_other(rt.alloc(), GOOD, Ok(1));
-    assert!(rt; good.is_none(), "GOOD: {good:?}");
-    let empty = first_other(rt.alloc(), EMPTY, Ok(0));
-    assert!(rt; empty.is_none(), "EMPTY: {empty:?}");
-    let bad = first_other(rt.alloc(), BAD, Err(ScheduleError::BadLine(1)));
-    assert!(rt; bad.is_none(), "BAD: {bad:?}");
+    check(&rt, rt.alloc(), "EMPTY", EMPTY, Ok(0));
     for (text, line) in FIRST_BAD {
         assert!(rt; counted(rt.alloc(), text) == Err(ScheduleError::BadLine(*line)));
     }

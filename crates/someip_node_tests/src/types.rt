@@ -1,8 +1,9 @@
 //! Types files: what is read of them, and what is refused.
 use crate::printed::is_printed;
-use files::{READ, Wanted};
+use files::{KEYS, READ, Row, SHAPES, Wanted};
 use someipctl_types::read_types;
 use std::alloc::{AllocError, Global};
+use std::process::Abort;
 
 mod files;
 
@@ -33,9 +34,24 @@ fn are_read(alloc: Global, parts: &[&[u8]], wanted: Wanted) -> bool {
     }
 }
 
+/// Each of these rows is read as it has to be.
+fn check(rt: &impl Abort, alloc: Global, rows: &[Row]) {
+    for (index, (parts, wanted)) in rows.iter().enumerate() {
+        assert!(rt; are_read(alloc, parts, *wanted), "row {index}");
+    }
+}
+
 #[test]
 fn types_files_are_read_or_refused(rt: HostRuntime) {
-    for (index, (parts, wanted)) in READ.iter().enumerate() {
-        assert!(rt; are_read(rt.alloc(), parts, *wanted), "row {index}");
-    }
+    check(&rt, rt.alloc(), READ);
+}
+
+#[test]
+fn shapes_and_names_are_read_or_refused(rt: HostRuntime) {
+    check(&rt, rt.alloc(), SHAPES);
+}
+
+#[test]
+fn unknown_keys_and_clashes_are_refused(rt: HostRuntime) {
+    check(&rt, rt.alloc(), KEYS);
 }

@@ -1,8 +1,8 @@
 //! Recordings whose messages are put together from their segments, over both bodies of reassembly.
 use crate::slow::{SlowWriter, UNLIMITED};
-use others::{ASKED, REFUSED};
+use others::{ASKED, CROWDED, FILTERED, REFUSED};
 use packets::recording_of;
-use rows::{ROWS, Row};
+use rows::{ROWS, Row, STANDING, UNTIMED};
 use someip_tp::{IntervalPool, Reassembly, SegmentList};
 use someipctl_recordings::{Asked, show_recording};
 use someipctl_types::MessageTypes;
@@ -82,7 +82,35 @@ fn first_wrong(alloc: Global, rows: &[Row]) -> Option<usize> {
 
 #[test]
 fn messages_are_put_together(rt: HostRuntime) {
-    assert!(rt; first_wrong(rt.alloc(), ROWS).is_none(), "ROWS");
-    assert!(rt; first_wrong(rt.alloc(), REFUSED).is_none(), "REFUSED");
-    assert!(rt; first_wrong(rt.alloc(), ASKED).is_none(), "ASKED");
+    assert!(rt; first_wrong(rt.alloc(), ROWS).is_none());
+}
+
+#[test]
+fn parts_stand_for_a_time(rt: HostRuntime) {
+    assert!(rt; first_wrong(rt.alloc(), STANDING).is_none());
+}
+
+#[test]
+fn datagrams_without_a_time(rt: HostRuntime) {
+    assert!(rt; first_wrong(rt.alloc(), UNTIMED).is_none());
+}
+
+#[test]
+fn segments_are_refused(rt: HostRuntime) {
+    assert!(rt; first_wrong(rt.alloc(), REFUSED).is_none());
+}
+
+#[test]
+fn slots_are_taken_and_free(rt: HostRuntime) {
+    assert!(rt; first_wrong(rt.alloc(), CROWDED).is_none());
+}
+
+#[test]
+fn what_is_asked_for_is_put_together(rt: HostRuntime) {
+    assert!(rt; first_wrong(rt.alloc(), ASKED).is_none());
+}
+
+#[test]
+fn what_is_filtered_is_put_together(rt: HostRuntime) {
+    assert!(rt; first_wrong(rt.alloc(), FILTERED).is_none());
 }

@@ -1,6 +1,6 @@
 //! Rows of offers, and of answers to finds.
 use super::{FIRST, Repeats, SECOND, are_instances};
-use crate::rows::{Row, Step, check, first_wrong_step};
+use crate::rows::{Row, Step, check, end_at, first_wrong_step};
 use Act::{Add, Find, IsUp, QuietUntil, Start, Stop, Tick};
 use sd_core::{InstanceId, Offers, Phases, Sought, Version};
 use someip_tables::Moment;
@@ -193,8 +193,7 @@ const TABLES: &[(&str, Repeats, &[At])] = &[
 #[test]
 fn offers(rt: HostRuntime) {
     for (name, repeats, rows) in TABLES {
-        let wrong = first_wrong(rt.alloc(), repeats.phases(), rows);
-        assert!(rt; wrong.is_none(), "{name}: {wrong:?}");
+        end_at(&rt, name, first_wrong(rt.alloc(), repeats.phases(), rows));
     }
 }
 

@@ -1,6 +1,6 @@
 //! Rows of finds and of offers that are known.
 use super::{FIRST, Repeats, SECOND, THIRD, address, are_instances, endpoint, endpoint_at};
-use crate::rows::{Step, first_wrong_step};
+use crate::rows::{Step, end_at, first_wrong_step};
 use Act::{Add, Known, Offer, QuietUntil, Reboot, Start, Stop, Tick};
 use sd_core::{Counted, InstanceId, KnownOffer, Phases, ReceivedOffer, Seeker, Ticked, Uncounted};
 use sd_wire::Ttl;
@@ -359,7 +359,6 @@ const TABLES: &[(&str, Repeats, &[At])] = &[
 #[test]
 fn finds_and_known_offers(rt: HostRuntime) {
     for (name, repeats, rows) in TABLES {
-        let wrong = first_wrong(rt.alloc(), repeats.phases(), rows);
-        assert!(rt; wrong.is_none(), "{name}: {wrong:?}");
+        end_at(&rt, name, first_wrong(rt.alloc(), repeats.phases(), rows));
     }
 }

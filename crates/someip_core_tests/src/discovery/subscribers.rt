@@ -1,6 +1,6 @@
 //! Rows of subscriptions at their server.
 use super::{FIRST, SECOND, address, counter, endpoint, endpoint_at};
-use crate::rows::{Printed, Step, check, first_wrong_step};
+use crate::rows::{Printed, Step, check, end_at, first_wrong_step};
 use Act::{Clear, IsLive, Live, Reboot, Stop, StopOffer, Subscribe, Tick};
 use sd_core::{
     Cause, InstanceId, Subscribe as Request, SubscribeError, SubscribeRules, Subscribers,
@@ -421,8 +421,7 @@ const TABLES: &[(&str, &[At])] = &[
 #[test]
 fn subscriptions_at_a_server(rt: HostRuntime) {
     for (name, rows) in TABLES {
-        let wrong = first_wrong(rt.alloc(), rows);
-        assert!(rt; wrong.is_none(), "{name}: {wrong:?}");
+        end_at(&rt, name, first_wrong(rt.alloc(), rows));
     }
 }
 

@@ -1,6 +1,6 @@
 //! Rows of a client's subscriptions.
 use super::{FIRST, SECOND, THIRD, address, counter};
-use crate::rows::{Step, first_wrong_step};
+use crate::rows::{Step, end_at, first_wrong_step};
 use Act::{Ack, Clear, IsSubscribed, Nack, Offer, Reboot, Stop, Tick, Unwant, Want};
 use sd_core::{
     Acked, Beginning, Eventgroup, InstanceId, OutgoingSubscribe, SubscribeAnswer, Subscriptions,
@@ -412,7 +412,6 @@ fn subscriptions_of_a_client(rt: HostRuntime) {
     assert!(rt; takes_turns(&mut subscriptions));
     assert!(rt; first_wrong_step(rt.alloc(), &mut subscriptions, ANEW).is_none());
     for (name, rows) in TABLES {
-        let wrong = first_wrong(rt.alloc(), rows);
-        assert!(rt; wrong.is_none(), "{name}: {wrong:?}");
+        end_at(&rt, name, first_wrong(rt.alloc(), rows));
     }
 }

@@ -186,8 +186,12 @@ const REFUSED: &[Refused] = &[
 ];
 
 #[test]
-fn tagged_values_and_faults(rt: HostRuntime) {
+fn tagged_values(rt: HostRuntime) {
     check(&rt, rt.alloc(), "READ", READ);
+}
+
+#[test]
+fn tagged_faults(rt: HostRuntime) {
     check(&rt, rt.alloc(), "FAULTS", FAULTS);
     check(&rt, rt.alloc(), "REFUSED", REFUSED);
 }

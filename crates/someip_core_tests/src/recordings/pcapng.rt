@@ -203,7 +203,8 @@ const SIMPLE_MORE: &[u8] = &[
     0, 0, 0, 0, 0, 0, 0, 0, 0, 0x38,
 ];
 
-pub(super) const FILES: &[File] = &[
+/// Sections in both orders, and blocks that are skipped.
+pub(super) const SECTIONS: &[File] = &[
     // A section alone.
     File(&[BIG_SECTION], &[]),
     // The highest byte first.
@@ -244,6 +245,10 @@ pub(super) const FILES: &[File] = &[
         &[BIG_SECTION, OTHER, BIG_INTERFACE, BARE, TICKS_9, OTHER],
         &[At(0, 9000)],
     ),
+];
+
+/// Interfaces with resolutions and offsets, and their times.
+pub(super) const TIMES: &[File] = &[
     // Nanoseconds.
     File(&[BIG_SECTION, NANO_INTERFACE, TICKS_9], &[At(0, 9)]),
     // Half seconds.
@@ -270,6 +275,10 @@ pub(super) const FILES: &[File] = &[
     File(&[BIG_SECTION, ODD_INTERFACE, TICKS_9], &[At(0, 9000)]),
     // An option that passes the block.
     File(&[BIG_SECTION, CUT_INTERFACE, TICKS_9], &[At(0, 9000)]),
+];
+
+/// Packets of one of several interfaces, whole and cut.
+pub(super) const PACKETS: &[File] = &[
     // Two interfaces.
     File(
         &[
@@ -324,6 +333,10 @@ pub(super) const FILES: &[File] = &[
         &[BIG_SECTION, BIG_INTERFACE, SIMPLE_MORE],
         &[Untimed(&[1, 2, 3, 4])],
     ),
+];
+
+/// Blocks whose length is none of theirs.
+pub(super) const LENGTHS: &[File] = &[
     // A block of 11 bytes.
     File(
         &[BIG_SECTION, &[0, 0, 0x0b, 0xad, 0, 0, 0, 0x0c, 0, 0, 0]],
@@ -422,6 +435,10 @@ pub(super) const FILES: &[File] = &[
         ],
         &[Ends(RecordingError::BlockLength(28))],
     ),
+];
+
+/// Packets of no interface, and beginnings that are none.
+pub(super) const UNKNOWN: &[File] = &[
     // A packet of no interface.
     File(
         &[

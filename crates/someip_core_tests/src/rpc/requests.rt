@@ -2,6 +2,7 @@
 use super::acts::Act::{self, Answer, Arrive, ArriveMany, Clear, Open};
 use super::acts::{Becomes, REQUEST, first_wrong, service};
 use super::{KEY, LONG, REFUSED, call, client, events, rules, server};
+use crate::rows::end_at;
 use someip_rpc::{
     Arrived, CallKind, ClientCore, Outgoing, Reply, RequestFault, RpcError, ServerCore,
     ServiceRules,
@@ -211,8 +212,7 @@ const TABLES: &[(&str, &[Act])] = &[
 fn requests_and_events(rt: HostRuntime) -> Result<(), Fail> {
     let service = service(rt.alloc())?;
     for (name, acts) in TABLES {
-        let wrong = first_wrong(rt.alloc(), &service, acts);
-        assert!(rt; wrong.is_none(), "{name}: {wrong:?}");
+        end_at(&rt, name, first_wrong(rt.alloc(), &service, acts));
     }
     Ok(())
 }

@@ -321,6 +321,9 @@ const WRITTEN: &[(&str, &[Written])] = &[
     ("WORKED", WORKED),
     ("OPTIONS4", OPTIONS4),
     ("OPTIONS6", OPTIONS6),
+];
+
+const RUNS: &[(&str, &[Written])] = &[
     ("RAW", RAW),
     ("SHARED", SHARED),
     ("SHARED_BY_ONE", SHARED_BY_ONE),
@@ -341,6 +344,13 @@ const INDEXED: &[(&str, &[Indexed])] = &[
 #[test]
 fn entries_are_written(rt: HostRuntime) {
     for (name, rows) in WRITTEN {
+        check(&rt, rt.alloc(), name, rows);
+    }
+}
+
+#[test]
+fn runs_are_written(rt: HostRuntime) {
+    for (name, rows) in RUNS {
         check(&rt, rt.alloc(), name, rows);
     }
 }

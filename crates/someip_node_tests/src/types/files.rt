@@ -29,8 +29,9 @@ const TABLE: &[u8] = b"[[message]]\nservice=0\nmethod=0\ntype='REQUEST'\nshape='
 const LONGEST: &[u8] = b"0123456789abcdef0123456789abcdef0123456789abcdef0123456789abcdef";
 
 /// The parts of a text, and what comes of it.
-type Row = (&'static [&'static [u8]], Wanted);
+pub type Row = (&'static [&'static [u8]], Wanted);
 
+/// What the file, and the service, the method and the type of a table may be.
 pub const READ: &[Row] = &[
     // The file.
     (&[], Empty),
@@ -91,6 +92,10 @@ pub const READ: &[Row] = &[
         &[MESSAGE, SERVICE, METHOD, TYPE],
         Refused("types: Missing shape"),
     ),
+];
+
+/// What its shape and its name may be.
+pub const SHAPES: &[Row] = &[
     // The shape.
     (
         &[MESSAGE, SERVICE, METHOD, TYPE, b"shape=8\n"],
@@ -126,6 +131,10 @@ pub const READ: &[Row] = &[
     ),
     (&[TABLE, b"name='", LONGEST, b"'\n"], Tables),
     (&[TABLE, b"name='!~'\n"], Tables),
+];
+
+/// Keys that are not known, and tables that clash.
+pub const KEYS: &[Row] = &[
     // Keys that are not known: after the known ones, of the file before those of the tables, the least by bytes.
     (&[TABLE, b"names='a'\n"], Refused("types: UnknownKey names")),
     (

@@ -53,6 +53,7 @@ const AT_NO_TIME: &str = "- 1.2.3.4:40000 6.7.8.9:30509 2";
 
 const AT_TWO: &str = "2.000000000 1.2.3.4:40000 6.7.8.9:30509 3";
 
+/// Segments that are refused.
 pub const REFUSED: &[Row] = &[
     // Refused segments: what is held stays, but for a conflict, which ends it. None is a fault.
     Row {
@@ -116,6 +117,10 @@ pub const REFUSED: &[Row] = &[
         ],
         ..PLAIN
     },
+];
+
+/// Messages for which there is no slot, and a segment that is none.
+pub const CROWDED: &[Row] = &[
     Row {
         packets: &[
             Packet(Some(1_000_000), FORTH, FIRST),
@@ -182,6 +187,7 @@ pub const REFUSED: &[Row] = &[
     },
 ];
 
+/// Service Discovery, and values.
 pub const ASKED: &[Row] = &[
     // At the port of Service Discovery nothing is put together, and nothing dropped.
     Row {
@@ -266,6 +272,10 @@ pub const ASKED: &[Row] = &[
         ],
         ..PLAIN
     },
+];
+
+/// With time and endpoints, and by services and ports.
+pub const FILTERED: &[Row] = &[
     // Time and endpoints stand before these lines too.
     Row {
         packets: &[

@@ -47,6 +47,7 @@ pub const PLAIN: Row = Row {
     outcome: Done,
 };
 
+/// Messages that come whole.
 pub const ROWS: &[Row] = &[
     // Whole at its last segment, in whichever order they come, also in one datagram; not where none is put together.
     Row {
@@ -149,6 +150,10 @@ pub const ROWS: &[Row] = &[
         ],
         ..PLAIN
     },
+];
+
+/// How long a part stands.
+pub const STANDING: &[Row] = &[
     // A part stands 999 milliseconds after its last segment, and not 1000, in milliseconds that are rounded down.
     Row {
         packets: &[
@@ -204,6 +209,10 @@ pub const ROWS: &[Row] = &[
         ],
         ..PLAIN
     },
+];
+
+/// Datagrams without a time, and with an earlier one.
+pub const UNTIMED: &[Row] = &[
     // A datagram without a time has the latest so far, 0 at first.
     Row {
         packets: &[

@@ -5,6 +5,7 @@ use Rattle.someip_node.proofs.QuietLemmas.{quiet_step, ran_out}
 use Rattle.someip_node_rules.specs.Inputs.{Tick}
 use Rattle.someip_node.proofs.HandledLemmas.{handled_given}
 use Rattle.someip_node_rules.proofs.Stands.{answers}
+use Rattle.someip_node.proofs.RefusalLemmas.{call_refused}
 use Rattle.someip_node.proofs.WithinLemmas.{handled_fits}
 use Rattle.someip_node.proofs.node.Node.tick.Goals as goal
 
@@ -20,6 +21,11 @@ returns-clause-quiet g c = λ h done stands is none out.
     let same = answers c.self.inside.failed c.self.inside.engine h c.in_ok-giving.ensures.works (c.self.view_is ∙ stands) in
     let grew = ran_out c.take_tick-done.result _ c.take_tick-done.ensures.grows (sym c.finish.ensures.given ∙ out) in
     grew.1 (subst (λ t. BringsNothing (t.clock + c.args.ms) t) (sym same) (quiet_step h c.args.ms done (subst (λ t. KnowsWanted t.seek) same grew.0) is none))
+
+pub returns-clause-errors : goal.returns-clause-errors
+returns-clause-errors g c =
+    call_refused (Tick c.args.ms) c.take_tick-done.result c.in_ok-giving.giving c.take_tick-done.new.giving c.self.inside.engine c.take_tick-done.new.self _
+    c.take_tick-done.ensures.handled c.finish.ensures.given
 
 pub invariant_of-self : goal.invariant_of-self
 invariant_of-self g c = λ fine.
