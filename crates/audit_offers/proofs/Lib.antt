@@ -1,3 +1,4 @@
 pub mod OfferLemmas
 pub mod DueLemmas
 pub mod HistoryLemmas
+pub mod ReasonLemmas

@@ -4,3 +4,4 @@ pub mod OfferRules
 pub mod OfferTables
 pub mod OfferHistories
 pub mod OfferExamples
+pub mod OfferReasons

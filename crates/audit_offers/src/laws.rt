@@ -1,6 +1,6 @@
 //! Laws of the definitions behind the contracts. Each is the contract of a function that does nothing:
 //! it says what a recording shows of offers, whatever code keeps the book.
-ghost use Rattle.std.specs.Prelude.{◌≡◌, ◌≤◌, ℕ, Option, List, [], ◌∷◌, true, false, Some, None};
+ghost use Rattle.std.specs.Prelude.{◌≡◌, ◌↔◌, ◌≤◌, ℕ, Option, List, [], ◌∷◌, true, false, Some, None};
 ghost use Rattle.std.specs.FinMap as finite;
 ghost use Rattle.someip_tables.specs.declared.deadline.Deadline.TheVariants.{At};
 ghost use Rattle.audit_offers.specs.declared.entry.OfferEntry.{OfferEntry};
@@ -8,9 +8,11 @@ ghost use Rattle.audit_offers.specs.declared.entry.Standing.{Standing};
 ghost use Rattle.audit_offers.specs.declared.finding.Expired.{Expired};
 ghost use Rattle.audit_offers.specs.declared.finding.Finding.TheVariants.{Full, Moved};
 ghost use Rattle.audit_offers.specs.declared.key.OfferKey.{OfferKey};
+ghost use Rattle.audit_offers.specs.OfferRules.{has_expired};
 ghost use Rattle.audit_offers.specs.OfferTables.{FallsDue, OfferTable, Offers, after_due, after_entry, told_by};
 ghost use Rattle.audit_offers.specs.OfferHistories.{Event, book_of, expiring_in, shown_by, standing_in};
 ghost use Rattle.audit_offers.specs.OfferHistories.{without_expired};
+ghost use Rattle.audit_offers.specs.OfferReasons.{IsStanding, Moves};
 ghost use Rattle.audit_offers.specs.OfferExamples.{begins_again, comes, endpoint, from_node, offer, offer_at};
 ghost use Rattle.audit_offers.specs.OfferExamples.{offer_nowhere, service, standing_at, stop};
 
@@ -112,4 +114,16 @@ pub fn full_is_told_once()
         → (book.told_full ≡ false) × ((after_entry now entry book).told_full ≡ true) }
     ensures stays { (now : ℕ) (entry : OfferEntry) (book : OfferTable) → book.told_full ≡ true
         → (after_entry now entry book).told_full ≡ true }
+{}
+
+/// An offer that expires and an Offer that moves one are told exactly where their reasons in plain words
+/// hold: an offer stands exactly where its Offer is among the events and since then nothing ended it.
+pub fn each_finding_has_its_reason()
+    ensures stands { (key : OfferKey) (offer : Standing) (events : List Event)
+        → (standing_in events key ≡ Some offer) ↔ IsStanding key offer events }
+    ensures expired { (now : ℕ) (key : OfferKey) (offer : Standing) (events : List Event)
+        → (expiring_in events now key ≡ Some offer)
+        ↔ (IsStanding key offer events × (has_expired now offer ≡ true)) }
+    ensures moved { (now : ℕ) (entry : OfferEntry) (events : List Event)
+        → (shown_by events now entry ≡ Some Moved) ↔ Moves now entry events }
 {}

@@ -2,3 +2,4 @@ mod FineLemmas
 pub mod SubscribedLemmas
 pub mod HistoryLemmas
 pub mod ToldLemmas
+mod LimitLemmas

@@ -1,6 +1,6 @@
 //! Laws of the definitions behind the contracts. Each is the contract of a function that does nothing:
 //! it says what a recording shows of subscriptions, whatever code keeps the book.
-ghost use Rattle.std.specs.Prelude.{◌≡◌, ◌↔◌, ℕ, List, [], ◌∷◌, true, false, Some, None};
+ghost use Rattle.std.specs.Prelude.{◌≡◌, ◌↔◌, ◌≤◌, ℕ, List, [], ◌∷◌, true, false, Some, None};
 ghost use Rattle.std.specs.FinMap as finite;
 ghost use Rattle.std.specs.declared.net.socket_addr.SocketAddrV4.{SocketAddrV4};
 ghost use Rattle.someip_tables.specs.declared.lasting.Lasting.{Lasting};
@@ -111,4 +111,12 @@ pub fn a_subscription_makes_subscribed()
         → (is_subscribed delivery standing ≡ true) ↔ ((key : SubscriptionKey)
         × (lasting : Lasting SocketAddrV4) × (finite.get standing key ≡ Some lasting)
         × (goes_by delivery key lasting.value ≡ true)) }
+{}
+
+/// A book holds no more subscriptions than its limit, and knows of no more events that were told.
+pub fn a_book_keeps_its_limits()
+    ensures standing { (limit settled : ℕ) (events : List Event)
+        → finite.len (book_of limit settled events).standing ≤ limit }
+    ensures told { (limit settled : ℕ) (events : List Event)
+        → finite.len (book_of limit settled events).told ≤ limit }
 {}

@@ -146,10 +146,10 @@ impl ReceiverBook {
         if is_silent(self.told_full, now, self.settled) {
             return Ok(None);
         }
-        if has_receiver(&self.standing, &mut self.fine, self.limit, delivery) {
+        if is_told(&self.told, &delivery) {
             return Ok(None);
         }
-        if is_told(&self.told, &delivery) {
+        if has_receiver(&self.standing, &mut self.fine, self.limit, delivery) {
             return Ok(None);
         }
         if !has_room(&self.told, self.limit) {

@@ -1,3 +1,4 @@
 mod SubscribeLemmas
 mod DueLemmas
 mod HistoryLemmas
+mod ReasonLemmas

@@ -4,3 +4,4 @@ pub mod SubscribeRules
 pub mod SubscribeTables
 pub mod SubscribeHistories
 pub mod SubscribeExamples
+pub mod SubscribeReasons

@@ -1,17 +1,18 @@
 //! Laws of the definitions behind the contracts. Each is the contract of a function that does nothing:
 //! it says what a recording shows of Subscribes, whatever code keeps the book.
-ghost use Rattle.std.specs.Prelude.{◌≡◌, ◌≤◌, ℕ, Option, List, [], ◌∷◌, true, false, Some, None};
+ghost use Rattle.std.specs.Prelude.{◌≡◌, ◌↔◌, ◌≤◌, ℕ, Option, List, [], ◌∷◌, true, false, Some, None};
 ghost use Rattle.std.specs.FinMap as finite;
 ghost use Rattle.audit_subscriptions.specs.declared.entry.Asked.{Asked};
 ghost use Rattle.audit_subscriptions.specs.declared.entry.SubscribeEntry.{SubscribeEntry};
 ghost use Rattle.audit_subscriptions.specs.declared.finding.Finding.TheVariants.{Full, Nack};
 ghost use Rattle.audit_subscriptions.specs.declared.finding.Unanswered.{Unanswered};
 ghost use Rattle.audit_subscriptions.specs.declared.key.SubscriptionKey.{SubscriptionKey};
-ghost use Rattle.audit_subscriptions.specs.SubscribeRules.{told_of_answer};
+ghost use Rattle.audit_subscriptions.specs.SubscribeRules.{is_late, told_of_answer};
 ghost use Rattle.audit_subscriptions.specs.SubscribeTables.{FallsDue, SubscribeTable, Waiting, after_due};
 ghost use Rattle.audit_subscriptions.specs.SubscribeTables.{after_entry, told_by};
 ghost use Rattle.audit_subscriptions.specs.SubscribeHistories.{Event, book_of, unanswered_in, waiting_in};
 ghost use Rattle.audit_subscriptions.specs.SubscribeHistories.{without_late};
+ghost use Rattle.audit_subscriptions.specs.SubscribeReasons.{IsWaiting};
 ghost use Rattle.audit_subscriptions.specs.SubscribeExamples.{answer, begins_again, comes, other_answer};
 ghost use Rattle.audit_subscriptions.specs.SubscribeExamples.{subscribe, subscription, waits};
 
@@ -90,4 +91,14 @@ pub fn full_is_told_once()
         → (book.told_full ≡ false) × ((after_entry now entry book).told_full ≡ true) }
     ensures stays { (now : ℕ) (entry : SubscribeEntry) (book : SubscribeTable) → book.told_full ≡ true
         → (after_entry now entry book).told_full ≡ true }
+{}
+
+/// A Subscribe waits exactly where it is among the events, none of its subscription waited then, and since
+/// then no answer and no reboot came; it is told as unanswered exactly where it waits too long.
+pub fn each_finding_has_its_reason()
+    ensures waits { (answer_ms : ℕ) (key : SubscriptionKey) (asked : Asked) (events : List Event)
+        → (waiting_in answer_ms events key ≡ Some asked) ↔ IsWaiting answer_ms key asked events }
+    ensures unanswered { (answer_ms now : ℕ) (key : SubscriptionKey) (asked : Asked)
+        (events : List Event) → (unanswered_in answer_ms events now key ≡ Some asked)
+        ↔ (IsWaiting answer_ms key asked events × (is_late now asked ≡ true)) }
 {}
