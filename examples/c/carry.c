@@ -128,6 +128,10 @@ bool run_node(const struct place *place, take_output *take, act_on *act, uint64_
     someip_handle node = SOMEIP_HANDLE_INIT;
     struct sockets sockets = {.count = 0};
     size_t setup_length = read_setup(bytes, sizeof bytes);
+    if (someip_version() != SOMEIP_VERSION) {
+        fprintf(stderr, "the library is not that of the header\n");
+        exit(2);
+    }
     open_sockets(&sockets, place);
     uint64_t begun = now_ms(), last = begun;
     must("someip_start", someip_start(&node, bytes, setup_length, (const uint8_t *)place->name, strlen(place->name),
