@@ -3,7 +3,7 @@ use crate::endings::is_end;
 use crate::printed::is_printed;
 use crate::slow::{Limits, SlowWriter, UNLIMITED};
 use recording::RecordingError;
-use rows::{ROWS, Wanted};
+use rows::{ROWS, Row, SHOWING, Wanted};
 use someip_world::{SetupError, StepFault};
 use someipctl_cli::{Failure, LineError, answer_error, command_of, run};
 use someipctl_commands::payload::PayloadRefusal;
@@ -15,6 +15,7 @@ use someipctl_recordings::{LimitsError, RecordingFault};
 use someipctl_run::{RunFault, SetupFault, read_setup};
 use someipctl_types::{TypesError, TypesFault};
 use std::alloc::{AllocError, Global};
+use std::process::Abort;
 
 mod rows;
 
@@ -183,14 +184,21 @@ fn is_right(alloc: Global, words: &str, wanted: Wanted) -> Option<bool> {
     come_to(alloc, &words, wanted)
 }
 
+/// The words of each of these rows come to what is wanted.
+fn check(rt: &impl Abort, alloc: Global, rows: &[Row]) {
+    for (words, wanted) in rows {
+        assert!(rt; is_right(alloc, words, *wanted) == Some(true), "{words}");
+    }
+}
+
 #[test]
 fn words_come_to_a_command_or_a_text(rt: HostRuntime) {
     let none = Wanted::Usage("requires a subcommand but one was not provided");
     assert!(rt; come_to(rt.alloc(), &[], none) == Some(true));
-    for (words, wanted) in ROWS {
-        assert!(rt;
-            is_right(rt.alloc(), words, *wanted) == Some(true),
-            "{words}"
-        );
-    }
+    check(&rt, rt.alloc(), ROWS);
+}
+
+#[test]
+fn words_of_show_and_payload_come_to_a_command_or_a_text(rt: HostRuntime) {
+    check(&rt, rt.alloc(), SHOWING);
 }

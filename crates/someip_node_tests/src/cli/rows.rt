@@ -29,6 +29,7 @@ const NO_OPTIONS: RecordingOptions<'static> = RecordingOptions {
     timeout: None,
 };
 
+/// Calls of the commands that read a file, and their help.
 pub const ROWS: &[Row] = &[
     ("someipctl|vectors|x", Is(Vectors { file: "x" })),
     ("someipctl|vectors|-", Is(Vectors { file: "-" })),
@@ -151,6 +152,10 @@ pub const ROWS: &[Row] = &[
         Usage("Usage: someipctl run <SETUP> <SCHEDULE>\n"),
     ),
     ("someipctl|help|run", Help("  deliver N NODE\n")),
+];
+
+/// Calls of `show` and `payload`, and of no command.
+pub const SHOWING: &[Row] = &[
     (
         "someipctl|show|x",
         Is(Show {
