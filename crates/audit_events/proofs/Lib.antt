@@ -1,0 +1,3 @@
+pub mod FlowLemmas
+mod NearestLemmas
+mod HistoryLemmas

@@ -1,0 +1,6 @@
+pub mod FlowKeys
+pub mod FlowOrder
+pub mod EventRules
+pub mod EventTables
+pub mod EventHistories
+pub mod EventExamples

@@ -1,0 +1,23 @@
+//! What the sessions of events in a recording show: which event came twice, and which were lost (SOME/IP
+//! Protocol, "Session ID").
+//!
+//! - [`EventBook`]: the last event of each flow;
+//! - [`Notification`]: what it is told of an event; [`EventFlow`]: which event it is, from whom, and to
+//!   whom;
+//! - [`Finding`]: what these show; [`LastEvent`]: what is kept of a flow;
+//! - [`laws`]: what the definitions behind the contracts promise.
+#![tactic(auto)]
+
+mod event_book;
+mod finding;
+mod flow;
+mod last_event;
+pub mod laws;
+mod notification;
+mod steps;
+
+pub use event_book::EventBook;
+pub use finding::Finding;
+pub use flow::EventFlow;
+pub use last_event::LastEvent;
+pub use notification::Notification;
