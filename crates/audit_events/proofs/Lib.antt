@@ -1,3 +1,5 @@
 pub mod FlowLemmas
 mod NearestLemmas
 mod HistoryLemmas
+pub mod OrderLemmas
+pub mod WalkLemmas

@@ -4,3 +4,4 @@ pub mod EventRules
 pub mod EventTables
 pub mod EventHistories
 pub mod EventExamples
+pub mod Neighbours
