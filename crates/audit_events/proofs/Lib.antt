@@ -3,3 +3,5 @@ mod NearestLemmas
 mod HistoryLemmas
 pub mod OrderLemmas
 pub mod WalkLemmas
+mod SinceLemmas
+mod ReasonLemmas

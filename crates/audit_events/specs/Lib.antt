@@ -5,3 +5,4 @@ pub mod EventTables
 pub mod EventHistories
 pub mod EventExamples
 pub mod Neighbours
+pub mod EventReasons
