@@ -4,10 +4,8 @@ use Rattle.std.specs.Option.{option_map}
 use Rattle.std.specs.Ordering.{eq_by_cmp}
 use Rattle.std.specs.FinMap as finite
 use Rattle.std.specs.declared.net.ipv4_addr.Ipv4Addr.{Ipv4Addr}
-use Rattle.someip_tables.specs.Endpoints.{endpoint_cmp}
-use Rattle.someip_tables.specs.EndpointOrder.{endpoints_total}
 use Rattle.someip_tables.proofs.ChangedLemmas.{get-changed}
-use Rattle.someip_tables.proofs.Entries.{own_test, same_by_test}
+use Rattle.someip_tables.proofs.Entries.{same_by_test}
 use Rattle.sd_session.specs.Sessions.{next_session}
 use Rattle.audit_events.specs.declared.flow.EventFlow.{EventFlow}
 use Rattle.audit_events.specs.declared.last_event.LastEvent.{LastEvent}
@@ -18,18 +16,10 @@ use Rattle.audit_events.specs.FlowOrder.{flows_total, exact_flows}
 use Rattle.audit_events.specs.EventRules.{disturbed, is_at, is_between, is_loss, is_of_service, is_other, judged, past, renewed}
 use Rattle.audit_events.specs.EventTables.{Events, Flows, after_event, flows_after, may_hold, told_by, told_when_full}
 use Rattle.audit_events.specs.EventHistories.{BeganAgain, Came, Changed, Shown, Since, Withdrawn, book_after, book_of, kept_of, shown_after, shown_since, since_after, since_disturbed, since_event, since_got, since_in}
+use Rattle.audit_events.proofs.FlowLemmas.{not_its_own}
 use Rattle.audit_events.proofs.NearestLemmas.{nearest_tells}
 
 -- ---- an event
-
-not_its_own : (flow : EventFlow) → is_other flow flow ≡ false
-not_its_own flow = rw (own_test endpoints_total flow.receiver) (cases (eq_by_cmp endpoint_cmp flow.sender flow.sender) (flow.service == flow.service) (flow.event == flow.event))
-  where
-    cases : (a b c : Bool) → (a && (b && (c && false))) ≡ false
-    cases true true true = refl
-    cases true true false = refl
-    cases true false c = refl
-    cases false b c = refl
 
 renewed_is : (session : ℕ) (before : Option Since) → renewed session (option_map kept_of before) ≡ kept_of (since_event session before)
 renewed_is session None = refl

@@ -1,3 +1,7 @@
 pub mod FlowLemmas
 mod NearestLemmas
 mod HistoryLemmas
+pub mod OrderLemmas
+pub mod WalkLemmas
+mod SinceLemmas
+mod ReasonLemmas

@@ -4,3 +4,5 @@ pub mod EventRules
 pub mod EventTables
 pub mod EventHistories
 pub mod EventExamples
+pub mod Neighbours
+pub mod EventReasons

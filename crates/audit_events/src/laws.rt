@@ -1,6 +1,6 @@
 //! Laws of the definitions behind the contracts. Each is the contract of a function that does nothing:
 //! it says what the sessions of events show, whatever code keeps the book.
-ghost use Rattle.std.specs.Prelude.{◌≡◌, ◌≢◌, ℕ, List, [], ◌∷◌, true, false, Some, None};
+ghost use Rattle.std.specs.Prelude.{◌≡◌, ◌≢◌, ◌↔◌, ℕ, List, [], ◌∷◌, true, false, Some, None};
 ghost use Rattle.std.specs.FinMap as finite;
 ghost use Rattle.std.specs.List.{list_any};
 ghost use Rattle.std.specs.Option.{option_map};
@@ -11,6 +11,7 @@ ghost use Rattle.audit_events.specs.EventRules.{ahead, is_nearer, is_skipped, ju
 ghost use Rattle.audit_events.specs.EventTables.{Events, after_event, told_by};
 ghost use Rattle.audit_events.specs.EventHistories.{BeganAgain, Came, Changed, Shown, Withdrawn, book_of};
 ghost use Rattle.audit_events.specs.EventHistories.{kept_of, nearest_of, shown_after, since_in};
+ghost use Rattle.audit_events.specs.EventReasons.{IsGap, IsRepeated};
 ghost use Rattle.audit_events.specs.EventExamples.{another_comes, comes, event_to, group, last, node};
 
 /// By how many a session is ahead of another, by example: FFFF is followed by 1.
@@ -138,4 +139,13 @@ pub fn a_full_book_tells_no_gap()
         → (after_event event book).told_full ≡ true }
     ensures no_gap { (session expected : ℕ) (event : Notification) (book : Events)
         → book.told_full ≡ true → told_by event book ≢ Some (Gap session expected) }
+{}
+
+/// A repeated event and a gap are told exactly where their reasons in plain words hold.
+pub fn each_finding_has_its_reason()
+    ensures repeated { (event : Notification) (shown : List Shown)
+        → (shown_after shown event ≡ Some Repeated) ↔ IsRepeated event shown }
+    ensures gap { (session expected : ℕ) (event : Notification) (shown : List Shown)
+        → (shown_after shown event ≡ Some (Gap session expected))
+        ↔ IsGap session expected event shown }
 {}

@@ -1,5 +1,5 @@
 //! What events, and what changes who gets them, make of the last events of a book.
-ghost use Rattle.std.specs.Prelude.{◌≡◌, ◌==◌, IfOk, OnErr, if◌then◌else◌, not, nat_lt, None, true};
+ghost use Rattle.std.specs.Prelude.{◌≡◌, ◌==◌, IfOk, OnErr, if◌then◌else◌, not, nat_lt, None, true, false};
 ghost use Rattle.std.specs.FinMap as finite;
 ghost use Rattle.someip_tables.specs.Changed.{each_changed};
 ghost use Rattle.someip_tables.specs.Tables.{map_of};
@@ -9,6 +9,9 @@ ghost use Rattle.audit_events.specs.EventRules.{ahead, disturbed, is_at, is_betw
 ghost use Rattle.audit_events.specs.EventRules.{is_nearer, is_of_service, is_other, judged, nearer, past};
 ghost use Rattle.audit_events.specs.EventRules.{renewed};
 ghost use Rattle.audit_events.specs.EventTables.{others_past, told_when_full};
+ghost use Rattle.audit_events.specs.Neighbours.{HasPassed, IsNeighbour, in_direction};
+ghost use Rattle.audit_events.specs.declared.flow.EventFlow.{EventFlow};
+ghost use Rattle.std.specs.declared.cmp.Ordering.TheVariants.{Less};
 
 use crate::finding::Finding;
 use crate::flow::EventFlow;
@@ -18,6 +21,7 @@ use someip_tables::is_same_key;
 use std::alloc::AllocError;
 use std::collections::BTreeMap;
 use std::net::Ipv4Addr;
+use std::ops::Bound;
 
 /// The last event of each flow.
 pub(crate) type Flows = BTreeMap<EventFlow, LastEvent>;
@@ -63,8 +67,82 @@ pub(crate) fn put(flows: &mut Flows, flow: EventFlow, last: LastEvent) -> Result
     }
 }
 
-/// Tells the other flows of an event that one came.
+/// Tells the other flows of an event that one came. They stand beside its own in the order of flows, so
+/// it looks at these alone; only where there are very many it looks at every flow.
 pub(crate) fn pass_others(flows: &mut Flows, event: &Notification)
+    ensures { map_of flow_cmp flows.new.entries
+        ≡ others_past event.now (map_of flow_cmp flows.old.entries) }
+{
+    if pass_neighbours(flows, event, true) && pass_neighbours(flows, event, false) {
+        return;
+    }
+    pass_each(flows, event);
+}
+
+/// How many flows of one event it goes over, in each direction, before it looks at every flow.
+const NEIGHBOURS: usize = 256;
+
+/// Tells the other flows of an event that stand in one direction from its own that one came. Whether
+/// these were all.
+fn pass_neighbours(flows: &mut Flows, event: &Notification, forward: bool) -> bool
+    ensures same { others_past event.now (map_of flow_cmp flows.new.entries)
+        ≡ others_past event.now (map_of flow_cmp flows.old.entries) }
+    ensures kept { (q : EventFlow)
+        → HasPassed event.now.session (map_of flow_cmp flows.old.entries) q
+        → HasPassed event.now.session (map_of flow_cmp flows.new.entries) q }
+    ensures all { result ≡ true → (q : EventFlow) → is_other event.now.flow q ≡ true
+        → in_direction forward event.now.flow q ≡ Less
+        → HasPassed event.now.session (map_of flow_cmp flows.new.entries) q }
+{
+    let mut at = event.flow;
+    for _ in 0..NEIGHBOURS {
+        let Some((flow, last)) = neighbour(flows, &at, forward) else {
+            return true;
+        };
+        if !is_other(&event.flow, &flow) {
+            return true;
+        }
+        if put(flows, flow, past(event.session, last)).is_err() {
+            return false;
+        }
+        at = flow;
+    }
+    false
+}
+
+/// The first flow beyond one in a direction, with its last event.
+fn neighbour(flows: &Flows, at: &EventFlow, forward: bool) -> Option<(EventFlow, LastEvent)>
+    ensures { IsNeighbour forward (map_of flow_cmp flows.now.entries) at.now result }
+{
+    if forward {
+        next_flow(flows, *at)
+    } else {
+        previous_flow(flows, *at)
+    }
+}
+
+/// The first flow after one, with its last event.
+fn next_flow(flows: &Flows, at: EventFlow) -> Option<(EventFlow, LastEvent)>
+    ensures { IsNeighbour true (map_of flow_cmp flows.now.entries) at result }
+{
+    match flows.range((Bound::Excluded(at), Bound::Unbounded)).next() {
+        Some((flow, last)) => Some((*flow, *last)),
+        None => None,
+    }
+}
+
+/// The last flow before one, with its last event.
+fn previous_flow(flows: &Flows, at: EventFlow) -> Option<(EventFlow, LastEvent)>
+    ensures { IsNeighbour false (map_of flow_cmp flows.now.entries) at result }
+{
+    match flows.range(..at).next_back() {
+        Some((flow, last)) => Some((*flow, *last)),
+        None => None,
+    }
+}
+
+/// Looks at every flow, and tells the other flows of an event that one came.
+fn pass_each(flows: &mut Flows, event: &Notification)
     ensures { map_of flow_cmp flows.new.entries
         ≡ others_past event.now (map_of flow_cmp flows.old.entries) }
 {
@@ -79,14 +157,21 @@ pub(crate) fn pass_others(flows: &mut Flows, event: &Notification)
 fn once_passed(flow: &EventFlow, last: LastEvent, event: &Notification) -> LastEvent
     ensures { result ≡ (if is_other event.now.flow flow.now then past event.now.session last else last) }
 {
-    if !is_other(&event.flow, flow) {
-        return last;
+    if is_other(&event.flow, flow) {
+        past(event.session, last)
+    } else {
+        last
     }
-    let distance = ahead(last.session, event.session);
+}
+
+/// The last event of a flow once another receiver got a session.
+fn past(session: u16, last: LastEvent) -> LastEvent
+    ensures { result ≡ past session last }
+{
     LastEvent {
         session: last.session,
         is_disturbed: last.is_disturbed,
-        nearest: nearer(distance, last.nearest),
+        nearest: nearer(ahead(last.session, session), last.nearest),
     }
 }
 

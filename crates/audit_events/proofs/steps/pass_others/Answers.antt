@@ -1,10 +1,12 @@
-use Rattle.std.proofs.Common.{if◌then◌else◌, rules}
-use Rattle.someip_tables.proofs.ChangedLemmas.{map_keyed_pairs, changed-entries}
-use Rattle.audit_events.specs.FlowOrder.{flows_total, exact_flows}
-use Rattle.audit_events.specs.EventRules.{is_other, past}
+use Rattle.std.proofs.Common.{◌∙◌}
+use Rattle.someip_tables.specs.Tables.{map_of}
+use Rattle.audit_events.specs.FlowKeys.{flow_cmp}
+use Rattle.audit_events.proofs.WalkLemmas.{nothing_left}
 use Rattle.audit_events.proofs.steps.pass_others.Goals as goal
 
-pub returns : goal.returns
-returns c =
-    changed-entries flows_total exact_flows (λ flow last. if is_other c.args.event.now.flow flow then past c.args.event.now.session last else last) c.args.flows.now.entries c.retain.new.self.entries
-    (map_keyed_pairs _ (λ flow last. if is_other c.args.event.now.flow flow then past c.args.event.now.session last else last) _ (λ k v b w f' t. search rules) _ _ c.retain.ensures.filtered)
+pub returns-then-pass_neighbours-2 : goal.returns-then-pass_neighbours-2
+returns-then-pass_neighbours-2 c =
+    nothing_left c.args.event.now (map_of flow_cmp c.pass_neighbours-then-pass_neighbours.new.flows.entries)
+    (λ q other beyond. c.pass_neighbours-then-pass_neighbours.ensures.kept q (c.pass_neighbours.ensures.all c.if-pass_neighbours.true q other beyond))
+    (λ q other beyond. c.pass_neighbours-then-pass_neighbours.ensures.all c.if-pass_neighbours-2.true q other beyond)
+    ∙ c.pass_neighbours-then-pass_neighbours.ensures.same ∙ c.pass_neighbours.ensures.same
