@@ -166,3 +166,7 @@ full_noted now entry book is = cases (entry.ttl == 0) is
         → (book.told_full ≡ false) × ((if b then record book { standing = stopped entry book.standing } else after_offer now entry entry.endpoint book).told_full ≡ true)
     cases true e = absurd (cc)
     cases false e = full_by_offer now entry entry.endpoint book e
+
+pub full_told : (entry : OfferEntry) (place : SocketAddrV4) (book : OfferTable) → (entry.ttl == 0) ≡ false → entry.endpoint ≡ Some place
+    → may_hold book.limit book.standing entry.key ≡ false → book.told_full ≡ false → told_by entry book ≡ Some Full
+full_told entry place book offers at refused fits = rw (offers, at, refused, fits) refl

@@ -1,5 +1,5 @@
 -- The offers that stand.
-use Rattle.std.specs.Prelude.{◌≡◌, ℕ, ◌==◌, ◌≤◌, nat_lt, Bool, true, false, not, ◌||◌, if◌then◌else◌, Option, None, Some, is_some, refl}
+use Rattle.std.specs.Prelude.{◌≡◌, ℕ, ◌==◌, ◌≤◌, nat_lt, Bool, true, false, not, ◌&&◌, ◌||◌, if◌then◌else◌, Option, None, Some, is_some, refl}
 use Rattle.std.specs.Coded.{Coded, code_by, coded×, coded_ℕ, coded_bool}
 use Rattle.std.specs.FinMap as finite
 use Rattle.std.specs.FinMap.{FinMap}
@@ -74,6 +74,10 @@ abbrev pub after_entry : ℕ → OfferEntry → OfferTable → OfferTable
 after_entry now entry book =
     if entry.ttl == 0 then record book { standing = stopped entry book.standing }
     else after_offer now entry entry.endpoint book
+
+-- an entry is stored: it is an Offer with an endpoint, and may be held
+abbrev pub is_stored : OfferEntry → OfferTable → Bool
+is_stored entry book = not (entry.ttl == 0) && is_some entry.endpoint && may_hold book.limit book.standing entry.key
 
 -- ---- a reboot
 

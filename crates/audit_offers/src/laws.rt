@@ -1,7 +1,8 @@
 //! Laws of the definitions behind the contracts. Each is the contract of a function that does nothing:
 //! it says what a recording shows of offers, whatever code keeps the book.
-ghost use Rattle.std.specs.Prelude.{◌≡◌, ◌↔◌, ◌≤◌, ℕ, Option, List, [], ◌∷◌, true, false, Some, None};
+ghost use Rattle.std.specs.Prelude.{◌≡◌, ◌↔◌, ◌≤◌, ◌==◌, ℕ, Option, List, [], ◌∷◌, true, false, Some, None};
 ghost use Rattle.std.specs.FinMap as finite;
+ghost use Rattle.std.specs.declared.net.socket_addr.SocketAddrV4.{SocketAddrV4};
 ghost use Rattle.someip_tables.specs.declared.deadline.Deadline.TheVariants.{At};
 ghost use Rattle.audit_offers.specs.declared.entry.OfferEntry.{OfferEntry};
 ghost use Rattle.audit_offers.specs.declared.entry.Standing.{Standing};
@@ -9,7 +10,8 @@ ghost use Rattle.audit_offers.specs.declared.finding.Expired.{Expired};
 ghost use Rattle.audit_offers.specs.declared.finding.Finding.TheVariants.{Full, Moved};
 ghost use Rattle.audit_offers.specs.declared.key.OfferKey.{OfferKey};
 ghost use Rattle.audit_offers.specs.OfferRules.{has_expired};
-ghost use Rattle.audit_offers.specs.OfferTables.{FallsDue, OfferTable, Offers, after_due, after_entry, told_by};
+ghost use Rattle.audit_offers.specs.OfferTables.{FallsDue, OfferTable, Offers, after_due, after_entry, may_hold};
+ghost use Rattle.audit_offers.specs.OfferTables.{told_by};
 ghost use Rattle.audit_offers.specs.OfferHistories.{Event, book_of, expiring_in, shown_by, standing_in};
 ghost use Rattle.audit_offers.specs.OfferHistories.{without_expired};
 ghost use Rattle.audit_offers.specs.OfferReasons.{IsStanding, Moves};
@@ -114,6 +116,10 @@ pub fn full_is_told_once()
         → (book.told_full ≡ false) × ((after_entry now entry book).told_full ≡ true) }
     ensures stays { (now : ℕ) (entry : OfferEntry) (book : OfferTable) → book.told_full ≡ true
         → (after_entry now entry book).told_full ≡ true }
+    ensures tells { (entry : OfferEntry) (endpoint : SocketAddrV4) (book : OfferTable)
+        → (entry.ttl == 0) ≡ false → entry.endpoint ≡ Some endpoint
+        → may_hold book.limit book.standing entry.key ≡ false → book.told_full ≡ false
+        → told_by entry book ≡ Some Full }
 {}
 
 /// An offer that expires and an Offer that moves one are told exactly where their reasons in plain words

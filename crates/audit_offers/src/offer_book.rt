@@ -10,7 +10,7 @@ ghost use Rattle.audit_tables.specs.Dues.{WantsMemory};
 ghost use Rattle.audit_offers.specs.OfferKeys.{offer_cmp};
 ghost use Rattle.audit_offers.specs.OfferRules.{is_of, moved_by, offered_at, passes_at};
 ghost use Rattle.audit_offers.specs.OfferTables.{FallsDue, after_due, after_entry, is_offered_by, may_hold};
-ghost use Rattle.audit_offers.specs.OfferTables.{stopped, told_by, told_when_full, without_sender};
+ghost use Rattle.audit_offers.specs.OfferTables.{is_stored, stopped, told_by, told_when_full, without_sender};
 
 use crate::entry::{OfferEntry, Standing};
 use crate::finding::{Expired, Finding};
@@ -66,11 +66,13 @@ impl OfferBook {
     /// An Offer stands until its TTL has passed, in place of one of the same key; where that was of
     /// another sender or had another endpoint, it moved. A StopOffer ends the offer of its sender, and
     /// says nothing. What fell due before is asked for before, by [`OfferBook::due`]: what was not
-    /// asked for stands. What is refused for want of memory leaves the book as it was.
+    /// asked for stands. Memory is taken for an Offer that is stored alone, and what is refused for want
+    /// of it leaves the book as it was.
     pub fn saw(&mut self, now: Moment, entry: OfferEntry) -> Result<Option<Finding>, AllocError>
         ensures told { IfOk result (λ told. told ≡ told_by entry self.old) }
         ensures after { IfOk result (λ told. self.new ≡ after_entry now entry self.old) }
         ensures err { OnErr result (self.new ≡ self.old) }
+        ensures stores { OnErr result (is_stored entry self.old ≡ true) }
         ensures grows { OnErr result
             (WantsMemory passes_at (finite.get self.old.standing entry.key)
             (millis_of (deadline_after now entry.ttl))) }

@@ -1,5 +1,5 @@
 -- The subscriptions that stand, and the events that were told.
-use Rattle.std.specs.Prelude.{ℕ, ◌==◌, nat_lt, Bool, true, false, not, ◌||◌, if◌then◌else◌, Option, None, Some, is_some, refl}
+use Rattle.std.specs.Prelude.{ℕ, ◌==◌, nat_lt, Bool, true, false, not, ◌&&◌, ◌||◌, if◌then◌else◌, Option, None, Some, is_some, refl}
 use Rattle.std.specs.Coded.{Coded, code_by, coded×, coded_ℕ, coded_bool}
 use base.Stored.{coded_unit}
 use Rattle.std.specs.FinMap as finite
@@ -88,6 +88,15 @@ after now Answer entry book = record book { standing = acked now entry (finite.g
 -- the book once an entry came: a StopSubscribe and a Nack end the subscription
 abbrev pub after_entry : ℕ → ReceiverEntry → Receivers → Receivers
 after_entry now entry book = if entry.ttl == 0 then record book { standing = finite.remove book.standing entry.key } else after now entry.kind entry book
+
+-- an entry with a TTL above 0 is stored: a Subscribe with an endpoint that may be held, and an Ack of a subscription that stands
+abbrev pub stores : EntryKind → ReceiverEntry → Receivers → Bool
+stores Subscribe entry book = is_some entry.endpoint && may_hold book.limit book.standing entry.key
+stores Answer entry book = is_some (finite.get book.standing entry.key)
+
+-- an entry is stored: of a StopSubscribe and a Nack there is nothing to store
+abbrev pub is_stored : ReceiverEntry → Receivers → Bool
+is_stored entry book = not (entry.ttl == 0) && stores entry.kind entry book
 
 -- ---- what ends several
 

@@ -1,9 +1,9 @@
 //! The subscriptions of a recording that stand.
-ghost use Rattle.std.specs.Prelude.{◌≡◌, ◌≤◌, ◌⊎◌, IfOk, OnErr, true, false};
+ghost use Rattle.std.specs.Prelude.{◌≡◌, ◌≤◌, ◌⊎◌, IfOk, OnErr, nat_lt, true, false};
 ghost use Rattle.std.specs.FinMap as finite;
 ghost use Rattle.someip_tables.specs.Deadlines.{deadline_after};
 ghost use Rattle.someip_tables.specs.Lastings.{NeedsMemory};
-ghost use Rattle.audit_receivers.specs.ReceiverTables.{after_entry, after_event, is_passed_over};
+ghost use Rattle.audit_receivers.specs.ReceiverTables.{after_entry, after_event, is_passed_over, is_stored};
 ghost use Rattle.audit_receivers.specs.ReceiverTables.{told_by, told_of_event, without, without_expired};
 ghost use Rattle.audit_receivers.specs.ReceiverTables.{without_offer};
 
@@ -90,12 +90,13 @@ impl ReceiverBook {
     /// Takes note of an entry of an eventgroup. It tells nothing but that the book is full.
     ///
     /// A Subscribe with an endpoint stands until its TTL has passed, and an Ack counts the TTL anew from
-    /// itself. A StopSubscribe and a Nack end the subscription. What is refused for want of memory leaves
-    /// the book as it was.
+    /// itself. A StopSubscribe and a Nack end the subscription. Memory is taken for what is stored alone,
+    /// and what is refused for want of it leaves the book as it was.
     pub fn saw(&mut self, now: Moment, entry: ReceiverEntry) -> Result<Option<Finding>, AllocError>
         ensures told { IfOk result (λ told. told ≡ told_by entry self.old) }
         ensures after { IfOk result (λ told. self.new ≡ after_entry now entry self.old) }
         ensures err { OnErr result (self.new ≡ self.old) }
+        ensures stores { OnErr result (is_stored entry self.old ≡ true) }
         ensures grows { OnErr result
             (NeedsMemory (finite.get self.old.standing entry.key) (deadline_after now entry.ttl)) }
     {
@@ -135,13 +136,14 @@ impl ReceiverBook {
     }
 
     /// Says what an event shows that went to one endpoint: that this has no subscription, once for each
-    /// event until a Subscribe comes for it. Memory is taken for what is told, and what is refused for
-    /// want of it leaves the book as it was.
+    /// event until a Subscribe comes for it. Memory is taken for an event that is told alone, and what is
+    /// refused for want of it leaves the book as it was.
     pub fn event(&mut self, now: Moment, delivery: Delivery) -> Result<Option<Finding>, AllocError>
         ensures told { IfOk result (λ told. told ≡ told_of_event now delivery self.old) }
         ensures after { IfOk result (λ told. self.new ≡ after_event now delivery self.old) }
         ensures err { OnErr result (self.new ≡ self.old) }
         ensures grows { OnErr result (is_passed_over now delivery self.old ≡ false) }
+        ensures room { OnErr result (nat_lt (finite.len self.old.told) self.old.limit ≡ true) }
     {
         if is_silent(self.told_full, now, self.settled) {
             return Ok(None);

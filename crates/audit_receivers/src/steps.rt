@@ -108,6 +108,8 @@ pub(crate) fn acknowledge(
         (finite.get (map_of subscription_cmp standing.old) entry.now.key)
         (map_of subscription_cmp standing.old)) }
     ensures err { OnErr result (standing.new ≡ standing.old) }
+    ensures known { OnErr result
+        (is_some (finite.get (map_of subscription_cmp standing.old) entry.now.key) ≡ true) }
     ensures grows { OnErr result (NeedsMemory
         (finite.get (map_of subscription_cmp standing.old) entry.now.key)
         (deadline_after now entry.now.ttl)) }

@@ -5,7 +5,7 @@ ghost use Rattle.std.specs.declared.net.socket_addr.SocketAddrV4.{SocketAddrV4};
 ghost use Rattle.someip_wire.specs.declared.header.Header.{Header};
 ghost use Rattle.someip_wire.specs.declared.message.Message.{Message};
 ghost use Rattle.someip_wire.specs.Kinds.{has_tp_flag};
-ghost use Rattle.someip_segments.specs.declared.error.TpError.TheVariants.{Conflict, NoSlot};
+ghost use Rattle.someip_segments.specs.declared.error.TpError.{TpError};
 ghost use Rattle.someip_reassembly.specs.declared.reassembly.Offered.TheVariants.{Part, Whole};
 ghost use Rattle.audit_segments.specs.SegmentBooks.{segment_of, told_by, whole_message, first_of};
 ghost use Rattle.audit_segments.specs.SegmentWaits.{still_until};
@@ -24,8 +24,8 @@ pub fn segments_are_told()
     ensures part { (header : Header) (whole : Option (List ℕ)) → told_by header (Ok Part) whole ≡ None }
     ensures whole { (header : Header) (bytes : List ℕ)
         → told_by header (Ok Whole) (Some bytes) ≡ Some (Ok (whole_message header bytes)) }
-    ensures refused { (header : Header) (whole : Option (List ℕ))
-        → told_by header (Err NoSlot) whole ≡ Some (Err NoSlot) }
+    ensures refused { (header : Header) (refusal : TpError) (whole : Option (List ℕ))
+        → told_by header (Err refusal) whole ≡ Some (Err refusal) }
 {}
 
 /// Examples: a message waits until its timeout, and not at it; and it is told with the datagram that it

@@ -11,8 +11,8 @@ use Rattle.sd_session.specs.Peers.{shows_reboot}
 use Rattle.sd_session.specs.Sessions.{following, is_reboot}
 use Rattle.audit_sessions.specs.declared.finding.Finding.TheVariants.{Reboot, NotNext, Full}
 use Rattle.audit_sessions.specs.declared.message.SdMessage.{SdMessage}
-use Rattle.audit_sessions.specs.SessionRules.{is_same_stamp, judged}
-use Rattle.audit_sessions.specs.SessionBooks.{Pairs, Sessions, pair_cmp, last_of, may_hold, pairs_before, pairs_after, sessions_after, told_by, told_when_full}
+use Rattle.audit_sessions.specs.SessionRules.{has_session, is_same_stamp, judged}
+use Rattle.audit_sessions.specs.SessionBooks.{Pairs, Sessions, pair_cmp, last_of, may_hold, pairs_before, pairs_after, sessions_after, sessions_with, told_by, told_of, told_when_full}
 use Rattle.audit_sessions.specs.Histories.{last_in, shown_after, sessions_of}
 use Rattle.audit_sessions.proofs.PairLemmas.{pairs_total, exact_pairs, both_tie, after_grows}
 
@@ -45,25 +45,43 @@ get-after message pairs sender destination =
 pub kept : (limit : ℕ) (messages : List SdMessage) → (sessions_of limit messages).told_full ≡ false → (sender destination : Ipv4Addr)
     → finite.get (sessions_of limit messages).last (sender, destination) ≡ last_in messages sender destination
 kept limit [] fits sender destination = finite.get-empty pair_cmp (sender, destination)
-kept limit (message ∷ earlier) fits sender destination = cases (may_hold message (sessions_of limit earlier).limit (sessions_of limit earlier).last) (kept limit earlier) fits
+kept limit (message ∷ earlier) fits sender destination = counted (has_session message.stamp) (kept limit earlier) fits
   where
+    shown : Bool → Option Stamp
+    shown h =
+        if (h && eq_by_cmp address_cmp sender message.from) && eq_by_cmp address_cmp destination message.to then Some message.stamp
+        else if (h && eq_by_cmp address_cmp sender message.from) && shows_reboot (last_in earlier message.from message.to) message.stamp then None
+        else last_in earlier sender destination
+
     cases : (b : Bool) → ((sessions_of limit earlier).told_full ≡ false → (s d : Ipv4Addr) → finite.get (sessions_of limit earlier).last (s, d) ≡ last_in earlier s d) → (if b then record (sessions_of limit earlier) { last = pairs_after message (sessions_of limit earlier).last } else record (sessions_of limit earlier) { told_full = true }).told_full ≡ false
         → finite.get (if b then record (sessions_of limit earlier) { last = pairs_after message (sessions_of limit earlier).last } else record (sessions_of limit earlier) { told_full = true }).last (sender, destination)
-        ≡ last_in (message ∷ earlier) sender destination
+        ≡ shown true
     cases true before still =
         get-after message (sessions_of limit earlier).last sender destination
         ∙ rw (before still message.from message.to, before still sender destination) refl
     cases false before still = absurd (cc)
 
+    counted : (h : Bool) → ((sessions_of limit earlier).told_full ≡ false → (s d : Ipv4Addr) → finite.get (sessions_of limit earlier).last (s, d) ≡ last_in earlier s d)
+        → (if h then sessions_with message (sessions_of limit earlier) else sessions_of limit earlier).told_full ≡ false
+        → finite.get (if h then sessions_with message (sessions_of limit earlier) else sessions_of limit earlier).last (sender, destination) ≡ shown h
+    counted true before still = cases (may_hold message (sessions_of limit earlier).limit (sessions_of limit earlier).last) before still
+    counted false before still = before still sender destination
+
 -- and tells of a message what these show
 pub told : (limit : ℕ) (messages : List SdMessage) (message : SdMessage) → (sessions_of limit (message ∷ messages)).told_full ≡ false
     → told_by message (sessions_of limit messages) ≡ shown_after messages message
-told limit messages message fits = cases (may_hold message (sessions_of limit messages).limit (sessions_of limit messages).last) fits
+told limit messages message fits = counted (has_session message.stamp) fits
   where
     cases : (b : Bool) → (if b then record (sessions_of limit messages) { last = pairs_after message (sessions_of limit messages).last } else record (sessions_of limit messages) { told_full = true }).told_full ≡ false
-        → (if b then judged (last_of message (sessions_of limit messages).last) message.stamp else told_when_full (sessions_of limit messages).told_full) ≡ shown_after messages message
+        → (if b then judged (last_of message (sessions_of limit messages).last) message.stamp else told_when_full (sessions_of limit messages).told_full)
+        ≡ judged (last_in messages message.from message.to) message.stamp
     cases true still = ap (λ v. judged v message.stamp) (kept limit messages still message.from message.to)
     cases false still = absurd (cc)
+
+    counted : (h : Bool) → (if h then sessions_with message (sessions_of limit messages) else sessions_of limit messages).told_full ≡ false
+        → (if h then told_of message (sessions_of limit messages) else None) ≡ (if h then judged (last_in messages message.from message.to) message.stamp else None)
+    counted true still = cases (may_hold message (sessions_of limit messages).limit (sessions_of limit messages).last) still
+    counted false still = refl
 
 -- so many messages make at most so many pairs, and a book for so many is never full
 room : (limit : ℕ) (messages : List SdMessage) → length messages ≤ limit
@@ -72,7 +90,7 @@ room limit [] few = (refl, refl, rw (finite.len-empty pair_cmp Stamp) (omega ari
 room limit (message ∷ earlier) few =
     let before = room limit earlier (omega (arith, few)) in
     let below : finite.len (sessions_of limit earlier).last < (sessions_of limit earlier).limit = omega (arith, before.1, before.2, few) in
-    cases (is_some (last_of message (sessions_of limit earlier).last)) (nat_lt (finite.len (sessions_of limit earlier).last) (sessions_of limit earlier).limit) (lt-ltb _ _ below) before
+    counted (has_session message.stamp) (lt-ltb _ _ below) before
   where
     step : (b : Bool) → b ≡ true → ((sessions_of limit earlier).told_full ≡ false) × ((sessions_of limit earlier).limit ≡ limit) × (finite.len (sessions_of limit earlier).last ≤ length earlier)
         → ((if b then record (sessions_of limit earlier) { last = pairs_after message (sessions_of limit earlier).last } else record (sessions_of limit earlier) { told_full = true }).told_full ≡ false)
@@ -88,6 +106,14 @@ room limit (message ∷ earlier) few =
     cases true b is before = step true refl before
     cases false b is before = step b is before
 
+    counted : (h : Bool) → nat_lt (finite.len (sessions_of limit earlier).last) (sessions_of limit earlier).limit ≡ true
+        → ((sessions_of limit earlier).told_full ≡ false) × ((sessions_of limit earlier).limit ≡ limit) × (finite.len (sessions_of limit earlier).last ≤ length earlier)
+        → ((if h then sessions_with message (sessions_of limit earlier) else sessions_of limit earlier).told_full ≡ false)
+        × ((if h then sessions_with message (sessions_of limit earlier) else sessions_of limit earlier).limit ≡ limit)
+        × (finite.len (if h then sessions_with message (sessions_of limit earlier) else sessions_of limit earlier).last ≤ length (message ∷ earlier))
+    counted true is before = cases (is_some (last_of message (sessions_of limit earlier).last)) (nat_lt (finite.len (sessions_of limit earlier).last) (sessions_of limit earlier).limit) is before
+    counted false is before = (before.0, before.1, omega (arith, before.2))
+
 pub never_full : (limit : ℕ) (messages : List SdMessage) → length messages ≤ limit → (sessions_of limit messages).told_full ≡ false
 never_full limit messages few = (room limit messages few).0
 
@@ -102,7 +128,7 @@ not_full (Some last) stamp is = cases (is_reboot last stamp) (is_same_stamp stam
     cases false false e = cc
 
 pub full_noted : (message : SdMessage) (book : Sessions) → told_by message book ≡ Some Full → (book.told_full ≡ false) × ((sessions_after message book).told_full ≡ true)
-full_noted message book is = cases (may_hold message book.limit book.last) book.told_full refl is
+full_noted message book is = counted (has_session message.stamp) is
   where
     cases : (b t : Bool) → book.told_full ≡ t → (if b then judged (last_of message book.last) message.stamp else told_when_full t) ≡ Some Full
         → (t ≡ false) × ((if b then record book { last = pairs_after message book.last } else record book { told_full = true }).told_full ≡ true)
@@ -110,12 +136,21 @@ full_noted message book is = cases (may_hold message book.limit book.last) book.
     cases false true now e = absurd (cc)
     cases false false now e = (refl, refl)
 
+    counted : (h : Bool) → (if h then told_of message book else None) ≡ Some Full
+        → (book.told_full ≡ false) × ((if h then sessions_with message book else book).told_full ≡ true)
+    counted true e = let found = cases (may_hold message book.limit book.last) book.told_full refl e in (found.0, found.1)
+    counted false e = absurd (cc)
+
 pub full_stays : (message : SdMessage) (book : Sessions) → book.told_full ≡ true → (sessions_after message book).told_full ≡ true
-full_stays message book is = cases (may_hold message book.limit book.last)
+full_stays message book is = counted (has_session message.stamp)
   where
     cases : (b : Bool) → (if b then record book { last = pairs_after message book.last } else record book { told_full = true }).told_full ≡ true
     cases true = is
     cases false = refl
 
-pub full_told : (message : SdMessage) (book : Sessions) → may_hold message book.limit book.last ≡ false → book.told_full ≡ false → told_by message book ≡ Some Full
-full_told message book refused fits = rw (refused, fits) refl
+    counted : (h : Bool) → (if h then sessions_with message book else book).told_full ≡ true
+    counted true = cases (may_hold message book.limit book.last)
+    counted false = is
+
+pub full_told : (message : SdMessage) (book : Sessions) → has_session message.stamp ≡ true → may_hold message book.limit book.last ≡ false → book.told_full ≡ false → told_by message book ≡ Some Full
+full_told message book counted refused fits = rw (counted, refused, fits) refl

@@ -6,9 +6,10 @@ use Rattle.std.specs.declared.net.ipv4_addr.Ipv4Addr.{Ipv4Addr}
 use Rattle.sd_session.specs.declared.stamp.Stamp.{Stamp}
 use Rattle.sd_session.specs.Peers.{shows_reboot}
 use Rattle.sd_session.specs.Sessions.{following, is_reboot}
+use Rattle.audit_sessions.specs.declared.finding.Finding.{Finding}
 use Rattle.audit_sessions.specs.declared.finding.Finding.TheVariants.{NotNext, Reboot}
 use Rattle.audit_sessions.specs.declared.message.SdMessage.{SdMessage}
-use Rattle.audit_sessions.specs.SessionRules.{is_same_stamp, judged}
+use Rattle.audit_sessions.specs.SessionRules.{has_session, is_same_stamp, judged}
 use Rattle.audit_sessions.specs.Histories.{is_from, is_to, last_in, shown_after}
 use Rattle.audit_sessions.specs.Reasons.{IsLast, IsNotNext, IsReboot, NoneSince}
 
@@ -48,6 +49,19 @@ shown_reboot : (last : Option Stamp) (stamp : Stamp) → shows_reboot last stamp
 shown_reboot None stamp is = absurd (cc)
 shown_reboot (Some last) stamp is = rw is refl
 
+-- something is shown of a message with a session alone
+counted : (messages : List SdMessage) (message : SdMessage) (finding : Finding) → shown_after messages message ≡ Some finding
+    → (has_session message.stamp ≡ true) × (judged (last_in messages message.from message.to) message.stamp ≡ Some finding)
+counted messages message finding is = cases (has_session message.stamp) is
+  where
+    cases : (h : Bool) → (if h then judged (last_in messages message.from message.to) message.stamp else None) ≡ Some finding
+        → (h ≡ true) × (judged (last_in messages message.from message.to) message.stamp ≡ Some finding)
+    cases true e = (refl, e)
+    cases false e = absurd (cc)
+
+with_session : (messages : List SdMessage) (message : SdMessage) → has_session message.stamp ≡ true → shown_after messages message ≡ judged (last_in messages message.from message.to) message.stamp
+with_session messages message has = rw has refl
+
 -- ---- the last message of a sender to a destination
 
 pub last_is : (sender destination : Ipv4Addr) (stamp : Stamp) (messages : List SdMessage) → last_in messages sender destination ≡ Some stamp → IsLast sender destination stamp messages
@@ -56,7 +70,7 @@ last_is sender destination stamp (message ∷ earlier) is =
     cases (is_from sender message && is_to destination message) (is_from sender message && shows_reboot (last_in earlier message.from message.to) message.stamp) refl refl is (last_is sender destination stamp earlier)
   where
     quiet : (is_from sender message && shows_reboot (last_in earlier message.from message.to) message.stamp) ≡ false → is_from sender message ≡ true → shown_after earlier message ≢ Some Reboot
-    quiet none from told = at (is_from sender message) (shows_reboot (last_in earlier message.from message.to) message.stamp) none from (reboot_shown (last_in earlier message.from message.to) message.stamp told)
+    quiet none from told = at (is_from sender message) (shows_reboot (last_in earlier message.from message.to) message.stamp) none from (reboot_shown (last_in earlier message.from message.to) message.stamp (counted earlier message Reboot told).1)
       where
         at : (a b : Bool) → (a && b) ≡ false → a ≡ true → b ≡ true → ⊥
         at true true n f t = cc
@@ -91,7 +105,7 @@ found sender destination (message ∷ newer) last older here since =
     cases : (a b : Bool) → is_from sender message ≡ a → shows_reboot (last_in (newer ++ last ∷ older) message.from message.to) message.stamp ≡ b
         → last_in (newer ++ last ∷ older) sender destination ≡ Some last.stamp
         → (if is_from sender message && is_to destination message then Some message.stamp else if a && b then None else last_in (newer ++ last ∷ older) sender destination) ≡ Some last.stamp
-    cases true true from shows rest = absurd (since.1 from (shown_reboot (last_in (newer ++ last ∷ older) message.from message.to) message.stamp shows))
+    cases true true from shows rest = absurd (since.1 from (with_session (newer ++ last ∷ older) message (and_parts _ _ from).0 ∙ shown_reboot (last_in (newer ++ last ∷ older) message.from message.to) message.stamp shows))
     cases true false from shows rest = rw since.0 rest
     cases false b from shows rest = rw since.0 rest
 
@@ -102,15 +116,15 @@ is_last sender destination stamp messages one =
 -- ---- the findings
 
 pub reboot_is : (message : SdMessage) (messages : List SdMessage) → shown_after messages message ≡ Some Reboot → IsReboot message messages
-reboot_is message messages is = cases (last_in messages message.from message.to) refl is
+reboot_is message messages is = let told = counted messages message Reboot is in cases (last_in messages message.from message.to) refl told.1 told.0
   where
-    cases : (v : Option Stamp) → last_in messages message.from message.to ≡ v → judged v message.stamp ≡ Some Reboot → IsReboot message messages
-    cases None last e = absurd (cc)
-    cases (Some stamp) last e = (stamp, last_is message.from message.to stamp messages last, reboot_shown (Some stamp) message.stamp e)
+    cases : (v : Option Stamp) → last_in messages message.from message.to ≡ v → judged v message.stamp ≡ Some Reboot → has_session message.stamp ≡ true → IsReboot message messages
+    cases None last e has = absurd (cc)
+    cases (Some stamp) last e has = (has, stamp, last_is message.from message.to stamp messages last, reboot_shown (Some stamp) message.stamp e)
 
 pub is_reboot_told : (message : SdMessage) (messages : List SdMessage) → IsReboot message messages → shown_after messages message ≡ Some Reboot
 is_reboot_told message messages one =
-    ap (λ v. judged v message.stamp) (is_last message.from message.to one.0 messages one.1) ∙ shown_reboot (Some one.0) message.stamp one.2
+    with_session messages message one.0 ∙ ap (λ v. judged v message.stamp) (is_last message.from message.to one.1 messages one.2) ∙ shown_reboot (Some one.1) message.stamp one.3
 
 next_shown : (last stamp s e : Stamp) → judged (Some last) stamp ≡ Some (NotNext s e) → (is_reboot last stamp ≡ false) × (stamp ≡ s) × (following last ≡ e) × (s ≢ e)
 next_shown last stamp s e is = cases (is_reboot last stamp) (is_same_stamp stamp (following last)) refl is
@@ -134,17 +148,18 @@ next_shown last stamp s e is = cases (is_reboot last stamp) (is_same_stamp stamp
         apart x = cc
 
 pub not_next_is : (s e : Stamp) (message : SdMessage) (messages : List SdMessage) → shown_after messages message ≡ Some (NotNext s e) → IsNotNext s e message messages
-not_next_is s e message messages is = cases (last_in messages message.from message.to) refl is
+not_next_is s e message messages is = let told = counted messages message (NotNext s e) is in cases (last_in messages message.from message.to) refl told.1 told.0
   where
-    cases : (v : Option Stamp) → last_in messages message.from message.to ≡ v → judged v message.stamp ≡ Some (NotNext s e) → IsNotNext s e message messages
-    cases None last t = absurd (cc)
-    cases (Some stamp) last t = let shown = next_shown stamp message.stamp s e t in (stamp, last_is message.from message.to stamp messages last, shown.0, shown.1, shown.2, shown.3)
+    cases : (v : Option Stamp) → last_in messages message.from message.to ≡ v → judged v message.stamp ≡ Some (NotNext s e) → has_session message.stamp ≡ true → IsNotNext s e message messages
+    cases None last t has = absurd (cc)
+    cases (Some stamp) last t has = let shown = next_shown stamp message.stamp s e t in (has, stamp, last_is message.from message.to stamp messages last, shown.0, shown.1, shown.2, shown.3)
 
 pub is_not_next_told : (s e : Stamp) (message : SdMessage) (messages : List SdMessage) → IsNotNext s e message messages → shown_after messages message ≡ Some (NotNext s e)
 is_not_next_told s e message messages one =
-    ap (λ v. judged v message.stamp) (is_last message.from message.to one.0 messages one.1)
-    ∙ cases (is_same_stamp message.stamp (following one.0)) refl
+    with_session messages message one.0
+    ∙ ap (λ v. judged v message.stamp) (is_last message.from message.to one.1 messages one.2)
+    ∙ cases (is_same_stamp message.stamp (following one.1)) refl
   where
-    cases : (b : Bool) → is_same_stamp message.stamp (following one.0) ≡ b → judged (Some one.0) message.stamp ≡ Some (NotNext s e)
-    cases true same = absurd (one.5 (sym one.3 ∙ same_stamp message.stamp (following one.0) same ∙ one.4))
-    cases false same = rw (one.2, same) (ap₂ (λ a b. Some (NotNext a b)) one.3 one.4)
+    cases : (b : Bool) → is_same_stamp message.stamp (following one.1) ≡ b → judged (Some one.1) message.stamp ≡ Some (NotNext s e)
+    cases true same = absurd (one.6 (sym one.4 ∙ same_stamp message.stamp (following one.1) same ∙ one.5))
+    cases false same = rw (one.3, same) (ap₂ (λ a b. Some (NotNext a b)) one.4 one.5)

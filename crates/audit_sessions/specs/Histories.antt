@@ -8,13 +8,14 @@ use Rattle.sd_session.specs.declared.stamp.Stamp.{Stamp}
 use Rattle.sd_session.specs.Peers.{shows_reboot}
 use Rattle.audit_sessions.specs.declared.finding.Finding.{Finding}
 use Rattle.audit_sessions.specs.declared.message.SdMessage.{SdMessage}
-use Rattle.audit_sessions.specs.SessionRules.{judged}
+use Rattle.audit_sessions.specs.SessionRules.{has_session, judged}
 use Rattle.audit_sessions.specs.SessionBooks.{Sessions, sessions_after}
 
--- a message is of a sender, or to a destination
+-- a message is of a sender, and has a session: one without is passed over
 abbrev pub is_from : Ipv4Addr → SdMessage → Bool
-is_from sender message = eq_by_cmp address_cmp sender message.from
+is_from sender message = has_session message.stamp && eq_by_cmp address_cmp sender message.from
 
+-- a message is to a destination
 abbrev pub is_to : Ipv4Addr → SdMessage → Bool
 is_to destination message = eq_by_cmp address_cmp destination message.to
 
@@ -26,9 +27,9 @@ last_in (message ∷ earlier) sender destination =
     else if is_from sender message && shows_reboot (last_in earlier message.from message.to) message.stamp then None
     else last_in earlier sender destination
 
--- what a message shows after these
+-- what a message shows after these: without a session nothing
 abbrev pub shown_after : List SdMessage → SdMessage → Option Finding
-shown_after earlier message = judged (last_in earlier message.from message.to) message.stamp
+shown_after earlier message = if has_session message.stamp then judged (last_in earlier message.from message.to) message.stamp else None
 
 -- the book once these messages came
 abbrev pub sessions_of : ℕ → List SdMessage → Sessions

@@ -5,6 +5,7 @@ use Rattle.sd_session.specs.declared.stamp.Stamp.{Stamp}
 use Rattle.sd_session.specs.Sessions.{following, is_reboot}
 use Rattle.audit_sessions.specs.declared.finding.Finding.TheVariants.{Reboot}
 use Rattle.audit_sessions.specs.declared.message.SdMessage.{SdMessage}
+use Rattle.audit_sessions.specs.SessionRules.{has_session}
 use Rattle.audit_sessions.specs.Histories.{is_from, is_to, shown_after}
 
 -- of the newer messages, which came after the older ones, none went from a sender to a destination, and none showed that
@@ -22,13 +23,13 @@ IsLast sender destination stamp messages =
     (newer : List SdMessage) × (last : SdMessage) × (older : List SdMessage) × (messages ≡ newer ++ last ∷ older)
     × ((is_from sender last && is_to destination last) ≡ true) × (last.stamp ≡ stamp) × NoneSince sender destination newer (last ∷ older)
 
--- a message shows that its sender began again, by the last one of its sender to its destination
+-- a message with a session shows that its sender began again, by the last one of its sender to its destination
 abbrev pub IsReboot : SdMessage → List SdMessage → Type 0
-IsReboot message messages = (last : Stamp) × IsLast message.from message.to last messages × (is_reboot last message.stamp ≡ true)
+IsReboot message messages = (has_session message.stamp ≡ true) × (last : Stamp) × IsLast message.from message.to last messages × (is_reboot last message.stamp ≡ true)
 
--- a message is not the one after the last of its sender to its destination, and shows no reboot: it has a stamp in place of
--- another
+-- a message with a session is not the one after the last of its sender to its destination, and shows no reboot: it has a
+-- stamp in place of another
 abbrev pub IsNotNext : Stamp → Stamp → SdMessage → List SdMessage → Type 0
 IsNotNext stamp expected message messages =
-    (last : Stamp) × IsLast message.from message.to last messages × (is_reboot last message.stamp ≡ false)
+    (has_session message.stamp ≡ true) × (last : Stamp) × IsLast message.from message.to last messages × (is_reboot last message.stamp ≡ false)
     × (message.stamp ≡ stamp) × (following last ≡ expected) × (stamp ≢ expected)

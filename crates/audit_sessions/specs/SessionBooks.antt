@@ -13,7 +13,7 @@ use Rattle.sd_session.specs.Peers.{shows_reboot, coded_stamp}
 use Rattle.audit_sessions.specs.declared.finding.Finding.{Finding}
 use Rattle.audit_sessions.specs.declared.finding.Finding.TheVariants.{Full}
 use Rattle.audit_sessions.specs.declared.message.SdMessage.{SdMessage}
-use Rattle.audit_sessions.specs.SessionRules.{judged}
+use Rattle.audit_sessions.specs.SessionRules.{has_session, judged}
 
 -- by sender, and then by destination
 abbrev pub pair_cmp : Ipv4Addr × Ipv4Addr → Ipv4Addr × Ipv4Addr → Ordering
@@ -55,21 +55,29 @@ abbrev pub told_when_full : Bool → Option Finding
 told_when_full true = None
 told_when_full false = Some Full
 
--- what is told of a message
-abbrev pub told_by : SdMessage → Sessions → Option Finding
-told_by message book =
+-- what is told of a message with a session
+abbrev pub told_of : SdMessage → Sessions → Option Finding
+told_of message book =
     if may_hold message book.limit book.last then judged (last_of message book.last) message.stamp
     else told_when_full book.told_full
 
--- the book once a message came: one that it has no room for is not taken
-abbrev pub sessions_after : SdMessage → Sessions → Sessions
-sessions_after message book =
+-- what is told of a message: one with session 0 is passed over
+abbrev pub told_by : SdMessage → Sessions → Option Finding
+told_by message book = if has_session message.stamp then told_of message book else None
+
+-- the book once a message with a session came: one that it has no room for is not taken
+abbrev pub sessions_with : SdMessage → Sessions → Sessions
+sessions_with message book =
     if may_hold message book.limit book.last then record book { last = pairs_after message book.last }
     else record book { told_full = true }
 
--- memory may be wanted for a message: its pair is new, and there is room for it
+-- the book once a message came
+abbrev pub sessions_after : SdMessage → Sessions → Sessions
+sessions_after message book = if has_session message.stamp then sessions_with message book else book
+
+-- memory may be wanted for a message: it has a session, its pair is new, and there is room for it
 abbrev pub needs_memory : SdMessage → Sessions → Bool
-needs_memory message book = is_none (last_of message book.last) && nat_lt (finite.len book.last) book.limit
+needs_memory message book = has_session message.stamp && is_none (last_of message book.last) && nat_lt (finite.len book.last) book.limit
 
 -- codes, by which a proof tells values apart
 abbrev pub coded_sessions : Coded Sessions

@@ -6,6 +6,10 @@ use Rattle.sd_session.specs.Sessions.{following, is_reboot}
 use Rattle.audit_sessions.specs.declared.finding.Finding.{Finding}
 use Rattle.audit_sessions.specs.declared.finding.Finding.TheVariants.{Reboot, NotNext}
 
+-- a message has a session: they begin at 1, so no node sends 0, and one that gets it drops it
+abbrev pub has_session : Stamp → Bool
+has_session stamp = not (stamp.session == 0)
+
 -- two stamps have one session and one Reboot flag
 abbrev pub is_same_stamp : Stamp → Stamp → Bool
 is_same_stamp a b = (a.session == b.session) && (if a.reboot then b.reboot else not b.reboot)

@@ -5,7 +5,7 @@ ghost use Rattle.std.specs.FinMap as finite;
 ghost use Rattle.std.specs.declared.net.ipv4_addr.Ipv4Addr.{Ipv4Addr};
 ghost use Rattle.sd_session.specs.declared.stamp.Stamp.{Stamp};
 ghost use Rattle.audit_sessions.specs.declared.finding.Finding.TheVariants.{Reboot, NotNext, Full};
-ghost use Rattle.audit_sessions.specs.SessionRules.{judged};
+ghost use Rattle.audit_sessions.specs.SessionRules.{has_session, judged};
 ghost use Rattle.audit_sessions.specs.declared.message.SdMessage.{SdMessage};
 ghost use Rattle.audit_sessions.specs.SessionBooks.{Sessions, may_hold, sessions_after, told_by};
 ghost use Rattle.audit_sessions.specs.Histories.{last_in, sessions_of, shown_after};
@@ -20,10 +20,8 @@ pub fn findings_by_example()
     ensures next_without_flag { judged (Some (stamp 5 false)) (stamp 6 false) ≡ None }
     ensures wraps { judged (Some (stamp 0xffff true)) (stamp 1 false) ≡ None }
     ensures wraps_again { judged (Some (stamp 0xffff false)) (stamp 1 false) ≡ None }
-    // With the flag, 1 after FFFF is a reboot; 0 is never given.
+    // With the flag, 1 after FFFF is a reboot.
     ensures wraps_with_flag { judged (Some (stamp 0xffff true)) (stamp 1 true) ≡ Some Reboot }
-    ensures wraps_to_zero { judged (Some (stamp 0xffff false)) (stamp 0 false)
-        ≡ Some (NotNext (stamp 0 false) (stamp 1 false)) }
     ensures lost { judged (Some (stamp 5 true)) (stamp 7 true)
         ≡ Some (NotNext (stamp 7 true) (stamp 6 true)) }
     // A message that comes twice: with the flag it is a reboot.
@@ -37,6 +35,19 @@ pub fn findings_by_example()
     ensures flag_set { judged (Some (stamp 5 false)) (stamp 6 true) ≡ Some Reboot }
     ensures flag_gone { judged (Some (stamp 5 true)) (stamp 6 false)
         ≡ Some (NotNext (stamp 6 false) (stamp 6 true)) }
+    // Session 0 shows nothing, and 1 in its place does.
+    ensures zero { shown_after (sent (node 1) group 5 false ∷ []) (sent (node 1) group 0 false) ≡ None }
+    ensures one { shown_after (sent (node 1) group 5 false ∷ []) (sent (node 1) group 1 false)
+        ≡ Some (NotNext (stamp 1 false) (stamp 6 false)) }
+    ensures zero_with_flag { shown_after (sent (node 1) group 5 true ∷ [])
+        (sent (node 1) group 0 true) ≡ None }
+    ensures one_with_flag { shown_after (sent (node 1) group 5 true ∷ [])
+        (sent (node 1) group 1 true) ≡ Some Reboot }
+    // Nor does it change what the next one shows.
+    ensures after_zero { shown_after (sent (node 1) group 0 true ∷ sent (node 1) group 5 true ∷ [])
+        (sent (node 1) group 7 true) ≡ Some (NotNext (stamp 7 true) (stamp 6 true)) }
+    ensures zero_first { shown_after (sent (node 1) group 0 true ∷ []) (sent (node 1) group 7 true)
+        ≡ None }
 {}
 
 /// A sender counts what it sends to each destination apart, by example. The newest message is first.
@@ -90,7 +101,7 @@ pub fn full_is_told_once()
         → (book.told_full ≡ false) × ((sessions_after message book).told_full ≡ true) }
     ensures stays { (message : SdMessage) (book : Sessions) → book.told_full ≡ true
         → (sessions_after message book).told_full ≡ true }
-    ensures tells { (message : SdMessage) (book : Sessions)
+    ensures tells { (message : SdMessage) (book : Sessions) → has_session message.stamp ≡ true
         → may_hold message book.limit book.last ≡ false → book.told_full ≡ false
         → told_by message book ≡ Some Full }
 {}

@@ -57,7 +57,8 @@ impl SessionBook {
         }
     }
 
-    /// Takes note of a message, and says what it shows.
+    /// Takes note of a message, and says what it shows. One with session 0 is passed over: no node sends
+    /// it, and one that gets it drops it.
     ///
     /// A sender that began again is told once: all that was kept of it goes, whatever the destination,
     /// and the message is the first of its destination. The first message of a sender to a destination
@@ -69,6 +70,9 @@ impl SessionBook {
         ensures err { OnErr result (self.new ≡ self.old) }
         ensures grows { OnErr result (needs_memory message self.old ≡ true) }
     {
+        if message.stamp.session == 0 {
+            return Ok(None);
+        }
         if !may_hold(&self.last, self.limit, &message) {
             return Ok(tell_full(&mut self.told_full));
         }

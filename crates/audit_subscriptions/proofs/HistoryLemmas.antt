@@ -14,7 +14,7 @@ use Rattle.audit_subscriptions.specs.declared.key.SubscriptionKey.{SubscriptionK
 use Rattle.audit_subscriptions.specs.SubscriptionKeys.{subscription_cmp}
 use Rattle.audit_subscriptions.specs.SubscriptionOrder.{subscriptions_total, exact_subscriptions}
 use Rattle.audit_subscriptions.specs.SubscribeRules.{asked_at, is_late, is_of, unless_late}
-use Rattle.audit_subscriptions.specs.SubscribeTables.{SubscribeTable, Waiting, after, after_entry, after_subscribe, may_hold, told_by, told_of, told_when_full, waiting_with}
+use Rattle.audit_subscriptions.specs.SubscribeTables.{SubscribeTable, Waiting, after, after_entry, after_subscribe, asks, may_hold, told_by, told_of, told_when_full, waiting_with}
 use Rattle.audit_subscriptions.specs.SubscribeHistories.{BeganAgain, Entry, Event, Shown, book_after, book_of, changed_by, or_asked, waiting_in, waits_after, without_late}
 
 -- ---- one entry
@@ -154,3 +154,15 @@ full_by now entry Subscribe book is = cases (entry.ttl == 0) (may_hold book.limi
 
 pub full_noted : (now : ℕ) (entry : SubscribeEntry) (book : SubscribeTable) → told_by entry book ≡ Some Full → (book.told_full ≡ false) × ((after_entry now entry book).told_full ≡ true)
 full_noted now entry book is = full_by now entry entry.kind book is
+
+pub full_told : (entry : SubscribeEntry) (book : SubscribeTable) → asks entry.kind entry ≡ true → may_hold book.limit book.waiting entry.key ≡ false → book.told_full ≡ false
+    → told_by entry book ≡ Some Full
+full_told entry book asked refused fits = by entry.kind asked
+  where
+    cases : (z : Bool) → not z ≡ true → (if z || may_hold book.limit book.waiting entry.key then None else told_when_full book.told_full) ≡ Some Full
+    cases true e = absurd (cc)
+    cases false e = rw (refused, fits) refl
+
+    by : (kind : EntryKind) → asks kind entry ≡ true → told_of kind entry book ≡ Some Full
+    by Answer e = absurd (cc)
+    by Subscribe e = cases (entry.ttl == 0) e

@@ -75,9 +75,14 @@ after now Answer entry book = record book { waiting = finite.remove book.waiting
 abbrev pub after_entry : ℕ → SubscribeEntry → SubscribeTable → SubscribeTable
 after_entry now entry book = after now entry.kind entry book
 
--- memory may be wanted for a new key
+-- an entry asks: it is a Subscribe, and not a StopSubscribe
+abbrev pub asks : EntryKind → SubscribeEntry → Bool
+asks Subscribe entry = not (entry.ttl == 0)
+asks Answer entry = false
+
+-- memory may be wanted for a Subscribe with a new key, where there is room for it
 abbrev pub needs_memory : SubscribeEntry → SubscribeTable → Bool
-needs_memory entry book = is_none (finite.get book.waiting entry.key) && nat_lt (finite.len book.waiting) book.limit
+needs_memory entry book = asks entry.kind entry && is_none (finite.get book.waiting entry.key) && nat_lt (finite.len book.waiting) book.limit
 
 -- ---- a reboot
 

@@ -9,7 +9,7 @@ ghost use Rattle.audit_subscriptions.specs.declared.finding.Unanswered.{Unanswer
 ghost use Rattle.audit_subscriptions.specs.declared.key.SubscriptionKey.{SubscriptionKey};
 ghost use Rattle.audit_subscriptions.specs.SubscribeRules.{is_late, told_of_answer};
 ghost use Rattle.audit_subscriptions.specs.SubscribeTables.{FallsDue, SubscribeTable, Waiting, after_due};
-ghost use Rattle.audit_subscriptions.specs.SubscribeTables.{after_entry, told_by};
+ghost use Rattle.audit_subscriptions.specs.SubscribeTables.{after_entry, asks, may_hold, told_by};
 ghost use Rattle.audit_subscriptions.specs.SubscribeHistories.{Event, book_of, unanswered_in, waiting_in};
 ghost use Rattle.audit_subscriptions.specs.SubscribeHistories.{without_late};
 ghost use Rattle.audit_subscriptions.specs.SubscribeReasons.{IsWaiting};
@@ -91,6 +91,9 @@ pub fn full_is_told_once()
         → (book.told_full ≡ false) × ((after_entry now entry book).told_full ≡ true) }
     ensures stays { (now : ℕ) (entry : SubscribeEntry) (book : SubscribeTable) → book.told_full ≡ true
         → (after_entry now entry book).told_full ≡ true }
+    ensures tells { (entry : SubscribeEntry) (book : SubscribeTable) → asks entry.kind entry ≡ true
+        → may_hold book.limit book.waiting entry.key ≡ false → book.told_full ≡ false
+        → told_by entry book ≡ Some Full }
 {}
 
 /// A Subscribe waits exactly where it is among the events, none of its subscription waited then, and since

@@ -72,8 +72,8 @@ impl SubscribeBook {
     ///
     /// A Subscribe waits for an Ack or a Nack of its subscription; where one waits already, that one goes
     /// on to wait, and the new one opens nothing. Each Nack is told. What fell due before is asked for
-    /// before, by [`SubscribeBook::due`]: what was not asked for waits. What is refused for want of
-    /// memory leaves the book as it was.
+    /// before, by [`SubscribeBook::due`]: what was not asked for waits. Memory is taken for a Subscribe
+    /// that begins to wait alone, and what is refused for want of it leaves the book as it was.
     pub fn saw(&mut self, now: Moment, entry: SubscribeEntry) -> Result<Option<Finding>, AllocError>
         ensures told { IfOk result (λ told. told ≡ told_by entry self.old) }
         ensures after { IfOk result (λ told. self.new ≡ after_entry now entry self.old) }

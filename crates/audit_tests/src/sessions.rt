@@ -17,11 +17,13 @@ use Shown::{Full, Not, Nothing, Reboot};
 /// From a node to another: the session and the Reboot flag, and what they show.
 type Heard = (u8, u8, u16, bool, Shown);
 
-/// Two senders, to the group and to each other. Node 1 begins again in between, and one is lost then.
+/// Two senders, to the group and to each other. Node 1 begins again in between, and one is lost then. Session 0
+/// is passed over.
 const TWO_SENDERS: &[Heard] = &[
     (1, 0, 5, true, Nothing),
     (1, 2, 1, true, Nothing),
     (2, 0, 9, false, Nothing),
+    (1, 0, 0, true, Nothing),
     (1, 0, 6, true, Nothing),
     (2, 0, 11, false, Not(10, false)),
     (2, 0, 11, false, Not(12, false)),
