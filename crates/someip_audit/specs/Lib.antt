@@ -1,0 +1,5 @@
+pub mod BooksHeld
+pub mod FellDues
+pub mod SdEntries
+pub mod SdShown
+pub mod SdScenes

@@ -1,0 +1,16 @@
+//! What messages of a recording show.
+use audit_offers::OfferKey;
+use audit_subscriptions::SubscriptionKey;
+
+/// What a message of a recording shows that is not as it should be, or that a book is full.
+#[derive(Clone, Copy, Debug, PartialEq, Eq)]
+pub enum Finding {
+    /// A message of Service Discovery shows this by its sessions.
+    Session(audit_sessions::Finding),
+    /// An Offer of this instance.
+    Offer(OfferKey, audit_offers::Finding),
+    /// An entry of this subscription, as to its answer.
+    Subscription(SubscriptionKey, audit_subscriptions::Finding),
+    /// An entry of this subscription, as to who is subscribed.
+    Receiver(SubscriptionKey, audit_receivers::Finding),
+}
