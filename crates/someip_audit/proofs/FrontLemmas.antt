@@ -1,7 +1,7 @@
 -- What was told stays at the front of what is told.
 use Rattle.std.proofs.Common.{◌≡◌, ℕ, ◌+◌, ◌==◌, ◌<◌, Bool, true, false, List, [], ◌∷◌, ◌++◌, length, get_or, drop, map, if◌then◌else◌, Option, None, Some, refl, ap, sym, ◌∙◌}
 use Rattle.std.proofs.lemmas.List.{drop_more}
-use Rattle.std.specs.Prelude.{Result, Ok, Err}
+use Rattle.std.specs.Prelude.{Result, Ok, Err, option_map}
 use Rattle.std.specs.Result.{OnErr}
 use Rattle.std.specs.declared.net.socket_addr.SocketAddrV4.{SocketAddrV4}
 use Rattle.sd_wire.specs.declared.entry.EntryHead.{EntryHead}
@@ -14,7 +14,14 @@ use Rattle.sd_wire.specs.declared.message.ReadEntry.{ReadEntry}
 use Rattle.sd_wire.specs.Values.{ReadValue, SdValue, good, bad_run, view_read}
 use Rattle.audit_sessions.specs.declared.message.SdMessage.{SdMessage}
 use Rattle.someip_audit.specs.BooksHeld.{Held}
+use Rattle.someip_wire.specs.declared.header.Header.{Header}
+use Rattle.someip_wire.specs.declared.message.Message.{Message}
+use Rattle.someip_wire.specs.Spelling.{MessageValue}
+use Rattle.someip_segments.specs.declared.error.TpError.{TpError}
 use Rattle.audit_tables.specs.declared.origin.Origin.{Origin}
+use Rattle.audit_receivers.specs.ReceiverTables as receivers
+use Rattle.someip_audit.specs.declared.finding.Finding.TheVariants as findings
+use Rattle.someip_audit.specs.MessageShown.{call_shown, delivery, event_shown, is_event, segment_held, segment_shown, segment_told, whole_shown}
 use Rattle.audit_subscriptions.specs.declared.entry.SubscribeEntry.{SubscribeEntry}
 use Rattle.audit_receivers.specs.declared.entry.ReceiverEntry.{ReceiverEntry}
 use Rattle.someip_audit.specs.declared.finding.Finding.{Finding}
@@ -120,3 +127,38 @@ pub sd_begun : (now : ℕ) (origin : Origin) (some all : List ReadEntry) (seen m
     → IsBegun told new (entries_shown now origin (map view_read all) (session_shown message (working held told))).told
 sd_begun now origin some all seen message held told mid more new same_entries same is begun =
     rw (← same_entries, ← same, ← is) (begun_later told more new _ (front_moved told more mid _ is (session_front seen (working held told))) begun)
+
+-- ---- messages that are none of Service Discovery
+
+pub event_front : (now : ℕ) (origin : Origin) (header : Header) (work : Work) → IsFront work.told (event_shown now origin header work).told
+event_front now origin header work = cases (is_event origin header)
+  where
+    cases : (b : Bool)
+        → IsFront work.told
+        (if b
+        then record {
+          held = record work.held { receivers = receivers.after_event now (delivery origin header) work.held.receivers };
+          told = with_told (option_map (findings.Event (delivery origin header)) (receivers.told_of_event now (delivery origin header) work.held.receivers)) work.told;
+        }
+        else work).told
+    cases true = front_told _ work.told
+    cases false = front_same work.told
+
+pub whole_front : (now : ℕ) (origin : Origin) (header : Header) (payload : List ℕ) (work : Work) → IsFront work.told (whole_shown now origin header payload work).told
+whole_front now origin header payload work =
+    front_further work.told (call_shown now origin header payload work).told _ (front_told _ work.told) (event_front now origin header (call_shown now origin header payload work))
+
+pub segment_told_front : (now : ℕ) (origin : Origin) (header : Header) (told : Option (Result MessageValue TpError)) (work : Work) → IsFront work.told (segment_told now origin header told work).told
+segment_told_front now origin header None work = front_same work.told
+segment_told_front now origin header (Some (Ok message)) work = whole_front now origin message.header message.payload work
+segment_told_front now origin header (Some (Err refusal)) work = front_told (Some (findings.Segment header refusal)) work.told
+
+pub segment_front : (now : ℕ) (origin : Origin) (message : Message) (work : Work) → IsFront work.told (segment_shown now origin message work).told
+segment_front now origin message work = segment_told_front now origin message.header _ (record work { held = segment_held now origin message work.held })
+
+-- its call was shown, and nothing more
+pub whole_begun : (now : ℕ) (origin : Origin) (header : Header) (payload : List ℕ) (held : Held) (told : List Finding) (mid : Held) (more new : List Finding)
+    → working mid more ≡ call_shown now origin header payload (working held told) → new ≡ more → IsBegun told new (whole_shown now origin header payload (working held told)).told
+whole_begun now origin header payload held told mid more new is same =
+    let at : more ≡ (call_shown now origin header payload (working held told)).told = ap (λ (w : Work). w.told) is in
+    rw (same, at) (front_told _ told, event_front now origin header (call_shown now origin header payload (working held told)))

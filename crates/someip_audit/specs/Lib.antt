@@ -3,3 +3,4 @@ pub mod FellDues
 pub mod SdEntries
 pub mod SdShown
 pub mod SdScenes
+pub mod MessageShown

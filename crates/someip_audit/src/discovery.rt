@@ -209,7 +209,7 @@ impl<S: Reassembly> Books<S> {
 }
 
 /// Appends a finding.
-fn tell(findings: &mut Vec<Finding>, finding: Finding) -> Result<(), AllocError>
+pub(crate) fn tell(findings: &mut Vec<Finding>, finding: Finding) -> Result<(), AllocError>
     ensures ok { OnOk result (findings.new.items ≡ with_told (Some finding) findings.old.items) }
     ensures err { OnErr result (findings.new.items ≡ findings.old.items) }
 {

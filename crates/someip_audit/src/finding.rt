@@ -1,6 +1,10 @@
 //! What messages of a recording show.
+use audit_calls::CallFinding;
 use audit_offers::OfferKey;
+use audit_receivers::Delivery;
 use audit_subscriptions::SubscriptionKey;
+use someip_segments::TpError;
+use someip_wire::Header;
 
 /// What a message of a recording shows that is not as it should be, or that a book is full.
 #[derive(Clone, Copy, Debug, PartialEq, Eq)]
@@ -13,4 +17,10 @@ pub enum Finding {
     Subscription(SubscriptionKey, audit_subscriptions::Finding),
     /// An entry of this subscription, as to who is subscribed.
     Receiver(SubscriptionKey, audit_receivers::Finding),
+    /// A message with this header, as to its call.
+    Call(Header, CallFinding),
+    /// An event to one endpoint, as to who is subscribed.
+    Event(Delivery, audit_receivers::Finding),
+    /// A segment with this header that reassembly refuses.
+    Segment(Header, TpError),
 }

@@ -4,11 +4,14 @@ ghost use Rattle.std.specs.Prelude.{◌≡◌, Some, None, true, false};
 ghost use Rattle.std.specs.Ordering.{is_lt};
 ghost use Rattle.sd_wire.specs.declared.entry.ServiceKind.TheVariants.{Find, Offer};
 ghost use Rattle.sd_wire.specs.declared.entry.EventgroupKind.TheVariants as groups;
+ghost use Rattle.someip_wire.specs.declared.header.MessageType.TheVariants as kinds;
+ghost use Rattle.audit_calls.specs.Scenes.{header_with};
 ghost use Rattle.audit_offers.specs.OfferExamples.{endpoint, from_node};
 ghost use Rattle.audit_sessions.specs.declared.finding.Finding.TheVariants as sessions;
 ghost use Rattle.audit_subscriptions.specs.SubscribeExamples.{answer, datagram, subscribe};
 ghost use Rattle.someip_audit.specs.BooksHeld.{Held};
 ghost use Rattle.someip_audit.specs.FellDues.{fell_cmp};
+ghost use Rattle.someip_audit.specs.MessageShown.{event_shown, is_event};
 ghost use Rattle.someip_audit.specs.SdEntries.{offer_entry, subscribe_entry, withdrawn_offer};
 ghost use Rattle.someip_audit.specs.SdScenes.{call_due, group_entry, offer_due, service_entry};
 ghost use Rattle.someip_audit.specs.SdScenes.{subscribe_due, with_endpoint};
@@ -56,4 +59,14 @@ pub fn a_reboot_ends_what_a_sender_offered()
         ≡ begun_again (endpoint 1 1).ip held }
     ensures full { (held : Held) → after_session (Some sessions.Full) (endpoint 1 1).ip held ≡ held }
     ensures nothing { (held : Held) → after_session None (endpoint 1 1).ip held ≡ held }
+{}
+
+/// Which messages are events to one endpoint, by example: notifications to the address of a node. What goes
+/// to the group, and an answer, show nothing of who is subscribed, whatever the books hold.
+pub fn events_go_to_one_endpoint()
+    ensures event { is_event (datagram 1 2 9) (header_with 5 kinds.Notification) ≡ true }
+    ensures to_group { (work : Work) → event_shown 100 (from_node 1 1) (header_with 5 kinds.Notification) work
+        ≡ work }
+    ensures response { (work : Work) → event_shown 100 (datagram 1 2 9) (header_with 5 kinds.Response) work
+        ≡ work }
 {}

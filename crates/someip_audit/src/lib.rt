@@ -11,6 +11,7 @@ mod entries;
 mod fell_due;
 mod finding;
 pub mod laws;
+mod messages;
 mod rules;
 mod soonest;
 
