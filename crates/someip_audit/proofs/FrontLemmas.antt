@@ -21,6 +21,8 @@ use Rattle.someip_segments.specs.declared.error.TpError.{TpError}
 use Rattle.audit_tables.specs.declared.origin.Origin.{Origin}
 use Rattle.audit_receivers.specs.ReceiverTables as receivers
 use Rattle.someip_audit.specs.declared.finding.Finding.TheVariants as findings
+use Rattle.sd_wire.specs.declared.error.SdError.{SdError}
+use Rattle.someip_audit.specs.AnyShown.{payload_shown}
 use Rattle.someip_audit.specs.MessageShown.{call_shown, delivery, event_shown, is_event, segment_held, segment_shown, segment_told, whole_shown}
 use Rattle.audit_subscriptions.specs.declared.entry.SubscribeEntry.{SubscribeEntry}
 use Rattle.audit_receivers.specs.declared.entry.ReceiverEntry.{ReceiverEntry}
@@ -162,3 +164,7 @@ pub whole_begun : (now : ℕ) (origin : Origin) (header : Header) (payload : Lis
 whole_begun now origin header payload held told mid more new is same =
     let at : more ≡ (call_shown now origin header payload (working held told)).told = ap (λ (w : Work). w.told) is in
     rw (same, at) (front_told _ told, event_front now origin header (call_shown now origin header payload (working held told)))
+
+pub payload_front : (now : ℕ) (origin : Origin) (session : ℕ) (read : Result SdValue SdError) (work : Work) → IsFront work.told (payload_shown now origin session read work).told
+payload_front now origin session (Ok sd) work = sd_front now origin session sd work
+payload_front now origin session (Err fault) work = front_told (Some (findings.MalformedSd fault)) work.told

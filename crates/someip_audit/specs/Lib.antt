@@ -4,3 +4,4 @@ pub mod SdEntries
 pub mod SdShown
 pub mod SdScenes
 pub mod MessageShown
+pub mod AnyShown

@@ -7,8 +7,10 @@ use Rattle.sd_wire.specs.declared.entry.ServiceEntry.{ServiceEntry}
 use Rattle.sd_wire.specs.declared.entry.ServiceKind.{ServiceKind}
 use Rattle.sd_wire.specs.declared.option.SdOption.TheVariants.{Endpoint4}
 use Rattle.sd_wire.specs.Values.{ReadValue, good}
+use Rattle.someip_wire.specs.declared.header.Header.{Header}
+use Rattle.someip_wire.specs.declared.header.MessageType.TheVariants as kinds
 use Rattle.someip_tables.specs.declared.deadline.Deadline.TheVariants.{At}
-use Rattle.audit_calls.specs.Scenes.{call_5}
+use Rattle.audit_calls.specs.Scenes.{call_5, header_with}
 use Rattle.audit_offers.specs.OfferExamples.{endpoint, from_node, service}
 use Rattle.audit_subscriptions.specs.SubscribeExamples as subscribes
 use Rattle.someip_audit.specs.declared.fell_due.FellDue.{FellDue}
@@ -37,3 +39,7 @@ offer_due id at = due.Expired (record { at = at; key = service id; offer = recor
 -- the Subscribe of node 1 that had no answer until a moment
 abbrev pub subscribe_due : ℕ → FellDue
 subscribe_due at = due.SubscribeUnanswered (record { at = at; key = subscribes.subscription 1 0; origin = subscribes.datagram 4 1 9 })
+
+-- the header of a message of Service Discovery
+abbrev pub sd_header : Header
+sd_header = record (header_with 1 kinds.Notification) { service = 0xFFFF; method = 0x8100; client = 0 }

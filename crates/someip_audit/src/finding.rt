@@ -3,6 +3,7 @@ use audit_calls::CallFinding;
 use audit_offers::OfferKey;
 use audit_receivers::Delivery;
 use audit_subscriptions::SubscriptionKey;
+use sd_wire::SdError;
 use someip_segments::TpError;
 use someip_wire::Header;
 
@@ -23,4 +24,7 @@ pub enum Finding {
     Event(Delivery, audit_receivers::Finding),
     /// A segment with this header that reassembly refuses.
     Segment(Header, TpError),
+    /// A message of Service Discovery whose payload has this fault; its place counts from the payload's first
+    /// byte.
+    MalformedSd(SdError),
 }

@@ -9,11 +9,12 @@ ghost use Rattle.audit_calls.specs.Scenes.{header_with};
 ghost use Rattle.audit_offers.specs.OfferExamples.{endpoint, from_node};
 ghost use Rattle.audit_sessions.specs.declared.finding.Finding.TheVariants as sessions;
 ghost use Rattle.audit_subscriptions.specs.SubscribeExamples.{answer, datagram, subscribe};
+ghost use Rattle.someip_audit.specs.AnyShown.{is_sd};
 ghost use Rattle.someip_audit.specs.BooksHeld.{Held};
 ghost use Rattle.someip_audit.specs.FellDues.{fell_cmp};
 ghost use Rattle.someip_audit.specs.MessageShown.{event_shown, is_event};
 ghost use Rattle.someip_audit.specs.SdEntries.{offer_entry, subscribe_entry, withdrawn_offer};
-ghost use Rattle.someip_audit.specs.SdScenes.{call_due, group_entry, offer_due, service_entry};
+ghost use Rattle.someip_audit.specs.SdScenes.{call_due, group_entry, offer_due, sd_header, service_entry};
 ghost use Rattle.someip_audit.specs.SdScenes.{subscribe_due, with_endpoint};
 ghost use Rattle.someip_audit.specs.SdShown.{Work, after_session, begun_again, entry_shown, offer_shown};
 ghost use Rattle.someip_audit.specs.SdShown.{withdrawn};
@@ -69,4 +70,15 @@ pub fn events_go_to_one_endpoint()
         ≡ work }
     ensures response { (work : Work) → event_shown 100 (datagram 1 2 9) (header_with 5 kinds.Response) work
         ≡ work }
+{}
+
+/// Which messages are of Service Discovery, by example: those from or to port 30490 with the Message ID
+/// FFFF8100; neither with another Method ID, nor between other ports.
+pub fn messages_are_of_service_discovery()
+    ensures sent { is_sd (datagram 1 2 9) sd_header ≡ true }
+    ensures to_it { is_sd (record (datagram 1 2 9) { from = endpoint 2 40000 }) sd_header ≡ true }
+    ensures other_ports { is_sd
+        (record (datagram 1 2 9) { from = endpoint 2 40000; to = endpoint 9 40000 }) sd_header ≡ false }
+    ensures other_method { is_sd (datagram 1 2 9) (record sd_header { method = 0x8101 }) ≡ false }
+    ensures other_service { is_sd (datagram 1 2 9) (record sd_header { service = 0xFFFE }) ≡ false }
 {}

@@ -5,6 +5,7 @@
 //! - [`laws`]: the definitions behind the contracts, by example.
 #![tactic(auto)]
 
+mod any_message;
 mod books;
 mod discovery;
 mod entries;
