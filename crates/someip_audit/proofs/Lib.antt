@@ -1,0 +1,3 @@
+pub mod MomentLemmas
+pub mod FirstOfAll
+pub mod FrontLemmas

@@ -1,0 +1,91 @@
+-- What a message that is none of Service Discovery shows over all books.
+use Rattle.std.specs.Prelude.{ℕ, nat_lt, max, Bool, true, false, ◌&&◌, if◌then◌else◌, List, slice_index, Option, None, Some, option_map, Result, Ok, Err}
+use Rattle.std.specs.Net.Addr.{ipv4_octets}
+use Rattle.std.specs.Net.Socket.{v4_ip}
+use Rattle.std.specs.declared.net.socket_addr.SocketAddrV4.{SocketAddrV4}
+use Rattle.someip_wire.specs.declared.header.Header.{Header}
+use Rattle.someip_wire.specs.declared.header.MessageType.{MessageType}
+use Rattle.someip_wire.specs.declared.header.MessageType.TheVariants.{Notification}
+use Rattle.someip_wire.specs.declared.message.Message.{Message}
+use Rattle.someip_wire.specs.Kinds.{has_tp_flag}
+use Rattle.someip_wire.specs.Spelling.{MessageValue}
+use Rattle.someip_segments.specs.declared.error.TpError.{TpError}
+use Rattle.audit_tables.specs.declared.origin.Origin.{Origin}
+use Rattle.audit_calls.specs.CallBooks as calls
+use Rattle.audit_calls.specs.Tapped.{Tapped}
+use Rattle.audit_segments.specs.SegmentBooks as segments
+use Rattle.audit_receivers.specs.declared.delivery.Delivery.{Delivery}
+use Rattle.audit_receivers.specs.ReceiverTables as receivers
+use Rattle.someip_audit.specs.declared.finding.Finding.TheVariants as findings
+use Rattle.someip_audit.specs.BooksHeld.{Held}
+use Rattle.someip_audit.specs.SdShown.{Work, with_told}
+
+-- ---- a whole message
+
+-- a message with this header and payload, as it was seen
+abbrev pub tapped_in : ℕ → Origin → Header → List ℕ → Tapped
+tapped_in now origin header payload = record { now = now; k = origin.datagram; from = origin.from; to = origin.to; header = header; payload = payload }
+
+-- what it shows of calls
+abbrev pub call_shown : ℕ → Origin → Header → List ℕ → Work → Work
+call_shown now origin header payload work = record {
+  held = record work.held { calls = calls.book_after (tapped_in now origin header payload) work.held.calls };
+  told = with_told (option_map (findings.Call header) (calls.told (tapped_in now origin header payload) work.held.calls)) work.told;
+}
+
+-- an endpoint is of one node: its address is none of a group or of all, which begin with 224 and more
+abbrev pub is_unicast : SocketAddrV4 → Bool
+is_unicast endpoint = nat_lt (slice_index (ipv4_octets (v4_ip endpoint)) 0) 224
+
+-- a message is an event to one endpoint
+abbrev pub has_type_event : MessageType → Bool
+has_type_event Notification = true
+has_type_event _ = false
+
+abbrev pub is_event : Origin → Header → Bool
+is_event origin header = has_type_event header.kind && is_unicast origin.to
+
+-- the event that it is
+abbrev pub delivery : Origin → Header → Delivery
+delivery origin header = record { server = v4_ip origin.from; service = header.service; event = header.method; endpoint = origin.to }
+
+-- what it shows of those who are subscribed
+abbrev pub event_shown : ℕ → Origin → Header → Work → Work
+event_shown now origin header work =
+    if is_event origin header
+    then record {
+      held = record work.held { receivers = receivers.after_event now (delivery origin header) work.held.receivers };
+      told = with_told (option_map (findings.Event (delivery origin header)) (receivers.told_of_event now (delivery origin header) work.held.receivers)) work.told;
+    }
+    else work
+
+-- what it shows of calls, and then of events
+abbrev pub whole_shown : ℕ → Origin → Header → List ℕ → Work → Work
+whole_shown now origin header payload work = event_shown now origin header (call_shown now origin header payload work)
+
+-- ---- a segment
+
+-- what follows from what is told of a segment: its message, if it is whole
+abbrev pub segment_told : ℕ → Origin → Header → Option (Result MessageValue TpError) → Work → Work
+segment_told now origin header None work = work
+segment_told now origin header (Some (Ok message)) work = whole_shown now origin message.header message.payload work
+segment_told now origin header (Some (Err refusal)) work = record work { told = with_told (Some (findings.Segment header refusal)) work.told }
+
+-- the books once it came
+abbrev pub segment_held : ℕ → Origin → Message → Held → Held
+segment_held now origin message held =
+    record held { segments = segments.book_after (segments.segment_of origin.from origin.to message) (max held.segments.latest now) origin.datagram held.segments }
+
+abbrev pub segment_shown : ℕ → Origin → Message → Work → Work
+segment_shown now origin message work =
+    segment_told now origin message.header
+    (segments.told_of message.header (segments.segment_of origin.from origin.to message) (max work.held.segments.latest now) work.held.segments)
+    (record work { held = segment_held now origin message work.held })
+
+-- ---- a message
+
+-- one with the TP flag is a segment, and any other is whole
+abbrev pub message_shown : ℕ → Origin → Message → Work → Work
+message_shown now origin message work =
+    if has_tp_flag message.header.kind then segment_shown now origin message work
+    else whole_shown now origin message.header message.payload.now work

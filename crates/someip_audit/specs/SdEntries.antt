@@ -1,0 +1,76 @@
+-- Messages and entries of Service Discovery, as the books take them (SOME/IP Service Discovery, "Entry Format").
+use Rattle.std.specs.Prelude.{ℕ, Option}
+use Rattle.std.specs.declared.net.ipv4_addr.Ipv4Addr.{Ipv4Addr}
+use Rattle.std.specs.declared.net.socket_addr.SocketAddrV4.{SocketAddrV4}
+use Rattle.std.specs.Net.Socket.{v4_ip}
+use Rattle.sd_wire.specs.declared.entry.EventgroupEntry.{EventgroupEntry}
+use Rattle.sd_wire.specs.declared.entry.EventgroupKind.{EventgroupKind}
+use Rattle.sd_wire.specs.declared.entry.EventgroupKind.TheVariants as kinds
+use Rattle.sd_wire.specs.declared.entry.ServiceEntry.{ServiceEntry}
+use Rattle.sd_wire.specs.declared.flags.SdFlags.{SdFlags}
+use Rattle.audit_tables.specs.declared.origin.Origin.{Origin}
+use Rattle.audit_sessions.specs.declared.message.SdMessage.{SdMessage}
+use Rattle.audit_offers.specs.declared.entry.OfferEntry.{OfferEntry}
+use Rattle.audit_offers.specs.declared.key.OfferKey.{OfferKey}
+use Rattle.audit_subscriptions.specs.declared.entry.EntryKind.{EntryKind}
+use Rattle.audit_subscriptions.specs.declared.entry.EntryKind.TheVariants.{Answer, Subscribe}
+use Rattle.audit_subscriptions.specs.declared.entry.SubscribeEntry.{SubscribeEntry}
+use Rattle.audit_subscriptions.specs.declared.key.SubscriptionKey.{SubscriptionKey}
+use Rattle.audit_receivers.specs.declared.entry.ReceiverEntry.{ReceiverEntry}
+use Rattle.audit_receivers.specs.declared.entry.WithdrawnOffer.{WithdrawnOffer}
+
+-- the address that a datagram was sent from, and the one that it was sent to
+abbrev pub sender : Origin → Ipv4Addr
+sender origin = v4_ip origin.from
+
+abbrev pub destination : Origin → Ipv4Addr
+destination origin = v4_ip origin.to
+
+-- a message with this session and these flags, as far as its sessions go
+abbrev pub sd_message : Origin → ℕ → SdFlags → SdMessage
+sd_message origin session flags = record { from = sender origin; to = destination origin; stamp = record { session = session; reboot = flags.reboot } }
+
+-- the instance that an entry is about
+abbrev pub offer_key : ServiceEntry → OfferKey
+offer_key entry = record { service = entry.service; instance = entry.instance; major = entry.major }
+
+-- an Offer or a StopOffer, with the first IPv4 endpoint over UDP among its options, if it has one
+abbrev pub offer_entry : Origin → ServiceEntry → Option SocketAddrV4 → OfferEntry
+offer_entry origin entry endpoint = record { key = offer_key entry; endpoint = endpoint; ttl = entry.ttl; origin = origin }
+
+-- the offer that a StopOffer withdraws
+abbrev pub withdrawn_offer : Origin → ServiceEntry → WithdrawnOffer
+withdrawn_offer origin entry = record { server = sender origin; service = entry.service; instance = entry.instance; major = entry.major }
+
+-- the subscription of a client at a server that an entry is about
+abbrev pub subscription : Ipv4Addr → Ipv4Addr → EventgroupEntry → SubscriptionKey
+subscription client server entry = record {
+  client = client;
+  server = server;
+  service = entry.service;
+  instance = entry.instance;
+  major = entry.major;
+  eventgroup = entry.eventgroup;
+  counter = entry.counter;
+}
+
+-- a Subscribe goes from the client to the server, and its answer the other way
+abbrev pub subscription_of : EventgroupKind → Origin → EventgroupEntry → SubscriptionKey
+subscription_of kinds.Subscribe origin entry = subscription (sender origin) (destination origin) entry
+subscription_of kinds.Ack origin entry = subscription (destination origin) (sender origin) entry
+
+abbrev pub subscription_key : Origin → EventgroupEntry → SubscriptionKey
+subscription_key origin entry = subscription_of entry.kind origin entry
+
+-- an Ack and a Nack are answers
+abbrev pub kind_of : EventgroupKind → EntryKind
+kind_of kinds.Subscribe = Subscribe
+kind_of kinds.Ack = Answer
+
+-- an entry of an eventgroup, as to its answer
+abbrev pub subscribe_entry : Origin → EventgroupEntry → SubscribeEntry
+subscribe_entry origin entry = record { key = subscription_key origin entry; kind = kind_of entry.kind; ttl = entry.ttl; origin = origin }
+
+-- and as to who is subscribed, with the first IPv4 endpoint over UDP among its options, if it has one
+abbrev pub receiver_entry : SubscribeEntry → Option SocketAddrV4 → ReceiverEntry
+receiver_entry entry endpoint = record { key = entry.key; kind = entry.kind; ttl = entry.ttl; endpoint = endpoint }

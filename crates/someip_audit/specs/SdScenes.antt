@@ -1,0 +1,45 @@
+-- Entries of Service Discovery, and what falls due, that the laws speak of as examples.
+use Rattle.std.specs.Prelude.{ℕ, [], ◌∷◌}
+use Rattle.sd_wire.specs.declared.entry.EventgroupEntry.{EventgroupEntry}
+use Rattle.sd_wire.specs.declared.entry.EventgroupKind.{EventgroupKind}
+use Rattle.sd_wire.specs.declared.entry.EntryHead.TheVariants.{Service}
+use Rattle.sd_wire.specs.declared.entry.ServiceEntry.{ServiceEntry}
+use Rattle.sd_wire.specs.declared.entry.ServiceKind.{ServiceKind}
+use Rattle.sd_wire.specs.declared.option.SdOption.TheVariants.{Endpoint4}
+use Rattle.sd_wire.specs.Values.{ReadValue, good}
+use Rattle.someip_wire.specs.declared.header.Header.{Header}
+use Rattle.someip_wire.specs.declared.header.MessageType.TheVariants as kinds
+use Rattle.someip_tables.specs.declared.deadline.Deadline.TheVariants.{At}
+use Rattle.audit_calls.specs.Scenes.{call_5, header_with}
+use Rattle.audit_offers.specs.OfferExamples.{endpoint, from_node, service}
+use Rattle.audit_subscriptions.specs.SubscribeExamples as subscribes
+use Rattle.someip_audit.specs.declared.fell_due.FellDue.{FellDue}
+use Rattle.someip_audit.specs.declared.fell_due.FellDue.TheVariants as due
+
+-- an entry of this kind about instance 1 of service 4096
+abbrev pub service_entry : ServiceKind → ℕ → ServiceEntry
+service_entry kind ttl = record { kind = kind; service = 4096; instance = 1; major = 1; ttl = ttl; minor = 0 }
+
+-- with a UDP endpoint of node n
+abbrev pub with_endpoint : ServiceEntry → ℕ → ℕ → ReadValue
+with_endpoint entry n port = good (record { head = Service entry; first = Endpoint4 (record { socket = endpoint n port; protocol = record { 0 = 0x11 } }) ∷ []; second = [] })
+
+-- an entry of this kind about its eventgroup 5
+abbrev pub group_entry : EventgroupKind → ℕ → EventgroupEntry
+group_entry kind ttl = record { kind = kind; service = 4096; instance = 1; major = 1; ttl = ttl; counter = 0; eventgroup = 5 }
+
+-- the call with session 5 that had no answer until a moment
+abbrev pub call_due : ℕ → FellDue
+call_due at = due.Unanswered (record { call = call_5; k = 7; since = 0; until = at })
+
+-- the offer of a service whose TTL passed at a moment
+abbrev pub offer_due : ℕ → ℕ → FellDue
+offer_due id at = due.Expired (record { at = at; key = service id; offer = record { endpoint = endpoint 1 40000; origin = from_node 1 1; until = At at } })
+
+-- the Subscribe of node 1 that had no answer until a moment
+abbrev pub subscribe_due : ℕ → FellDue
+subscribe_due at = due.SubscribeUnanswered (record { at = at; key = subscribes.subscription 1 0; origin = subscribes.datagram 4 1 9 })
+
+-- the header of a message of Service Discovery
+abbrev pub sd_header : Header
+sd_header = record (header_with 1 kinds.Notification) { service = 0xFFFF; method = 0x8100; client = 0 }

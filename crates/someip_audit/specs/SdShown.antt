@@ -1,0 +1,124 @@
+-- What a message of Service Discovery shows over all books.
+use Rattle.std.specs.Prelude.{◌≡◌, ℕ, ◌==◌, if◌then◌else◌, List, [], ◌∷◌, ◌++◌, Option, None, Some, option_map}
+use Rattle.std.specs.declared.net.ipv4_addr.Ipv4Addr.{Ipv4Addr}
+use Rattle.std.specs.declared.net.socket_addr.SocketAddrV4.{SocketAddrV4}
+use Rattle.sd_wire.specs.declared.entry.EntryHead.{EntryHead}
+use Rattle.sd_wire.specs.declared.entry.EntryHead.TheVariants.{Service, Eventgroup}
+use Rattle.sd_wire.specs.declared.entry.ServiceEntry.{ServiceEntry}
+use Rattle.sd_wire.specs.declared.entry.ServiceKind.{ServiceKind}
+use Rattle.sd_wire.specs.declared.entry.ServiceKind.TheVariants.{Find, Offer}
+use Rattle.sd_wire.specs.Endpoints.{first_udp_endpoint, options_of}
+use Rattle.sd_wire.specs.Values.{ReadValue, SdValue, good, bad_run}
+use Rattle.audit_tables.specs.declared.origin.Origin.{Origin}
+use Rattle.audit_sessions.specs.declared.message.SdMessage.{SdMessage}
+use Rattle.audit_sessions.specs.declared.finding.Finding.{Finding as SessionFinding}
+use Rattle.audit_sessions.specs.declared.finding.Finding.TheVariants as sessions
+use Rattle.audit_sessions.specs.SessionBooks as session_book
+use Rattle.audit_offers.specs.declared.entry.OfferEntry.{OfferEntry}
+use Rattle.audit_offers.specs.OfferTables as offers
+use Rattle.audit_subscriptions.specs.declared.entry.SubscribeEntry.{SubscribeEntry}
+use Rattle.audit_subscriptions.specs.SubscribeTables as subscriptions
+use Rattle.audit_receivers.specs.declared.entry.ReceiverEntry.{ReceiverEntry}
+use Rattle.audit_receivers.specs.declared.entry.WithdrawnOffer.{WithdrawnOffer}
+use Rattle.audit_receivers.specs.ReceiverTables as receivers
+use Rattle.someip_audit.specs.declared.finding.Finding.{Finding}
+use Rattle.someip_audit.specs.declared.finding.Finding.TheVariants as findings
+use Rattle.someip_audit.specs.BooksHeld.{Held}
+use Rattle.someip_audit.specs.SdEntries.{offer_entry, receiver_entry, sd_message, subscribe_entry, withdrawn_offer}
+
+-- what the books hold, and what was told so far
+pub record Work : Type 0 where
+  pub held : Held
+  pub told : List Finding
+
+abbrev pub working : Held → List Finding → Work
+working held told = record { held = held; told = told }
+
+-- one more is told, or nothing
+abbrev pub with_told : Option Finding → List Finding → List Finding
+with_told None told = told
+with_told (Some finding) told = told ++ finding ∷ []
+
+-- ---- its sessions
+
+-- a sender began again: what it offered and subscribed, and what was subscribed at it, ends
+abbrev pub begun_again : Ipv4Addr → Held → Held
+begun_again address held =
+    record held { offers = offers.without_sender address held.offers; subscriptions = subscriptions.without address held.subscriptions; receivers = receivers.without address held.receivers }
+
+-- so it is where the sessions show a reboot
+abbrev pub after_session : Option SessionFinding → Ipv4Addr → Held → Held
+after_session (Some sessions.Reboot) address held = begun_again address held
+after_session _ address held = held
+
+abbrev pub session_shown : SdMessage → Work → Work
+session_shown message work = record {
+  held = after_session (session_book.told_by message work.held.sessions) message.from (record work.held { sessions = session_book.sessions_after message work.held.sessions });
+  told = with_told (option_map findings.Session (session_book.told_by message work.held.sessions)) work.told;
+}
+
+-- ---- one entry
+
+-- an Offer or a StopOffer
+abbrev pub offer_shown : ℕ → OfferEntry → Work → Work
+offer_shown now entry work = record {
+  held = record work.held { offers = offers.after_entry now entry work.held.offers };
+  told = with_told (option_map (findings.Offer entry.key) (offers.told_by entry work.held.offers)) work.told;
+}
+
+-- and what is subscribed at an offer that a StopOffer withdraws ends
+abbrev pub withdrawn : WithdrawnOffer → Work → Work
+withdrawn offer work = record work { held = record work.held { receivers = receivers.without_offer offer work.held.receivers } }
+
+-- a Find shows nothing
+abbrev pub service_shown : ServiceKind → ℕ → Origin → ServiceEntry → Option SocketAddrV4 → Work → Work
+service_shown Find now origin entry endpoint work = work
+service_shown Offer now origin entry endpoint work =
+    if entry.ttl == 0 then withdrawn (withdrawn_offer origin entry) (offer_shown now (offer_entry origin entry endpoint) work)
+    else offer_shown now (offer_entry origin entry endpoint) work
+
+-- an entry of an eventgroup, as to its answer
+abbrev pub subscribe_shown : ℕ → SubscribeEntry → Work → Work
+subscribe_shown now entry work = record {
+  held = record work.held { subscriptions = subscriptions.after_entry now entry work.held.subscriptions };
+  told = with_told (option_map (findings.Subscription entry.key) (subscriptions.told_by entry work.held.subscriptions)) work.told;
+}
+
+-- and as to who is subscribed
+abbrev pub receiver_shown : ℕ → ReceiverEntry → Work → Work
+receiver_shown now entry work = record {
+  held = record work.held { receivers = receivers.after_entry now entry work.held.receivers };
+  told = with_told (option_map (findings.Receiver entry.key) (receivers.told_by entry work.held.receivers)) work.told;
+}
+
+-- an entry with the first IPv4 endpoint over UDP among its options, if it has one
+abbrev pub head_shown : ℕ → Origin → EntryHead → Option SocketAddrV4 → Work → Work
+head_shown now origin (Service entry) endpoint work = service_shown entry.kind now origin entry endpoint work
+head_shown now origin (Eventgroup entry) endpoint work =
+    receiver_shown now (receiver_entry (subscribe_entry origin entry) endpoint) (subscribe_shown now (subscribe_entry origin entry) work)
+
+-- of an entry whose runs pass the options none is known
+abbrev pub entry_shown : ℕ → Origin → ReadValue → Work → Work
+entry_shown now origin (good entry) work = head_shown now origin entry.head (first_udp_endpoint (options_of entry)) work
+entry_shown now origin (bad_run head) work = head_shown now origin head None work
+
+-- ---- the message
+
+-- its entries, in order
+abbrev pub entries_shown : ℕ → Origin → List ReadValue → Work → Work
+entries_shown now origin [] work = work
+entries_shown now origin (entry ∷ entries) work = entries_shown now origin entries (entry_shown now origin entry work)
+
+-- its sessions, and then its entries
+abbrev pub sd_shown : ℕ → Origin → ℕ → SdValue → Work → Work
+sd_shown now origin session sd work = entries_shown now origin sd.entries (session_shown (sd_message origin session sd.flags) work)
+
+-- ---- what was told where memory ran out
+
+-- a list is the beginning of another
+abbrev pub IsFront : List Finding → List Finding → Type 0
+IsFront front all = (rest : List Finding) × (front ++ rest ≡ all)
+
+-- what was told before, and of what is told a beginning
+abbrev pub IsBegun : List Finding → List Finding → List Finding → Type 0
+IsBegun before told all = IsFront before told × IsFront told all

@@ -1,0 +1,86 @@
+//! Any message of a recording over the books.
+ghost use Rattle.std.specs.Prelude.{◌≡◌, IfOk, OnErr, OnOk};
+ghost use Rattle.std.specs.Result.{result_map_both};
+ghost use Rattle.sd_wire.specs.Program.{reading};
+ghost use Rattle.sd_wire.specs.Values.{view_sd};
+ghost use Rattle.someip_audit.specs.AnyShown.{any_shown, is_sd, payload_shown};
+ghost use Rattle.someip_audit.specs.SdShown.{IsBegun, working};
+
+use crate::books::Books;
+use crate::discovery::tell;
+use crate::finding::Finding;
+use audit_tables::Origin;
+use sd_wire::{SdError, SdRead, read_sd};
+use someip_reassembly::Reassembly;
+use someip_tables::Moment;
+use someip_wire::{Header, Message};
+use std::alloc::{AllocError, Global};
+
+impl<S: Reassembly> Books<S> {
+    /// Takes note of any message, and appends what it shows: one of Service Discovery, from or to port
+    /// 30490 with the Message ID FFFF8100, is read, and its fault is told where it has one. `bytes` is room
+    /// for the payload of a message in segments. Where memory runs out, what was appended is a beginning
+    /// of what is to be told, and nothing else is promised.
+    pub fn saw(
+        &mut self,
+        alloc: Global,
+        now: Moment,
+        origin: &Origin,
+        message: &Message<'_>,
+        bytes: &mut Vec<u8>,
+        findings: &mut Vec<Finding>,
+    ) -> Result<(), AllocError>
+        ensures ok { OnOk result (working self.new findings.new.items
+            ≡ any_shown now origin.now message.now (working self.old findings.old.items)) }
+        ensures err { OnErr result (IsBegun findings.old.items findings.new.items
+            (any_shown now origin.now message.now (working self.old findings.old.items)).told) }
+    {
+        if is_sd(origin, &message.header) {
+            let session = message.header.session;
+            self.saw_payload(alloc, now, origin, session, message.payload, findings)
+        } else {
+            self.saw_message(now, origin, message, bytes, findings)
+        }
+    }
+
+    /// The payload of a message of Service Discovery comes.
+    fn saw_payload(
+        &mut self,
+        alloc: Global,
+        now: Moment,
+        origin: &Origin,
+        session: u16,
+        payload: &[u8],
+        findings: &mut Vec<Finding>,
+    ) -> Result<(), AllocError>
+        ensures ok { OnOk result (working self.new findings.new.items
+            ≡ payload_shown now origin.now session (reading payload.now) (working self.old findings.old.items)) }
+        ensures err { OnErr result (IsBegun findings.old.items findings.new.items
+            (payload_shown now origin.now session (reading payload.now)
+            (working self.old findings.old.items)).told) }
+    {
+        match read_payload(alloc, payload)? {
+            Ok(read) => self.saw_sd(now, origin, session, &read, findings),
+            Err(fault) => tell(findings, Finding::MalformedSd(fault)),
+        }
+    }
+}
+
+/// Whether a message is one of Service Discovery.
+fn is_sd(origin: &Origin, header: &Header) -> bool
+    ensures { result ≡ is_sd origin.now header.now }
+{
+    (origin.from.port() == 30490 || origin.to.port() == 30490)
+        && header.service == 0xffff
+        && header.method == 0x8100
+}
+
+/// Reads a payload, and keeps want of memory apart.
+fn read_payload(alloc: Global, payload: &[u8]) -> Result<Result<SdRead, SdError>, AllocError>
+    ensures { IfOk result (λ found. result_map_both view_sd (λ e. e) found ≡ reading payload.now) }
+{
+    match read_sd(alloc, payload) {
+        Err(SdError::OutOfMemory) => Err(AllocError),
+        found => Ok(found),
+    }
+}

@@ -1,0 +1,99 @@
+//! The books of one audit.
+ghost use Rattle.std.specs.Prelude.{◌≡◌, true, IfOk, IfSome, IfNone};
+ghost use Rattle.std.specs.Ordering.{is_le};
+ghost use Rattle.someip_audit.specs.BooksHeld.{empty_held};
+ghost use Rattle.someip_audit.specs.FellDues.{IsDue, after_due, fell_cmp};
+ghost use Rattle.someip_audit.specs.declared.fell_due.FellDue.{FellDue};
+
+use crate::fell_due::FellDue;
+use crate::rules::AuditRules;
+use crate::soonest::{earlier, is_at, soonest};
+use audit_calls::{CallBook, CallRules};
+use audit_offers::OfferBook;
+use audit_receivers::ReceiverBook;
+use audit_segments::SegmentBook;
+use audit_sessions::SessionBook;
+use audit_subscriptions::SubscribeBook;
+use someip_reassembly::Reassembly;
+use someip_tables::Moment;
+use std::alloc::{AllocError, Global};
+use std::marker::Model;
+
+/// The books of one audit, each with a kind of findings.
+#[derive(Drop)]
+pub struct Books<S: Reassembly> {
+    pub(crate) calls: CallBook,
+    pub(crate) segments: SegmentBook<S>,
+    pub(crate) offers: OfferBook,
+    pub(crate) subscriptions: SubscribeBook,
+    pub(crate) sessions: SessionBook,
+    pub(crate) receivers: ReceiverBook,
+}
+
+impl<S: Reassembly> Model for Books<S> {
+    ghost use Rattle.someip_audit.specs.BooksHeld.{Held, coded_held};
+
+    ghost Value = { Held };
+
+    ghost coded = { coded_held };
+
+    ghost view = { λ b. record {
+      calls = b.calls;
+      segments = b.segments;
+      offers = b.offers;
+      subscriptions = b.subscriptions;
+      sessions = b.sessions;
+      receivers = b.receivers;
+    } };
+}
+
+impl<S: Reassembly> Books<S> {
+    /// Books that saw nothing.
+    pub fn make(alloc: Global, rules: AuditRules) -> Result<Books<S>, AllocError>
+        ensures { IfOk result (λ books. books ≡ empty_held rules) }
+    {
+        let segments = SegmentBook::make(alloc, rules.segments)?;
+        let calls = CallRules {
+            limit: rules.limit,
+            answer_ms: rules.answer_ms,
+            begins: rules.begins,
+        };
+        Ok(Books {
+            calls: CallBook::new(alloc, calls),
+            segments,
+            offers: OfferBook::new(alloc, rules.limit),
+            subscriptions: SubscribeBook::new(alloc, rules.limit, rules.answer_ms),
+            sessions: SessionBook::new(alloc, rules.limit),
+            receivers: ReceiverBook::new(alloc, rules.limit, rules.settled),
+        })
+    }
+
+    /// What falls due first, by deadline, then by book, and then by key, if its deadline has come, and
+    /// takes note that it was told. Whoever goes over a recording asks until nothing is left, with the
+    /// moment of each datagram and before it. It takes no memory.
+    pub fn due(&mut self, now: Moment) -> Option<FellDue>
+        ensures due { IfSome result (λ told. IsDue now self.old told) }
+        ensures first { IfSome result (λ told. (other : FellDue) → IsDue now self.old other
+            → is_le (fell_cmp told other) ≡ true) }
+        ensures none { IfNone result ((other : FellDue) → IsDue now self.old other → ⊥) }
+        ensures after { self.new ≡ after_due now result self.old }
+    {
+        let segments = self.segments.next_due();
+        let offers = self.offers.next_due();
+        let next = earlier(segments, earlier(offers, self.subscriptions.next_due()));
+        let at = soonest(now, next);
+        if let Some(call) = self.calls.due(at) {
+            return Some(FellDue::Unanswered(call));
+        }
+        if !is_at(next, at) {
+            return None;
+        }
+        if is_at(segments, at) {
+            return Some(FellDue::Missing(self.segments.due(at)?));
+        }
+        if is_at(offers, at) {
+            return Some(FellDue::Expired(self.offers.due(at)?));
+        }
+        Some(FellDue::SubscribeUnanswered(self.subscriptions.due(at)?))
+    }
+}

@@ -1,0 +1,218 @@
+//! Messages of Service Discovery over the books.
+ghost use Rattle.std.specs.Prelude.{◌≡◌, OnErr, OnOk, Some, map};
+ghost use Rattle.sd_wire.specs.Values.{view_read, view_sd};
+ghost use Rattle.someip_audit.specs.SdShown.{IsBegun, begun_again, entries_shown, entry_shown};
+ghost use Rattle.someip_audit.specs.SdShown.{head_shown, offer_shown, receiver_shown, sd_shown};
+ghost use Rattle.someip_audit.specs.SdShown.{service_shown, session_shown, subscribe_shown};
+ghost use Rattle.someip_audit.specs.SdShown.{with_told, working};
+
+use crate::books::Books;
+use crate::entries::{offer_entry, receiver_entry, sd_message, subscribe_entry, withdrawn_offer};
+use crate::finding::Finding;
+use audit_offers::OfferEntry;
+use audit_receivers::ReceiverEntry;
+use audit_sessions::SdMessage;
+use audit_subscriptions::SubscribeEntry;
+use audit_tables::Origin;
+use sd_wire::{EntryHead, ReadEntry, SdRead, ServiceEntry, ServiceKind};
+use someip_reassembly::Reassembly;
+use someip_tables::Moment;
+use std::alloc::AllocError;
+use std::net::{Ipv4Addr, SocketAddrV4};
+
+impl<S: Reassembly> Books<S> {
+    /// Takes note of a message of Service Discovery with this session, and appends what it shows: by its
+    /// session and flags first, and then by its entries in order. Where memory runs out, what was
+    /// appended is a beginning of that, and nothing else is promised.
+    pub fn saw_sd(
+        &mut self,
+        now: Moment,
+        origin: &Origin,
+        session: u16,
+        read: &SdRead,
+        findings: &mut Vec<Finding>,
+    ) -> Result<(), AllocError>
+        ensures ok { OnOk result (working self.new findings.new.items
+            ≡ sd_shown now origin.now session (view_sd read.now) (working self.old findings.old.items)) }
+        ensures err { OnErr result (IsBegun findings.old.items findings.new.items
+            (sd_shown now origin.now session (view_sd read.now) (working self.old findings.old.items)).told) }
+    {
+        self.saw_session(sd_message(origin, session, read.flags), findings)?;
+        self.saw_entries(now, origin, &read.entries, findings)
+    }
+
+    /// The sessions of a message come.
+    fn saw_session(
+        &mut self,
+        message: SdMessage,
+        findings: &mut Vec<Finding>,
+    ) -> Result<(), AllocError>
+        ensures ok { OnOk result (working self.new findings.new.items
+            ≡ session_shown message (working self.old findings.old.items)) }
+        ensures err { OnErr result (findings.new.items ≡ findings.old.items) }
+    {
+        let told = self.sessions.saw(message)?;
+        if let Some(audit_sessions::Finding::Reboot) = told {
+            self.begin_again(message.from);
+        }
+        match told {
+            Some(shown) => tell(findings, Finding::Session(shown)),
+            None => Ok(()),
+        }
+    }
+
+    /// A sender began again.
+    fn begin_again(&mut self, address: Ipv4Addr)
+        ensures { self.new ≡ begun_again address self.old }
+    {
+        self.offers.forget(address);
+        self.subscriptions.forget(address);
+        self.receivers.forget(address);
+    }
+
+    /// The entries of a message come.
+    fn saw_entries(
+        &mut self,
+        now: Moment,
+        origin: &Origin,
+        entries: &[ReadEntry],
+        findings: &mut Vec<Finding>,
+    ) -> Result<(), AllocError>
+        ensures ok { OnOk result (working self.new findings.new.items
+            ≡ entries_shown now origin.now (map view_read entries.now) (working self.old findings.old.items)) }
+        ensures err { OnErr result (IsBegun findings.old.items findings.new.items
+            (entries_shown now origin.now (map view_read entries.now) (working self.old findings.old.items)).told) }
+    {
+        for entry in entries {
+            self.saw_entry(now, origin, entry, findings)?;
+        }
+        Ok(())
+    }
+
+    /// An entry comes.
+    fn saw_entry(
+        &mut self,
+        now: Moment,
+        origin: &Origin,
+        entry: &ReadEntry,
+        findings: &mut Vec<Finding>,
+    ) -> Result<(), AllocError>
+        ensures ok { OnOk result (working self.new findings.new.items
+            ≡ entry_shown now origin.now (view_read entry.now) (working self.old findings.old.items)) }
+        ensures err { OnErr result (IsBegun findings.old.items findings.new.items
+            (entry_shown now origin.now (view_read entry.now) (working self.old findings.old.items)).told) }
+    {
+        match entry {
+            ReadEntry::Good(entry) => {
+                self.saw_head(now, origin, &entry.head, entry.udp_endpoint(), findings)
+            }
+            ReadEntry::BadRun(head) => self.saw_head(now, origin, head, None, findings),
+        }
+    }
+
+    /// An entry comes with this endpoint.
+    fn saw_head(
+        &mut self,
+        now: Moment,
+        origin: &Origin,
+        head: &EntryHead,
+        endpoint: Option<SocketAddrV4>,
+        findings: &mut Vec<Finding>,
+    ) -> Result<(), AllocError>
+        ensures ok { OnOk result (working self.new findings.new.items
+            ≡ head_shown now origin.now head.now endpoint (working self.old findings.old.items)) }
+        ensures err { OnErr result (IsBegun findings.old.items findings.new.items
+            (head_shown now origin.now head.now endpoint (working self.old findings.old.items)).told) }
+    {
+        match head {
+            EntryHead::Service(entry) => self.saw_service(now, origin, entry, endpoint, findings),
+            EntryHead::Eventgroup(entry) => {
+                let subscribe = subscribe_entry(origin, entry);
+                self.saw_subscribe(now, subscribe, findings)?;
+                self.saw_receiver(now, receiver_entry(&subscribe, endpoint), findings)
+            }
+        }
+    }
+
+    /// An entry about an instance comes.
+    fn saw_service(
+        &mut self,
+        now: Moment,
+        origin: &Origin,
+        entry: &ServiceEntry,
+        endpoint: Option<SocketAddrV4>,
+        findings: &mut Vec<Finding>,
+    ) -> Result<(), AllocError>
+        ensures ok { OnOk result (working self.new findings.new.items
+            ≡ service_shown entry.now.kind now origin.now entry.now endpoint (working self.old findings.old.items)) }
+        ensures err { OnErr result (findings.new.items ≡ findings.old.items) }
+    {
+        if matches!(entry.kind, ServiceKind::Find) {
+            return Ok(());
+        }
+        if entry.ttl.seconds() == 0 {
+            self.receivers.withdraw(withdrawn_offer(origin, entry));
+        }
+        self.saw_offer(now, offer_entry(origin, entry, endpoint), findings)
+    }
+
+    /// An Offer or a StopOffer comes.
+    fn saw_offer(
+        &mut self,
+        now: Moment,
+        entry: OfferEntry,
+        findings: &mut Vec<Finding>,
+    ) -> Result<(), AllocError>
+        ensures ok { OnOk result (working self.new findings.new.items
+            ≡ offer_shown now entry (working self.old findings.old.items)) }
+        ensures err { OnErr result (findings.new.items ≡ findings.old.items) }
+    {
+        match self.offers.saw(now, entry)? {
+            Some(shown) => tell(findings, Finding::Offer(entry.key, shown)),
+            None => Ok(()),
+        }
+    }
+
+    /// An entry of an eventgroup comes, as to its answer.
+    fn saw_subscribe(
+        &mut self,
+        now: Moment,
+        entry: SubscribeEntry,
+        findings: &mut Vec<Finding>,
+    ) -> Result<(), AllocError>
+        ensures ok { OnOk result (working self.new findings.new.items
+            ≡ subscribe_shown now entry (working self.old findings.old.items)) }
+        ensures err { OnErr result (findings.new.items ≡ findings.old.items) }
+    {
+        match self.subscriptions.saw(now, entry)? {
+            Some(shown) => tell(findings, Finding::Subscription(entry.key, shown)),
+            None => Ok(()),
+        }
+    }
+
+    /// An entry of an eventgroup comes, as to who is subscribed.
+    fn saw_receiver(
+        &mut self,
+        now: Moment,
+        entry: ReceiverEntry,
+        findings: &mut Vec<Finding>,
+    ) -> Result<(), AllocError>
+        ensures ok { OnOk result (working self.new findings.new.items
+            ≡ receiver_shown now entry (working self.old findings.old.items)) }
+        ensures err { OnErr result (findings.new.items ≡ findings.old.items) }
+    {
+        match self.receivers.saw(now, entry)? {
+            Some(shown) => tell(findings, Finding::Receiver(entry.key, shown)),
+            None => Ok(()),
+        }
+    }
+}
+
+/// Appends a finding.
+pub(crate) fn tell(findings: &mut Vec<Finding>, finding: Finding) -> Result<(), AllocError>
+    ensures ok { OnOk result (findings.new.items ≡ with_told (Some finding) findings.old.items) }
+    ensures err { OnErr result (findings.new.items ≡ findings.old.items) }
+{
+    findings.push(finding)?;
+    Ok(())
+}

@@ -1,0 +1,98 @@
+//! Entries of Service Discovery as the books take them.
+ghost use Rattle.std.specs.Prelude.{◌≡◌};
+ghost use Rattle.someip_audit.specs.SdEntries.{offer_entry, offer_key, receiver_entry};
+ghost use Rattle.someip_audit.specs.SdEntries.{sd_message, subscribe_entry, subscription_key, withdrawn_offer};
+
+use audit_offers::{OfferEntry, OfferKey};
+use audit_receivers::{ReceiverEntry, WithdrawnOffer};
+use audit_sessions::SdMessage;
+use audit_subscriptions::{EntryKind, SubscribeEntry, SubscriptionKey};
+use audit_tables::Origin;
+use sd_session::Stamp;
+use sd_wire::{EventgroupEntry, EventgroupKind, SdFlags, ServiceEntry};
+use std::net::SocketAddrV4;
+
+/// A message of Service Discovery, as far as its sessions go.
+pub(crate) fn sd_message(origin: &Origin, session: u16, flags: SdFlags) -> SdMessage
+    ensures { result ≡ sd_message origin.now session flags }
+{
+    SdMessage {
+        from: *origin.from.ip(),
+        to: *origin.to.ip(),
+        stamp: Stamp {
+            session,
+            reboot: flags.reboot,
+        },
+    }
+}
+
+/// An Offer or a StopOffer.
+pub(crate) fn offer_entry(
+    origin: &Origin,
+    entry: &ServiceEntry,
+    endpoint: Option<SocketAddrV4>,
+) -> OfferEntry
+    ensures { result ≡ offer_entry origin.now entry.now endpoint }
+{
+    OfferEntry {
+        key: OfferKey {
+            service: entry.service,
+            instance: entry.instance,
+            major: entry.major,
+        },
+        endpoint,
+        ttl: entry.ttl.seconds(),
+        origin: *origin,
+    }
+}
+
+/// The offer that a StopOffer withdraws.
+pub(crate) fn withdrawn_offer(origin: &Origin, entry: &ServiceEntry) -> WithdrawnOffer
+    ensures { result ≡ withdrawn_offer origin.now entry.now }
+{
+    WithdrawnOffer {
+        server: *origin.from.ip(),
+        service: entry.service,
+        instance: entry.instance,
+        major: entry.major,
+    }
+}
+
+/// An entry of an eventgroup, as to its answer.
+pub(crate) fn subscribe_entry(origin: &Origin, entry: &EventgroupEntry) -> SubscribeEntry
+    ensures { result ≡ subscribe_entry origin.now entry.now }
+{
+    let (kind, client, server) = match entry.kind {
+        EventgroupKind::Subscribe => (EntryKind::Subscribe, origin.from, origin.to),
+        EventgroupKind::Ack => (EntryKind::Answer, origin.to, origin.from),
+    };
+    SubscribeEntry {
+        key: SubscriptionKey {
+            client: *client.ip(),
+            server: *server.ip(),
+            service: entry.service,
+            instance: entry.instance,
+            major: entry.major,
+            eventgroup: entry.eventgroup,
+            counter: entry.counter.number(),
+        },
+        kind,
+        ttl: entry.ttl.seconds(),
+        origin: *origin,
+    }
+}
+
+/// The same, as to who is subscribed.
+pub(crate) fn receiver_entry(
+    entry: &SubscribeEntry,
+    endpoint: Option<SocketAddrV4>,
+) -> ReceiverEntry
+    ensures { result ≡ receiver_entry entry.now endpoint }
+{
+    ReceiverEntry {
+        key: entry.key,
+        kind: entry.kind,
+        ttl: entry.ttl,
+        endpoint,
+    }
+}

@@ -1,0 +1,30 @@
+//! What messages of a recording show.
+use audit_calls::CallFinding;
+use audit_offers::OfferKey;
+use audit_receivers::Delivery;
+use audit_subscriptions::SubscriptionKey;
+use sd_wire::SdError;
+use someip_segments::TpError;
+use someip_wire::Header;
+
+/// What a message of a recording shows that is not as it should be, or that a book is full.
+#[derive(Clone, Copy, Debug, PartialEq, Eq)]
+pub enum Finding {
+    /// A message of Service Discovery shows this by its sessions.
+    Session(audit_sessions::Finding),
+    /// An Offer of this instance.
+    Offer(OfferKey, audit_offers::Finding),
+    /// An entry of this subscription, as to its answer.
+    Subscription(SubscriptionKey, audit_subscriptions::Finding),
+    /// An entry of this subscription, as to who is subscribed.
+    Receiver(SubscriptionKey, audit_receivers::Finding),
+    /// A message with this header, as to its call.
+    Call(Header, CallFinding),
+    /// An event to one endpoint, as to who is subscribed.
+    Event(Delivery, audit_receivers::Finding),
+    /// A segment with this header that reassembly refuses.
+    Segment(Header, TpError),
+    /// A message of Service Discovery whose payload has this fault; its place counts from the payload's first
+    /// byte.
+    MalformedSd(SdError),
+}

@@ -1,0 +1,84 @@
+//! Laws of the definitions behind the contracts, by example. Each is the contract of a function that does
+//! nothing.
+ghost use Rattle.std.specs.Prelude.{◌≡◌, Some, None, true, false};
+ghost use Rattle.std.specs.Ordering.{is_lt};
+ghost use Rattle.sd_wire.specs.declared.entry.ServiceKind.TheVariants.{Find, Offer};
+ghost use Rattle.sd_wire.specs.declared.entry.EventgroupKind.TheVariants as groups;
+ghost use Rattle.someip_wire.specs.declared.header.MessageType.TheVariants as kinds;
+ghost use Rattle.audit_calls.specs.Scenes.{header_with};
+ghost use Rattle.audit_offers.specs.OfferExamples.{endpoint, from_node};
+ghost use Rattle.audit_sessions.specs.declared.finding.Finding.TheVariants as sessions;
+ghost use Rattle.audit_subscriptions.specs.SubscribeExamples.{answer, datagram, subscribe};
+ghost use Rattle.someip_audit.specs.AnyShown.{is_sd};
+ghost use Rattle.someip_audit.specs.BooksHeld.{Held};
+ghost use Rattle.someip_audit.specs.FellDues.{fell_cmp};
+ghost use Rattle.someip_audit.specs.MessageShown.{event_shown, is_event};
+ghost use Rattle.someip_audit.specs.SdEntries.{offer_entry, subscribe_entry, withdrawn_offer};
+ghost use Rattle.someip_audit.specs.SdScenes.{call_due, group_entry, offer_due, sd_header, service_entry};
+ghost use Rattle.someip_audit.specs.SdScenes.{subscribe_due, with_endpoint};
+ghost use Rattle.someip_audit.specs.SdShown.{Work, after_session, begun_again, entry_shown, offer_shown};
+ghost use Rattle.someip_audit.specs.SdShown.{withdrawn};
+
+/// In which order what fell due is told, by example: by deadline; at one deadline calls, then offers, then
+/// Subscribes; and of one book by key.
+pub fn what_fell_due_is_told_in_order()
+    ensures sooner { is_lt (fell_cmp (subscribe_due 2000) (call_due 2001)) ≡ true }
+    ensures later { is_lt (fell_cmp (call_due 2001) (subscribe_due 2000)) ≡ false }
+    ensures calls_first { is_lt (fell_cmp (call_due 2000) (offer_due 4096 2000)) ≡ true }
+    ensures then_offers { is_lt (fell_cmp (offer_due 4096 2000) (subscribe_due 2000)) ≡ true }
+    ensures not_offers { is_lt (fell_cmp (offer_due 4096 2000) (call_due 2000)) ≡ false }
+    ensures by_key { is_lt (fell_cmp (offer_due 4096 2000) (offer_due 4097 2000)) ≡ true }
+    ensures not_by_key { is_lt (fell_cmp (offer_due 4097 2000) (offer_due 4096 2000)) ≡ false }
+{}
+
+/// Which subscription an entry is about, by example: a Subscribe goes from the client to the server, and an
+/// Ack or a Nack the other way.
+pub fn entries_are_of_one_subscription()
+    ensures subscribed { subscribe_entry (datagram 1 2 9) (group_entry groups.Subscribe 3) ≡ subscribe 1 2 3 }
+    ensures acked { subscribe_entry (datagram 2 9 2) (group_entry groups.Ack 3) ≡ answer 2 2 3 }
+    ensures nacked { subscribe_entry (datagram 2 9 2) (group_entry groups.Ack 0) ≡ answer 2 2 0 }
+{}
+
+/// What entries about an instance show, whatever the books hold: an Offer what the book of offers tells, by
+/// its first UDP endpoint; a StopOffer too, and it ends what is subscribed there; a Find nothing.
+pub fn entries_show_what_the_books_tell()
+    ensures offered { (work : Work) → entry_shown 100 (from_node 1 1)
+        (with_endpoint (service_entry Offer 3) 1 40000) work
+        ≡ offer_shown 100 (offer_entry (from_node 1 1) (service_entry Offer 3) (Some (endpoint 1 40000))) work }
+    ensures stopped { (work : Work) → entry_shown 100 (from_node 1 1)
+        (with_endpoint (service_entry Offer 0) 1 40000) work
+        ≡ withdrawn (withdrawn_offer (from_node 1 1) (service_entry Offer 0)) (offer_shown 100
+        (offer_entry (from_node 1 1) (service_entry Offer 0) (Some (endpoint 1 40000))) work) }
+    ensures found { (work : Work) → entry_shown 100 (from_node 1 1)
+        (with_endpoint (service_entry Find 3) 1 40000) work ≡ work }
+{}
+
+/// What a finding of the sessions ends: a reboot all that the sender offered and subscribed, and what was
+/// subscribed at it; anything else nothing.
+pub fn a_reboot_ends_what_a_sender_offered()
+    ensures reboot { (held : Held) → after_session (Some sessions.Reboot) (endpoint 1 1).ip held
+        ≡ begun_again (endpoint 1 1).ip held }
+    ensures full { (held : Held) → after_session (Some sessions.Full) (endpoint 1 1).ip held ≡ held }
+    ensures nothing { (held : Held) → after_session None (endpoint 1 1).ip held ≡ held }
+{}
+
+/// Which messages are events to one endpoint, by example: notifications to the address of a node. What goes
+/// to the group, and an answer, show nothing of who is subscribed, whatever the books hold.
+pub fn events_go_to_one_endpoint()
+    ensures event { is_event (datagram 1 2 9) (header_with 5 kinds.Notification) ≡ true }
+    ensures to_group { (work : Work) → event_shown 100 (from_node 1 1) (header_with 5 kinds.Notification) work
+        ≡ work }
+    ensures response { (work : Work) → event_shown 100 (datagram 1 2 9) (header_with 5 kinds.Response) work
+        ≡ work }
+{}
+
+/// Which messages are of Service Discovery, by example: those from or to port 30490 with the Message ID
+/// FFFF8100; neither with another Method ID, nor between other ports.
+pub fn messages_are_of_service_discovery()
+    ensures sent { is_sd (datagram 1 2 9) sd_header ≡ true }
+    ensures to_it { is_sd (record (datagram 1 2 9) { from = endpoint 2 40000 }) sd_header ≡ true }
+    ensures other_ports { is_sd
+        (record (datagram 1 2 9) { from = endpoint 2 40000; to = endpoint 9 40000 }) sd_header ≡ false }
+    ensures other_method { is_sd (datagram 1 2 9) (record sd_header { method = 0x8101 }) ≡ false }
+    ensures other_service { is_sd (datagram 1 2 9) (record sd_header { service = 0xFFFE }) ≡ false }
+{}

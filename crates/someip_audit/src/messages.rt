@@ -1,0 +1,158 @@
+//! Messages that are none of Service Discovery, over the books.
+ghost use Rattle.std.specs.Prelude.{◌≡◌, OnErr, OnOk, Some};
+ghost use Rattle.audit_receivers.specs.ReceiverTables.{without_expired};
+ghost use Rattle.someip_audit.specs.MessageShown.{call_shown, event_shown, is_unicast, message_shown};
+ghost use Rattle.someip_audit.specs.MessageShown.{segment_shown, whole_shown};
+ghost use Rattle.someip_audit.specs.SdShown.{IsBegun, working};
+
+use crate::books::Books;
+use crate::discovery::tell;
+use crate::finding::Finding;
+use audit_receivers::Delivery;
+use audit_segments::SegmentTold;
+use audit_tables::Origin;
+use someip_reassembly::Reassembly;
+use someip_tables::Moment;
+use someip_wire::{Header, Message, MessageType};
+use std::alloc::AllocError;
+use std::net::SocketAddrV4;
+
+impl<S: Reassembly> Books<S> {
+    /// Drops the subscriptions that have expired. Whoever goes over a recording calls it with the moment
+    /// of each datagram: what was not dropped stands. It takes no memory.
+    pub fn expire(&mut self, now: Moment)
+        ensures { self.new ≡ record self.old { receivers = without_expired now self.old.receivers } }
+    {
+        self.receivers.expire(now);
+    }
+
+    /// Takes note of a message that is none of Service Discovery, and appends what it shows: a whole one of
+    /// its call, and of who is subscribed to its event; a segment why it is refused, or what its message
+    /// shows once it is whole. `bytes` is room for the payload of such a message. Where memory runs out,
+    /// what was appended is a beginning of that, and nothing else is promised.
+    pub fn saw_message(
+        &mut self,
+        now: Moment,
+        origin: &Origin,
+        message: &Message<'_>,
+        bytes: &mut Vec<u8>,
+        findings: &mut Vec<Finding>,
+    ) -> Result<(), AllocError>
+        ensures ok { OnOk result (working self.new findings.new.items
+            ≡ message_shown now origin.now message.now (working self.old findings.old.items)) }
+        ensures err { OnErr result (IsBegun findings.old.items findings.new.items
+            (message_shown now origin.now message.now (working self.old findings.old.items)).told) }
+    {
+        if message.header.kind.has_tp_flag() {
+            self.saw_segment(now, origin, message, bytes, findings)
+        } else {
+            self.saw_whole(now, origin, message, findings)
+        }
+    }
+
+    /// A segment comes.
+    fn saw_segment(
+        &mut self,
+        now: Moment,
+        origin: &Origin,
+        message: &Message<'_>,
+        bytes: &mut Vec<u8>,
+        findings: &mut Vec<Finding>,
+    ) -> Result<(), AllocError>
+        ensures ok { OnOk result (working self.new findings.new.items
+            ≡ segment_shown now origin.now message.now (working self.old findings.old.items)) }
+        ensures err { OnErr result (IsBegun findings.old.items findings.new.items
+            (segment_shown now origin.now message.now (working self.old findings.old.items)).told) }
+    {
+        let k = origin.datagram;
+        let told = self
+            .segments
+            .saw(now, k, origin.from, origin.to, message, bytes)?;
+        match told {
+            SegmentTold::Nothing => Ok(()),
+            SegmentTold::Refused(refusal) => {
+                tell(findings, Finding::Segment(message.header, refusal))
+            }
+            SegmentTold::Whole(header) => {
+                let whole = Message {
+                    header,
+                    payload: bytes,
+                };
+                self.saw_whole(now, origin, &whole, findings)
+            }
+        }
+    }
+
+    /// A whole message comes.
+    fn saw_whole(
+        &mut self,
+        now: Moment,
+        origin: &Origin,
+        message: &Message<'_>,
+        findings: &mut Vec<Finding>,
+    ) -> Result<(), AllocError>
+        ensures ok { OnOk result (working self.new findings.new.items
+            ≡ whole_shown now origin.now message.now.header message.now.payload.now
+            (working self.old findings.old.items)) }
+        ensures err { OnErr result (IsBegun findings.old.items findings.new.items
+            (whole_shown now origin.now message.now.header message.now.payload.now
+            (working self.old findings.old.items)).told) }
+    {
+        self.saw_call(now, origin, message, findings)?;
+        self.saw_event(now, origin, &message.header, findings)
+    }
+
+    /// A whole message comes, as to its call.
+    fn saw_call(
+        &mut self,
+        now: Moment,
+        origin: &Origin,
+        message: &Message<'_>,
+        findings: &mut Vec<Finding>,
+    ) -> Result<(), AllocError>
+        ensures ok { OnOk result (working self.new findings.new.items
+            ≡ call_shown now origin.now message.now.header message.now.payload.now
+            (working self.old findings.old.items)) }
+        ensures err { OnErr result (findings.new.items ≡ findings.old.items) }
+    {
+        let k = origin.datagram;
+        match self.calls.saw(now, k, origin.from, origin.to, message)? {
+            Some(shown) => tell(findings, Finding::Call(message.header, shown)),
+            None => Ok(()),
+        }
+    }
+
+    /// A whole message comes, as to who is subscribed to its event.
+    fn saw_event(
+        &mut self,
+        now: Moment,
+        origin: &Origin,
+        header: &Header,
+        findings: &mut Vec<Finding>,
+    ) -> Result<(), AllocError>
+        ensures ok { OnOk result (working self.new findings.new.items
+            ≡ event_shown now origin.now header.now (working self.old findings.old.items)) }
+        ensures err { OnErr result (findings.new.items ≡ findings.old.items) }
+    {
+        if !matches!(header.kind, MessageType::Notification) || !is_unicast(&origin.to) {
+            return Ok(());
+        }
+        let delivery = Delivery {
+            server: *origin.from.ip(),
+            service: header.service,
+            event: header.method,
+            endpoint: origin.to,
+        };
+        match self.receivers.event(now, delivery)? {
+            Some(shown) => tell(findings, Finding::Event(delivery, shown)),
+            None => Ok(()),
+        }
+    }
+}
+
+/// Whether an endpoint is of one node: not of a group, nor of all.
+fn is_unicast(endpoint: &SocketAddrV4) -> bool
+    ensures { result ≡ is_unicast endpoint.now }
+{
+    endpoint.ip().octets()[0] < 224
+}
