@@ -117,7 +117,7 @@ full_after now entry Subscribe book is = at entry.endpoint
     at None = is
     at (Some place) = cases place (may_hold book.limit book.standing entry.key)
 
-full_by : (now : ℕ) (shown : Shown) (book : Receivers) → book.told_full ≡ true → (book_after now shown book).told_full ≡ true
+pub full_by : (now : ℕ) (shown : Shown) (book : Receivers) → book.told_full ≡ true → (book_after now shown book).told_full ≡ true
 full_by now (Entry entry) book is = cases (entry.ttl == 0)
   where
     cases : (b : Bool) → (if b then record book { standing = finite.remove book.standing entry.key } else after now entry.kind entry book).told_full ≡ true

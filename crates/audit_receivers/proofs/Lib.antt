@@ -3,3 +3,4 @@ pub mod SubscribedLemmas
 pub mod HistoryLemmas
 pub mod ToldLemmas
 mod LimitLemmas
+mod FullLemmas

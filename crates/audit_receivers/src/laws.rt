@@ -1,16 +1,20 @@
 //! Laws of the definitions behind the contracts. Each is the contract of a function that does nothing:
 //! it says what a recording shows of subscriptions, whatever code keeps the book.
-ghost use Rattle.std.specs.Prelude.{◌≡◌, ◌↔◌, ◌≤◌, ℕ, List, [], ◌∷◌, true, false, Some, None};
+ghost use Rattle.std.specs.Prelude.{◌≡◌, ◌↔◌, ◌≤◌, ◌==◌, ℕ, nat_lt, List, [], ◌∷◌, true, false, Some, None};
 ghost use Rattle.std.specs.FinMap as finite;
 ghost use Rattle.std.specs.declared.net.socket_addr.SocketAddrV4.{SocketAddrV4};
 ghost use Rattle.someip_tables.specs.declared.lasting.Lasting.{Lasting};
+ghost use Rattle.audit_subscriptions.specs.declared.entry.EntryKind.TheVariants.{Subscribe};
 ghost use Rattle.audit_subscriptions.specs.declared.key.SubscriptionKey.{SubscriptionKey};
 ghost use Rattle.audit_receivers.specs.declared.delivery.Delivery.{Delivery};
-ghost use Rattle.audit_receivers.specs.declared.finding.Finding.TheVariants.{Unsubscribed};
+ghost use Rattle.audit_receivers.specs.declared.entry.ReceiverEntry.{ReceiverEntry};
+ghost use Rattle.audit_receivers.specs.declared.finding.Finding.TheVariants.{Full, Unsubscribed};
 ghost use Rattle.audit_receivers.specs.ReceiverRules.{goes_by};
-ghost use Rattle.audit_receivers.specs.ReceiverTables.{Subscriptions, is_subscribed, told_of_event};
-ghost use Rattle.audit_receivers.specs.ReceiverTables.{without_expired};
-ghost use Rattle.audit_receivers.specs.ReceiverHistories.{Event, book_of, shown_by, standing_in};
+ghost use Rattle.audit_receivers.specs.ReceiverTables.{Receivers, Subscriptions, after_entry, after_event};
+ghost use Rattle.audit_receivers.specs.ReceiverTables.{is_passed_over, is_subscribed, may_hold, told_by};
+ghost use Rattle.audit_receivers.specs.ReceiverTables.{told_of_event, without_expired};
+ghost use Rattle.audit_receivers.specs.ReceiverHistories.{Event, Shown, book_after, book_of, shown_by};
+ghost use Rattle.audit_receivers.specs.ReceiverHistories.{standing_in};
 ghost use Rattle.audit_receivers.specs.ReceiverExamples.{answer, begins_again, comes, delivery, endpoint};
 ghost use Rattle.audit_receivers.specs.ReceiverExamples.{goes, stands, subscribe, subscription, withdraws};
 
@@ -111,6 +115,24 @@ pub fn a_subscription_makes_subscribed()
         → (is_subscribed delivery standing ≡ true) ↔ ((key : SubscriptionKey)
         × (lasting : Lasting SocketAddrV4) × (finite.get standing key ≡ Some lasting)
         × (goes_by delivery key lasting.value ≡ true)) }
+{}
+
+/// That a book is full is told once in its life, of a Subscribe or of an event.
+pub fn full_is_told_once()
+    ensures notes { (now : ℕ) (entry : ReceiverEntry) (book : Receivers) → told_by entry book ≡ Some Full
+        → (book.told_full ≡ false) × ((after_entry now entry book).told_full ≡ true) }
+    ensures notes_event { (now : ℕ) (delivery : Delivery) (book : Receivers)
+        → told_of_event now delivery book ≡ Some Full
+        → (book.told_full ≡ false) × ((after_event now delivery book).told_full ≡ true) }
+    ensures stays { (now : ℕ) (shown : Shown) (book : Receivers) → book.told_full ≡ true
+        → (book_after now shown book).told_full ≡ true }
+    ensures tells { (entry : ReceiverEntry) (endpoint : SocketAddrV4) (book : Receivers)
+        → entry.kind ≡ Subscribe → (entry.ttl == 0) ≡ false → entry.endpoint ≡ Some endpoint
+        → may_hold book.limit book.standing entry.key ≡ false → book.told_full ≡ false
+        → told_by entry book ≡ Some Full }
+    ensures tells_event { (now : ℕ) (delivery : Delivery) (book : Receivers)
+        → is_passed_over now delivery book ≡ false → nat_lt (finite.len book.told) book.limit ≡ false
+        → told_of_event now delivery book ≡ Some Full }
 {}
 
 /// A book holds no more subscriptions than its limit, and knows of no more events that were told.
