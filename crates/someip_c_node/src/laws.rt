@@ -11,8 +11,8 @@ pub fn numbers_tell_outcomes()
     ensures { (outcome : Outcome) → outcome_of (number_of outcome) ≡ Some outcome }
 {}
 
-/// What a started node is refused as has an outcome of its own, but for what no call is refused as; and
-/// the numbers of those tell nothing.
+/// What no call of a started node is refused as has no outcome, and the numbers that it had in earlier
+/// headers tell nothing.
 pub fn what_no_call_is_refused_as_has_no_number()
     ensures config { refusal_outcome refusal.BadConfig ≡ None }
     ensures pending { refusal_outcome (refusal.Rpc rpc.NotPending) ≡ None }
