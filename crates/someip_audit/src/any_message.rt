@@ -13,13 +13,13 @@ use audit_tables::Origin;
 use sd_wire::{SdError, SdRead, read_sd};
 use someip_reassembly::Reassembly;
 use someip_tables::Moment;
-use someip_wire::{Header, Message};
+use someip_wire::{Header, Message, MessageType};
 use std::alloc::{AllocError, Global};
 
 impl<S: Reassembly> Books<S> {
-    /// Takes note of any message, and appends what it shows: one of Service Discovery, from or to port
-    /// 30490 with the Message ID FFFF8100, is read, and its fault is told where it has one. `bytes` is room
-    /// for the payload of a message in segments. Where memory runs out, what was appended is a beginning
+    /// Takes note of any message, and appends what it shows: one of Service Discovery, a NOTIFICATION
+    /// from or to port 30490 with the Message ID FFFF8100 and interface 1, is read, and its fault is told
+    /// where it has one. `bytes` is room for the payload of a message in segments. Where memory runs out, what was appended is a beginning
     /// of what is to be told, and nothing else is promised.
     pub fn saw(
         &mut self,
@@ -73,6 +73,8 @@ fn is_sd(origin: &Origin, header: &Header) -> bool
     (origin.from.port() == 30490 || origin.to.port() == 30490)
         && header.service == 0xffff
         && header.method == 0x8100
+        && header.interface == 1
+        && matches!(header.kind, MessageType::Notification)
 }
 
 /// Reads a payload, and keeps want of memory apart.

@@ -72,8 +72,9 @@ pub fn events_go_to_one_endpoint()
         ≡ work }
 {}
 
-/// Which messages are of Service Discovery, by example: those from or to port 30490 with the Message ID
-/// FFFF8100; neither with another Method ID, nor between other ports.
+/// Which messages are of Service Discovery, by example: a NOTIFICATION from or to port 30490 with the
+/// Message ID FFFF8100 and interface 1; none with another Method ID, interface or type, nor between other
+/// ports.
 pub fn messages_are_of_service_discovery()
     ensures sent { is_sd (datagram 1 2 9) sd_header ≡ true }
     ensures to_it { is_sd (record (datagram 1 2 9) { from = endpoint 2 40000 }) sd_header ≡ true }
@@ -81,4 +82,6 @@ pub fn messages_are_of_service_discovery()
         (record (datagram 1 2 9) { from = endpoint 2 40000; to = endpoint 9 40000 }) sd_header ≡ false }
     ensures other_method { is_sd (datagram 1 2 9) (record sd_header { method = 0x8101 }) ≡ false }
     ensures other_service { is_sd (datagram 1 2 9) (record sd_header { service = 0xFFFE }) ≡ false }
+    ensures other_interface { is_sd (datagram 1 2 9) (record sd_header { interface = 2 }) ≡ false }
+    ensures other_type { is_sd (datagram 1 2 9) (record sd_header { kind = kinds.Response }) ≡ false }
 {}
