@@ -1,3 +1,4 @@
+pub mod ReachedLemmas
 pub mod FrontSizeLemmas
 pub mod WorkLemmas
 pub mod PassingLemmas

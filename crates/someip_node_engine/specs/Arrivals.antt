@@ -1,6 +1,10 @@
--- What is given of what the parts of a node say of a message.
-use Rattle.std.specs.Prelude.{ℕ, Bool, true, false, List, [], ◌∷◌, Option, None, Some, Result, Ok, Err}
+-- What a datagram reaches, and what is given of what the parts of a node say of a message.
+use Rattle.std.specs.Prelude.{ℕ, List, [], ◌∷◌, Option, None, Some, Result, Ok, Err}
+use Rattle.std.specs.declared.net.socket_addr.SocketAddrV4.{SocketAddrV4}
+use Rattle.std.specs.Net.Socket.{v4_ip}
+use Rattle.someip_wire.specs.declared.error.WireError.{WireError}
 use Rattle.someip_wire.specs.declared.header.Header.{Header}
+use Rattle.someip_wire.specs.Spelling.{MessageValue}
 use Rattle.someip_segments.specs.declared.error.TpError.{TpError}
 use Rattle.someip_reassembly.specs.declared.key.ReassemblyKey.{ReassemblyKey}
 use Rattle.someip_reassembly.specs.declared.reassembly.Offered.{Offered}
@@ -12,29 +16,46 @@ use Rattle.someip_rpc.specs.declared.error.DropCause.{DropCause}
 use Rattle.someip_rpc.specs.declared.ids.CallKey.{CallKey}
 use Rattle.someip_rpc.specs.declared.request.Arrived.{Arrived}
 use Rattle.someip_rpc.specs.declared.request.Arrived.TheVariants as arrived
-use Rattle.someip_node_rules.specs.declared.drops.DropReason.TheVariants.{Answer, NotSubscribed, Request as OfRequest, Tp}
+use Rattle.someip_node_rules.specs.declared.drops.DropReason.TheVariants.{Answer, NotSubscribed, Request as OfRequest, Tp, Wire}
 use Rattle.someip_node_rules.specs.declared.output.Output.{Output}
 use Rattle.someip_node_rules.specs.declared.output.Output.TheVariants.{Answered, Dropped, Event}
+use Rattle.someip_node_engine.specs.declared.arrival.Addressee.{Addressee}
+use Rattle.someip_node_engine.specs.declared.arrival.Addressee.TheVariants.{Client, Instance}
+use Rattle.someip_node_engine.specs.declared.arrival.Reached.{Reached}
+use Rattle.someip_node_engine.specs.declared.arrival.Reached.TheVariants.{Application, Discovery}
 use Rattle.someip_node_engine.specs.declared.received_payload.ReceivedPayload.{ReceivedPayload}
 use Rattle.someip_node_engine.specs.declared.received_payload.ReceivedPayload.TheVariants.{Lent, Reassembled}
 use Rattle.someip_node_engine.specs.declared.segments.OfferedSegment.{OfferedSegment}
 use Rattle.someip_node_rules.specs.declared.target.Target.{Target}
 use Rattle.someip_node_rules.specs.declared.target.Target.TheVariants as target
+use Rattle.someip_node_rules.specs.Handling.{discovery_plan, message_plan}
 use Rattle.someip_node_rules.specs.Messages.{handed_up}
 use Rattle.someip_node_rules.specs.Outputs.{Given, Sends, Tells}
+use Rattle.someip_node_rules.specs.Plans.{Plan, act, Drops}
 
--- ---- targets
+-- ---- what is reached
 
--- something is reached at a target
-abbrev pub is_reached : Target → Bool
-is_reached target.Nowhere = false
-is_reached _ = true
+-- what the rules call whom a message of the application reaches
+abbrev pub target_at : Addressee → Target
+target_at Client = target.Client
+target_at (Instance instance) = target.Instance instance
 
--- messages of the application come to a target: to the client or to an instance
-abbrev pub is_of_application : Target → Bool
-is_of_application target.Client = true
-is_of_application (target.Instance instance) = true
-is_of_application _ = false
+-- what a datagram reaches that came from an endpoint to another, by what the rules say is there
+abbrev pub reached_from : SocketAddrV4 → SocketAddrV4 → Target → Option Reached
+reached_from from to (target.Discovery channel) = Some (Discovery (v4_ip from) channel)
+reached_from from to target.Client = Some (Application (record { from = from; to = to; addressee = Client }))
+reached_from from to (target.Instance instance) = Some (Application (record { from = from; to = to; addressee = Instance instance }))
+reached_from from to target.Nowhere = None
+
+-- a message comes to what its datagram reached
+abbrev pub reached_plan : Reached → MessageValue → Plan
+reached_plan (Discovery peer channel) m = discovery_plan peer channel m
+reached_plan (Application arrival) m = message_plan (target_at arrival.addressee) arrival.from arrival.to m
+
+-- so does each message of the datagram; the fault that ends it is dropped by name
+abbrev pub reached_item_plan : Reached → Result MessageValue WireError → Plan
+reached_item_plan reached (Err fault) = act (Drops (Wire fault))
+reached_item_plan reached (Ok m) = reached_plan reached m
 
 -- the payload of a message that came
 abbrev pub payload_bytes : ReceivedPayload → List ℕ

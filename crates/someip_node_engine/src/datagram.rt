@@ -1,23 +1,22 @@
 //! Datagrams that come.
-ghost use Rattle.std.specs.Prelude.{◌≡◌, true, OnOk};
-ghost use Rattle.someip_wire.specs.Reading.{items_of};
+ghost use Rattle.std.specs.Prelude.{◌≡◌, OnOk};
 ghost use Rattle.someip_wire.specs.View.{view, view_item};
-ghost use Rattle.someip_node_engine.specs.Arrivals.{is_of_application, is_reached, payload_bytes};
-ghost use Rattle.someip_node_rules.specs.Handling.{client_plan, datagram_plan, instance_target};
-ghost use Rattle.someip_node_rules.specs.Handling.{item_plan, items_plan, message_at_plan, message_plan};
-ghost use Rattle.someip_node_rules.specs.Handling.{own_target, target_of, target_plan, whole_plan};
+ghost use Rattle.someip_node_engine.specs.Arrivals.{payload_bytes, reached_item_plan, target_at};
+ghost use Rattle.someip_node_rules.specs.Handling.{datagram_plan, instance_target, message_plan};
+ghost use Rattle.someip_node_rules.specs.Handling.{own_target, target_of, whole_plan};
 ghost use Rattle.someip_node_engine.specs.Handled.{Handled};
 ghost use Rattle.someip_node_rules.specs.Inputs as input;
 ghost use Rattle.someip_node_rules.specs.Plans.{plain, run};
 ghost use Rattle.someip_node_rules.specs.Setups.{instance_at};
 ghost use Rattle.someip_node_engine.specs.Working.{working};
 
+use crate::arrival::{Addressee, Arrival, Reached, reached_from};
 use crate::engine::Engine;
 use crate::giving::Giving;
 use crate::received_payload::ReceivedPayload;
 use sd_core::InstanceId;
 use sd_session::Channel;
-use someip_node_rules::{Config, DropReason, NodeError, Output, Target};
+use someip_node_rules::{Config, DropReason, NodeError, Target};
 use someip_tables::is_same_key;
 use someip_tp::Reassembly;
 use someip_wire::{Header, Message, MessageType, Messages, WireError};
@@ -41,8 +40,9 @@ impl<R: Reassembly> Engine<R> {
         Ok(())
     }
 
-    /// Takes a datagram that comes from an endpoint to another.
-    pub(crate) fn datagram(
+    /// Takes a datagram that comes from an endpoint to another: its messages one after the other, and the
+    /// fault that ends it.
+    fn datagram(
         &mut self,
         from: SocketAddrV4,
         to: SocketAddrV4,
@@ -54,13 +54,15 @@ impl<R: Reassembly> Engine<R> {
         ensures config { self.new.config ≡ self.old.config }
     {
         if is_same_key(from.ip(), &self.config.address) {
-            giving.outputs.push(Output::Dropped {
-                reason: DropReason::Own,
-            })?;
-            return Ok(());
+            return giving.dropped(DropReason::Own);
         }
-        let target = self.target_of(to);
-        self.datagram_at(target, from, to, bytes, giving)
+        let Some(reached) = reached_from(from, to, self.target_of(to)) else {
+            return giving.dropped(DropReason::NoPort);
+        };
+        for item in Messages::new(bytes) {
+            self.item(&reached, &item, giving)?;
+        }
+        Ok(())
     }
 
     /// What is reached at an endpoint.
@@ -98,166 +100,73 @@ impl<R: Reassembly> Engine<R> {
         self.ports.get(&port).copied()
     }
 
-    /// Takes a datagram by what is reached at its destination.
-    fn datagram_at(
-        &mut self,
-        target: Target,
-        from: SocketAddrV4,
-        to: SocketAddrV4,
-        bytes: &[u8],
-        giving: &mut Giving,
-    ) -> Result<(), AllocError>
-        ensures work { OnOk result (working self.new giving.new
-            ≡ run plain (target_plan target from to bytes.now) (working self.old giving.old)) }
-        ensures config { self.new.config ≡ self.old.config }
-    {
-        match target {
-            Target::Nowhere => {
-                giving.outputs.push(Output::Dropped {
-                    reason: DropReason::NoPort,
-                })?;
-                Ok(())
-            }
-            Target::Discovery(_) | Target::Client | Target::Instance(_) => {
-                self.items(target, from, to, bytes, giving)
-            }
-        }
-    }
-
-    /// Takes the messages of a datagram, and its end.
-    fn items(
-        &mut self,
-        target: Target,
-        from: SocketAddrV4,
-        to: SocketAddrV4,
-        bytes: &[u8],
-        giving: &mut Giving,
-    ) -> Result<(), AllocError>
-        requires reached { is_reached target ≡ true }
-        ensures work { OnOk result (working self.new giving.new
-            ≡ run plain (items_plan target from to (items_of bytes.now))
-            (working self.old giving.old)) }
-        ensures config { self.new.config ≡ self.old.config }
-    {
-        for item in Messages::new(bytes) {
-            self.item(target, from, to, &item, giving)?;
-        }
-        Ok(())
-    }
-
-    /// Takes a message of a datagram, or the fault that ends it.
+    /// Takes a message of a datagram by what this reached, or the fault that ends it.
     fn item(
         &mut self,
-        target: Target,
-        from: SocketAddrV4,
-        to: SocketAddrV4,
+        reached: &Reached,
         item: &Result<Message<'_>, WireError>,
         giving: &mut Giving,
     ) -> Result<(), AllocError>
-        requires reached { is_reached target ≡ true }
         ensures work { OnOk result (working self.new giving.new
-            ≡ run plain (item_plan target from to (view_item item.now))
+            ≡ run plain (reached_item_plan reached.now (view_item item.now))
             (working self.old giving.old)) }
         ensures config { self.new.config ≡ self.old.config }
     {
-        match item {
-            Ok(message) => self.message_at(target, from, to, message, giving),
-            Err(fault) => {
-                giving.outputs.push(Output::Dropped {
-                    reason: DropReason::Wire(*fault),
-                })?;
-                Ok(())
+        let message = match item {
+            Ok(message) => message,
+            Err(fault) => return giving.dropped(DropReason::Wire(*fault)),
+        };
+        match reached {
+            Reached::Discovery(peer, channel) => {
+                self.discovery_came(*peer, *channel, message, giving)
             }
-        }
-    }
-
-    /// Takes a message by what it came to.
-    fn message_at(
-        &mut self,
-        target: Target,
-        from: SocketAddrV4,
-        to: SocketAddrV4,
-        message: &Message<'_>,
-        giving: &mut Giving,
-    ) -> Result<(), AllocError>
-        requires reached { is_reached target ≡ true }
-        ensures work { OnOk result (working self.new giving.new
-            ≡ run plain (message_at_plan target from to (view message.now))
-            (working self.old giving.old)) }
-        ensures config { self.new.config ≡ self.old.config }
-    {
-        match target {
-            Target::Discovery(channel) => self.discovery_came(*from.ip(), channel, message, giving),
-            Target::Client | Target::Instance(_) => {
-                self.message(target, from, to, message, giving)
-            }
-            Target::Nowhere => unreachable!(),
+            Reached::Application(arrival) => self.message(arrival, message, giving),
         }
     }
 
     /// Takes a message of the application: whole, or as a segment.
     fn message(
         &mut self,
-        target: Target,
-        from: SocketAddrV4,
-        to: SocketAddrV4,
+        arrival: &Arrival,
         message: &Message<'_>,
         giving: &mut Giving,
     ) -> Result<(), AllocError>
-        requires of_application { is_of_application target ≡ true }
         ensures work { OnOk result (working self.new giving.new
-            ≡ run plain (message_plan target from to (view message.now))
-            (working self.old giving.old)) }
+            ≡ run plain (message_plan (target_at arrival.now.addressee) arrival.now.from
+            arrival.now.to (view message.now)) (working self.old giving.old)) }
         ensures config { self.new.config ≡ self.old.config }
     {
         if message.header.kind.has_tp_flag() {
-            self.segment(target, from, to, &message.header, message.payload, giving)
+            self.segment(arrival, &message.header, message.payload, giving)
         } else {
             let payload = ReceivedPayload::Lent(message.payload);
-            self.whole(target, from, &message.header, payload, giving)
+            self.whole(arrival, &message.header, payload, giving)
         }
     }
 
-    /// Takes a whole message of the application.
+    /// Takes a whole message of the application: a request comes to an instance, and to the client an
+    /// event, or else an answer.
     pub(crate) fn whole(
         &mut self,
-        target: Target,
-        from: SocketAddrV4,
-        header: &Header,
-        payload: ReceivedPayload<'_>,
-        giving: &mut Giving,
-    ) -> Result<(), AllocError>
-        requires of_application { is_of_application target ≡ true }
-        ensures work { OnOk result (working self.new giving.new
-            ≡ run plain (whole_plan target from header.now (payload_bytes payload.entry))
-            (working self.old giving.old)) }
-        ensures config { self.new.config ≡ self.old.config }
-    {
-        match target {
-            Target::Instance(instance) => self.request_came(
-                instance, from, header, payload, giving,
-            ),
-            Target::Client => self.to_client(from, header, payload, giving),
-            Target::Discovery(_) | Target::Nowhere => unreachable!(),
-        }
-    }
-
-    /// Takes a whole message that comes to the client: an event, or else an answer.
-    fn to_client(
-        &mut self,
-        from: SocketAddrV4,
+        arrival: &Arrival,
         header: &Header,
         payload: ReceivedPayload<'_>,
         giving: &mut Giving,
     ) -> Result<(), AllocError>
         ensures work { OnOk result (working self.new giving.new
-            ≡ run plain (client_plan from header.now (payload_bytes payload.entry) header.now.kind)
-            (working self.old giving.old)) }
+            ≡ run plain (whole_plan (target_at arrival.now.addressee) arrival.now.from header.now
+            (payload_bytes payload.entry)) (working self.old giving.old)) }
         ensures config { self.new.config ≡ self.old.config }
     {
-        match header.kind {
-            MessageType::Notification => self.event_came(from, header, payload, giving),
-            _ => self.answer_came(from, header, payload, giving),
+        let from = arrival.from;
+        match (arrival.addressee, header.kind) {
+            (Addressee::Instance(instance), _) => {
+                self.request_came(instance, from, header, payload, giving)
+            }
+            (Addressee::Client, MessageType::Notification) => {
+                self.event_came(from, header, payload, giving)
+            }
+            (Addressee::Client, _) => self.answer_came(from, header, payload, giving),
         }
     }
 }

@@ -15,7 +15,7 @@ use crate::engine::Engine;
 use crate::giving::Giving;
 use sd_session::{Channel, Stamp};
 use sd_wire::{ReadEntry, SdError, SdRead, read_sd};
-use someip_node_rules::{DropReason, Output, Receiver};
+use someip_node_rules::{DropReason, Receiver};
 use someip_tp::Reassembly;
 use someip_wire::{Header, Message, MessageType};
 use std::alloc::{AllocError, Global};
@@ -37,10 +37,7 @@ impl<R: Reassembly> Engine<R> {
         ensures config { self.new.config ≡ self.old.config }
     {
         if !is_discovery(&message.header) {
-            giving.outputs.push(Output::Dropped {
-                reason: DropReason::NotSd,
-            })?;
-            return Ok(());
+            return giving.dropped(DropReason::NotSd);
         }
         let found = read_payload(self.alloc, message.payload)?;
         self.found(peer, channel, message.header.session, found, giving)
@@ -62,12 +59,7 @@ impl<R: Reassembly> Engine<R> {
     {
         match found {
             Ok(read) => self.heard(peer, channel, session, &read, giving),
-            Err(fault) => {
-                giving.outputs.push(Output::Dropped {
-                    reason: DropReason::Sd(fault),
-                })?;
-                Ok(())
-            }
+            Err(fault) => giving.dropped(DropReason::Sd(fault)),
         }
     }
 

@@ -10,7 +10,7 @@ use crate::engine::Engine;
 use crate::giving::Giving;
 use sd_core::{InstanceId, ReceivedOffer};
 use sd_wire::{EntryHead, EventgroupEntry, ReadEntry, ServiceEntry};
-use someip_node_rules::{DropReason, Output};
+use someip_node_rules::DropReason;
 use someip_tp::Reassembly;
 use std::alloc::AllocError;
 use std::net::{Ipv4Addr, SocketAddrV4};
@@ -122,12 +122,7 @@ impl<R: Reassembly> Engine<R> {
             EntryHead::Eventgroup(head) if head.is_subscribe() => {
                 self.subscribe_came(peer, head, None, giving)
             }
-            _ => {
-                giving.outputs.push(Output::Dropped {
-                    reason: DropReason::BadRun,
-                })?;
-                Ok(())
-            }
+            _ => giving.dropped(DropReason::BadRun),
         }
     }
 }

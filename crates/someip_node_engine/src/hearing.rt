@@ -43,9 +43,7 @@ impl<R: Reassembly> Engine<R> {
                 Ok(true)
             }
             None => {
-                giving.outputs.push(Output::Dropped {
-                    reason: DropReason::PeersFull,
-                })?;
+                giving.dropped(DropReason::PeersFull)?;
                 Ok(false)
             }
         }

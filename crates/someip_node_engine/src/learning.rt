@@ -17,8 +17,8 @@ ghost use Rattle.someip_node_engine.specs.Working.{working};
 use crate::endings::tell_unsubscribed;
 use crate::engine::Engine;
 use crate::entry_making::subscribe_entry;
-use crate::giving::Giving;
-use crate::subscribing::eventgroup_in;
+use crate::giving::{Giving, tell_dropped};
+use crate::server_subscribing::eventgroup_in;
 use sd_core::{
     Acked, Counted, InstanceId, OutgoingSubscribe, ReceivedOffer, Seeker, SubscribeAnswer,
     Uncounted,
@@ -246,12 +246,8 @@ fn tell_uncounted(cause: Uncounted, outputs: &mut Vec<Output>) -> Result<(), All
 {
     match cause {
         Uncounted::Unwanted => {}
-        Uncounted::NoEndpoint => outputs.push(Output::Dropped {
-            reason: DropReason::NoEndpoint,
-        })?,
-        Uncounted::OtherPeer => outputs.push(Output::Dropped {
-            reason: DropReason::OtherPeer,
-        })?,
+        Uncounted::NoEndpoint => tell_dropped(outputs, DropReason::NoEndpoint)?,
+        Uncounted::OtherPeer => tell_dropped(outputs, DropReason::OtherPeer)?,
     }
     Ok(())
 }
@@ -271,9 +267,7 @@ fn tell_ack(
             counter: head.counter,
         })?,
         Acked::Renewed => {}
-        Acked::NotPending => outputs.push(Output::Dropped {
-            reason: DropReason::NotPending,
-        })?,
+        Acked::NotPending => tell_dropped(outputs, DropReason::NotPending)?,
     }
     Ok(())
 }
@@ -292,9 +286,7 @@ fn tell_nack(
             eventgroup: eventgroup_in(head),
         })?;
     } else {
-        outputs.push(Output::Dropped {
-            reason: DropReason::NotPending,
-        })?;
+        tell_dropped(outputs, DropReason::NotPending)?;
     }
     Ok(())
 }

@@ -7,8 +7,11 @@
 
 mod announcing;
 mod answering;
+mod arrival;
 mod calling;
 mod client;
+mod client_subscribing;
+mod config_checks;
 mod datagram;
 mod discovery;
 mod endings;
@@ -17,21 +20,20 @@ mod entries;
 mod entry_making;
 mod giving;
 mod hearing;
-mod judging;
 mod learning;
 mod message_sending;
+mod offering;
 mod own_config;
 mod passed;
 mod publishing;
 mod received_payload;
 mod segments;
+mod server_subscribing;
 mod serving;
 mod starting;
-mod subscribing;
 mod ticking;
 mod waking;
-mod wishing;
 
+pub use config_checks::is_good_delay;
 pub use engine::Engine;
 pub use giving::Giving;
-pub use judging::is_good_delay;

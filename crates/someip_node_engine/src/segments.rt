@@ -4,16 +4,17 @@ ghost use Rattle.someip_reassembly.specs.Keys.{segment_key};
 ghost use Rattle.someip_reassembly.specs.SegmentOffers.{judgement, message_at, parts_after, parts_less};
 ghost use Rattle.someip_reassembly.specs.Parts.{NoneAfter};
 ghost use Rattle.someip_segments.specs.TpHeader.{segment_in};
-ghost use Rattle.someip_node_engine.specs.Arrivals.{is_of_application, segment_offer, refused_as, parts_once_taken};
+ghost use Rattle.someip_node_engine.specs.Arrivals.{parts_once_taken, refused_as, segment_offer, target_at};
 ghost use Rattle.someip_node_rules.specs.Handling.{completed_plan, segment_plan};
 ghost use Rattle.someip_node_rules.specs.Messages.{completed, completed_by};
 ghost use Rattle.someip_node_rules.specs.Plans.{act, plain, run, TakesSegment};
 ghost use Rattle.someip_node_engine.specs.Working.{working};
 
+use crate::arrival::Arrival;
 use crate::engine::Engine;
-use crate::giving::Giving;
+use crate::giving::{Giving, tell_dropped};
 use crate::received_payload::ReceivedPayload;
-use someip_node_rules::{DropReason, Output, Payload, Target};
+use someip_node_rules::{DropReason, Output, Payload};
 use someip_tables::Moment;
 use someip_tp::{Offered, Reassembly, ReassemblyKey, TpError, read_segment};
 use someip_wire::Header;
@@ -37,36 +38,28 @@ impl<R: Reassembly> Engine<R> {
     /// Takes a segment of a message that comes to where it is taken.
     pub(crate) fn segment(
         &mut self,
-        target: Target,
-        from: SocketAddrV4,
-        to: SocketAddrV4,
+        arrival: &Arrival,
         header: &Header,
         payload: &[u8],
         giving: &mut Giving,
     ) -> Result<(), AllocError>
-        requires of_application { is_of_application target ≡ true }
         ensures work { OnOk result (working self.new giving.new
-            ≡ run plain (segment_plan target from to header.now (segment_in payload.now))
-            (working self.old giving.old)) }
+            ≡ run plain (segment_plan (target_at arrival.now.addressee) arrival.now.from
+            arrival.now.to header.now (segment_in payload.now)) (working self.old giving.old)) }
         ensures config { self.new.config ≡ self.old.config }
     {
         match read_segment(payload) {
             Ok((offset, more, bytes)) => {
                 let segment = OfferedSegment {
-                    key: ReassemblyKey::new(from, to, header),
+                    key: ReassemblyKey::new(arrival.from, arrival.to, header),
                     offset,
                     more,
                     bytes,
                 };
                 let whole = self.offer_segment(segment, giving)?;
-                self.completed(target, from, header, whole, giving)
+                self.completed(arrival, header, whole, giving)
             }
-            Err(fault) => {
-                giving.outputs.push(Output::Dropped {
-                    reason: DropReason::Tp(fault),
-                })?;
-                Ok(())
-            }
+            Err(fault) => giving.dropped(DropReason::Tp(fault)),
         }
     }
 
@@ -95,16 +88,14 @@ impl<R: Reassembly> Engine<R> {
     /// Takes the message that a segment made whole, if it did.
     fn completed(
         &mut self,
-        target: Target,
-        from: SocketAddrV4,
+        arrival: &Arrival,
         header: &Header,
         whole: Option<Payload>,
         giving: &mut Giving,
     ) -> Result<(), AllocError>
-        requires of_application { is_of_application target ≡ true }
         ensures work { OnOk result (working self.new giving.new
-            ≡ run plain (completed_plan target from header.now whole)
-            (working self.old giving.old)) }
+            ≡ run plain (completed_plan (target_at arrival.now.addressee) arrival.now.from
+            header.now whole) (working self.old giving.old)) }
         ensures config { self.new.config ≡ self.old.config }
     {
         match whole {
@@ -114,7 +105,7 @@ impl<R: Reassembly> Engine<R> {
                     ..*header
                 };
                 let payload = ReceivedPayload::Reassembled(payload);
-                self.whole(target, from, &header, payload, giving)
+                self.whole(arrival, &header, payload, giving)
             }
             None => Ok(()),
         }
@@ -151,9 +142,7 @@ fn offer_to<R: Reassembly>(
             Ok(message)
         }
         Err(refusal) => {
-            outputs.push(Output::Dropped {
-                reason: DropReason::Tp(refusal),
-            })?;
+            tell_dropped(outputs, DropReason::Tp(refusal))?;
             Ok(None)
         }
     }

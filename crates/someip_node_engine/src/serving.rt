@@ -10,7 +10,7 @@ ghost use Rattle.someip_node_rules.specs.Plans.{act, plain, run, TakesRequest};
 ghost use Rattle.someip_node_engine.specs.Working.{working};
 
 use crate::engine::Engine;
-use crate::giving::Giving;
+use crate::giving::{Giving, tell_dropped};
 use crate::message_sending::send;
 use crate::received_payload::ReceivedPayload;
 use sd_core::InstanceId;
@@ -92,12 +92,7 @@ fn give_arrived(
         }
         Arrived::Oneway => hand_up(alloc, instance, None, header, payload, outputs),
         Arrived::Refused(answer) => refuse(alloc, &answer, outputs),
-        Arrived::Dropped(fault) => {
-            outputs.push(Output::Dropped {
-                reason: DropReason::Request(fault),
-            })?;
-            Ok(())
-        }
+        Arrived::Dropped(fault) => tell_dropped(outputs, DropReason::Request(fault)),
     }
 }
 

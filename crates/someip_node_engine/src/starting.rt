@@ -14,8 +14,8 @@ ghost use Rattle.someip_node_rules.specs.Setups.{limits_of, ports_of};
 ghost use Rattle.someip_node_rules.specs.Starts.{started_tables};
 ghost use Rattle.someip_node_rules.specs.declared.error.NodeError.TheVariants as fault;
 
+use crate::config_checks::{is_good, is_good_delay};
 use crate::engine::Engine;
-use crate::judging::{is_good, is_good_delay};
 use sd_core::{InstanceId, Offers, Seeker, Subscribers, Subscriptions, Version};
 use sd_session::{Counter, PeerTable};
 use someip_node_rules::{Config, NodeError, OfferedService, WantedService};

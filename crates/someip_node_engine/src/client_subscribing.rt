@@ -1,28 +1,27 @@
-//! The eventgroups that the application wishes, and the offers that it stops.
-ghost use Rattle.std.specs.Prelude.{◌≡◌, ◌≤◌, length, map, IfOk, OnOk};
+//! The eventgroups that the application of a client wishes.
+ghost use Rattle.std.specs.Prelude.{◌≡◌, map, IfOk, OnOk, ◌≤◌, length};
 ghost use Rattle.sd_wire.specs.Values.{view_entry};
-ghost use Rattle.sd_wishes.specs.Wishes.{sent_at_once, wish_of};
-ghost use Rattle.std.specs.FinMap as finite;
-ghost use Rattle.someip_node_rules.specs.Calls.{standing_of, stop_offer_of, stop_subscribe_of, wish_entries_by};
-ghost use Rattle.someip_node_engine.specs.Handled.{Handled};
-ghost use Rattle.someip_node_rules.specs.Inputs as input;
-ghost use Rattle.someip_node_rules.specs.Items.{changed, OfferStopped, Unwished, Wished};
-ghost use Rattle.someip_node_rules.specs.Plans.{plain, run};
-ghost use Rattle.someip_node_rules.specs.Receivers.{message_plan_to};
 ghost use Rattle.someip_node_rules.specs.declared.output.Output.TheVariants.{Unsubscribed};
-ghost use Rattle.someip_node_rules.specs.declared.receiver.Receiver.TheVariants.{Peer};
+ghost use Rattle.someip_node_rules.specs.Items.{changed, Unwished, Wished};
+ghost use Rattle.someip_node_rules.specs.Plans.{plain, run};
 ghost use Rattle.someip_node_rules.specs.Setups.{is_wanted_eventgroup};
 ghost use Rattle.someip_node_rules.specs.Tables.{known_peer};
-ghost use Rattle.someip_node_engine.specs.Working.{told_after, working};
+ghost use Rattle.someip_node_engine.specs.Working.{working, told_after};
+ghost use Rattle.sd_wishes.specs.Wishes.{sent_at_once, wish_of};
+ghost use Rattle.std.specs.FinMap as finite;
+ghost use Rattle.someip_node_rules.specs.Calls.{standing_of, stop_subscribe_of, wish_entries_by};
+ghost use Rattle.someip_node_engine.specs.Handled.{Handled};
+ghost use Rattle.someip_node_rules.specs.Inputs as input;
+ghost use Rattle.someip_node_rules.specs.Receivers.{message_plan_to};
+ghost use Rattle.someip_node_rules.specs.declared.receiver.Receiver.TheVariants.{Peer};
 
 use crate::engine::Engine;
-use crate::entry_making::{offer_entry, subscribe_entry};
+use crate::entry_making::subscribe_entry;
 use crate::giving::Giving;
 use crate::own_config::client_endpoint;
 use sd_core::{Beginning, Eventgroup, InstanceId, OutgoingSubscribe};
 use sd_wire::{Entry, SubscriptionCounter, Ttl};
 use someip_node_rules::{NodeError, Output, Receiver};
-use someip_rpc::RpcError;
 use someip_tp::Reassembly;
 use std::alloc::AllocError;
 use std::net::Ipv4Addr;
@@ -59,23 +58,6 @@ impl<R: Reassembly> Engine<R> {
             return Err(NodeError::NotWanted);
         }
         self.take_back(eventgroup, giving)?;
-        Ok(())
-    }
-
-    /// Stops the offer of an instance.
-    pub fn stop_offering(
-        &mut self,
-        instance: InstanceId,
-        giving: &mut Giving,
-    ) -> Result<(), NodeError>
-        ensures handled { Handled (input.StopOffer instance)
-            self.old giving.old result self.new giving.new }
-        ensures config { self.new.config ≡ self.old.config }
-    {
-        if !self.offers.is_up(instance) {
-            return Err(NodeError::Rpc(RpcError::NotOffered));
-        }
-        self.withdraw(instance, giving)?;
         Ok(())
     }
 
@@ -230,39 +212,5 @@ impl<R: Reassembly> Engine<R> {
             entries.push(entry)?;
         }
         Ok(entries)
-    }
-
-    /// Stops the offer of an instance: the group is told before.
-    fn withdraw(&mut self, instance: InstanceId, giving: &mut Giving) -> Result<(), AllocError>
-        ensures work { OnOk result (working self.new giving.new
-            ≡ run plain (input.stop_offer_plan instance) (working self.old giving.old)) }
-        ensures config { self.new.config ≡ self.old.config }
-    {
-        let entries = self.stop_offer_entries(instance)?;
-        self.send_message(Receiver::Group, &entries, giving)?;
-        self.stop_instance(instance);
-        Ok(())
-    }
-
-    /// The StopOffer of an instance.
-    fn stop_offer_entries(&self, instance: InstanceId) -> Result<Vec<Entry>, AllocError>
-        ensures entries { IfOk result (λ entries. map view_entry entries.items
-            ≡ stop_offer_of self.now instance) }
-        ensures few { IfOk result (λ entries. length entries.items ≤ 65535) }
-    {
-        let mut entries = Vec::new(self.alloc);
-        if let Some(service) = self.config.offers.get(&instance) {
-            let entry = offer_entry(self.alloc, instance, Ttl::ZERO, service)?;
-            entries.push(entry)?;
-        }
-        Ok(entries)
-    }
-
-    /// Takes an instance down, and ends the subscriptions to it.
-    fn stop_instance(&mut self, instance: InstanceId)
-        ensures { self.new ≡ changed self.old (OfferStopped instance) }
-    {
-        self.offers.stop(instance);
-        self.subscribers.stop_offer(instance);
     }
 }

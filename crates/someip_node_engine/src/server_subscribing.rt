@@ -1,4 +1,4 @@
-//! What a server does with the entries of Service Discovery: Finds, Subscribes and StopSubscribes.
+//! What a server does with Subscribes and StopSubscribes that come.
 ghost use Rattle.std.specs.Prelude.{◌≡◌, ◌++◌, ◌∷◌, [], map, None, IfOk, OnOk, OnErr};
 ghost use Rattle.std.specs.List.{flat_map, fold};
 ghost use Rattle.sd_wire.specs.Values.{view_entry};
@@ -8,67 +8,25 @@ ghost use Rattle.someip_node_rules.specs.Entries.{ack_entry};
 ghost use Rattle.someip_node_rules.specs.Items.{changed};
 ghost use Rattle.someip_node_rules.specs.Learning.{eventgroup_in};
 ghost use Rattle.someip_node_rules.specs.Outputs.{written};
-ghost use Rattle.someip_node_rules.specs.Plans.{act, plain, run};
-ghost use Rattle.someip_node_rules.specs.Plans.{TakesFind, TakesStopSubscribe, TakesSubscribe};
+ghost use Rattle.someip_node_rules.specs.Plans.{act, plain, run, TakesStopSubscribe, TakesSubscribe};
 ghost use Rattle.someip_node_rules.specs.Setups.{has_eventgroup, offered_as};
-ghost use Rattle.someip_node_rules.specs.Subscribing.{offer_of, rules_by, rules_for, sought_by};
-ghost use Rattle.someip_node_rules.specs.Subscribing.{subscribe_by, subscribe_in};
+ghost use Rattle.someip_node_rules.specs.Subscribing.{rules_by, rules_for, subscribe_by, subscribe_in};
 ghost use Rattle.someip_node_rules.specs.Tables.{live_subscribers};
 ghost use Rattle.someip_node_engine.specs.Working.{working};
 
 use crate::engine::Engine;
-use crate::entry_making::{ack_entry, offer_entry};
+use crate::entry_making::ack_entry;
 use crate::giving::Giving;
 use sd_core::{
-    Cause, Eventgroup, InstanceId, Sought, Subscribe, SubscribeError, SubscribeRules, Subscription,
+    Cause, Eventgroup, InstanceId, Subscribe, SubscribeError, SubscribeRules, Subscription,
 };
-use sd_wire::{Entry, EventgroupEntry, ServiceEntry, Ttl};
+use sd_wire::{EventgroupEntry, Ttl};
 use someip_node_rules::{Config, DropReason, OfferedService, Output};
 use someip_tp::Reassembly;
 use std::alloc::{AllocError, Global};
 use std::net::{Ipv4Addr, SocketAddrV4};
 
 impl<R: Reassembly> Engine<R> {
-    /// A Find comes.
-    pub(crate) fn find_came(
-        &self,
-        head: &ServiceEntry,
-        giving: &mut Giving,
-    ) -> Result<(), AllocError>
-        ensures { OnOk result (working self.now giving.new
-            ≡ run plain (act (TakesFind head.now)) (working self.now giving.old)) }
-    {
-        let found = self.offers.find(sought_by(head))?;
-        self.push_offers(&found, &mut giving.replies)
-    }
-
-    /// Adds the Offers of some instances.
-    pub(crate) fn push_offers(
-        &self,
-        instances: &[InstanceId],
-        entries: &mut Vec<Entry>,
-    ) -> Result<(), AllocError>
-        ensures { OnOk result (map view_entry entries.new.items
-            ≡ map view_entry entries.old.items ++ flat_map (offer_of self.now) instances.now) }
-    {
-        for instance in instances {
-            self.push_offer(*instance, entries)?;
-        }
-        Ok(())
-    }
-
-    /// Adds the Offer of an instance.
-    fn push_offer(&self, instance: InstanceId, entries: &mut Vec<Entry>) -> Result<(), AllocError>
-        ensures { OnOk result (map view_entry entries.new.items
-            ≡ map view_entry entries.old.items ++ offer_of self.now instance) }
-    {
-        if let Some(service) = self.config.offers.get(&instance) {
-            let entry = offer_entry(self.alloc, instance, service.ttl, service)?;
-            entries.push(entry)?;
-        }
-        Ok(())
-    }
-
     /// A Subscribe comes, with this endpoint.
     pub(crate) fn subscribe_came(
         &mut self,
@@ -132,10 +90,7 @@ impl<R: Reassembly> Engine<R> {
         ensures config { self.new.config ≡ self.old.config }
     {
         let Some(endpoint) = endpoint else {
-            giving.outputs.push(Output::Dropped {
-                reason: DropReason::NoEndpoint,
-            })?;
-            return Ok(());
+            return giving.dropped(DropReason::NoEndpoint);
         };
         let subscription = Subscription {
             instance: eventgroup_in(head).instance,
@@ -146,18 +101,6 @@ impl<R: Reassembly> Engine<R> {
         };
         self.subscribers.stop(subscription, self.clock);
         Ok(())
-    }
-}
-
-/// What a Find asks for.
-fn sought_by(head: &ServiceEntry) -> Sought
-    ensures { result ≡ sought_by head.now }
-{
-    Sought {
-        service: head.service,
-        instance: head.instance,
-        major: head.major,
-        minor: head.minor,
     }
 }
 
