@@ -7,9 +7,9 @@ use Rattle.someip_c_node.specs.declared.outcome.Outcome.TheVariants.{Done, Close
 use Rattle.someip_c_node.specs.Calls.{CNodeView}
 use Rattle.someip_c_node.specs.Outcomes.{number_of, outcome_of}
 use Rattle.someip_c_node.specs.Starts.{IsNotStarted}
-use Rattle.someip_node_rules.specs.History.{History}
-use Rattle.someip_node_rules.specs.Steps.{StandsFor}
-use Rattle.someip_node_rules.specs.Waking.{IsNextDue}
+use Rattle.someip_node_rules.specs.histories.History.{History}
+use Rattle.someip_node_rules.specs.steps.Steps.{StandsFor}
+use Rattle.someip_node_rules.specs.steps.Waking.{IsNextDue}
 use Rattle.someip_c.specs.Handles.{Asks, Closes, OnNode, Starts, StartsTo, Tells}
 
 -- the number of an outcome tells it

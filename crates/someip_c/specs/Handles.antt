@@ -6,9 +6,9 @@ use Rattle.someip_rpc.specs.declared.call.CallKind.{CallKind}
 use Rattle.someip_rpc.specs.declared.call.CallKind.TheVariants.{Request, RequestNoReturn}
 use Rattle.someip_rpc.specs.declared.request.Reply.{Reply}
 use Rattle.someip_rpc.specs.declared.request.Reply.TheVariants.{Error, Response}
-use Rattle.someip_node_rules.specs.History.{History}
-use Rattle.someip_node_rules.specs.Steps.{NodeView, StandsFor}
-use Rattle.someip_node_rules.specs.Waking.{IsNextDue, NothingIsDue}
+use Rattle.someip_node_rules.specs.histories.History.{History}
+use Rattle.someip_node_rules.specs.steps.Steps.{NodeView, StandsFor}
+use Rattle.someip_node_rules.specs.steps.Waking.{IsNextDue, NothingIsDue}
 use Rattle.someip_c_node.specs.declared.outcome.Outcome.{Outcome}
 use Rattle.someip_c_node.specs.declared.outcome.Outcome.TheVariants.{Closed, Done, Held, NothingDue}
 use Rattle.someip_c_node.specs.Calls.{CNodeView}

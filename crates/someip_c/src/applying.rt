@@ -1,6 +1,6 @@
 //! What the application does.
 ghost use Rattle.std.specs.Prelude.{◌≡◌, None};
-ghost use Rattle.someip_node_rules.specs.Inputs as input;
+ghost use Rattle.someip_node_rules.specs.rules.Inputs as input;
 ghost use Rattle.someip_c_node.specs.Calls.{Calls};
 ghost use Rattle.someip_c_node.specs.Records.{socket_of};
 ghost use Rattle.someip_c.specs.Handles.{OnNode, call_kind, group_of, instance_of, reply_of};

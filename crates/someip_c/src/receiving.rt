@@ -1,6 +1,6 @@
 //! What comes to a node: datagrams and time, and what it gives.
 ghost use Rattle.std.specs.Prelude.{◌≡◌, None};
-ghost use Rattle.someip_node_rules.specs.Inputs as input;
+ghost use Rattle.someip_node_rules.specs.rules.Inputs as input;
 ghost use Rattle.someip_c_node.specs.Calls.{Calls, NeedsNoMemory, Takes};
 ghost use Rattle.someip_c_node.specs.Records.{socket_of};
 ghost use Rattle.someip_c.specs.Handles.{Asks, OnNode};

@@ -6,10 +6,10 @@ use Rattle.std.specs.Global.{Vec}
 use Rattle.someip_node_rules.specs.declared.error.NodeError.{NodeError}
 use Rattle.someip_node_rules.specs.declared.error.NodeError.TheVariants as error
 use Rattle.someip_node_rules.specs.declared.output.Output.{Output}
-use Rattle.someip_node_rules.specs.History.{History}
-use Rattle.someip_node_rules.specs.Inputs.{Input}
-use Rattle.someip_node_rules.specs.Plans.{Work}
-use Rattle.someip_node_rules.specs.Steps.{GivesStep, NodeView, Reacts, StaysFailed, TakesNoMemory, step}
+use Rattle.someip_node_rules.specs.histories.History.{History}
+use Rattle.someip_node_rules.specs.rules.Inputs.{Input}
+use Rattle.someip_node_rules.specs.rules.Plans.{Work}
+use Rattle.someip_node_rules.specs.steps.Steps.{GivesStep, NodeView, Reacts, StaysFailed, TakesNoMemory, step}
 use Rattle.someip_c_node.specs.declared.outcome.Outcome.{Outcome}
 use Rattle.someip_c_node.specs.declared.outcome.Outcome.TheVariants.{Done, Failed, OutOfMemory, OutputsWait}
 use Rattle.someip_c_node.specs.Calls.{CNodeView, Calls, ComesTo, Keeps, NeedsNoMemory}

@@ -1,8 +1,8 @@
 -- The configuration of a name, from the setup that was read.
 use Rattle.std.proofs.Common.{◌≡◌, ◌∙◌, sym, ap, subst, ℕ, List}
 use Rattle.std.specs.Prelude.{true, Option, None, Some, IsSomeAnd, Result, Ok, Err, IfOk, IfErr}
-use Rattle.someip_node_rules.specs.Copies.{IsCopy}
-use Rattle.someip_node_rules.specs.GoodConfigs.{is_good}
+use Rattle.someip_node_rules.specs.trails.Copies.{IsCopy}
+use Rattle.someip_node_rules.specs.forms.GoodConfigs.{is_good}
 use Rattle.someip_node_rules.specs.declared.config.Config.{Config}
 use Rattle.someip_node_rules.specs.declared.config.Common.{Common}
 use Rattle.someip_world_setup.specs.GoodSetups.{IsGoodNetwork, IsGoodNode, Network}

@@ -1,7 +1,7 @@
 -- Why no node is started.
 use Rattle.std.proofs.Common.{◌≡◌, ◌∙◌, sym, ap, ℕ, List}
 use Rattle.std.specs.Prelude.{false, Option, None, Some, IsSomeAnd, IsUtf8}
-use Rattle.someip_node_rules.specs.GoodConfigs.{is_good_delay, is_within}
+use Rattle.someip_node_rules.specs.forms.GoodConfigs.{is_good_delay, is_within}
 use Rattle.someip_node_rules.specs.declared.config.Config.{Config}
 use Rattle.someip_world_setup.specs.Readings.{setup_of_text}
 use Rattle.someip_world_setup_parts.specs.Values.{NodeValue, SetupValue}

@@ -3,7 +3,7 @@ use Rattle.std.proofs.Common.{◌≡◌, ◌∙◌, arith, refl, sym, ap, subst,
 use Rattle.std.proofs.lemmas.List.{length-drop}
 use Rattle.std.specs.Prelude.{◌≢◌, ◌++◌, drop}
 use Rattle.someip_node_rules.specs.declared.output.Output.{Output}
-use Rattle.someip_node_rules.specs.Steps.{NodeView}
+use Rattle.someip_node_rules.specs.steps.Steps.{NodeView}
 use Rattle.someip_c_node.specs.declared.outcome.Outcome.{Outcome}
 use Rattle.someip_c_node.specs.declared.outcome.Outcome.TheVariants.{BufferTooSmall, Done, NothingLeft}
 use Rattle.someip_c_node.specs.declared.record.OutputRecord.{OutputRecord}

@@ -3,11 +3,11 @@ use Rattle.std.specs.Prelude.{◌≡◌, ◌≢◌, ◌≤◌, ◌<◌, ◌++◌
 use Rattle.std.specs.Global.{Vec}
 use Rattle.someip_node_rules.specs.declared.error.NodeError.{NodeError}
 use Rattle.someip_node_rules.specs.declared.output.Output.{Output}
-use Rattle.someip_node_rules.specs.GoodConfigs.{is_good_delay}
-use Rattle.someip_node_rules.specs.History.{History, start_of}
-use Rattle.someip_node_rules.specs.Inputs.{Input}
-use Rattle.someip_node_rules.specs.Plans.{Work}
-use Rattle.someip_node_rules.specs.Steps.{NodeView, StandsFor, HasFailed, step}
+use Rattle.someip_node_rules.specs.forms.GoodConfigs.{is_good_delay}
+use Rattle.someip_node_rules.specs.histories.History.{History, start_of}
+use Rattle.someip_node_rules.specs.rules.Inputs.{Input}
+use Rattle.someip_node_rules.specs.rules.Plans.{Work}
+use Rattle.someip_node_rules.specs.steps.Steps.{NodeView, StandsFor, HasFailed, step}
 use Rattle.someip_c_node.specs.declared.outcome.Outcome.{Outcome}
 use Rattle.someip_c_node.specs.declared.outcome.Outcome.TheVariants.{BadDelay, Done, OutputsWait, NothingLeft, BufferTooSmall, Failed, OutOfMemory}
 use Rattle.someip_c_node.specs.declared.record.OutputRecord.{OutputRecord}

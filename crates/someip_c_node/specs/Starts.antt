@@ -1,8 +1,8 @@
 -- The start of a node, by a setup's text and a name.
 use Rattle.std.specs.Prelude.{◌≡◌, ℕ, true, false, List, [], IsSomeAnd, IsUtf8}
-use Rattle.someip_node_rules.specs.GoodConfigs.{is_good_delay, is_within}
-use Rattle.someip_node_rules.specs.History.{start_of}
-use Rattle.someip_node_rules.specs.Steps.{StandsFor}
+use Rattle.someip_node_rules.specs.forms.GoodConfigs.{is_good_delay, is_within}
+use Rattle.someip_node_rules.specs.histories.History.{start_of}
+use Rattle.someip_node_rules.specs.steps.Steps.{StandsFor}
 use Rattle.someip_world_setup.specs.Readings.{setup_of_text}
 use Rattle.someip_world_setup_parts.specs.Values.{SetupValue}
 use Rattle.someip_c_node.specs.declared.outcome.Outcome.{Outcome}

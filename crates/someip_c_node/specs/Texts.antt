@@ -1,7 +1,7 @@
 -- The configuration of a node that a setup's text names.
 use Rattle.std.specs.Prelude.{◌≡◌, ℕ, true, bytes_eq, string_bytes, List, [], ◌∷◌, if◌then◌else◌, Option, None, Some, IsSomeAnd}
 use Rattle.toml.specs.Data.{Data}
-use Rattle.someip_node_rules.specs.Copies.{IsCopy}
+use Rattle.someip_node_rules.specs.trails.Copies.{IsCopy}
 use Rattle.someip_node_rules.specs.declared.config.Config.{Config}
 use Rattle.someip_world_setup_parts.specs.declared.error.SetupError.{SetupError}
 use Rattle.someip_world_setup_parts.specs.declared.error.SetupError.TheVariants as setup

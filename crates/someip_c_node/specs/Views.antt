@@ -4,7 +4,7 @@ use Rattle.std.specs.Coded.{Coded, code_by, coded×, coded_list}
 use Rattle.someip_node.specs.contracts.node.Node as node
 use Rattle.someip_node_rules.specs.contracts.output.Output as output
 use Rattle.someip_node_rules.specs.declared.output.Output.{Output}
-use Rattle.someip_node_rules.specs.Steps.{NodeView}
+use Rattle.someip_node_rules.specs.steps.Steps.{NodeView}
 use Rattle.someip_tp.specs.contracts.pool.interval_pool.IntervalPool as pool
 use Rattle.someip_tp.specs.contracts.pool.interval_pool.IntervalPoolReassembly.TheImpl as store
 use Rattle.someip_c_node.specs.Calls.{CNodeView}

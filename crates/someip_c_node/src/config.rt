@@ -1,7 +1,7 @@
 //! The configuration of a node that a setup's text names.
 ghost use Rattle.std.specs.Prelude.{◌≡◌, true, IfOk, IfErr};
 ghost use Rattle.std.specs.Option.{option_copied};
-ghost use Rattle.someip_node_rules.specs.GoodConfigs.{is_good};
+ghost use Rattle.someip_node_rules.specs.forms.GoodConfigs.{is_good};
 ghost use Rattle.someip_world_setup.specs.GoodSetups.{IsGoodNetwork};
 ghost use Rattle.someip_c_node.specs.Texts.{IsConfigIn, IsCopyIn, IsLacking, IsRefused, fault_outcome, first_named};
 

@@ -1,11 +1,11 @@
 //! A node whose outputs are taken one after the other.
 ghost use Rattle.std.specs.Prelude.{◌≡◌, ◌≢◌, ◌≤◌, ◌<◌, ◌++◌, [], true, false, drop, length, None, Some, IfOk, IfErr, IfSome, IfNone, OnOk};
 ghost use Rattle.someip_node.specs.Refusals.{is_call_refusal};
-ghost use Rattle.someip_node_rules.specs.GoodConfigs.{is_good, is_good_delay};
-ghost use Rattle.someip_node_rules.specs.History.{History, start_of};
-ghost use Rattle.someip_node_rules.specs.Inputs as input;
-ghost use Rattle.someip_node_rules.specs.Steps.{StandsFor};
-ghost use Rattle.someip_node_rules.specs.Waking.{IsNextDue, NothingIsDue};
+ghost use Rattle.someip_node_rules.specs.forms.GoodConfigs.{is_good, is_good_delay};
+ghost use Rattle.someip_node_rules.specs.histories.History.{History, start_of};
+ghost use Rattle.someip_node_rules.specs.rules.Inputs as input;
+ghost use Rattle.someip_node_rules.specs.steps.Steps.{StandsFor};
+ghost use Rattle.someip_node_rules.specs.steps.Waking.{IsNextDue, NothingIsDue};
 ghost use Rattle.someip_c_node.specs.Calls.{Calls, Keeps, NeedsNoMemory, Restarts, Takes};
 ghost use Rattle.someip_c_node.specs.declared.outcome.Outcome.TheVariants as outcome;
 

@@ -10,18 +10,18 @@ use Rattle.someip_node_rules.specs.declared.error.NodeError.{NodeError}
 use Rattle.someip_node_rules.specs.declared.error.NodeError.TheVariants.{ClockPast, NotWanted, Rpc}
 use Rattle.someip_node_engine.specs.declared.giving.Giving.{Giving}
 use Rattle.someip_node_rules.specs.declared.output.Output.{Output}
-use Rattle.someip_node_rules.specs.Calls.{as_node_error}
+use Rattle.someip_node_rules.specs.rules.Errors.{as_node_error}
 use Rattle.someip_node.specs.Finishings.{given_or_error, is_fatal}
 use Rattle.someip_node_engine.specs.Handled.{Handled, or_no_memory}
-use Rattle.someip_node_rules.specs.History.{History, answers_of, historic, shown_work}
-use Rattle.someip_node_rules.specs.Inputs.{Input, Answer, Call, Datagram, Publish, PublishTo, StopOffer, Subscribe, Tick, Unsubscribe, plan_of, refusal_of}
-use Rattle.someip_node_rules.specs.Plans.{Work, plain, run, work}
-use Rattle.someip_node_rules.specs.Setups.{is_wanted_eventgroup, offered_as}
-use Rattle.someip_node_rules.specs.Steps.{GivesStep, StandsFor, step, unless_refused, work_on}
-use Rattle.someip_node_rules.specs.Tables.{Tables, is_up}
+use Rattle.someip_node_rules.specs.histories.History.{History, answers_of, historic, shown_work}
+use Rattle.someip_node_rules.specs.rules.Inputs.{Input, Answer, Call, Datagram, Publish, PublishTo, StopOffer, Subscribe, Tick, Unsubscribe, plan_of, refusal_of}
+use Rattle.someip_node_rules.specs.rules.Plans.{Work, plain, run, work}
+use Rattle.someip_node_rules.specs.forms.Setups.{is_wanted_eventgroup, offered_as}
+use Rattle.someip_node_rules.specs.steps.Steps.{GivesStep, StandsFor, step, unless_refused, work_on}
+use Rattle.someip_node_rules.specs.histories.Tables.{Tables, is_up}
 use Rattle.someip_node_engine.specs.Working.{working}
-use Rattle.someip_node_rules.proofs.Shown.{run_shown}
-use Rattle.someip_node_rules.proofs.Stands.{seen, stands}
+use Rattle.someip_node_rules.proofs.histories.Shown.{run_shown}
+use Rattle.someip_node_rules.proofs.histories.Stands.{seen, stands}
 
 -- ---- no refusal is that memory ran out
 

@@ -28,34 +28,34 @@ use Rattle.sd_core.specs.SeekTables.{KnowsWanted}
 use Rattle.sd_instances.specs.Sendings.{due_at}
 use Rattle.sd_wishes.specs.Wishes.{has_begun, wish_of}
 use Rattle.sd_core.specs.WishTables.{begun_where}
-use Rattle.someip_node_rules.specs.Calls.{due_entries, find_of, lapsed, ticks, timed_out}
+use Rattle.someip_node_rules.specs.rules.Ticking.{due_entries, find_of, lapsed, ticks, timed_out}
 use Rattle.someip_node_rules.specs.declared.output.Output.TheVariants.{TimedOut}
 use Rattle.someip_node_rules.specs.declared.error.NodeError.{NodeError}
 use Rattle.someip_node_rules.specs.declared.error.NodeError.TheVariants.{ClockPast, OutOfMemory}
 use Rattle.someip_node_engine.specs.declared.giving.Giving.{Giving}
 use Rattle.someip_node.specs.Finishings.{given_or_error}
 use Rattle.someip_node_rules.specs.declared.receiver.Receiver.TheVariants.{Group}
-use Rattle.someip_node_rules.specs.History.{History, answers_of, historic}
-use Rattle.someip_node_rules.specs.Inputs.{Tick, tick_plan}
-use Rattle.someip_node_rules.specs.Lives.{has_its_offer}
-use Rattle.someip_node_rules.specs.OfferQuestions.{offering_at}
-use Rattle.someip_node_rules.specs.Outcomes.{endings, endings_of}
+use Rattle.someip_node_rules.specs.histories.History.{History, answers_of, historic}
+use Rattle.someip_node_rules.specs.rules.Inputs.{Tick, tick_plan}
+use Rattle.someip_node_rules.specs.steps.Lives.{has_its_offer}
+use Rattle.someip_node_rules.specs.histories.OfferQuestions.{offering_at}
+use Rattle.someip_node_rules.specs.rules.Outcomes.{endings, endings_of}
 use Rattle.someip_node_engine.specs.Passings.{BringsFirstAfter, BringsNothing, NeverBrings}
-use Rattle.someip_node_rules.specs.Plans.{Announces, Work, does, each, rule, run}
-use Rattle.someip_node_rules.specs.Receivers.{message_plan_to, messages_plan_to}
-use Rattle.someip_node_rules.specs.SeekQuestions.{finding_at, known_offer_at}
-use Rattle.someip_node_rules.specs.Setups.{wanted_instances}
-use Rattle.someip_node_rules.specs.Steps.{NodeView, StandsFor, given_in, step, unless_refused, work_on}
-use Rattle.someip_node_rules.specs.Subscribing.{offer_of}
-use Rattle.someip_node_rules.specs.Tables.{Tables, passed_instances}
-use Rattle.someip_node_rules.specs.Waking.{GivesNothing, IsNextDue, NothingIsDue}
-use Rattle.someip_node_rules.specs.WishQuestions.{course_at, is_wished_at, stage_of}
-use Rattle.someip_node_rules.proofs.PlanLemmas.{outputs_of_run}
-use Rattle.someip_node_rules.proofs.QuestionLemmas.{get-table_of}
-use Rattle.someip_node_rules.proofs.StandingLemmas.{has_offer}
-use Rattle.someip_node_rules.proofs.Stands.{seen}
-use Rattle.someip_node_rules.proofs.WishLives.{get-known, get-wish}
-use Rattle.someip_node_rules.proofs.WrittenLemmas.{told_written}
+use Rattle.someip_node_rules.specs.rules.Plans.{Announces, Work, does, each, rule, run}
+use Rattle.someip_node_rules.specs.forms.Receivers.{message_plan_to, messages_plan_to}
+use Rattle.someip_node_rules.specs.histories.SeekQuestions.{finding_at, known_offer_at}
+use Rattle.someip_node_rules.specs.forms.Setups.{wanted_instances}
+use Rattle.someip_node_rules.specs.steps.Steps.{NodeView, StandsFor, given_in, step, unless_refused, work_on}
+use Rattle.someip_node_rules.specs.rules.Offering.{offer_of}
+use Rattle.someip_node_rules.specs.histories.Tables.{Tables, passed_instances}
+use Rattle.someip_node_rules.specs.steps.Waking.{GivesNothing, IsNextDue, NothingIsDue}
+use Rattle.someip_node_rules.specs.histories.WishQuestions.{course_at, is_wished_at, stage_of}
+use Rattle.someip_node_rules.proofs.rules.PlanLemmas.{outputs_of_run}
+use Rattle.someip_node_rules.proofs.histories.QuestionLemmas.{get-table_of}
+use Rattle.someip_node_rules.proofs.histories.StandingLemmas.{has_offer}
+use Rattle.someip_node_rules.proofs.histories.Stands.{seen}
+use Rattle.someip_node_rules.proofs.histories.WishLives.{get-known, get-wish}
+use Rattle.someip_node_rules.proofs.trails.WrittenLemmas.{told_written}
 
 -- ---- lists
 

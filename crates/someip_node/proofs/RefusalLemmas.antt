@@ -14,10 +14,10 @@ use Rattle.someip_rpc.specs.Events.{publish_refusal, publish_to_refusal}
 use Rattle.someip_rpc.specs.Servers.{answer_refusal}
 use Rattle.someip_rpc.specs.declared.error.RpcError.{RpcError}
 use Rattle.someip_rpc.specs.declared.error.RpcError.TheVariants.{BadErrorCode, Busy, NotOffered, NotSubscribed, TooLong, UnknownEvent}
-use Rattle.someip_node_rules.specs.Calls.{as_node_error}
-use Rattle.someip_node_rules.specs.Inputs.{Input, Answer, Call, Datagram, Publish, PublishTo, StopOffer, Subscribe, Tick, Unsubscribe, refusal_of}
-use Rattle.someip_node_rules.specs.Setups.{client_rules, is_wanted_eventgroup, offered_as}
-use Rattle.someip_node_rules.specs.Tables.{Tables, is_up, known_endpoint, waiting_calls}
+use Rattle.someip_node_rules.specs.rules.Errors.{as_node_error}
+use Rattle.someip_node_rules.specs.rules.Inputs.{Input, Answer, Call, Datagram, Publish, PublishTo, StopOffer, Subscribe, Tick, Unsubscribe, refusal_of}
+use Rattle.someip_node_rules.specs.forms.Setups.{client_rules, is_wanted_eventgroup, offered_as}
+use Rattle.someip_node_rules.specs.histories.Tables.{Tables, is_up, known_endpoint, waiting_calls}
 use Rattle.someip_node_rules.specs.declared.config.OfferedService.{OfferedService}
 use Rattle.someip_node_rules.specs.declared.error.NodeError.{NodeError}
 use Rattle.someip_node_rules.specs.declared.error.NodeError.TheVariants.{ClockPast, NotWanted, Rpc}

@@ -6,16 +6,16 @@ use Rattle.someip_node_engine.specs.Handled.{Handled, or_no_memory}
 use Rattle.someip_node_engine.specs.Working.{working}
 use Rattle.someip_node_rules.specs.declared.config.Config.{Config}
 use Rattle.someip_node_rules.specs.declared.error.NodeError.{NodeError}
-use Rattle.someip_node_rules.specs.History.{History}
-use Rattle.someip_node_rules.specs.Inputs.{Input, plan_of, refusal_of}
-use Rattle.someip_node_rules.specs.Plans.{Work}
-use Rattle.someip_node_rules.specs.Starts.{started_tables}
-use Rattle.someip_node_rules.specs.Steps.{StandsFor}
-use Rattle.someip_node_rules.specs.SubscriberLimits.{AreWithinLimits}
-use Rattle.someip_node_rules.specs.SubscriberQuestions.{subscribers_in}
-use Rattle.someip_node_rules.specs.Tables.{Tables}
-use Rattle.someip_node_rules.proofs.Stands.{answers, answers_started, seen}
-use Rattle.someip_node_rules.proofs.SubscriberLimitLemmas.{Fits, run_fits, started_fits}
+use Rattle.someip_node_rules.specs.histories.History.{History}
+use Rattle.someip_node_rules.specs.rules.Inputs.{Input, plan_of, refusal_of}
+use Rattle.someip_node_rules.specs.rules.Plans.{Work}
+use Rattle.someip_node_rules.specs.histories.Starts.{started_tables}
+use Rattle.someip_node_rules.specs.steps.Steps.{StandsFor}
+use Rattle.someip_node_rules.specs.steps.SubscriberLimits.{AreWithinLimits}
+use Rattle.someip_node_rules.specs.histories.SubscriberQuestions.{subscribers_in}
+use Rattle.someip_node_rules.specs.histories.Tables.{Tables}
+use Rattle.someip_node_rules.proofs.histories.Stands.{answers, answers_started, seen}
+use Rattle.someip_node_rules.proofs.histories.SubscriberLimitLemmas.{Fits, run_fits, started_fits}
 use Rattle.someip_node.specs.Finishings.{is_fatal}
 
 -- ---- a node that took an input

@@ -2,14 +2,14 @@
 ghost use Rattle.std.specs.Prelude.{◌≡◌, OnOk, OnErr, IfOk, IfErr, IfSome, IfNone, Err, None, [], true, false};
 ghost use Rattle.someip_node.specs.Finishings.{given_or_error, is_fatal};
 ghost use Rattle.someip_node.specs.Refusals.{is_call_refusal};
-ghost use Rattle.someip_node_rules.specs.GoodConfigs.{is_good, is_good_delay};
-ghost use Rattle.someip_node_rules.specs.History.{History, answers_of, start_of};
-ghost use Rattle.someip_node_rules.specs.Limits.{HoldsWithinLimits};
-ghost use Rattle.someip_node_rules.specs.Inputs as input;
-ghost use Rattle.someip_node_rules.specs.Steps.{Reacts, StandsFor, StaysFailed, TakesNoMemory};
-ghost use Rattle.someip_node_rules.specs.Waking.{IsNextDue, NothingIsDue};
-ghost use Rattle.someip_node_rules.specs.SubscriberLimits.{AreWithinLimits};
-ghost use Rattle.someip_node_rules.specs.SubscriberQuestions.{subscribers_in};
+ghost use Rattle.someip_node_rules.specs.forms.GoodConfigs.{is_good, is_good_delay};
+ghost use Rattle.someip_node_rules.specs.histories.History.{History, answers_of, start_of};
+ghost use Rattle.someip_node_rules.specs.steps.Limits.{HoldsWithinLimits};
+ghost use Rattle.someip_node_rules.specs.rules.Inputs as input;
+ghost use Rattle.someip_node_rules.specs.steps.Steps.{Reacts, StandsFor, StaysFailed, TakesNoMemory};
+ghost use Rattle.someip_node_rules.specs.steps.Waking.{IsNextDue, NothingIsDue};
+ghost use Rattle.someip_node_rules.specs.steps.SubscriberLimits.{AreWithinLimits};
+ghost use Rattle.someip_node_rules.specs.histories.SubscriberQuestions.{subscribers_in};
 ghost use Rattle.someip_node_rules.specs.declared.error.NodeError.TheVariants as fault;
 
 use sd_core::{Eventgroup, InstanceId};
@@ -35,9 +35,9 @@ impl<R: Reassembly> Model for Node<R> {
     ghost use Rattle.std.specs.Coded.{codes};
     ghost use Rattle.someip_node_rules.specs.contracts.config.Config as config_row;
     ghost use Rattle.someip_reassembly.specs.Parts.{coded_parts};
-    ghost use Rattle.someip_node_rules.specs.Steps.{NodeView};
-    ghost use Rattle.someip_node_rules.specs.SubscriberLimits.{AreWithinLimits};
-    ghost use Rattle.someip_node_rules.specs.Tables.{coded_held, coded_stamps_to};
+    ghost use Rattle.someip_node_rules.specs.steps.Steps.{NodeView};
+    ghost use Rattle.someip_node_rules.specs.steps.SubscriberLimits.{AreWithinLimits};
+    ghost use Rattle.someip_node_rules.specs.histories.Tables.{coded_held, coded_stamps_to};
     ghost use Rattle.sd_core.specs.OfferTables.{coded_offers};
     ghost use Rattle.sd_core.specs.SeekTables.{coded_seek};
     ghost use Rattle.sd_subscribers.specs.SubscriberTables.{coded_subscribers};

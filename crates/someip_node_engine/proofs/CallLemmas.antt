@@ -11,10 +11,10 @@ use Rattle.someip_rpc.specs.Calls.{Client, IsFirstFree, Pending, called, is_pend
 use Rattle.someip_rpc.specs.IdOrder.{calls_total, exact_calls}
 use Rattle.someip_rpc.specs.Sessions.{next_session, session_after}
 use Rattle.someip_rpc.proofs.SessionLemmas.{at_least, differ}
-use Rattle.someip_node_rules.specs.Calls.{first_free, first_free_of, session_of}
-use Rattle.someip_node_rules.specs.Items.{changed, Called}
-use Rattle.someip_node_rules.specs.Setups.{client_rules}
-use Rattle.someip_node_rules.specs.Tables.{Tables}
+use Rattle.someip_node_rules.specs.rules.Calling.{first_free, first_free_of, session_of}
+use Rattle.someip_node_rules.specs.histories.Items.{changed, Called}
+use Rattle.someip_node_rules.specs.forms.Setups.{client_rules}
+use Rattle.someip_node_rules.specs.histories.Tables.{Tables}
 
 -- the sessions after the next one
 after_next : (n session : ℕ) → session_after n (next_session session) ≡ session_after (suc n) session

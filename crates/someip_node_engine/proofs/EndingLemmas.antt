@@ -18,8 +18,8 @@ use Rattle.sd_instances.specs.Keys.{instance_cmp}
 use Rattle.someip_node_rules.specs.declared.config.Config.{Config}
 use Rattle.someip_node_rules.specs.declared.output.Output.{Output}
 use Rattle.someip_node_rules.specs.declared.output.Output.TheVariants.{Gone, Unsubscribed}
-use Rattle.someip_node_rules.specs.Outcomes.{endings, endings_of, has_instance, those_of, unsubscribed}
-use Rattle.someip_node_rules.specs.Setups.{wanted_as, wanted_instances}
+use Rattle.someip_node_rules.specs.rules.Outcomes.{endings, endings_of, has_instance, those_of, unsubscribed}
+use Rattle.someip_node_rules.specs.forms.Setups.{wanted_as, wanted_instances}
 use Rattle.someip_node_engine.proofs.RisingLemmas.{before_all, below_past, first_told, less_by, none_of, not_before, sorted_drop}
 
 -- ---- instances and eventgroups

@@ -13,12 +13,12 @@ use Rattle.sd_instances.specs.declared.eventgroup.Eventgroup.{Eventgroup}
 use Rattle.sd_instances.specs.declared.keys.InstanceId.{InstanceId}
 use Rattle.someip_node_rules.specs.declared.output.Output.{Output}
 use Rattle.someip_node_rules.specs.declared.output.Output.TheVariants.{Rebooted}
-use Rattle.someip_node_rules.specs.Items.{changed, PeerRebooted}
-use Rattle.someip_node_rules.specs.Learning.{hearing, reboot_endings}
-use Rattle.someip_node_rules.specs.Outcomes.{endings}
-use Rattle.someip_node_rules.specs.Plans.{does, plain, work}
-use Rattle.someip_node_rules.specs.Tables.{Tables}
-use Rattle.someip_node_rules.proofs.WrittenLemmas.{told_written}
+use Rattle.someip_node_rules.specs.histories.Items.{changed, PeerRebooted}
+use Rattle.someip_node_rules.specs.rules.Learning.{hearing, reboot_endings}
+use Rattle.someip_node_rules.specs.rules.Outcomes.{endings}
+use Rattle.someip_node_rules.specs.rules.Plans.{does, plain, work}
+use Rattle.someip_node_rules.specs.histories.Tables.{Tables}
+use Rattle.someip_node_rules.proofs.trails.WrittenLemmas.{told_written}
 
 -- a message of a peer came that goes on
 pub peer_heard : (peer : Ipv4Addr) (channel : Channel) (stamp : Stamp) (t : Tables) (held : Held) (outputs : List Output) (replies : List EntryValue)

@@ -14,12 +14,12 @@ use Rattle.sd_instances.specs.Keys.{instance_cmp}
 use Rattle.sd_core.specs.SeekTables.{SeekTable, counted_as, is_stopped, known_at, learned, uncounted}
 use Rattle.sd_core.specs.WishTables.{begun_where, ended_where, offered, subscribes}
 use Rattle.someip_node_rules.specs.declared.output.Output.{Output}
-use Rattle.someip_node_rules.specs.Learning.{known_told, offer, offer_endings, stop_offer, subscribe_to}
-use Rattle.someip_node_rules.specs.Outcomes.{unsubscribed}
-use Rattle.someip_node_rules.specs.Outputs.{written, Tells}
-use Rattle.someip_node_rules.specs.Plans.{does, plain, work}
-use Rattle.someip_node_rules.specs.Tables.{Tables}
-use Rattle.someip_node_rules.proofs.WrittenLemmas.{told_written}
+use Rattle.someip_node_rules.specs.rules.Learning.{known_told, offer, offer_endings, stop_offer, subscribe_to}
+use Rattle.someip_node_rules.specs.rules.Outcomes.{unsubscribed}
+use Rattle.someip_node_rules.specs.forms.Outputs.{written, Tells}
+use Rattle.someip_node_rules.specs.rules.Plans.{does, plain, work}
+use Rattle.someip_node_rules.specs.histories.Tables.{Tables}
+use Rattle.someip_node_rules.proofs.trails.WrittenLemmas.{told_written}
 
 -- what is told is given as it is
 pub told_as_it_is : (outputs : List Output) → flat_map written (map Tells outputs) ≡ outputs

@@ -15,11 +15,11 @@ use Rattle.someip_rpc.specs.Servers.{Server, after_arrival}
 use Rattle.someip_node_rules.specs.declared.config.OfferedService.{OfferedService}
 use Rattle.someip_node_rules.specs.declared.output.Output.{Output}
 use Rattle.someip_node_engine.specs.Arrivals.{given_of}
-use Rattle.someip_node_rules.specs.Messages.{by_type, oneway_by, request_by}
-use Rattle.someip_node_rules.specs.Outputs.{written}
-use Rattle.someip_node_rules.specs.Plans.{Work, act, does, plain, run, work, TakesRequest}
-use Rattle.someip_node_rules.specs.Setups.{offered_as}
-use Rattle.someip_node_rules.specs.Tables.{Tables, is_up}
+use Rattle.someip_node_rules.specs.rules.Messages.{by_type, oneway_by, request_by}
+use Rattle.someip_node_rules.specs.forms.Outputs.{written}
+use Rattle.someip_node_rules.specs.rules.Plans.{Work, act, does, plain, run, work, TakesRequest}
+use Rattle.someip_node_rules.specs.forms.Setups.{offered_as}
+use Rattle.someip_node_rules.specs.histories.Tables.{Tables, is_up}
 
 -- what is kept and given of what became of a message
 abbrev after : Tables → List Output → List EntryValue → InstanceId → OfferedService → SocketAddrV4 → Header → List ℕ → Arrived → Work Tables

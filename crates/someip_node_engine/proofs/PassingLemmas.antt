@@ -2,12 +2,12 @@
 use Rattle.std.proofs.Common.{◌≡◌, ℕ, ◌+◌, List, [], ◌∷◌, ◌++◌, map, refl, sym, ap, ◌∙◌}
 use Rattle.std.proofs.Common.{Bool, IsTrue, IsFalse}
 use Rattle.sd_wire.specs.Fronts.{front_lengths}
-use Rattle.someip_node_rules.specs.Entries.{fronts}
+use Rattle.someip_node_rules.specs.forms.Entries.{fronts}
 use Rattle.std.proofs.lemmas.List.{append-nil}
 use Rattle.sd_instances.specs.declared.keys.InstanceId.{InstanceId}
 use Rattle.someip_node_rules.specs.declared.config.Config.{Config}
-use Rattle.someip_node_rules.specs.Outcomes.{endings}
-use Rattle.someip_node_rules.specs.Setups.{wanted_instances}
+use Rattle.someip_node_rules.specs.rules.Outcomes.{endings}
+use Rattle.someip_node_rules.specs.forms.Setups.{wanted_instances}
 use Rattle.someip_node_engine.proofs.WorkLemmas.{done}
 use Rattle.std.specs.List.{flat_map}
 use Rattle.std.proofs.Common.{OnErr, OnOk, Result, Ok, Err}
@@ -21,21 +21,21 @@ use Rattle.sd_core.specs.Endings.{ends_at}
 use Rattle.sd_core.specs.OfferTables.{after_tick}
 use Rattle.sd_core.specs.SeekTables.{seek_after_tick}
 use Rattle.sd_core.specs.WishTables.{ended_where}
-use Rattle.someip_node_rules.specs.Setups.{limits_of}
-use Rattle.someip_node_rules.specs.Tables.{passed_instances}
+use Rattle.someip_node_rules.specs.forms.Setups.{limits_of}
+use Rattle.someip_node_rules.specs.histories.Tables.{passed_instances}
 use Rattle.someip_node_engine.proofs.TableLemmas.{same_tables}
-use Rattle.someip_node_rules.specs.Inputs.{tick_plan}
-use Rattle.someip_node_rules.specs.Plans.{plain, run}
-use Rattle.someip_node_rules.specs.Receivers.{messages_plan_to}
+use Rattle.someip_node_rules.specs.rules.Inputs.{tick_plan}
+use Rattle.someip_node_rules.specs.rules.Plans.{plain, run}
+use Rattle.someip_node_rules.specs.forms.Receivers.{messages_plan_to}
 use Rattle.someip_node_engine.specs.Working.{told_all, working}
 use Rattle.someip_node_rules.specs.declared.output.Output.{Output}
 use Rattle.someip_node_engine.specs.declared.passed.Passed.{Passed}
-use Rattle.someip_node_rules.specs.Calls.{due_entries, lapsed, ticks, timed_out}
-use Rattle.someip_node_rules.specs.Items.{changed, Ticked}
-use Rattle.someip_node_rules.specs.Outputs.{written}
+use Rattle.someip_node_rules.specs.rules.Ticking.{due_entries, lapsed, ticks, timed_out}
+use Rattle.someip_node_rules.specs.histories.Items.{changed, Ticked}
+use Rattle.someip_node_rules.specs.forms.Outputs.{written}
 use Rattle.someip_node_engine.specs.Passings.{BringsNothing, HasPassed, IsNothing, entries_of, told_of}
-use Rattle.someip_node_rules.specs.Tables.{Tables}
-use Rattle.someip_node_rules.proofs.WrittenLemmas.{told_written}
+use Rattle.someip_node_rules.specs.histories.Tables.{Tables}
+use Rattle.someip_node_rules.proofs.trails.WrittenLemmas.{told_written}
 
 -- what is told
 pub told_is : (t new : Tables) (ms now : ℕ) (passed : Passed) (before after : List Output) → now ≡ t.clock + ms → new ≡ changed t (Ticked ms) → HasPassed now t passed

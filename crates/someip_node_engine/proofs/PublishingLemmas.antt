@@ -13,15 +13,16 @@ use Rattle.someip_node_rules.specs.declared.error.NodeError.TheVariants.{Rpc}
 use Rattle.someip_node_engine.specs.declared.giving.Giving.{Giving}
 use Rattle.sd_wire.specs.Values.{view_entry}
 use Rattle.someip_rpc.specs.Events.{published}
-use Rattle.someip_node_rules.specs.Plans.{work}
-use Rattle.someip_node_rules.specs.Calls.{as_node_error, eventgroups_of, subscriber_at}
+use Rattle.someip_node_rules.specs.rules.Plans.{work}
+use Rattle.someip_node_rules.specs.rules.Errors.{as_node_error}
+use Rattle.someip_node_rules.specs.rules.Publishing.{eventgroups_of, subscriber_at}
 use Rattle.someip_node_engine.specs.Handled.{Handled}
-use Rattle.someip_node_rules.specs.Inputs.{Publish, PublishTo}
-use Rattle.someip_node_rules.specs.Outputs.{datagrams_of}
+use Rattle.someip_node_rules.specs.rules.Inputs.{Publish, PublishTo}
+use Rattle.someip_node_rules.specs.forms.Outputs.{datagrams_of}
 use Rattle.someip_node_engine.specs.Publishings.{Publishes, PublishesTo, message_of_event}
-use Rattle.someip_node_rules.specs.Setups.{offered_as}
-use Rattle.someip_node_rules.specs.Tables.{Tables, is_up, live_subscribers}
-use Rattle.someip_node_rules.proofs.WrittenLemmas.{sent_to_all}
+use Rattle.someip_node_rules.specs.forms.Setups.{offered_as}
+use Rattle.someip_node_rules.specs.histories.Tables.{Tables, is_up, live_subscribers}
+use Rattle.someip_node_rules.proofs.trails.WrittenLemmas.{sent_to_all}
 
 some_mapped : (v : Option RpcError) → IsSome (option_map Rpc v) → IsSome v
 some_mapped None is = cc

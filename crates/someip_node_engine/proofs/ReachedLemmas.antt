@@ -8,8 +8,8 @@ use Rattle.someip_wire.specs.Spelling.{MessageValue}
 use Rattle.someip_node_rules.specs.declared.drops.DropReason.TheVariants.{NoPort}
 use Rattle.someip_node_rules.specs.declared.target.Target.{Target}
 use Rattle.someip_node_rules.specs.declared.target.Target.TheVariants as target
-use Rattle.someip_node_rules.specs.Handling.{item_plan, message_at_plan, target_plan}
-use Rattle.someip_node_rules.specs.Plans.{Plan, act, both, each, Drops}
+use Rattle.someip_node_rules.specs.rules.Handling.{item_plan, message_at_plan, target_plan}
+use Rattle.someip_node_rules.specs.rules.Plans.{Plan, act, both, each, Drops}
 use Rattle.someip_node_engine.specs.declared.arrival.Addressee.TheVariants.{Client, Instance}
 use Rattle.someip_node_engine.specs.declared.arrival.Reached.{Reached}
 use Rattle.someip_node_engine.specs.declared.arrival.Reached.TheVariants.{Application, Discovery}

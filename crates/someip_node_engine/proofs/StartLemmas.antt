@@ -7,7 +7,7 @@ use Rattle.sd_instances.specs.declared.keys.InstanceId.{InstanceId}
 use Rattle.sd_core.specs.declared.version.Version.{Version}
 use Rattle.someip_node_rules.specs.declared.config.OfferedService.{OfferedService}
 use Rattle.someip_node_rules.specs.declared.config.WantedService.{WantedService}
-use Rattle.someip_node_rules.specs.OfferQuestions.{version_of}
+use Rattle.someip_node_rules.specs.histories.OfferQuestions.{version_of}
 
 -- an instance that is offered, with its version, and one that is wanted, with its major version
 abbrev pub offer_entry : InstanceId × OfferedService → InstanceId × Version

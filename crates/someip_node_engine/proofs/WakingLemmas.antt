@@ -16,7 +16,7 @@ use Rattle.sd_core.specs.SeekTables.{IsQuiet}
 use Rattle.sd_instances.specs.Sendings.{due_at}
 use Rattle.sd_wishes.specs.Wishes.{is_over}
 use Rattle.sd_core.specs.WishTables.{begun_where}
-use Rattle.someip_node_rules.specs.Tables.{Tables, passed_instances}
+use Rattle.someip_node_rules.specs.histories.Tables.{Tables, passed_instances}
 use Rattle.someip_node_engine.specs.Passings.{BringsNothing}
 
 no_head : {A : Type 0} (xs : List A) → ((y : A) (ys : List A) → xs ≡ y ∷ ys → ⊥) → xs ≡ []

@@ -4,11 +4,11 @@ use Rattle.std.specs.List.{flat_map, fold}
 use Rattle.std.proofs.lemmas.List.{append-nil}
 use Rattle.sd_wire.specs.Values.{EntryValue}
 use Rattle.someip_node_rules.specs.declared.output.Output.{Output}
-use Rattle.someip_node_rules.specs.Items.{changed}
-use Rattle.someip_node_rules.specs.Outcomes.{Outcome}
-use Rattle.someip_node_rules.specs.Outputs.{written}
-use Rattle.someip_node_rules.specs.Plans.{does, plain, work}
-use Rattle.someip_node_rules.specs.Tables.{Tables}
+use Rattle.someip_node_rules.specs.histories.Items.{changed}
+use Rattle.someip_node_rules.specs.rules.Outcomes.{Outcome}
+use Rattle.someip_node_rules.specs.forms.Outputs.{written}
+use Rattle.someip_node_rules.specs.rules.Plans.{does, plain, work}
+use Rattle.someip_node_rules.specs.histories.Tables.{Tables}
 
 pub done : (outcome : Tables → Outcome) (t new : Tables) (before after : List Output) (replies : List EntryValue)
     → new ≡ fold changed t (outcome t).items → after ≡ before ++ flat_map written (outcome t).given → (outcome t).replies ≡ []

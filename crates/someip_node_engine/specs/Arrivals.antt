@@ -28,10 +28,10 @@ use Rattle.someip_node_engine.specs.declared.received_payload.ReceivedPayload.Th
 use Rattle.someip_node_engine.specs.declared.segments.OfferedSegment.{OfferedSegment}
 use Rattle.someip_node_rules.specs.declared.target.Target.{Target}
 use Rattle.someip_node_rules.specs.declared.target.Target.TheVariants as target
-use Rattle.someip_node_rules.specs.Handling.{discovery_plan, message_plan}
-use Rattle.someip_node_rules.specs.Messages.{handed_up}
-use Rattle.someip_node_rules.specs.Outputs.{Given, Sends, Tells}
-use Rattle.someip_node_rules.specs.Plans.{Plan, act, Drops}
+use Rattle.someip_node_rules.specs.rules.Handling.{discovery_plan, message_plan}
+use Rattle.someip_node_rules.specs.rules.Messages.{handed_up}
+use Rattle.someip_node_rules.specs.forms.Outputs.{Given, Sends, Tells}
+use Rattle.someip_node_rules.specs.rules.Plans.{Plan, act, Drops}
 
 -- ---- what is reached
 

@@ -3,9 +3,9 @@ use Rattle.std.specs.Prelude.{◌≡◌, Option, None, Some, Result, Ok, Err, Is
 use Rattle.someip_node_rules.specs.declared.error.NodeError.{NodeError}
 use Rattle.someip_node_rules.specs.declared.error.NodeError.TheVariants.{OutOfMemory}
 use Rattle.someip_node_engine.specs.declared.giving.Giving.{Giving}
-use Rattle.someip_node_rules.specs.Inputs.{Input, plan_of, refusal_of}
-use Rattle.someip_node_rules.specs.Plans.{plain, run}
-use Rattle.someip_node_rules.specs.Tables.{Tables}
+use Rattle.someip_node_rules.specs.rules.Inputs.{Input, plan_of, refusal_of}
+use Rattle.someip_node_rules.specs.rules.Plans.{plain, run}
+use Rattle.someip_node_rules.specs.histories.Tables.{Tables}
 use Rattle.someip_node_engine.specs.Working.{working}
 
 -- the error of an input: why it is refused, and else only memory that ran out

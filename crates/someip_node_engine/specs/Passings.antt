@@ -11,11 +11,11 @@ use Rattle.someip_node_rules.specs.declared.config.Config.{Config}
 use Rattle.someip_node_rules.specs.declared.output.Output.{Output}
 use Rattle.someip_node_rules.specs.declared.output.Output.TheVariants.{TimedOut}
 use Rattle.someip_node_engine.specs.declared.passed.Passed.{Passed}
-use Rattle.someip_node_rules.specs.Calls.{find_of}
-use Rattle.someip_node_rules.specs.Outcomes.{endings}
-use Rattle.someip_node_rules.specs.Setups.{wanted_instances}
-use Rattle.someip_node_rules.specs.Subscribing.{offer_of}
-use Rattle.someip_node_rules.specs.Tables.{Tables, passed_instances}
+use Rattle.someip_node_rules.specs.rules.Ticking.{find_of}
+use Rattle.someip_node_rules.specs.rules.Outcomes.{endings}
+use Rattle.someip_node_rules.specs.forms.Setups.{wanted_instances}
+use Rattle.someip_node_rules.specs.rules.Offering.{offer_of}
+use Rattle.someip_node_rules.specs.histories.Tables.{Tables, passed_instances}
 
 -- the moment brings this
 pub record HasPassed (now : ℕ) (t : Tables) (passed : Passed) : Type 0 where

@@ -9,9 +9,9 @@ use Rattle.someip_rpc.specs.Events.{event_header, next_session_of, publish_refus
 use Rattle.someip_rpc.specs.Servers.{Server}
 use Rattle.someip_node_rules.specs.declared.error.NodeError.{NodeError}
 use Rattle.someip_node_rules.specs.declared.output.Output.{Output}
-use Rattle.someip_node_rules.specs.Calls.{as_node_error}
+use Rattle.someip_node_rules.specs.rules.Errors.{as_node_error}
 use Rattle.someip_node_engine.specs.Handled.{or_no_memory}
-use Rattle.someip_node_rules.specs.Outputs.{datagrams_of}
+use Rattle.someip_node_rules.specs.forms.Outputs.{datagrams_of}
 
 -- the message of an event, with the next session of the event
 abbrev pub message_of_event : ServiceRules → ℕ → List ℕ → Server → MessageValue

@@ -3,8 +3,8 @@ use Rattle.std.specs.Prelude.{List, [], ◌∷◌, ◌++◌, map}
 use Rattle.sd_wire.specs.Values.{view_entry}
 use Rattle.someip_node_engine.specs.declared.giving.Giving.{Giving}
 use Rattle.someip_node_rules.specs.declared.output.Output.{Output}
-use Rattle.someip_node_rules.specs.Plans.{Work, work}
-use Rattle.someip_node_rules.specs.Tables.{Tables}
+use Rattle.someip_node_rules.specs.rules.Plans.{Work, work}
+use Rattle.someip_node_rules.specs.histories.Tables.{Tables}
 
 abbrev pub working : Tables → Giving → Work Tables
 working tables giving = work tables giving.outputs.items (map view_entry giving.replies.items)

@@ -1,16 +1,16 @@
 //! The calls of the application, and their messages.
 ghost use Rattle.std.specs.Prelude.{◌≡◌, ◌≤◌, ◌++◌, ◌∷◌, length, IfOk, IfErr, OnOk, OnErr, None, Some};
-ghost use Rattle.someip_node_rules.specs.Calls.{call_of, call_refusal_of, session_of, wanted_major};
-ghost use Rattle.someip_node_rules.specs.Outputs.{datagrams_of};
+ghost use Rattle.someip_node_rules.specs.rules.Calling.{call_of, call_refusal_of, session_of, wanted_major};
+ghost use Rattle.someip_node_rules.specs.forms.Outputs.{datagrams_of};
 ghost use Rattle.someip_node_rules.specs.declared.output.Output.TheVariants as output;
 ghost use Rattle.someip_wire.specs.View.{view};
 ghost use Rattle.someip_node_engine.specs.Handled.{Handled, or_no_memory};
-ghost use Rattle.someip_node_rules.specs.Inputs as input;
-ghost use Rattle.someip_node_rules.specs.Items.{changed, Called};
-ghost use Rattle.someip_node_rules.specs.Setups.{client_endpoint};
-ghost use Rattle.someip_node_rules.specs.Tables.{known_endpoint};
+ghost use Rattle.someip_node_rules.specs.rules.Inputs as input;
+ghost use Rattle.someip_node_rules.specs.histories.Items.{changed, Called};
+ghost use Rattle.someip_node_rules.specs.forms.Setups.{client_endpoint};
+ghost use Rattle.someip_node_rules.specs.histories.Tables.{known_endpoint};
 ghost use Rattle.someip_rpc.specs.Calls.{call_header};
-ghost use Rattle.someip_node_rules.specs.GoodConfigs.{greatest_message_limit};
+ghost use Rattle.someip_node_rules.specs.forms.GoodConfigs.{greatest_message_limit};
 
 use crate::engine::Engine;
 use crate::giving::Giving;

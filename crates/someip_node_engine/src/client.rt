@@ -4,9 +4,9 @@ ghost use Rattle.std.specs.Option.{option_map_or};
 ghost use Rattle.std.specs.Ordering.{eq_by_cmp};
 ghost use Rattle.someip_tables.specs.Endpoints.{endpoint_cmp};
 ghost use Rattle.someip_node_engine.specs.Arrivals.{payload_bytes, given_of_answer, given_of_event};
-ghost use Rattle.someip_node_rules.specs.Messages.{is_subscribed_by, publisher, is_event_of, takes_event};
-ghost use Rattle.someip_node_rules.specs.Plans.{act, plain, run, TakesAnswer, TakesEvent};
-ghost use Rattle.someip_node_rules.specs.Tables.{known_endpoint};
+ghost use Rattle.someip_node_rules.specs.rules.Messages.{is_subscribed_by, publisher, is_event_of, takes_event};
+ghost use Rattle.someip_node_rules.specs.rules.Plans.{act, plain, run, TakesAnswer, TakesEvent};
+ghost use Rattle.someip_node_rules.specs.histories.Tables.{known_endpoint};
 ghost use Rattle.someip_node_engine.specs.Working.{working};
 
 use crate::engine::Engine;

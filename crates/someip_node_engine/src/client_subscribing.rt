@@ -2,17 +2,17 @@
 ghost use Rattle.std.specs.Prelude.{◌≡◌, map, IfOk, OnOk, ◌≤◌, length};
 ghost use Rattle.sd_wire.specs.Values.{view_entry};
 ghost use Rattle.someip_node_rules.specs.declared.output.Output.TheVariants.{Unsubscribed};
-ghost use Rattle.someip_node_rules.specs.Items.{changed, Unwished, Wished};
-ghost use Rattle.someip_node_rules.specs.Plans.{plain, run};
-ghost use Rattle.someip_node_rules.specs.Setups.{is_wanted_eventgroup};
-ghost use Rattle.someip_node_rules.specs.Tables.{known_peer};
+ghost use Rattle.someip_node_rules.specs.histories.Items.{changed, Unwished, Wished};
+ghost use Rattle.someip_node_rules.specs.rules.Plans.{plain, run};
+ghost use Rattle.someip_node_rules.specs.forms.Setups.{is_wanted_eventgroup};
+ghost use Rattle.someip_node_rules.specs.histories.Tables.{known_peer};
 ghost use Rattle.someip_node_engine.specs.Working.{working, told_after};
 ghost use Rattle.sd_wishes.specs.Wishes.{sent_at_once, wish_of};
 ghost use Rattle.std.specs.FinMap as finite;
-ghost use Rattle.someip_node_rules.specs.Calls.{standing_of, stop_subscribe_of, wish_entries_by};
+ghost use Rattle.someip_node_rules.specs.rules.ClientSubscribing.{standing_of, stop_subscribe_of, wish_entries_by};
 ghost use Rattle.someip_node_engine.specs.Handled.{Handled};
-ghost use Rattle.someip_node_rules.specs.Inputs as input;
-ghost use Rattle.someip_node_rules.specs.Receivers.{message_plan_to};
+ghost use Rattle.someip_node_rules.specs.rules.Inputs as input;
+ghost use Rattle.someip_node_rules.specs.forms.Receivers.{message_plan_to};
 ghost use Rattle.someip_node_rules.specs.declared.receiver.Receiver.TheVariants.{Peer};
 
 use crate::engine::Engine;

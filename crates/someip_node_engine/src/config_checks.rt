@@ -5,8 +5,8 @@ ghost use Rattle.std.specs.List.{list_all, list_any};
 ghost use Rattle.std.specs.BTreeSet.{contains};
 ghost use Rattle.std.specs.Ordering.{nat_cmp};
 ghost use Rattle.someip_node_engine.specs.Ports.{at_port, is_alone};
-ghost use Rattle.someip_node_rules.specs.GoodConfigs as good;
-ghost use Rattle.someip_node_rules.specs.GoodConfigs.{greatest_message_limit};
+ghost use Rattle.someip_node_rules.specs.forms.GoodConfigs as good;
+ghost use Rattle.someip_node_rules.specs.forms.GoodConfigs.{greatest_message_limit};
 
 use sd_core::InstanceId;
 use sd_wire::Ttl;

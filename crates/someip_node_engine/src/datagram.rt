@@ -2,12 +2,12 @@
 ghost use Rattle.std.specs.Prelude.{◌≡◌, OnOk};
 ghost use Rattle.someip_wire.specs.View.{view, view_item};
 ghost use Rattle.someip_node_engine.specs.Arrivals.{payload_bytes, reached_item_plan, target_at};
-ghost use Rattle.someip_node_rules.specs.Handling.{datagram_plan, instance_target, message_plan};
-ghost use Rattle.someip_node_rules.specs.Handling.{own_target, target_of, whole_plan};
+ghost use Rattle.someip_node_rules.specs.rules.Handling.{datagram_plan, instance_target, message_plan};
+ghost use Rattle.someip_node_rules.specs.rules.Handling.{own_target, target_of, whole_plan};
 ghost use Rattle.someip_node_engine.specs.Handled.{Handled};
-ghost use Rattle.someip_node_rules.specs.Inputs as input;
-ghost use Rattle.someip_node_rules.specs.Plans.{plain, run};
-ghost use Rattle.someip_node_rules.specs.Setups.{instance_at};
+ghost use Rattle.someip_node_rules.specs.rules.Inputs as input;
+ghost use Rattle.someip_node_rules.specs.rules.Plans.{plain, run};
+ghost use Rattle.someip_node_rules.specs.forms.Setups.{instance_at};
 ghost use Rattle.someip_node_engine.specs.Working.{working};
 
 use crate::arrival::{Addressee, Arrival, Reached, reached_from};

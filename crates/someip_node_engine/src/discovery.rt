@@ -4,11 +4,11 @@ ghost use Rattle.std.specs.Result.{result_map_both};
 ghost use Rattle.someip_wire.specs.View.{view};
 ghost use Rattle.sd_wire.specs.Program.{reading};
 ghost use Rattle.sd_wire.specs.Values.{view_read, view_sd};
-ghost use Rattle.someip_node_rules.specs.Handling.{discovery_plan, entries_plan, heard_plan};
-ghost use Rattle.someip_node_rules.specs.Handling.{is_discovery, reading_plan};
-ghost use Rattle.someip_node_rules.specs.Receivers.{messages_plan_to};
+ghost use Rattle.someip_node_rules.specs.rules.Handling.{discovery_plan, entries_plan, heard_plan};
+ghost use Rattle.someip_node_rules.specs.rules.Handling.{is_discovery, reading_plan};
+ghost use Rattle.someip_node_rules.specs.forms.Receivers.{messages_plan_to};
 ghost use Rattle.someip_node_rules.specs.declared.receiver.Receiver.TheVariants.{Peer};
-ghost use Rattle.someip_node_rules.specs.Plans.{plain, replying, run};
+ghost use Rattle.someip_node_rules.specs.rules.Plans.{plain, replying, run};
 ghost use Rattle.someip_node_engine.specs.Working.{working};
 
 use crate::engine::Engine;

@@ -6,8 +6,8 @@ ghost use Rattle.std.specs.Ordering.{is_lt};
 ghost use Rattle.sd_instances.specs.Eventgroups.{eventgroup_cmp};
 ghost use Rattle.sd_instances.specs.Keys.{instance_cmp};
 ghost use Rattle.someip_node_rules.specs.declared.output.Output.TheVariants.{Gone, Unsubscribed};
-ghost use Rattle.someip_node_rules.specs.Outcomes.{endings, unsubscribed};
-ghost use Rattle.someip_node_rules.specs.Setups.{wanted_as, wanted_instances};
+ghost use Rattle.someip_node_rules.specs.rules.Outcomes.{endings, unsubscribed};
+ghost use Rattle.someip_node_rules.specs.forms.Setups.{wanted_as, wanted_instances};
 
 use sd_core::{Eventgroup, InstanceId};
 use someip_node_rules::{Config, Output};

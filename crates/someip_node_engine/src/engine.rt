@@ -1,6 +1,6 @@
 //! The tables of a node.
 ghost use Rattle.std.specs.Prelude.{◌≡◌, IfOk};
-ghost use Rattle.someip_node_rules.specs.Limits.{HoldsWithinLimits};
+ghost use Rattle.someip_node_rules.specs.steps.Limits.{HoldsWithinLimits};
 
 use sd_core::{InstanceId, Offers, Seeker, Subscribers, Subscriptions};
 use sd_session::{Counter, PeerTable};
@@ -38,14 +38,14 @@ impl<R: Reassembly> Model for Engine<R> {
     ghost use Rattle.std.specs.Coded.{codes};
     ghost use Rattle.std.specs.Ordering.{nat_cmp};
     ghost use Rattle.someip_node_rules.specs.contracts.config.Config as config_row;
-    ghost use Rattle.someip_node_rules.specs.GoodConfigs.{greatest_message_limit};
+    ghost use Rattle.someip_node_rules.specs.forms.GoodConfigs.{greatest_message_limit};
     ghost use Rattle.someip_tables.specs.Endpoints.{address_cmp};
     ghost use Rattle.someip_tables.specs.Tables.{map_of};
     ghost use Rattle.someip_reassembly.specs.Parts.{NoneAfter, coded_parts};
-    ghost use Rattle.someip_node_rules.specs.OfferQuestions.{versions_of};
-    ghost use Rattle.someip_node_rules.specs.SeekQuestions.{majors_of};
-    ghost use Rattle.someip_node_rules.specs.Setups.{limits_of, ports_of};
-    ghost use Rattle.someip_node_rules.specs.Tables.{Tables, coded_held, coded_stamps_to};
+    ghost use Rattle.someip_node_rules.specs.histories.OfferQuestions.{versions_of};
+    ghost use Rattle.someip_node_rules.specs.histories.SeekQuestions.{majors_of};
+    ghost use Rattle.someip_node_rules.specs.forms.Setups.{limits_of, ports_of};
+    ghost use Rattle.someip_node_rules.specs.histories.Tables.{Tables, coded_held, coded_stamps_to};
     ghost use Rattle.sd_core.specs.OfferTables.{coded_offers};
     ghost use Rattle.sd_core.specs.SeekTables.{coded_seek};
     ghost use Rattle.sd_subscribers.specs.SubscriberTables.{coded_subscribers};

@@ -1,9 +1,9 @@
 //! Entries of Service Discovery that come.
 ghost use Rattle.std.specs.Prelude.{◌≡◌, map, OnOk};
 ghost use Rattle.sd_wire.specs.Values.{view_read};
-ghost use Rattle.someip_node_rules.specs.Handling.{bad_plan, entry_plan, eventgroup_plan, service_plan};
-ghost use Rattle.someip_node_rules.specs.Learning.{received_offer};
-ghost use Rattle.someip_node_rules.specs.Plans.{each, plain, run};
+ghost use Rattle.someip_node_rules.specs.rules.Handling.{bad_plan, entry_plan, eventgroup_plan, service_plan};
+ghost use Rattle.someip_node_rules.specs.rules.Learning.{received_offer};
+ghost use Rattle.someip_node_rules.specs.rules.Plans.{each, plain, run};
 ghost use Rattle.someip_node_engine.specs.Working.{working};
 
 use crate::engine::Engine;

@@ -4,9 +4,9 @@ ghost use Rattle.std.specs.FinMap as finite;
 ghost use Rattle.sd_session.specs.Peers.{Saw, may_hold};
 ghost use Rattle.someip_node_rules.specs.declared.drops.DropReason.TheVariants.{PeersFull};
 ghost use Rattle.someip_node_rules.specs.declared.output.Output.TheVariants.{Rebooted};
-ghost use Rattle.someip_node_rules.specs.Items.{changed, PeerRebooted};
-ghost use Rattle.someip_node_rules.specs.Learning.{reboot_endings};
-ghost use Rattle.someip_node_rules.specs.Plans.{act, plain, run, Drops, Hears};
+ghost use Rattle.someip_node_rules.specs.histories.Items.{changed, PeerRebooted};
+ghost use Rattle.someip_node_rules.specs.rules.Learning.{reboot_endings};
+ghost use Rattle.someip_node_rules.specs.rules.Plans.{act, plain, run, Drops, Hears};
 ghost use Rattle.someip_node_engine.specs.Working.{working};
 
 use crate::endings::tell_endings;

@@ -7,11 +7,11 @@ ghost use Rattle.std.specs.Ordering.{eq_by_cmp};
 ghost use Rattle.sd_instances.specs.Keys.{instance_cmp};
 ghost use Rattle.sd_core.specs.SeekTables.{counted_as, known_at, learned, uncounted};
 ghost use Rattle.sd_core.specs.WishTables.{ended_where, offered, subscribes};
-ghost use Rattle.someip_node_rules.specs.Learning.{ack_told, answer_in, eventgroup_in, known_told};
-ghost use Rattle.someip_node_rules.specs.Learning.{nack_told, offer_endings, subscribe_to, uncounted_by};
-ghost use Rattle.someip_node_rules.specs.Outputs.{written};
-ghost use Rattle.someip_node_rules.specs.Plans.{act, plain, run};
-ghost use Rattle.someip_node_rules.specs.Plans.{TakesAck, TakesNack, TakesOffer, TakesStopOffer};
+ghost use Rattle.someip_node_rules.specs.rules.Learning.{ack_told, answer_in, eventgroup_in, known_told};
+ghost use Rattle.someip_node_rules.specs.rules.Learning.{nack_told, offer_endings, subscribe_to, uncounted_by};
+ghost use Rattle.someip_node_rules.specs.forms.Outputs.{written};
+ghost use Rattle.someip_node_rules.specs.rules.Plans.{act, plain, run};
+ghost use Rattle.someip_node_rules.specs.rules.Plans.{TakesAck, TakesNack, TakesOffer, TakesStopOffer};
 ghost use Rattle.someip_node_engine.specs.Working.{working};
 
 use crate::endings::tell_unsubscribed;

@@ -3,8 +3,8 @@ ghost use Rattle.std.specs.Prelude.{◌≡◌, ◌≤◌, ◌<◌, ◌+◌, ◌^
 ghost use Rattle.someip_wire.specs.Spelling.{spelling};
 ghost use Rattle.someip_wire.specs.View.{view};
 ghost use Rattle.someip_segments.specs.Sent.{view_piece, piece_message};
-ghost use Rattle.someip_node_rules.specs.Outputs.{datagram_of, datagrams_of};
-ghost use Rattle.someip_node_rules.specs.GoodConfigs.{greatest_message_limit};
+ghost use Rattle.someip_node_rules.specs.forms.Outputs.{datagram_of, datagrams_of};
+ghost use Rattle.someip_node_rules.specs.forms.GoodConfigs.{greatest_message_limit};
 
 use someip_node_rules::{Output, Payload};
 use someip_tp::{Sent, SentPiece, append_piece};

@@ -2,13 +2,13 @@
 ghost use Rattle.std.specs.Prelude.{◌≡◌, ◌++◌, map, IfOk, OnOk, ◌≤◌, length};
 ghost use Rattle.std.specs.List.{flat_map};
 ghost use Rattle.sd_wire.specs.Values.{view_entry};
-ghost use Rattle.someip_node_rules.specs.Items.{changed, OfferStopped};
-ghost use Rattle.someip_node_rules.specs.Plans.{act, plain, run, TakesFind};
-ghost use Rattle.someip_node_rules.specs.Subscribing.{offer_of, sought_by};
+ghost use Rattle.someip_node_rules.specs.histories.Items.{changed, OfferStopped};
+ghost use Rattle.someip_node_rules.specs.rules.Plans.{act, plain, run, TakesFind};
+ghost use Rattle.someip_node_rules.specs.rules.Offering.{offer_of, sought_by};
 ghost use Rattle.someip_node_engine.specs.Working.{working};
-ghost use Rattle.someip_node_rules.specs.Calls.{stop_offer_of};
+ghost use Rattle.someip_node_rules.specs.rules.Offering.{stop_offer_of};
 ghost use Rattle.someip_node_engine.specs.Handled.{Handled};
-ghost use Rattle.someip_node_rules.specs.Inputs as input;
+ghost use Rattle.someip_node_rules.specs.rules.Inputs as input;
 
 use crate::engine::Engine;
 use crate::entry_making::offer_entry;

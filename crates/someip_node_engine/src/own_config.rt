@@ -1,6 +1,6 @@
 //! What is asked of a node's configuration.
 ghost use Rattle.std.specs.Prelude.{◌≡◌};
-ghost use Rattle.someip_node_rules.specs.Setups.{client_endpoint, client_rules, own_endpoint};
+ghost use Rattle.someip_node_rules.specs.forms.Setups.{client_endpoint, client_rules, own_endpoint};
 
 use someip_node_rules::Config;
 use someip_rpc::ClientRules;

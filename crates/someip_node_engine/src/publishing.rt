@@ -4,13 +4,13 @@ ghost use Rattle.std.specs.List.{flat_map};
 ghost use Rattle.someip_wire.specs.View.{view};
 ghost use Rattle.someip_tables.specs.Lastings.{unexpired};
 ghost use Rattle.sd_subscribers.specs.SubscriberTables.{endpoints_of};
-ghost use Rattle.someip_node_rules.specs.Calls.{eventgroups_of, subscriber_at};
+ghost use Rattle.someip_node_rules.specs.rules.Publishing.{eventgroups_of, subscriber_at};
 ghost use Rattle.someip_node_engine.specs.Handled.{Handled};
-ghost use Rattle.someip_node_rules.specs.Inputs as input;
-ghost use Rattle.someip_node_rules.specs.Outputs.{datagrams_of};
+ghost use Rattle.someip_node_rules.specs.rules.Inputs as input;
+ghost use Rattle.someip_node_rules.specs.forms.Outputs.{datagrams_of};
 ghost use Rattle.someip_node_engine.specs.Publishings.{Publishes, PublishesTo};
-ghost use Rattle.someip_node_rules.specs.Tables.{is_up};
-ghost use Rattle.someip_node_rules.specs.GoodConfigs.{greatest_message_limit};
+ghost use Rattle.someip_node_rules.specs.histories.Tables.{is_up};
+ghost use Rattle.someip_node_rules.specs.forms.GoodConfigs.{greatest_message_limit};
 
 use crate::engine::Engine;
 use crate::giving::Giving;

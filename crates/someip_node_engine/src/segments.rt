@@ -5,9 +5,9 @@ ghost use Rattle.someip_reassembly.specs.SegmentOffers.{judgement, message_at, p
 ghost use Rattle.someip_reassembly.specs.Parts.{NoneAfter};
 ghost use Rattle.someip_segments.specs.TpHeader.{segment_in};
 ghost use Rattle.someip_node_engine.specs.Arrivals.{parts_once_taken, refused_as, segment_offer, target_at};
-ghost use Rattle.someip_node_rules.specs.Handling.{completed_plan, segment_plan};
-ghost use Rattle.someip_node_rules.specs.Messages.{completed, completed_by};
-ghost use Rattle.someip_node_rules.specs.Plans.{act, plain, run, TakesSegment};
+ghost use Rattle.someip_node_rules.specs.rules.Handling.{completed_plan, segment_plan};
+ghost use Rattle.someip_node_rules.specs.rules.Messages.{completed, completed_by};
+ghost use Rattle.someip_node_rules.specs.rules.Plans.{act, plain, run, TakesSegment};
 ghost use Rattle.someip_node_engine.specs.Working.{working};
 
 use crate::arrival::Arrival;

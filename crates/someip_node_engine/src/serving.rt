@@ -4,9 +4,9 @@ ghost use Rattle.std.specs.List.{flat_map};
 ghost use Rattle.someip_rpc.specs.Requests.{BecomesOf, asked, request_fault};
 ghost use Rattle.someip_rpc.specs.Servers.{after_arrival};
 ghost use Rattle.someip_node_engine.specs.Arrivals.{payload_bytes, given_of};
-ghost use Rattle.someip_node_rules.specs.Messages.{handed_up};
-ghost use Rattle.someip_node_rules.specs.Outputs.{datagrams_of, written};
-ghost use Rattle.someip_node_rules.specs.Plans.{act, plain, run, TakesRequest};
+ghost use Rattle.someip_node_rules.specs.rules.Messages.{handed_up};
+ghost use Rattle.someip_node_rules.specs.forms.Outputs.{datagrams_of, written};
+ghost use Rattle.someip_node_rules.specs.rules.Plans.{act, plain, run, TakesRequest};
 ghost use Rattle.someip_node_engine.specs.Working.{working};
 
 use crate::engine::Engine;

@@ -7,11 +7,11 @@ ghost use Rattle.sd_instances.specs.Keys.{instance_cmp};
 ghost use Rattle.sd_core.specs.OfferTables.{started};
 ghost use Rattle.sd_core.specs.SeekTables.{searching};
 ghost use Rattle.someip_reassembly.specs.Parts.{NoneAfter};
-ghost use Rattle.someip_node_rules.specs.GoodConfigs.{greatest_message_limit, is_good, is_good_delay};
-ghost use Rattle.someip_node_rules.specs.OfferQuestions.{version_of, versions_of};
-ghost use Rattle.someip_node_rules.specs.SeekQuestions.{majors_of};
-ghost use Rattle.someip_node_rules.specs.Setups.{limits_of, ports_of};
-ghost use Rattle.someip_node_rules.specs.Starts.{started_tables};
+ghost use Rattle.someip_node_rules.specs.forms.GoodConfigs.{greatest_message_limit, is_good, is_good_delay};
+ghost use Rattle.someip_node_rules.specs.histories.OfferQuestions.{version_of, versions_of};
+ghost use Rattle.someip_node_rules.specs.histories.SeekQuestions.{majors_of};
+ghost use Rattle.someip_node_rules.specs.forms.Setups.{limits_of, ports_of};
+ghost use Rattle.someip_node_rules.specs.histories.Starts.{started_tables};
 ghost use Rattle.someip_node_rules.specs.declared.error.NodeError.TheVariants as fault;
 
 use crate::config_checks::{is_good, is_good_delay};

@@ -11,14 +11,14 @@ use Rattle.sd_wire.specs.Values.{EntryValue}
 use Rattle.sd_subscribers.specs.declared.error.Cause.{Cause}
 use Rattle.sd_subscribers.specs.SubscriberTables.{subscription_at}
 use Rattle.someip_node_rules.specs.declared.output.Output.TheVariants.{Nacked}
-use Rattle.someip_node_rules.specs.Entries.{ack_entry}
-use Rattle.someip_node_rules.specs.Items.{SubscriptionAccepted}
-use Rattle.someip_node_rules.specs.Learning.{eventgroup_in}
-use Rattle.someip_node_rules.specs.Outputs.{Tells}
-use Rattle.someip_node_rules.specs.Packets.{Packet, HasSubscribe}
-use Rattle.someip_node_rules.specs.Plans.{TakesSubscribe}
-use Rattle.someip_node_rules.specs.Subscribing.{subscribe_in}
-use Rattle.someip_node_rules.specs.Trails.{Done, outcome_of}
+use Rattle.someip_node_rules.specs.forms.Entries.{ack_entry}
+use Rattle.someip_node_rules.specs.histories.Items.{SubscriptionAccepted}
+use Rattle.someip_node_rules.specs.rules.Learning.{eventgroup_in}
+use Rattle.someip_node_rules.specs.forms.Outputs.{Tells}
+use Rattle.someip_node_rules.specs.trails.Packets.{Packet, HasSubscribe}
+use Rattle.someip_node_rules.specs.rules.Plans.{TakesSubscribe}
+use Rattle.someip_node_rules.specs.rules.ServerSubscribing.{subscribe_in}
+use Rattle.someip_node_rules.specs.trails.Trails.{Done, outcome_of}
 
 -- an entry is an Ack or a Nack
 abbrev pub IsAnswer : EntryValue → Type 0

@@ -8,8 +8,8 @@ use Rattle.someip_rpc.specs.declared.call.CallKind.TheVariants.{Request}
 use Rattle.someip_rpc.specs.declared.ids.MessageId.{MessageId}
 use Rattle.someip_node_rules.specs.declared.config.Config.{Config}
 use Rattle.someip_node_rules.specs.declared.config.WantedService.{WantedService}
-use Rattle.someip_node_rules.specs.History.{History, met, start_of}
-use Rattle.someip_node_rules.specs.Items.{Called, OfferCounted}
+use Rattle.someip_node_rules.specs.histories.History.{History, met, start_of}
+use Rattle.someip_node_rules.specs.histories.Items.{Called, OfferCounted}
 use Rattle.someip_node_laws.specs.WorkedExamples.{client, instance, server, server_address}
 
 -- a node is set up to want the instance, to offer none, and to wait two seconds for an answer

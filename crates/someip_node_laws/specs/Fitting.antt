@@ -17,12 +17,12 @@ use Rattle.someip_rpc.specs.Servers.{code_of_reply}
 use Rattle.someip_node_rules.specs.declared.config.Config.{Config}
 use Rattle.someip_node_rules.specs.declared.config.OfferedService.{OfferedService}
 use Rattle.someip_node_rules.specs.declared.config.WantedService.{WantedService}
-use Rattle.someip_node_rules.specs.Handling.{is_discovery}
-use Rattle.someip_node_rules.specs.History.{History}
-use Rattle.someip_node_rules.specs.Inputs.{Input, Datagram, Tick, Call, Answer, Publish, PublishTo, Subscribe, Unsubscribe, StopOffer}
-use Rattle.someip_node_rules.specs.Items.{Item, Called, Requested, Wished}
-use Rattle.someip_node_rules.specs.Outputs.{Given, Announces, Sends, Tells}
-use Rattle.someip_node_rules.specs.Packets.{Packet, HasEntry, HasMessage}
+use Rattle.someip_node_rules.specs.rules.Handling.{is_discovery}
+use Rattle.someip_node_rules.specs.histories.History.{History}
+use Rattle.someip_node_rules.specs.rules.Inputs.{Input, Datagram, Tick, Call, Answer, Publish, PublishTo, Subscribe, Unsubscribe, StopOffer}
+use Rattle.someip_node_rules.specs.histories.Items.{Item, Called, Requested, Wished}
+use Rattle.someip_node_rules.specs.forms.Outputs.{Given, Announces, Sends, Tells}
+use Rattle.someip_node_rules.specs.trails.Packets.{Packet, HasEntry, HasMessage}
 
 -- ---- what is given
 

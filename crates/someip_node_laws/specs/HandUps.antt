@@ -8,14 +8,14 @@ use Rattle.sd_instances.specs.declared.keys.InstanceId.{InstanceId}
 use Rattle.someip_rpc.specs.declared.ids.MessageId.{MessageId}
 use Rattle.someip_node_rules.specs.declared.target.Target.{Target}
 use Rattle.someip_node_rules.specs.declared.target.Target.TheVariants.{Client, Instance}
-use Rattle.someip_node_rules.specs.Handling.{target_of}
-use Rattle.someip_node_rules.specs.History.{History, answers_of}
-use Rattle.someip_node_rules.specs.Inputs.{Input, Datagram}
-use Rattle.someip_node_rules.specs.Meanings.{IsAnswer, IsEvent, IsRequest}
-use Rattle.someip_node_rules.specs.Packets.{Packet, Came}
-use Rattle.someip_node_rules.specs.Plans.{Rule, TakesAnswer, TakesEvent, TakesRequest}
-use Rattle.someip_node_rules.specs.Tables.{Tables}
-use Rattle.someip_node_rules.specs.Trails.{Done, trail_of}
+use Rattle.someip_node_rules.specs.rules.Handling.{target_of}
+use Rattle.someip_node_rules.specs.histories.History.{History, answers_of}
+use Rattle.someip_node_rules.specs.rules.Inputs.{Input, Datagram}
+use Rattle.someip_node_rules.specs.trails.Meanings.{IsAnswer, IsEvent, IsRequest}
+use Rattle.someip_node_rules.specs.trails.Packets.{Packet, Came}
+use Rattle.someip_node_rules.specs.rules.Plans.{Rule, TakesAnswer, TakesEvent, TakesRequest}
+use Rattle.someip_node_rules.specs.histories.Tables.{Tables}
+use Rattle.someip_node_rules.specs.trails.Trails.{Done, trail_of}
 
 -- A message with this payload came with an input: the input is a datagram, and a rule was done that takes the message where
 -- the datagram arrived. The message stands in it, or was completed by a segment of it that the rule before took, and it was

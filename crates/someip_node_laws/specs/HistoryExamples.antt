@@ -9,7 +9,7 @@ use Rattle.sd_core.specs.declared.received.ReceivedOffer.{ReceivedOffer}
 use Rattle.sd_wishes.specs.declared.wish.Stage.TheVariants.{Begun, Waiting}
 use Rattle.sd_wishes.specs.declared.wish.SubscribeAnswer.{SubscribeAnswer}
 use Rattle.sd_wishes.specs.declared.wish.Wish.{Wish}
-use Rattle.someip_node_rules.specs.Items.{Item, AckCame, OfferCounted, Ticked, Wished}
+use Rattle.someip_node_rules.specs.histories.Items.{Item, AckCame, OfferCounted, Ticked, Wished}
 
 -- a server, its instance, and an eventgroup of that
 abbrev pub offering_peer : Ipv4Addr

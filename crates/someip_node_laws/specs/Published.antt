@@ -10,16 +10,16 @@ use Rattle.sd_subscribers.specs.declared.subscription.Subscription.{Subscription
 use Rattle.someip_rpc.specs.Events.{event_header, event_of}
 use Rattle.someip_rpc.specs.Sessions.{session_after}
 use Rattle.someip_node_rules.specs.declared.config.OfferedService.{OfferedService}
-use Rattle.someip_node_rules.specs.CallQuestions.{times_published}
-use Rattle.someip_node_rules.specs.Calls.{eventgroups_of}
-use Rattle.someip_node_rules.specs.History.{History, met}
-use Rattle.someip_node_rules.specs.Inputs.{Publish, PublishTo}
-use Rattle.someip_node_rules.specs.Items.{Published}
-use Rattle.someip_node_rules.specs.Lives.{is_live}
-use Rattle.someip_node_rules.specs.Outputs.{Sends, datagrams_of}
-use Rattle.someip_node_rules.specs.Plans.{Work}
-use Rattle.someip_node_rules.specs.Setups.{offered_as}
-use Rattle.someip_node_rules.specs.Trails.{given_by, trail_of}
+use Rattle.someip_node_rules.specs.histories.CallQuestions.{times_published}
+use Rattle.someip_node_rules.specs.rules.Publishing.{eventgroups_of}
+use Rattle.someip_node_rules.specs.histories.History.{History, met}
+use Rattle.someip_node_rules.specs.rules.Inputs.{Publish, PublishTo}
+use Rattle.someip_node_rules.specs.histories.Items.{Published}
+use Rattle.someip_node_rules.specs.steps.Lives.{is_live}
+use Rattle.someip_node_rules.specs.forms.Outputs.{Sends, datagrams_of}
+use Rattle.someip_node_rules.specs.rules.Plans.{Work}
+use Rattle.someip_node_rules.specs.forms.Setups.{offered_as}
+use Rattle.someip_node_rules.specs.trails.Trails.{given_by, trail_of}
 
 -- a subscription of an endpoint to one of these eventgroups of an instance is live, whoever made it and with whatever counter
 pub record IsLiveAt (h : History) (instance : InstanceId) (eventgroups : List ℕ) (endpoint : SocketAddrV4) : Type 0 where

@@ -8,7 +8,7 @@ use Rattle.sd_wire.specs.declared.entry.EntryHead.TheVariants.{Eventgroup}
 use Rattle.sd_wire.specs.declared.entry.EventgroupEntry.{EventgroupEntry}
 use Rattle.sd_wire.specs.declared.entry.EventgroupKind.TheVariants.{Subscribe}
 use Rattle.sd_wire.specs.Values.{EntryValue, SdValue, bad_run}
-use Rattle.someip_node_rules.specs.Entries.{ack_entry}
+use Rattle.someip_node_rules.specs.forms.Entries.{ack_entry}
 use Rattle.sd_subscribers.specs.declared.error.Cause.{Cause}
 use Rattle.sd_instances.specs.declared.keys.InstanceId.{InstanceId}
 use Rattle.someip_node_rules.specs.declared.config.Config.{Config}
@@ -16,10 +16,10 @@ use Rattle.someip_node_rules.specs.declared.config.OfferedService.{OfferedServic
 use Rattle.someip_node_rules.specs.declared.error.NodeError.{NodeError}
 use Rattle.someip_node_rules.specs.declared.output.Output.{Output}
 use Rattle.someip_node_rules.specs.declared.output.Output.TheVariants.{Nacked, Sent}
-use Rattle.someip_node_rules.specs.History.{History, start_of}
-use Rattle.someip_node_rules.specs.Inputs.{Input, Datagram}
-use Rattle.someip_node_rules.specs.Steps.{step, given_in}
-use Rattle.someip_node_rules.specs.Setups.{discovery_port}
+use Rattle.someip_node_rules.specs.histories.History.{History, start_of}
+use Rattle.someip_node_rules.specs.rules.Inputs.{Input, Datagram}
+use Rattle.someip_node_rules.specs.steps.Steps.{step, given_in}
+use Rattle.someip_node_rules.specs.forms.Setups.{discovery_port}
 
 -- ---- what a step gives
 

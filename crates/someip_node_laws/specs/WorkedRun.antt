@@ -14,11 +14,11 @@ use Rattle.someip_node_rules.specs.declared.config.Config.{Config}
 use Rattle.someip_node_rules.specs.declared.output.Output.{Output}
 use Rattle.someip_node_rules.specs.declared.output.Output.TheVariants.{Sent}
 use Rattle.someip_node_laws.specs.CallExamples.{IsClient, instance_offer}
-use Rattle.someip_node_rules.specs.History.{History}
-use Rattle.someip_node_rules.specs.Inputs.{Input, Answer, Call as CallInput, Datagram, Publish, Subscribe, Tick}
-use Rattle.someip_node_rules.specs.Items.{Item, AckCame, AnswerTaken, Answered, Called, GroupAddressed, OfferCounted, PeerAddressed, PeerHeard, Published, Requested, SubscriptionAccepted, Ticked, Wished}
-use Rattle.someip_node_rules.specs.Packets.{Packet}
-use Rattle.someip_node_rules.specs.Steps.{step}
+use Rattle.someip_node_rules.specs.histories.History.{History}
+use Rattle.someip_node_rules.specs.rules.Inputs.{Input, Answer, Call as CallInput, Datagram, Publish, Subscribe, Tick}
+use Rattle.someip_node_rules.specs.histories.Items.{Item, AckCame, AnswerTaken, Answered, Called, GroupAddressed, OfferCounted, PeerAddressed, PeerHeard, Published, Requested, SubscriptionAccepted, Ticked, Wished}
+use Rattle.someip_node_rules.specs.trails.Packets.{Packet}
+use Rattle.someip_node_rules.specs.steps.Steps.{step}
 use Rattle.someip_node_laws.specs.WorkedExamples.{IsServer, client, discovery_at, instance, server, server_address}
 
 -- ---- the two nodes

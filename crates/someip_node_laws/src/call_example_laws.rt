@@ -3,15 +3,15 @@
 ghost use Rattle.std.specs.Prelude.{◌≡◌, [], ◌∷◌, Ok, Err};
 ghost use Rattle.someip_rpc.specs.declared.call.CallKind.TheVariants.{Request};
 ghost use Rattle.someip_rpc.specs.declared.error.RpcError.TheVariants.{NotOffered};
-ghost use Rattle.someip_node_rules.specs.Advances.{stepped};
+ghost use Rattle.someip_node_rules.specs.steps.Advances.{stepped};
 ghost use Rattle.someip_node_laws.specs.CallExamples.{IsClient, calling, knowing, message};
 ghost use Rattle.someip_node_rules.specs.declared.config.Config.{Config};
 ghost use Rattle.someip_node_rules.specs.declared.output.Output.TheVariants.{Answered, Called, Sent, TimedOut};
 ghost use Rattle.someip_node_rules.specs.declared.error.NodeError.TheVariants.{Rpc};
-ghost use Rattle.someip_node_rules.specs.History.{met, start_of};
-ghost use Rattle.someip_node_rules.specs.Inputs.{Call, Datagram, Tick};
-ghost use Rattle.someip_node_rules.specs.Items.{Ticked};
-ghost use Rattle.someip_node_rules.specs.Steps.{step};
+ghost use Rattle.someip_node_rules.specs.histories.History.{met, start_of};
+ghost use Rattle.someip_node_rules.specs.rules.Inputs.{Call, Datagram, Tick};
+ghost use Rattle.someip_node_rules.specs.histories.Items.{Ticked};
+ghost use Rattle.someip_node_rules.specs.steps.Steps.{step};
 ghost use Rattle.someip_node_laws.specs.WorkedExamples.{asking, client, gives, instance, refusing, server};
 
 /// A call of a method of an instance whose offer is known goes out as a REQUEST with the code 00, from the

@@ -9,15 +9,15 @@ ghost use Rattle.sd_wire.specs.Values.{EntryValue};
 ghost use Rattle.someip_rpc.specs.declared.call.Call.{Call};
 ghost use Rattle.someip_node_rules.specs.declared.config.Config.{Config};
 ghost use Rattle.someip_node_laws.specs.Fitting.{FitsConfig, FitsHistory, FitsInput, FitsItem, FitsOffer, FitsPacket, FitsWire};
-ghost use Rattle.someip_node_rules.specs.History.{History, start_of};
-ghost use Rattle.someip_node_rules.specs.Entries.{discovery_message};
-ghost use Rattle.someip_node_rules.specs.Inputs.{Input, Publish};
-ghost use Rattle.someip_node_rules.specs.Items.{Called};
-ghost use Rattle.someip_node_rules.specs.Meanings.{GivenBy};
-ghost use Rattle.someip_node_rules.specs.Outputs.{Announces, Given, Sends};
-ghost use Rattle.someip_node_rules.specs.Packets.{Packet};
-ghost use Rattle.someip_node_rules.specs.Plans.{Work};
-ghost use Rattle.someip_node_rules.specs.Steps.{step};
+ghost use Rattle.someip_node_rules.specs.histories.History.{History, start_of};
+ghost use Rattle.someip_node_rules.specs.forms.Entries.{discovery_message};
+ghost use Rattle.someip_node_rules.specs.rules.Inputs.{Input, Publish};
+ghost use Rattle.someip_node_rules.specs.histories.Items.{Called};
+ghost use Rattle.someip_node_rules.specs.trails.Meanings.{GivenBy};
+ghost use Rattle.someip_node_rules.specs.forms.Outputs.{Announces, Given, Sends};
+ghost use Rattle.someip_node_rules.specs.trails.Packets.{Packet};
+ghost use Rattle.someip_node_rules.specs.rules.Plans.{Work};
+ghost use Rattle.someip_node_rules.specs.steps.Steps.{step};
 ghost use Rattle.someip_node_laws.specs.WorkedExamples.{asking, instance, service};
 
 /// What a node gives for an input fits its fields, where the numbers of its configuration, of what it met

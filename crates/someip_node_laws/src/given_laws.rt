@@ -10,18 +10,18 @@ ghost use Rattle.sd_instances.specs.declared.keys.InstanceId.{InstanceId};
 ghost use Rattle.someip_rpc.specs.declared.ids.MessageId.{MessageId};
 ghost use Rattle.someip_node_rules.specs.declared.output.Output.TheVariants.{Answered, Event, Request};
 ghost use Rattle.someip_node_laws.specs.Answerings.{AnswersSubscribe, IsAnswer};
-ghost use Rattle.someip_node_rules.specs.Bringing.{WasBrought};
+ghost use Rattle.someip_node_rules.specs.trails.Bringing.{WasBrought};
 ghost use Rattle.someip_node_laws.specs.HandUps.{AnswerCame, EventCame, RequestCame};
-ghost use Rattle.someip_node_rules.specs.History.{History, historic};
-ghost use Rattle.someip_node_rules.specs.Inputs.{Datagram, Input, Publish, PublishTo};
-ghost use Rattle.someip_node_rules.specs.Meanings.{GivenBy};
-ghost use Rattle.someip_node_rules.specs.Meetings.{MetBy};
-ghost use Rattle.someip_node_rules.specs.Outputs.{written};
-ghost use Rattle.someip_node_rules.specs.Packets.{Packet};
+ghost use Rattle.someip_node_rules.specs.histories.History.{History, historic};
+ghost use Rattle.someip_node_rules.specs.rules.Inputs.{Datagram, Input, Publish, PublishTo};
+ghost use Rattle.someip_node_rules.specs.trails.Meanings.{GivenBy};
+ghost use Rattle.someip_node_rules.specs.trails.Meetings.{MetBy};
+ghost use Rattle.someip_node_rules.specs.forms.Outputs.{written};
+ghost use Rattle.someip_node_rules.specs.trails.Packets.{Packet};
 ghost use Rattle.someip_node_laws.specs.Published.{IsPublished, IsPublishedTo};
-ghost use Rattle.someip_node_rules.specs.Plans.{Plan, RepliesTo, Work, run};
-ghost use Rattle.someip_node_rules.specs.Steps.{step};
-ghost use Rattle.someip_node_rules.specs.Trails.{Done, after, given_by, met_by, trail, trail_of};
+ghost use Rattle.someip_node_rules.specs.rules.Plans.{Plan, RepliesTo, Work, run};
+ghost use Rattle.someip_node_rules.specs.steps.Steps.{step};
+ghost use Rattle.someip_node_rules.specs.trails.Trails.{Done, after, given_by, met_by, trail, trail_of};
 
 /// What a plan does is what its rules do, one after the other: the outputs are what they gave, written,
 /// and the history has met what each of them met. Each was done at what those before it left.

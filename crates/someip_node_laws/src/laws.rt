@@ -20,20 +20,20 @@ ghost use Rattle.someip_rpc.specs.Sessions.{next_of, session_after};
 ghost use Rattle.someip_tables.specs.declared.deadline.Deadline.TheVariants.{At};
 ghost use Rattle.someip_tables.specs.Lastings.{unless_passed};
 ghost use Rattle.someip_node_rules.specs.declared.config.Config.{Config};
-ghost use Rattle.someip_node_rules.specs.CallQuestions.{awaited_at, call_key, last_session_at, open_request_at, times_published};
-ghost use Rattle.someip_node_rules.specs.DiscoveryQuestions.{group_addressed, messages_to, stamps_at};
-ghost use Rattle.someip_node_rules.specs.History.{History, answers_of, historic, met, shown_work, start_of};
+ghost use Rattle.someip_node_rules.specs.histories.CallQuestions.{awaited_at, call_key, last_session_at, open_request_at, times_published};
+ghost use Rattle.someip_node_rules.specs.histories.DiscoveryQuestions.{group_addressed, messages_to, stamps_at};
+ghost use Rattle.someip_node_rules.specs.histories.History.{History, answers_of, historic, met, shown_work, start_of};
 ghost use Rattle.someip_node_laws.specs.HistoryExamples.{ack_of, acked_after, begun_with, offering_endpoint, wished_eventgroup, offer_for, other_peer, offering_peer, subscribing_with, waiting_with};
-ghost use Rattle.someip_node_rules.specs.Items.{Item, AckCame, AnswerTaken, Called, NackCame, OfferCounted, OfferStopped, OfferWithdrawn, PeerRebooted, SubscriptionAccepted, SubscriptionStopped, Ticked, changed};
-ghost use Rattle.someip_node_rules.specs.Lives.{has_its_offer, is_offer_known, is_live, is_waiting, was_stopped};
-ghost use Rattle.someip_node_rules.specs.Plans.{Plan, Work, plain, run};
-ghost use Rattle.someip_node_rules.specs.Questions.{clock_at};
-ghost use Rattle.someip_node_rules.specs.SeekQuestions.{known_offer_at};
-ghost use Rattle.someip_node_rules.specs.Setups.{offered_as};
-ghost use Rattle.someip_node_rules.specs.Starts.{started_tables};
-ghost use Rattle.someip_node_rules.specs.SubscriberQuestions.{subscribed_at};
-ghost use Rattle.someip_node_rules.specs.Tables.{is_up, stamp_for};
-ghost use Rattle.someip_node_rules.specs.WishQuestions.{course_at, is_wished_at, wish_at};
+ghost use Rattle.someip_node_rules.specs.histories.Items.{Item, AckCame, AnswerTaken, Called, NackCame, OfferCounted, OfferStopped, OfferWithdrawn, PeerRebooted, SubscriptionAccepted, SubscriptionStopped, Ticked, changed};
+ghost use Rattle.someip_node_rules.specs.steps.Lives.{has_its_offer, is_offer_known, is_live, is_waiting, was_stopped};
+ghost use Rattle.someip_node_rules.specs.rules.Plans.{Plan, Work, plain, run};
+ghost use Rattle.someip_node_rules.specs.histories.Questions.{clock_at};
+ghost use Rattle.someip_node_rules.specs.histories.SeekQuestions.{known_offer_at};
+ghost use Rattle.someip_node_rules.specs.forms.Setups.{offered_as};
+ghost use Rattle.someip_node_rules.specs.histories.Starts.{started_tables};
+ghost use Rattle.someip_node_rules.specs.histories.SubscriberQuestions.{subscribed_at};
+ghost use Rattle.someip_node_rules.specs.histories.Tables.{is_up, stamp_for};
+ghost use Rattle.someip_node_rules.specs.histories.WishQuestions.{course_at, is_wished_at, wish_at};
 
 /// The tables of a node are the answers to what it met: those of a start are the tables of a start,
 /// and an item changes the answers as it changes tables.

@@ -8,14 +8,14 @@ ghost use Rattle.sd_subscribers.specs.declared.subscription.Subscription.{Subscr
 ghost use Rattle.sd_subscribers.specs.SubscriberTables.{is_to};
 ghost use Rattle.sd_subscribers.specs.SubscriptionKeys.{subscription_cmp};
 ghost use Rattle.someip_node_rules.specs.declared.config.Config.{Config};
-ghost use Rattle.someip_node_rules.specs.Advances.{after_inputs};
-ghost use Rattle.someip_node_rules.specs.History.{start_of};
-ghost use Rattle.someip_node_rules.specs.Inputs.{Input};
-ghost use Rattle.someip_node_rules.specs.Items.{Ticked};
+ghost use Rattle.someip_node_rules.specs.steps.Advances.{after_inputs};
+ghost use Rattle.someip_node_rules.specs.histories.History.{start_of};
+ghost use Rattle.someip_node_rules.specs.rules.Inputs.{Input};
+ghost use Rattle.someip_node_rules.specs.histories.Items.{Ticked};
 ghost use Rattle.someip_node_laws.specs.LimitExamples.{accepted_with};
-ghost use Rattle.someip_node_rules.specs.Lives.{is_live};
-ghost use Rattle.someip_node_rules.specs.SubscriberLimits.{AreWithinLimits, most_subscribers};
-ghost use Rattle.someip_node_rules.specs.SubscriberQuestions.{subscribers_in};
+ghost use Rattle.someip_node_rules.specs.steps.Lives.{is_live};
+ghost use Rattle.someip_node_rules.specs.steps.SubscriberLimits.{AreWithinLimits, most_subscribers};
+ghost use Rattle.someip_node_rules.specs.histories.SubscriberQuestions.{subscribers_in};
 ghost use Rattle.someip_node_laws.specs.WorkedExamples.{instance};
 
 /// Whatever comes to a node after its start, step by step, no eventgroup ever has more live subscriptions

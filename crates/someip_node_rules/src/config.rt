@@ -1,5 +1,5 @@
 //! What a node is set up with.
-ghost use Rattle.someip_node_rules.specs.Copies.{IsCopy, IsCopyOfOffer, IsCopyOfWant};
+ghost use Rattle.someip_node_rules.specs.trails.Copies.{IsCopy, IsCopyOfOffer, IsCopyOfWant};
 
 use sd_core::{InstanceId, Phases};
 use sd_wire::Ttl;

@@ -1,6 +1,6 @@
 //! Why something that came is dropped.
 ghost use Rattle.std.specs.Prelude.{◌≡◌};
-ghost use Rattle.someip_node_rules.specs.Names.{drop_name};
+ghost use Rattle.someip_node_rules.specs.trails.Names.{drop_name};
 
 use sd_wire::SdError;
 use someip_rpc::{DropCause, RequestFault};

@@ -3,8 +3,8 @@ ghost use Rattle.std.specs.Prelude.{◌++◌, ◌∷◌, [], codes, decimal, Som
 ghost use Rattle.std.specs.Fmt.{WritesOnOk};
 ghost use Rattle.std.specs.Net.Text.{socket_v4_text};
 ghost use Rattle.hex.specs.Hex.{encode_lower};
-ghost use Rattle.someip_node_rules.specs.OutputWords.{bytes_word, code_word, id_word, ids_word};
-ghost use Rattle.someip_node_rules.specs.OutputWords.{instance_word, message_word, output_text, token_word, words_text};
+ghost use Rattle.someip_node_rules.specs.forms.OutputWords.{bytes_word, code_word, id_word, ids_word};
+ghost use Rattle.someip_node_rules.specs.forms.OutputWords.{instance_word, message_word, output_text, token_word, words_text};
 ghost use Rattle.sd_subscribers.specs.Names.{cause_name};
 
 use crate::output::Output;
@@ -303,7 +303,7 @@ fn write_hex<W: fmt::Write>(f: &mut fmt::Formatter<W>, bytes: &[u8]) -> fmt::Res
 }
 
 /// A byte in hex.
-#[tactic(auto, using(crate::proofs::HexTexts::two_digits))]
+#[tactic(auto, using(crate::proofs::texts::HexTexts::two_digits))]
 fn write_byte<W: fmt::Write>(f: &mut fmt::Formatter<W>, byte: u8) -> fmt::Result
     ensures { WritesOnOk W.write_str_gives f.old result (encode_lower (byte ∷ [])) f.new }
 {

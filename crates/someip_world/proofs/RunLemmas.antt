@@ -5,10 +5,10 @@ use Rattle.std.specs.List.{AllZip}
 use Rattle.std.proofs.lemmas.List.{at_drop_more, take_more}
 use Rattle.std.proofs.Math.ListN.{drop_of_length-le}
 use Rattle.std.proofs.lemmas.Option.{slice_get_past}
-use Rattle.someip_node_rules.specs.History.{History, start_of}
-use Rattle.someip_node_rules.specs.Plans.{Work}
-use Rattle.someip_node_rules.specs.Steps.{NodeView, StandsFor}
-use Rattle.someip_node_rules.specs.Copies.{IsCopy, IsCopyOfOffer, IsCopyOfWant}
+use Rattle.someip_node_rules.specs.histories.History.{History, start_of}
+use Rattle.someip_node_rules.specs.rules.Plans.{Work}
+use Rattle.someip_node_rules.specs.steps.Steps.{NodeView, StandsFor}
+use Rattle.someip_node_rules.specs.trails.Copies.{IsCopy, IsCopyOfOffer, IsCopyOfWant}
 use Rattle.someip_node_rules.specs.declared.config.OfferedService.{OfferedService}
 use Rattle.someip_node_rules.specs.declared.config.WantedService.{WantedService}
 use Rattle.sd_instances.specs.declared.keys.InstanceId.{InstanceId}

@@ -4,9 +4,9 @@ use Rattle.std.specs.Global.{Vec}
 use Rattle.someip_node_rules.specs.declared.error.NodeError.{NodeError}
 use Rattle.someip_node_rules.specs.declared.output.Output.{Output}
 use Rattle.someip_node_rules.specs.declared.output.Output.TheVariants.{Sent}
-use Rattle.someip_node_rules.specs.History.{History, answers_of}
-use Rattle.someip_node_rules.specs.Plans.{Work}
-use Rattle.someip_node_rules.specs.Steps.{NodeView}
+use Rattle.someip_node_rules.specs.histories.History.{History, answers_of}
+use Rattle.someip_node_rules.specs.rules.Plans.{Work}
+use Rattle.someip_node_rules.specs.steps.Steps.{NodeView}
 use Rattle.someip_world.specs.declared.actor.Actor.{Actor}
 use Rattle.someip_world.specs.declared.actor.Actor.TheVariants.{Node, Liar}
 use Rattle.someip_world.specs.declared.performing.StepError.{StepError}

@@ -2,8 +2,8 @@
 use Rattle.std.specs.Prelude.{◌≡◌, ℕ, List, Result, Ok, Err}
 use Rattle.std.specs.Global.{Vec}
 use Rattle.std.specs.List.{AllZip}
-use Rattle.someip_node_rules.specs.Copies.{IsCopy}
-use Rattle.someip_node_rules.specs.History.{start_of}
+use Rattle.someip_node_rules.specs.trails.Copies.{IsCopy}
+use Rattle.someip_node_rules.specs.histories.History.{start_of}
 use Rattle.someip_node_rules.specs.declared.config.Config.{Config}
 use Rattle.someip_world_steps.specs.declared.step.Step.{Step}
 use Rattle.someip_world_setup.specs.declared.setup_node.SetupNode.{SetupNode}

@@ -1,6 +1,6 @@
 //! Who acts in a run: its nodes and its liars.
 ghost use Rattle.std.specs.Prelude.{◌≡◌, Bool, IfOk, IfErr};
-ghost use Rattle.someip_node_rules.specs.History.{History};
+ghost use Rattle.someip_node_rules.specs.histories.History.{History};
 ghost use Rattle.someip_world_rules.specs.Deeds.{deed_at};
 ghost use Rattle.someip_world_rules.specs.declared.error.RunError.TheVariants as fault;
 ghost use Rattle.someip_world.specs.Acting.{Acts, actor_of};

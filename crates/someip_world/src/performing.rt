@@ -1,10 +1,10 @@
 //! What is done at a node in a step.
 ghost use Rattle.std.specs.Prelude.{◌≡◌, ◌||◌, if◌then◌else◌, None, Some, Ok};
-ghost use Rattle.someip_node_rules.specs.GoodConfigs.{is_good_delay};
-ghost use Rattle.someip_node_rules.specs.Handling.{same_address};
-ghost use Rattle.someip_node_rules.specs.History.{History};
-ghost use Rattle.someip_node_rules.specs.Inputs as input;
-ghost use Rattle.someip_node_rules.specs.Steps.{StandsFor};
+ghost use Rattle.someip_node_rules.specs.forms.GoodConfigs.{is_good_delay};
+ghost use Rattle.someip_node_rules.specs.rules.Handling.{same_address};
+ghost use Rattle.someip_node_rules.specs.histories.History.{History};
+ghost use Rattle.someip_node_rules.specs.rules.Inputs as input;
+ghost use Rattle.someip_node_rules.specs.steps.Steps.{StandsFor};
 ghost use Rattle.someip_world_rules.specs.Datagrams.{datagram_at};
 ghost use Rattle.someip_world_rules.specs.Deeds.{deed_of, delivery, restart_deed, tick_deed, unless_long};
 ghost use Rattle.someip_world.specs.Performing.{Lends, Performs, as_given};

@@ -10,9 +10,9 @@ use Rattle.sd_wire.specs.declared.entry.EventgroupEntry.{EventgroupEntry}
 use Rattle.sd_wire.specs.Kinds.{is_subscribe}
 use Rattle.sd_wire.specs.Values.{EntryValue}
 use Rattle.sd_instances.specs.declared.eventgroup.Eventgroup.{Eventgroup}
-use Rattle.someip_node_rules.specs.Learning.{eventgroup_in}
-use Rattle.someip_node_rules.specs.Outputs.{Given, Announces, Sends, Tells}
-use Rattle.someip_node_rules.specs.WishQuestions.{same_eventgroup}
+use Rattle.someip_node_rules.specs.rules.Learning.{eventgroup_in}
+use Rattle.someip_node_rules.specs.forms.Outputs.{Given, Announces, Sends, Tells}
+use Rattle.someip_node_rules.specs.histories.WishQuestions.{same_eventgroup}
 
 -- a Subscribe that is sent: to which server, about which eventgroup, and with which counter
 pub record SentSubscribe : Type 0 where

@@ -2,9 +2,9 @@
 use Rattle.std.specs.Prelude.{◌≡◌, ◌<◌, ◌≤◌, ℕ, List, Some}
 use Rattle.std.specs.List.{Contains}
 use Rattle.sd_instances.specs.declared.keys.InstanceId.{InstanceId}
-use Rattle.someip_node_rules.specs.Meanings.{GivenBy}
-use Rattle.someip_node_rules.specs.Outputs as outputs
-use Rattle.someip_node_rules.specs.Plans.{Rule, Answers}
+use Rattle.someip_node_rules.specs.trails.Meanings.{GivenBy}
+use Rattle.someip_node_rules.specs.forms.Outputs as outputs
+use Rattle.someip_node_rules.specs.rules.Plans.{Rule, Answers}
 use Rattle.someip_node_rules.specs.declared.config.Config.{Config}
 use Rattle.someip_node_rules.specs.declared.output.Output.TheVariants.{Request}
 use Rattle.someip_world_steps.specs.declared.step.Step.{Step}

@@ -14,8 +14,8 @@ use Rattle.sd_wire.specs.declared.entry.EventgroupKind.{EventgroupKind}
 use Rattle.sd_wire.specs.declared.entry.EventgroupKind.TheVariants.{Subscribe, Ack}
 use Rattle.sd_wire.specs.Values.{EntryValue}
 use Rattle.sd_instances.specs.declared.eventgroup.Eventgroup.{Eventgroup}
-use Rattle.someip_node_rules.specs.Learning.{eventgroup_in}
-use Rattle.someip_node_rules.specs.Outputs.{Given, Announces, Sends, Tells}
+use Rattle.someip_node_rules.specs.rules.Learning.{eventgroup_in}
+use Rattle.someip_node_rules.specs.forms.Outputs.{Given, Announces, Sends, Tells}
 use Rattle.someip_world_exchanges.specs.declared.exchange_key.ExchangeKey.{ExchangeKey}
 use Rattle.someip_world_exchanges.specs.declared.exchange_key.ExchangeKey.TheVariants as keys
 use Rattle.someip_world_exchanges.specs.declared.naming.Naming.{Naming}

@@ -6,14 +6,14 @@ use Rattle.sd_instances.specs.declared.eventgroup.Eventgroup.{Eventgroup}
 use Rattle.sd_instances.specs.declared.keys.InstanceId.{InstanceId}
 use Rattle.someip_rpc.specs.Events.{event_of}
 use Rattle.someip_rpc.specs.declared.ids.EventId.{EventId}
-use Rattle.someip_node_rules.specs.CallQuestions.{times_published}
-use Rattle.someip_node_rules.specs.History.{History}
-use Rattle.someip_node_rules.specs.Inputs.{Input}
-use Rattle.someip_node_rules.specs.Items as items
-use Rattle.someip_node_rules.specs.Items.{Item}
-use Rattle.someip_node_rules.specs.Setups.{client_endpoint, offered_as}
-use Rattle.someip_node_rules.specs.Trails.{Done, outcome_of, trail_of}
-use Rattle.someip_node_rules.specs.WishQuestions.{course_at}
+use Rattle.someip_node_rules.specs.histories.CallQuestions.{times_published}
+use Rattle.someip_node_rules.specs.histories.History.{History}
+use Rattle.someip_node_rules.specs.rules.Inputs.{Input}
+use Rattle.someip_node_rules.specs.histories.Items as items
+use Rattle.someip_node_rules.specs.histories.Items.{Item}
+use Rattle.someip_node_rules.specs.forms.Setups.{client_endpoint, offered_as}
+use Rattle.someip_node_rules.specs.trails.Trails.{Done, outcome_of, trail_of}
+use Rattle.someip_node_rules.specs.histories.WishQuestions.{course_at}
 use Rattle.someip_node_rules.specs.declared.config.Config.{Config}
 use Rattle.someip_node_rules.specs.declared.config.OfferedService.{OfferedService}
 use Rattle.someip_rpc.specs.Sessions.{session_after}

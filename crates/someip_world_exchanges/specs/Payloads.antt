@@ -1,6 +1,6 @@
 -- The payload that the application gives with an input.
 use Rattle.std.specs.Prelude.{ℕ, List, Option, None, Some}
-use Rattle.someip_node_rules.specs.Inputs.{Input, Answer, Call, Publish, PublishTo}
+use Rattle.someip_node_rules.specs.rules.Inputs.{Input, Answer, Call, Publish, PublishTo}
 
 -- a call, an answer and a publication have one, and no other input has
 abbrev pub payload_in : Input → Option (List ℕ)

@@ -9,11 +9,11 @@ use Rattle.someip_reassembly.specs.declared.key.ReassemblyKey.{ReassemblyKey}
 use Rattle.sd_instances.specs.declared.eventgroup.Eventgroup.{Eventgroup}
 use Rattle.someip_rpc.specs.Sessions.{session_after, session_after_last}
 use Rattle.someip_rpc.specs.declared.ids.EventId.{EventId}
-use Rattle.someip_node_rules.specs.CallQuestions.{times_published}
-use Rattle.someip_node_rules.specs.History.{History}
-use Rattle.someip_node_rules.specs.Outputs as outputs
-use Rattle.someip_node_rules.specs.Questions.{clock_at}
-use Rattle.someip_node_rules.specs.WishQuestions.{course_at}
+use Rattle.someip_node_rules.specs.histories.CallQuestions.{times_published}
+use Rattle.someip_node_rules.specs.histories.History.{History}
+use Rattle.someip_node_rules.specs.forms.Outputs as outputs
+use Rattle.someip_node_rules.specs.histories.Questions.{clock_at}
+use Rattle.someip_node_rules.specs.histories.WishQuestions.{course_at}
 use Rattle.someip_node_rules.specs.declared.config.Config.{Config}
 use Rattle.someip_world_steps.specs.declared.step.Step.{Step}
 use Rattle.someip_world_setup.specs.declared.setup_node.SetupNode.{SetupNode}

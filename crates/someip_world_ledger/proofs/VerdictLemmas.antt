@@ -7,13 +7,13 @@ use Rattle.std.specs.Cmp.Lexicographic.{slice_cmp}
 use Rattle.std.specs.Ordering.{nat_cmp}
 use Rattle.std.proofs.lemmas.List.Elements.{recursion_from_All}
 use Rattle.std.proofs.lemmas.Bool.{eqb-true, eq-eqb}
-use Rattle.someip_node_rules.specs.Copies.{IsCopy}
-use Rattle.someip_node_rules.specs.GoodConfigs.{is_good}
-use Rattle.someip_node_rules.specs.History.{History}
-use Rattle.someip_node_rules.specs.Steps.{given_in}
+use Rattle.someip_node_rules.specs.trails.Copies.{IsCopy}
+use Rattle.someip_node_rules.specs.forms.GoodConfigs.{is_good}
+use Rattle.someip_node_rules.specs.histories.History.{History}
+use Rattle.someip_node_rules.specs.steps.Steps.{given_in}
 use Rattle.someip_node_rules.specs.declared.config.Config.{Config}
 use Rattle.someip_world_steps.specs.declared.step.Step.{Step}
-use Rattle.someip_node_rules.proofs.MemberLemmas.{all_weaker}
+use Rattle.someip_node_rules.proofs.lists.MemberLemmas.{all_weaker}
 use Rattle.someip_world_setup.specs.GoodSetups.{IsGoodNetwork, IsGoodNode, Network}
 use Rattle.someip_world_setup.specs.declared.setup_node.SetupNode.{SetupNode}
 use Rattle.someip_world_rules.specs.Announced.{AllFits}

@@ -20,7 +20,7 @@ use Rattle.sd_wire.specs.Program.{reading}
 use Rattle.sd_wire.specs.Values.{ReadValue, SdValue}
 use Rattle.someip_node_rules.specs.declared.output.Output.{Output}
 use Rattle.someip_node_laws.specs.Fitting.{head_of}
-use Rattle.someip_node_rules.specs.Handling.{is_notification}
+use Rattle.someip_node_rules.specs.rules.Handling.{is_notification}
 use Rattle.someip_world_rules.specs.Datagrams.{SentDatagram, sent_with}
 use Rattle.someip_world_exchanges.specs.declared.exchange_key.ExchangeKey.{ExchangeKey}
 use Rattle.someip_world_exchanges.specs.declared.exchange_key.ExchangeKey.TheVariants as keys

@@ -6,7 +6,7 @@ ghost use Rattle.someip_wire.specs.View.{view};
 ghost use Rattle.sd_wire.specs.Program.{reading};
 ghost use Rattle.sd_wire.specs.Values.{view_read, view_sd};
 ghost use Rattle.someip_node_laws.specs.Fitting.{head_of};
-ghost use Rattle.someip_node_rules.specs.Learning.{eventgroup_in};
+ghost use Rattle.someip_node_rules.specs.rules.Learning.{eventgroup_in};
 ghost use Rattle.someip_world_exchanges.specs.Namings.{named_by_kind, named_by_type, of_call, of_event, of_subscription};
 ghost use Rattle.someip_world_ledger.specs.Contents.{is_of_discovery, said_by_entries, said_by_head, said_by_header, said_by_message, said_by_reading, said_in, stream_in, whole_header};
 

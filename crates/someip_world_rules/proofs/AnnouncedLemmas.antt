@@ -20,11 +20,11 @@ use Rattle.sd_wire.proofs.FrontLemmas.{fits_with}
 use Rattle.sd_wire.proofs.SdLemmas.{holds_read}
 use Rattle.sd_wire.proofs.WriteLemmas.{written_is_read}
 use Rattle.sd_session.specs.declared.stamp.Stamp.{Stamp}
-use Rattle.someip_node_rules.specs.Entries.{discovery_message, discovery_payload}
-use Rattle.someip_node_rules.specs.Handling.{is_discovery}
-use Rattle.someip_node_laws.proofs.FitRules.{other_service}
-use Rattle.someip_node_rules.specs.Packets.{Packet, HasDiscovery, HasMessage, HasServiceEntry}
-use Rattle.someip_node_rules.proofs.MemberLemmas.{all_map, all_members, all_weaker, at_member}
+use Rattle.someip_node_rules.specs.forms.Entries.{discovery_message, discovery_payload}
+use Rattle.someip_node_rules.specs.rules.Handling.{is_discovery}
+use Rattle.someip_node_laws.proofs.fits.FitRules.{other_service}
+use Rattle.someip_node_rules.specs.trails.Packets.{Packet, HasDiscovery, HasMessage, HasServiceEntry}
+use Rattle.someip_node_rules.proofs.lists.MemberLemmas.{all_map, all_members, all_weaker, at_member}
 
 -- ---- the message of a datagram
 

@@ -12,16 +12,16 @@ use Rattle.sd_instances.specs.declared.keys.InstanceId.{InstanceId}
 use Rattle.sd_core.specs.declared.received.KnownOffer.{KnownOffer}
 use Rattle.someip_node_rules.specs.declared.config.Config.{Config}
 use Rattle.someip_node_rules.specs.declared.output.Output.TheVariants.{Sent}
-use Rattle.someip_node_rules.specs.Entries.{discovery_message}
+use Rattle.someip_node_rules.specs.forms.Entries.{discovery_message}
 use Rattle.someip_node_laws.specs.Fitting.{FitsConfig, FitsWire}
-use Rattle.someip_node_rules.specs.Handling.{is_discovery}
-use Rattle.someip_node_rules.specs.History.{History, answers_of}
-use Rattle.someip_node_rules.specs.Inputs.{Input}
-use Rattle.someip_node_rules.specs.Meanings.{GivenBy, IsTold}
-use Rattle.someip_node_rules.specs.Outputs.{Given, Announces, Sends, Tells, datagram_of, written}
-use Rattle.someip_node_rules.specs.Packets.{Packet, HasServiceEntry}
-use Rattle.someip_node_rules.specs.SeekQuestions.{known_offer_at}
-use Rattle.someip_node_rules.proofs.MemberLemmas.{all_both, all_map, at_member}
+use Rattle.someip_node_rules.specs.rules.Handling.{is_discovery}
+use Rattle.someip_node_rules.specs.histories.History.{History, answers_of}
+use Rattle.someip_node_rules.specs.rules.Inputs.{Input}
+use Rattle.someip_node_rules.specs.trails.Meanings.{GivenBy, IsTold}
+use Rattle.someip_node_rules.specs.forms.Outputs.{Given, Announces, Sends, Tells, datagram_of, written}
+use Rattle.someip_node_rules.specs.trails.Packets.{Packet, HasServiceEntry}
+use Rattle.someip_node_rules.specs.histories.SeekQuestions.{known_offer_at}
+use Rattle.someip_node_rules.proofs.lists.MemberLemmas.{all_both, all_map, at_member}
 use Rattle.someip_world_steps.specs.declared.step.Step.{Step}
 use Rattle.someip_world_setup.specs.declared.setup_node.SetupNode.{SetupNode}
 use Rattle.someip_world_rules.specs.Announced.{FitsStep, IsAsConfigured, IsConfigured}

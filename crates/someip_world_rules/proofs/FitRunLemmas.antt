@@ -25,24 +25,24 @@ use Rattle.someip_node_rules.specs.declared.config.OfferedService.{OfferedServic
 use Rattle.someip_node_rules.specs.declared.config.WantedService.{WantedService}
 use Rattle.someip_node_rules.specs.declared.error.NodeError.{NodeError}
 use Rattle.someip_node_rules.specs.declared.output.Output.{Output}
-use Rattle.someip_node_rules.specs.Copies.{IsCopy, IsCopyOfOffer, IsCopyOfWant}
-use Rattle.someip_node_rules.specs.Entries.{discovery_message}
+use Rattle.someip_node_rules.specs.trails.Copies.{IsCopy, IsCopyOfOffer, IsCopyOfWant}
+use Rattle.someip_node_rules.specs.forms.Entries.{discovery_message}
 use Rattle.someip_node_laws.specs.Fitting.{FitsConfig, FitsHistory, FitsInput, FitsInstance, FitsOffer, FitsPacket, FitsPayload, FitsWant, FitsWire, head_of}
-use Rattle.someip_node_rules.specs.Handling.{is_discovery, is_notification}
-use Rattle.someip_node_rules.specs.History.{History, answers_of}
-use Rattle.someip_node_rules.specs.Inputs as inputs
-use Rattle.someip_node_rules.specs.Inputs.{Input}
-use Rattle.someip_node_rules.specs.Meanings.{GivenBy, IsTold}
-use Rattle.someip_node_rules.specs.Outputs.{Given, Announces, Sends, Tells, datagram_of, written}
-use Rattle.someip_node_rules.specs.Packets.{Packet}
-use Rattle.someip_node_rules.specs.Plans.{Work}
-use Rattle.someip_node_rules.specs.Steps.{step, given_in}
-use Rattle.someip_node_rules.specs.Trails.{given_by, trail_of}
-use Rattle.someip_node_laws.proofs.FitPlans.{done_fits, given_fits}
-use Rattle.someip_node_laws.proofs.FitPackets.{bytes_fit}
-use Rattle.someip_node_laws.proofs.FitRules.{no_notification}
-use Rattle.someip_node_rules.proofs.MeaningLemmas.{all_given, outputs_written}
-use Rattle.someip_node_rules.proofs.MemberLemmas.{all_append, all_both, all_flat_map, all_map, all_take, all_weaker, at_member}
+use Rattle.someip_node_rules.specs.rules.Handling.{is_discovery, is_notification}
+use Rattle.someip_node_rules.specs.histories.History.{History, answers_of}
+use Rattle.someip_node_rules.specs.rules.Inputs as inputs
+use Rattle.someip_node_rules.specs.rules.Inputs.{Input}
+use Rattle.someip_node_rules.specs.trails.Meanings.{GivenBy, IsTold}
+use Rattle.someip_node_rules.specs.forms.Outputs.{Given, Announces, Sends, Tells, datagram_of, written}
+use Rattle.someip_node_rules.specs.trails.Packets.{Packet}
+use Rattle.someip_node_rules.specs.rules.Plans.{Work}
+use Rattle.someip_node_rules.specs.steps.Steps.{step, given_in}
+use Rattle.someip_node_rules.specs.trails.Trails.{given_by, trail_of}
+use Rattle.someip_node_laws.proofs.fits.FitPlans.{done_fits, given_fits}
+use Rattle.someip_node_laws.proofs.fits.FitPackets.{bytes_fit}
+use Rattle.someip_node_laws.proofs.fits.FitRules.{no_notification}
+use Rattle.someip_node_rules.proofs.trails.MeaningLemmas.{all_given, outputs_written}
+use Rattle.someip_node_rules.proofs.lists.MemberLemmas.{all_append, all_both, all_flat_map, all_map, all_take, all_weaker, at_member}
 use Rattle.someip_world_steps.specs.declared.step.Step.{Step}
 use Rattle.someip_world_steps.specs.declared.step.Step.TheVariants as steps
 use Rattle.someip_world_setup.specs.declared.setup_node.SetupNode.{SetupNode}

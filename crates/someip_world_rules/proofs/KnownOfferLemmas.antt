@@ -19,19 +19,19 @@ use Rattle.sd_core.specs.declared.received.Uncounted.TheVariants.{Unwanted, NoEn
 use Rattle.sd_instances.specs.Keys.{instance_cmp}
 use Rattle.sd_instances.specs.KeyOrder.{exact_instances}
 use Rattle.sd_core.specs.SeekTables.{is_by, known_at, offer_refusal, stands_by}
-use Rattle.someip_node_rules.specs.Bringing.{Brings, OfEntry}
-use Rattle.someip_node_rules.specs.History.{History, answers_of}
-use Rattle.someip_node_rules.specs.Inputs as inputs
-use Rattle.someip_node_rules.specs.Inputs.{Input}
-use Rattle.someip_node_rules.specs.Items as items
-use Rattle.someip_node_rules.specs.Items.{Item}
-use Rattle.someip_node_rules.specs.Packets.{Packet, HasServiceEntry}
-use Rattle.someip_node_rules.specs.Plans.{TakesOffer}
-use Rattle.someip_node_rules.specs.Questions.{clock_at}
-use Rattle.someip_node_rules.specs.SeekQuestions.{known_offer_at, majors_of, offer_from}
+use Rattle.someip_node_rules.specs.trails.Bringing.{Brings, OfEntry}
+use Rattle.someip_node_rules.specs.histories.History.{History, answers_of}
+use Rattle.someip_node_rules.specs.rules.Inputs as inputs
+use Rattle.someip_node_rules.specs.rules.Inputs.{Input}
+use Rattle.someip_node_rules.specs.histories.Items as items
+use Rattle.someip_node_rules.specs.histories.Items.{Item}
+use Rattle.someip_node_rules.specs.trails.Packets.{Packet, HasServiceEntry}
+use Rattle.someip_node_rules.specs.rules.Plans.{TakesOffer}
+use Rattle.someip_node_rules.specs.histories.Questions.{clock_at}
+use Rattle.someip_node_rules.specs.histories.SeekQuestions.{known_offer_at, majors_of, offer_from}
 use Rattle.someip_node_rules.specs.declared.config.Config.{Config}
-use Rattle.someip_node_rules.specs.Trails.{Done}
-use Rattle.someip_node_rules.proofs.StepRules.{config_there}
+use Rattle.someip_node_rules.specs.trails.Trails.{Done}
+use Rattle.someip_node_rules.proofs.rules.StepRules.{config_there}
 use Rattle.someip_world_steps.specs.declared.step.Step.{Step}
 use Rattle.someip_world_setup.specs.declared.setup_node.SetupNode.{SetupNode}
 use Rattle.someip_world_rules.specs.Datagrams.{SentDatagram}

@@ -4,12 +4,12 @@ use Rattle.someip_rpc.specs.declared.call.CallKind.TheVariants as kinds
 use Rattle.someip_rpc.specs.declared.request.Reply.TheVariants.{Response}
 use Rattle.someip_node_rules.specs.declared.config.Config.{Config}
 use Rattle.someip_node_rules.specs.declared.output.Output.TheVariants.{Answered, Called, Known, Request, Sent}
-use Rattle.someip_node_rules.specs.GoodConfigs.{is_good_delay}
-use Rattle.someip_node_rules.specs.Inputs as input
+use Rattle.someip_node_rules.specs.forms.GoodConfigs.{is_good_delay}
+use Rattle.someip_node_rules.specs.rules.Inputs as input
 use Rattle.someip_node_laws.specs.WorkedExamples.{client, instance, server}
 use Rattle.someip_node_laws.specs.WorkedRun.{OffersEvent, WantsEvent, answer_packet, answered_items, call_packet, called_items, comes, goes, having_met, known_items, method, offer_packet, offered_items, replied_items, requested_items}
-use Rattle.someip_node_laws.proofs.ClientRun.{answer_taken, call_goes, offer_learned, other_call_goes}
-use Rattle.someip_node_laws.proofs.ServerRun.{answer_goes, call_taken, offered}
+use Rattle.someip_node_laws.proofs.examples.ClientRun.{answer_taken, call_goes, offer_learned, other_call_goes}
+use Rattle.someip_node_laws.proofs.examples.ServerRun.{answer_goes, call_taken, offered}
 use Rattle.someip_world_steps.specs.declared.step.Step.{Step}
 use Rattle.someip_world_steps.specs.declared.step.Step.TheVariants.{Tick, Deliver, Call, Answer, Restart}
 use Rattle.someip_world_setup.specs.declared.setup_node.SetupNode.{SetupNode}

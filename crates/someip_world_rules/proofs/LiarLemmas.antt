@@ -3,10 +3,10 @@ use Rattle.std.proofs.Common.{◌≡◌, ℕ, Bool, true, false, if◌then◌els
 use Rattle.std.specs.Prelude.{nat_lt}
 use Rattle.std.specs.declared.net.ipv4_addr.Ipv4Addr.{Ipv4Addr}
 use Rattle.std.specs.declared.net.socket_addr.SocketAddrV4.{SocketAddrV4}
-use Rattle.someip_node_rules.specs.GoodConfigs.{is_good_delay}
-use Rattle.someip_node_rules.specs.History.{History}
-use Rattle.someip_node_rules.specs.Inputs as inputs
-use Rattle.someip_node_rules.specs.Inputs.{Input}
+use Rattle.someip_node_rules.specs.forms.GoodConfigs.{is_good_delay}
+use Rattle.someip_node_rules.specs.histories.History.{History}
+use Rattle.someip_node_rules.specs.rules.Inputs as inputs
+use Rattle.someip_node_rules.specs.rules.Inputs.{Input}
 use Rattle.someip_node_rules.specs.declared.config.Config.{Config}
 use Rattle.someip_world_steps.specs.declared.step.Step.{Step}
 use Rattle.someip_world_steps.specs.declared.step.Step.TheVariants as steps

@@ -10,9 +10,9 @@ use Rattle.someip_node_rules.specs.declared.config.Common.{Common}
 use Rattle.someip_node_rules.specs.declared.config.Config.{Config}
 use Rattle.someip_node_rules.specs.declared.config.OfferedService.{OfferedService}
 use Rattle.someip_node_laws.specs.Fitting.{FitsOffer}
-use Rattle.someip_node_rules.specs.GoodConfigs.{is_good, is_good_common, is_good_id, is_good_instance, is_good_offer, is_good_port, is_good_want, is_within, are_good_methods, has_good_eventgroups, has_own_ports}
-use Rattle.someip_node_rules.specs.Handling.{same_address}
-use Rattle.someip_node_rules.proofs.MemberLemmas.{all_both}
+use Rattle.someip_node_rules.specs.forms.GoodConfigs.{is_good, is_good_common, is_good_id, is_good_instance, is_good_offer, is_good_port, is_good_want, is_within, are_good_methods, has_good_eventgroups, has_own_ports}
+use Rattle.someip_node_rules.specs.rules.Handling.{same_address}
+use Rattle.someip_node_rules.proofs.lists.MemberLemmas.{all_both}
 
 -- ---- what holds of each of a list, and of the first of many
 

@@ -19,23 +19,24 @@ use Rattle.sd_wishes.specs.declared.wish.OutgoingSubscribe.{OutgoingSubscribe}
 use Rattle.someip_node_rules.specs.declared.config.Config.{Config}
 use Rattle.someip_node_rules.specs.declared.config.OfferedService.{OfferedService}
 use Rattle.someip_node_rules.specs.declared.config.WantedService.{WantedService}
-use Rattle.someip_node_rules.specs.Bringing.{Brings, RepliesToEntry}
-use Rattle.someip_node_rules.specs.Calls.{stop_offer_of, stop_subscribe_of, wish_entries, wish_entries_by}
-use Rattle.someip_node_rules.specs.Entries.{ack_entry, find_entry, offer_entry, subscribe_entry}
-use Rattle.someip_node_rules.specs.History.{History, answers_of}
-use Rattle.someip_node_rules.specs.Inputs as inputs
-use Rattle.someip_node_rules.specs.Inputs.{Input}
-use Rattle.someip_node_rules.specs.Meanings.{GivenBy}
-use Rattle.someip_node_rules.specs.Outputs as outputs
-use Rattle.someip_node_rules.specs.Packets.{Packet}
-use Rattle.someip_node_rules.specs.Plans.{Rule, Announces, RepliesTo, TakesFind, TakesOffer, TakesSubscribe}
-use Rattle.someip_node_rules.specs.Replies.{IsDue, IsFindOf, IsOfferOf, IsReply, IsSubscribeOf}
-use Rattle.someip_node_rules.specs.Sending as sending
-use Rattle.someip_node_rules.specs.Setups.{client_endpoint, offered_as, wanted_as}
-use Rattle.someip_node_rules.specs.Tables.{Tables}
-use Rattle.someip_node_rules.specs.Trails.{Done}
-use Rattle.someip_node_rules.proofs.MemberLemmas.{all_weaker, at_member}
-use Rattle.someip_node_rules.proofs.StepRules.{config_there}
+use Rattle.someip_node_rules.specs.trails.Bringing.{Brings, RepliesToEntry}
+use Rattle.someip_node_rules.specs.rules.ClientSubscribing.{stop_subscribe_of, wish_entries, wish_entries_by}
+use Rattle.someip_node_rules.specs.rules.Offering.{stop_offer_of}
+use Rattle.someip_node_rules.specs.forms.Entries.{ack_entry, find_entry, offer_entry, subscribe_entry}
+use Rattle.someip_node_rules.specs.histories.History.{History, answers_of}
+use Rattle.someip_node_rules.specs.rules.Inputs as inputs
+use Rattle.someip_node_rules.specs.rules.Inputs.{Input}
+use Rattle.someip_node_rules.specs.trails.Meanings.{GivenBy}
+use Rattle.someip_node_rules.specs.forms.Outputs as outputs
+use Rattle.someip_node_rules.specs.trails.Packets.{Packet}
+use Rattle.someip_node_rules.specs.rules.Plans.{Rule, Announces, RepliesTo, TakesFind, TakesOffer, TakesSubscribe}
+use Rattle.someip_node_rules.specs.trails.Replies.{IsDue, IsFindOf, IsOfferOf, IsReply, IsSubscribeOf}
+use Rattle.someip_node_rules.specs.trails.SendingRules as sending
+use Rattle.someip_node_rules.specs.forms.Setups.{client_endpoint, offered_as, wanted_as}
+use Rattle.someip_node_rules.specs.histories.Tables.{Tables}
+use Rattle.someip_node_rules.specs.trails.Trails.{Done}
+use Rattle.someip_node_rules.proofs.lists.MemberLemmas.{all_weaker, at_member}
+use Rattle.someip_node_rules.proofs.rules.StepRules.{config_there}
 use Rattle.someip_world_rules.specs.Announced.{IsConfigured}
 use Rattle.someip_world_rules.specs.KnownOffers.{IsAmongAnnounced}
 

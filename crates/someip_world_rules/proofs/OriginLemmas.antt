@@ -2,18 +2,18 @@
 use Rattle.std.proofs.Common.{◌≡◌, ℕ, zero, suc, ◌+◌, ◌≤◌, Bool, true, false, eqb, List, [], ◌∷◌, length, arith, take, slice_get, slice_set, Some, Result, Ok, Err, refl, sym, ap, subst, ◌∙◌}
 use Rattle.std.specs.List.{AllByRecursion}
 use Rattle.std.proofs.lemmas.Bool.{eqb-true, eqb-false}
-use Rattle.someip_node_rules.specs.History.{History, met, start_of}
-use Rattle.someip_node_rules.specs.Inputs.{Input}
-use Rattle.someip_node_rules.specs.Items.{Item}
-use Rattle.someip_node_rules.specs.Meetings.{MetBy}
-use Rattle.someip_node_rules.specs.Plans.{Work}
-use Rattle.someip_node_rules.specs.Steps.{step}
-use Rattle.someip_node_rules.specs.Trails.{after, met_by, trail_of}
+use Rattle.someip_node_rules.specs.histories.History.{History, met, start_of}
+use Rattle.someip_node_rules.specs.rules.Inputs.{Input}
+use Rattle.someip_node_rules.specs.histories.Items.{Item}
+use Rattle.someip_node_rules.specs.trails.Meetings.{MetBy}
+use Rattle.someip_node_rules.specs.rules.Plans.{Work}
+use Rattle.someip_node_rules.specs.steps.Steps.{step}
+use Rattle.someip_node_rules.specs.trails.Trails.{after, met_by, trail_of}
 use Rattle.someip_node_rules.specs.declared.config.Config.{Config}
 use Rattle.someip_node_rules.specs.declared.error.NodeError.{NodeError}
-use Rattle.someip_node_rules.proofs.MeetingLemmas.{all_met, state_met}
-use Rattle.someip_node_rules.proofs.MemberLemmas.{all_weaker}
-use Rattle.someip_node_rules.proofs.StepRules.{config_kept}
+use Rattle.someip_node_rules.proofs.trails.MeetingLemmas.{all_met, state_met}
+use Rattle.someip_node_rules.proofs.lists.MemberLemmas.{all_weaker}
+use Rattle.someip_node_rules.proofs.rules.StepRules.{config_kept}
 use Rattle.someip_world_steps.specs.declared.step.Step.{Step}
 use Rattle.someip_world_setup.specs.declared.setup_node.SetupNode.{SetupNode}
 use Rattle.someip_world_rules.specs.Deeds.{Deed, Takes, Restarts, Injects, done_with}

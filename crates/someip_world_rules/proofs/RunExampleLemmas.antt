@@ -22,22 +22,23 @@ use Rattle.someip_rpc.specs.declared.error.RpcError.TheVariants.{NotOffered, Too
 use Rattle.someip_node_rules.specs.declared.config.Config.{Config}
 use Rattle.someip_node_rules.specs.declared.config.OfferedService.{OfferedService}
 use Rattle.someip_node_rules.specs.declared.error.NodeError.TheVariants.{Rpc}
-use Rattle.someip_node_rules.specs.Calls.{as_node_error, eventgroups_of, publishing_refusal}
-use Rattle.someip_node_rules.specs.History.{History, answers_of, historic}
-use Rattle.someip_node_rules.specs.Inputs as inputs
-use Rattle.someip_node_rules.specs.Inputs.{plan_of}
-use Rattle.someip_node_rules.specs.Lives.{is_live, was_stopped}
-use Rattle.someip_node_rules.specs.Outputs.{datagrams_of}
-use Rattle.someip_node_rules.specs.Plans.{Work, run}
+use Rattle.someip_node_rules.specs.rules.Errors.{as_node_error}
+use Rattle.someip_node_rules.specs.rules.Publishing.{eventgroups_of, publishing_refusal}
+use Rattle.someip_node_rules.specs.histories.History.{History, answers_of, historic}
+use Rattle.someip_node_rules.specs.rules.Inputs as inputs
+use Rattle.someip_node_rules.specs.rules.Inputs.{plan_of}
+use Rattle.someip_node_rules.specs.steps.Lives.{is_live, was_stopped}
+use Rattle.someip_node_rules.specs.forms.Outputs.{datagrams_of}
+use Rattle.someip_node_rules.specs.rules.Plans.{Work, run}
 use Rattle.someip_node_laws.specs.Published.{IsLiveAt, IsPublished, publication}
-use Rattle.someip_node_rules.specs.Steps.{step, unless_refused, work_on}
-use Rattle.someip_node_rules.specs.SubscriberQuestions.{stands_until}
-use Rattle.someip_node_rules.specs.Tables.{is_up}
-use Rattle.someip_node_rules.specs.Questions.{clock_at}
-use Rattle.someip_node_laws.proofs.LiveLemmas.{ends_then, lives_before}
-use Rattle.someip_node_laws.proofs.NamedLemmas.{get-subscriber}
-use Rattle.someip_node_laws.proofs.PublishedLemmas.{is_published}
-use Rattle.someip_node_laws.proofs.UpLemmas.{up_is}
+use Rattle.someip_node_rules.specs.steps.Steps.{step, unless_refused, work_on}
+use Rattle.someip_node_rules.specs.histories.SubscriberQuestions.{stands_until}
+use Rattle.someip_node_rules.specs.histories.Tables.{is_up}
+use Rattle.someip_node_rules.specs.histories.Questions.{clock_at}
+use Rattle.someip_node_laws.proofs.histories.LiveLemmas.{ends_then, lives_before}
+use Rattle.someip_node_laws.proofs.histories.NamedLemmas.{get-subscriber}
+use Rattle.someip_node_laws.proofs.rules.PublishedLemmas.{is_published}
+use Rattle.someip_node_laws.proofs.histories.UpLemmas.{up_is}
 use Rattle.someip_world_rules.specs.RunExamples.{CanPublish, GivesJust, subscribed_for}
 
 -- ---- a set of one endpoint, or of none

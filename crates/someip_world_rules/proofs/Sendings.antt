@@ -3,19 +3,19 @@ use Rattle.std.proofs.Common.{◌≡◌, inl, inr, ℕ, zero, suc, ◌+◌, ◌<
 use Rattle.std.specs.List.{AllByRecursion, Contains, cons_option}
 use Rattle.std.specs.Option.{option_map}
 use Rattle.std.proofs.lemmas.List.Elements.{filter_map-append}
-use Rattle.someip_node_rules.specs.Inputs.{Input}
-use Rattle.someip_node_rules.specs.Meanings.{GivenBy}
-use Rattle.someip_node_rules.specs.Outputs.{written}
-use Rattle.someip_node_rules.specs.Plans.{Work}
-use Rattle.someip_node_rules.specs.History.{History}
-use Rattle.someip_node_rules.specs.Steps.{step, given_in}
-use Rattle.someip_node_rules.specs.Trails.{given_by, trail_of}
+use Rattle.someip_node_rules.specs.rules.Inputs.{Input}
+use Rattle.someip_node_rules.specs.trails.Meanings.{GivenBy}
+use Rattle.someip_node_rules.specs.forms.Outputs.{written}
+use Rattle.someip_node_rules.specs.rules.Plans.{Work}
+use Rattle.someip_node_rules.specs.histories.History.{History}
+use Rattle.someip_node_rules.specs.steps.Steps.{step, given_in}
+use Rattle.someip_node_rules.specs.trails.Trails.{given_by, trail_of}
 use Rattle.someip_node_rules.specs.declared.config.Config.{Config}
 use Rattle.someip_node_rules.specs.declared.error.NodeError.{NodeError}
 use Rattle.someip_node_rules.specs.declared.output.Output.{Output}
 use Rattle.someip_node_rules.specs.declared.output.Output.TheVariants.{Sent}
-use Rattle.someip_node_rules.proofs.MeaningLemmas.{all_given, outputs_written}
-use Rattle.someip_node_rules.proofs.MemberLemmas.{all_append, all_both, all_flat_map, all_from_members, all_members, all_weaker}
+use Rattle.someip_node_rules.proofs.trails.MeaningLemmas.{all_given, outputs_written}
+use Rattle.someip_node_rules.proofs.lists.MemberLemmas.{all_append, all_both, all_flat_map, all_from_members, all_members, all_weaker}
 use Rattle.someip_world_steps.specs.declared.step.Step.{Step}
 use Rattle.someip_world_setup.specs.declared.setup_node.SetupNode.{SetupNode}
 use Rattle.someip_world_rules.specs.Datagrams.{SentDatagram, sent_with}

@@ -8,13 +8,13 @@ use Rattle.std.specs.Prelude.{if◌then◌else◌, nat_lt}
 use Rattle.std.specs.declared.net.socket_addr.SocketAddrV4.{SocketAddrV4}
 use Rattle.sd_instances.specs.declared.eventgroup.Eventgroup.{Eventgroup}
 use Rattle.sd_instances.specs.declared.keys.InstanceId.{InstanceId}
-use Rattle.someip_node_rules.specs.History.{History}
-use Rattle.someip_node_rules.specs.Inputs.{Input}
-use Rattle.someip_node_rules.specs.Inputs as inputs
+use Rattle.someip_node_rules.specs.histories.History.{History}
+use Rattle.someip_node_rules.specs.rules.Inputs.{Input}
+use Rattle.someip_node_rules.specs.rules.Inputs as inputs
 use Rattle.someip_node_laws.specs.Published.{IsPublished, IsPublishedTo}
-use Rattle.someip_node_laws.proofs.PublishedLemmas.{is_published, is_published_to}
-use Rattle.someip_node_rules.specs.Plans.{Work}
-use Rattle.someip_node_rules.specs.Steps.{step, given_in}
+use Rattle.someip_node_laws.proofs.rules.PublishedLemmas.{is_published, is_published_to}
+use Rattle.someip_node_rules.specs.rules.Plans.{Work}
+use Rattle.someip_node_rules.specs.steps.Steps.{step, given_in}
 use Rattle.someip_node_rules.specs.declared.config.Config.{Config}
 use Rattle.someip_node_rules.specs.declared.error.NodeError.{NodeError}
 use Rattle.someip_node_rules.specs.declared.output.Output.{Output}

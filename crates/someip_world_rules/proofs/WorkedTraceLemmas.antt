@@ -4,16 +4,16 @@ use Rattle.someip_rpc.specs.declared.call.CallKind.TheVariants as kinds
 use Rattle.someip_rpc.specs.declared.request.Reply.TheVariants.{Response}
 use Rattle.someip_node_rules.specs.declared.config.Config.{Config}
 use Rattle.someip_node_rules.specs.declared.output.Output.{Output}
-use Rattle.someip_node_rules.specs.History.{start_of}
-use Rattle.someip_node_rules.specs.Inputs as input
-use Rattle.someip_node_rules.specs.Items.{Item}
+use Rattle.someip_node_rules.specs.histories.History.{start_of}
+use Rattle.someip_node_rules.specs.rules.Inputs as input
+use Rattle.someip_node_rules.specs.histories.Items.{Item}
 use Rattle.someip_node_rules.specs.declared.output.Output.TheVariants.{Accepted, Answered, Called, Event, Known, Request, Subscribed}
 use Rattle.someip_node_laws.specs.WorkedExamples.{client, instance, server}
 use Rattle.someip_node_laws.specs.WorkedRun.{LeadsTo, OffersEvent, WantsEvent, accepted_items, ack_packet, answer_packet, call_packet, comes, event_packet, goes, method, offer_packet, subscribe_packet, answered_items, called_items, eventgroup, having_met, known_items, offered_items, published_items, replied_items, requested_items, subscribed_items, wished_items}
-use Rattle.someip_node_laws.proofs.ClientEvents.{ack_taken, event_taken, subscribe_goes}
-use Rattle.someip_node_laws.proofs.ClientRun.{answer_taken, call_goes, offer_learned}
-use Rattle.someip_node_laws.proofs.ServerEvents.{event_goes, subscribe_accepted}
-use Rattle.someip_node_laws.proofs.ServerRun.{answer_goes, call_taken, offered}
+use Rattle.someip_node_laws.proofs.examples.ClientEvents.{ack_taken, event_taken, subscribe_goes}
+use Rattle.someip_node_laws.proofs.examples.ClientRun.{answer_taken, call_goes, offer_learned}
+use Rattle.someip_node_laws.proofs.examples.ServerEvents.{event_goes, subscribe_accepted}
+use Rattle.someip_node_laws.proofs.examples.ServerRun.{answer_goes, call_taken, offered}
 use Rattle.someip_world_steps.specs.declared.step.Step.{Step}
 use Rattle.someip_world_steps.specs.declared.step.Step.TheVariants.{Tick, Deliver, Call, Answer, Publish, Subscribe}
 use Rattle.someip_world_steps.specs.StepNodes.{node_of}

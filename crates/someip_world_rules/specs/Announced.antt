@@ -9,12 +9,12 @@ use Rattle.someip_tables.specs.declared.lasting.Lasting.{Lasting}
 use Rattle.someip_rpc.specs.Servers.{code_of_reply}
 use Rattle.someip_wire.specs.Spelling.{IsBytes}
 use Rattle.someip_node_laws.specs.Fitting.{FitsConfig, FitsWire}
-use Rattle.someip_node_rules.specs.History.{History}
-use Rattle.someip_node_rules.specs.Inputs.{Input}
-use Rattle.someip_node_rules.specs.Meanings.{GivenBy}
-use Rattle.someip_node_rules.specs.Outputs.{Given}
-use Rattle.someip_node_rules.specs.SeekQuestions.{known_offer_at, majors_of}
-use Rattle.someip_node_rules.specs.Setups.{offered_as}
+use Rattle.someip_node_rules.specs.histories.History.{History}
+use Rattle.someip_node_rules.specs.rules.Inputs.{Input}
+use Rattle.someip_node_rules.specs.trails.Meanings.{GivenBy}
+use Rattle.someip_node_rules.specs.forms.Outputs.{Given}
+use Rattle.someip_node_rules.specs.histories.SeekQuestions.{known_offer_at, majors_of}
+use Rattle.someip_node_rules.specs.forms.Setups.{offered_as}
 use Rattle.someip_node_rules.specs.declared.config.Config.{Config}
 use Rattle.someip_node_rules.specs.declared.config.OfferedService.{OfferedService}
 use Rattle.someip_world_steps.specs.declared.step.Step.{Step}

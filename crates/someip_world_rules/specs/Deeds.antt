@@ -3,13 +3,13 @@ use Rattle.std.specs.Prelude.{ℕ, ◌+◌, Bool, true, false, ◌||◌, if◌th
 use Rattle.std.specs.declared.net.ipv4_addr.Ipv4Addr.{Ipv4Addr}
 use Rattle.std.specs.declared.net.socket_addr.SocketAddrV4.{SocketAddrV4}
 use Rattle.someip_node_rules.specs.declared.config.Config.{Config}
-use Rattle.someip_node_rules.specs.GoodConfigs.{is_good_delay}
-use Rattle.someip_node_rules.specs.Handling.{same_address}
-use Rattle.someip_node_rules.specs.History.{History, start_of}
-use Rattle.someip_node_rules.specs.Inputs as input
-use Rattle.someip_node_rules.specs.Plans.{Work}
-use Rattle.someip_node_rules.specs.Questions.{clock_at}
-use Rattle.someip_node_rules.specs.Steps.{step, work_on}
+use Rattle.someip_node_rules.specs.forms.GoodConfigs.{is_good_delay}
+use Rattle.someip_node_rules.specs.rules.Handling.{same_address}
+use Rattle.someip_node_rules.specs.histories.History.{History, start_of}
+use Rattle.someip_node_rules.specs.rules.Inputs as input
+use Rattle.someip_node_rules.specs.rules.Plans.{Work}
+use Rattle.someip_node_rules.specs.histories.Questions.{clock_at}
+use Rattle.someip_node_rules.specs.steps.Steps.{step, work_on}
 use Rattle.someip_node_rules.specs.declared.error.NodeError.{NodeError}
 use Rattle.someip_node_rules.specs.declared.output.Output.TheVariants.{Sent}
 use Rattle.someip_world_steps.specs.declared.step.Step.{Step}

@@ -11,10 +11,10 @@ use Rattle.sd_wire.specs.Kinds.{is_offer}
 use Rattle.sd_wire.specs.Values.{EntryValue}
 use Rattle.sd_instances.specs.declared.keys.InstanceId.{InstanceId}
 use Rattle.sd_core.specs.declared.received.KnownOffer.{KnownOffer}
-use Rattle.someip_node_rules.specs.History.{History}
-use Rattle.someip_node_rules.specs.Inputs.{Datagram}
-use Rattle.someip_node_rules.specs.Packets.{Packet, HasServiceEntry}
-use Rattle.someip_node_rules.specs.SeekQuestions.{majors_of}
+use Rattle.someip_node_rules.specs.histories.History.{History}
+use Rattle.someip_node_rules.specs.rules.Inputs.{Datagram}
+use Rattle.someip_node_rules.specs.trails.Packets.{Packet, HasServiceEntry}
+use Rattle.someip_node_rules.specs.histories.SeekQuestions.{majors_of}
 use Rattle.someip_node_rules.specs.declared.config.Config.{Config}
 use Rattle.someip_world_steps.specs.declared.step.Step.{Step}
 use Rattle.someip_world_setup.specs.declared.setup_node.SetupNode.{SetupNode}

@@ -4,7 +4,7 @@ use Rattle.std.specs.List.{AllByRecursion}
 use Rattle.std.specs.Option.{option_map_or}
 use Rattle.std.specs.Net.Socket.{v4_ip}
 use Rattle.std.specs.declared.net.ipv4_addr.Ipv4Addr.{Ipv4Addr}
-use Rattle.someip_node_rules.specs.Inputs.{Input, Datagram}
+use Rattle.someip_node_rules.specs.rules.Inputs.{Input, Datagram}
 use Rattle.someip_node_rules.specs.declared.config.Config.{Config}
 use Rattle.someip_world_setup.specs.declared.setup_node.SetupNode.{SetupNode}
 

@@ -2,9 +2,9 @@
 -- datagrams, from a liar.
 use Rattle.std.specs.Prelude.{◌≡◌, ◌<◌, ℕ, ◌+◌, List, slice_get, Some}
 use Rattle.std.specs.List.{AllByRecursion}
-use Rattle.someip_node_rules.specs.History.{History}
-use Rattle.someip_node_rules.specs.Items.{Item}
-use Rattle.someip_node_rules.specs.Meetings.{MetBy}
+use Rattle.someip_node_rules.specs.histories.History.{History}
+use Rattle.someip_node_rules.specs.histories.Items.{Item}
+use Rattle.someip_node_rules.specs.trails.Meetings.{MetBy}
 use Rattle.someip_node_rules.specs.declared.config.Config.{Config}
 use Rattle.someip_world_steps.specs.declared.step.Step.{Step}
 use Rattle.someip_world_setup.specs.declared.setup_node.SetupNode.{SetupNode}

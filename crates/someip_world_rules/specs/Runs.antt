@@ -1,10 +1,10 @@
 -- The trace of a schedule, by what the nodes met.
 use Rattle.std.specs.Prelude.{◌≡◌, ℕ, ◌+◌, Bool, List, [], ◌∷◌, ◌++◌, map, slice_get, slice_set, bytes_eq, string_bytes, Option, None, Some, Result, Ok, Err}
 use Rattle.std.specs.List.{AllZip, position_from}
-use Rattle.someip_node_rules.specs.Copies.{IsCopy}
-use Rattle.someip_node_rules.specs.History.{History, start_of}
-use Rattle.someip_node_rules.specs.Plans.{Work}
-use Rattle.someip_node_rules.specs.Steps.{given_in}
+use Rattle.someip_node_rules.specs.trails.Copies.{IsCopy}
+use Rattle.someip_node_rules.specs.histories.History.{History, start_of}
+use Rattle.someip_node_rules.specs.rules.Plans.{Work}
+use Rattle.someip_node_rules.specs.steps.Steps.{given_in}
 use Rattle.someip_node_rules.specs.declared.config.Config.{Config}
 use Rattle.someip_node_rules.specs.declared.error.NodeError.{NodeError}
 use Rattle.someip_node_rules.specs.declared.output.Output.{Output}

@@ -7,7 +7,7 @@ ghost use Rattle.sd_instances.specs.declared.eventgroup.Eventgroup.{Eventgroup};
 ghost use Rattle.sd_instances.specs.declared.keys.InstanceId.{InstanceId};
 ghost use Rattle.someip_rpc.specs.declared.call.CallKind.{CallKind};
 ghost use Rattle.someip_rpc.specs.declared.request.Reply.{Reply};
-ghost use Rattle.someip_node_rules.specs.History.{History};
+ghost use Rattle.someip_node_rules.specs.histories.History.{History};
 ghost use Rattle.someip_node_rules.specs.declared.config.Config.{Config};
 ghost use Rattle.someip_world_steps.specs.declared.step.Step.{Step};
 ghost use Rattle.someip_world_steps.specs.declared.step.Step.TheVariants.{Answer, Call, Deliver, Inject, Publish, PublishTo, Restart, StopOffer, Subscribe, Tick, Unsubscribe};

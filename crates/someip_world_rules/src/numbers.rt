@@ -7,7 +7,7 @@ ghost use Rattle.std.specs.Net.Addr.{IsIpv4Addr};
 ghost use Rattle.std.specs.Net.Socket.{IsSocketAddrV4};
 ghost use Rattle.someip_rpc.specs.Servers.{code_of_reply};
 ghost use Rattle.someip_node_laws.specs.Fitting.{FitsConfig, FitsInstance, FitsOffer, FitsWant};
-ghost use Rattle.someip_node_rules.specs.GoodConfigs.{is_good};
+ghost use Rattle.someip_node_rules.specs.forms.GoodConfigs.{is_good};
 ghost use Rattle.someip_world_rules.specs.Announced.{FitNodes, FitsStep};
 
 use sd_core::InstanceId;

@@ -14,12 +14,12 @@ use Rattle.someip_rpc.specs.Servers.{code_of_reply}
 use Rattle.someip_node_rules.specs.declared.config.Config.{Config}
 use Rattle.someip_node_rules.specs.declared.config.OfferedService.{OfferedService}
 use Rattle.someip_node_rules.specs.declared.output.Output.TheVariants.{Answered}
-use Rattle.someip_node_rules.specs.History.{answers_of}
-use Rattle.someip_node_rules.specs.Inputs as inputs
-use Rattle.someip_node_rules.specs.Plans.{TakesRequest}
-use Rattle.someip_node_rules.specs.Setups.{client_endpoint, offered_as}
-use Rattle.someip_node_rules.specs.Tables.{is_up}
-use Rattle.someip_node_rules.specs.Trails.{Done, trail_of}
+use Rattle.someip_node_rules.specs.histories.History.{answers_of}
+use Rattle.someip_node_rules.specs.rules.Inputs as inputs
+use Rattle.someip_node_rules.specs.rules.Plans.{TakesRequest}
+use Rattle.someip_node_rules.specs.forms.Setups.{client_endpoint, offered_as}
+use Rattle.someip_node_rules.specs.histories.Tables.{is_up}
+use Rattle.someip_node_rules.specs.trails.Trails.{Done, trail_of}
 use Rattle.someip_world_steps.specs.declared.step.Step.{Step}
 use Rattle.someip_world_setup.specs.declared.setup_node.SetupNode.{SetupNode}
 use Rattle.someip_world_rules.specs.Deliveries.{Does, LivesOn}

@@ -9,11 +9,11 @@ use Rattle.someip_rpc.specs.declared.call.CallKind.TheVariants as calls
 use Rattle.someip_rpc.specs.declared.call.Call as made
 use Rattle.someip_rpc.specs.declared.ids.CallKey.{CallKey}
 use Rattle.someip_node_rules.specs.declared.config.Config.{Config}
-use Rattle.someip_node_rules.specs.CallQuestions.{awaited_at, call_key}
-use Rattle.someip_node_rules.specs.History.{History}
-use Rattle.someip_node_rules.specs.Inputs.{Call}
-use Rattle.someip_node_rules.specs.Items as items
-use Rattle.someip_node_rules.specs.Trails.{met_by, trail_of}
+use Rattle.someip_node_rules.specs.histories.CallQuestions.{awaited_at, call_key}
+use Rattle.someip_node_rules.specs.histories.History.{History}
+use Rattle.someip_node_rules.specs.rules.Inputs.{Call}
+use Rattle.someip_node_rules.specs.histories.Items as items
+use Rattle.someip_node_rules.specs.trails.Trails.{met_by, trail_of}
 use Rattle.someip_world_steps.specs.declared.step.Step.{Step}
 use Rattle.someip_world_setup.specs.declared.setup_node.SetupNode.{SetupNode}
 use Rattle.someip_world_rules.specs.Runs.{World}

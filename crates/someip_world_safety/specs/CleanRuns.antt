@@ -11,11 +11,11 @@ use Rattle.someip_rpc.specs.declared.call.Call.{Call}
 use Rattle.someip_rpc.specs.declared.ids.EventId.{EventId}
 use Rattle.someip_rpc.specs.declared.ids.MessageId.{MessageId}
 use Rattle.someip_rpc.specs.Sessions.{session_after}
-use Rattle.someip_node_rules.specs.CallQuestions.{times_published}
-use Rattle.someip_node_rules.specs.Items as items
-use Rattle.someip_node_rules.specs.Items.{Item}
-use Rattle.someip_node_rules.specs.Outputs as outputs
-use Rattle.someip_node_rules.specs.Trails.{Done, outcome_of, trail_of}
+use Rattle.someip_node_rules.specs.histories.CallQuestions.{times_published}
+use Rattle.someip_node_rules.specs.histories.Items as items
+use Rattle.someip_node_rules.specs.histories.Items.{Item}
+use Rattle.someip_node_rules.specs.forms.Outputs as outputs
+use Rattle.someip_node_rules.specs.trails.Trails.{Done, outcome_of, trail_of}
 use Rattle.someip_node_rules.specs.declared.config.Config.{Config}
 use Rattle.someip_world_steps.specs.declared.step.Step.{Step}
 use Rattle.someip_world_setup.specs.declared.setup_node.SetupNode.{SetupNode}

@@ -9,16 +9,16 @@ use Rattle.someip_rpc.specs.declared.ids.MessageId.{MessageId}
 use Rattle.someip_node_rules.specs.declared.config.Config.{Config}
 use Rattle.someip_node_rules.specs.declared.config.OfferedService.{OfferedService}
 use Rattle.someip_node_rules.specs.declared.config.WantedService.{WantedService}
-use Rattle.someip_node_rules.specs.Calls.{eventgroups_of}
-use Rattle.someip_node_rules.specs.History.{answers_of}
-use Rattle.someip_node_rules.specs.Inputs.{Publish, PublishTo}
-use Rattle.someip_node_rules.specs.Messages.{takes_event}
-use Rattle.someip_node_rules.specs.Outputs.{Sends}
-use Rattle.someip_node_rules.specs.Plans.{TakesEvent}
+use Rattle.someip_node_rules.specs.rules.Publishing.{eventgroups_of}
+use Rattle.someip_node_rules.specs.histories.History.{answers_of}
+use Rattle.someip_node_rules.specs.rules.Inputs.{Publish, PublishTo}
+use Rattle.someip_node_rules.specs.rules.Messages.{takes_event}
+use Rattle.someip_node_rules.specs.forms.Outputs.{Sends}
+use Rattle.someip_node_rules.specs.rules.Plans.{TakesEvent}
 use Rattle.someip_node_laws.specs.Published.{IsLiveAt}
-use Rattle.someip_node_rules.specs.Setups.{client_endpoint, offered_as}
-use Rattle.someip_node_rules.specs.Tables.{known_endpoint}
-use Rattle.someip_node_rules.specs.Trails.{Done, given_by, trail_of}
+use Rattle.someip_node_rules.specs.forms.Setups.{client_endpoint, offered_as}
+use Rattle.someip_node_rules.specs.histories.Tables.{known_endpoint}
+use Rattle.someip_node_rules.specs.trails.Trails.{Done, given_by, trail_of}
 use Rattle.someip_world_steps.specs.declared.step.Step.{Step}
 use Rattle.someip_world_setup.specs.declared.setup_node.SetupNode.{SetupNode}
 use Rattle.someip_world_rules.specs.Deliveries.{Does}

@@ -2,7 +2,7 @@
 use Rattle.std.specs.Prelude.{◌≡◌, ℕ, List}
 use Rattle.std.specs.declared.net.socket_addr.SocketAddrV4.{SocketAddrV4}
 use Rattle.someip_wire.specs.declared.header.Header.{Header}
-use Rattle.someip_node_rules.specs.Outputs as outputs
+use Rattle.someip_node_rules.specs.forms.Outputs as outputs
 use Rattle.someip_node_rules.specs.declared.config.Config.{Config}
 use Rattle.someip_world_steps.specs.declared.step.Step.{Step}
 use Rattle.someip_world_setup.specs.declared.setup_node.SetupNode.{SetupNode}

@@ -6,10 +6,10 @@ use Rattle.someip_rpc.specs.declared.request.Asked.{Asked}
 use Rattle.someip_rpc.specs.Requests.{asked}
 use Rattle.someip_node_rules.specs.declared.config.Config.{Config}
 use Rattle.someip_node_rules.specs.declared.config.OfferedService.{OfferedService}
-use Rattle.someip_node_rules.specs.CallQuestions.{open_request_at}
-use Rattle.someip_node_rules.specs.History.{History}
-use Rattle.someip_node_rules.specs.Plans.{TakesRequest}
-use Rattle.someip_node_rules.specs.Setups.{offered_as}
+use Rattle.someip_node_rules.specs.histories.CallQuestions.{open_request_at}
+use Rattle.someip_node_rules.specs.histories.History.{History}
+use Rattle.someip_node_rules.specs.rules.Plans.{TakesRequest}
+use Rattle.someip_node_rules.specs.forms.Setups.{offered_as}
 use Rattle.someip_world_steps.specs.declared.step.Step.{Step}
 use Rattle.someip_world_setup.specs.declared.setup_node.SetupNode.{SetupNode}
 use Rattle.someip_world_rules.specs.Runs.{World}

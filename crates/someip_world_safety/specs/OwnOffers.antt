@@ -5,7 +5,7 @@ use Rattle.std.specs.Net.Socket.{v4_ip}
 use Rattle.sd_instances.specs.declared.keys.InstanceId.{InstanceId}
 use Rattle.someip_node_rules.specs.declared.config.Config.{Config}
 use Rattle.someip_node_rules.specs.declared.config.OfferedService.{OfferedService}
-use Rattle.someip_node_rules.specs.Setups.{offered_as}
+use Rattle.someip_node_rules.specs.forms.Setups.{offered_as}
 
 -- each offer of a configuration is at the node's own address, and is the only one of its instance
 abbrev pub OffersAtOwn : Config → Type 0

@@ -9,7 +9,7 @@ use Rattle.someip_rpc.specs.declared.ids.MessageId.{MessageId}
 use Rattle.someip_node_rules.specs.declared.config.Config.{Config}
 use Rattle.someip_node_rules.specs.declared.output.Output.{Output}
 use Rattle.someip_node_rules.specs.declared.output.Output.TheVariants.{Answered, Event, Subscribed}
-use Rattle.someip_node_rules.specs.Inputs.{Publish, PublishTo}
+use Rattle.someip_node_rules.specs.rules.Inputs.{Publish, PublishTo}
 use Rattle.someip_node_laws.specs.Published.{IsPublished, IsPublishedTo}
 use Rattle.someip_world_steps.specs.declared.step.Step.{Step}
 use Rattle.someip_world_setup.specs.declared.setup_node.SetupNode.{SetupNode}

@@ -10,15 +10,15 @@ use Rattle.sd_wire.specs.Kinds.{is_subscribe}
 use Rattle.sd_instances.specs.declared.eventgroup.Eventgroup.{Eventgroup}
 use Rattle.sd_subscribers.specs.SubscriberTables.{subscription_at}
 use Rattle.someip_node_rules.specs.declared.config.Config.{Config}
-use Rattle.someip_node_rules.specs.History.{History}
-use Rattle.someip_node_rules.specs.Inputs.{Datagram}
-use Rattle.someip_node_rules.specs.Items.{SubscriptionAccepted}
-use Rattle.someip_node_rules.specs.Learning.{eventgroup_in}
-use Rattle.someip_node_rules.specs.Packets.{Packet}
-use Rattle.someip_node_rules.specs.Plans.{TakesSubscribe}
-use Rattle.someip_node_rules.specs.Subscribing.{subscribe_in}
-use Rattle.someip_node_rules.specs.Trails.{Done, outcome_of, trail_of}
-use Rattle.someip_node_rules.specs.WishQuestions.{course_at}
+use Rattle.someip_node_rules.specs.histories.History.{History}
+use Rattle.someip_node_rules.specs.rules.Inputs.{Datagram}
+use Rattle.someip_node_rules.specs.histories.Items.{SubscriptionAccepted}
+use Rattle.someip_node_rules.specs.rules.Learning.{eventgroup_in}
+use Rattle.someip_node_rules.specs.trails.Packets.{Packet}
+use Rattle.someip_node_rules.specs.rules.Plans.{TakesSubscribe}
+use Rattle.someip_node_rules.specs.rules.ServerSubscribing.{subscribe_in}
+use Rattle.someip_node_rules.specs.trails.Trails.{Done, outcome_of, trail_of}
+use Rattle.someip_node_rules.specs.histories.WishQuestions.{course_at}
 use Rattle.someip_world_steps.specs.declared.step.Step.{Step}
 use Rattle.someip_world_setup.specs.declared.setup_node.SetupNode.{SetupNode}
 use Rattle.someip_world_rules.specs.Datagrams.{SentDatagram}

@@ -18,8 +18,8 @@ use Rattle.someip_node_rules.specs.declared.config.Common.{Common}
 use Rattle.someip_node_rules.specs.declared.config.Config.{Config}
 use Rattle.someip_node_rules.specs.declared.config.OfferedService.{OfferedService}
 use Rattle.someip_node_rules.specs.declared.config.WantedService.{WantedService}
-use Rattle.someip_node_rules.specs.GoodConfigs.{is_within, is_good_common, is_good_port, is_good_offer, is_good_want, has_own_ports, is_good}
-use Rattle.someip_node_rules.specs.Handling.{same_address}
+use Rattle.someip_node_rules.specs.forms.GoodConfigs.{is_within, is_good_common, is_good_port, is_good_offer, is_good_want, has_own_ports, is_good}
+use Rattle.someip_node_rules.specs.rules.Handling.{same_address}
 use Rattle.someip_world_setup.specs.declared.setup_node.SetupNode.{SetupNode}
 use Rattle.someip_world_setup_parts.specs.Keys.{is_name}
 use Rattle.someip_world_setup_parts.specs.Clashes.{has_repeat, same_number, same_instance, has_equal_names, has_equal_addresses, has_equal_ports, offered_by, has_equal_offers, has_equal_wants, has_equal_ids_offered, has_equal_ids_wanted, has_equal_ids_of, has_liar_offers, has_liar_wants, has_liar_tables, has_clash}

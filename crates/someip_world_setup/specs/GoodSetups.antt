@@ -5,8 +5,8 @@ use Rattle.std.specs.declared.net.ipv4_addr.Ipv4Addr.{Ipv4Addr}
 use Rattle.sd_instances.specs.declared.keys.InstanceId.{InstanceId}
 use Rattle.sd_instances.specs.declared.phases.Phases.{Phases}
 use Rattle.someip_node_rules.specs.declared.config.Common.{Common}
-use Rattle.someip_node_rules.specs.GoodConfigs.{is_within, is_good_common, is_good, is_good_delay}
-use Rattle.someip_node_rules.specs.Handling.{same_address}
+use Rattle.someip_node_rules.specs.forms.GoodConfigs.{is_within, is_good_common, is_good, is_good_delay}
+use Rattle.someip_node_rules.specs.rules.Handling.{same_address}
 use Rattle.std.specs.Coded.{Coded, code_by, coded×, coded_list}
 use Rattle.someip_node_rules.specs.contracts.config.Common as common
 use Rattle.someip_world_setup.specs.contracts.setup_node.SetupNode as node

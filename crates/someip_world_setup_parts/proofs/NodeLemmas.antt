@@ -19,8 +19,8 @@ use Rattle.sd_instances.specs.KeyOrder.{instances_total}
 use Rattle.someip_node_rules.specs.declared.config.Config.{Config}
 use Rattle.someip_node_rules.specs.declared.config.OfferedService.{OfferedService}
 use Rattle.someip_node_rules.specs.declared.config.WantedService.{WantedService}
-use Rattle.someip_node_rules.specs.GoodConfigs.{is_within, is_good_port, is_good_id, is_good_event, is_good_instance, is_good_offer, is_good_want}
-use Rattle.someip_node_rules.specs.Handling.{same_address}
+use Rattle.someip_node_rules.specs.forms.GoodConfigs.{is_within, is_good_port, is_good_id, is_good_event, is_good_instance, is_good_offer, is_good_want}
+use Rattle.someip_node_rules.specs.rules.Handling.{same_address}
 use Rattle.someip_world_setup_parts.specs.Clashes.{has_repeat, same_number, same_instance, offered_id, wanted_id, has_equal_members, has_equal_ids, has_equal_ids_offered, has_equal_ids_wanted}
 use Rattle.someip_world_setup_parts.specs.Values.{ListedValue, OfferValue, WantValue}
 use Rattle.someip_world_setup_parts.specs.Made.{OfferMade, WantMade, plain_entries, keys_of_set, set_of, keyed_list, lists_of, offered_view, wanted_view, keyed_offer, keyed_want, offers_made, wants_made}

@@ -4,7 +4,7 @@ use Rattle.std.specs.List.{list_all, AllByRecursion}
 use Rattle.std.specs.Option.{IfSome, option_and_then}
 use Rattle.std.proofs.lemmas.Bool.{and_parts, and_from, leb-true, le-leb, leb-false, ne_eqb, or_parts, eqb-false}
 use Rattle.toml.specs.Data.{Data, as_integer, as_str, get}
-use Rattle.someip_node_rules.specs.GoodConfigs.{is_within, is_good_id, is_good_event, is_good_instance}
+use Rattle.someip_node_rules.specs.forms.GoodConfigs.{is_within, is_good_id, is_good_event, is_good_instance}
 use Rattle.someip_world_setup_parts.specs.Keys.{◌>>=◌, within, integer_at, integer_or, number_within, number_or, flag_or, is_name, name_at, address_at}
 use Rattle.someip_world_setup_parts.specs.Lists.{found_at_each, id_of, ids_of, tables_at, tables_or_none, integers_or_none, integers_at}
 use Rattle.someip_world_setup_parts.specs.Values.{ListedValue, OfferValue, WantValue, NodeValue, PhasesValue, SetupValue}

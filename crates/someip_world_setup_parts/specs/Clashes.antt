@@ -5,9 +5,9 @@ use Rattle.std.specs.Ordering.{eq_by_cmp, nat_cmp}
 use Rattle.std.specs.declared.net.ipv4_addr.Ipv4Addr.{Ipv4Addr}
 use Rattle.sd_instances.specs.declared.keys.InstanceId.{InstanceId}
 use Rattle.sd_instances.specs.Keys.{instance_cmp}
-use Rattle.someip_node_rules.specs.Handling.{same_address}
+use Rattle.someip_node_rules.specs.rules.Handling.{same_address}
 use Rattle.someip_world_setup_parts.specs.Values.{ListedValue, OfferValue, WantValue, NodeValue, SetupValue}
-use Rattle.someip_node_rules.specs.Setups.{discovery_port}
+use Rattle.someip_node_rules.specs.forms.Setups.{discovery_port}
 
 -- one of a list is the same as a later one
 abbrev pub has_repeat : {A : Type 0} → (A → A → Bool) → List A → Bool

@@ -4,7 +4,7 @@ use Rattle.toml.specs.Data.{Data}
 use Rattle.someip_world_setup_parts.specs.Keys.{◌>>=◌, number_within, number_or, flag_or, name_at, address_at}
 use Rattle.someip_world_setup_parts.specs.Lists.{found_at_each, tables_at, tables_or_none, integers_at, integers_or_none, ids_of}
 use Rattle.someip_world_setup_parts.specs.Values.{ListedValue, OfferValue, WantValue, NodeValue, PhasesValue, CommonValue, SetupValue}
-use Rattle.someip_node_rules.specs.GoodConfigs.{greatest_message_limit}
+use Rattle.someip_node_rules.specs.forms.GoodConfigs.{greatest_message_limit}
 
 -- an ID: of a service, of an instance or of an eventgroup, from 1 to FFFE
 abbrev pub id_at : List ℕ → Data → Option ℕ

@@ -1,6 +1,6 @@
 //! What all nodes share.
 ghost use Rattle.std.specs.Prelude.{◌≡◌, true, pos, codes, IfOk};
-ghost use Rattle.someip_node_rules.specs.GoodConfigs.{greatest_message_limit, is_good_common, is_within};
+ghost use Rattle.someip_node_rules.specs.forms.GoodConfigs.{greatest_message_limit, is_good_common, is_within};
 ghost use Rattle.toml.specs.View.{view};
 ghost use Rattle.someip_world_setup_parts.specs.Keys.{IsAsFound, number_or};
 ghost use Rattle.someip_world_setup_parts.specs.Says.{said_phases, said_common};

@@ -1,6 +1,6 @@
 //! The nodes.
 ghost use Rattle.std.specs.Prelude.{◌≡◌, true, codes, map, IfOk};
-ghost use Rattle.someip_node_rules.specs.GoodConfigs.{is_good_common};
+ghost use Rattle.someip_node_rules.specs.forms.GoodConfigs.{is_good_common};
 ghost use Rattle.toml.specs.View.{view};
 ghost use Rattle.someip_world_setup_parts.specs.Keys.{IsAsFound, number_within};
 ghost use Rattle.someip_world_setup_parts.specs.Lists.{found_at_each};

@@ -1,6 +1,6 @@
 //! The numbers at the keys of a table.
 ghost use Rattle.std.specs.Prelude.{◌≡◌, ◌≤◌, true, IfOk};
-ghost use Rattle.someip_node_rules.specs.GoodConfigs.{is_within};
+ghost use Rattle.someip_node_rules.specs.forms.GoodConfigs.{is_within};
 ghost use Rattle.toml.specs.View.{view};
 ghost use Rattle.someip_world_setup_parts.specs.Keys.{IsAsFound, integer_at, integer_or, number_or, within};
 ghost use Rattle.someip_world_setup_parts.specs.Says.{id_at, port_at, major_at, ttl_at, count_or, time_or};

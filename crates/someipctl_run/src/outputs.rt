@@ -3,7 +3,7 @@ ghost use Rattle.std.specs.Prelude.{◌≡◌, ◌∷◌, [], IfOk, OnOk, OnErr,
 ghost use Rattle.someip_node_rules.specs.declared.output.Output.TheVariants as output;
 ghost use Rattle.someipctl_print.specs.Sending.{Sends, Stops};
 ghost use Rattle.someipctl_print.specs.Words.{ended, word_text};
-ghost use Rattle.someip_node_rules.specs.OutputWords.{output_words, token_word};
+ghost use Rattle.someip_node_rules.specs.forms.OutputWords.{output_words, token_word};
 ghost use Rattle.someipctl_run.specs.Outputs.{told_words};
 
 use sd_core::{Cause, Eventgroup, InstanceId};

@@ -3,10 +3,10 @@ use Rattle.std.proofs.Common.{◌≡◌, ◌<◌, ◌≤◌, ◌⊎◌, inl, inr
 use Rattle.std.specs.List.{Contains, list_any}
 use Rattle.std.proofs.lemmas.Bool.{cases_lt, lt-ltb, ltb-true}
 use Rattle.std.proofs.lemmas.List.Folds.{Any-from_list_any, list_any_at}
-use Rattle.someip_node_rules.specs.GoodConfigs.{is_good}
-use Rattle.someip_node_rules.specs.Plans.{Rule}
+use Rattle.someip_node_rules.specs.forms.GoodConfigs.{is_good}
+use Rattle.someip_node_rules.specs.rules.Plans.{Rule}
 use Rattle.someip_node_rules.specs.declared.config.Config.{Config}
-use Rattle.someip_node_rules.proofs.MemberLemmas.{all_from_members, all_map, at_member}
+use Rattle.someip_node_rules.proofs.lists.MemberLemmas.{all_from_members, all_map, at_member}
 use Rattle.someip_world_steps.specs.declared.step.Step.{Step}
 use Rattle.someip_world_setup.specs.declared.setup_node.SetupNode.{SetupNode}
 use Rattle.someip_world_rules.specs.Announced.{AllFits}

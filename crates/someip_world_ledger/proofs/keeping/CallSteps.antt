@@ -3,24 +3,24 @@ use Rattle.std.proofs.Common.{◌≡◌, ℕ, true, false, map, Ok, refl, ap}
 use Rattle.std.specs.FinMap as finite
 use Rattle.std.specs.List.{AllByRecursion, Contains, flat_map}
 use Rattle.someip_node_laws.specs.Fitting.{FitsWire}
-use Rattle.someip_node_rules.specs.GoodConfigs.{is_good}
-use Rattle.someip_node_rules.specs.History.{History}
-use Rattle.someip_node_rules.specs.Inputs as inputs
-use Rattle.someip_node_rules.specs.Inputs.{Input}
-use Rattle.someip_node_rules.specs.Plans.{Work}
-use Rattle.someip_node_rules.specs.Steps.{step}
-use Rattle.someip_node_rules.specs.Trails.{given_by, trail_of}
+use Rattle.someip_node_rules.specs.forms.GoodConfigs.{is_good}
+use Rattle.someip_node_rules.specs.histories.History.{History}
+use Rattle.someip_node_rules.specs.rules.Inputs as inputs
+use Rattle.someip_node_rules.specs.rules.Inputs.{Input}
+use Rattle.someip_node_rules.specs.rules.Plans.{Work}
+use Rattle.someip_node_rules.specs.steps.Steps.{step}
+use Rattle.someip_node_rules.specs.trails.Trails.{given_by, trail_of}
 use Rattle.someip_world_exchanges.specs.Namings.{named_in}
 use Rattle.someip_world_exchanges.specs.Openings.{OpensBy}
 use Rattle.someip_world_exchanges.specs.declared.exchange_key.CallExchange.{CallExchange}
 use Rattle.someip_world_exchanges.specs.declared.exchange_key.ExchangeKey.TheVariants as keys
 use Rattle.someip_world_exchanges.specs.declared.naming.Naming.{Naming}
 use Rattle.someip_world_exchanges.specs.declared.naming.Side.TheVariants.{Answerer, Opener}
-use Rattle.someip_world_exchanges.proofs.CallOpenings.{call_named_opens, call_opens_named, opener_of}
-use Rattle.someip_world_exchanges.proofs.EventOpenings.{next_key, publish_names, publish_to_names, publishes_offered, publishes_to_offered}
-use Rattle.someip_world_exchanges.proofs.OpeningItems.{call_key_by_call, is_sending}
-use Rattle.someip_world_exchanges.proofs.RuleInputs.{is_call}
-use Rattle.someip_world_exchanges.proofs.SentNames.{answer_names, given_among, named_among, quiet_names}
+use Rattle.someip_world_exchanges.proofs.openings.CallOpenings.{call_named_opens, call_opens_named, opener_of}
+use Rattle.someip_world_exchanges.proofs.openings.EventOpenings.{next_key, publish_names, publish_to_names, publishes_offered, publishes_to_offered}
+use Rattle.someip_world_exchanges.proofs.openings.OpeningItems.{call_key_by_call, is_sending}
+use Rattle.someip_world_exchanges.proofs.openings.RuleInputs.{is_call}
+use Rattle.someip_world_exchanges.proofs.openings.SentNames.{answer_names, given_among, named_among, quiet_names}
 use Rattle.someip_world_ledger.specs.Booking.{Openings, opened_by_all}
 use Rattle.someip_world_ledger.specs.Contents.{said_by_outputs}
 use Rattle.someip_world_ledger.proofs.reading.OutputLemmas.{step_named, step_names}

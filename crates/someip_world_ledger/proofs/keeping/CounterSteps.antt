@@ -5,15 +5,15 @@ use Rattle.std.specs.List.{AllByRecursion, Contains, cons_option, flat_map}
 use Rattle.std.specs.Option.{option_map_or}
 use Rattle.sd_instances.specs.declared.eventgroup.Eventgroup.{Eventgroup}
 use Rattle.someip_node_laws.specs.Fitting.{FitsWire}
-use Rattle.someip_node_rules.specs.GoodConfigs.{is_good}
-use Rattle.someip_node_rules.specs.History.{History}
-use Rattle.someip_node_rules.specs.Inputs.{Input}
-use Rattle.someip_node_rules.specs.Items as items
-use Rattle.someip_node_rules.specs.Items.{Item}
-use Rattle.someip_node_rules.specs.Plans.{Work}
-use Rattle.someip_node_rules.specs.Steps.{step}
-use Rattle.someip_node_rules.specs.Trails.{given_by, trail_of}
-use Rattle.someip_node_rules.specs.WishQuestions.{course_at}
+use Rattle.someip_node_rules.specs.forms.GoodConfigs.{is_good}
+use Rattle.someip_node_rules.specs.histories.History.{History}
+use Rattle.someip_node_rules.specs.rules.Inputs.{Input}
+use Rattle.someip_node_rules.specs.histories.Items as items
+use Rattle.someip_node_rules.specs.histories.Items.{Item}
+use Rattle.someip_node_rules.specs.rules.Plans.{Work}
+use Rattle.someip_node_rules.specs.steps.Steps.{step}
+use Rattle.someip_node_rules.specs.trails.Trails.{given_by, trail_of}
+use Rattle.someip_node_rules.specs.histories.WishQuestions.{course_at}
 use Rattle.someip_node_rules.specs.declared.config.Config.{Config}
 use Rattle.someip_node_rules.specs.declared.output.Output.{Output}
 use Rattle.someip_world_steps.specs.declared.step.Step.{Step}
@@ -28,7 +28,7 @@ use Rattle.someip_world_exchanges.specs.Namings.{of_subscription}
 use Rattle.someip_world_exchanges.specs.Openings.{Opens, OpensBy}
 use Rattle.someip_world_exchanges.specs.declared.exchange_key.ExchangeKey.TheVariants as keys
 use Rattle.someip_world_exchanges.specs.declared.exchange_key.SubscriptionExchange.{SubscriptionExchange}
-use Rattle.someip_world_exchanges.proofs.SubscribesBegin.{all_begin, counted_begin, only_begin}
+use Rattle.someip_world_exchanges.proofs.beginnings.SubscribesBegin.{all_begin, counted_begin, only_begin}
 use Rattle.someip_world_ledger.specs.Books.{LifeKept, NoteKept, note_at}
 use Rattle.someip_world_ledger.specs.Booking.{Openings, arrived, arrived_with, life_then, opened_by_all, publication_of, published_session, said_by_lines}
 use Rattle.someip_world_ledger.specs.Booking as booking

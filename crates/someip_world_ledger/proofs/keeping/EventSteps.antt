@@ -13,15 +13,15 @@ use Rattle.sd_instances.specs.declared.keys.InstanceId.{InstanceId}
 use Rattle.someip_rpc.specs.Events.{event_of}
 use Rattle.someip_rpc.specs.Sessions.{session_after, session_after_last}
 use Rattle.someip_rpc.specs.declared.ids.EventId.{EventId}
-use Rattle.someip_node_rules.specs.CallQuestions.{times_published}
-use Rattle.someip_node_rules.specs.Copies.{IsCopy, IsCopyOfOffer}
-use Rattle.someip_node_rules.specs.GoodConfigs.{is_good}
-use Rattle.someip_node_rules.specs.History.{History}
-use Rattle.someip_node_rules.specs.Inputs as inputs
-use Rattle.someip_node_rules.specs.Inputs.{Input}
-use Rattle.someip_node_rules.specs.Plans.{Work}
-use Rattle.someip_node_rules.specs.Setups.{offered_as}
-use Rattle.someip_node_rules.specs.Steps.{step}
+use Rattle.someip_node_rules.specs.histories.CallQuestions.{times_published}
+use Rattle.someip_node_rules.specs.trails.Copies.{IsCopy, IsCopyOfOffer}
+use Rattle.someip_node_rules.specs.forms.GoodConfigs.{is_good}
+use Rattle.someip_node_rules.specs.histories.History.{History}
+use Rattle.someip_node_rules.specs.rules.Inputs as inputs
+use Rattle.someip_node_rules.specs.rules.Inputs.{Input}
+use Rattle.someip_node_rules.specs.rules.Plans.{Work}
+use Rattle.someip_node_rules.specs.forms.Setups.{offered_as}
+use Rattle.someip_node_rules.specs.steps.Steps.{step}
 use Rattle.someip_node_rules.specs.declared.config.Config.{Config}
 use Rattle.someip_node_rules.specs.declared.config.OfferedService.{OfferedService}
 use Rattle.someip_world_steps.specs.declared.step.Step.{Step}
@@ -35,9 +35,9 @@ use Rattle.someip_world_exchanges.specs.Namings.{of_event}
 use Rattle.someip_world_exchanges.specs.Openings.{OpensBy}
 use Rattle.someip_world_exchanges.specs.declared.exchange_key.EventExchange.{EventExchange}
 use Rattle.someip_world_exchanges.specs.declared.exchange_key.ExchangeKey.TheVariants as keys
-use Rattle.someip_world_exchanges.proofs.EventOpenings.{next_key, publish_opens, publish_opens_one, publish_to_opens, publish_to_opens_one, publishes_offered, publishes_to_offered}
-use Rattle.someip_world_exchanges.proofs.OpeningItems.{other_opens_no_event}
-use Rattle.someip_world_exchanges.proofs.RuleInputs.{is_publication}
+use Rattle.someip_world_exchanges.proofs.openings.EventOpenings.{next_key, publish_opens, publish_opens_one, publish_to_opens, publish_to_opens_one, publishes_offered, publishes_to_offered}
+use Rattle.someip_world_exchanges.proofs.openings.OpeningItems.{other_opens_no_event}
+use Rattle.someip_world_exchanges.proofs.openings.RuleInputs.{is_publication}
 use Rattle.someip_world_ledger.specs.Books.{LifeKept, TakenKeys, taken_with}
 use Rattle.someip_world_ledger.specs.Booking.{publication_by, publication_in, publication_of, published_key}
 use Rattle.someip_world_ledger.proofs.StepInputs.{restart_takes_none, takes_same}

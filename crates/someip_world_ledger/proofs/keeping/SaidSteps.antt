@@ -7,7 +7,7 @@ use Rattle.std.specs.Option.{option_map_or}
 use Rattle.std.specs.Ordering.{eq_by_cmp}
 use Rattle.std.proofs.lemmas.List.Elements.{Contains-append_cases, Contains-append_left, Contains-append_right}
 use Rattle.someip_tables.proofs.Entries.{own_test, same_by_test}
-use Rattle.someip_node_rules.proofs.MemberLemmas.{at_member, only_one}
+use Rattle.someip_node_rules.proofs.lists.MemberLemmas.{at_member, only_one}
 use Rattle.someip_world_exchanges.specs.KeyOrder.{calls_total, call_cmp, exact_calls}
 use Rattle.someip_world_exchanges.specs.declared.exchange_key.CallExchange.{CallExchange}
 use Rattle.someip_world_exchanges.specs.declared.exchange_key.ExchangeKey.{ExchangeKey}
@@ -16,8 +16,8 @@ use Rattle.someip_world_exchanges.specs.declared.exchange_key.SubscriptionExchan
 use Rattle.someip_world_exchanges.specs.declared.naming.Naming.{Naming}
 use Rattle.someip_world_exchanges.specs.declared.naming.Side.{Side}
 use Rattle.someip_world_exchanges.specs.declared.naming.Side.TheVariants.{Answerer, Opener}
-use Rattle.someip_world_exchanges.proofs.Among.{is_among}
-use Rattle.someip_world_exchanges.proofs.CallOpenings.{opener_of}
+use Rattle.someip_world_exchanges.proofs.runs.Among.{is_among}
+use Rattle.someip_world_exchanges.proofs.openings.CallOpenings.{opener_of}
 use Rattle.someip_world_ledger.specs.Books.{taken_with}
 use Rattle.someip_world_ledger.specs.Booking.{Openings, opened_by, opened_by_all, opened_by_key}
 use Rattle.someip_world_ledger.specs.declared.said.Said.{Said}

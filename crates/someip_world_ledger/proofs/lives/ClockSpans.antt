@@ -1,12 +1,12 @@
 -- In a life of a node its clock never goes back.
 use Rattle.std.proofs.Common.{◌≡◌, ◌<◌, ◌≤◌, ◌⊎◌, inl, inr, arith, ℕ, suc, ◌+◌, Bool, true, false, eqb, List, take, slice_get, slice_set, Some, Result, Ok, Err, refl, sym, ap, subst, ◌∙◌}
 use Rattle.std.proofs.lemmas.Bool.{eqb-true, eqb-false}
-use Rattle.someip_node_rules.specs.History.{History}
-use Rattle.someip_node_rules.specs.Inputs as inputs
-use Rattle.someip_node_rules.specs.Inputs.{Input}
-use Rattle.someip_node_rules.specs.Plans.{Work}
-use Rattle.someip_node_rules.specs.Questions.{clock_at}
-use Rattle.someip_node_rules.specs.Steps.{step}
+use Rattle.someip_node_rules.specs.histories.History.{History}
+use Rattle.someip_node_rules.specs.rules.Inputs as inputs
+use Rattle.someip_node_rules.specs.rules.Inputs.{Input}
+use Rattle.someip_node_rules.specs.rules.Plans.{Work}
+use Rattle.someip_node_rules.specs.histories.Questions.{clock_at}
+use Rattle.someip_node_rules.specs.steps.Steps.{step}
 use Rattle.someip_node_rules.specs.declared.config.Config.{Config}
 use Rattle.someip_node_rules.specs.declared.error.NodeError.{NodeError}
 use Rattle.someip_world_steps.specs.declared.step.Step.{Step}
@@ -15,7 +15,7 @@ use Rattle.someip_world_rules.specs.Deeds.{Deed, Takes, Restarts, Injects, done_
 use Rattle.someip_world_rules.specs.Runs.{World, history_after, world_after, world_of}
 use Rattle.someip_world_rules.specs.Turns.{LeadTo, Turn}
 use Rattle.someip_world_rules.specs.Deliveries.{LivesOn}
-use Rattle.someip_world_exchanges.proofs.ClockLemmas.{other_clock, tick_clock}
+use Rattle.someip_world_exchanges.proofs.runs.ClockLemmas.{other_clock, tick_clock}
 use Rattle.someip_world_rules.proofs.Fronts.{get_set_other, get_set_same, on_the_way, one_world, within}
 use Rattle.someip_world_rules.proofs.Lives.{below_next}
 

@@ -1,17 +1,17 @@
 -- The clock that is kept of a life goes on with that of the node.
 use Rattle.std.proofs.Common.{◌≡◌, ℕ, ◌+◌, ◌^◌, false, nat_lt, if◌then◌else◌, List, arith, Option, None, Some, Ok, refl, sym, ap, ◌∙◌}
 use Rattle.std.proofs.lemmas.Bool.{lt-ltb, ltb-false}
-use Rattle.someip_node_rules.specs.History.{History}
-use Rattle.someip_node_rules.specs.Inputs.{Input}
-use Rattle.someip_node_rules.specs.Plans.{Work}
-use Rattle.someip_node_rules.specs.Questions.{clock_at}
-use Rattle.someip_node_rules.specs.Steps.{step}
+use Rattle.someip_node_rules.specs.histories.History.{History}
+use Rattle.someip_node_rules.specs.rules.Inputs.{Input}
+use Rattle.someip_node_rules.specs.rules.Plans.{Work}
+use Rattle.someip_node_rules.specs.histories.Questions.{clock_at}
+use Rattle.someip_node_rules.specs.steps.Steps.{step}
 use Rattle.someip_world_steps.specs.declared.step.Step.{Step}
 use Rattle.someip_world_steps.specs.declared.step.Step.TheVariants as steps
 use Rattle.someip_world_rules.specs.Deeds.{clock_limit}
 use Rattle.someip_world_rules.specs.declared.line.Line.{Line}
-use Rattle.someip_world_exchanges.proofs.ClockLemmas.{other_clock, tick_clock}
-use Rattle.someip_world_exchanges.proofs.RuleInputs.{is_tick}
+use Rattle.someip_world_exchanges.proofs.runs.ClockLemmas.{other_clock, tick_clock}
+use Rattle.someip_world_exchanges.proofs.openings.RuleInputs.{is_tick}
 use Rattle.someip_world_ledger.specs.Books.{LifeKept, NoteKept, note_at}
 use Rattle.someip_world_ledger.specs.Booking.{Publication, arrived, arrived_with, clock_after, life_on, published_session}
 use Rattle.someip_world_ledger.specs.declared.stream.Stream.{Stream}

@@ -3,10 +3,10 @@ use Rattle.std.proofs.Common.{◌≡◌, ℕ, suc, Bool, true, false, if◌then�
 use Rattle.std.specs.declared.net.socket_addr.SocketAddrV4.{SocketAddrV4}
 use Rattle.someip_wire.specs.Spelling.{MessageValue}
 use Rattle.someip_reassembly.specs.declared.key.ReassemblyKey.{ReassemblyKey}
-use Rattle.someip_node_rules.specs.History.{History}
-use Rattle.someip_node_rules.specs.Inputs as inputs
-use Rattle.someip_node_rules.specs.Inputs.{Input}
-use Rattle.someip_node_rules.specs.Steps.{step}
+use Rattle.someip_node_rules.specs.histories.History.{History}
+use Rattle.someip_node_rules.specs.rules.Inputs as inputs
+use Rattle.someip_node_rules.specs.rules.Inputs.{Input}
+use Rattle.someip_node_rules.specs.steps.Steps.{step}
 use Rattle.someip_node_rules.specs.declared.config.Config.{Config}
 use Rattle.someip_node_rules.specs.declared.error.NodeError.{NodeError}
 use Rattle.someip_world_steps.specs.declared.step.Step.{Step}

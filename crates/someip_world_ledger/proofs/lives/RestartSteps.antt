@@ -2,11 +2,11 @@
 use Rattle.std.proofs.Common.{◌≡◌, ℕ, ◌<◌, suc, arith, Bool, true, false, if◌then◌else◌, List, [], Option, None, Some, Ok, Err, refl, sym, ap, subst, ◌∙◌}
 use Rattle.std.specs.FinMap as finite
 use Rattle.std.specs.FinMap.{get-empty}
-use Rattle.someip_node_rules.specs.History.{History}
-use Rattle.someip_node_rules.specs.Inputs.{Input}
-use Rattle.someip_node_rules.specs.CallQuestions.{times_published}
-use Rattle.someip_node_rules.specs.Questions.{clock_at}
-use Rattle.someip_node_rules.specs.WishQuestions.{course_at}
+use Rattle.someip_node_rules.specs.histories.History.{History}
+use Rattle.someip_node_rules.specs.rules.Inputs.{Input}
+use Rattle.someip_node_rules.specs.histories.CallQuestions.{times_published}
+use Rattle.someip_node_rules.specs.histories.Questions.{clock_at}
+use Rattle.someip_node_rules.specs.histories.WishQuestions.{course_at}
 use Rattle.std.specs.Ordering.{nat_cmp}
 use Rattle.sd_instances.specs.Eventgroups.{eventgroup_cmp}
 use Rattle.someip_rpc.specs.Ids.{event_cmp}

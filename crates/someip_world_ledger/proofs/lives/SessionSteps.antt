@@ -16,22 +16,22 @@ use Rattle.someip_rpc.specs.IdOrder.{events_total, exact_events}
 use Rattle.someip_rpc.specs.Ids.{event_cmp}
 use Rattle.someip_rpc.specs.Sessions.{next_session, session_after, session_after_last}
 use Rattle.someip_rpc.specs.declared.ids.EventId.{EventId}
-use Rattle.someip_node_rules.specs.CallQuestions.{times_published}
-use Rattle.someip_node_rules.specs.Copies.{IsCopy, IsCopyOfOffer}
-use Rattle.someip_node_rules.specs.History.{History}
-use Rattle.someip_node_rules.specs.Inputs as inputs
-use Rattle.someip_node_rules.specs.Inputs.{Input}
-use Rattle.someip_node_rules.specs.Plans.{Work}
-use Rattle.someip_node_rules.specs.Setups.{offered_as}
-use Rattle.someip_node_rules.specs.Steps.{step}
+use Rattle.someip_node_rules.specs.histories.CallQuestions.{times_published}
+use Rattle.someip_node_rules.specs.trails.Copies.{IsCopy, IsCopyOfOffer}
+use Rattle.someip_node_rules.specs.histories.History.{History}
+use Rattle.someip_node_rules.specs.rules.Inputs as inputs
+use Rattle.someip_node_rules.specs.rules.Inputs.{Input}
+use Rattle.someip_node_rules.specs.rules.Plans.{Work}
+use Rattle.someip_node_rules.specs.forms.Setups.{offered_as}
+use Rattle.someip_node_rules.specs.steps.Steps.{step}
 use Rattle.someip_node_rules.specs.declared.config.Config.{Config}
 use Rattle.someip_node_rules.specs.declared.config.OfferedService.{OfferedService}
-use Rattle.someip_node_laws.proofs.PublishedLemmas.{is_published, is_published_to}
+use Rattle.someip_node_laws.proofs.rules.PublishedLemmas.{is_published, is_published_to}
 use Rattle.someip_world_steps.specs.declared.step.Step.{Step}
 use Rattle.someip_world_steps.specs.declared.step.Step.TheVariants as steps
 use Rattle.someip_world_rules.specs.declared.line.Line.{Line}
-use Rattle.someip_world_exchanges.proofs.EventCounts.{other_counts, publish_counts, publish_counts_no_other, publish_to_counts, publish_to_counts_no_other}
-use Rattle.someip_world_exchanges.proofs.RuleInputs.{is_publication}
+use Rattle.someip_world_exchanges.proofs.openings.EventCounts.{other_counts, publish_counts, publish_counts_no_other, publish_to_counts, publish_to_counts_no_other}
+use Rattle.someip_world_exchanges.proofs.openings.RuleInputs.{is_publication}
 use Rattle.someip_world_ledger.specs.Books.{LifeKept, NoteKept, note_at}
 use Rattle.someip_world_ledger.specs.Booking.{arrived, arrived_with, clock_after, life_then, publication_by, publication_of, published_session}
 use Rattle.someip_world_ledger.specs.declared.stream.Stream.{Stream}

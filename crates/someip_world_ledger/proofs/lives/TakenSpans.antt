@@ -1,7 +1,7 @@
 -- At a step whose input is taken a life goes on, and what is delivered is one datagram, of which a note is kept.
 use Rattle.std.proofs.Common.{◌≡◌, arith, ℕ, ◌+◌, suc, List, Some, sym, ap, subst, ◌∙◌}
 use Rattle.std.specs.List.{AllZip}
-use Rattle.someip_node_rules.specs.Inputs.{Input}
+use Rattle.someip_node_rules.specs.rules.Inputs.{Input}
 use Rattle.someip_node_rules.specs.declared.config.Config.{Config}
 use Rattle.someip_world_steps.specs.declared.step.Step.{Step}
 use Rattle.someip_world_steps.specs.declared.step.Step.TheVariants as steps

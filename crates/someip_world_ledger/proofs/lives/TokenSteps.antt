@@ -7,16 +7,16 @@ use Rattle.std.specs.declared.net.socket_addr.SocketAddrV4.{SocketAddrV4}
 use Rattle.sd_instances.specs.declared.keys.InstanceId.{InstanceId}
 use Rattle.someip_wire.specs.declared.header.Header.{Header}
 use Rattle.someip_node_rules.specs.declared.output.Output.TheVariants.{Request}
-use Rattle.someip_node_rules.specs.Bringing.{Brings}
-use Rattle.someip_node_rules.specs.History.{History}
-use Rattle.someip_node_rules.specs.Inputs as inputs
-use Rattle.someip_node_rules.specs.Inputs.{Input}
-use Rattle.someip_node_rules.specs.Meanings.{GivenBy}
-use Rattle.someip_node_rules.specs.Outputs as outputs
-use Rattle.someip_node_rules.specs.Plans.{Rule, TakesRequest, Work}
-use Rattle.someip_node_rules.specs.Steps.{step}
+use Rattle.someip_node_rules.specs.trails.Bringing.{Brings}
+use Rattle.someip_node_rules.specs.histories.History.{History}
+use Rattle.someip_node_rules.specs.rules.Inputs as inputs
+use Rattle.someip_node_rules.specs.rules.Inputs.{Input}
+use Rattle.someip_node_rules.specs.trails.Meanings.{GivenBy}
+use Rattle.someip_node_rules.specs.forms.Outputs as outputs
+use Rattle.someip_node_rules.specs.rules.Plans.{Rule, TakesRequest, Work}
+use Rattle.someip_node_rules.specs.steps.Steps.{step}
 use Rattle.someip_node_rules.specs.declared.config.Config.{Config}
-use Rattle.someip_node_rules.specs.Trails.{Done}
+use Rattle.someip_node_rules.specs.trails.Trails.{Done}
 use Rattle.someip_world_steps.specs.declared.step.Step.{Step}
 use Rattle.someip_world_setup.specs.declared.setup_node.SetupNode.{SetupNode}
 use Rattle.someip_world_rules.specs.Datagrams.{SentDatagram}
@@ -26,7 +26,7 @@ use Rattle.someip_world_rules.specs.Turns.{Turn}
 use Rattle.someip_world_exchanges.specs.Belonging.{HandsUp, WasHandedUp}
 use Rattle.someip_world_rules.specs.Deliveries.{Delivers, dispatches_in}
 use Rattle.someip_world_rules.proofs.Deliverings.{delivered_in, one_delivery, one_turn}
-use Rattle.someip_world_exchanges.proofs.TokenLemmas.{given_token, token_given}
+use Rattle.someip_world_exchanges.proofs.openings.TokenLemmas.{given_token, token_given}
 use Rattle.someip_world_ledger.specs.Books.{LifeKept, NoteKept, PayloadNumbers}
 use Rattle.someip_world_ledger.specs.Booking.{answered_in, handed_up, tokens_told}
 use Rattle.someip_world_ledger.proofs.Kept.{IsNoted}

@@ -3,7 +3,7 @@ use Rattle.std.proofs.Common.{◌≡◌, arith, ℕ, ◌+◌, true, List, [], sl
 use Rattle.std.specs.Option.{option_map}
 use Rattle.someip_wire.specs.Spelling.{MessageValue}
 use Rattle.someip_segments.specs.Sent.{is_long}
-use Rattle.someip_node_rules.specs.Outputs as outputs
+use Rattle.someip_node_rules.specs.forms.Outputs as outputs
 use Rattle.someip_node_rules.specs.declared.config.Config.{Config}
 use Rattle.someip_world_steps.specs.declared.step.Step.{Step}
 use Rattle.someip_world_steps.specs.declared.step.Step.TheVariants as steps

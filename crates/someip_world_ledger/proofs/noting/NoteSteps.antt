@@ -10,15 +10,15 @@ use Rattle.someip_segments.specs.Sent.{is_long}
 use Rattle.std.proofs.lemmas.Cmp.{nat_list_cmp_total}
 use Rattle.someip_tables.proofs.Entries.{own_test}
 use Rattle.someip_rpc.specs.declared.request.Reply.{Reply}
-use Rattle.someip_node_rules.specs.Bringing.{Brings}
-use Rattle.someip_node_rules.specs.History.{History}
-use Rattle.someip_node_rules.specs.Inputs as inputs
-use Rattle.someip_node_rules.specs.Inputs.{Input}
-use Rattle.someip_node_rules.specs.Meanings.{GivenBy}
-use Rattle.someip_node_rules.specs.Outputs as outputs
-use Rattle.someip_node_rules.specs.Outputs.{Given}
-use Rattle.someip_node_rules.specs.Plans as plans
-use Rattle.someip_node_rules.specs.Plans.{Rule}
+use Rattle.someip_node_rules.specs.trails.Bringing.{Brings}
+use Rattle.someip_node_rules.specs.histories.History.{History}
+use Rattle.someip_node_rules.specs.rules.Inputs as inputs
+use Rattle.someip_node_rules.specs.rules.Inputs.{Input}
+use Rattle.someip_node_rules.specs.trails.Meanings.{GivenBy}
+use Rattle.someip_node_rules.specs.forms.Outputs as outputs
+use Rattle.someip_node_rules.specs.forms.Outputs.{Given}
+use Rattle.someip_node_rules.specs.rules.Plans as plans
+use Rattle.someip_node_rules.specs.rules.Plans.{Rule}
 use Rattle.someip_node_rules.specs.declared.config.Config.{Config}
 use Rattle.someip_node_rules.specs.declared.output.Output.{Output}
 use Rattle.someip_node_rules.specs.declared.output.Output.TheVariants.{Sent}
@@ -33,8 +33,8 @@ use Rattle.someip_world_exchanges.specs.Belonging.{Answered, WasHandedUp}
 use Rattle.someip_world_rules.specs.Deliveries.{Delivers, Dispatch, Does, IsInjected, Sends, dispatch_at, dispatch_in, dispatches_in}
 use Rattle.someip_world_rules.proofs.Deliverings.{one_turn}
 use Rattle.someip_world_rules.proofs.LiarLemmas.{taken_at}
-use Rattle.someip_world_exchanges.proofs.LongMessages.{long_payload}
-use Rattle.someip_world_exchanges.proofs.RuleInputs.{is_answer, no_answer_answers}
+use Rattle.someip_world_exchanges.proofs.messages.LongMessages.{long_payload}
+use Rattle.someip_world_exchanges.proofs.openings.RuleInputs.{is_answer, no_answer_answers}
 use Rattle.someip_world_ledger.specs.Books.{Book, LifeKept, NoteKept, PayloadNumbers, note_at}
 use Rattle.someip_world_ledger.specs.Booking.{answered_in, is_injection, long_payload_of, mute_note, note_of, notes_of, number_of, numbered}
 use Rattle.someip_world_ledger.proofs.InjectedSteps.{injected_so, injection_does_nothing}

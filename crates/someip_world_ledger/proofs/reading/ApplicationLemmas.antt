@@ -19,18 +19,18 @@ use Rattle.someip_rpc.specs.Calls.{kind_of_call}
 use Rattle.someip_rpc.specs.Servers.{kind_of_reply}
 use Rattle.someip_node_rules.specs.declared.config.Config.{Config}
 use Rattle.someip_node_rules.specs.declared.config.OfferedService.{OfferedService}
-use Rattle.someip_node_rules.specs.GoodConfigs.{is_good, is_good_common, is_good_id, is_good_instance, is_good_offer, is_good_port, is_good_want, has_own_ports}
-use Rattle.someip_node_rules.specs.Handling.{is_notification, same_address}
-use Rattle.someip_node_rules.specs.History.{History, answers_of}
-use Rattle.someip_node_rules.specs.Inputs.{Input}
-use Rattle.someip_node_rules.specs.Meanings.{GivenBy}
-use Rattle.someip_node_rules.specs.Outputs.{Sends}
-use Rattle.someip_node_rules.specs.Plans as plans
-use Rattle.someip_node_rules.specs.Plans.{Rule}
-use Rattle.someip_node_rules.specs.Sending.{IsEventTo, IsSent}
-use Rattle.someip_node_rules.specs.Setups.{offered_as}
-use Rattle.someip_node_rules.specs.Tables.{Tables}
-use Rattle.someip_node_rules.proofs.StepRules.{config_there}
+use Rattle.someip_node_rules.specs.forms.GoodConfigs.{is_good, is_good_common, is_good_id, is_good_instance, is_good_offer, is_good_port, is_good_want, has_own_ports}
+use Rattle.someip_node_rules.specs.rules.Handling.{is_notification, same_address}
+use Rattle.someip_node_rules.specs.histories.History.{History, answers_of}
+use Rattle.someip_node_rules.specs.rules.Inputs.{Input}
+use Rattle.someip_node_rules.specs.trails.Meanings.{GivenBy}
+use Rattle.someip_node_rules.specs.forms.Outputs.{Sends}
+use Rattle.someip_node_rules.specs.rules.Plans as plans
+use Rattle.someip_node_rules.specs.rules.Plans.{Rule}
+use Rattle.someip_node_rules.specs.trails.SendingRules.{IsEventTo, IsSent}
+use Rattle.someip_node_rules.specs.forms.Setups.{offered_as}
+use Rattle.someip_node_rules.specs.histories.Tables.{Tables}
+use Rattle.someip_node_rules.proofs.rules.StepRules.{config_there}
 use Rattle.someip_world_ledger.specs.Contents.{is_of_discovery}
 
 -- ---- the services of a good configuration

@@ -25,21 +25,21 @@ use Rattle.sd_wire.specs.Program.{reading}
 use Rattle.sd_wire.specs.Values.{EntryValue, good}
 use Rattle.sd_session.specs.declared.stamp.Stamp.{Stamp}
 use Rattle.someip_node_rules.specs.declared.output.Output.TheVariants.{Sent}
-use Rattle.someip_node_rules.specs.Entries.{discovery_message}
+use Rattle.someip_node_rules.specs.forms.Entries.{discovery_message}
 use Rattle.someip_node_laws.specs.Fitting.{FitsWire}
-use Rattle.someip_node_rules.specs.GoodConfigs.{is_good}
-use Rattle.someip_node_rules.specs.Handling.{is_notification}
-use Rattle.someip_node_rules.specs.History.{History, answers_of}
-use Rattle.someip_node_rules.specs.Inputs.{Input}
-use Rattle.someip_node_rules.specs.Meanings.{GivenBy, IsTold}
-use Rattle.someip_node_rules.specs.Outputs.{Given, Announces, Sends, Tells, datagram_of, written}
-use Rattle.someip_node_rules.proofs.MemberLemmas.{all_both, all_map, all_weaker, at_member}
+use Rattle.someip_node_rules.specs.forms.GoodConfigs.{is_good}
+use Rattle.someip_node_rules.specs.rules.Handling.{is_notification}
+use Rattle.someip_node_rules.specs.histories.History.{History, answers_of}
+use Rattle.someip_node_rules.specs.rules.Inputs.{Input}
+use Rattle.someip_node_rules.specs.trails.Meanings.{GivenBy, IsTold}
+use Rattle.someip_node_rules.specs.forms.Outputs.{Given, Announces, Sends, Tells, datagram_of, written}
+use Rattle.someip_node_rules.proofs.lists.MemberLemmas.{all_both, all_map, all_weaker, at_member}
 use Rattle.someip_world_rules.specs.Datagrams.{SentDatagram}
 use Rattle.someip_world_rules.proofs.AnnouncedLemmas.{announced_fits, announced_holds, one_message}
 use Rattle.someip_world_exchanges.specs.declared.naming.Naming.{Naming}
 use Rattle.someip_world_exchanges.specs.Beginnings.{subscribe_in_head, subscribe_of, subscribes_among, subscribes_in}
 use Rattle.someip_world_exchanges.specs.Namings.{named_by_entries, named_by_head, named_by_kind, named_in}
-use Rattle.someip_world_exchanges.proofs.WholeLemmas.{no_flag}
+use Rattle.someip_world_exchanges.proofs.messages.WholeLemmas.{no_flag}
 use Rattle.someip_world_ledger.specs.Contents.{is_of_discovery, named_alone, said_by_entries, said_by_head, said_by_header, said_by_items, said_by_message, said_by_reading, said_in, stream_by_items, stream_by_message, stream_in, subscribe_said, whole_header}
 use Rattle.someip_world_ledger.proofs.reading.ApplicationLemmas.{given_by_application, no_event}
 

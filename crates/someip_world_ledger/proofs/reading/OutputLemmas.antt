@@ -12,18 +12,18 @@ use Rattle.someip_segments.specs.Segments.{SegmentValue, segment_at, segment_hea
 use Rattle.someip_segments.specs.Sent.{PieceValue, Alone, InSegment, is_long, piece_message, segments_of, sent}
 use Rattle.someip_node_rules.specs.declared.output.Output.{Output}
 use Rattle.someip_node_rules.specs.declared.output.Output.TheVariants.{Sent}
-use Rattle.someip_node_rules.specs.Entries.{discovery_message}
+use Rattle.someip_node_rules.specs.forms.Entries.{discovery_message}
 use Rattle.someip_node_laws.specs.Fitting.{FitsWire}
-use Rattle.someip_node_rules.specs.GoodConfigs.{is_good}
-use Rattle.someip_node_rules.specs.History.{History}
-use Rattle.someip_node_rules.specs.Inputs.{Input}
-use Rattle.someip_node_rules.specs.Meanings.{GivenBy}
-use Rattle.someip_node_rules.specs.Outputs.{Given, Announces, Sends, Tells, datagram_of, written}
-use Rattle.someip_node_rules.specs.Plans.{Work}
-use Rattle.someip_node_rules.specs.Steps.{step}
-use Rattle.someip_node_rules.specs.Trails.{given_by, trail_of}
-use Rattle.someip_node_rules.proofs.MeaningLemmas.{all_given, outputs_written}
-use Rattle.someip_node_rules.proofs.MemberLemmas.{all_both, all_flat_map, all_from_members, all_members, all_weaker, at_member}
+use Rattle.someip_node_rules.specs.forms.GoodConfigs.{is_good}
+use Rattle.someip_node_rules.specs.histories.History.{History}
+use Rattle.someip_node_rules.specs.rules.Inputs.{Input}
+use Rattle.someip_node_rules.specs.trails.Meanings.{GivenBy}
+use Rattle.someip_node_rules.specs.forms.Outputs.{Given, Announces, Sends, Tells, datagram_of, written}
+use Rattle.someip_node_rules.specs.rules.Plans.{Work}
+use Rattle.someip_node_rules.specs.steps.Steps.{step}
+use Rattle.someip_node_rules.specs.trails.Trails.{given_by, trail_of}
+use Rattle.someip_node_rules.proofs.trails.MeaningLemmas.{all_given, outputs_written}
+use Rattle.someip_node_rules.proofs.lists.MemberLemmas.{all_both, all_flat_map, all_from_members, all_members, all_weaker, at_member}
 use Rattle.someip_world_rules.specs.Datagrams.{SentDatagram, sent_with}
 use Rattle.someip_world_rules.proofs.Sendings.{sends}
 use Rattle.someip_world_exchanges.specs.declared.naming.Naming.{Naming}

@@ -15,30 +15,30 @@ use Rattle.sd_wire.specs.Kinds.{has_type_subscribe}
 use Rattle.sd_wire.specs.Values.{EntryValue, ReadValue, good}
 use Rattle.sd_session.specs.declared.stamp.Stamp.{Stamp}
 use Rattle.someip_node_laws.specs.Fitting.{FitsWire, head_of}
-use Rattle.someip_node_rules.specs.GoodConfigs.{has_own_ports, is_good, is_good_common, is_good_eventgroup, is_good_instance, is_good_offer, is_good_port, is_good_want}
-use Rattle.someip_node_rules.specs.Handling.{same_address}
-use Rattle.someip_node_rules.specs.History.{History, answers_of}
-use Rattle.someip_node_rules.specs.Inputs.{Input}
-use Rattle.someip_node_rules.specs.Learning.{eventgroup_in}
-use Rattle.someip_node_rules.specs.Meanings.{GivenBy}
-use Rattle.someip_node_rules.specs.Outputs.{Given, Announces, Sends, Tells, written}
-use Rattle.someip_node_rules.specs.Plans as plans
-use Rattle.someip_node_rules.specs.Plans.{Rule, Work}
-use Rattle.someip_node_rules.specs.Sending.{IsAnnounced}
-use Rattle.someip_node_rules.specs.Setups.{discovery_endpoint}
-use Rattle.someip_node_rules.specs.Steps.{step}
-use Rattle.someip_node_rules.specs.Tables.{Tables}
-use Rattle.someip_node_rules.specs.Trails.{Done, given_by, trail_of}
+use Rattle.someip_node_rules.specs.forms.GoodConfigs.{has_own_ports, is_good, is_good_common, is_good_eventgroup, is_good_instance, is_good_offer, is_good_port, is_good_want}
+use Rattle.someip_node_rules.specs.rules.Handling.{same_address}
+use Rattle.someip_node_rules.specs.histories.History.{History, answers_of}
+use Rattle.someip_node_rules.specs.rules.Inputs.{Input}
+use Rattle.someip_node_rules.specs.rules.Learning.{eventgroup_in}
+use Rattle.someip_node_rules.specs.trails.Meanings.{GivenBy}
+use Rattle.someip_node_rules.specs.forms.Outputs.{Given, Announces, Sends, Tells, written}
+use Rattle.someip_node_rules.specs.rules.Plans as plans
+use Rattle.someip_node_rules.specs.rules.Plans.{Rule, Work}
+use Rattle.someip_node_rules.specs.trails.SendingRules.{IsAnnounced}
+use Rattle.someip_node_rules.specs.forms.Setups.{discovery_endpoint}
+use Rattle.someip_node_rules.specs.steps.Steps.{step}
+use Rattle.someip_node_rules.specs.histories.Tables.{Tables}
+use Rattle.someip_node_rules.specs.trails.Trails.{Done, given_by, trail_of}
 use Rattle.someip_node_rules.specs.declared.config.Config.{Config}
 use Rattle.someip_node_rules.specs.declared.config.WantedService.{WantedService}
 use Rattle.someip_node_rules.specs.declared.output.Output.TheVariants.{Sent}
-use Rattle.someip_node_rules.proofs.MeaningLemmas.{all_given, outputs_written}
-use Rattle.someip_node_rules.proofs.MemberLemmas.{all_both, all_flat_map, all_from_members, all_weaker}
-use Rattle.someip_node_rules.proofs.StepRules.{config_there}
+use Rattle.someip_node_rules.proofs.trails.MeaningLemmas.{all_given, outputs_written}
+use Rattle.someip_node_rules.proofs.lists.MemberLemmas.{all_both, all_flat_map, all_from_members, all_weaker}
+use Rattle.someip_node_rules.proofs.rules.StepRules.{config_there}
 use Rattle.someip_world_rules.specs.Datagrams.{SentDatagram}
 use Rattle.someip_world_exchanges.specs.Namings.{named_by_kind}
-use Rattle.someip_world_exchanges.proofs.SubscribesLemmas.{HasTtls}
-use Rattle.someip_world_exchanges.proofs.WholeLemmas.{no_flag}
+use Rattle.someip_world_exchanges.proofs.beginnings.SubscribesLemmas.{HasTtls}
+use Rattle.someip_world_exchanges.proofs.messages.WholeLemmas.{no_flag}
 use Rattle.someip_world_ledger.specs.Contents.{said_by_entries, said_by_head, said_by_outputs, said_in}
 use Rattle.someip_world_ledger.specs.declared.said.Said.{Said}
 use Rattle.someip_world_ledger.proofs.reading.ApplicationLemmas.{given_by_application}

@@ -8,11 +8,11 @@ use Rattle.someip_segments.specs.Sent.{is_long}
 use Rattle.someip_reassembly.specs.declared.key.ReassemblyKey.{ReassemblyKey}
 use Rattle.someip_node_rules.specs.declared.output.Output.TheVariants.{Sent}
 use Rattle.someip_node_laws.specs.Fitting.{FitsWire}
-use Rattle.someip_node_rules.specs.GoodConfigs.{is_good}
-use Rattle.someip_node_rules.specs.History.{History, answers_of}
-use Rattle.someip_node_rules.specs.Inputs.{Input}
-use Rattle.someip_node_rules.specs.Meanings.{GivenBy}
-use Rattle.someip_node_rules.specs.Outputs.{Given, Announces, Sends, Tells, written}
+use Rattle.someip_node_rules.specs.forms.GoodConfigs.{is_good}
+use Rattle.someip_node_rules.specs.histories.History.{History, answers_of}
+use Rattle.someip_node_rules.specs.rules.Inputs.{Input}
+use Rattle.someip_node_rules.specs.trails.Meanings.{GivenBy}
+use Rattle.someip_node_rules.specs.forms.Outputs.{Given, Announces, Sends, Tells, written}
 use Rattle.someip_node_rules.specs.declared.config.Config.{Config}
 use Rattle.someip_world_steps.specs.declared.step.Step.{Step}
 use Rattle.someip_world_setup.specs.declared.setup_node.SetupNode.{SetupNode}
@@ -25,8 +25,8 @@ use Rattle.someip_world_rules.specs.Deliveries as deliveries
 use Rattle.someip_world_rules.specs.Deliveries.{Does}
 use Rattle.someip_world_exchanges.specs.Payloads.{payload_in}
 use Rattle.someip_world_rules.proofs.Deliverings.{one_turn}
-use Rattle.someip_world_exchanges.proofs.LongMessages.{long_payload}
-use Rattle.someip_world_exchanges.proofs.WholeLemmas.{no_flag}
+use Rattle.someip_world_exchanges.proofs.messages.LongMessages.{long_payload}
+use Rattle.someip_world_exchanges.proofs.messages.WholeLemmas.{no_flag}
 use Rattle.someip_world_ledger.specs.Contents.{stream_in}
 use Rattle.someip_world_ledger.proofs.reading.ApplicationLemmas.{given_by_application}
 use Rattle.someip_world_ledger.proofs.reading.ContentLemmas.{IsMessageRead, IsReadBack, announcement_read, message_read, read_back}

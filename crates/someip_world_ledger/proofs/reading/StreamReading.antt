@@ -11,12 +11,12 @@ use Rattle.someip_segments.specs.Sent.{is_long}
 use Rattle.someip_reassembly.specs.declared.key.ReassemblyKey.{ReassemblyKey}
 use Rattle.someip_node_rules.specs.declared.output.Output.TheVariants.{Sent}
 use Rattle.someip_node_laws.specs.Fitting.{FitsWire}
-use Rattle.someip_node_rules.specs.GoodConfigs.{is_good}
-use Rattle.someip_node_rules.specs.History.{History, answers_of}
-use Rattle.someip_node_rules.specs.Inputs.{Input}
-use Rattle.someip_node_rules.specs.Meanings.{GivenBy}
-use Rattle.someip_node_rules.specs.Outputs as outputs
-use Rattle.someip_node_rules.specs.Outputs.{Given, written}
+use Rattle.someip_node_rules.specs.forms.GoodConfigs.{is_good}
+use Rattle.someip_node_rules.specs.histories.History.{History, answers_of}
+use Rattle.someip_node_rules.specs.rules.Inputs.{Input}
+use Rattle.someip_node_rules.specs.trails.Meanings.{GivenBy}
+use Rattle.someip_node_rules.specs.forms.Outputs as outputs
+use Rattle.someip_node_rules.specs.forms.Outputs.{Given, written}
 use Rattle.someip_node_rules.specs.declared.config.Config.{Config}
 use Rattle.someip_world_steps.specs.declared.step.Step.{Step}
 use Rattle.someip_world_setup.specs.declared.setup_node.SetupNode.{SetupNode}
@@ -25,7 +25,7 @@ use Rattle.someip_world_rules.specs.Datagrams.{SentDatagram}
 use Rattle.someip_world_rules.proofs.OriginLemmas.{turn_configured}
 use Rattle.someip_world_exchanges.specs.CleanReuse.{Arrives, message_key}
 use Rattle.someip_world_rules.specs.Deliveries.{Sends}
-use Rattle.someip_world_exchanges.proofs.WholeLemmas.{no_flag}
+use Rattle.someip_world_exchanges.proofs.messages.WholeLemmas.{no_flag}
 use Rattle.someip_world_ledger.specs.Contents.{stream_in}
 use Rattle.someip_world_ledger.specs.Streams.{stream_of}
 use Rattle.someip_world_ledger.specs.declared.stream.Stream.{Stream}

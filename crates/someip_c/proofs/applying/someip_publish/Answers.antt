@@ -1,4 +1,4 @@
-use Rattle.someip_node_rules.specs.Inputs as input
+use Rattle.someip_node_rules.specs.rules.Inputs as input
 use Rattle.someip_c_node.specs.Calls.{Calls}
 use Rattle.someip_c.specs.Handles.{instance_of}
 use Rattle.someip_c.proofs.HandleLemmas.{on_lent}

@@ -1,5 +1,5 @@
 use Rattle.std.proofs.Common.{subst}
-use Rattle.someip_node_rules.specs.Inputs as input
+use Rattle.someip_node_rules.specs.rules.Inputs as input
 use Rattle.someip_c_node.specs.Calls.{Calls}
 use Rattle.someip_c_node.specs.Records.{socket_of}
 use Rattle.someip_c.proofs.HandleLemmas.{on_lent}

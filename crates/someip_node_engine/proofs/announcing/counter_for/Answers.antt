@@ -3,7 +3,7 @@ use Rattle.std.specs.BTreeMap as tree
 use Rattle.someip_tables.specs.Endpoints.{address_cmp}
 use Rattle.someip_tables.specs.EndpointOrder.{addresses_total}
 use Rattle.someip_tables.proofs.Trees.{get-map_of}
-use Rattle.someip_node_rules.specs.Tables.{stamp_or_first}
+use Rattle.someip_node_rules.specs.histories.Tables.{stamp_or_first}
 use Rattle.someip_node_engine.proofs.announcing.counter_for.Goals as goal
 
 pub returns-in-Some : goal.returns-in-Some

@@ -1,8 +1,8 @@
 use Rattle.std.proofs.Common.{◌≡◌, ◌++◌, drop}
 use Rattle.std.specs.List.Sorted.{IsStrictlySortedBy}
 use Rattle.sd_instances.specs.Eventgroups.{eventgroup_cmp}
-use Rattle.someip_node_rules.specs.Outcomes.{endings}
-use Rattle.someip_node_rules.specs.Setups.{wanted_instances}
+use Rattle.someip_node_rules.specs.rules.Outcomes.{endings}
+use Rattle.someip_node_rules.specs.forms.Setups.{wanted_instances}
 use Rattle.someip_node_engine.proofs.endings.tell_endings.Given as goal
 
 -- what was told, and what is left to be told, is all

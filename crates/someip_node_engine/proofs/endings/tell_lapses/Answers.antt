@@ -1,5 +1,5 @@
 use Rattle.std.proofs.Common.{is_some}
-use Rattle.someip_node_rules.specs.Setups.{wanted_as}
+use Rattle.someip_node_rules.specs.forms.Setups.{wanted_as}
 use Rattle.someip_node_engine.proofs.EndingLemmas.{one_lapse}
 use Rattle.someip_node_engine.proofs.endings.tell_lapses.Goals as goal
 

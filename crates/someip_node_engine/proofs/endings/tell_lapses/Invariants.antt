@@ -1,6 +1,6 @@
 use Rattle.std.proofs.Common.{◌≡◌, ◌++◌, drop, filter, is_some}
-use Rattle.someip_node_rules.specs.Outcomes.{unsubscribed}
-use Rattle.someip_node_rules.specs.Setups.{wanted_as}
+use Rattle.someip_node_rules.specs.rules.Outcomes.{unsubscribed}
+use Rattle.someip_node_rules.specs.forms.Setups.{wanted_as}
 use Rattle.someip_node_engine.proofs.endings.tell_lapses.Given as goal
 
 -- those that were told, and those that are left, are all

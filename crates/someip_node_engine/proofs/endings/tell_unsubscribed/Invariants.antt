@@ -1,5 +1,5 @@
 use Rattle.std.proofs.Common.{◌≡◌, ◌++◌, drop}
-use Rattle.someip_node_rules.specs.Outcomes.{unsubscribed}
+use Rattle.someip_node_rules.specs.rules.Outcomes.{unsubscribed}
 use Rattle.someip_node_engine.proofs.endings.tell_unsubscribed.Given as goal
 
 -- those that were told, and those that are left, are all

@@ -1,5 +1,5 @@
 use Rattle.std.proofs.Common.{◌≡◌, ◌++◌, map}
-use Rattle.someip_node_rules.specs.Outputs.{datagram_of}
+use Rattle.someip_node_rules.specs.forms.Outputs.{datagram_of}
 use Rattle.someip_node_engine.proofs.message_sending.send.Given as goal
 
 -- the datagrams so far, and those of the pieces that are left, are all

@@ -1,4 +1,4 @@
-use Rattle.someip_node_laws.proofs.CallExampleLemmas.{call_is_met, call_is_sent, call_of_passed, call_of_unknown}
+use Rattle.someip_node_laws.proofs.examples.CallExampleLemmas.{call_is_met, call_is_sent, call_of_passed, call_of_unknown}
 use Rattle.someip_node_laws.proofs.call_example_laws.calls_by_example.Goals as goal
 
 pub returns-clause-sent : goal.returns-clause-sent

@@ -1,4 +1,4 @@
-use Rattle.someip_node_laws.proofs.CallExampleLemmas.{silent, told}
+use Rattle.someip_node_laws.proofs.examples.CallExampleLemmas.{silent, told}
 use Rattle.someip_node_laws.proofs.call_example_laws.timeouts_by_example.Goals as goal
 
 pub returns-clause-before : goal.returns-clause-before

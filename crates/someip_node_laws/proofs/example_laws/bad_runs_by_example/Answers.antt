@@ -1,5 +1,5 @@
 use Rattle.std.proofs.Common.{refl}
-use Rattle.someip_node_laws.proofs.ExampleLemmas.{bad_read, nack_answers, nack_answers_other, nack_written, no_endpoint, no_eventgroup}
+use Rattle.someip_node_laws.proofs.examples.ExampleLemmas.{bad_read, nack_answers, nack_answers_other, nack_written, no_endpoint, no_eventgroup}
 use Rattle.someip_node_laws.proofs.example_laws.bad_runs_by_example.Goals as goal
 
 pub returns-clause-read : goal.returns-clause-read

@@ -1,4 +1,4 @@
-use Rattle.someip_node_laws.proofs.ExampleLemmas.{known_oneway, known_request, unknown_oneway, unknown_request, wrong_type}
+use Rattle.someip_node_laws.proofs.examples.ExampleLemmas.{known_oneway, known_request, unknown_oneway, unknown_request, wrong_type}
 use Rattle.someip_node_laws.proofs.example_laws.methods_by_example.Goals as goal
 
 pub returns-clause-unknown_request : goal.returns-clause-unknown_request

@@ -1,4 +1,4 @@
-use Rattle.someip_node_laws.proofs.CallExampleLemmas.{bare_offer_dropped, other_offer_dropped}
+use Rattle.someip_node_laws.proofs.examples.CallExampleLemmas.{bare_offer_dropped, other_offer_dropped}
 use Rattle.someip_node_laws.proofs.example_laws.offers_of_another_peer_by_example.Goals as goal
 
 pub returns-clause-without_endpoint : goal.returns-clause-without_endpoint

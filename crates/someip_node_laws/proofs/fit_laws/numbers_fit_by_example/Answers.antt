@@ -1,5 +1,5 @@
 use Rattle.std.proofs.Common.{arith}
-use Rattle.someip_node_laws.proofs.FitExamples.{no_bytes, none_announced, none_come, offer_fits}
+use Rattle.someip_node_laws.proofs.fits.FitExamples.{no_bytes, none_announced, none_come, offer_fits}
 use Rattle.someip_node_laws.proofs.fit_laws.numbers_fit_by_example.Goals as goal
 
 pub returns-clause-offer : goal.returns-clause-offer

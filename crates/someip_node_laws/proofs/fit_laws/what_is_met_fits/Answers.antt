@@ -1,4 +1,4 @@
-use Rattle.someip_node_laws.proofs.FitPlans.{done_fits, started_fits}
+use Rattle.someip_node_laws.proofs.fits.FitPlans.{done_fits, started_fits}
 use Rattle.someip_node_laws.proofs.fit_laws.what_is_met_fits.Goals as goal
 
 pub returns-clause-started : goal.returns-clause-started

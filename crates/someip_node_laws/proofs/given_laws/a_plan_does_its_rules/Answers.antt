@@ -1,4 +1,4 @@
-use Rattle.someip_node_rules.proofs.PlanLemmas.{before_each, outputs_of_run, state_of_run}
+use Rattle.someip_node_rules.proofs.rules.PlanLemmas.{before_each, outputs_of_run, state_of_run}
 use Rattle.someip_node_laws.proofs.given_laws.a_plan_does_its_rules.Goals as goal
 
 pub returns-clause-outputs : goal.returns-clause-outputs

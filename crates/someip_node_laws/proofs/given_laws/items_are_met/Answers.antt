@@ -1,4 +1,4 @@
-use Rattle.someip_node_rules.proofs.MeetingLemmas.{all_met, state_met}
+use Rattle.someip_node_rules.proofs.trails.MeetingLemmas.{all_met, state_met}
 use Rattle.someip_node_laws.proofs.given_laws.items_are_met.Goals as goal
 
 pub returns-clause-items : goal.returns-clause-items

@@ -1,4 +1,4 @@
-use Rattle.someip_node_rules.proofs.StepRules.{all_brought}
+use Rattle.someip_node_rules.proofs.rules.StepRules.{all_brought}
 use Rattle.someip_node_laws.proofs.given_laws.rules_are_brought_about.Goals as goal
 
 pub returns : goal.returns

@@ -1,4 +1,4 @@
-use Rattle.someip_node_laws.proofs.HandUpLemmas.{answer_came, event_came, request_came}
+use Rattle.someip_node_laws.proofs.rules.HandUpLemmas.{answer_came, event_came, request_came}
 use Rattle.someip_node_laws.proofs.given_laws.what_is_handed_up_came.Goals as goal
 
 pub returns-clause-requests : goal.returns-clause-requests

@@ -1,4 +1,4 @@
-use Rattle.someip_node_laws.proofs.WaitLemmas.{waits_its_time, waits_no_more}
+use Rattle.someip_node_laws.proofs.histories.WaitLemmas.{waits_its_time, waits_no_more}
 use Rattle.someip_node_laws.proofs.laws.calls_wait_for_their_time.Goals as goal
 
 pub returns-clause-timed : goal.returns-clause-timed

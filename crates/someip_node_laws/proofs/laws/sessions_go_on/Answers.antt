@@ -1,4 +1,4 @@
-use Rattle.someip_node_laws.proofs.NamedLemmas.{get-session, next-event_session, stamp-next}
+use Rattle.someip_node_laws.proofs.histories.NamedLemmas.{get-session, next-event_session, stamp-next}
 use Rattle.someip_node_laws.proofs.laws.sessions_go_on.Goals as goal
 
 pub returns-clause-stamps : goal.returns-clause-stamps

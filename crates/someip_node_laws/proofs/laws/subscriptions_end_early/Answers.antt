@@ -1,4 +1,4 @@
-use Rattle.someip_node_laws.proofs.LiveLemmas.{ends_rebooted, ends_stopped, ends_unoffered, left_accepted, left_rebooted, left_stopped}
+use Rattle.someip_node_laws.proofs.histories.LiveLemmas.{ends_rebooted, ends_stopped, ends_unoffered, left_accepted, left_rebooted, left_stopped}
 use Rattle.someip_node_laws.proofs.laws.subscriptions_end_early.Goals as goal
 
 pub returns-clause-stopped : goal.returns-clause-stopped

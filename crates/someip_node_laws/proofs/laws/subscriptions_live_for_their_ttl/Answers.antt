@@ -1,4 +1,4 @@
-use Rattle.someip_node_laws.proofs.LiveLemmas.{lives_its_ttl, lives_on, lives_before, ends_then}
+use Rattle.someip_node_laws.proofs.histories.LiveLemmas.{lives_its_ttl, lives_on, lives_before, ends_then}
 use Rattle.someip_node_laws.proofs.laws.subscriptions_live_for_their_ttl.Goals as goal
 
 pub returns-clause-timed : goal.returns-clause-timed

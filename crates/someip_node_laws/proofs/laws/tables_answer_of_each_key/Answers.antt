@@ -1,6 +1,6 @@
-use Rattle.someip_node_rules.proofs.DiscoveryLives.{get-peer}
-use Rattle.someip_node_laws.proofs.NamedLemmas.{get-pending, get-request, get-subscriber}
-use Rattle.someip_node_rules.proofs.WishLives.{get-known, get-wish}
+use Rattle.someip_node_rules.proofs.histories.DiscoveryLives.{get-peer}
+use Rattle.someip_node_laws.proofs.histories.NamedLemmas.{get-pending, get-request, get-subscriber}
+use Rattle.someip_node_rules.proofs.histories.WishLives.{get-known, get-wish}
 use Rattle.someip_node_laws.proofs.laws.tables_answer_of_each_key.Goals as goal
 
 pub returns-clause-subscriptions : goal.returns-clause-subscriptions

@@ -1,5 +1,5 @@
-use Rattle.someip_node_rules.proofs.Shown.{answers_met}
-use Rattle.someip_node_rules.proofs.Stands.{answers_started}
+use Rattle.someip_node_rules.proofs.histories.Shown.{answers_met}
+use Rattle.someip_node_rules.proofs.histories.Stands.{answers_started}
 use Rattle.someip_node_laws.proofs.laws.tables_are_answers.Goals as goal
 
 pub returns-clause-started : goal.returns-clause-started

@@ -1,5 +1,5 @@
-use Rattle.someip_node_rules.specs.Setups.{limits_of}
-use Rattle.someip_node_laws.proofs.LimitLemmas.{parts_within}
+use Rattle.someip_node_rules.specs.forms.Setups.{limits_of}
+use Rattle.someip_node_laws.proofs.rules.LimitLemmas.{parts_within}
 use Rattle.someip_node_laws.proofs.limit_laws.held_parts_stay_within_limits.Goals as goal
 
 pub returns : goal.returns

@@ -1,4 +1,4 @@
-use Rattle.someip_node_laws.proofs.ClientRun.{answer_dropped, answer_taken, call_goes}
+use Rattle.someip_node_laws.proofs.examples.ClientRun.{answer_dropped, answer_taken, call_goes}
 use Rattle.someip_node_laws.proofs.run_example_laws.answered_calls_by_example.Goals as goal
 
 pub returns-clause-called : goal.returns-clause-called

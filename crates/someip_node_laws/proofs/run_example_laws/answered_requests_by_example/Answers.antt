@@ -1,4 +1,4 @@
-use Rattle.someip_node_laws.proofs.ServerRun.{answer_goes, call_taken, other_token_refused}
+use Rattle.someip_node_laws.proofs.examples.ServerRun.{answer_goes, call_taken, other_token_refused}
 use Rattle.someip_node_laws.proofs.run_example_laws.answered_requests_by_example.Goals as goal
 
 pub returns-clause-requested : goal.returns-clause-requested

@@ -1,4 +1,4 @@
-use Rattle.someip_node_laws.proofs.CameExamples.{awaited_came, none_came}
+use Rattle.someip_node_laws.proofs.examples.CameExamples.{awaited_came, none_came}
 use Rattle.someip_node_laws.proofs.run_example_laws.answers_come_by_example.Goals as goal
 
 pub returns-clause-awaited : goal.returns-clause-awaited

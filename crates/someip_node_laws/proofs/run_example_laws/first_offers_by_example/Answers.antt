@@ -1,4 +1,4 @@
-use Rattle.someip_node_laws.proofs.ServerRun.{offered, silent_before}
+use Rattle.someip_node_laws.proofs.examples.ServerRun.{offered, silent_before}
 use Rattle.someip_node_laws.proofs.run_example_laws.first_offers_by_example.Goals as goal
 
 pub returns-clause-before : goal.returns-clause-before

@@ -1,4 +1,4 @@
-use Rattle.someip_node_laws.proofs.ClientRun.{offer_learned, offer_subscribed, stop_passed_over}
+use Rattle.someip_node_laws.proofs.examples.ClientRun.{offer_learned, offer_subscribed, stop_passed_over}
 use Rattle.someip_node_laws.proofs.run_example_laws.offers_are_learned_by_example.Goals as goal
 
 pub returns-clause-learned : goal.returns-clause-learned

@@ -1,6 +1,6 @@
 use Rattle.std.proofs.Common.{ap}
-use Rattle.someip_node_rules.specs.Steps.{given_in}
-use Rattle.someip_node_laws.proofs.ServerEvents.{event_goes, event_goes_nowhere}
+use Rattle.someip_node_rules.specs.steps.Steps.{given_in}
+use Rattle.someip_node_laws.proofs.examples.ServerEvents.{event_goes, event_goes_nowhere}
 use Rattle.someip_node_laws.proofs.run_example_laws.published_events_by_example.Goals as goal
 
 pub returns-clause-published : goal.returns-clause-published

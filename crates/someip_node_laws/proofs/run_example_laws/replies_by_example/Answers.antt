@@ -1,4 +1,4 @@
-use Rattle.someip_node_laws.proofs.CameExamples.{accepted_replied, refused_not_replied}
+use Rattle.someip_node_laws.proofs.examples.CameExamples.{accepted_replied, refused_not_replied}
 use Rattle.someip_node_laws.proofs.run_example_laws.replies_by_example.Goals as goal
 
 pub returns-clause-accepted : goal.returns-clause-accepted

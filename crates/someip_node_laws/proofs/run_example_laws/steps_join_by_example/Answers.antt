@@ -1,5 +1,5 @@
-use Rattle.someip_node_laws.proofs.ClientEvents.{client_joins}
-use Rattle.someip_node_laws.proofs.ServerEvents.{server_joins}
+use Rattle.someip_node_laws.proofs.examples.ClientEvents.{client_joins}
+use Rattle.someip_node_laws.proofs.examples.ServerEvents.{server_joins}
 use Rattle.someip_node_laws.proofs.run_example_laws.steps_join_by_example.Goals as goal
 
 pub returns-clause-server : goal.returns-clause-server

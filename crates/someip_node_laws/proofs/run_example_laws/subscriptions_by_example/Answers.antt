@@ -1,6 +1,6 @@
 use Rattle.std.proofs.Common.{ap}
-use Rattle.someip_node_rules.specs.Steps.{given_in}
-use Rattle.someip_node_laws.proofs.ClientEvents.{ack_taken, other_ack_dropped, other_not_wanted, subscribe_goes}
+use Rattle.someip_node_rules.specs.steps.Steps.{given_in}
+use Rattle.someip_node_laws.proofs.examples.ClientEvents.{ack_taken, other_ack_dropped, other_not_wanted, subscribe_goes}
 use Rattle.someip_node_laws.proofs.run_example_laws.subscriptions_by_example.Goals as goal
 
 pub returns-clause-wished : goal.returns-clause-wished

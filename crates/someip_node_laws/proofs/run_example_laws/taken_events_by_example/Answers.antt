@@ -1,4 +1,4 @@
-use Rattle.someip_node_laws.proofs.ClientEvents.{event_dropped, event_taken}
+use Rattle.someip_node_laws.proofs.examples.ClientEvents.{event_dropped, event_taken}
 use Rattle.someip_node_laws.proofs.run_example_laws.taken_events_by_example.Goals as goal
 
 pub returns-clause-taken : goal.returns-clause-taken

@@ -1,4 +1,4 @@
-use Rattle.someip_node_laws.proofs.LimitExampleLemmas.{none_fit, three_do_not, two_fit, two_fit_renewed}
+use Rattle.someip_node_laws.proofs.examples.LimitExampleLemmas.{none_fit, three_do_not, two_fit, two_fit_renewed}
 use Rattle.someip_node_laws.proofs.subscriber_laws.limits_by_example.Goals as goal
 
 pub returns-clause-as_many : goal.returns-clause-as_many

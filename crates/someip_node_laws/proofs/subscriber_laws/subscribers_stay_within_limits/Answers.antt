@@ -1,4 +1,4 @@
-use Rattle.someip_node_rules.proofs.SubscriberLimitLemmas.{within_limits, listed_within}
+use Rattle.someip_node_rules.proofs.histories.SubscriberLimitLemmas.{within_limits, listed_within}
 use Rattle.someip_node_laws.proofs.subscriber_laws.subscribers_stay_within_limits.Goals as goal
 
 pub returns-clause-counted : goal.returns-clause-counted

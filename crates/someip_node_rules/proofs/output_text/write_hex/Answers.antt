@@ -3,7 +3,7 @@ use Rattle.std.proofs.Output.{has_written_of_eq}
 use Rattle.std.proofs.lemmas.List.{take_all}
 use Rattle.std.specs.List.{flat_map}
 use Rattle.hex.specs.Hex.{encode_lower}
-use Rattle.someip_node_rules.proofs.HexTexts.{each_byte}
+use Rattle.someip_node_rules.proofs.texts.HexTexts.{each_byte}
 use Rattle.someip_node_rules.proofs.output_text.write_hex.Goals as goal
 
 pub returns : goal.returns

@@ -2,8 +2,8 @@ use Rattle.std.proofs.Common.{rules, codes, ◌++◌}
 use Rattle.std.proofs.Output.{has_written_append, has_written_of_eq}
 use Rattle.std.specs.Fmt.{HasWritten}
 use Rattle.std.specs.Net.Text.{socket_v4_text}
-use Rattle.someip_node_rules.specs.OutputWords.{instance_word}
-use Rattle.someip_node_rules.proofs.OutputTexts.{two_words}
+use Rattle.someip_node_rules.specs.forms.OutputWords.{instance_word}
+use Rattle.someip_node_rules.proofs.texts.OutputTexts.{two_words}
 use Rattle.someip_node_rules.proofs.output_text.write_known.Goals as goal
 
 pub returns : goal.returns

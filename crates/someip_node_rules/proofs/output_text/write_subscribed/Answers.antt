@@ -1,8 +1,8 @@
 use Rattle.std.proofs.Common.{rules, codes, decimal, ◌++◌}
 use Rattle.std.proofs.Output.{has_written_append, has_written_of_eq}
 use Rattle.std.specs.Fmt.{HasWritten}
-use Rattle.someip_node_rules.specs.OutputWords.{id_word, instance_word}
-use Rattle.someip_node_rules.proofs.OutputTexts.{three_words_more}
+use Rattle.someip_node_rules.specs.forms.OutputWords.{id_word, instance_word}
+use Rattle.someip_node_rules.proofs.texts.OutputTexts.{three_words_more}
 use Rattle.someip_node_rules.proofs.output_text.write_subscribed.Goals as goal
 
 pub returns : goal.returns

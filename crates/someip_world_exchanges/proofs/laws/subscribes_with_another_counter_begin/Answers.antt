@@ -1,4 +1,4 @@
-use Rattle.someip_world_exchanges.proofs.SubscribesBegin.{all_begin, counted_begin, only_begin}
+use Rattle.someip_world_exchanges.proofs.beginnings.SubscribesBegin.{all_begin, counted_begin, only_begin}
 use Rattle.someip_world_exchanges.proofs.laws.subscribes_with_another_counter_begin.Goals as goal
 
 pub returns-clause-counted : goal.returns-clause-counted

@@ -1,7 +1,7 @@
 use Rattle.std.proofs.Common.{◌≡◌, true, [], ◌∷◌, Ok, ap, subst, sym, ◌∙◌}
 use Rattle.std.specs.List.{AllByRecursion}
 use Rattle.std.proofs.lemmas.List.Elements.{recursion_from_All}
-use Rattle.someip_node_rules.specs.GoodConfigs.{is_good_delay}
+use Rattle.someip_node_rules.specs.forms.GoodConfigs.{is_good_delay}
 use Rattle.someip_node_rules.specs.declared.output.Output.TheVariants.{Answered}
 use Rattle.someip_node_laws.specs.WorkedRun.{method}
 use Rattle.someip_world_setup.specs.GoodSetups.{IsGoodNode, Network}

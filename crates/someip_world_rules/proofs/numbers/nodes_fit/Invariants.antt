@@ -1,6 +1,6 @@
 use Rattle.std.proofs.Common.{◌≡◌, true, drop}
 use Rattle.std.specs.List.{AllByRecursion}
-use Rattle.someip_node_rules.specs.GoodConfigs.{is_good}
+use Rattle.someip_node_rules.specs.forms.GoodConfigs.{is_good}
 use Rattle.someip_world_rules.specs.Announced.{FitNodes}
 use Rattle.someip_world_rules.proofs.numbers.nodes_fit.Given as goal
 

@@ -1,5 +1,5 @@
 use Rattle.std.proofs.Common.{take}
-use Rattle.someip_node_rules.proofs.MemberLemmas.{all_take}
+use Rattle.someip_node_rules.proofs.lists.MemberLemmas.{all_take}
 use Rattle.someip_world_rules.specs.Announced.{FitsStep}
 use Rattle.someip_world_rules.proofs.ConfiguredLemmas.{as_configured, configured_without_liars}
 use Rattle.someip_world_rules.proofs.FitRunLemmas.{copies_fit}

@@ -1,4 +1,4 @@
-use Rattle.someip_world_safety.proofs.AddressLemmas.{off_group, own_addresses}
+use Rattle.someip_world_safety.proofs.networks.AddressLemmas.{off_group, own_addresses}
 use Rattle.someip_world_safety.proofs.laws.addresses_are_apart.Goals as goal
 
 pub returns : goal.returns

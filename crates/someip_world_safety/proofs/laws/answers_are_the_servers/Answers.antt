@@ -1,4 +1,4 @@
-use Rattle.someip_world_safety.proofs.SafeRuns.{answers_are_safe, answers_without_liars}
+use Rattle.someip_world_safety.proofs.runs.SafeRuns.{answers_are_safe, answers_without_liars}
 use Rattle.someip_world_safety.proofs.laws.answers_are_the_servers.Goals as goal
 
 pub returns-clause-honest : goal.returns-clause-honest

@@ -1,4 +1,4 @@
-use Rattle.someip_world_safety.proofs.WaitingCalls.{all_awaited}
+use Rattle.someip_world_safety.proofs.calls.WaitingCalls.{all_awaited}
 use Rattle.someip_world_safety.proofs.laws.calls_that_wait_were_made.Goals as goal
 
 pub returns : goal.returns

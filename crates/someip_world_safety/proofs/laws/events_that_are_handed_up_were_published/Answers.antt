@@ -1,4 +1,4 @@
-use Rattle.someip_world_safety.proofs.SafeRuns.{events_are_safe, events_without_liars}
+use Rattle.someip_world_safety.proofs.runs.SafeRuns.{events_are_safe, events_without_liars}
 use Rattle.someip_world_safety.proofs.laws.events_that_are_handed_up_were_published.Goals as goal
 
 pub returns-clause-honest : goal.returns-clause-honest

@@ -1,4 +1,4 @@
-use Rattle.someip_world_safety.proofs.OfferLemmas.{own_offers}
+use Rattle.someip_world_safety.proofs.networks.OfferLemmas.{own_offers}
 use Rattle.someip_world_safety.proofs.laws.offers_are_at_their_nodes.Goals as goal
 
 pub returns : goal.returns

@@ -1,4 +1,4 @@
-use Rattle.someip_world_safety.proofs.PublicationLemmas.{offers_are_configured, offers_without_liars, publishes_to_all, publishes_to_one}
+use Rattle.someip_world_safety.proofs.events.PublicationLemmas.{offers_are_configured, offers_without_liars, publishes_to_all, publishes_to_one}
 use Rattle.someip_world_safety.proofs.laws.publications_go_to_subscribers.Goals as goal
 
 pub returns-clause-to_all : goal.returns-clause-to_all

@@ -1,4 +1,4 @@
-use Rattle.someip_world_safety.proofs.InjectedReplies.{injected_belong_to_none, replies_never_opened}
+use Rattle.someip_world_safety.proofs.subscriptions.InjectedReplies.{injected_belong_to_none, replies_never_opened}
 use Rattle.someip_world_safety.proofs.laws.replies_to_injected_bytes_belong_to_none.Goals as goal
 
 pub returns-clause-bytes : goal.returns-clause-bytes

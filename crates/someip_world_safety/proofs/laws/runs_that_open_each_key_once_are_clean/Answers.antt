@@ -1,4 +1,4 @@
-use Rattle.someip_world_safety.proofs.CleanLemmas.{opens_once_is_clean}
+use Rattle.someip_world_safety.proofs.runs.CleanLemmas.{opens_once_is_clean}
 use Rattle.someip_world_safety.proofs.laws.runs_that_open_each_key_once_are_clean.Goals as goal
 
 pub returns : goal.returns

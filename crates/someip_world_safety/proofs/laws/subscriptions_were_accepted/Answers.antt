@@ -1,9 +1,9 @@
 use Rattle.someip_world_rules.proofs.InjectionLemmas.{all_honest}
-use Rattle.someip_world_safety.proofs.AckAlone.{acks_begin_none}
-use Rattle.someip_world_safety.proofs.AckLemmas.{acks_say}
-use Rattle.someip_world_safety.proofs.AcknowledgedLemmas.{acknowledged_are_safe}
-use Rattle.someip_world_safety.proofs.SafeRuns.{acknowledged_without_liars}
-use Rattle.someip_world_safety.proofs.StandingLemmas.{subscriptions_are_safe}
+use Rattle.someip_world_safety.proofs.subscriptions.AckAlone.{acks_begin_none}
+use Rattle.someip_world_safety.proofs.subscriptions.AckLemmas.{acks_say}
+use Rattle.someip_world_safety.proofs.subscriptions.AcknowledgedLemmas.{acknowledged_are_safe}
+use Rattle.someip_world_safety.proofs.runs.SafeRuns.{acknowledged_without_liars}
+use Rattle.someip_world_safety.proofs.subscriptions.StandingLemmas.{subscriptions_are_safe}
 use Rattle.someip_world_safety.proofs.laws.subscriptions_were_accepted.Goals as goal
 
 pub returns-clause-honest : goal.returns-clause-honest

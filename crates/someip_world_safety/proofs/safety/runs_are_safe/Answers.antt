@@ -1,11 +1,11 @@
-use Rattle.someip_world_safety.proofs.AckAlone.{acks_begin_none}
-use Rattle.someip_world_safety.proofs.AckLemmas.{acks_say}
-use Rattle.someip_world_safety.proofs.AcknowledgedLemmas.{acknowledged_are_safe}
-use Rattle.someip_world_safety.proofs.AddressLemmas.{off_group, own_addresses}
-use Rattle.someip_world_safety.proofs.OfferLemmas.{own_offers}
-use Rattle.someip_world_safety.proofs.PublicationLemmas.{publishes_to_all, publishes_to_one}
-use Rattle.someip_world_safety.proofs.SafeRuns.{answers_are_safe, events_are_safe}
-use Rattle.someip_world_safety.proofs.StandingLemmas.{subscriptions_are_safe}
+use Rattle.someip_world_safety.proofs.subscriptions.AckAlone.{acks_begin_none}
+use Rattle.someip_world_safety.proofs.subscriptions.AckLemmas.{acks_say}
+use Rattle.someip_world_safety.proofs.subscriptions.AcknowledgedLemmas.{acknowledged_are_safe}
+use Rattle.someip_world_safety.proofs.networks.AddressLemmas.{off_group, own_addresses}
+use Rattle.someip_world_safety.proofs.networks.OfferLemmas.{own_offers}
+use Rattle.someip_world_safety.proofs.events.PublicationLemmas.{publishes_to_all, publishes_to_one}
+use Rattle.someip_world_safety.proofs.runs.SafeRuns.{answers_are_safe, events_are_safe}
+use Rattle.someip_world_safety.proofs.subscriptions.StandingLemmas.{subscriptions_are_safe}
 use Rattle.someip_world_safety.proofs.safety.runs_are_safe.Goals as goal
 
 pub returns-clause-answers : goal.returns-clause-answers

@@ -1,7 +1,7 @@
 use Rattle.std.proofs.Common.{suc, refl}
 use Rattle.someip_node_rules.specs.declared.output.Output.TheVariants.{Answered, Event, Subscribed}
-use Rattle.someip_world_safety.proofs.LineLemmas.{tells_of}
-use Rattle.someip_world_safety.proofs.SafeRuns.{clean_through, clean_up_to}
+use Rattle.someip_world_safety.proofs.runs.LineLemmas.{tells_of}
+use Rattle.someip_world_safety.proofs.runs.SafeRuns.{clean_through, clean_up_to}
 use Rattle.someip_world_safety.proofs.safety.runs_are_safe_by_their_verdict.Goals as goal
 
 pub returns-clause-among_liars : goal.returns-clause-among_liars

@@ -6,12 +6,12 @@ use Rattle.someip_world_rules.specs.Announced.{AllFits}
 use Rattle.someip_world_rules.specs.Runs.{AreCopies}
 use Rattle.someip_world_exchanges.specs.CleanReuse.{IsCleanBefore}
 use Rattle.someip_world_safety.specs.CleanRuns.{AreShort, CountsOnce}
-use Rattle.someip_world_safety.proofs.AddressLemmas.{off_group, own_addresses}
-use Rattle.someip_world_safety.proofs.CleanLemmas.{opens_once_is_clean}
-use Rattle.someip_world_safety.proofs.CountLemmas.{counts_once_opens_once}
-use Rattle.someip_world_safety.proofs.OfferLemmas.{own_offers}
-use Rattle.someip_world_safety.proofs.PortLemmas.{own_ports}
-use Rattle.someip_world_safety.proofs.SafeRuns.{always_clean}
+use Rattle.someip_world_safety.proofs.networks.AddressLemmas.{off_group, own_addresses}
+use Rattle.someip_world_safety.proofs.runs.CleanLemmas.{opens_once_is_clean}
+use Rattle.someip_world_safety.proofs.runs.CountLemmas.{counts_once_opens_once}
+use Rattle.someip_world_safety.proofs.networks.OfferLemmas.{own_offers}
+use Rattle.someip_world_safety.proofs.networks.PortLemmas.{own_ports}
+use Rattle.someip_world_safety.proofs.runs.SafeRuns.{always_clean}
 use Rattle.someip_world_safety.proofs.safety.runs_that_count_once_are_clean.Goals as goal
 
 -- no step breaks clean reuse

@@ -1,5 +1,5 @@
 use Rattle.someip_world_rules.proofs.InjectionLemmas.{all_honest}
-use Rattle.someip_world_safety.proofs.SafeRuns.{acknowledged_without_liars, answers_without_liars, events_without_liars}
+use Rattle.someip_world_safety.proofs.runs.SafeRuns.{acknowledged_without_liars, answers_without_liars, events_without_liars}
 use Rattle.someip_world_safety.proofs.safety.runs_without_liars_are_safe.Goals as goal
 
 pub returns-clause-answers : goal.returns-clause-answers

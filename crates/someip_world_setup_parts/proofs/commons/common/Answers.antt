@@ -1,7 +1,7 @@
 use Rattle.std.proofs.Common.{codes, pos, ◌∙◌}
 use Rattle.std.proofs.lemmas.Result.{err_from_is_err_and}
 use Rattle.toml.specs.View.{view}
-use Rattle.someip_node_rules.specs.GoodConfigs.{greatest_message_limit}
+use Rattle.someip_node_rules.specs.forms.GoodConfigs.{greatest_message_limit}
 use Rattle.someip_world_setup_parts.specs.Keys.{number_or, address_at}
 use Rattle.someip_world_setup_parts.specs.Says.{said_common, said_phases, count_or, time_or}
 use Rattle.someip_world_setup_parts.proofs.AskingLemmas.{fails_too, none_then, same_then}

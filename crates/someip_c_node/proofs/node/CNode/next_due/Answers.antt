@@ -1,7 +1,7 @@
 use Rattle.std.proofs.Common.{subst, IfSome}
-use Rattle.someip_node_rules.specs.History.{History}
-use Rattle.someip_node_rules.specs.Steps.{StandsFor}
-use Rattle.someip_node_rules.specs.Waking.{IsNextDue}
+use Rattle.someip_node_rules.specs.histories.History.{History}
+use Rattle.someip_node_rules.specs.steps.Steps.{StandsFor}
+use Rattle.someip_node_rules.specs.steps.Waking.{IsNextDue}
 use Rattle.someip_c_node.proofs.node.CNode.next_due.Goals as goal
 
 pub returns-clause-due : goal.returns-clause-due

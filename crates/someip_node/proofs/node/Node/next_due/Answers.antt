@@ -1,7 +1,7 @@
 use Rattle.std.proofs.Common.{◌∙◌}
 use Rattle.someip_node.proofs.QuietLemmas.{failed_stands, next_told, nothing_told}
-use Rattle.someip_node_rules.proofs.Stands.{answers}
-use Rattle.someip_node_rules.specs.Steps.{StandsFor}
+use Rattle.someip_node_rules.proofs.histories.Stands.{answers}
+use Rattle.someip_node_rules.specs.steps.Steps.{StandsFor}
 use Rattle.someip_node.proofs.node.Node.next_due.Goals as goal
 
 pub returns-then-self-clause-none : goal.returns-then-self-clause-none

@@ -1,6 +1,6 @@
 use Rattle.std.proofs.Common.{ap, ◌∙◌}
-use Rattle.someip_node_rules.specs.Starts.{started_tables}
-use Rattle.someip_node_rules.proofs.Stands.{started_stands}
+use Rattle.someip_node_rules.specs.histories.Starts.{started_tables}
+use Rattle.someip_node_rules.proofs.histories.Stands.{started_stands}
 use Rattle.someip_node.proofs.WithinLemmas.{start_within}
 use Rattle.someip_node.proofs.node.Node.restart.Goals as goal
 

@@ -1,4 +1,4 @@
-use Rattle.someip_node_rules.proofs.Stands.{started_stands}
+use Rattle.someip_node_rules.proofs.histories.Stands.{started_stands}
 use Rattle.someip_node.proofs.WithinLemmas.{start_within}
 use Rattle.someip_node.proofs.node.Node.start.Goals as goal
 

@@ -1,7 +1,7 @@
 use Rattle.std.proofs.Common.{sym, ◌∙◌}
-use Rattle.someip_node_rules.specs.Inputs.{StopOffer}
+use Rattle.someip_node_rules.specs.rules.Inputs.{StopOffer}
 use Rattle.someip_node.proofs.HandledLemmas.{handled_given}
-use Rattle.someip_node_rules.proofs.Stands.{answers}
+use Rattle.someip_node_rules.proofs.histories.Stands.{answers}
 use Rattle.someip_node.proofs.RefusalLemmas.{call_refused}
 use Rattle.someip_node.proofs.WithinLemmas.{handled_fits}
 use Rattle.someip_node.proofs.node.Node.stop_offer.Goals as goal

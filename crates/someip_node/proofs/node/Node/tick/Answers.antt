@@ -2,9 +2,9 @@ use Rattle.std.proofs.Common.{◌∙◌, ◌+◌, sym, subst}
 use Rattle.sd_core.specs.SeekTables.{KnowsWanted}
 use Rattle.someip_node_engine.specs.Passings.{BringsNothing}
 use Rattle.someip_node.proofs.QuietLemmas.{quiet_step, ran_out}
-use Rattle.someip_node_rules.specs.Inputs.{Tick}
+use Rattle.someip_node_rules.specs.rules.Inputs.{Tick}
 use Rattle.someip_node.proofs.HandledLemmas.{handled_given}
-use Rattle.someip_node_rules.proofs.Stands.{answers}
+use Rattle.someip_node_rules.proofs.histories.Stands.{answers}
 use Rattle.someip_node.proofs.RefusalLemmas.{call_refused}
 use Rattle.someip_node.proofs.WithinLemmas.{handled_fits}
 use Rattle.someip_node.proofs.node.Node.tick.Goals as goal

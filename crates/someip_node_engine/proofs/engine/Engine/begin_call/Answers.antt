@@ -5,7 +5,7 @@ use Rattle.someip_tables.proofs.Entries.{len-retain-≤}
 use Rattle.someip_rpc.specs.Calls.{call_header}
 use Rattle.someip_rpc.specs.IdOrder.{calls_total, exact_calls}
 use Rattle.someip_rpc.specs.Sessions.{next_of}
-use Rattle.someip_node_rules.specs.Calls.{session_of}
+use Rattle.someip_node_rules.specs.rules.Calling.{session_of}
 use Rattle.someip_node_engine.proofs.CallLemmas.{called_is, first_free_is}
 use Rattle.someip_node_engine.proofs.engine.Engine.begin_call.Goals as goal
 

@@ -1,5 +1,5 @@
 use Rattle.std.proofs.Common.{◌≡◌}
-use Rattle.someip_node_rules.specs.Plans.{each, plain, run}
+use Rattle.someip_node_rules.specs.rules.Plans.{each, plain, run}
 use Rattle.someip_node_engine.specs.Arrivals.{reached_item_plan}
 use Rattle.someip_node_engine.specs.Working.{working}
 use Rattle.someip_node_engine.proofs.engine.Engine.datagram.Given as goal

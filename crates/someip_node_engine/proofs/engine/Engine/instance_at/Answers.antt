@@ -2,7 +2,7 @@ use Rattle.std.proofs.Common.{◌∙◌, sym, ap}
 use Rattle.std.specs.FinMap as finite
 use Rattle.std.proofs.lemmas.Cmp.{nat_cmp_total}
 use Rattle.someip_tables.proofs.Trees.{get-map_of}
-use Rattle.someip_node_rules.specs.Setups.{instance_at}
+use Rattle.someip_node_rules.specs.forms.Setups.{instance_at}
 use Rattle.someip_node_engine.proofs.engine.Engine.instance_at.Goals as goal
 
 pub returns : goal.returns

@@ -8,9 +8,9 @@ use Rattle.sd_core.specs.Endings.{ends_at}
 use Rattle.std.specs.FinMap as finite
 use Rattle.someip_tables.specs.Lastings.{expired}
 use Rattle.sd_instances.specs.Sendings.{due_at}
-use Rattle.someip_node_rules.specs.Tables.{passed_instances}
+use Rattle.someip_node_rules.specs.histories.Tables.{passed_instances}
 use Rattle.sd_core.specs.WishTables.{begun_where, ended_where}
-use Rattle.someip_node_rules.specs.Items.{changed, Ticked}
+use Rattle.someip_node_rules.specs.histories.Items.{changed, Ticked}
 use Rattle.someip_tables.proofs.SortedEntries.{no_keys}
 use Rattle.someip_node_engine.proofs.PassingLemmas.{on_err, ticked_is}
 use Rattle.someip_node_engine.proofs.RisingLemmas.{keys_rise}

@@ -1,7 +1,7 @@
 use Rattle.std.proofs.Common.{◌≡◌}
 use Rattle.std.specs.Prelude.{find}
 use Rattle.std.specs.Option.{option_map}
-use Rattle.someip_node_rules.specs.Messages.{publisher, is_event_of}
+use Rattle.someip_node_rules.specs.rules.Messages.{publisher, is_event_of}
 use Rattle.someip_node_engine.proofs.engine.Engine.publisher.Given as goal
 
 -- the first among those that are left is the first of all

@@ -1,7 +1,7 @@
 use Rattle.std.proofs.Common.{◌≡◌, ◌++◌, map, drop}
 use Rattle.std.specs.List.{flat_map}
 use Rattle.sd_wire.specs.Values.{view_entry}
-use Rattle.someip_node_rules.specs.Subscribing.{offer_of}
+use Rattle.someip_node_rules.specs.rules.Offering.{offer_of}
 use Rattle.someip_node_engine.proofs.engine.Engine.push_offers.Given as goal
 
 -- the Offers so far, and those of the instances that are left, are all

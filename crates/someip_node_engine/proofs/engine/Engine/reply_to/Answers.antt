@@ -1,6 +1,6 @@
 use Rattle.std.proofs.Common.{map, refl}
 use Rattle.sd_wire.specs.Values.{view_entry}
-use Rattle.someip_node_rules.specs.Calls.{replies_to}
+use Rattle.someip_node_rules.specs.rules.Announcing.{replies_to}
 use Rattle.someip_node_engine.proofs.WorkLemmas.{done}
 use Rattle.someip_node_engine.proofs.engine.Engine.reply_to.Goals as goal
 

@@ -2,8 +2,8 @@ use Rattle.std.proofs.Common.{◌≡◌, length, map, drop}
 use Rattle.sd_wire.specs.Fronts.{fronts_of}
 use Rattle.sd_wire.specs.Values.{view_entry}
 use Rattle.someip_node_engine.specs.FrontSizes.{AreWithin}
-use Rattle.someip_node_rules.specs.Plans.{each, plain, run}
-use Rattle.someip_node_rules.specs.Receivers.{message_plan_to}
+use Rattle.someip_node_rules.specs.rules.Plans.{each, plain, run}
+use Rattle.someip_node_rules.specs.forms.Receivers.{message_plan_to}
 use Rattle.someip_node_engine.specs.Working.{working}
 use Rattle.someip_node_engine.proofs.engine.Engine.send_fronts.Given as goal
 

@@ -1,6 +1,6 @@
 use Rattle.std.proofs.Common.{◌≡◌}
 use Rattle.std.specs.List.{list_any}
-use Rattle.someip_node_rules.specs.Messages.{is_subscribed_by, takes_event}
+use Rattle.someip_node_rules.specs.rules.Messages.{is_subscribed_by, takes_event}
 use Rattle.someip_node_engine.proofs.engine.Engine.takes_event.Given as goal
 
 -- one among those that are left has the event, if one of all has it

@@ -1,0 +1,3 @@
+-- Texts of outputs.
+pub mod HexTexts
+pub mod OutputTexts
