@@ -52,46 +52,7 @@ on_node old does number new c o c' was is now d =
     subst (λ v. OnNode v does number new) (sym was) (subst (λ n. OnNode (Some c) does n new) (sym is)
     (subst (λ v. OnNode (Some c) does (number_of o) v) (sym now) (tells (λ outcome. does c outcome c') o d)))
 
--- and that it has none
-pub on_none : (old : Option CNodeView) (does : CNodeView → Outcome → CNodeView → Type 0) (number : ℕ) (new : Option CNodeView)
-    → old ≡ None → number ≡ number_of Closed → new ≡ None → OnNode old does number new
-on_none old does number new was is now = subst (λ v. OnNode v does number new) (sym was) (is, now)
-
 -- ---- starts
-
-nothing_faulty : {X : Type 0} (tree : Option X) → IsSomeAnd tree (λ _. ⊥) → ⊥
-nothing_faulty None f = f
-nothing_faulty (Some d) f = f
-
--- a start that was refused
-pub not_started : (text name : List ℕ) (delay : ℕ) (o : Outcome) (new : Option CNodeView) → new ≡ None → IsNotStarted text name delay o → StartsTo text name delay o new
-not_started text name delay Done new none i = absurd (nothing_faulty (tree_of text) i.1.1)
-not_started text name delay Closed new none i = (i, none)
-not_started text name delay Held new none i = (i, none)
-not_started text name delay OutputsWait new none i = (i, none)
-not_started text name delay NothingLeft new none i = (i, none)
-not_started text name delay BufferTooSmall new none i = (i, none)
-not_started text name delay NothingDue new none i = (i, none)
-not_started text name delay NotText new none i = (i, none)
-not_started text name delay NotToml new none i = (i, none)
-not_started text name delay Missing new none i = (i, none)
-not_started text name delay WrongKind new none i = (i, none)
-not_started text name delay OutOfRange new none i = (i, none)
-not_started text name delay UnknownKey new none i = (i, none)
-not_started text name delay Clash new none i = (i, none)
-not_started text name delay NoSuchNode new none i = (i, none)
-not_started text name delay BadDelay new none i = (i, none)
-not_started text name delay ClockPast new none i = (i, none)
-not_started text name delay NotWanted new none i = (i, none)
-not_started text name delay Failed new none i = (i, none)
-not_started text name delay OutOfMemory new none i = (i, none)
-not_started text name delay NotOffered new none i = (i, none)
-not_started text name delay Busy new none i = (i, none)
-not_started text name delay TooLong new none i = (i, none)
-not_started text name delay UnknownToken new none i = (i, none)
-not_started text name delay BadErrorCode new none i = (i, none)
-not_started text name delay UnknownEvent new none i = (i, none)
-not_started text name delay NotSubscribed new none i = (i, none)
 
 pub starts : (old : Option CNodeView) (text name : List ℕ) (delay number : ℕ) (new : Option CNodeView) (o : Outcome)
     → old ≡ None → number ≡ number_of o → StartsTo text name delay o new → Starts old text name delay number new
@@ -107,9 +68,6 @@ held old text name delay number new c was is now = subst (λ v. Starts v text na
 
 pub closes : (old : Option CNodeView) (number : ℕ) (c : CNodeView) → old ≡ Some c → number ≡ number_of Done → Closes old number
 closes old number c was is = subst (λ v. Closes v number) (sym was) is
-
-pub closes_none : (old : Option CNodeView) (number : ℕ) → old ≡ None → number ≡ number_of Closed → Closes old number
-closes_none old number was is = subst (λ v. Closes v number) (sym was) is
 
 -- ---- a node that was lent
 

@@ -73,17 +73,3 @@ done≢oom e = subst IsDone e tt
 
 waits≢oom : OutputsWait ≢ OutOfMemory
 waits≢oom e = subst IsWaiting e tt
-
-oom_is : (h : History) (done : Work History) (given : Result (Vec Output) NodeError) (node : NodeView) → GivesStep h (Ok done) given node
-    → (old : CNodeView) (outcome : Outcome) (new : CNodeView) → Keeps given old outcome new → outcome ≡ OutOfMemory → given ≡ Err error.OutOfMemory
-oom_is h done (Ok outputs) node gives old outcome new keeps is = absurd (done≢oom (sym keeps.0 ∙ is))
-oom_is h done (Err error) node gives old outcome new keeps is = ap Err gives.0
-
--- where a call gives nothing, memory does not run out
-pub needs_none : (input : Input) (old : CNodeView) (given : Result (Vec Output) NodeError) (node : NodeView) (outcome : Outcome) (new : CNodeView)
-    → Reacts old.node input given node → TakesNoMemory old.node input given → Keeps given (at node old.waiting) outcome new → NeedsNoMemory input old outcome
-needs_none input old given node outcome new reacts quiet keeps = λ h done stands is empty out.
-    quiet h done stands is empty (oom_is h done given node (subst (λ s. GivesStep h s given node) is (reacts h stands)) (at node old.waiting) outcome new keeps out)
-
-pub waits_without : (input : Input) (old : CNodeView) → NeedsNoMemory input old OutputsWait
-waits_without input old = λ h done stands is empty out. waits≢oom out

@@ -24,7 +24,3 @@ first_taken old before space outcome new told bytes output rest first takes = su
 pub fits : (output : Output) (rest : List Output) (node : NodeView) (space : List ℕ) → length (payload_of output) ≤ length space
     → TakesFirst output rest node space Done (record { node = node; waiting = rest }) (record_of output) (payload_of output ++ drop (length (payload_of output)) space)
 fits output rest node space most = (refl, ((λ _. (refl, (refl, refl))), (λ less. absurd (omega (arith, most, less)))))
-
-pub is_too_small : (output : Output) (rest : List Output) (node : NodeView) (space : List ℕ) → length space < length (payload_of output)
-    → TakesFirst output rest node space BufferTooSmall (record { node = node; waiting = output ∷ rest }) (record_of output) space
-is_too_small output rest node space less = (refl, ((λ most. absurd (omega (arith, most, less))), (λ _. (refl, (refl, refl)))))

@@ -41,9 +41,3 @@ pub target_reached : (from to : SocketAddrV4) (goal : Target) (reached : Reached
     → target_plan goal from to bytes ≡ each (reached_item_plan reached) (items_of bytes)
 target_reached from to target.Nowhere reached bytes is = cc
 target_reached from to goal reached bytes is = each_same (item_plan goal from to) (reached_item_plan reached) (item_reached from to goal reached is) (items_of bytes)
-
--- and where nothing is, the datagram is dropped
-pub target_missed : (from to : SocketAddrV4) (goal : Target) (bytes : List ℕ) → reached_from from to goal ≡ None
-    → target_plan goal from to bytes ≡ act (Drops NoPort)
-target_missed from to target.Nowhere bytes is = refl
-target_missed from to goal bytes is = cc

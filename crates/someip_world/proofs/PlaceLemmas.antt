@@ -64,10 +64,6 @@ got xs ys i x same within is = ap (λ zs. slice_get zs i) (sym same) ∙ slice_g
 
 -- ---- numbers, which count from 1
 
-pub none_numbered : (lines : List Line) (number : ℕ) → number < 1 → datagram_at lines number ≡ None
-none_numbered lines zero lt = refl
-none_numbered lines (suc n) lt = absurd (omega (arith, lt))
-
 pub datagram_numbered : (lines : List Line) (number : ℕ) → 1 ≤ number
     → datagram_at lines number ≡ option_and_then (told_at lines) (slice_get (places_from 0 lines) (number - 1))
 datagram_numbered lines zero le = absurd (omega (arith, le))

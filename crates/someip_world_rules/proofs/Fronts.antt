@@ -85,10 +85,6 @@ module _ (nodes : List SetupNode) (configs : List Config) (steps : List Step) wh
             (take_less steps (i + 1) k (omega (arith, less))) t.leads;
       }
 
-  pub widened_deed : (k i : ℕ) (s : Step) (t : Turn nodes configs (take k steps) i s) → (widened k i s t).deed ≡ t.deed
-  unfolding widened
-  widened_deed k i s t = refl
-
   -- a world at the end is one on the way, after all steps
   pub whole_leads : (w : World) → LeadTo nodes configs steps w → LeadTo nodes configs (take (length steps) steps) w
   whole_leads w led = subst (λ ss. LeadTo nodes configs ss w) (sym (take_all (length steps) steps (omega arith))) led

@@ -22,11 +22,5 @@ module _ {A B : Type 0} (f : A → List B) where
   abbrev pub HasGatheredLists : List B → ℕ → List A → List B → Type 0
   HasGatheredLists front i xs whole = front ++ flat_map f (drop i xs) ≡ whole
 
-  pub list_gathered : (front more : List B) (i : ℕ) (xs : List A) (whole : List B) (d : A) → i < length xs → more ≡ front ++ f (get_or xs i d) → HasGatheredLists front i xs whole → HasGatheredLists more (i + 1) xs whole
-  list_gathered front more i xs whole d lt is h =
-      ap (λ (t : List B). t ++ flat_map f (drop (i + 1) xs)) is
-      ∙ append_assoc front (f (get_or xs i d)) (flat_map f (drop (i + 1) xs))
-      ∙ sym (ap (λ (t : List A). front ++ flat_map f t) (drop_more xs i d lt)) ∙ h
-
   pub lists_gathered : (front : List B) (i : ℕ) (xs : List A) (whole : List B) → length xs ≤ i → HasGatheredLists front i xs whole → front ≡ whole
   lists_gathered front i xs whole le h = sym (append-nil front) ∙ sym (ap (λ (t : List A). front ++ flat_map f t) (drop_all i xs le)) ∙ h

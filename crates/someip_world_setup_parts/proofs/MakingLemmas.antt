@@ -49,12 +49,6 @@ module _ {A B : Type 0} (g : A → B) where
   abbrev pub HasMade : List B → ℕ → List A → Type 0
   HasMade front i xs = front ++ map g (drop i xs) ≡ map g xs
 
-  pub one_made : (front : List B) (i : ℕ) (xs : List A) (d : A) (y : B) → i < length xs → y ≡ g (get_or xs i d) → HasMade front i xs → HasMade (front ++ y ∷ []) (i + 1) xs
-  one_made front i xs d y lt is h =
-      append_assoc front (y ∷ []) (map g (drop (i + 1) xs))
-      ∙ ap (λ (t : B). front ++ t ∷ map g (drop (i + 1) xs)) is
-      ∙ sym (ap (λ (t : List A). front ++ map g t) (drop_more xs i d lt)) ∙ h
-
   pub all_made : (front : List B) (i : ℕ) (xs : List A) → length xs ≤ i → HasMade front i xs → front ≡ map g xs
   all_made front i xs le h = sym (append-nil front) ∙ sym (ap (λ (t : List A). front ++ map g t) (drop_all i xs le)) ∙ h
 

@@ -42,9 +42,6 @@ pub record IsComparing (all left : List PrintedLine) (text rest : List ℕ) : Ty
   pub parts : front ++ left ≡ all
   pub same : text ≡ printed_text front ++ rest
 
-pub IsComparing-start : (all : List PrintedLine) (text : List ℕ) → IsComparing all all text text
-IsComparing-start all text = record { front = []; parts = refl; same = refl }
-
 -- a text that goes on with a line, and what is left then
 pub last_line : (lines : List PrintedLine) (line : PrintedLine) (text rest more : List ℕ) → text ≡ printed_text lines ++ rest → rest ≡ line.text ++ more
     → text ≡ printed_text (lines ++ line ∷ []) ++ more
@@ -76,12 +73,6 @@ IsComparing-differs all lines others more line text rest mismatch h next goes is
   differ = (goes, is);
 }
 
--- no line is left
-pub IsComparing-all : (all left : List PrintedLine) (text rest : List ℕ) → IsComparing all left text rest → left ≡ [] → text ≡ printed_text all ++ rest
-IsComparing-all all left text rest h none =
-    let whole : h.front ≡ all = sym (append-nil h.front) ∙ ap (λ (l : List PrintedLine). h.front ++ l) (sym none) ∙ h.parts in
-    h.same ∙ ap (λ (l : List PrintedLine). printed_text l ++ rest) whole
-
 -- what is left begins with the next line
 pub next_printed : (form : TraceForm) (step_lines : List ℕ) (nodes : List SetupNode) (number : ℕ) (lines : List Line) (i : ℕ) (line : Line) → i < length lines → line ≡ get_or lines i line
     → printed_from form step_lines nodes number (drop i lines)
@@ -89,12 +80,6 @@ pub next_printed : (form : TraceForm) (step_lines : List ℕ) (nodes : List Setu
     ∷ printed_from form step_lines nodes (number_after number line) (drop (i + 1) lines)
 next_printed form step_lines nodes number lines i line lt is =
     at_drop_more (printed_from form step_lines nodes number) lines i line lt ∙ ap (λ l. printed_from form step_lines nodes number (l ∷ drop (i + 1) lines)) (sym is)
-
--- it goes on otherwise than with the last line
-pub last_differs : (lines : List PrintedLine) (line : PrintedLine) (text rest : List ℕ) (mismatch : Mismatch) → text ≡ printed_text lines ++ rest
-    → GoesOnOtherwise rest line.text → mismatch ≡ record { expected = line_left rest; got = Some line.text; came_by = line.came_by } → FirstDiffer (lines ++ line ∷ []) text mismatch
-last_differs lines line text rest mismatch same goes is =
-    record { front = lines; others = line ∷ []; rest = rest; parts = refl; same = same; differ = (goes, is) }
 
 -- the text goes on behind all lines
 pub goes_on : (lines : List PrintedLine) (text rest : List ℕ) (mismatch : Mismatch) → text ≡ printed_text lines ++ rest → (rest ≡ [] → ⊥)
@@ -127,19 +112,8 @@ trace_is form text nodes lines verdict =
 abbrev pub IsBeforeEnd : ℕ → ℕ → List ℕ → Type 0
 IsBeforeEnd end i text = (end + line_len (drop i text) ≡ line_len text) × (end ≡ i)
 
-pub ends_later : (end i b : ℕ) (text : List ℕ) → i < length text → b ≡ get_or text i b → (b == 0x0a) ≡ false → IsBeforeEnd end i text → IsBeforeEnd (end + 1) (i + 1) text
-ends_later end i b text lt is other h =
-    let next : drop i text ≡ b ∷ drop (i + 1) text = drop_more text i b lt ∙ ap (λ (x : ℕ). x ∷ drop (i + 1) text) (sym is) in
-    let s : line_len (drop i text) ≡ 1 + line_len (drop (i + 1) text) = rw (next, other) refl in
-    (omega (arith, s, h.0), omega (arith, h.1))
-
 pub ends_here : (end i b : ℕ) (text : List ℕ) → i < length text → b ≡ get_or text i b → (b == 0x0a) ≡ true → IsBeforeEnd end i text → end ≡ line_len text
 ends_here end i b text lt is feed h =
     let next : drop i text ≡ b ∷ drop (i + 1) text = drop_more text i b lt ∙ ap (λ (x : ℕ). x ∷ drop (i + 1) text) (sym is) in
     let s : line_len (drop i text) ≡ 0 = rw (next, feed) refl in
-    omega (arith, s, h.0)
-
-pub ends_nowhere : (end i : ℕ) (text : List ℕ) → length text ≤ i → IsBeforeEnd end i text → end ≡ line_len text
-ends_nowhere end i text all h =
-    let s : line_len (drop i text) ≡ 0 = rw (drop_all i text all) refl in
     omega (arith, s, h.0)

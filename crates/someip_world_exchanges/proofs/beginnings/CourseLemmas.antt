@@ -175,7 +175,3 @@ begun_grows_on h (x ∷ xs) q =
     let here = begun_grows x h.items q in
     let rest = begun_grows_on (met h x) xs q in
     omega (arith, here, rest)
-
--- only these three begin
-pub begins_not_tame : (h : History) (item : Item) (q : Eventgroup) (peer : Ipv4Addr) (counter : ℕ) → Begins h item q peer counter → (course_at h.items q).begun < (course_at (met h item).items q).begun
-begins_not_tame h item q peer counter b = let more = b.more in omega (arith, more)

@@ -78,9 +78,6 @@ pub call_key_by_call : (h : History) (input : Input) (k : CallExchange) → Open
 call_key_by_call h input k o =
     by_called o.done.before.state o.done.by (answers_of o.done.before.state) input (opening_asked h input (keys.Call k) o) o.item k (opening_met h input (keys.Call k) o) o.opens
 
-pub other_opens_no_call : (h : History) (input : Input) → is_call input ≡ false → (k : CallExchange) → OpensBy h input (keys.Call k) → ⊥
-other_opens_no_call h input other k o = let call = call_key_by_call h input k o in absurd cc
-
 -- and the key of a publication by a publication alone
 pub event_key_by_publication : (h : History) (input : Input) (k : EventExchange) → OpensBy h input (keys.Event k) → is_publication input ≡ true
 event_key_by_publication h input k o =
@@ -108,13 +105,6 @@ IsSending (plans.Publishes instance event payload) = Unit {0}
 IsSending (plans.PublishesTo instance endpoint event payload) = Unit {0}
 IsSending r = ⊥
 
-sending_rule : (h : History) (earlier : List Done) (input : Input) (r : Rule) → is_sending input ≡ true → Brings h input r earlier → IsSending r
-sending_rule h earlier (inputs.Call kind instance method payload) r is brings = subst IsSending (sym brings.0) tt
-sending_rule h earlier (inputs.Answer token reply payload) r is brings = subst IsSending (sym brings.0) tt
-sending_rule h earlier (inputs.Publish instance event payload) r is brings = subst IsSending (sym brings.0) tt
-sending_rule h earlier (inputs.PublishTo instance eventgroup endpoint event payload) r is brings = subst IsSending (sym brings.0) tt
-sending_rule h earlier input r is brings = absurd cc
-
 -- by an item no subscription begins
 abbrev BeginsNone : Item → Type 0
 BeginsNone item = (before : List Item) (eventgroup : Eventgroup) → (course_at (item ∷ before) eventgroup).begun ≡ (course_at before eventgroup).begun
@@ -138,13 +128,6 @@ module _ (t : Tables) where
   publishes_to_none endpoint event payload None = tt
   publishes_to_none endpoint event payload (Some service) = (λ before eventgroup. refl, tt)
 
-  sending_none : (r : Rule) → IsSending r → AllByRecursion BeginsNone (rule r t).items
-  sending_none (plans.Calls kind instance method payload) is = calls_none (call_of kind instance method t) payload (known_endpoint t instance)
-  sending_none (plans.Answers token reply payload) is = answers_none token reply payload (finite.get t.server.requests token)
-  sending_none (plans.Publishes instance event payload) is = publishes_none instance event payload (offered_as t.config instance)
-  sending_none (plans.PublishesTo instance endpoint event payload) is = publishes_to_none endpoint event payload (offered_as t.config instance)
-  sending_none r is = absurd is
-
 by_begun : (at : History) (item : Item) (k : SubscriptionExchange) → BeginsNone item → Opens at item (keys.Subscription k) → ⊥
 by_begun at (items.Called call peer session) k none opens = absurd cc
 by_begun at (items.Published event) k none opens = let is = opens.is in absurd cc
@@ -152,11 +135,3 @@ by_begun at item k none opens =
     let more = opens.3.more in
     let same = none at.items opens.0 in
     omega (arith, more, same)
-
--- no call, answer or publication opens the key of a subscription
-pub sending_opens_no_subscription : (h : History) (input : Input) → is_sending input ≡ true → (k : SubscriptionExchange) → OpensBy h input (keys.Subscription k) → ⊥
-sending_opens_no_subscription h input is k o =
-    let brought = opening_brought h input (keys.Subscription k) o in
-    let sending = sending_rule h brought.earlier input o.done.by is brought.brings in
-    let none = subst (AllByRecursion BeginsNone) o.meets (sending_none (answers_of o.done.before.state) o.done.by sending) in
-    by_begun o.done.before.state o.item k none.0 o.opens

@@ -24,15 +24,6 @@ use Rattle.someip_world_exchanges.proofs.openings.RuleInputs.{AskedBy, done_aske
 
 -- ---- the configuration
 
--- whatever is met, the configuration stays
-pub after_config : (h : History) (met_items : List Item) → (after h met_items).config ≡ h.config
-after_config h [] = refl
-after_config h (item ∷ rest) = after_config (met h item) rest
-
--- and so it does in a step
-pub step_config : (h : History) (input : Input) (done : Work History) → step h input ≡ Ok done → done.state.config ≡ h.config
-step_config h input done is = ap (λ (s : History). s.config) (state_met h input done is) ∙ after_config h (met_by (trail_of h input))
-
 -- ---- the clock
 
 -- an item leaves the clock as it is
