@@ -27,6 +27,14 @@ expect() {
     echo "$part: $(echo "$1" | tr _ ' '): expected $expected, got $(describe "$status" "$scratch/err" "$scratch/out")"
 }
 
+# Judges by its exit status alone, $2, the call before as the case $1: its text is that of the library that reads words.
+expect_status() {
+    cases=$((cases + 1))
+    [ "$status" = "$2" ] && return
+    findings=$((findings + 1))
+    echo "$part: $1: expected status $2, got $(describe "$status" "$scratch/err" "$scratch/out")"
+}
+
 # The beginning of the text of a file, in a line.
 begin_of() {
     head -c 60 "$1" | tr '\n' ' '
@@ -125,6 +133,16 @@ sweep_unread() {
     else
         skipped=", skipped: a file without permission"
     fi
+}
+
+# Words whose whole answer is a text of help or of usage.
+sweep_words() {
+    call plainly help
+    expect_status "help" 0
+    call plainly list
+    expect_status "a word that is no command" 2
+    call plainly
+    expect_status "no words" 2
 }
 
 # Calls the command $2, which prints a short text, in the circumstances $1.
@@ -342,6 +360,7 @@ sweep_coming_recordings() {
 
 sweep_files() {
     begin_part files
+    sweep_words
     sweep_unread
     sweep_unwritten
     sweep_closed_streams

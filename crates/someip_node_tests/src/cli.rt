@@ -5,7 +5,7 @@ use crate::slow::{Limits, SlowWriter, UNLIMITED};
 use recording::RecordingError;
 use rows::{ROWS, Row, SHOWING, Wanted};
 use someip_world::{SetupError, StepFault};
-use someipctl_cli::{Failure, LineError, answer_error, command_of, run};
+use someipctl_cli::{Failure, LineError, answer_error, command_of};
 use someipctl_commands::payload::PayloadRefusal;
 use someipctl_commands::services::ServicesError;
 use someipctl_commands::show::ShowError;
@@ -14,7 +14,7 @@ use someipctl_recordings::ports::PortsError;
 use someipctl_recordings::{LimitsError, RecordingFault};
 use someipctl_run::{RunFault, SetupFault, read_setup};
 use someipctl_types::{TypesError, TypesFault};
-use std::alloc::{AllocError, Global};
+use std::alloc::Global;
 use std::process::Abort;
 
 mod rows;
@@ -134,29 +134,6 @@ fn help_is_printed_and_usage_is_not(rt: HostRuntime) {
     assert!(rt; is_answered(alloc, &["someipctl", "help", "show"], broken, 4, b""));
     assert!(rt; is_answered(alloc, &["someipctl", "list"], UNLIMITED, 2, b""));
     assert!(rt; is_answered(alloc, &["someipctl"], UNLIMITED, 2, b""));
-}
-
-/// The words of a line.
-fn words_of(alloc: Global, line: &str) -> Result<Vec<String>, AllocError> {
-    let mut words = Vec::new(alloc);
-    for word in line.split(' ') {
-        words.push(String::from_str(alloc, word)?)?;
-    }
-    Ok(words)
-}
-
-/// Whether a whole run of the program on the words of a line ends with this exit status.
-fn is_run(rt: &HostRuntime, line: &str, status: u8) -> Option<bool> {
-    let words = words_of(rt.alloc(), line).ok()?;
-    Some(is_end(rt.alloc(), run(rt, &words), None, status))
-}
-
-/// Runs of the program whose whole text is that of `clap`, and their exit statuses. Others are its cases.
-#[test]
-fn runs_end_with_a_status(rt: HostRuntime) {
-    assert!(rt; is_run(&rt, "someipctl help", 0) == Some(true));
-    assert!(rt; is_run(&rt, "someipctl list", 2) == Some(true));
-    assert!(rt; is_run(&rt, "someipctl", 2) == Some(true));
 }
 
 /// Whether an answer that is no command is what is wanted.
