@@ -60,7 +60,7 @@ impl<'t> ValueLines<'t> {
         match item {
             Ok(message) => {
                 self.types
-                    .append_value_line(self.alloc, k, place, message, &mut self.line)
+                    .make_value_line(self.alloc, k, place, message, &mut self.line)
             }
             Err(_) => Ok(false),
         }

@@ -15,7 +15,7 @@ use crate::message_key::{MessageKey, key_by};
 use crate::tables::{message_tables, typed_messages};
 use crate::typed_message::TypedMessage;
 use crate::unknown::refuse_unknown;
-use crate::value_line::payload_line;
+use crate::value_line::put_payload_line;
 use someip_wire::{Header, Message};
 use std::alloc::{AllocError, Global};
 use std::collections::BTreeMap;
@@ -104,34 +104,38 @@ impl MessageTypes {
         self.tables.is_empty()
     }
 
-    /// Puts the line of the value of a message of the k-th datagram behind the text, if a table names
-    /// the message, and says whether it tells a fault. The message begins at the place in the datagram.
+    /// Makes the line of the value of a message of the k-th datagram, in place of what the line held: an
+    /// empty one where no table names the message. Says whether it tells a fault. The message begins at
+    /// the place in the datagram.
     ///
     /// ```text
     /// 1 value speed 42 used 2 of 3
     /// 2 value fault Truncated at 17
     /// ```
-    pub fn append_value_line(
+    pub fn make_value_line(
         &self,
         alloc: Global,
         k: usize,
         place: usize,
         message: &Message<'_>,
-        text: &mut String,
+        line: &mut String,
     ) -> Result<bool, AllocError>
         requires room { place + length (spelling (message_view message.now)) ≤ usize.MAX }
-        ensures ok { OnOk result (string_bytes text.new
-            ≡ string_bytes text.old ++ value_line self.now k place (message_view message.now)) }
+        ensures ok { OnOk result (string_bytes line.new
+            ≡ value_line self.now k place (message_view message.now)) }
         ensures faulty { IfOk result (λ faulty. faulty ≡ has_value_fault self.now (message_view message.now)) }
-        // Memory ran out: the text is as it was.
-        ensures err { OnErr result (string_bytes text.new ≡ string_bytes text.old) }
+        // Memory ran out: the line is empty.
+        ensures err { OnErr result (string_bytes line.new ≡ []) }
     {
+        line.clear();
         let Some(table) = self.table_for(&message.header) else {
             return Ok(false);
         };
-        let (line, faulty) = payload_line(alloc, table, k, place, message.payload)?;
-        text.push_str(line.as_str())?;
-        Ok(faulty)
+        let made = put_payload_line(alloc, table, k, place, message.payload, line);
+        if made.is_err() {
+            line.clear();
+        }
+        made
     }
 
     /// The table that names the messages with a header, if there is one.

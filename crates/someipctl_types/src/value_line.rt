@@ -1,6 +1,6 @@
 //! The line of a value.
-ghost use Rattle.std.specs.Prelude.{◌≡◌, ◌+◌, ◌≤◌, ◌++◌, length, IfOk, OnOk, string_bytes};
-ghost use Rattle.std.specs.Option.{option_copied, option_map};
+ghost use Rattle.std.specs.Prelude.{◌≡◌, ◌+◌, ◌≤◌, ◌++◌, length, IfOk, OnOk, decimal, string_bytes};
+ghost use Rattle.std.specs.Option.{option_map};
 ghost use Rattle.someip_payload_values.specs.View.{data_of, form};
 ghost use Rattle.someip_payload_codec.specs.Reading.{decoded};
 ghost use Rattle.someipctl_types.specs.ValueLine.{name_text, used_text, read_line, fault_line, payload_line, is_fault};
@@ -13,85 +13,91 @@ use std::alloc::{AllocError, Global};
 /// How many bytes a header has, which stands in front of each payload.
 const HEADER_LEN: usize = 16;
 
-/// How many bytes most lines have room in, so that few of them grow.
-const LINE_LEN: usize = 96;
-
-/// The line of a payload by the table that names its message, which begins at the place in the k-th
-/// datagram; and whether it tells a fault.
-pub(crate) fn payload_line(
+/// Puts the line of a payload after the text, by the table that names its message, which begins at the
+/// place in the k-th datagram. Says whether the line tells a fault.
+pub(crate) fn put_payload_line(
     alloc: Global,
     table: &TypedMessage,
     k: usize,
     place: usize,
     payload: &[u8],
-) -> Result<(String, bool), AllocError>
+    text: &mut String,
+) -> Result<bool, AllocError>
     requires room { place + (16 + length payload.now) ≤ usize.MAX }
-    ensures line { IfOk result (λ r.
-        string_bytes r.0 ≡ payload_line (typed_view table.now) k place payload.now) }
-    ensures faulty { IfOk result (λ r.
-        r.1 ≡ is_fault (decoded (form table.now.shape) payload.now)) }
+    ensures line { OnOk result (string_bytes text.new
+        ≡ string_bytes text.old ++ payload_line (typed_view table.now) k place payload.now) }
+    ensures faulty { IfOk result (λ faulty.
+        faulty ≡ is_fault (decoded (form table.now.shape) payload.now)) }
 {
     match decode(alloc, &table.shape, payload) {
         Ok((value, used)) => {
-            let line = read_line(alloc, k, table.name.as_ref(), &value, used, payload.len())?;
-            Ok((line, false))
+            put_read_line(text, k, table.name.as_ref(), &value, used, payload.len())?;
+            Ok(false)
         }
         Err(PayloadError::OutOfMemory) => Err(AllocError),
         Err(fault) => {
             let place = place + HEADER_LEN + fault.place();
-            Ok((fault_line(alloc, k, fault.name(), place)?, true))
+            put_fault_line(text, k, fault.name(), place)?;
+            Ok(true)
         }
     }
 }
 
-/// The line of a value that takes so many of all bytes of a payload.
-fn read_line(
-    alloc: Global,
+/// Puts the line of a value after the text, which takes so many of all bytes of a payload.
+fn put_read_line(
+    text: &mut String,
     k: usize,
     name: Option<&String>,
     value: &Value,
     used: usize,
     all: usize,
-) -> Result<String, AllocError>
-    ensures { IfOk result (λ line. string_bytes line
-        ≡ read_line k (option_map (λ n. string_bytes n.now) name.entry) (data_of value.now) used all) }
+) -> Result<(), AllocError>
+    ensures { OnOk result (string_bytes text.new ≡ string_bytes text.old
+        ++ read_line k (option_map (λ n. string_bytes n.now) name.entry) (data_of value.now) used all) }
 {
-    let mut line = String::with_capacity(alloc, LINE_LEN)?;
-    write!(line, "{k} value ")?;
-    put_name(&mut line, name)?;
-    write!(line, "{value}")?;
-    put_used(&mut line, used, all)?;
-    line.push_str("\n")?;
-    Ok(line)
+    put_number(text, k)?;
+    text.push_str(" value ")?;
+    put_name(text, name)?;
+    write!(text, "{value}")?;
+    put_used(text, used, all)?;
+    text.push_str("\n")?;
+    Ok(())
 }
 
-/// Puts a name and a space behind the line, if there is a name.
-fn put_name(line: &mut String, name: Option<&String>) -> Result<(), AllocError>
-    ensures { OnOk result (string_bytes line.new
-        ≡ string_bytes line.old ++ name_text (option_map (λ n. string_bytes n.now) name.entry)) }
+/// Puts a number after the text.
+fn put_number(text: &mut String, number: usize) -> Result<(), AllocError>
+    ensures { OnOk result (string_bytes text.new ≡ string_bytes text.old ++ decimal number) }
+{
+    text.push_str(itoa::Buffer::new().format(number))
+}
+
+/// Puts a name and a space after the text, if there is a name.
+fn put_name(text: &mut String, name: Option<&String>) -> Result<(), AllocError>
+    ensures { OnOk result (string_bytes text.new
+        ≡ string_bytes text.old ++ name_text (option_map (λ n. string_bytes n.now) name.entry)) }
 {
     match name {
-        Some(name) => write!(line, "{name} "),
+        Some(name) => write!(text, "{name} "),
         None => Ok(()),
     }
 }
 
-/// Puts behind the line how many bytes the value takes, where it does not take all.
-fn put_used(line: &mut String, used: usize, all: usize) -> Result<(), AllocError>
-    ensures { OnOk result (string_bytes line.new ≡ string_bytes line.old ++ used_text used all) }
+/// Puts after the text how many bytes the value takes, where it does not take all.
+fn put_used(text: &mut String, used: usize, all: usize) -> Result<(), AllocError>
+    ensures { OnOk result (string_bytes text.new ≡ string_bytes text.old ++ used_text used all) }
 {
-    if used < all {
-        write!(line, " used {used} of {all}")
-    } else {
-        Ok(())
+    if all <= used {
+        return Ok(());
     }
+    text.push_str(" used ")?;
+    put_number(text, used)?;
+    text.push_str(" of ")?;
+    put_number(text, all)
 }
 
-/// The line of a fault at a place of the k-th datagram.
-fn fault_line(alloc: Global, k: usize, name: &str, place: usize) -> Result<String, AllocError>
-    ensures { IfOk result (λ line. string_bytes line ≡ fault_line k name.now place) }
+/// Puts the line of a fault after the text, at a place of the k-th datagram.
+fn put_fault_line(text: &mut String, k: usize, name: &str, place: usize) -> Result<(), AllocError>
+    ensures { OnOk result (string_bytes text.new ≡ string_bytes text.old ++ fault_line k name.now place) }
 {
-    let mut line = String::with_capacity(alloc, LINE_LEN)?;
-    writeln!(line, "{k} value fault {name} at {place}")?;
-    Ok(line)
+    writeln!(text, "{k} value fault {name} at {place}")
 }
