@@ -1,13 +1,15 @@
 //! Messages of Service Discovery over the books.
 ghost use Rattle.std.specs.Prelude.{◌≡◌, OnErr, OnOk, Some, map};
 ghost use Rattle.sd_wire.specs.Values.{view_read, view_sd};
-ghost use Rattle.someip_audit.specs.SdShown.{IsBegun, begun_again, entries_shown, entry_shown};
+ghost use Rattle.someip_audit.specs.SdShown.{IsBegun, begun_again, endpoint_shown, entries_shown, entry_shown};
 ghost use Rattle.someip_audit.specs.SdShown.{head_shown, offer_shown, receiver_shown, sd_shown};
 ghost use Rattle.someip_audit.specs.SdShown.{service_shown, session_shown, subscribe_shown};
 ghost use Rattle.someip_audit.specs.SdShown.{with_told, working};
 
 use crate::books::Books;
-use crate::entries::{offer_entry, receiver_entry, sd_message, subscribe_entry, withdrawn_offer};
+use crate::entries::{
+    named_endpoint, offer_entry, receiver_entry, sd_message, subscribe_entry, withdrawn_offer,
+};
 use crate::finding::Finding;
 use audit_offers::OfferEntry;
 use audit_receivers::ReceiverEntry;
@@ -24,7 +26,7 @@ impl<S: Reassembly> Books<S> {
     /// Takes note of a message of Service Discovery with this session, and appends what it shows: by its
     /// session and flags first, and then by its entries in order. Where memory runs out, what was
     /// appended is a beginning of that, and nothing else is promised.
-    pub fn saw_sd(
+    pub(crate) fn saw_sd(
         &mut self,
         now: Moment,
         origin: &Origin,
@@ -68,6 +70,7 @@ impl<S: Reassembly> Books<S> {
         self.offers.forget(address);
         self.subscriptions.forget(address);
         self.receivers.forget(address);
+        self.events.forget(address);
     }
 
     /// The entries of a message come.
@@ -104,9 +107,30 @@ impl<S: Reassembly> Books<S> {
     {
         match entry {
             ReadEntry::Good(entry) => {
-                self.saw_head(now, origin, &entry.head, entry.udp_endpoint(), findings)
+                let endpoint = entry.udp_endpoint();
+                self.saw_endpoint(named_endpoint(&entry.head, endpoint), findings)?;
+                self.saw_head(now, origin, &entry.head, endpoint, findings)
             }
             ReadEntry::BadRun(head) => self.saw_head(now, origin, head, None, findings),
+        }
+    }
+
+    /// An entry names an endpoint, or none.
+    fn saw_endpoint(
+        &mut self,
+        endpoint: Option<SocketAddrV4>,
+        findings: &mut Vec<Finding>,
+    ) -> Result<(), AllocError>
+        ensures ok { OnOk result (working self.new findings.new.items
+            ≡ endpoint_shown endpoint (working self.old findings.old.items)) }
+        ensures err { OnErr result (findings.new.items ≡ findings.old.items) }
+    {
+        let Some(endpoint) = endpoint else {
+            return Ok(());
+        };
+        match self.watched.learn(endpoint)? {
+            Some(shown) => tell(findings, shown),
+            None => Ok(()),
         }
     }
 
@@ -128,6 +152,8 @@ impl<S: Reassembly> Books<S> {
             EntryHead::Service(entry) => self.saw_service(now, origin, entry, endpoint, findings),
             EntryHead::Eventgroup(entry) => {
                 let subscribe = subscribe_entry(origin, entry);
+                self.events
+                    .disturb(subscribe.key.client, subscribe.key.server);
                 self.saw_subscribe(now, subscribe, findings)?;
                 self.saw_receiver(now, receiver_entry(&subscribe, endpoint), findings)
             }
@@ -151,7 +177,9 @@ impl<S: Reassembly> Books<S> {
             return Ok(());
         }
         if entry.ttl.seconds() == 0 {
-            self.receivers.withdraw(withdrawn_offer(origin, entry));
+            let offer = withdrawn_offer(origin, entry);
+            self.receivers.withdraw(offer);
+            self.events.withdraw(offer.server, offer.service);
         }
         self.saw_offer(now, offer_entry(origin, entry, endpoint), findings)
     }
