@@ -1,3 +1,5 @@
 pub mod MomentLemmas
 pub mod FirstOfAll
 pub mod FrontLemmas
+pub mod WatchLemmas
+pub mod ItemLemmas

@@ -107,12 +107,14 @@ receiver_shown now entry work = record {
 abbrev pub changed : SubscriptionKey → Work → Work
 changed key work = record work { held = record work.held { events = events.after_change key.client key.server work.held.events } }
 
+-- an entry of an eventgroup: its subscription changes, and it shows what is told as to its answer, and then as to who is subscribed
+abbrev pub group_shown : ℕ → SubscribeEntry → Option SocketAddrV4 → Work → Work
+group_shown now entry endpoint work = receiver_shown now (receiver_entry entry endpoint) (subscribe_shown now entry (changed entry.key work))
+
 -- an entry with the first IPv4 endpoint over UDP among its options, if it has one
 abbrev pub head_shown : ℕ → Origin → EntryHead → Option SocketAddrV4 → Work → Work
 head_shown now origin (Service entry) endpoint work = service_shown entry.kind now origin entry endpoint work
-head_shown now origin (Eventgroup entry) endpoint work =
-    receiver_shown now (receiver_entry (subscribe_entry origin entry) endpoint)
-    (subscribe_shown now (subscribe_entry origin entry) (changed (subscribe_entry origin entry).key work))
+head_shown now origin (Eventgroup entry) endpoint work = group_shown now (subscribe_entry origin entry) endpoint work
 
 -- the endpoint that an entry names is learnt
 abbrev pub endpoint_shown : Option SocketAddrV4 → Work → Work
@@ -122,10 +124,13 @@ endpoint_shown (Some endpoint) work = record {
   told = with_told (watching.told_of_endpoint endpoint work.held.watched) work.told;
 }
 
+-- and then what it shows
+abbrev pub good_shown : ℕ → Origin → EntryHead → Option SocketAddrV4 → Work → Work
+good_shown now origin head endpoint work = head_shown now origin head endpoint (endpoint_shown (named_endpoint head endpoint) work)
+
 -- of an entry whose runs pass the options none is known
 abbrev pub entry_shown : ℕ → Origin → ReadValue → Work → Work
-entry_shown now origin (good entry) work =
-    head_shown now origin entry.head (first_udp_endpoint (options_of entry)) (endpoint_shown (named_endpoint entry.head (first_udp_endpoint (options_of entry))) work)
+entry_shown now origin (good entry) work = good_shown now origin entry.head (first_udp_endpoint (options_of entry)) work
 entry_shown now origin (bad_run head) work = head_shown now origin head None work
 
 -- ---- the message

@@ -1,8 +1,8 @@
 //! Messages of Service Discovery over the books.
-ghost use Rattle.std.specs.Prelude.{◌≡◌, OnErr, OnOk, Some, map};
+ghost use Rattle.std.specs.Prelude.{◌≡◌, OnErr, OnOk, Some, [], map};
 ghost use Rattle.sd_wire.specs.Values.{view_read, view_sd};
-ghost use Rattle.someip_audit.specs.SdShown.{IsBegun, begun_again, endpoint_shown, entries_shown, entry_shown};
-ghost use Rattle.someip_audit.specs.SdShown.{head_shown, offer_shown, receiver_shown, sd_shown};
+ghost use Rattle.someip_audit.specs.SdShown.{IsBegun, begun_again, changed, endpoint_shown, entries_shown, entry_shown};
+ghost use Rattle.someip_audit.specs.SdShown.{good_shown, group_shown, head_shown, offer_shown, receiver_shown, sd_shown};
 ghost use Rattle.someip_audit.specs.SdShown.{service_shown, session_shown, subscribe_shown};
 ghost use Rattle.someip_audit.specs.SdShown.{with_told, working};
 
@@ -14,7 +14,7 @@ use crate::finding::Finding;
 use audit_offers::OfferEntry;
 use audit_receivers::ReceiverEntry;
 use audit_sessions::SdMessage;
-use audit_subscriptions::SubscribeEntry;
+use audit_subscriptions::{SubscribeEntry, SubscriptionKey};
 use audit_tables::Origin;
 use sd_wire::{EntryHead, ReadEntry, SdRead, ServiceEntry, ServiceKind};
 use someip_reassembly::Reassembly;
@@ -107,12 +107,28 @@ impl<S: Reassembly> Books<S> {
     {
         match entry {
             ReadEntry::Good(entry) => {
-                let endpoint = entry.udp_endpoint();
-                self.saw_endpoint(named_endpoint(&entry.head, endpoint), findings)?;
-                self.saw_head(now, origin, &entry.head, endpoint, findings)
+                self.saw_good(now, origin, &entry.head, entry.udp_endpoint(), findings)
             }
             ReadEntry::BadRun(head) => self.saw_head(now, origin, head, None, findings),
         }
+    }
+
+    /// An entry comes that may name this endpoint, which is learnt first.
+    fn saw_good(
+        &mut self,
+        now: Moment,
+        origin: &Origin,
+        head: &EntryHead,
+        endpoint: Option<SocketAddrV4>,
+        findings: &mut Vec<Finding>,
+    ) -> Result<(), AllocError>
+        ensures ok { OnOk result (working self.new findings.new.items
+            ≡ good_shown now origin.now head.now endpoint (working self.old findings.old.items)) }
+        ensures err { OnErr result (IsBegun findings.old.items findings.new.items
+            (good_shown now origin.now head.now endpoint (working self.old findings.old.items)).told) }
+    {
+        self.saw_endpoint(named_endpoint(head, endpoint), findings)?;
+        self.saw_head(now, origin, head, endpoint, findings)
     }
 
     /// An entry names an endpoint, or none.
@@ -151,13 +167,34 @@ impl<S: Reassembly> Books<S> {
         match head {
             EntryHead::Service(entry) => self.saw_service(now, origin, entry, endpoint, findings),
             EntryHead::Eventgroup(entry) => {
-                let subscribe = subscribe_entry(origin, entry);
-                self.events
-                    .disturb(subscribe.key.client, subscribe.key.server);
-                self.saw_subscribe(now, subscribe, findings)?;
-                self.saw_receiver(now, receiver_entry(&subscribe, endpoint), findings)
+                self.saw_group(now, subscribe_entry(origin, entry), endpoint, findings)
             }
         }
+    }
+
+    /// An entry of an eventgroup comes.
+    fn saw_group(
+        &mut self,
+        now: Moment,
+        entry: SubscribeEntry,
+        endpoint: Option<SocketAddrV4>,
+        findings: &mut Vec<Finding>,
+    ) -> Result<(), AllocError>
+        ensures ok { OnOk result (working self.new findings.new.items
+            ≡ group_shown now entry endpoint (working self.old findings.old.items)) }
+        ensures err { OnErr result (IsBegun findings.old.items findings.new.items
+            (group_shown now entry endpoint (working self.old findings.old.items)).told) }
+    {
+        self.change(entry.key);
+        self.saw_subscribe(now, entry, findings)?;
+        self.saw_receiver(now, receiver_entry(&entry, endpoint), findings)
+    }
+
+    /// A subscription changes.
+    fn change(&mut self, key: SubscriptionKey)
+        ensures { self.new ≡ (changed key (working self.old [])).held }
+    {
+        self.events.disturb(key.client, key.server);
     }
 
     /// An entry about an instance comes.

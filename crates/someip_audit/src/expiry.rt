@@ -1,11 +1,14 @@
 //! Subscriptions that expire, over the books.
 ghost use Rattle.std.specs.Prelude.{◌≡◌, OnErr, OnOk};
-ghost use Rattle.someip_audit.specs.Audits.{without_passed};
+ghost use Rattle.someip_audit.specs.Audits.{each_disturbed, without_passed};
 
 use crate::books::Books;
+use audit_events::EventBook;
+use audit_subscriptions::SubscriptionKey;
 use someip_reassembly::Reassembly;
 use someip_tables::Moment;
 use std::alloc::{AllocError, Global};
+use std::collections::BTreeSet;
 
 impl<S: Reassembly> Books<S> {
     /// Drops the subscriptions that have expired, and disturbs the flows between client and server of
@@ -15,10 +18,17 @@ impl<S: Reassembly> Books<S> {
         ensures ok { OnOk result (self.new ≡ without_passed now self.old) }
         ensures err { OnErr result (self.new ≡ self.old) }
     {
-        let keys = self.receivers.expire(alloc, now)?;
-        for key in keys.iter() {
-            self.events.disturb(key.client, key.server);
-        }
+        let ended = self.receivers.expire(alloc, now)?;
+        disturb_each(&mut self.events, &ended);
         Ok(())
+    }
+}
+
+/// Disturbs the flows between client and server of each of these subscriptions.
+fn disturb_each(events: &mut EventBook, ended: &BTreeSet<SubscriptionKey>)
+    ensures { events.new ≡ each_disturbed ended.now.keys events.old }
+{
+    for key in ended.iter() {
+        events.disturb(key.client, key.server);
     }
 }

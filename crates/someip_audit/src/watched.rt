@@ -1,6 +1,8 @@
 //! At which ports and endpoints datagrams are looked at.
-ghost use Rattle.std.specs.Prelude.{◌≡◌, IfOk, OnErr, true, false, option_map};
+ghost use Rattle.std.specs.Prelude.{◌≡◌, IfOk, OnErr, is_some, nat_lt, true, false, option_map};
 ghost use Rattle.std.specs.FinMap as finite;
+ghost use Rattle.someip_tables.specs.Endpoints.{endpoint_cmp};
+ghost use Rattle.someip_tables.specs.Tables.{map_of};
 ghost use Rattle.someip_audit.specs.WatchedEndpoints.{is_asked, is_at_discovery, is_looked_at};
 ghost use Rattle.someip_audit.specs.WatchedEndpoints.{is_passed_over, once_named, told_of_endpoint};
 ghost use Rattle.someip_audit.specs.WatchedEndpoints.{told_when_full};
@@ -15,13 +17,16 @@ use std::net::SocketAddrV4;
 /// The port of Service Discovery.
 const DISCOVERY_PORT: u16 = 30490;
 
+/// The endpoints that were learnt.
+type Learnt = BTreeMap<SocketAddrV4, ()>;
+
 /// At which ports and endpoints datagrams are looked at beside the port of Service Discovery: at these
 /// ports, where they are named, and else at the endpoints that were learnt.
 #[derive(Drop)]
 pub(crate) struct Watched {
     ports: Option<Vec<u16>>,
     limit: usize,
-    learnt: BTreeMap<SocketAddrV4, ()>,
+    learnt: Learnt,
     told_full: bool,
 }
 
@@ -84,7 +89,7 @@ impl Watched {
             Some(ports) => {
                 ports.contains(&origin.from.port()) || ports.contains(&origin.to.port())
             }
-            None => self.learnt.contains_key(&origin.from) || self.learnt.contains_key(&origin.to),
+            None => knows(&self.learnt, &origin.from) || knows(&self.learnt, &origin.to),
         }
     }
 
@@ -97,20 +102,18 @@ impl Watched {
         if self.passes_over(&endpoint) {
             return Ok(None);
         }
-        if self.learnt.len() >= self.limit {
+        if !has_room(&self.learnt, self.limit) {
             return Ok(self.tell_full());
         }
-        match self.learnt.insert(endpoint, ()) {
-            Ok(_) => Ok(None),
-            Err(_) => Err(AllocError),
-        }
+        put(&mut self.learnt, endpoint)?;
+        Ok(None)
     }
 
     /// Whether an endpoint is passed over.
     fn passes_over(&self, endpoint: &SocketAddrV4) -> bool
         ensures { result ≡ is_passed_over endpoint.now self.now }
     {
-        self.ports.is_some() || self.learnt.contains_key(endpoint)
+        self.ports.is_some() || knows(&self.learnt, endpoint)
     }
 
     /// Says that no more may be learnt, once.
@@ -123,6 +126,33 @@ impl Watched {
         }
         self.told_full = true;
         Some(Finding::EndpointsFull)
+    }
+}
+
+/// Whether an endpoint was learnt.
+fn knows(learnt: &Learnt, endpoint: &SocketAddrV4) -> bool
+    ensures { result ≡ is_some (finite.get (map_of endpoint_cmp learnt.now.entries) endpoint.now) }
+{
+    learnt.contains_key(endpoint)
+}
+
+/// Whether there is room for one more.
+fn has_room(learnt: &Learnt, limit: usize) -> bool
+    ensures { result ≡ nat_lt (finite.len (map_of endpoint_cmp learnt.now.entries)) limit }
+{
+    learnt.len() < limit
+}
+
+/// Puts an endpoint to those that were learnt.
+fn put(learnt: &mut Learnt, endpoint: SocketAddrV4) -> Result<(), AllocError>
+    ensures after { IfOk result (λ _. map_of endpoint_cmp learnt.new.entries
+        ≡ finite.insert (map_of endpoint_cmp learnt.old.entries) endpoint tt) }
+    ensures err { OnErr result
+        (map_of endpoint_cmp learnt.new.entries ≡ map_of endpoint_cmp learnt.old.entries) }
+{
+    match learnt.insert(endpoint, ()) {
+        Ok(_) => Ok(()),
+        Err(_) => Err(AllocError),
     }
 }
 
