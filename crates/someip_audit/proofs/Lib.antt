@@ -3,3 +3,5 @@ pub mod FirstOfAll
 pub mod FrontLemmas
 pub mod WatchLemmas
 pub mod ItemLemmas
+pub mod ExpiryLemmas
+pub mod NextLemmas

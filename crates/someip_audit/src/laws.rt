@@ -1,6 +1,12 @@
 //! Laws of the definitions behind the contracts, by example. Each is the contract of a function that does
 //! nothing.
-ghost use Rattle.std.specs.Prelude.{◌≡◌, ◌+◌, ℕ, [], ◌∷◌, Some, None, Ok, Err, true, false, nat_lt};
+ghost use Rattle.std.specs.Prelude.{◌≡◌, ℕ, List, [], ◌∷◌, Some, None, Ok, Err, true, false, if◌then◌else◌, nat_lt, option_map};
+ghost use Rattle.std.specs.List.{list_any};
+ghost use Rattle.audit_subscriptions.specs.declared.key.SubscriptionKey.{SubscriptionKey};
+ghost use Rattle.audit_events.specs.declared.flow.EventFlow.{EventFlow};
+ghost use Rattle.audit_events.specs.EventRules.{disturbed, is_between};
+ghost use Rattle.audit_events.specs.EventTables.{Events};
+ghost use Rattle.someip_audit.specs.Audits.{AuditState, Audits, Report, Seen, each_disturbed};
 ghost use Rattle.std.specs.FinMap as finite;
 ghost use Rattle.std.specs.Ordering.{is_lt};
 ghost use Rattle.sd_wire.specs.declared.entry.ServiceKind.TheVariants.{Find, Offer};
@@ -150,4 +156,23 @@ pub fn events_have_sessions()
     ensures to_group { event_flow (from_node 1 1) (header_with 5 kinds.Notification)
         ≡ record { sender = (from_node 1 1).from; service = 0x1234; event = 0x0421; receiver = (from_node 1 1).to } }
     ensures response { (origin : Origin) (work : Work) → flow_shown origin (header_with 5 kinds.Response) work ≡ work }
+{}
+
+/// What subscriptions that expired leave of the events: a gap of each flow between the client and the
+/// server of one of them is excused, and the other flows stay as they are.
+pub fn what_expires_excuses_gaps()
+    ensures { (keys : List SubscriptionKey) (events : Events) (flow : EventFlow)
+        → finite.get (each_disturbed keys events).flows flow
+        ≡ option_map (λ last. if list_any (λ (key : SubscriptionKey). is_between key.client key.server flow) keys
+        then disturbed last else last) (finite.get events.flows flow) }
+{}
+
+/// What is told of a recording, and what its audit is then, is determined by its datagrams in order.
+pub fn datagrams_determine_what_is_told()
+    ensures told { (last : ℕ) (state after other : AuditState) (datagrams : List Seen)
+        (reports others : List Report) → Audits last state datagrams reports after
+        → Audits last state datagrams others other → reports ≡ others }
+    ensures left { (last : ℕ) (state after other : AuditState) (datagrams : List Seen)
+        (reports others : List Report) → Audits last state datagrams reports after
+        → Audits last state datagrams others other → after ≡ other }
 {}
