@@ -1,0 +1,2 @@
+pub mod PutsLemmas
+pub mod TallyLemmas

@@ -1,0 +1,6 @@
+pub mod Kinds
+pub mod Said
+pub mod AuditText
+pub mod Tallies
+pub mod SeenIn
+pub mod AuditResult
