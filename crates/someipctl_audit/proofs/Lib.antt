@@ -1,2 +1,3 @@
 pub mod PutsLemmas
 pub mod TallyLemmas
+pub mod StepLemmas

@@ -4,3 +4,6 @@ pub mod AuditText
 pub mod Tallies
 pub mod SeenIn
 pub mod AuditResult
+pub mod Steps
+pub mod Scenes
+pub mod Runs

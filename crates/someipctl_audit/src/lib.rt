@@ -2,6 +2,8 @@
 #![tactic(auto)]
 
 mod asked;
+mod auditing;
+mod audits;
 mod kind;
 mod lines;
 mod says;
@@ -9,4 +11,5 @@ mod summary;
 mod tally;
 
 pub use asked::AuditAsked;
+pub use audits::show_audit;
 pub use kind::Kind;
