@@ -1,3 +1,4 @@
 pub mod PutsLemmas
 pub mod TallyLemmas
 pub mod StepLemmas
+pub mod RunLemmas
