@@ -1,5 +1,5 @@
 -- What was found subscribed stays so.
-use Rattle.std.proofs.Common.{◌≡◌, ℕ, zero, suc, ◌+◌, ◌<◌, nat_lt, Bool, true, false, cond, not, ◌||◌, List, [], ◌∷◌, filter, length, Option, None, Some, is_some, Result, Ok, Err, refl, sym, ap, ◌∙◌, arith}
+use Rattle.std.proofs.Common.{◌≡◌, ℕ, zero, suc, ◌+◌, ◌<◌, nat_lt, Bool, true, false, cond, not, ◌||◌, List, [], ◌∷◌, filter, length, map, Option, None, Some, is_some, Result, Ok, Err, refl, sym, ap, ◌∙◌, arith}
 use Rattle.std.specs.Prelude.{◌≢◌}
 use Rattle.std.specs.Result.{OnErr, OnOk}
 use Rattle.std.proofs.lemmas.Bool.{lt-ltb, ltb-true}
@@ -39,12 +39,25 @@ none_found fine standing none delivery found =
 
 -- ---- nothing has expired
 
-none_expired : (now : ℕ) (standing : Subscriptions) → (expired now standing ≢ finite.empty → ⊥) → expired now standing ≡ finite.empty
+pub none_expired : (now : ℕ) (standing : Subscriptions) → (expired now standing ≢ finite.empty → ⊥) → expired now standing ≡ finite.empty
 none_expired now standing not_some = cases (finite.len (expired now standing)) refl
   where
     cases : (n : ℕ) → finite.len (expired now standing) ≡ n → expired now standing ≡ finite.empty
     cases zero is = finite.empty_of_len (expired now standing) is
     cases (suc n) is = absurd (not_some (λ none. let e : finite.len (expired now standing) ≡ 0 = ap (λ m. finite.len m) none ∙ finite.len-empty subscription_cmp (Lasting SocketAddrV4) in absurd (omega (arith, e, is))))
+
+no_keys : (m : Subscriptions) (keys : List SubscriptionKey) → m ≡ finite.empty → length keys ≡ 0 → keys ≡ finite.keys m
+no_keys m [] none zeros =
+    none_listed (finite.entries m) (sym (finite.len-entries m) ∙ ap finite.len none ∙ finite.len-empty subscription_cmp (Lasting SocketAddrV4))
+  where
+    none_listed : (es : List (SubscriptionKey × Lasting SocketAddrV4)) → length es ≡ 0 → [] ≡ map (λ e. e.0) es
+    none_listed [] e = refl
+    none_listed (x ∷ es) e = cc
+no_keys m (key ∷ keys) none zeros = cc
+
+pub no_expired_keys : (now : ℕ) (standing : Subscriptions) (keys : List SubscriptionKey) → (expired now standing ≢ finite.empty → ⊥) → length keys ≡ 0
+    → keys ≡ finite.keys (expired now standing)
+no_expired_keys now standing keys not_some zeros = no_keys (expired now standing) keys (none_expired now standing not_some) zeros
 
 pub nothing_expired : (now : ℕ) (standing : Subscriptions) → (expired now standing ≢ finite.empty → ⊥) → standing ≡ unexpired now standing
 nothing_expired now standing not_some = sym (unexpired-all subscriptions_total exact_subscriptions now standing (λ q. at (finite.get standing q) (gone q)))

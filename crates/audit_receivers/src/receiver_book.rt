@@ -1,8 +1,8 @@
 //! The subscriptions of a recording that stand.
-ghost use Rattle.std.specs.Prelude.{◌≡◌, ◌≤◌, ◌⊎◌, IfOk, OnErr, nat_lt, true, false};
+ghost use Rattle.std.specs.Prelude.{◌≡◌, ◌≢◌, IfOk, OnErr, OnOk, nat_lt, true, false};
 ghost use Rattle.std.specs.FinMap as finite;
 ghost use Rattle.someip_tables.specs.Deadlines.{deadline_after};
-ghost use Rattle.someip_tables.specs.Lastings.{NeedsMemory};
+ghost use Rattle.someip_tables.specs.Lastings.{NeedsMemory, expired};
 ghost use Rattle.audit_receivers.specs.ReceiverTables.{after_entry, after_event, is_passed_over, is_stored};
 ghost use Rattle.audit_receivers.specs.ReceiverTables.{told_by, told_of_event, without, without_expired};
 ghost use Rattle.audit_receivers.specs.ReceiverTables.{without_offer};
@@ -14,10 +14,10 @@ use crate::steps::{
     Fine, Standing, Told, acknowledge, drop_expired, end, forget, has_receiver, has_room,
     is_silent, is_told, may_hold, note, subscribe, tell_full, untell, withdraw,
 };
-use audit_subscriptions::EntryKind;
+use audit_subscriptions::{EntryKind, SubscriptionKey};
 use someip_tables::{DeadlineMap, Moment};
 use std::alloc::{AllocError, Global};
-use std::collections::BTreeMap;
+use std::collections::{BTreeMap, BTreeSet};
 use std::marker::Model;
 use std::net::Ipv4Addr;
 
@@ -79,12 +79,22 @@ impl ReceiverBook {
         }
     }
 
-    /// Drops the subscriptions that have expired. Whoever goes over a recording calls it with the moment
-    /// of each datagram: what was not dropped stands. It looks at these alone, and takes no memory.
-    pub fn expire(&mut self, now: Moment)
-        ensures { self.new ≡ without_expired now self.old }
+    /// Drops the subscriptions that have expired, and tells them, by rising key. Whoever goes over a
+    /// recording calls it with the moment of each datagram: what was not dropped stands. It looks at these
+    /// alone. It is refused for memory alone, which it takes only where there are any; then all is as it
+    /// was.
+    pub fn expire(
+        &mut self,
+        alloc: Global,
+        now: Moment,
+    ) -> Result<BTreeSet<SubscriptionKey>, AllocError>
+        ensures told { IfOk result (λ ended. ended.keys
+            ≡ finite.keys (expired now self.old.standing)) }
+        ensures after { OnOk result (self.new ≡ without_expired now self.old) }
+        ensures grows { OnErr result (expired now self.old.standing ≢ finite.empty) }
+        ensures unchanged { OnErr result (self.new ≡ self.old) }
     {
-        drop_expired(&mut self.standing, &mut self.fine, now);
+        drop_expired(&mut self.standing, &mut self.fine, alloc, now)
     }
 
     /// Takes note of an entry of an eventgroup. It tells nothing but that the book is full.

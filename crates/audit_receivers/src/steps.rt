@@ -1,8 +1,8 @@
 //! What entries and events make of the tables of a book.
-ghost use Rattle.std.specs.Prelude.{◌≡◌, ◌||◌, IfOk, OnErr, not, is_some, nat_lt, None, Some, true, false};
+ghost use Rattle.std.specs.Prelude.{◌≡◌, ◌≢◌, ◌||◌, IfOk, OnErr, OnOk, not, is_some, nat_lt, None, Some, true, false};
 ghost use Rattle.std.specs.FinMap as finite;
 ghost use Rattle.someip_tables.specs.Deadlines.{deadline_after};
-ghost use Rattle.someip_tables.specs.Lastings.{NeedsMemory, unexpired};
+ghost use Rattle.someip_tables.specs.Lastings.{NeedsMemory, expired, unexpired};
 ghost use Rattle.someip_tables.specs.Tables.{map_of};
 ghost use Rattle.audit_subscriptions.specs.SubscriptionKeys.{subscription_cmp};
 ghost use Rattle.audit_subscriptions.specs.SubscribeRules.{is_of};
@@ -16,8 +16,8 @@ use crate::entry::{ReceiverEntry, WithdrawnOffer};
 use crate::finding::Finding;
 use audit_subscriptions::SubscriptionKey;
 use someip_tables::{Deadline, DeadlineMap, Moment, is_same_key};
-use std::alloc::AllocError;
-use std::collections::BTreeMap;
+use std::alloc::{AllocError, Global};
+use std::collections::{BTreeMap, BTreeSet};
 use std::net::{Ipv4Addr, SocketAddrV4};
 
 /// The subscriptions that stand, each with the endpoint that its events go to.
@@ -29,19 +29,32 @@ pub(crate) type Told = BTreeMap<Delivery, ()>;
 /// The events of which it was found that their endpoint is subscribed.
 pub(crate) type Fine = BTreeMap<Delivery, ()>;
 
-/// Drops the subscriptions that have expired.
-pub(crate) fn drop_expired(standing: &mut Standing, fine: &mut Fine, now: Moment)
+/// Drops the subscriptions that have expired, and tells them.
+pub(crate) fn drop_expired(
+    standing: &mut Standing,
+    fine: &mut Fine,
+    alloc: Global,
+    now: Moment,
+) -> Result<BTreeSet<SubscriptionKey>, AllocError>
     requires { AreSubscribed (map_of delivery_cmp fine.old.entries)
         (map_of subscription_cmp standing.old) }
-    ensures left { map_of subscription_cmp standing.new
-        ≡ unexpired now (map_of subscription_cmp standing.old) }
+    ensures told { IfOk result (λ ended. ended.keys
+        ≡ finite.keys (expired now (map_of subscription_cmp standing.old))) }
+    ensures left { OnOk result (map_of subscription_cmp standing.new
+        ≡ unexpired now (map_of subscription_cmp standing.old)) }
+    ensures grows { OnErr result
+        (expired now (map_of subscription_cmp standing.old) ≢ finite.empty) }
+    ensures err { OnErr result (standing.new ≡ standing.old) }
     ensures fine { AreSubscribed (map_of delivery_cmp fine.new.entries)
         (map_of subscription_cmp standing.new) }
 {
-    if standing.has_expired(now) {
-        standing.drop_expired(now);
-        fine.clear();
+    if !standing.has_expired(now) {
+        return Ok(BTreeSet::new(alloc));
     }
+    let ended = standing.expired_keys(alloc, now)?;
+    standing.drop_expired(now);
+    fine.clear();
+    Ok(ended)
 }
 
 /// Ends the subscription of an entry.

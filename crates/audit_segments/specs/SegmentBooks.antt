@@ -5,7 +5,6 @@ use Rattle.std.specs.FinMap as finite
 use Rattle.std.specs.declared.cmp.Ordering.{Ordering}
 use Rattle.std.specs.declared.net.socket_addr.SocketAddrV4.{SocketAddrV4}
 use Rattle.someip_wire.specs.declared.header.Header.{Header}
-use Rattle.someip_wire.specs.declared.message.Message.{Message}
 use Rattle.someip_wire.specs.Kinds.{has_tp_flag, without_tp_flag}
 use Rattle.someip_wire.specs.Spelling.{MessageValue}
 use Rattle.someip_segments.specs.declared.error.TpError.{TpError}
@@ -45,8 +44,8 @@ offer_in key (Ok s) = Some (offer key s.0 s.1 s.2)
 offer_in key (Err refusal) = None
 
 -- the segment that a message from one endpoint to another is, if it is one
-abbrev pub segment_of : SocketAddrV4 → SocketAddrV4 → Message → Option SegmentOffer
-segment_of from to message = if has_tp_flag message.header.kind then offer_in (segment_key from to message.header) (segment_in message.payload.now) else None
+abbrev pub segment_of : SocketAddrV4 → SocketAddrV4 → MessageValue → Option SegmentOffer
+segment_of from to message = if has_tp_flag message.header.kind then offer_in (segment_key from to message.header) (segment_in message.payload) else None
 
 -- ---- what is told of it
 

@@ -3,7 +3,7 @@
 ghost use Rattle.std.specs.Prelude.{◌≡◌, ◌<◌, ℕ, List, [], ◌∷◌, length, true, false, Option, Some, None, Ok, Err};
 ghost use Rattle.std.specs.declared.net.socket_addr.SocketAddrV4.{SocketAddrV4};
 ghost use Rattle.someip_wire.specs.declared.header.Header.{Header};
-ghost use Rattle.someip_wire.specs.declared.message.Message.{Message};
+ghost use Rattle.someip_wire.specs.Spelling.{MessageValue};
 ghost use Rattle.someip_wire.specs.Kinds.{has_tp_flag};
 ghost use Rattle.someip_segments.specs.declared.error.TpError.{TpError};
 ghost use Rattle.someip_reassembly.specs.declared.reassembly.Offered.TheVariants.{Part, Whole};
@@ -12,10 +12,10 @@ ghost use Rattle.audit_segments.specs.SegmentWaits.{still_until};
 
 /// A message without the TP flag is no segment, and one without room for a TP header says none.
 pub fn what_is_no_segment_is_nothing()
-    ensures no_flag { (from to : SocketAddrV4) (message : Message)
+    ensures no_flag { (from to : SocketAddrV4) (message : MessageValue)
         → has_tp_flag message.header.kind ≡ false → segment_of from to message ≡ None }
-    ensures no_header { (from to : SocketAddrV4) (message : Message)
-        → length message.payload.now < 4 → segment_of from to message ≡ None }
+    ensures no_header { (from to : SocketAddrV4) (message : MessageValue)
+        → length message.payload < 4 → segment_of from to message ≡ None }
 {}
 
 /// Of a segment is told that its message is whole, with these bytes and without the TP flag, or why it

@@ -5,6 +5,7 @@ ghost use Rattle.std.specs.Ordering.{is_le};
 ghost use Rattle.someip_tables.specs.Tables.{map_of};
 ghost use Rattle.someip_reassembly.specs.declared.key.ReassemblyKey.{ReassemblyKey};
 ghost use Rattle.someip_reassembly.specs.Parts.{Part, parts_at};
+ghost use Rattle.someip_wire.specs.View.{view};
 ghost use Rattle.audit_segments.specs.MessageKeys.{message_cmp};
 ghost use Rattle.audit_segments.specs.SegmentBooks.{Book, empty_book, segment_of, told_of, view_told};
 ghost use Rattle.audit_segments.specs.SegmentBooks.{book_after, is_accepted, IsWaiting, missing_cmp};
@@ -110,10 +111,10 @@ impl<S: Reassembly> SegmentBook<S> {
         bytes: &mut Vec<u8>,
     ) -> Result<SegmentTold, AllocError>
         ensures told { IfOk result (λ told. view_told told bytes.new.items
-            ≡ told_of message.now.header (segment_of from to message.now) (max self.old.latest now) self.old) }
+            ≡ told_of message.now.header (segment_of from to (view message.now)) (max self.old.latest now) self.old) }
         ensures after { OnOk result (self.new
-            ≡ book_after (segment_of from to message.now) (max self.old.latest now) k self.old) }
-        ensures wanting { OnErr result (is_accepted (segment_of from to message.now)
+            ≡ book_after (segment_of from to (view message.now)) (max self.old.latest now) k self.old) }
+        ensures wanting { OnErr result (is_accepted (segment_of from to (view message.now))
             (max self.old.latest now) self.old ≡ true) }
         ensures forgets { OnErr result (self.new
             ≡ empty_book self.old.limits (max self.old.latest now)) }

@@ -2,6 +2,7 @@
 use crate::places::{at, endpoint, node};
 use audit_receivers::{Delivery, Finding, ReceiverBook, ReceiverEntry, WithdrawnOffer, laws};
 use audit_subscriptions::{EntryKind, SubscriptionKey};
+use std::alloc::Global;
 
 /// What comes, and what has to come of it.
 enum Act {
@@ -107,7 +108,7 @@ fn event(client: u8, port: u16) -> Delivery {
 }
 
 /// Whether an act comes out as it says.
-fn comes_out(book: &mut ReceiverBook, act: &Act) -> bool {
+fn comes_out(alloc: Global, book: &mut ReceiverBook, act: &Act) -> bool {
     match act {
         Subscribe(millis, client, port, ttl, told) => {
             let entry = entry(*client, EntryKind::Subscribe, *port, *ttl);
@@ -130,10 +131,7 @@ fn comes_out(book: &mut ReceiverBook, act: &Act) -> bool {
             book.forget(node(*number));
             true
         }
-        Until(millis) => {
-            book.expire(at(*millis));
-            true
-        }
+        Until(millis) => { book.expire(alloc, at(*millis)).is_ok() }
         Event(millis, client, port, told) => {
             book.event(at(*millis), event(*client, *port)).ok() == Some(*told)
         }
@@ -141,9 +139,9 @@ fn comes_out(book: &mut ReceiverBook, act: &Act) -> bool {
 }
 
 /// The number of the first act that comes out otherwise.
-fn first_wrong(book: &mut ReceiverBook, acts: &[Act]) -> Option<usize> {
+fn first_wrong(alloc: Global, book: &mut ReceiverBook, acts: &[Act]) -> Option<usize> {
     for (index, act) in acts.iter().enumerate() {
-        if !comes_out(book, act) {
+        if !comes_out(alloc, book, act) {
             return Some(index);
         }
     }
@@ -153,16 +151,16 @@ fn first_wrong(book: &mut ReceiverBook, acts: &[Act]) -> Option<usize> {
 #[test]
 fn events_are_told(rt: HostRuntime) {
     let mut book = ReceiverBook::new(rt.alloc(), 100, at(50));
-    let wrong = first_wrong(&mut book, STORY);
+    let wrong = first_wrong(rt.alloc(), &mut book, STORY);
     assert!(rt; wrong.is_none(), "the first wrong act of STORY: {wrong:?}");
     let mut book = ReceiverBook::new(rt.alloc(), 1, at(50));
-    let wrong = first_wrong(&mut book, CROWDED);
+    let wrong = first_wrong(rt.alloc(), &mut book, CROWDED);
     assert!(rt;
         wrong.is_none(),
         "the first wrong act of CROWDED: {wrong:?}"
     );
     let mut book = ReceiverBook::new(rt.alloc(), 1, at(50));
-    let wrong = first_wrong(&mut book, TALKATIVE);
+    let wrong = first_wrong(rt.alloc(), &mut book, TALKATIVE);
     assert!(rt;
         wrong.is_none(),
         "the first wrong act of TALKATIVE: {wrong:?}"

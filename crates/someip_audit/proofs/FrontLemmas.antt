@@ -1,7 +1,7 @@
 -- What was told stays at the front of what is told.
 use Rattle.std.proofs.Common.{◌≡◌, ℕ, ◌+◌, ◌==◌, ◌<◌, Bool, true, false, List, [], ◌∷◌, ◌++◌, length, get_or, drop, map, if◌then◌else◌, Option, None, Some, refl, ap, sym, ◌∙◌}
 use Rattle.std.proofs.lemmas.List.{drop_more}
-use Rattle.std.specs.Prelude.{Result, Ok, Err, option_map}
+use Rattle.std.specs.Prelude.{Result, Ok, Err, max, option_map}
 use Rattle.std.specs.Result.{OnErr}
 use Rattle.std.specs.declared.net.socket_addr.SocketAddrV4.{SocketAddrV4}
 use Rattle.sd_wire.specs.declared.entry.EntryHead.{EntryHead}
@@ -15,20 +15,27 @@ use Rattle.sd_wire.specs.Values.{ReadValue, SdValue, good, bad_run, view_read}
 use Rattle.audit_sessions.specs.declared.message.SdMessage.{SdMessage}
 use Rattle.someip_audit.specs.BooksHeld.{Held}
 use Rattle.someip_wire.specs.declared.header.Header.{Header}
-use Rattle.someip_wire.specs.declared.message.Message.{Message}
+use Rattle.someip_wire.specs.declared.error.WireError.{WireError}
+use Rattle.someip_wire.specs.Kinds.{has_tp_flag}
 use Rattle.someip_wire.specs.Spelling.{MessageValue}
+use Rattle.sd_wire.specs.Program.{reading}
 use Rattle.someip_segments.specs.declared.error.TpError.{TpError}
 use Rattle.audit_tables.specs.declared.origin.Origin.{Origin}
 use Rattle.audit_receivers.specs.ReceiverTables as receivers
+use Rattle.audit_segments.specs.SegmentBooks as segments
 use Rattle.someip_audit.specs.declared.finding.Finding.TheVariants as findings
 use Rattle.sd_wire.specs.declared.error.SdError.{SdError}
-use Rattle.someip_audit.specs.AnyShown.{payload_shown}
-use Rattle.someip_audit.specs.MessageShown.{call_shown, delivery, event_shown, is_event, segment_held, segment_shown, segment_told, whole_shown}
+use Rattle.audit_events.specs.EventTables as events
+use Rattle.someip_wire.specs.Reading.{items_of}
+use Rattle.someip_audit.specs.Audits.{Seen, datagram_shown, seen_work, without_passed}
+use Rattle.someip_audit.specs.WatchedEndpoints.{is_looked_at}
+use Rattle.someip_audit.specs.AnyShown.{any_shown, in_datagram, is_sd, item_len, item_shown, items_shown, payload_shown}
+use Rattle.someip_audit.specs.MessageShown.{call_shown, delivery, event_flow, event_seen, event_shown, flow_shown, has_no_tp_header, has_type_event, is_event, message_shown, piece_shown, segment_held, segment_shown, segment_told, whole_shown}
 use Rattle.audit_subscriptions.specs.declared.entry.SubscribeEntry.{SubscribeEntry}
 use Rattle.audit_receivers.specs.declared.entry.ReceiverEntry.{ReceiverEntry}
 use Rattle.someip_audit.specs.declared.finding.Finding.{Finding}
-use Rattle.someip_audit.specs.SdEntries.{offer_entry, receiver_entry, sd_message, subscribe_entry, withdrawn_offer}
-use Rattle.someip_audit.specs.SdShown.{IsBegun, IsFront, Work, entries_shown, entry_shown, head_shown, offer_shown, receiver_shown, sd_shown, service_shown, session_shown, subscribe_shown, with_told, withdrawn, working}
+use Rattle.someip_audit.specs.SdEntries.{named_endpoint, offer_entry, receiver_entry, sd_message, subscribe_entry, withdrawn_offer}
+use Rattle.someip_audit.specs.SdShown.{IsBegun, IsFront, Work, changed, endpoint_shown, entries_shown, entry_shown, good_shown, group_shown, head_shown, offer_shown, receiver_shown, sd_shown, service_shown, session_shown, subscribe_shown, with_told, withdrawn, working}
 
 nothing_more : (xs : List Finding) → xs ++ [] ≡ xs
 nothing_more [] = refl
@@ -67,14 +74,27 @@ subscribe_front now entry work = front_told _ work.told
 pub receiver_front : (now : ℕ) (entry : ReceiverEntry) (work : Work) → IsFront work.told (receiver_shown now entry work).told
 receiver_front now entry work = front_told _ work.told
 
+pub group_front : (now : ℕ) (entry : SubscribeEntry) (endpoint : Option SocketAddrV4) (work : Work) → IsFront work.told (group_shown now entry endpoint work).told
+group_front now entry endpoint work =
+    let begun : Work = changed entry.key work in
+    front_further work.told (subscribe_shown now entry begun).told _ (subscribe_front now entry begun) (receiver_front now (receiver_entry entry endpoint) (subscribe_shown now entry begun))
+
 pub head_front : (now : ℕ) (origin : Origin) (head : EntryHead) (endpoint : Option SocketAddrV4) (work : Work) → IsFront work.told (head_shown now origin head endpoint work).told
 head_front now origin (Service entry) endpoint work = service_front entry.kind now origin entry endpoint work
 head_front now origin (Eventgroup entry) endpoint work =
-    front_further work.told (subscribe_shown now (subscribe_entry origin entry) work).told _ (subscribe_front now (subscribe_entry origin entry) work)
-    (receiver_front now (receiver_entry (subscribe_entry origin entry) endpoint) (subscribe_shown now (subscribe_entry origin entry) work))
+    group_front now (subscribe_entry origin entry) endpoint work
+
+pub endpoint_front : (endpoint : Option SocketAddrV4) (work : Work) → IsFront work.told (endpoint_shown endpoint work).told
+endpoint_front None work = front_same work.told
+endpoint_front (Some endpoint) work = front_told _ work.told
+
+pub good_front : (now : ℕ) (origin : Origin) (head : EntryHead) (endpoint : Option SocketAddrV4) (work : Work) → IsFront work.told (good_shown now origin head endpoint work).told
+good_front now origin head endpoint work =
+    let learnt : Work = endpoint_shown (named_endpoint head endpoint) work in
+    front_further work.told learnt.told _ (endpoint_front (named_endpoint head endpoint) work) (head_front now origin head endpoint learnt)
 
 pub entry_front : (now : ℕ) (origin : Origin) (entry : ReadValue) (work : Work) → IsFront work.told (entry_shown now origin entry work).told
-entry_front now origin (good entry) work = head_front now origin entry.head (first_udp_endpoint (options_of entry)) work
+entry_front now origin (good entry) work = good_front now origin entry.head (first_udp_endpoint (options_of entry)) work
 entry_front now origin (bad_run head) work = head_front now origin head None work
 
 pub entries_front : (now : ℕ) (origin : Origin) (entries : List ReadValue) (work : Work) → IsFront work.told (entries_shown now origin entries work).told
@@ -114,6 +134,23 @@ next_left xs i x lt is = drop_more xs i x lt ∙ ap (λ y. y ∷ drop (i + 1) xs
 pub front_moved : (before told : List Finding) (held : Held) (work : Work) → working held told ≡ work → IsFront before work.told → IsFront before told
 front_moved before told held work is front = rw (ap (λ (w : Work). w.told) is) front
 
+-- a subscription changed, its entry was shown as to its answer, and nothing more
+pub group_begun : (now : ℕ) (entry : SubscribeEntry) (endpoint : Option SocketAddrV4) (held started mid : Held) (told more new : List Finding)
+    → started ≡ (changed entry.key (working held [])).held → working mid more ≡ subscribe_shown now entry (working started told) → new ≡ more
+    → IsBegun told new (group_shown now entry endpoint (working held told)).told
+group_begun now entry endpoint held started mid told more new starts is same =
+    let begun : Work = changed entry.key (working held told) in
+    let at : more ≡ (subscribe_shown now entry begun).told = ap (λ (w : Work). w.told) (is ∙ ap (λ h. subscribe_shown now entry (working h told)) starts) in
+    rw (same, at) (subscribe_front now entry begun, receiver_front now (receiver_entry entry endpoint) (subscribe_shown now entry begun))
+
+-- an endpoint was learnt, and then some of the entry was shown
+pub good_begun : (now : ℕ) (origin : Origin) (head : EntryHead) (endpoint named : Option SocketAddrV4) (held mid : Held) (told more new : List Finding)
+    → named ≡ named_endpoint head endpoint → working mid more ≡ endpoint_shown named (working held told)
+    → IsBegun more new (head_shown now origin head endpoint (working mid more)).told
+    → IsBegun told new (good_shown now origin head endpoint (working held told)).told
+good_begun now origin head endpoint named held mid told more new names is begun =
+    rw (← names, ← is) (begun_later told more new _ (front_moved told more mid _ is (endpoint_front named (working held told))) begun)
+
 -- the sessions of a message came, and then some of its entries
 pub session_front : (message : SdMessage) (work : Work) → IsFront work.told (session_shown message work).told
 session_front message work = front_told _ work.told
@@ -146,25 +183,122 @@ event_front now origin header work = cases (is_event origin header)
     cases true = front_told _ work.told
     cases false = front_same work.told
 
+flow_front : (origin : Origin) (header : Header) (work : Work) → IsFront work.told (flow_shown origin header work).told
+flow_front origin header work = cases (has_type_event header.kind)
+  where
+    cases : (b : Bool)
+        → IsFront work.told
+        (if b
+        then record {
+          held = record work.held { events = events.after_event (event_seen origin header) work.held.events };
+          told = with_told (option_map (findings.EventSession (event_flow origin header)) (events.told_by (event_seen origin header) work.held.events)) work.told;
+        }
+        else work).told
+    cases true = front_told _ work.told
+    cases false = front_same work.told
+
+-- its call was shown, and who is subscribed to its event
+called_front : (now : ℕ) (origin : Origin) (header : Header) (payload : List ℕ) (work : Work)
+    → IsFront work.told (event_shown now origin header (call_shown now origin header payload work)).told
+called_front now origin header payload work =
+    front_further work.told (call_shown now origin header payload work).told _ (front_told _ work.told) (event_front now origin header (call_shown now origin header payload work))
+
 pub whole_front : (now : ℕ) (origin : Origin) (header : Header) (payload : List ℕ) (work : Work) → IsFront work.told (whole_shown now origin header payload work).told
 whole_front now origin header payload work =
-    front_further work.told (call_shown now origin header payload work).told _ (front_told _ work.told) (event_front now origin header (call_shown now origin header payload work))
+    let heard : Work = event_shown now origin header (call_shown now origin header payload work) in
+    front_further work.told heard.told _ (called_front now origin header payload work) (flow_front origin header heard)
 
 pub segment_told_front : (now : ℕ) (origin : Origin) (header : Header) (told : Option (Result MessageValue TpError)) (work : Work) → IsFront work.told (segment_told now origin header told work).told
 segment_told_front now origin header None work = front_same work.told
 segment_told_front now origin header (Some (Ok message)) work = whole_front now origin message.header message.payload work
 segment_told_front now origin header (Some (Err refusal)) work = front_told (Some (findings.Segment header refusal)) work.told
 
-pub segment_front : (now : ℕ) (origin : Origin) (message : Message) (work : Work) → IsFront work.told (segment_shown now origin message work).told
-segment_front now origin message work = segment_told_front now origin message.header _ (record work { held = segment_held now origin message work.held })
+pub piece_front : (now : ℕ) (origin : Origin) (message : MessageValue) (work : Work) → IsFront work.told (piece_shown now origin message work).told
+piece_front now origin message work =
+    segment_told_front now origin message.header
+    (segments.told_of message.header (segments.segment_of origin.from origin.to message) (max work.held.segments.latest now) work.held.segments) (record work { held = segment_held now origin message work.held })
+
+segment_front : (now : ℕ) (origin : Origin) (place : ℕ) (message : MessageValue) (work : Work) → IsFront work.told (segment_shown now origin place message work).told
+segment_front now origin place message work = cases (has_no_tp_header message.payload)
+  where
+    cases : (b : Bool) → IsFront work.told (if b then record work { told = with_told (Some (findings.NoTpHeader place)) work.told } else piece_shown now origin message work).told
+    cases true = front_told (Some (findings.NoTpHeader place)) work.told
+    cases false = piece_front now origin message work
+
+message_front : (now : ℕ) (origin : Origin) (place : ℕ) (message : MessageValue) (work : Work) → IsFront work.told (message_shown now origin place message work).told
+message_front now origin place message work = cases (has_tp_flag message.header.kind)
+  where
+    cases : (b : Bool) → IsFront work.told (if b then segment_shown now origin place message work else whole_shown now origin message.header message.payload work).told
+    cases true = segment_front now origin place message work
+    cases false = whole_front now origin message.header message.payload work
 
 -- its call was shown, and nothing more
 pub whole_begun : (now : ℕ) (origin : Origin) (header : Header) (payload : List ℕ) (held : Held) (told : List Finding) (mid : Held) (more new : List Finding)
     → working mid more ≡ call_shown now origin header payload (working held told) → new ≡ more → IsBegun told new (whole_shown now origin header payload (working held told)).told
 whole_begun now origin header payload held told mid more new is same =
-    let at : more ≡ (call_shown now origin header payload (working held told)).told = ap (λ (w : Work). w.told) is in
-    rw (same, at) (front_told _ told, event_front now origin header (call_shown now origin header payload (working held told)))
+    let called : Work = call_shown now origin header payload (working held told) in
+    let heard : Work = event_shown now origin header called in
+    let at : more ≡ called.told = ap (λ (w : Work). w.told) is in
+    rw (same, at) (front_told _ told, front_further called.told heard.told _ (event_front now origin header called) (flow_front origin header heard))
 
-pub payload_front : (now : ℕ) (origin : Origin) (session : ℕ) (read : Result SdValue SdError) (work : Work) → IsFront work.told (payload_shown now origin session read work).told
-payload_front now origin session (Ok sd) work = sd_front now origin session sd work
-payload_front now origin session (Err fault) work = front_told (Some (findings.MalformedSd fault)) work.told
+-- and who is subscribed to its event, and nothing more
+pub heard_begun : (now : ℕ) (origin : Origin) (header : Header) (payload : List ℕ) (held : Held) (told : List Finding) (mid late : Held) (more most new : List Finding)
+    → working mid more ≡ call_shown now origin header payload (working held told) → working late most ≡ event_shown now origin header (working mid more) → new ≡ most
+    → IsBegun told new (whole_shown now origin header payload (working held told)).told
+heard_begun now origin header payload held told mid late more most new is hears same =
+    let heard : Work = event_shown now origin header (call_shown now origin header payload (working held told)) in
+    let at : most ≡ heard.told = ap (λ (w : Work). w.told) (hears ∙ ap (event_shown now origin header) is) in
+    rw (same, at) (called_front now origin header payload (working held told), flow_front origin header heard)
+
+pub payload_front : (now : ℕ) (origin : Origin) (place session : ℕ) (read : Result SdValue SdError) (work : Work) → IsFront work.told (payload_shown now origin place session read work).told
+payload_front now origin place session (Ok sd) work = sd_front now origin session sd work
+payload_front now origin place session (Err fault) work = front_told (Some (findings.MalformedSd (in_datagram place fault))) work.told
+
+-- ---- datagrams
+
+any_front : (now : ℕ) (origin : Origin) (place : ℕ) (message : MessageValue) (work : Work) → IsFront work.told (any_shown now origin place message work).told
+any_front now origin place message work = cases (is_sd origin message.header)
+  where
+    cases : (b : Bool)
+        → IsFront work.told
+        (if b then payload_shown now origin place message.header.session (reading message.payload) work else message_shown now origin place message work).told
+    cases true = payload_front now origin place message.header.session (reading message.payload) work
+    cases false = message_front now origin place message work
+
+pub item_front : (now : ℕ) (origin : Origin) (place : ℕ) (item : Result MessageValue WireError) (work : Work) → IsFront work.told (item_shown now origin place item work).told
+item_front now origin place (Ok message) work = any_front now origin (place + 16) message work
+item_front now origin place (Err fault) work = front_told (Some (findings.Malformed fault)) work.told
+
+pub items_front : (now : ℕ) (origin : Origin) (place : ℕ) (items : List (Result MessageValue WireError)) (work : Work)
+    → IsFront work.told (items_shown now origin place items work).told
+items_front now origin place [] work = front_same work.told
+items_front now origin place (item ∷ items) work =
+    front_further work.told (item_shown now origin place item work).told _ (item_front now origin place item work)
+    (items_front now origin (place + item_len item) items (item_shown now origin place item work))
+
+-- some items were shown, and of the next one a beginning
+pub item_begun : (now : ℕ) (origin : Origin) (place : ℕ) (items rest : List (Result MessageValue WireError)) (item : Result MessageValue WireError) (mid : Held)
+    (told more new all : List Finding)
+    → items ≡ item ∷ rest → (items_shown now origin place items (working mid more)).told ≡ all → IsFront told more
+    → IsBegun more new (item_shown now origin place item (working mid more)).told → IsBegun told new all
+item_begun now origin place items rest item mid told more new all left same front begun =
+    begun_later told more new all front
+    (rw (← same, left) (begun_sooner more new _ _ begun (items_front now origin (place + item_len item) rest (item_shown now origin place item (working mid more)))))
+
+-- a datagram of any port came
+pub seen_front : (seen : Seen) (work : Work) → IsFront work.told (seen_work seen work).told
+seen_front seen work = cases (is_looked_at work.held.watched seen.origin)
+  where
+    left : Work
+    left = record work { held = without_passed seen.now work.held }
+
+    cases : (b : Bool) → IsFront work.told (if b then datagram_shown seen left else left).told
+    cases true = items_front seen.now seen.origin 0 (items_of seen.bytes) left
+    cases false = front_same work.told
+
+-- one that is looked at came, and a beginning of it was shown
+pub seen_begun : (seen : Seen) (held mid : Held) (told new : List Finding) → mid ≡ without_passed seen.now held → is_looked_at mid.watched seen.origin ≡ true
+    → IsBegun told new (datagram_shown seen (working mid told)).told → IsBegun told new (seen_work seen (working held told)).told
+seen_begun seen held mid told new is looked begun =
+    let looks : is_looked_at held.watched seen.origin ≡ true = ap (λ (h : Held). is_looked_at h.watched seen.origin) (sym is) ∙ looked in
+    rw looks (rw is at begun)

@@ -1,5 +1,5 @@
 -- What the books of an audit hold.
-use Rattle.std.specs.Prelude.{false, refl}
+use Rattle.std.specs.Prelude.{◌-◌, ◌+◌, ◌^◌, ℕ, min, false, List, Option, refl}
 use Rattle.std.specs.Coded.{Coded, code_by, coded×}
 use Rattle.std.specs.FinMap as finite
 use Rattle.audit_calls.specs.CallBooks as calls
@@ -9,9 +9,11 @@ use Rattle.audit_offers.specs.OfferTables.{OfferTable, coded_offers}
 use Rattle.audit_subscriptions.specs.SubscribeTables.{SubscribeTable, coded_subscribes}
 use Rattle.audit_sessions.specs.SessionBooks.{Sessions, coded_sessions}
 use Rattle.audit_receivers.specs.ReceiverTables.{Receivers, coded_receivers}
+use Rattle.audit_events.specs.EventTables.{Events, coded_events}
 use Rattle.someip_audit.specs.declared.rules.AuditRules.{AuditRules}
+use Rattle.someip_audit.specs.WatchedEndpoints.{Watch, coded_watch}
 
--- the value of each book
+-- the value of each book, and which datagrams are looked at
 pub record Held : Type 0 where
   pub calls : calls.Book
   pub segments : segments.Book
@@ -19,23 +21,31 @@ pub record Held : Type 0 where
   pub subscriptions : SubscribeTable
   pub sessions : Sessions
   pub receivers : Receivers
+  pub events : Events
+  pub watched : Watch
 
--- books that saw nothing
-abbrev pub empty_held : AuditRules → Held
-empty_held rules = record {
-  calls = calls.new_book (record { limit = rules.limit; answer_ms = rules.answer_ms; begins = rules.begins });
+-- the moment so many milliseconds after another, or the last one, if that is earlier
+abbrev pub moment_after : ℕ → ℕ → ℕ
+moment_after now millis = min (now + millis) (2 ^ 63 - 1)
+
+-- books that saw nothing, of a recording that begins at this moment; the ports that are looked at, if these are named
+abbrev pub empty_held : AuditRules → Option (List ℕ) → ℕ → Held
+empty_held rules ports now = record {
+  calls = calls.new_book (record { limit = rules.limit; answer_ms = rules.answer_ms; begins = now });
   segments = segments.empty_book (record { slots = rules.segments.slots; limit = rules.segments.limit; timeout = rules.segments.timeout_ms }) 0;
   offers = record { limit = rules.limit; standing = finite.empty; told_full = false };
   subscriptions = record { limit = rules.limit; answer_ms = rules.answer_ms; waiting = finite.empty; told_full = false };
   sessions = record { limit = rules.limit; last = finite.empty; told_full = false };
-  receivers = record { limit = rules.limit; settled = rules.settled; standing = finite.empty; told = finite.empty; told_full = false };
+  receivers = record { limit = rules.limit; settled = moment_after now rules.settle_ms; standing = finite.empty; told = finite.empty; told_full = false };
+  events = record { limit = rules.limit; flows = finite.empty; told_full = false };
+  watched = record { ports = ports; limit = rules.limit; learnt = finite.empty; told_full = false };
 }
 
 -- a code, by which a proof tells values apart
 abbrev pub coded_held : Coded Held
 coded_held =
-    code_by ((calls.Book × segments.Book) × ((OfferTable × SubscribeTable) × (Sessions × Receivers)))
-    (coded× (coded× codes.coded_book segments.coded_book) (coded× (coded× coded_offers coded_subscribes) (coded× coded_sessions coded_receivers)))
-    (λ h. ((h.calls, h.segments), ((h.offers, h.subscriptions), (h.sessions, h.receivers))))
-    (λ c. record { calls = c.0.0; segments = c.0.1; offers = c.1.0.0; subscriptions = c.1.0.1; sessions = c.1.1.0; receivers = c.1.1.1 })
+    code_by (((calls.Book × segments.Book) × (Events × Watch)) × ((OfferTable × SubscribeTable) × (Sessions × Receivers)))
+    (coded× (coded× (coded× codes.coded_book segments.coded_book) (coded× coded_events coded_watch)) (coded× (coded× coded_offers coded_subscribes) (coded× coded_sessions coded_receivers)))
+    (λ h. (((h.calls, h.segments), (h.events, h.watched)), ((h.offers, h.subscriptions), (h.sessions, h.receivers))))
+    (λ c. record { calls = c.0.0.0; segments = c.0.0.1; events = c.0.1.0; watched = c.0.1.1; offers = c.1.0.0; subscriptions = c.1.0.1; sessions = c.1.1.0; receivers = c.1.1.1 })
     (λ _. refl)

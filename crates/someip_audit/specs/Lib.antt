@@ -1,3 +1,4 @@
+pub mod WatchedEndpoints
 pub mod BooksHeld
 pub mod FellDues
 pub mod SdEntries
@@ -5,3 +6,4 @@ pub mod SdShown
 pub mod SdScenes
 pub mod MessageShown
 pub mod AnyShown
+pub mod Audits

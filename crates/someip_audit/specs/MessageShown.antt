@@ -1,12 +1,11 @@
 -- What a message that is none of Service Discovery shows over all books.
-use Rattle.std.specs.Prelude.{ℕ, nat_lt, max, Bool, true, false, ◌&&◌, if◌then◌else◌, List, slice_index, Option, None, Some, option_map, Result, Ok, Err}
+use Rattle.std.specs.Prelude.{ℕ, nat_lt, max, Bool, true, false, ◌&&◌, if◌then◌else◌, List, slice_index, length, Option, None, Some, option_map, Result, Ok, Err}
 use Rattle.std.specs.Net.Addr.{ipv4_octets}
 use Rattle.std.specs.Net.Socket.{v4_ip}
 use Rattle.std.specs.declared.net.socket_addr.SocketAddrV4.{SocketAddrV4}
 use Rattle.someip_wire.specs.declared.header.Header.{Header}
 use Rattle.someip_wire.specs.declared.header.MessageType.{MessageType}
 use Rattle.someip_wire.specs.declared.header.MessageType.TheVariants.{Notification}
-use Rattle.someip_wire.specs.declared.message.Message.{Message}
 use Rattle.someip_wire.specs.Kinds.{has_tp_flag}
 use Rattle.someip_wire.specs.Spelling.{MessageValue}
 use Rattle.someip_segments.specs.declared.error.TpError.{TpError}
@@ -16,6 +15,9 @@ use Rattle.audit_calls.specs.Tapped.{Tapped}
 use Rattle.audit_segments.specs.SegmentBooks as segments
 use Rattle.audit_receivers.specs.declared.delivery.Delivery.{Delivery}
 use Rattle.audit_receivers.specs.ReceiverTables as receivers
+use Rattle.audit_events.specs.declared.flow.EventFlow.{EventFlow}
+use Rattle.audit_events.specs.declared.notification.Notification.{Notification as EventSeen}
+use Rattle.audit_events.specs.EventTables as events
 use Rattle.someip_audit.specs.declared.finding.Finding.TheVariants as findings
 use Rattle.someip_audit.specs.BooksHeld.{Held}
 use Rattle.someip_audit.specs.SdShown.{Work, with_told}
@@ -59,9 +61,26 @@ event_shown now origin header work =
     }
     else work
 
--- what it shows of calls, and then of events
+-- a notification to one endpoint or to a group, as far as its session goes
+abbrev pub event_flow : Origin → Header → EventFlow
+event_flow origin header = record { sender = origin.from; service = header.service; event = header.method; receiver = origin.to }
+
+abbrev pub event_seen : Origin → Header → EventSeen
+event_seen origin header = record { flow = event_flow origin header; session = header.session }
+
+-- what it shows by its session
+abbrev pub flow_shown : Origin → Header → Work → Work
+flow_shown origin header work =
+    if has_type_event header.kind
+    then record {
+      held = record work.held { events = events.after_event (event_seen origin header) work.held.events };
+      told = with_told (option_map (findings.EventSession (event_flow origin header)) (events.told_by (event_seen origin header) work.held.events)) work.told;
+    }
+    else work
+
+-- what it shows of calls, then of those who are subscribed to its event, and then by the event's session
 abbrev pub whole_shown : ℕ → Origin → Header → List ℕ → Work → Work
-whole_shown now origin header payload work = event_shown now origin header (call_shown now origin header payload work)
+whole_shown now origin header payload work = flow_shown origin header (event_shown now origin header (call_shown now origin header payload work))
 
 -- ---- a segment
 
@@ -72,20 +91,30 @@ segment_told now origin header (Some (Ok message)) work = whole_shown now origin
 segment_told now origin header (Some (Err refusal)) work = record work { told = with_told (Some (findings.Segment header refusal)) work.told }
 
 -- the books once it came
-abbrev pub segment_held : ℕ → Origin → Message → Held → Held
+abbrev pub segment_held : ℕ → Origin → MessageValue → Held → Held
 segment_held now origin message held =
     record held { segments = segments.book_after (segments.segment_of origin.from origin.to message) (max held.segments.latest now) origin.datagram held.segments }
 
-abbrev pub segment_shown : ℕ → Origin → Message → Work → Work
-segment_shown now origin message work =
+abbrev pub piece_shown : ℕ → Origin → MessageValue → Work → Work
+piece_shown now origin message work =
     segment_told now origin message.header
     (segments.told_of message.header (segments.segment_of origin.from origin.to message) (max work.held.segments.latest now) work.held.segments)
     (record work { held = segment_held now origin message work.held })
 
+-- a payload has no room for the TP header of a segment
+abbrev pub has_no_tp_header : List ℕ → Bool
+has_no_tp_header payload = nat_lt (length payload) 4
+
+-- that a segment whose payload begins at this place has no TP header is told
+abbrev pub segment_shown : ℕ → Origin → ℕ → MessageValue → Work → Work
+segment_shown now origin place message work =
+    if has_no_tp_header message.payload then record work { told = with_told (Some (findings.NoTpHeader place)) work.told }
+    else piece_shown now origin message work
+
 -- ---- a message
 
--- one with the TP flag is a segment, and any other is whole
-abbrev pub message_shown : ℕ → Origin → Message → Work → Work
-message_shown now origin message work =
-    if has_tp_flag message.header.kind then segment_shown now origin message work
-    else whole_shown now origin message.header message.payload.now work
+-- one with the TP flag is a segment, and any other is whole; its payload begins at this place
+abbrev pub message_shown : ℕ → Origin → ℕ → MessageValue → Work → Work
+message_shown now origin place message work =
+    if has_tp_flag message.header.kind then segment_shown now origin place message work
+    else whole_shown now origin message.header message.payload work

@@ -1,12 +1,16 @@
 -- Messages and entries of Service Discovery, as the books take them (SOME/IP Service Discovery, "Entry Format").
-use Rattle.std.specs.Prelude.{ℕ, Option}
+use Rattle.std.specs.Prelude.{ℕ, ◌==◌, Bool, true, false, not, ◌&&◌, if◌then◌else◌, Option, None}
 use Rattle.std.specs.declared.net.ipv4_addr.Ipv4Addr.{Ipv4Addr}
 use Rattle.std.specs.declared.net.socket_addr.SocketAddrV4.{SocketAddrV4}
 use Rattle.std.specs.Net.Socket.{v4_ip}
+use Rattle.sd_wire.specs.declared.entry.EntryHead.{EntryHead}
+use Rattle.sd_wire.specs.declared.entry.EntryHead.TheVariants.{Service, Eventgroup}
 use Rattle.sd_wire.specs.declared.entry.EventgroupEntry.{EventgroupEntry}
 use Rattle.sd_wire.specs.declared.entry.EventgroupKind.{EventgroupKind}
 use Rattle.sd_wire.specs.declared.entry.EventgroupKind.TheVariants as kinds
 use Rattle.sd_wire.specs.declared.entry.ServiceEntry.{ServiceEntry}
+use Rattle.sd_wire.specs.declared.entry.ServiceKind.{ServiceKind}
+use Rattle.sd_wire.specs.declared.entry.ServiceKind.TheVariants.{Find, Offer}
 use Rattle.sd_wire.specs.declared.flags.SdFlags.{SdFlags}
 use Rattle.audit_tables.specs.declared.origin.Origin.{Origin}
 use Rattle.audit_sessions.specs.declared.message.SdMessage.{SdMessage}
@@ -74,3 +78,22 @@ subscribe_entry origin entry = record { key = subscription_key origin entry; kin
 -- and as to who is subscribed, with the first IPv4 endpoint over UDP among its options, if it has one
 abbrev pub receiver_entry : SubscribeEntry → Option SocketAddrV4 → ReceiverEntry
 receiver_entry entry endpoint = record { key = entry.key; kind = entry.kind; ttl = entry.ttl; endpoint = endpoint }
+
+-- ---- the endpoints that are looked at
+
+-- an entry is an Offer or a Subscribe, and no Find, StopOffer, StopSubscribe or answer
+abbrev pub offers : ServiceKind → Bool
+offers Find = false
+offers Offer = true
+
+abbrev pub subscribes : EventgroupKind → Bool
+subscribes kinds.Subscribe = true
+subscribes kinds.Ack = false
+
+abbrev pub names_endpoint : EntryHead → Bool
+names_endpoint (Service entry) = offers entry.kind && not (entry.ttl == 0)
+names_endpoint (Eventgroup entry) = subscribes entry.kind && not (entry.ttl == 0)
+
+-- the endpoint that an entry names, by the first IPv4 endpoint over UDP among its options, if it has one
+abbrev pub named_endpoint : EntryHead → Option SocketAddrV4 → Option SocketAddrV4
+named_endpoint head endpoint = if names_endpoint head then endpoint else None

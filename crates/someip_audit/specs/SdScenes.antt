@@ -1,5 +1,6 @@
 -- Entries of Service Discovery, and what falls due, that the laws speak of as examples.
-use Rattle.std.specs.Prelude.{ℕ, [], ◌∷◌}
+use Rattle.std.specs.Prelude.{ℕ, false, List, [], ◌∷◌, ◌++◌, Option}
+use Rattle.std.specs.FinMap as finite
 use Rattle.sd_wire.specs.declared.entry.EventgroupEntry.{EventgroupEntry}
 use Rattle.sd_wire.specs.declared.entry.EventgroupKind.{EventgroupKind}
 use Rattle.sd_wire.specs.declared.entry.EntryHead.TheVariants.{Service}
@@ -13,6 +14,11 @@ use Rattle.someip_tables.specs.declared.deadline.Deadline.TheVariants.{At}
 use Rattle.audit_calls.specs.Scenes.{call_5, header_with}
 use Rattle.audit_offers.specs.OfferExamples.{endpoint, from_node, service}
 use Rattle.audit_subscriptions.specs.SubscribeExamples as subscribes
+use Rattle.someip_wire.specs.Spelling.{MessageValue}
+use Rattle.audit_tables.specs.declared.origin.Origin.{Origin}
+use Rattle.someip_audit.specs.SdShown.{Work}
+use Rattle.someip_audit.specs.WatchedEndpoints.{Watch}
+use Rattle.someip_audit.specs.declared.finding.Finding.{Finding}
 use Rattle.someip_audit.specs.declared.fell_due.FellDue.{FellDue}
 use Rattle.someip_audit.specs.declared.fell_due.FellDue.TheVariants as due
 
@@ -43,3 +49,19 @@ subscribe_due at = due.SubscribeUnanswered (record { at = at; key = subscribes.s
 -- the header of a message of Service Discovery
 abbrev pub sd_header : Header
 sd_header = record (header_with 1 kinds.Notification) { service = 0xFFFF; method = 0x8100; client = 0 }
+
+-- a datagram from a port of one node to a port of another
+abbrev pub sent_from : ℕ → ℕ → ℕ → ℕ → Origin
+sent_from from port to at = record { datagram = 1; from = endpoint from port; to = endpoint to at }
+
+-- which datagrams are looked at before anything was learnt
+abbrev pub watch_of : Option (List ℕ) → ℕ → Watch
+watch_of ports limit = record { ports = ports; limit = limit; learnt = finite.empty; told_full = false }
+
+-- a segment of an event with this payload
+abbrev pub segment_with : List ℕ → MessageValue
+segment_with payload = record { header = header_with 5 kinds.TpNotification; payload = payload }
+
+-- a finding more was told
+abbrev pub once_told : Finding → Work → Work
+once_told finding work = record work { told = work.told ++ finding ∷ [] }

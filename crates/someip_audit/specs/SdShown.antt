@@ -21,10 +21,13 @@ use Rattle.audit_subscriptions.specs.SubscribeTables as subscriptions
 use Rattle.audit_receivers.specs.declared.entry.ReceiverEntry.{ReceiverEntry}
 use Rattle.audit_receivers.specs.declared.entry.WithdrawnOffer.{WithdrawnOffer}
 use Rattle.audit_receivers.specs.ReceiverTables as receivers
+use Rattle.audit_subscriptions.specs.declared.key.SubscriptionKey.{SubscriptionKey}
+use Rattle.audit_events.specs.EventTables as events
 use Rattle.someip_audit.specs.declared.finding.Finding.{Finding}
 use Rattle.someip_audit.specs.declared.finding.Finding.TheVariants as findings
 use Rattle.someip_audit.specs.BooksHeld.{Held}
-use Rattle.someip_audit.specs.SdEntries.{offer_entry, receiver_entry, sd_message, subscribe_entry, withdrawn_offer}
+use Rattle.someip_audit.specs.SdEntries.{named_endpoint, offer_entry, receiver_entry, sd_message, subscribe_entry, withdrawn_offer}
+use Rattle.someip_audit.specs.WatchedEndpoints as watching
 
 -- what the books hold, and what was told so far
 pub record Work : Type 0 where
@@ -41,10 +44,16 @@ with_told (Some finding) told = told ++ finding ∷ []
 
 -- ---- its sessions
 
--- a sender began again: what it offered and subscribed, and what was subscribed at it, ends
+-- a sender began again: what it offered and subscribed, and what was subscribed at it, ends, and the events from it and to it are
+-- forgotten
 abbrev pub begun_again : Ipv4Addr → Held → Held
 begun_again address held =
-    record held { offers = offers.without_sender address held.offers; subscriptions = subscriptions.without address held.subscriptions; receivers = receivers.without address held.receivers }
+    record held {
+      offers = offers.without_sender address held.offers;
+      subscriptions = subscriptions.without address held.subscriptions;
+      receivers = receivers.without address held.receivers;
+      events = events.without address held.events;
+    }
 
 -- so it is where the sessions show a reboot
 abbrev pub after_session : Option SessionFinding → Ipv4Addr → Held → Held
@@ -66,9 +75,12 @@ offer_shown now entry work = record {
   told = with_told (option_map (findings.Offer entry.key) (offers.told_by entry work.held.offers)) work.told;
 }
 
--- and what is subscribed at an offer that a StopOffer withdraws ends
+-- and what is subscribed at an offer that a StopOffer withdraws ends, and the events of its service may go to nobody
 abbrev pub withdrawn : WithdrawnOffer → Work → Work
-withdrawn offer work = record work { held = record work.held { receivers = receivers.without_offer offer work.held.receivers } }
+withdrawn offer work =
+    record work {
+      held = record work.held { receivers = receivers.without_offer offer work.held.receivers; events = events.after_withdrawal offer.server offer.service work.held.events };
+    }
 
 -- a Find shows nothing
 abbrev pub service_shown : ServiceKind → ℕ → Origin → ServiceEntry → Option SocketAddrV4 → Work → Work
@@ -91,15 +103,34 @@ receiver_shown now entry work = record {
   told = with_told (option_map (findings.Receiver entry.key) (receivers.told_by entry work.held.receivers)) work.told;
 }
 
+-- a subscription changes: the events from its server to its client may go to nobody
+abbrev pub changed : SubscriptionKey → Work → Work
+changed key work = record work { held = record work.held { events = events.after_change key.client key.server work.held.events } }
+
+-- an entry of an eventgroup: its subscription changes, and it shows what is told as to its answer, and then as to who is subscribed
+abbrev pub group_shown : ℕ → SubscribeEntry → Option SocketAddrV4 → Work → Work
+group_shown now entry endpoint work = receiver_shown now (receiver_entry entry endpoint) (subscribe_shown now entry (changed entry.key work))
+
 -- an entry with the first IPv4 endpoint over UDP among its options, if it has one
 abbrev pub head_shown : ℕ → Origin → EntryHead → Option SocketAddrV4 → Work → Work
 head_shown now origin (Service entry) endpoint work = service_shown entry.kind now origin entry endpoint work
-head_shown now origin (Eventgroup entry) endpoint work =
-    receiver_shown now (receiver_entry (subscribe_entry origin entry) endpoint) (subscribe_shown now (subscribe_entry origin entry) work)
+head_shown now origin (Eventgroup entry) endpoint work = group_shown now (subscribe_entry origin entry) endpoint work
+
+-- the endpoint that an entry names is learnt
+abbrev pub endpoint_shown : Option SocketAddrV4 → Work → Work
+endpoint_shown None work = work
+endpoint_shown (Some endpoint) work = record {
+  held = record work.held { watched = watching.once_named endpoint work.held.watched };
+  told = with_told (watching.told_of_endpoint endpoint work.held.watched) work.told;
+}
+
+-- and then what it shows
+abbrev pub good_shown : ℕ → Origin → EntryHead → Option SocketAddrV4 → Work → Work
+good_shown now origin head endpoint work = head_shown now origin head endpoint (endpoint_shown (named_endpoint head endpoint) work)
 
 -- of an entry whose runs pass the options none is known
 abbrev pub entry_shown : ℕ → Origin → ReadValue → Work → Work
-entry_shown now origin (good entry) work = head_shown now origin entry.head (first_udp_endpoint (options_of entry)) work
+entry_shown now origin (good entry) work = good_shown now origin entry.head (first_udp_endpoint (options_of entry)) work
 entry_shown now origin (bad_run head) work = head_shown now origin head None work
 
 -- ---- the message

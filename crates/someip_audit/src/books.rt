@@ -1,14 +1,16 @@
 //! The books of one audit.
-ghost use Rattle.std.specs.Prelude.{◌≡◌, true, IfOk, IfSome, IfNone};
+ghost use Rattle.std.specs.Prelude.{◌≡◌, true, IfOk, IfSome, IfNone, option_map};
 ghost use Rattle.std.specs.Ordering.{is_le};
-ghost use Rattle.someip_audit.specs.BooksHeld.{empty_held};
+ghost use Rattle.someip_audit.specs.BooksHeld.{empty_held, moment_after};
 ghost use Rattle.someip_audit.specs.FellDues.{IsDue, after_due, fell_cmp};
 ghost use Rattle.someip_audit.specs.declared.fell_due.FellDue.{FellDue};
 
 use crate::fell_due::FellDue;
 use crate::rules::AuditRules;
 use crate::soonest::{earlier, is_at, soonest};
+use crate::watched::Watched;
 use audit_calls::{CallBook, CallRules};
+use audit_events::EventBook;
 use audit_offers::OfferBook;
 use audit_receivers::ReceiverBook;
 use audit_segments::SegmentBook;
@@ -19,15 +21,17 @@ use someip_tables::Moment;
 use std::alloc::{AllocError, Global};
 use std::marker::Model;
 
-/// The books of one audit, each with a kind of findings.
+/// The books of one audit, each with a kind of findings, and which datagrams are looked at.
 #[derive(Drop)]
-pub struct Books<S: Reassembly> {
+pub(crate) struct Books<S: Reassembly> {
     pub(crate) calls: CallBook,
     pub(crate) segments: SegmentBook<S>,
     pub(crate) offers: OfferBook,
     pub(crate) subscriptions: SubscribeBook,
     pub(crate) sessions: SessionBook,
     pub(crate) receivers: ReceiverBook,
+    pub(crate) events: EventBook,
+    pub(crate) watched: Watched,
 }
 
 impl<S: Reassembly> Model for Books<S> {
@@ -44,19 +48,29 @@ impl<S: Reassembly> Model for Books<S> {
       subscriptions = b.subscriptions;
       sessions = b.sessions;
       receivers = b.receivers;
+      events = b.events;
+      watched = b.watched;
     } };
 }
 
 impl<S: Reassembly> Books<S> {
-    /// Books that saw nothing.
-    pub fn make(alloc: Global, rules: AuditRules) -> Result<Books<S>, AllocError>
-        ensures { IfOk result (λ books. books ≡ empty_held rules) }
+    /// Books that saw nothing, of a recording that begins now; the ports that are looked at, if these are
+    /// named.
+    pub(crate) fn make(
+        alloc: Global,
+        rules: &AuditRules,
+        ports: Option<&[u16]>,
+        now: Moment,
+    ) -> Result<Books<S>, AllocError>
+        ensures { IfOk result (λ books. books
+            ≡ empty_held rules.now (option_map (λ ports. ports.now) ports.entry) now) }
     {
+        let watched = Watched::new(alloc, ports, rules.limit)?;
         let segments = SegmentBook::make(alloc, rules.segments)?;
         let calls = CallRules {
             limit: rules.limit,
             answer_ms: rules.answer_ms,
-            begins: rules.begins,
+            begins: now,
         };
         Ok(Books {
             calls: CallBook::new(alloc, calls),
@@ -64,14 +78,15 @@ impl<S: Reassembly> Books<S> {
             offers: OfferBook::new(alloc, rules.limit),
             subscriptions: SubscribeBook::new(alloc, rules.limit, rules.answer_ms),
             sessions: SessionBook::new(alloc, rules.limit),
-            receivers: ReceiverBook::new(alloc, rules.limit, rules.settled),
+            receivers: ReceiverBook::new(alloc, rules.limit, moment_after(now, rules.settle_ms)),
+            events: EventBook::new(alloc, rules.limit),
+            watched,
         })
     }
 
     /// What falls due first, by deadline, then by book, and then by key, if its deadline has come, and
-    /// takes note that it was told. Whoever goes over a recording asks until nothing is left, with the
-    /// moment of each datagram and before it. It takes no memory.
-    pub fn due(&mut self, now: Moment) -> Option<FellDue>
+    /// takes note that it was told. It takes no memory.
+    pub(crate) fn due(&mut self, now: Moment) -> Option<FellDue>
         ensures due { IfSome result (λ told. IsDue now self.old told) }
         ensures first { IfSome result (λ told. (other : FellDue) → IsDue now self.old other
             → is_le (fell_cmp told other) ≡ true) }
@@ -95,5 +110,15 @@ impl<S: Reassembly> Books<S> {
             return Some(FellDue::Expired(self.offers.due(at)?));
         }
         Some(FellDue::SubscribeUnanswered(self.subscriptions.due(at)?))
+    }
+}
+
+/// The moment so many milliseconds after another, or the last one, if that is earlier.
+fn moment_after(now: Moment, millis: u32) -> Moment
+    ensures { result ≡ moment_after now millis }
+{
+    match now.after(u64::from(millis)) {
+        Some(moment) => moment,
+        None => Moment::new((1 << 63) - 1).unwrap_or(now),
     }
 }

@@ -1,18 +1,20 @@
 //! Messages of Service Discovery over the books.
-ghost use Rattle.std.specs.Prelude.{◌≡◌, OnErr, OnOk, Some, map};
+ghost use Rattle.std.specs.Prelude.{◌≡◌, OnErr, OnOk, Some, [], map};
 ghost use Rattle.sd_wire.specs.Values.{view_read, view_sd};
-ghost use Rattle.someip_audit.specs.SdShown.{IsBegun, begun_again, entries_shown, entry_shown};
-ghost use Rattle.someip_audit.specs.SdShown.{head_shown, offer_shown, receiver_shown, sd_shown};
+ghost use Rattle.someip_audit.specs.SdShown.{IsBegun, begun_again, changed, endpoint_shown, entries_shown, entry_shown};
+ghost use Rattle.someip_audit.specs.SdShown.{good_shown, group_shown, head_shown, offer_shown, receiver_shown, sd_shown};
 ghost use Rattle.someip_audit.specs.SdShown.{service_shown, session_shown, subscribe_shown};
 ghost use Rattle.someip_audit.specs.SdShown.{with_told, working};
 
 use crate::books::Books;
-use crate::entries::{offer_entry, receiver_entry, sd_message, subscribe_entry, withdrawn_offer};
+use crate::entries::{
+    named_endpoint, offer_entry, receiver_entry, sd_message, subscribe_entry, withdrawn_offer,
+};
 use crate::finding::Finding;
 use audit_offers::OfferEntry;
 use audit_receivers::ReceiverEntry;
 use audit_sessions::SdMessage;
-use audit_subscriptions::SubscribeEntry;
+use audit_subscriptions::{SubscribeEntry, SubscriptionKey};
 use audit_tables::Origin;
 use sd_wire::{EntryHead, ReadEntry, SdRead, ServiceEntry, ServiceKind};
 use someip_reassembly::Reassembly;
@@ -24,7 +26,7 @@ impl<S: Reassembly> Books<S> {
     /// Takes note of a message of Service Discovery with this session, and appends what it shows: by its
     /// session and flags first, and then by its entries in order. Where memory runs out, what was
     /// appended is a beginning of that, and nothing else is promised.
-    pub fn saw_sd(
+    pub(crate) fn saw_sd(
         &mut self,
         now: Moment,
         origin: &Origin,
@@ -68,6 +70,7 @@ impl<S: Reassembly> Books<S> {
         self.offers.forget(address);
         self.subscriptions.forget(address);
         self.receivers.forget(address);
+        self.events.forget(address);
     }
 
     /// The entries of a message come.
@@ -104,9 +107,46 @@ impl<S: Reassembly> Books<S> {
     {
         match entry {
             ReadEntry::Good(entry) => {
-                self.saw_head(now, origin, &entry.head, entry.udp_endpoint(), findings)
+                self.saw_good(now, origin, &entry.head, entry.udp_endpoint(), findings)
             }
             ReadEntry::BadRun(head) => self.saw_head(now, origin, head, None, findings),
+        }
+    }
+
+    /// An entry comes that may name this endpoint, which is learnt first.
+    fn saw_good(
+        &mut self,
+        now: Moment,
+        origin: &Origin,
+        head: &EntryHead,
+        endpoint: Option<SocketAddrV4>,
+        findings: &mut Vec<Finding>,
+    ) -> Result<(), AllocError>
+        ensures ok { OnOk result (working self.new findings.new.items
+            ≡ good_shown now origin.now head.now endpoint (working self.old findings.old.items)) }
+        ensures err { OnErr result (IsBegun findings.old.items findings.new.items
+            (good_shown now origin.now head.now endpoint (working self.old findings.old.items)).told) }
+    {
+        self.saw_endpoint(named_endpoint(head, endpoint), findings)?;
+        self.saw_head(now, origin, head, endpoint, findings)
+    }
+
+    /// An entry names an endpoint, or none.
+    fn saw_endpoint(
+        &mut self,
+        endpoint: Option<SocketAddrV4>,
+        findings: &mut Vec<Finding>,
+    ) -> Result<(), AllocError>
+        ensures ok { OnOk result (working self.new findings.new.items
+            ≡ endpoint_shown endpoint (working self.old findings.old.items)) }
+        ensures err { OnErr result (findings.new.items ≡ findings.old.items) }
+    {
+        let Some(endpoint) = endpoint else {
+            return Ok(());
+        };
+        match self.watched.learn(endpoint)? {
+            Some(shown) => tell(findings, shown),
+            None => Ok(()),
         }
     }
 
@@ -127,11 +167,34 @@ impl<S: Reassembly> Books<S> {
         match head {
             EntryHead::Service(entry) => self.saw_service(now, origin, entry, endpoint, findings),
             EntryHead::Eventgroup(entry) => {
-                let subscribe = subscribe_entry(origin, entry);
-                self.saw_subscribe(now, subscribe, findings)?;
-                self.saw_receiver(now, receiver_entry(&subscribe, endpoint), findings)
+                self.saw_group(now, subscribe_entry(origin, entry), endpoint, findings)
             }
         }
+    }
+
+    /// An entry of an eventgroup comes.
+    fn saw_group(
+        &mut self,
+        now: Moment,
+        entry: SubscribeEntry,
+        endpoint: Option<SocketAddrV4>,
+        findings: &mut Vec<Finding>,
+    ) -> Result<(), AllocError>
+        ensures ok { OnOk result (working self.new findings.new.items
+            ≡ group_shown now entry endpoint (working self.old findings.old.items)) }
+        ensures err { OnErr result (IsBegun findings.old.items findings.new.items
+            (group_shown now entry endpoint (working self.old findings.old.items)).told) }
+    {
+        self.change(entry.key);
+        self.saw_subscribe(now, entry, findings)?;
+        self.saw_receiver(now, receiver_entry(&entry, endpoint), findings)
+    }
+
+    /// A subscription changes.
+    fn change(&mut self, key: SubscriptionKey)
+        ensures { self.new ≡ (changed key (working self.old [])).held }
+    {
+        self.events.disturb(key.client, key.server);
     }
 
     /// An entry about an instance comes.
@@ -151,7 +214,9 @@ impl<S: Reassembly> Books<S> {
             return Ok(());
         }
         if entry.ttl.seconds() == 0 {
-            self.receivers.withdraw(withdrawn_offer(origin, entry));
+            let offer = withdrawn_offer(origin, entry);
+            self.receivers.withdraw(offer);
+            self.events.withdraw(offer.server, offer.service);
         }
         self.saw_offer(now, offer_entry(origin, entry, endpoint), findings)
     }

@@ -1,6 +1,6 @@
 //! Entries of Service Discovery as the books take them.
 ghost use Rattle.std.specs.Prelude.{◌≡◌};
-ghost use Rattle.someip_audit.specs.SdEntries.{offer_entry, offer_key, receiver_entry};
+ghost use Rattle.someip_audit.specs.SdEntries.{named_endpoint, names_endpoint, offer_entry, offer_key, receiver_entry};
 ghost use Rattle.someip_audit.specs.SdEntries.{sd_message, subscribe_entry, subscription_key, withdrawn_offer};
 
 use audit_offers::{OfferEntry, OfferKey};
@@ -9,7 +9,7 @@ use audit_sessions::SdMessage;
 use audit_subscriptions::{EntryKind, SubscribeEntry, SubscriptionKey};
 use audit_tables::Origin;
 use sd_session::Stamp;
-use sd_wire::{EventgroupEntry, EventgroupKind, SdFlags, ServiceEntry};
+use sd_wire::{EntryHead, EventgroupEntry, EventgroupKind, SdFlags, ServiceEntry, ServiceKind};
 use std::net::SocketAddrV4;
 
 /// A message of Service Discovery, as far as its sessions go.
@@ -94,5 +94,29 @@ pub(crate) fn receiver_entry(
         kind: entry.kind,
         ttl: entry.ttl,
         endpoint,
+    }
+}
+
+/// The endpoint that an entry names: that of an Offer or a Subscribe, if it has one.
+pub(crate) fn named_endpoint(
+    head: &EntryHead,
+    endpoint: Option<SocketAddrV4>,
+) -> Option<SocketAddrV4>
+    ensures { result ≡ named_endpoint head.now endpoint }
+{
+    if names_endpoint(head) { endpoint } else { None }
+}
+
+/// Whether an entry is an Offer or a Subscribe.
+fn names_endpoint(head: &EntryHead) -> bool
+    ensures { result ≡ names_endpoint head.now }
+{
+    match head {
+        EntryHead::Service(entry) => {
+            matches!(entry.kind, ServiceKind::Offer) && entry.ttl.seconds() != 0
+        }
+        EntryHead::Eventgroup(entry) => {
+            matches!(entry.kind, EventgroupKind::Subscribe) && entry.ttl.seconds() != 0
+        }
     }
 }

@@ -1,13 +1,15 @@
-//! What messages of a recording show.
+//! What datagrams of a recording show.
 use audit_calls::CallFinding;
+use audit_events::EventFlow;
 use audit_offers::OfferKey;
 use audit_receivers::Delivery;
 use audit_subscriptions::SubscriptionKey;
 use sd_wire::SdError;
 use someip_segments::TpError;
-use someip_wire::Header;
+use someip_wire::{Header, WireError};
 
-/// What a message of a recording shows that is not as it should be, or that a book is full.
+/// What a datagram of a recording shows that is not as it should be, or that a book is full. Places are
+/// numbers of bytes from the datagram's first one.
 #[derive(Clone, Copy, Debug, PartialEq, Eq)]
 pub enum Finding {
     /// A message of Service Discovery shows this by its sessions.
@@ -22,9 +24,17 @@ pub enum Finding {
     Call(Header, CallFinding),
     /// An event to one endpoint, as to who is subscribed.
     Event(Delivery, audit_receivers::Finding),
+    /// An event of this flow, to one endpoint or to a group, by its session.
+    EventSession(EventFlow, audit_events::Finding),
     /// A segment with this header that reassembly refuses.
     Segment(Header, TpError),
-    /// A message of Service Discovery whose payload has this fault; its place counts from the payload's first
-    /// byte.
+    /// A segment whose payload, which begins at this place, has no room for its TP header.
+    NoTpHeader(usize),
+    /// The fault that ends the datagram.
+    Malformed(WireError),
+    /// A message of Service Discovery whose payload has this fault.
     MalformedSd(SdError),
+    /// An Offer or a Subscribe names an endpoint, and as many were learnt as may be. It is told once, and
+    /// no more are learnt.
+    EndpointsFull,
 }

@@ -1,22 +1,36 @@
 //! Laws of the definitions behind the contracts, by example. Each is the contract of a function that does
 //! nothing.
-ghost use Rattle.std.specs.Prelude.{◌≡◌, Some, None, true, false};
+ghost use Rattle.std.specs.Prelude.{◌≡◌, ℕ, List, [], ◌∷◌, Some, None, Ok, Err, true, false, if◌then◌else◌, nat_lt, option_map};
+ghost use Rattle.std.specs.List.{list_any};
+ghost use Rattle.audit_subscriptions.specs.declared.key.SubscriptionKey.{SubscriptionKey};
+ghost use Rattle.audit_events.specs.declared.flow.EventFlow.{EventFlow};
+ghost use Rattle.audit_events.specs.EventRules.{disturbed, is_between};
+ghost use Rattle.audit_events.specs.EventTables.{Events};
+ghost use Rattle.someip_audit.specs.Audits.{AuditState, Audits, Report, Seen, each_disturbed};
+ghost use Rattle.std.specs.FinMap as finite;
 ghost use Rattle.std.specs.Ordering.{is_lt};
 ghost use Rattle.sd_wire.specs.declared.entry.ServiceKind.TheVariants.{Find, Offer};
+ghost use Rattle.sd_wire.specs.declared.entry.EntryHead.TheVariants.{Eventgroup, Service};
 ghost use Rattle.sd_wire.specs.declared.entry.EventgroupKind.TheVariants as groups;
 ghost use Rattle.someip_wire.specs.declared.header.MessageType.TheVariants as kinds;
 ghost use Rattle.audit_calls.specs.Scenes.{header_with};
 ghost use Rattle.audit_offers.specs.OfferExamples.{endpoint, from_node};
 ghost use Rattle.audit_sessions.specs.declared.finding.Finding.TheVariants as sessions;
 ghost use Rattle.audit_subscriptions.specs.SubscribeExamples.{answer, datagram, subscribe};
-ghost use Rattle.someip_audit.specs.AnyShown.{is_sd};
+ghost use Rattle.someip_wire.specs.declared.error.WireError.TheVariants.{Truncated};
+ghost use Rattle.sd_wire.specs.declared.error.SdError.TheVariants as faults;
+ghost use Rattle.audit_tables.specs.declared.origin.Origin.{Origin};
+ghost use Rattle.someip_audit.specs.declared.finding.Finding.TheVariants as findings;
+ghost use Rattle.someip_audit.specs.AnyShown.{is_sd, items_shown, message_count, payload_shown};
+ghost use Rattle.someip_audit.specs.WatchedEndpoints.{Watch, is_at_learnt, is_looked_at, once_named, told_of_endpoint};
+ghost use Rattle.someip_audit.specs.SdScenes.{once_told, segment_with, sent_from, watch_of};
 ghost use Rattle.someip_audit.specs.BooksHeld.{Held};
 ghost use Rattle.someip_audit.specs.FellDues.{fell_cmp};
-ghost use Rattle.someip_audit.specs.MessageShown.{event_shown, is_event};
-ghost use Rattle.someip_audit.specs.SdEntries.{offer_entry, subscribe_entry, withdrawn_offer};
+ghost use Rattle.someip_audit.specs.MessageShown.{event_flow, event_shown, flow_shown, is_event, message_shown};
+ghost use Rattle.someip_audit.specs.SdEntries.{names_endpoint, offer_entry, subscribe_entry, withdrawn_offer};
 ghost use Rattle.someip_audit.specs.SdScenes.{call_due, group_entry, offer_due, sd_header, service_entry};
 ghost use Rattle.someip_audit.specs.SdScenes.{subscribe_due, with_endpoint};
-ghost use Rattle.someip_audit.specs.SdShown.{Work, after_session, begun_again, entry_shown, offer_shown};
+ghost use Rattle.someip_audit.specs.SdShown.{Work, after_session, begun_again, endpoint_shown, entry_shown, offer_shown};
 ghost use Rattle.someip_audit.specs.SdShown.{withdrawn};
 
 /// In which order what fell due is told, by example: by deadline; at one deadline calls, then offers, then
@@ -40,11 +54,13 @@ pub fn entries_are_of_one_subscription()
 {}
 
 /// What entries about an instance show, whatever the books hold: an Offer what the book of offers tells, by
-/// its first UDP endpoint; a StopOffer too, and it ends what is subscribed there; a Find nothing.
+/// its first UDP endpoint, which is learnt; a StopOffer what it tells too, and it ends what is subscribed
+/// there; a Find nothing.
 pub fn entries_show_what_the_books_tell()
     ensures offered { (work : Work) → entry_shown 100 (from_node 1 1)
         (with_endpoint (service_entry Offer 3) 1 40000) work
-        ≡ offer_shown 100 (offer_entry (from_node 1 1) (service_entry Offer 3) (Some (endpoint 1 40000))) work }
+        ≡ offer_shown 100 (offer_entry (from_node 1 1) (service_entry Offer 3) (Some (endpoint 1 40000)))
+        (endpoint_shown (Some (endpoint 1 40000)) work) }
     ensures stopped { (work : Work) → entry_shown 100 (from_node 1 1)
         (with_endpoint (service_entry Offer 0) 1 40000) work
         ≡ withdrawn (withdrawn_offer (from_node 1 1) (service_entry Offer 0)) (offer_shown 100
@@ -84,4 +100,79 @@ pub fn messages_are_of_service_discovery()
     ensures other_service { is_sd (datagram 1 2 9) (record sd_header { service = 0xFFFE }) ≡ false }
     ensures other_interface { is_sd (datagram 1 2 9) (record sd_header { interface = 2 }) ≡ false }
     ensures other_type { is_sd (datagram 1 2 9) (record sd_header { kind = kinds.Response }) ≡ false }
+{}
+
+/// Which entries name an endpoint that is looked at, by example: an Offer and a Subscribe; no Find,
+/// StopOffer, StopSubscribe, Ack or Nack.
+pub fn offers_and_subscribes_name_endpoints()
+    ensures offer { names_endpoint (Service (service_entry Offer 3)) ≡ true }
+    ensures stop_offer { names_endpoint (Service (service_entry Offer 0)) ≡ false }
+    ensures find { names_endpoint (Service (service_entry Find 3)) ≡ false }
+    ensures subscribe { names_endpoint (Eventgroup (group_entry groups.Subscribe 3)) ≡ true }
+    ensures stop_subscribe { names_endpoint (Eventgroup (group_entry groups.Subscribe 0)) ≡ false }
+    ensures ack { names_endpoint (Eventgroup (group_entry groups.Ack 3)) ≡ false }
+{}
+
+/// Which datagrams are looked at, by example: from or to port 30490; where ports are named, from or to
+/// these; and else exactly those at an endpoint that was learnt, by address and port.
+pub fn datagrams_are_looked_at()
+    ensures discovery { (watch : Watch) → is_looked_at watch (sent_from 1 30490 2 40000) ≡ true }
+    ensures to_discovery { (watch : Watch) → is_looked_at watch (sent_from 1 40000 2 30490) ≡ true }
+    ensures at_port { is_looked_at (watch_of (Some (40000 ∷ [])) 4) (sent_from 1 40000 2 40001) ≡ true }
+    ensures to_port { is_looked_at (watch_of (Some (40000 ∷ [])) 4) (sent_from 1 40001 2 40000) ≡ true }
+    ensures other_port { is_looked_at (watch_of (Some (40000 ∷ [])) 4) (sent_from 1 40001 2 40002) ≡ false }
+    ensures learnt { (watch : Watch) → watch.ports ≡ None
+        → is_looked_at watch (sent_from 1 40001 2 40000) ≡ is_at_learnt watch.learnt (sent_from 1 40001 2 40000) }
+{}
+
+/// What an endpoint does that an entry names: it is learnt, where one more may be; and that no more may
+/// be is told once. Where ports are named nothing is learnt.
+pub fn endpoints_are_learnt()
+    ensures learnt { (watch : Watch) → watch.ports ≡ None → finite.get watch.learnt (endpoint 1 40000) ≡ None
+        → nat_lt (finite.len watch.learnt) watch.limit ≡ true → once_named (endpoint 1 40000) watch
+        ≡ record watch { learnt = finite.insert watch.learnt (endpoint 1 40000) tt } }
+    ensures full { (watch : Watch) → watch.ports ≡ None → finite.get watch.learnt (endpoint 1 40000) ≡ None
+        → nat_lt (finite.len watch.learnt) watch.limit ≡ false → watch.told_full ≡ false
+        → told_of_endpoint (endpoint 1 40000) watch ≡ Some findings.EndpointsFull }
+    ensures once { (watch : Watch) → watch.told_full ≡ true → told_of_endpoint (endpoint 1 40000) watch ≡ None }
+    ensures ports { (watch : Watch) → watch.ports ≡ Some (40000 ∷ []) → once_named (endpoint 1 40000) watch ≡ watch }
+{}
+
+/// What is told of faults, whatever the books hold: the place of a fault of Service Discovery counts from
+/// the first byte of its datagram; a segment whose payload has no room for its TP header is told; the
+/// fault that ends a datagram comes after what its messages show.
+pub fn faults_are_told()
+    ensures discovery { (work : Work) → payload_shown 100 (from_node 1 1) 16 1 (Err (faults.OptionLength 44)) work
+        ≡ once_told (findings.MalformedSd (faults.OptionLength 60)) work }
+    ensures segment { (work : Work) → message_shown 100 (datagram 1 2 9) 16 (segment_with (1 ∷ 2 ∷ 3 ∷ [])) work
+        ≡ once_told (findings.NoTpHeader 16) work }
+    ensures datagram { (work : Work) → items_shown 100 (datagram 1 2 9) 0 (Err (Truncated 7) ∷ []) work
+        ≡ once_told (findings.Malformed (Truncated 7)) work }
+    ensures counted { message_count (Ok (segment_with []) ∷ Err (Truncated 19) ∷ []) ≡ 1 }
+{}
+
+/// An event shows what its session does, to one endpoint and to a group; nothing else does.
+pub fn events_have_sessions()
+    ensures to_group { event_flow (from_node 1 1) (header_with 5 kinds.Notification)
+        ≡ record { sender = (from_node 1 1).from; service = 0x1234; event = 0x0421; receiver = (from_node 1 1).to } }
+    ensures response { (origin : Origin) (work : Work) → flow_shown origin (header_with 5 kinds.Response) work ≡ work }
+{}
+
+/// What subscriptions that expired leave of the events: a gap of each flow between the client and the
+/// server of one of them is excused, and the other flows stay as they are.
+pub fn what_expires_excuses_gaps()
+    ensures { (keys : List SubscriptionKey) (events : Events) (flow : EventFlow)
+        → finite.get (each_disturbed keys events).flows flow
+        ≡ option_map (λ last. if list_any (λ (key : SubscriptionKey). is_between key.client key.server flow) keys
+        then disturbed last else last) (finite.get events.flows flow) }
+{}
+
+/// What is told of a recording, and what its audit is then, is determined by its datagrams in order.
+pub fn datagrams_determine_what_is_told()
+    ensures told { (last : ℕ) (state after other : AuditState) (datagrams : List Seen)
+        (reports others : List Report) → Audits last state datagrams reports after
+        → Audits last state datagrams others other → reports ≡ others }
+    ensures left { (last : ℕ) (state after other : AuditState) (datagrams : List Seen)
+        (reports others : List Report) → Audits last state datagrams reports after
+        → Audits last state datagrams others other → after ≡ other }
 {}

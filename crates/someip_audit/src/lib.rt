@@ -1,22 +1,26 @@
 //! What a recording shows against the protocol, over the books of the kinds of findings.
 //!
-//! - [`Books`]: the books of one audit, over any body of `Reassembly`; [`AuditRules`]: their settings;
-//! - [`Finding`]: what a message shows; [`FellDue`]: what falls due between datagrams;
+//! - [`Audit`]: what goes over a recording, over any body of `Reassembly`; [`AuditRules`]: its settings;
+//! - [`Finding`]: what a datagram shows; [`FellDue`]: what falls due between datagrams;
 //! - [`laws`]: the definitions behind the contracts, by example.
 #![tactic(auto)]
 
 mod any_message;
+mod audit;
 mod books;
+mod datagram;
 mod discovery;
 mod entries;
+mod expiry;
 mod fell_due;
 mod finding;
 pub mod laws;
 mod messages;
 mod rules;
 mod soonest;
+mod watched;
 
-pub use books::Books;
+pub use audit::Audit;
 pub use fell_due::FellDue;
 pub use finding::Finding;
 pub use rules::AuditRules;

@@ -1,13 +1,14 @@
 //! Messages that are none of Service Discovery, over the books.
 ghost use Rattle.std.specs.Prelude.{◌≡◌, OnErr, OnOk, Some};
-ghost use Rattle.audit_receivers.specs.ReceiverTables.{without_expired};
-ghost use Rattle.someip_audit.specs.MessageShown.{call_shown, event_shown, is_unicast, message_shown};
-ghost use Rattle.someip_audit.specs.MessageShown.{segment_shown, whole_shown};
+ghost use Rattle.someip_wire.specs.View.{view};
+ghost use Rattle.someip_audit.specs.MessageShown.{call_shown, event_flow, event_shown, flow_shown, is_unicast};
+ghost use Rattle.someip_audit.specs.MessageShown.{message_shown, piece_shown, segment_shown, whole_shown};
 ghost use Rattle.someip_audit.specs.SdShown.{IsBegun, working};
 
 use crate::books::Books;
 use crate::discovery::tell;
 use crate::finding::Finding;
+use audit_events::{EventFlow, Notification};
 use audit_receivers::Delivery;
 use audit_segments::SegmentTold;
 use audit_tables::Origin;
@@ -18,33 +19,27 @@ use std::alloc::AllocError;
 use std::net::SocketAddrV4;
 
 impl<S: Reassembly> Books<S> {
-    /// Drops the subscriptions that have expired. Whoever goes over a recording calls it with the moment
-    /// of each datagram: what was not dropped stands. It takes no memory.
-    pub fn expire(&mut self, now: Moment)
-        ensures { self.new ≡ record self.old { receivers = without_expired now self.old.receivers } }
-    {
-        self.receivers.expire(now);
-    }
-
     /// Takes note of a message that is none of Service Discovery, and appends what it shows: a whole one of
-    /// its call, and of who is subscribed to its event; a segment why it is refused, or what its message
-    /// shows once it is whole. `bytes` is room for the payload of such a message. Where memory runs out,
-    /// what was appended is a beginning of that, and nothing else is promised.
-    pub fn saw_message(
+    /// its call, of who is subscribed to its event, and by its event's session; a segment why it is
+    /// refused, or what its message shows once it is whole. Its payload begins at a place of its datagram.
+    /// `bytes` is room for the payload of a message in segments. Where memory runs out, what was appended
+    /// is a beginning of that, and nothing else is promised.
+    pub(crate) fn saw_message(
         &mut self,
         now: Moment,
         origin: &Origin,
+        place: usize,
         message: &Message<'_>,
         bytes: &mut Vec<u8>,
         findings: &mut Vec<Finding>,
     ) -> Result<(), AllocError>
         ensures ok { OnOk result (working self.new findings.new.items
-            ≡ message_shown now origin.now message.now (working self.old findings.old.items)) }
+            ≡ message_shown now origin.now place (view message.now) (working self.old findings.old.items)) }
         ensures err { OnErr result (IsBegun findings.old.items findings.new.items
-            (message_shown now origin.now message.now (working self.old findings.old.items)).told) }
+            (message_shown now origin.now place (view message.now) (working self.old findings.old.items)).told) }
     {
         if message.header.kind.has_tp_flag() {
-            self.saw_segment(now, origin, message, bytes, findings)
+            self.saw_segment(now, origin, place, message, bytes, findings)
         } else {
             self.saw_whole(now, origin, message, findings)
         }
@@ -55,14 +50,36 @@ impl<S: Reassembly> Books<S> {
         &mut self,
         now: Moment,
         origin: &Origin,
+        place: usize,
         message: &Message<'_>,
         bytes: &mut Vec<u8>,
         findings: &mut Vec<Finding>,
     ) -> Result<(), AllocError>
         ensures ok { OnOk result (working self.new findings.new.items
-            ≡ segment_shown now origin.now message.now (working self.old findings.old.items)) }
+            ≡ segment_shown now origin.now place (view message.now) (working self.old findings.old.items)) }
         ensures err { OnErr result (IsBegun findings.old.items findings.new.items
-            (segment_shown now origin.now message.now (working self.old findings.old.items)).told) }
+            (segment_shown now origin.now place (view message.now) (working self.old findings.old.items)).told) }
+    {
+        if message.payload.len() < 4 {
+            tell(findings, Finding::NoTpHeader(place))
+        } else {
+            self.saw_piece(now, origin, message, bytes, findings)
+        }
+    }
+
+    /// A segment comes that has a TP header.
+    fn saw_piece(
+        &mut self,
+        now: Moment,
+        origin: &Origin,
+        message: &Message<'_>,
+        bytes: &mut Vec<u8>,
+        findings: &mut Vec<Finding>,
+    ) -> Result<(), AllocError>
+        ensures ok { OnOk result (working self.new findings.new.items
+            ≡ piece_shown now origin.now (view message.now) (working self.old findings.old.items)) }
+        ensures err { OnErr result (IsBegun findings.old.items findings.new.items
+            (piece_shown now origin.now (view message.now) (working self.old findings.old.items)).told) }
     {
         let k = origin.datagram;
         let told = self
@@ -99,7 +116,8 @@ impl<S: Reassembly> Books<S> {
             (working self.old findings.old.items)).told) }
     {
         self.saw_call(now, origin, message, findings)?;
-        self.saw_event(now, origin, &message.header, findings)
+        self.saw_event(now, origin, &message.header, findings)?;
+        self.saw_flow(origin, &message.header, findings)
     }
 
     /// A whole message comes, as to its call.
@@ -147,6 +165,43 @@ impl<S: Reassembly> Books<S> {
             Some(shown) => tell(findings, Finding::Event(delivery, shown)),
             None => Ok(()),
         }
+    }
+
+    /// A whole message comes, as to the session of its event.
+    fn saw_flow(
+        &mut self,
+        origin: &Origin,
+        header: &Header,
+        findings: &mut Vec<Finding>,
+    ) -> Result<(), AllocError>
+        ensures ok { OnOk result (working self.new findings.new.items
+            ≡ flow_shown origin.now header.now (working self.old findings.old.items)) }
+        ensures err { OnErr result (findings.new.items ≡ findings.old.items) }
+    {
+        if !matches!(header.kind, MessageType::Notification) {
+            return Ok(());
+        }
+        let flow = event_flow(origin, header);
+        let seen = Notification {
+            flow,
+            session: header.session,
+        };
+        match self.events.saw(seen)? {
+            Some(shown) => tell(findings, Finding::EventSession(flow, shown)),
+            None => Ok(()),
+        }
+    }
+}
+
+/// The flow of an event.
+fn event_flow(origin: &Origin, header: &Header) -> EventFlow
+    ensures { result ≡ event_flow origin.now header.now }
+{
+    EventFlow {
+        sender: origin.from,
+        service: header.service,
+        event: header.method,
+        receiver: origin.to,
     }
 }
 

@@ -5,27 +5,27 @@ use Rattle.someip_audit.proofs.books.Books.due.Goals as goal
 
 pub returns-in-Some-clause-due : goal.returns-in-Some-clause-due
 returns-in-Some-clause-due g c =
-    rw (← c.self.view_is) (call_is_due (record { calls = c.self.inside.calls; segments = c.self.inside.segments; offers = c.self.inside.offers; subscriptions = c.self.inside.subscriptions; sessions = c.self.inside.sessions; receivers = c.self.inside.receivers }) c.args.now c.next_due-segments.result c.next_due-offers.result c.next_due.result c.next_due-segments.ensures c.next_due-offers.ensures c.next_due.ensures
+    rw (← c.self.view_is) (call_is_due (record { calls = c.self.inside.calls; segments = c.self.inside.segments; offers = c.self.inside.offers; subscriptions = c.self.inside.subscriptions; sessions = c.self.inside.sessions; receivers = c.self.inside.receivers; events = c.self.inside.events; watched = c.self.inside.watched }) c.args.now c.next_due-segments.result c.next_due-offers.result c.next_due.result c.next_due-segments.ensures c.next_due-offers.ensures c.next_due.ensures
     c.earlier.result c.earlier-next.result c.soonest-at.result c.earlier.ensures c.earlier-next.ensures c.soonest-at.ensures
     c.in-Some.call c.in-Some.ensures.open c.in-Some.ensures.passed)
 
 pub returns-in-Some-clause-first : goal.returns-in-Some-clause-first
 returns-in-Some-clause-first g c =
-    rw (← c.self.view_is) (call_first (record { calls = c.self.inside.calls; segments = c.self.inside.segments; offers = c.self.inside.offers; subscriptions = c.self.inside.subscriptions; sessions = c.self.inside.sessions; receivers = c.self.inside.receivers }) c.args.now c.next_due-segments.result c.next_due-offers.result c.next_due.result c.next_due-segments.ensures c.next_due-offers.ensures c.next_due.ensures
+    rw (← c.self.view_is) (call_first (record { calls = c.self.inside.calls; segments = c.self.inside.segments; offers = c.self.inside.offers; subscriptions = c.self.inside.subscriptions; sessions = c.self.inside.sessions; receivers = c.self.inside.receivers; events = c.self.inside.events; watched = c.self.inside.watched }) c.args.now c.next_due-segments.result c.next_due-offers.result c.next_due.result c.next_due-segments.ensures c.next_due-offers.ensures c.next_due.ensures
     c.earlier.result c.earlier-next.result c.soonest-at.result c.earlier.ensures c.earlier-next.ensures c.soonest-at.ensures
     c.in-Some.call c.in-Some.ensures.passed c.in-Some.ensures.first)
 
 pub returns-then-not-is_at-clause-none : goal.returns-then-not-is_at-clause-none
 returns-then-not-is_at-clause-none g c =
     let no_next : is_awaited c.soonest-at.result c.earlier-next.result ≡ false = search rules in
-    rw (← c.self.view_is) (none_first (record { calls = c.self.inside.calls; segments = c.self.inside.segments; offers = c.self.inside.offers; subscriptions = c.self.inside.subscriptions; sessions = c.self.inside.sessions; receivers = c.self.inside.receivers }) c.args.now c.next_due-segments.result c.next_due-offers.result c.next_due.result c.next_due-segments.ensures c.next_due-offers.ensures c.next_due.ensures
+    rw (← c.self.view_is) (none_first (record { calls = c.self.inside.calls; segments = c.self.inside.segments; offers = c.self.inside.offers; subscriptions = c.self.inside.subscriptions; sessions = c.self.inside.sessions; receivers = c.self.inside.receivers; events = c.self.inside.events; watched = c.self.inside.watched }) c.args.now c.next_due-segments.result c.next_due-offers.result c.next_due.result c.next_due-segments.ensures c.next_due-offers.ensures c.next_due.ensures
     c.earlier.result c.earlier-next.result c.soonest-at.result c.earlier.ensures c.earlier-next.ensures c.soonest-at.ensures
     c.in_default.ensures.none no_next)
 
 pub returns-then-not-is_at-clause-after : goal.returns-then-not-is_at-clause-after
 returns-then-not-is_at-clause-after g c =
     let no_next : is_awaited c.soonest-at.result c.earlier-next.result ≡ false = search rules in
-    rw (← c.self.view_is) (none_after (record { calls = c.self.inside.calls; segments = c.self.inside.segments; offers = c.self.inside.offers; subscriptions = c.self.inside.subscriptions; sessions = c.self.inside.sessions; receivers = c.self.inside.receivers }) c.args.now c.next_due-segments.result c.next_due-offers.result c.next_due.result c.next_due-segments.ensures c.next_due-offers.ensures c.next_due.ensures
+    rw (← c.self.view_is) (none_after (record { calls = c.self.inside.calls; segments = c.self.inside.segments; offers = c.self.inside.offers; subscriptions = c.self.inside.subscriptions; sessions = c.self.inside.sessions; receivers = c.self.inside.receivers; events = c.self.inside.events; watched = c.self.inside.watched }) c.args.now c.next_due-segments.result c.next_due-offers.result c.next_due.result c.next_due-segments.ensures c.next_due-offers.ensures c.next_due.ensures
     c.earlier.result c.earlier-next.result c.soonest-at.result c.earlier.ensures c.earlier-next.ensures c.soonest-at.ensures
     c.in_default.ensures.none no_next c.due.new.self c.in_default.ensures.after)
 
@@ -33,7 +33,7 @@ pub returns-in_err-due-clause-none : goal.returns-in_err-due-clause-none
 returns-in_err-due-clause-none g c =
     let there : is_awaited c.soonest-at.result c.earlier-next.result ≡ true = search rules in
     let first_is : is_awaited c.soonest-at.result c.next_due-segments.result ≡ true = search rules in
-    absurd (no_missing (record { calls = c.self.inside.calls; segments = c.self.inside.segments; offers = c.self.inside.offers; subscriptions = c.self.inside.subscriptions; sessions = c.self.inside.sessions; receivers = c.self.inside.receivers }) c.args.now c.next_due-segments.result c.next_due-offers.result c.next_due.result c.next_due-segments.ensures c.next_due-offers.ensures c.next_due.ensures
+    absurd (no_missing (record { calls = c.self.inside.calls; segments = c.self.inside.segments; offers = c.self.inside.offers; subscriptions = c.self.inside.subscriptions; sessions = c.self.inside.sessions; receivers = c.self.inside.receivers; events = c.self.inside.events; watched = c.self.inside.watched }) c.args.now c.next_due-segments.result c.next_due-offers.result c.next_due.result c.next_due-segments.ensures c.next_due-offers.ensures c.next_due.ensures
     c.earlier.result c.earlier-next.result c.soonest-at.result c.earlier.ensures c.earlier-next.ensures c.soonest-at.ensures
     c.in_default.ensures.none there first_is c.in_err-due.ensures.none)
 
@@ -41,7 +41,7 @@ pub returns-in_err-due-clause-after : goal.returns-in_err-due-clause-after
 returns-in_err-due-clause-after g c =
     let there : is_awaited c.soonest-at.result c.earlier-next.result ≡ true = search rules in
     let first_is : is_awaited c.soonest-at.result c.next_due-segments.result ≡ true = search rules in
-    absurd (no_missing (record { calls = c.self.inside.calls; segments = c.self.inside.segments; offers = c.self.inside.offers; subscriptions = c.self.inside.subscriptions; sessions = c.self.inside.sessions; receivers = c.self.inside.receivers }) c.args.now c.next_due-segments.result c.next_due-offers.result c.next_due.result c.next_due-segments.ensures c.next_due-offers.ensures c.next_due.ensures
+    absurd (no_missing (record { calls = c.self.inside.calls; segments = c.self.inside.segments; offers = c.self.inside.offers; subscriptions = c.self.inside.subscriptions; sessions = c.self.inside.sessions; receivers = c.self.inside.receivers; events = c.self.inside.events; watched = c.self.inside.watched }) c.args.now c.next_due-segments.result c.next_due-offers.result c.next_due.result c.next_due-segments.ensures c.next_due-offers.ensures c.next_due.ensures
     c.earlier.result c.earlier-next.result c.soonest-at.result c.earlier.ensures c.earlier-next.ensures c.soonest-at.ensures
     c.in_default.ensures.none there first_is c.in_err-due.ensures.none)
 
@@ -49,7 +49,7 @@ pub returns-then-is_at-clause-due : goal.returns-then-is_at-clause-due
 returns-then-is_at-clause-due g c =
     let there : is_awaited c.soonest-at.result c.earlier-next.result ≡ true = search rules in
     let first_is : is_awaited c.soonest-at.result c.next_due-segments.result ≡ true = search rules in
-    rw (← c.self.view_is) (missing_is_due (record { calls = c.self.inside.calls; segments = c.self.inside.segments; offers = c.self.inside.offers; subscriptions = c.self.inside.subscriptions; sessions = c.self.inside.sessions; receivers = c.self.inside.receivers }) c.args.now c.next_due-segments.result c.next_due-offers.result c.next_due.result c.next_due-segments.ensures c.next_due-offers.ensures c.next_due.ensures
+    rw (← c.self.view_is) (missing_is_due (record { calls = c.self.inside.calls; segments = c.self.inside.segments; offers = c.self.inside.offers; subscriptions = c.self.inside.subscriptions; sessions = c.self.inside.sessions; receivers = c.self.inside.receivers; events = c.self.inside.events; watched = c.self.inside.watched }) c.args.now c.next_due-segments.result c.next_due-offers.result c.next_due.result c.next_due-segments.ensures c.next_due-offers.ensures c.next_due.ensures
     c.earlier.result c.earlier-next.result c.soonest-at.result c.earlier.ensures c.earlier-next.ensures c.soonest-at.ensures
     c.in_default.ensures.none there first_is c.in_ok-due.field-0 c.in_ok-due.ensures.waits c.in_ok-due.ensures.first)
 
@@ -57,7 +57,7 @@ pub returns-then-is_at-clause-first : goal.returns-then-is_at-clause-first
 returns-then-is_at-clause-first g c =
     let there : is_awaited c.soonest-at.result c.earlier-next.result ≡ true = search rules in
     let first_is : is_awaited c.soonest-at.result c.next_due-segments.result ≡ true = search rules in
-    rw (← c.self.view_is) (missing_first (record { calls = c.self.inside.calls; segments = c.self.inside.segments; offers = c.self.inside.offers; subscriptions = c.self.inside.subscriptions; sessions = c.self.inside.sessions; receivers = c.self.inside.receivers }) c.args.now c.next_due-segments.result c.next_due-offers.result c.next_due.result c.next_due-segments.ensures c.next_due-offers.ensures c.next_due.ensures
+    rw (← c.self.view_is) (missing_first (record { calls = c.self.inside.calls; segments = c.self.inside.segments; offers = c.self.inside.offers; subscriptions = c.self.inside.subscriptions; sessions = c.self.inside.sessions; receivers = c.self.inside.receivers; events = c.self.inside.events; watched = c.self.inside.watched }) c.args.now c.next_due-segments.result c.next_due-offers.result c.next_due.result c.next_due-segments.ensures c.next_due-offers.ensures c.next_due.ensures
     c.earlier.result c.earlier-next.result c.soonest-at.result c.earlier.ensures c.earlier-next.ensures c.soonest-at.ensures
     c.in_default.ensures.none there first_is c.in_ok-due.field-0 c.in_ok-due.ensures.waits c.in_ok-due.ensures.first)
 
@@ -65,7 +65,7 @@ pub returns-then-is_at-clause-after : goal.returns-then-is_at-clause-after
 returns-then-is_at-clause-after g c =
     let there : is_awaited c.soonest-at.result c.earlier-next.result ≡ true = search rules in
     let first_is : is_awaited c.soonest-at.result c.next_due-segments.result ≡ true = search rules in
-    rw (← c.self.view_is) (missing_after (record { calls = c.self.inside.calls; segments = c.self.inside.segments; offers = c.self.inside.offers; subscriptions = c.self.inside.subscriptions; sessions = c.self.inside.sessions; receivers = c.self.inside.receivers }) c.args.now c.next_due-segments.result c.next_due-offers.result c.next_due.result c.next_due-segments.ensures c.next_due-offers.ensures c.next_due.ensures
+    rw (← c.self.view_is) (missing_after (record { calls = c.self.inside.calls; segments = c.self.inside.segments; offers = c.self.inside.offers; subscriptions = c.self.inside.subscriptions; sessions = c.self.inside.sessions; receivers = c.self.inside.receivers; events = c.self.inside.events; watched = c.self.inside.watched }) c.args.now c.next_due-segments.result c.next_due-offers.result c.next_due.result c.next_due-segments.ensures c.next_due-offers.ensures c.next_due.ensures
     c.earlier.result c.earlier-next.result c.soonest-at.result c.earlier.ensures c.earlier-next.ensures c.soonest-at.ensures
     c.in_default.ensures.none there first_is c.in_ok-due.field-0 c.in_ok-due.ensures.waits c.in_ok-due.ensures.first c.due.new.self c.due-then-is_at.new.self c.in_default.ensures.after c.in_ok-due.ensures.after)
 
@@ -74,7 +74,7 @@ returns-in_err-due-2-clause-none g c =
     let there : is_awaited c.soonest-at.result c.earlier-next.result ≡ true = search rules in
     let not_seg : is_awaited c.soonest-at.result c.next_due-segments.result ≡ false = search rules in
     let first_is : is_awaited c.soonest-at.result c.next_due-offers.result ≡ true = search rules in
-    absurd (no_expired (record { calls = c.self.inside.calls; segments = c.self.inside.segments; offers = c.self.inside.offers; subscriptions = c.self.inside.subscriptions; sessions = c.self.inside.sessions; receivers = c.self.inside.receivers }) c.args.now c.next_due-segments.result c.next_due-offers.result c.next_due.result c.next_due-segments.ensures c.next_due-offers.ensures c.next_due.ensures
+    absurd (no_expired (record { calls = c.self.inside.calls; segments = c.self.inside.segments; offers = c.self.inside.offers; subscriptions = c.self.inside.subscriptions; sessions = c.self.inside.sessions; receivers = c.self.inside.receivers; events = c.self.inside.events; watched = c.self.inside.watched }) c.args.now c.next_due-segments.result c.next_due-offers.result c.next_due.result c.next_due-segments.ensures c.next_due-offers.ensures c.next_due.ensures
     c.earlier.result c.earlier-next.result c.soonest-at.result c.earlier.ensures c.earlier-next.ensures c.soonest-at.ensures
     c.in_default.ensures.none there not_seg first_is c.in_err-due-2.ensures.told)
 
@@ -83,7 +83,7 @@ returns-in_err-due-2-clause-after g c =
     let there : is_awaited c.soonest-at.result c.earlier-next.result ≡ true = search rules in
     let not_seg : is_awaited c.soonest-at.result c.next_due-segments.result ≡ false = search rules in
     let first_is : is_awaited c.soonest-at.result c.next_due-offers.result ≡ true = search rules in
-    absurd (no_expired (record { calls = c.self.inside.calls; segments = c.self.inside.segments; offers = c.self.inside.offers; subscriptions = c.self.inside.subscriptions; sessions = c.self.inside.sessions; receivers = c.self.inside.receivers }) c.args.now c.next_due-segments.result c.next_due-offers.result c.next_due.result c.next_due-segments.ensures c.next_due-offers.ensures c.next_due.ensures
+    absurd (no_expired (record { calls = c.self.inside.calls; segments = c.self.inside.segments; offers = c.self.inside.offers; subscriptions = c.self.inside.subscriptions; sessions = c.self.inside.sessions; receivers = c.self.inside.receivers; events = c.self.inside.events; watched = c.self.inside.watched }) c.args.now c.next_due-segments.result c.next_due-offers.result c.next_due.result c.next_due-segments.ensures c.next_due-offers.ensures c.next_due.ensures
     c.earlier.result c.earlier-next.result c.soonest-at.result c.earlier.ensures c.earlier-next.ensures c.soonest-at.ensures
     c.in_default.ensures.none there not_seg first_is c.in_err-due-2.ensures.told)
 
@@ -92,7 +92,7 @@ returns-then-is_at-2-clause-due g c =
     let there : is_awaited c.soonest-at.result c.earlier-next.result ≡ true = search rules in
     let not_seg : is_awaited c.soonest-at.result c.next_due-segments.result ≡ false = search rules in
     let first_is : is_awaited c.soonest-at.result c.next_due-offers.result ≡ true = search rules in
-    rw (← c.self.view_is) (expired_is_due (record { calls = c.self.inside.calls; segments = c.self.inside.segments; offers = c.self.inside.offers; subscriptions = c.self.inside.subscriptions; sessions = c.self.inside.sessions; receivers = c.self.inside.receivers }) c.args.now c.next_due-segments.result c.next_due-offers.result c.next_due.result c.next_due-segments.ensures c.next_due-offers.ensures c.next_due.ensures
+    rw (← c.self.view_is) (expired_is_due (record { calls = c.self.inside.calls; segments = c.self.inside.segments; offers = c.self.inside.offers; subscriptions = c.self.inside.subscriptions; sessions = c.self.inside.sessions; receivers = c.self.inside.receivers; events = c.self.inside.events; watched = c.self.inside.watched }) c.args.now c.next_due-segments.result c.next_due-offers.result c.next_due.result c.next_due-segments.ensures c.next_due-offers.ensures c.next_due.ensures
     c.earlier.result c.earlier-next.result c.soonest-at.result c.earlier.ensures c.earlier-next.ensures c.soonest-at.ensures
     c.in_default.ensures.none there not_seg first_is c.in_ok-due-2.field-0 c.in_ok-due-2.ensures.told)
 
@@ -101,7 +101,7 @@ returns-then-is_at-2-clause-first g c =
     let there : is_awaited c.soonest-at.result c.earlier-next.result ≡ true = search rules in
     let not_seg : is_awaited c.soonest-at.result c.next_due-segments.result ≡ false = search rules in
     let first_is : is_awaited c.soonest-at.result c.next_due-offers.result ≡ true = search rules in
-    rw (← c.self.view_is) (expired_first (record { calls = c.self.inside.calls; segments = c.self.inside.segments; offers = c.self.inside.offers; subscriptions = c.self.inside.subscriptions; sessions = c.self.inside.sessions; receivers = c.self.inside.receivers }) c.args.now c.next_due-segments.result c.next_due-offers.result c.next_due.result c.next_due-segments.ensures c.next_due-offers.ensures c.next_due.ensures
+    rw (← c.self.view_is) (expired_first (record { calls = c.self.inside.calls; segments = c.self.inside.segments; offers = c.self.inside.offers; subscriptions = c.self.inside.subscriptions; sessions = c.self.inside.sessions; receivers = c.self.inside.receivers; events = c.self.inside.events; watched = c.self.inside.watched }) c.args.now c.next_due-segments.result c.next_due-offers.result c.next_due.result c.next_due-segments.ensures c.next_due-offers.ensures c.next_due.ensures
     c.earlier.result c.earlier-next.result c.soonest-at.result c.earlier.ensures c.earlier-next.ensures c.soonest-at.ensures
     c.in_default.ensures.none there not_seg first_is c.in_ok-due-2.field-0 c.in_ok-due-2.ensures.told)
 
@@ -110,7 +110,7 @@ returns-then-is_at-2-clause-after g c =
     let there : is_awaited c.soonest-at.result c.earlier-next.result ≡ true = search rules in
     let not_seg : is_awaited c.soonest-at.result c.next_due-segments.result ≡ false = search rules in
     let first_is : is_awaited c.soonest-at.result c.next_due-offers.result ≡ true = search rules in
-    rw (← c.self.view_is) (expired_after (record { calls = c.self.inside.calls; segments = c.self.inside.segments; offers = c.self.inside.offers; subscriptions = c.self.inside.subscriptions; sessions = c.self.inside.sessions; receivers = c.self.inside.receivers }) c.args.now c.next_due-segments.result c.next_due-offers.result c.next_due.result c.next_due-segments.ensures c.next_due-offers.ensures c.next_due.ensures
+    rw (← c.self.view_is) (expired_after (record { calls = c.self.inside.calls; segments = c.self.inside.segments; offers = c.self.inside.offers; subscriptions = c.self.inside.subscriptions; sessions = c.self.inside.sessions; receivers = c.self.inside.receivers; events = c.self.inside.events; watched = c.self.inside.watched }) c.args.now c.next_due-segments.result c.next_due-offers.result c.next_due.result c.next_due-segments.ensures c.next_due-offers.ensures c.next_due.ensures
     c.earlier.result c.earlier-next.result c.soonest-at.result c.earlier.ensures c.earlier-next.ensures c.soonest-at.ensures
     c.in_default.ensures.none there not_seg first_is c.in_ok-due-2.field-0 c.in_ok-due-2.ensures.told c.due.new.self c.due-then-is_at-2.new.self c.in_default.ensures.after c.in_ok-due-2.ensures.after)
 
@@ -119,7 +119,7 @@ returns-in_err-due-3-clause-none g c =
     let there : is_awaited c.soonest-at.result c.earlier-next.result ≡ true = search rules in
     let not_seg : is_awaited c.soonest-at.result c.next_due-segments.result ≡ false = search rules in
     let not_off : is_awaited c.soonest-at.result c.next_due-offers.result ≡ false = search rules in
-    absurd (no_asked (record { calls = c.self.inside.calls; segments = c.self.inside.segments; offers = c.self.inside.offers; subscriptions = c.self.inside.subscriptions; sessions = c.self.inside.sessions; receivers = c.self.inside.receivers }) c.args.now c.next_due-segments.result c.next_due-offers.result c.next_due.result c.next_due-segments.ensures c.next_due-offers.ensures c.next_due.ensures
+    absurd (no_asked (record { calls = c.self.inside.calls; segments = c.self.inside.segments; offers = c.self.inside.offers; subscriptions = c.self.inside.subscriptions; sessions = c.self.inside.sessions; receivers = c.self.inside.receivers; events = c.self.inside.events; watched = c.self.inside.watched }) c.args.now c.next_due-segments.result c.next_due-offers.result c.next_due.result c.next_due-segments.ensures c.next_due-offers.ensures c.next_due.ensures
     c.earlier.result c.earlier-next.result c.soonest-at.result c.earlier.ensures c.earlier-next.ensures c.soonest-at.ensures
     c.in_default.ensures.none there not_seg not_off c.in_err-due-3.ensures.told)
 
@@ -128,7 +128,7 @@ returns-in_err-due-3-clause-after g c =
     let there : is_awaited c.soonest-at.result c.earlier-next.result ≡ true = search rules in
     let not_seg : is_awaited c.soonest-at.result c.next_due-segments.result ≡ false = search rules in
     let not_off : is_awaited c.soonest-at.result c.next_due-offers.result ≡ false = search rules in
-    absurd (no_asked (record { calls = c.self.inside.calls; segments = c.self.inside.segments; offers = c.self.inside.offers; subscriptions = c.self.inside.subscriptions; sessions = c.self.inside.sessions; receivers = c.self.inside.receivers }) c.args.now c.next_due-segments.result c.next_due-offers.result c.next_due.result c.next_due-segments.ensures c.next_due-offers.ensures c.next_due.ensures
+    absurd (no_asked (record { calls = c.self.inside.calls; segments = c.self.inside.segments; offers = c.self.inside.offers; subscriptions = c.self.inside.subscriptions; sessions = c.self.inside.sessions; receivers = c.self.inside.receivers; events = c.self.inside.events; watched = c.self.inside.watched }) c.args.now c.next_due-segments.result c.next_due-offers.result c.next_due.result c.next_due-segments.ensures c.next_due-offers.ensures c.next_due.ensures
     c.earlier.result c.earlier-next.result c.soonest-at.result c.earlier.ensures c.earlier-next.ensures c.soonest-at.ensures
     c.in_default.ensures.none there not_seg not_off c.in_err-due-3.ensures.told)
 
@@ -137,7 +137,7 @@ returns-clause-due g c =
     let there : is_awaited c.soonest-at.result c.earlier-next.result ≡ true = search rules in
     let not_seg : is_awaited c.soonest-at.result c.next_due-segments.result ≡ false = search rules in
     let not_off : is_awaited c.soonest-at.result c.next_due-offers.result ≡ false = search rules in
-    rw (← c.self.view_is) (asked_is_due (record { calls = c.self.inside.calls; segments = c.self.inside.segments; offers = c.self.inside.offers; subscriptions = c.self.inside.subscriptions; sessions = c.self.inside.sessions; receivers = c.self.inside.receivers }) c.args.now c.next_due-segments.result c.next_due-offers.result c.next_due.result c.next_due-segments.ensures c.next_due-offers.ensures c.next_due.ensures
+    rw (← c.self.view_is) (asked_is_due (record { calls = c.self.inside.calls; segments = c.self.inside.segments; offers = c.self.inside.offers; subscriptions = c.self.inside.subscriptions; sessions = c.self.inside.sessions; receivers = c.self.inside.receivers; events = c.self.inside.events; watched = c.self.inside.watched }) c.args.now c.next_due-segments.result c.next_due-offers.result c.next_due.result c.next_due-segments.ensures c.next_due-offers.ensures c.next_due.ensures
     c.earlier.result c.earlier-next.result c.soonest-at.result c.earlier.ensures c.earlier-next.ensures c.soonest-at.ensures
     c.in_default.ensures.none there not_seg not_off c.in_ok-due-3.field-0 c.in_ok-due-3.ensures.told)
 
@@ -146,7 +146,7 @@ returns-clause-first g c =
     let there : is_awaited c.soonest-at.result c.earlier-next.result ≡ true = search rules in
     let not_seg : is_awaited c.soonest-at.result c.next_due-segments.result ≡ false = search rules in
     let not_off : is_awaited c.soonest-at.result c.next_due-offers.result ≡ false = search rules in
-    rw (← c.self.view_is) (asked_first (record { calls = c.self.inside.calls; segments = c.self.inside.segments; offers = c.self.inside.offers; subscriptions = c.self.inside.subscriptions; sessions = c.self.inside.sessions; receivers = c.self.inside.receivers }) c.args.now c.next_due-segments.result c.next_due-offers.result c.next_due.result c.next_due-segments.ensures c.next_due-offers.ensures c.next_due.ensures
+    rw (← c.self.view_is) (asked_first (record { calls = c.self.inside.calls; segments = c.self.inside.segments; offers = c.self.inside.offers; subscriptions = c.self.inside.subscriptions; sessions = c.self.inside.sessions; receivers = c.self.inside.receivers; events = c.self.inside.events; watched = c.self.inside.watched }) c.args.now c.next_due-segments.result c.next_due-offers.result c.next_due.result c.next_due-segments.ensures c.next_due-offers.ensures c.next_due.ensures
     c.earlier.result c.earlier-next.result c.soonest-at.result c.earlier.ensures c.earlier-next.ensures c.soonest-at.ensures
     c.in_default.ensures.none there not_seg not_off c.in_ok-due-3.field-0 c.in_ok-due-3.ensures.told)
 
@@ -155,6 +155,6 @@ returns-clause-after g c =
     let there : is_awaited c.soonest-at.result c.earlier-next.result ≡ true = search rules in
     let not_seg : is_awaited c.soonest-at.result c.next_due-segments.result ≡ false = search rules in
     let not_off : is_awaited c.soonest-at.result c.next_due-offers.result ≡ false = search rules in
-    rw (← c.self.view_is) (asked_after (record { calls = c.self.inside.calls; segments = c.self.inside.segments; offers = c.self.inside.offers; subscriptions = c.self.inside.subscriptions; sessions = c.self.inside.sessions; receivers = c.self.inside.receivers }) c.args.now c.next_due-segments.result c.next_due-offers.result c.next_due.result c.next_due-segments.ensures c.next_due-offers.ensures c.next_due.ensures
+    rw (← c.self.view_is) (asked_after (record { calls = c.self.inside.calls; segments = c.self.inside.segments; offers = c.self.inside.offers; subscriptions = c.self.inside.subscriptions; sessions = c.self.inside.sessions; receivers = c.self.inside.receivers; events = c.self.inside.events; watched = c.self.inside.watched }) c.args.now c.next_due-segments.result c.next_due-offers.result c.next_due.result c.next_due-segments.ensures c.next_due-offers.ensures c.next_due.ensures
     c.earlier.result c.earlier-next.result c.soonest-at.result c.earlier.ensures c.earlier-next.ensures c.soonest-at.ensures
     c.in_default.ensures.none there not_seg not_off c.in_ok-due-3.field-0 c.in_ok-due-3.ensures.told c.due.new.self c.due-2.new.self c.in_default.ensures.after c.in_ok-due-3.ensures.after)

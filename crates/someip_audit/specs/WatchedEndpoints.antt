@@ -1,0 +1,80 @@
+-- At which ports and endpoints datagrams are looked at.
+use Rattle.std.specs.Prelude.{ℕ, ◌==◌, nat_lt, Bool, true, false, ◌||◌, if◌then◌else◌, List, Option, None, Some, is_some, refl}
+use Rattle.std.specs.List.{list_any}
+use Rattle.std.specs.Coded.{Coded, code_by, coded×, coded_ℕ, coded_bool, coded_list, coded_option}
+use base.Stored.{coded_unit}
+use Rattle.std.specs.FinMap as finite
+use Rattle.std.specs.FinMap.{FinMap}
+use Rattle.std.specs.declared.net.socket_addr.SocketAddrV4.{SocketAddrV4}
+use Rattle.std.specs.Net.Socket.{v4_port}
+use Rattle.someip_tables.specs.Endpoints.{coded_endpoint, endpoint_cmp}
+use Rattle.audit_tables.specs.declared.origin.Origin.{Origin}
+use Rattle.someip_audit.specs.declared.finding.Finding.{Finding}
+use Rattle.someip_audit.specs.declared.finding.Finding.TheVariants.{EndpointsFull}
+
+-- the endpoints that were learnt
+abbrev pub Learnt : Type 0
+Learnt = FinMap endpoint_cmp (Unit {0})
+
+-- the ports that are looked at, if these are named; else the endpoints that were learnt, how many may be, and whether it was told
+-- that no more may
+pub record Watch : Type 0 where
+  pub ports : Option (List ℕ)
+  pub limit : ℕ
+  pub learnt : Learnt
+  pub told_full : Bool
+
+-- ---- which datagrams are looked at
+
+-- a datagram comes from or goes to the port of Service Discovery
+abbrev pub is_at_discovery : Origin → Bool
+is_at_discovery origin = v4_port origin.from == 30490 || v4_port origin.to == 30490
+
+-- from or to one of these ports
+abbrev pub is_at_ports : List ℕ → Origin → Bool
+is_at_ports ports origin = list_any (λ port. port == v4_port origin.from) ports || list_any (λ port. port == v4_port origin.to) ports
+
+-- from or to an endpoint that was learnt
+abbrev pub is_at_learnt : Learnt → Origin → Bool
+is_at_learnt learnt origin = is_some (finite.get learnt origin.from) || is_some (finite.get learnt origin.to)
+
+-- by the ports where these are named, and else by the endpoints
+abbrev pub is_asked : Option (List ℕ) → Learnt → Origin → Bool
+is_asked None learnt origin = is_at_learnt learnt origin
+is_asked (Some ports) learnt origin = is_at_ports ports origin
+
+-- a datagram is looked at
+abbrev pub is_looked_at : Watch → Origin → Bool
+is_looked_at watched origin = is_at_discovery origin || is_asked watched.ports watched.learnt origin
+
+-- ---- what is learnt
+
+-- an endpoint is passed over: ports are named, or it was learnt before
+abbrev pub is_passed_over : SocketAddrV4 → Watch → Bool
+is_passed_over endpoint watched = is_some watched.ports || is_some (finite.get watched.learnt endpoint)
+
+-- that no more may be learnt is told once
+abbrev pub told_when_full : Bool → Option Finding
+told_when_full true = None
+told_when_full false = Some EndpointsFull
+
+-- what is told of an endpoint that an entry names
+abbrev pub told_of_endpoint : SocketAddrV4 → Watch → Option Finding
+told_of_endpoint endpoint watched =
+    if is_passed_over endpoint watched then None
+    else if nat_lt (finite.len watched.learnt) watched.limit then None else told_when_full watched.told_full
+
+-- it is learnt, where one more may be
+abbrev pub once_named : SocketAddrV4 → Watch → Watch
+once_named endpoint watched =
+    if is_passed_over endpoint watched then watched
+    else if nat_lt (finite.len watched.learnt) watched.limit then record watched { learnt = finite.insert watched.learnt endpoint tt }
+    else record watched { told_full = true }
+
+-- ---- codes, by which a proof tells values apart
+
+abbrev pub coded_watch : Coded Watch
+coded_watch =
+    code_by (Option (List ℕ) × (ℕ × (Learnt × Bool)))
+    (coded× (coded_option (coded_list coded_ℕ)) (coded× coded_ℕ (coded× (finite.code coded_endpoint coded_unit) coded_bool)))
+    (λ w. (w.ports, (w.limit, (w.learnt, w.told_full)))) (λ c. record { ports = c.0; limit = c.1.0; learnt = c.1.1.0; told_full = c.1.1.1 }) (λ _. refl)

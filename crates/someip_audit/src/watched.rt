@@ -1,0 +1,164 @@
+//! At which ports and endpoints datagrams are looked at.
+ghost use Rattle.std.specs.Prelude.{◌≡◌, IfOk, OnErr, is_some, nat_lt, true, false, option_map};
+ghost use Rattle.std.specs.FinMap as finite;
+ghost use Rattle.someip_tables.specs.Endpoints.{endpoint_cmp};
+ghost use Rattle.someip_tables.specs.Tables.{map_of};
+ghost use Rattle.someip_audit.specs.WatchedEndpoints.{is_asked, is_at_discovery, is_looked_at};
+ghost use Rattle.someip_audit.specs.WatchedEndpoints.{is_passed_over, once_named, told_of_endpoint};
+ghost use Rattle.someip_audit.specs.WatchedEndpoints.{told_when_full};
+
+use crate::finding::Finding;
+use audit_tables::Origin;
+use std::alloc::{AllocError, Global};
+use std::collections::BTreeMap;
+use std::marker::Model;
+use std::net::SocketAddrV4;
+
+/// The port of Service Discovery.
+const DISCOVERY_PORT: u16 = 30490;
+
+/// The endpoints that were learnt.
+type Learnt = BTreeMap<SocketAddrV4, ()>;
+
+/// At which ports and endpoints datagrams are looked at beside the port of Service Discovery: at these
+/// ports, where they are named, and else at the endpoints that were learnt.
+#[derive(Drop)]
+pub(crate) struct Watched {
+    ports: Option<Vec<u16>>,
+    limit: usize,
+    learnt: Learnt,
+    told_full: bool,
+}
+
+impl Model for Watched {
+    ghost use Rattle.std.specs.Prelude.{option_map};
+    ghost use Rattle.someip_tables.specs.Endpoints.{endpoint_cmp};
+    ghost use Rattle.someip_tables.specs.Tables.{map_of};
+    ghost use Rattle.someip_audit.specs.WatchedEndpoints.{Watch, coded_watch};
+
+    ghost Value = { Watch };
+
+    ghost coded = { coded_watch };
+
+    ghost view = { λ w. record {
+      ports = option_map (λ ports. ports.items) w.ports;
+      limit = w.limit;
+      learnt = map_of endpoint_cmp w.learnt.entries;
+      told_full = w.told_full;
+    } };
+}
+
+impl Watched {
+    /// Before anything was learnt.
+    pub(crate) fn new(
+        alloc: Global,
+        ports: Option<&[u16]>,
+        limit: usize,
+    ) -> Result<Watched, AllocError>
+        ensures { IfOk result (λ watched. watched ≡ record {
+          ports = option_map (λ ports. ports.now) ports.entry;
+          limit = limit;
+          learnt = finite.empty;
+          told_full = false;
+        }) }
+    {
+        let ports = match ports {
+            Some(ports) => Some(ports.to_vec(alloc)?),
+            None => None,
+        };
+        Ok(Watched {
+            ports,
+            limit,
+            learnt: BTreeMap::new(alloc),
+            told_full: false,
+        })
+    }
+
+    /// Whether a datagram is looked at.
+    pub(crate) fn looks_at(&self, origin: &Origin) -> bool
+        ensures { result ≡ is_looked_at self.now origin.now }
+    {
+        is_at_discovery(origin) || self.is_asked(origin)
+    }
+
+    /// Whether it is by the ports, or by the endpoints.
+    fn is_asked(&self, origin: &Origin) -> bool
+        ensures { result ≡ is_asked self.now.ports self.now.learnt origin.now }
+    {
+        match &self.ports {
+            Some(ports) => {
+                ports.contains(&origin.from.port()) || ports.contains(&origin.to.port())
+            }
+            None => knows(&self.learnt, &origin.from) || knows(&self.learnt, &origin.to),
+        }
+    }
+
+    /// Learns an endpoint that an Offer or a Subscribe names, or says once that no more may be learnt.
+    pub(crate) fn learn(&mut self, endpoint: SocketAddrV4) -> Result<Option<Finding>, AllocError>
+        ensures told { IfOk result (λ told. told ≡ told_of_endpoint endpoint self.old) }
+        ensures after { IfOk result (λ told. self.new ≡ once_named endpoint self.old) }
+        ensures err { OnErr result (self.new ≡ self.old) }
+    {
+        if self.passes_over(&endpoint) {
+            return Ok(None);
+        }
+        if !has_room(&self.learnt, self.limit) {
+            return Ok(self.tell_full());
+        }
+        put(&mut self.learnt, endpoint)?;
+        Ok(None)
+    }
+
+    /// Whether an endpoint is passed over.
+    fn passes_over(&self, endpoint: &SocketAddrV4) -> bool
+        ensures { result ≡ is_passed_over endpoint.now self.now }
+    {
+        self.ports.is_some() || knows(&self.learnt, endpoint)
+    }
+
+    /// Says that no more may be learnt, once.
+    fn tell_full(&mut self) -> Option<Finding>
+        ensures told { result ≡ told_when_full self.old.told_full }
+        ensures after { self.new ≡ record self.old { told_full = true } }
+    {
+        if self.told_full {
+            return None;
+        }
+        self.told_full = true;
+        Some(Finding::EndpointsFull)
+    }
+}
+
+/// Whether an endpoint was learnt.
+fn knows(learnt: &Learnt, endpoint: &SocketAddrV4) -> bool
+    ensures { result ≡ is_some (finite.get (map_of endpoint_cmp learnt.now.entries) endpoint.now) }
+{
+    learnt.contains_key(endpoint)
+}
+
+/// Whether there is room for one more.
+fn has_room(learnt: &Learnt, limit: usize) -> bool
+    ensures { result ≡ nat_lt (finite.len (map_of endpoint_cmp learnt.now.entries)) limit }
+{
+    learnt.len() < limit
+}
+
+/// Puts an endpoint to those that were learnt.
+fn put(learnt: &mut Learnt, endpoint: SocketAddrV4) -> Result<(), AllocError>
+    ensures after { IfOk result (λ _. map_of endpoint_cmp learnt.new.entries
+        ≡ finite.insert (map_of endpoint_cmp learnt.old.entries) endpoint tt) }
+    ensures err { OnErr result
+        (map_of endpoint_cmp learnt.new.entries ≡ map_of endpoint_cmp learnt.old.entries) }
+{
+    match learnt.insert(endpoint, ()) {
+        Ok(_) => Ok(()),
+        Err(_) => Err(AllocError),
+    }
+}
+
+/// Whether a datagram comes from or goes to the port of Service Discovery.
+pub(crate) fn is_at_discovery(origin: &Origin) -> bool
+    ensures { result ≡ is_at_discovery origin.now }
+{
+    origin.from.port() == DISCOVERY_PORT || origin.to.port() == DISCOVERY_PORT
+}
