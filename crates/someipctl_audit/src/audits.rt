@@ -1,5 +1,5 @@
 //! The command `audit`: what a recording of network traffic shows against the protocol.
-ghost use Rattle.std.specs.Prelude.{◌≡◌, ◌<◌, ◌+◌, ◌^◌, [], IfOk, List, None, OnErr, OnOk};
+ghost use Rattle.std.specs.Prelude.{◌≡◌, ◌<◌, ◌+◌, ◌^◌, [], IfOk, List, None, OnErr, OnOk, Some};
 ghost use Rattle.recording.specs.View.{view_datagram, view_record};
 ghost use Rattle.someip_audit.specs.Audits.{Report};
 ghost use Rattle.someipctl_recordings.specs.LeftOut.{nothing_left_out, total};
@@ -209,13 +209,34 @@ fn put_next<S: Reassembly + Drop, W: Write>(
         (W.contents writer.old) buffer.old (W.contents writer.new)) }
 {
     let alloc = auditing.alloc;
-    if let Some(audit) = &mut auditing.audit {
-        return put_seen(buffer, writer, alloc, audit, seen, &mut auditing.findings, tally);
+    let findings = &mut auditing.findings;
+    match &mut auditing.audit {
+        Some(audit) => put_seen(buffer, writer, alloc, audit, seen, findings, tally),
+        audit => {
+            *audit = Some(begun_with(buffer, writer, asked, seen, alloc, findings, tally)?);
+            Ok(())
+        }
     }
+}
+
+/// Begins an audit with a datagram, and prints what is told of it.
+fn begun_with<S: Reassembly + Drop, W: Write>(
+    buffer: &mut Buffer,
+    writer: &mut W,
+    asked: &AuditAsked<'_>,
+    seen: &SeenDatagram<'_>,
+    alloc: Global,
+    findings: &mut Vec<Finding>,
+    tally: &mut Tally,
+) -> Result<Audit<S>, RecordingFault>
+    ensures puts { IfOk result (λ audit. PutsNext (view_asked asked.now) seen.entry.now None (Some audit)
+        tally.old tally.new (W.contents writer.old) buffer.old (W.contents writer.new) buffer.new) }
+    ensures stops { OnErr result (StopsNext (view_asked asked.now) seen.entry.now None
+        (W.contents writer.old) buffer.old (W.contents writer.new)) }
+{
     let mut audit = Audit::begin(alloc, &asked.rules, asked.ports, seen.now)?;
-    put_seen(buffer, writer, alloc, &mut audit, seen, &mut auditing.findings, tally)?;
-    auditing.audit = Some(audit);
-    Ok(())
+    put_seen(buffer, writer, alloc, &mut audit, seen, findings, tally)?;
+    Ok(audit)
 }
 
 /// Prints what fell due by the last moment, and the summary.
