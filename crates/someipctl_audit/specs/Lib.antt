@@ -7,3 +7,4 @@ pub mod AuditResult
 pub mod Steps
 pub mod Scenes
 pub mod Runs
+pub mod Times

@@ -9,7 +9,9 @@ mod lines;
 mod says;
 mod summary;
 mod tally;
+mod times;
 
 pub use asked::AuditAsked;
 pub use audits::show_audit;
 pub use kind::Kind;
+pub use times::{TimesError, rules_in};
