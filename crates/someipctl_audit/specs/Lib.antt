@@ -8,3 +8,4 @@ pub mod Steps
 pub mod Scenes
 pub mod Runs
 pub mod Times
+pub mod TextScenes

@@ -5,6 +5,7 @@ mod asked;
 mod auditing;
 mod audits;
 mod kind;
+pub mod laws;
 mod lines;
 mod says;
 mod summary;
