@@ -14,6 +14,8 @@ use std::alloc::Global;
 enum Told {
     /// A call has no answer.
     Unanswered,
+    /// Segments of a message are missing.
+    Missing,
     /// The TTL of an offer passed.
     Expired,
     /// A Subscribe has no answer.
@@ -38,8 +40,8 @@ enum Told {
 }
 
 use Told::{
-    EndpointsFull, EntriesLength, Expired, Gap, Late, Nack, NoTpHeader, OfferFull, Other, Reboot,
-    Repeated, SubscribeUnanswered, Truncated, Unanswered, Unsubscribed,
+    EndpointsFull, EntriesLength, Expired, Gap, Late, Missing, Nack, NoTpHeader, OfferFull, Other,
+    Reboot, Repeated, SubscribeUnanswered, Truncated, Unanswered, Unsubscribed,
 };
 
 /// A datagram: at a moment, from a port of a node to a port of a node, with these bytes; what is told
@@ -87,6 +89,12 @@ const RESPONSE_1: &str = "1000000100000009000100010101800002";
 const REQUEST_2: &str = "1000000100000009000100020101000001";
 
 const RESPONSE_2: &str = "1000000100000009000100020101800002";
+/// A REQUEST with session 3 in two segments, of 16 bytes and of one.
+const SEGMENT_3: &str = "100000010000001c000100030101200000000001000102030405060708090a0b0c0d0e0f";
+
+const LAST_SEGMENT_3: &str = "100000010000000d0001000301012000000000102a";
+/// The first segment of one with session 4.
+const SEGMENT_4: &str = "100000010000001c000100040101200000000001000102030405060708090a0b0c0d0e0f";
 /// An Offer, and after its 56 bytes the first 7 of another message.
 const CUT_OFFER: &str =
     "ffff8100000000300000000101010200c000000000000010010000101000000101000003000000000000000c00090400c0a800090011772dffff8100000000";
@@ -145,6 +153,17 @@ const CALLS: &[Row] = &[
     Row(1700, (9, 30509), (1, 40000), RESPONSE_2, &[Late], Some(1)),
     Row(1800, (9, 30490), (0, 30490), SECOND_OFFER, &[], Some(1)),
     Row(1900, (9, 30510), (1, 40000), EVENT_1, &[], None),
+    Row(2000, (1, 40000), (9, 30509), SEGMENT_3, &[], Some(1)),
+    Row(2010, (1, 40000), (9, 30509), LAST_SEGMENT_3, &[], Some(1)),
+    Row(2020, (1, 40000), (9, 30509), SEGMENT_4, &[], Some(1)),
+    Row(
+        3500,
+        (2, 50000),
+        (3, 50001),
+        "",
+        &[Unanswered, Missing],
+        None,
+    ),
 ];
 
 /// Faults, with their places.
@@ -201,7 +220,7 @@ const CROWDED: &[Row] = &[
 fn told_of_due(fell: &FellDue) -> Told {
     match fell {
         FellDue::Unanswered(_) => Unanswered,
-        FellDue::Missing(_) => Other,
+        FellDue::Missing(_) => Missing,
         FellDue::Expired(_) => Expired,
         FellDue::SubscribeUnanswered(_) => SubscribeUnanswered,
     }
