@@ -233,7 +233,7 @@ fn told_of(finding: &Finding) -> Told {
         Finding::Subscription(_, audit_subscriptions::Finding::Nack) => Nack,
         Finding::Call(_, CallFinding::Late(1400)) => Late,
         Finding::Event(_, audit_receivers::Finding::Unsubscribed) => Unsubscribed,
-        Finding::EventSession(_, shown) => told_of_event(shown),
+        Finding::EventSession(_, _, shown) => told_of_event(shown),
         Finding::NoTpHeader(16) => NoTpHeader,
         Finding::Malformed(WireError::Truncated(63)) => Truncated,
         Finding::MalformedSd(SdError::EntriesLength(20)) => EntriesLength,

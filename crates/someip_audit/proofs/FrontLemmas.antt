@@ -191,7 +191,7 @@ flow_front origin header work = cases (has_type_event header.kind)
         (if b
         then record {
           held = record work.held { events = events.after_event (event_seen origin header) work.held.events };
-          told = with_told (option_map (findings.EventSession (event_flow origin header)) (events.told_by (event_seen origin header) work.held.events)) work.told;
+          told = with_told (option_map (findings.EventSession (event_flow origin header) header.session) (events.told_by (event_seen origin header) work.held.events)) work.told;
         }
         else work).told
     cases true = front_told _ work.told

@@ -74,7 +74,7 @@ flow_shown origin header work =
     if has_type_event header.kind
     then record {
       held = record work.held { events = events.after_event (event_seen origin header) work.held.events };
-      told = with_told (option_map (findings.EventSession (event_flow origin header)) (events.told_by (event_seen origin header) work.held.events)) work.told;
+      told = with_told (option_map (findings.EventSession (event_flow origin header) header.session) (events.told_by (event_seen origin header) work.held.events)) work.told;
     }
     else work
 

@@ -24,8 +24,8 @@ pub enum Finding {
     Call(Header, CallFinding),
     /// An event to one endpoint, as to who is subscribed.
     Event(Delivery, audit_receivers::Finding),
-    /// An event of this flow, to one endpoint or to a group, by its session.
-    EventSession(EventFlow, audit_events::Finding),
+    /// An event of this flow, to one endpoint or to a group, with this session, by this.
+    EventSession(EventFlow, u16, audit_events::Finding),
     /// A segment with this header that reassembly refuses.
     Segment(Header, TpError),
     /// A segment whose payload, which begins at this place, has no room for its TP header.

@@ -187,7 +187,7 @@ impl<S: Reassembly> Books<S> {
             session: header.session,
         };
         match self.events.saw(seen)? {
-            Some(shown) => tell(findings, Finding::EventSession(flow, shown)),
+            Some(shown) => tell(findings, Finding::EventSession(flow, header.session, shown)),
             None => Ok(()),
         }
     }

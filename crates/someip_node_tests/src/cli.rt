@@ -75,7 +75,7 @@ fn failures_of_runs_and_recordings_have_texts_and_statuses(rt: HostRuntime) {
     assert!(rt; is_told(alloc, bad_recording, "recording: BlockLength at 28", 1));
     let unread = Failure::of_recording(RecordingFault::CannotRead, "x");
     assert!(rt; is_told(alloc, unread, "cannot read x", 4));
-    let ports = Failure::of_ports(PortsError::BadPorts, "0");
+    let ports = Failure::of_ports(PortsError::BadPorts, "0", "recording [OPTIONS] <FILE>");
     let usage =
         "error: invalid value '0' for '--ports <PORTS>': ports are numbers from 1 to 65535 with commas between them\n\nUsage: someipctl recording [OPTIONS] <FILE>";
     assert!(rt; is_told(alloc, ports, usage, 2));

@@ -25,7 +25,7 @@ use Rattle.clap.specs.declared.parser.matches.Found.{Found}
 use Rattle.clap.specs.declared.parser.matches.SubCommand.{SubCommand}
 use Rattle.clap.proofs.WalkLemmas.{first_value-rows}
 use Rattle.clap.proofs.OnLiterals.{clap_on_literals}
-use Rattle.someipctl_cli.specs.CommandLine.{HaveFault, IsLineErrorOf, IsTaken, RefusesWords, cli, is_flag, asked_by_subcommand, asked_by_entered, requested, asked_by_show, show_request, asked_by_payload, asked_by_run, asked_by_vectors, asked_by_recording, asked_by_chart, RecordingRequest, options_found, options_in, recording_options_of}
+use Rattle.someipctl_cli.specs.CommandLine.{HaveFault, IsLineErrorOf, IsTaken, RefusesWords, cli, is_flag, asked_by_subcommand, asked_by_entered, requested, asked_by_show, show_request, asked_by_payload, asked_by_run, asked_by_vectors, asked_by_recording, asked_by_chart, RecordingRequest, options_found, options_in, recording_options_of, AuditRequest, asked_by_audit, audit_options_found, audit_options_in, audit_options_of}
 use Rattle.someipctl_cli.proofs.ClapWalkLemmas.{EntersNoHelp, enters_subcommand, has_value, is_wanted, wanted_value}
 
 -- a command alone, as it is among others
@@ -129,6 +129,16 @@ chart_asks : (s : Shape) → bytes_eq s.name (codes "show") ≡ false → bytes_
 chart_asks s other another third fourth fifth is valued setup schedule name met named words none =
     rw (other, another, third, fourth, fifth, is) (chart_some _ _ (wanted_value s (codes "setup") valued setup words none) (wanted_value s (codes "schedule") valued schedule words none))
 
+audit_some : (file : Option Text) (options : AuditRequest) → is_some file ≡ true → IsSome (asked_by_audit file options)
+audit_some None options some = absurd (true≢false (sym some))
+audit_some (Some file) options some = refl
+
+audit_asks : (s : Shape) → bytes_eq s.name (codes "show") ≡ false → bytes_eq s.name (codes "payload") ≡ false → bytes_eq s.name (codes "vectors") ≡ false
+    → bytes_eq s.name (codes "run") ≡ false → bytes_eq s.name (codes "recording") ≡ false → bytes_eq s.name (codes "chart") ≡ false → bytes_eq s.name (codes "audit") ≡ true
+    → list_all has_value s.rules ≡ true → is_wanted (codes "recording") s ≡ true → Asks s
+audit_asks s other another third fourth fifth sixth is valued file name met named words none =
+    rw (other, another, third, fourth, fifth, sixth, is) (audit_some _ _ (wanted_value s (codes "recording") valued file words none))
+
 -- no other name is that of `help`
 help_asks : (s : Shape) → label_of s ≡ (codes "help", []) → Asks s
 help_asks s is name met named words none = go (bytes_eq (codes "help") name) refl (subst (λ label. answers_to name label ≡ true) is met)
@@ -151,7 +161,10 @@ cli_asks = (
         run_asks _ refl refl refl refl refl refl refl,
         (
           recording_asks _ refl refl refl refl refl refl refl,
-          (chart_asks _ refl refl refl refl refl refl refl refl refl, (help_asks _ refl, tt)),
+          (
+            chart_asks _ refl refl refl refl refl refl refl refl refl,
+            (audit_asks _ refl refl refl refl refl refl refl refl refl, (help_asks _ refl, tt)),
+          ),
         ),
       ),
     ),
@@ -296,3 +309,16 @@ chart_in m name f is other another third fourth fifth chart =
     let there : asked_by_subcommand name (rows_of f) ≡ asked_by_chart (first_of (codes "setup") (rows_of f)) (first_of (codes "schedule") (rows_of f))
     = rw (other, another, third, fourth, fifth, chart) refl in
     ap₂ asked_by_chart (first_value-rows f (codes "setup")) (first_value-rows f (codes "schedule")) ∙ sym there ∙ sym (ap asked_by_entered is)
+
+audit_options_same : (f : Found) → audit_options_found f ≡ audit_options_in (rows_of f)
+audit_options_same f =
+    ap₂ (λ (a b : Option Text). audit_options_of a b (first_value f (codes "settle-ms"))) (first_value-rows f (codes "ports")) (first_value-rows f (codes "answer-ms"))
+    ∙ ap (λ (a : Option Text). audit_options_of (first_of (codes "ports") (rows_of f)) (first_of (codes "answer-ms") (rows_of f)) a) (first_value-rows f (codes "settle-ms"))
+
+pub audit_in : (m : ArgMatches) (name : Text) (f : Found) → subcommand_rows_of m ≡ Some (name, rows_of f) → bytes_eq name (codes "show") ≡ false → bytes_eq name (codes "payload") ≡ false
+    → bytes_eq name (codes "vectors") ≡ false → bytes_eq name (codes "run") ≡ false → bytes_eq name (codes "recording") ≡ false → bytes_eq name (codes "chart") ≡ false → bytes_eq name (codes "audit") ≡ true
+    → asked_by_audit (first_value f (codes "recording")) (audit_options_found f) ≡ asked_by_entered (subcommand_rows_of m)
+audit_in m name f is other another third fourth fifth sixth audit =
+    let there : asked_by_subcommand name (rows_of f) ≡ asked_by_audit (first_of (codes "recording") (rows_of f)) (audit_options_in (rows_of f))
+    = rw (other, another, third, fourth, fifth, sixth, audit) refl in
+    ap₂ asked_by_audit (first_value-rows f (codes "recording")) (audit_options_same f) ∙ sym there ∙ sym (ap asked_by_entered is)

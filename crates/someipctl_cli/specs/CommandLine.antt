@@ -11,7 +11,8 @@ use Rattle.clap.specs.declared.error.ErrorKind.{ErrorKind}
 use Rattle.clap.specs.declared.error.ErrorKind.TheVariants as kind
 use Rattle.clap.specs.declared.builder.ArgAction.TheVariants.{SetTrue}
 use Rattle.someipctl_cli.specs.declared.command.Command.{Command}
-use Rattle.someipctl_cli.specs.declared.command.Command.TheVariants.{Show, Payload, Vectors, Run, Recording, Chart}
+use Rattle.someipctl_cli.specs.declared.command.Command.TheVariants.{Show, Payload, Vectors, Run, Recording, Chart, Audit}
+use Rattle.someipctl_cli.specs.declared.command.AuditOptions.{AuditOptions}
 use Rattle.someipctl_cli.specs.declared.command.RecordingOptions.{RecordingOptions}
 use Rattle.someipctl_cli.specs.declared.command.LineError.{LineError}
 use Rattle.someipctl_cli.specs.declared.command.LineError.TheVariants.{Usage, Help, OutOfMemory}
@@ -70,6 +71,13 @@ recording_usage = (with_rule recording_options (required (codes "file"))).top
 abbrev pub chart_usage : Shape
 chart_usage = (with_inputs (new_app (codes "chart"))).top
 
+-- `audit [--ports PORTS] [--answer-ms N] [--settle-ms N] RECORDING`
+abbrev pub audit_options : App
+audit_options = with_rule (with_rule (with_rule (new_app (codes "audit")) (valued (codes "ports"))) (valued (codes "answer-ms"))) (valued (codes "settle-ms"))
+
+abbrev pub audit_usage : Shape
+audit_usage = (with_rule audit_options (required (codes "recording"))).top
+
 -- the program alone, which asks for a subcommand
 abbrev pub program : App
 program = on_top (λ top. record top { subcommand_required = true }) (new_app (codes "someipctl"))
@@ -84,7 +92,7 @@ with_file_commands = with_subcommand (with_subcommand with_byte_commands vectors
 
 -- the command line
 abbrev pub cli : App
-cli = with_subcommand (with_subcommand with_file_commands recording_usage) chart_usage
+cli = with_subcommand (with_subcommand (with_subcommand with_file_commands recording_usage) chart_usage) audit_usage
 
 -- ---- what words ask for
 
@@ -99,6 +107,12 @@ pub record RecordingRequest : Type 0 where
   pub slots : Option Text
   pub timeout : Option Text
 
+-- the options of `audit`
+pub record AuditRequest : Type 0 where
+  pub ports : Option Text
+  pub answer_ms : Option Text
+  pub settle_ms : Option Text
+
 -- a command, without where its words lie in memory
 pub data Request : Type 0 where
   show_request : Text → Option Text → Option Text → Request
@@ -107,6 +121,7 @@ pub data Request : Type 0 where
   run_request : Text → Text → Option Text → Bool → Request
   recording_request : Text → RecordingRequest → Request
   chart_request : Text → Text → Request
+  audit_request : Text → AuditRequest → Request
 
 abbrev pub text_at : Option (Bor Text) → Option Text
 text_at text = option_map (λ t. t.now) text
@@ -123,6 +138,9 @@ asked_by_options o = record {
   timeout = text_at o.timeout;
 }
 
+abbrev pub asked_by_audit_options : AuditOptions → AuditRequest
+asked_by_audit_options o = record { ports = text_at o.ports; answer_ms = text_at o.answer_ms; settle_ms = text_at o.settle_ms }
+
 -- what a command asks for
 abbrev pub asked_by_command : Command → Request
 asked_by_command (Show capture service types) = show_request capture.now (text_at service) (text_at types)
@@ -131,6 +149,7 @@ asked_by_command (Vectors file) = vectors_request file.now
 asked_by_command (Run setup schedule expect lines) = run_request setup.now schedule.now (text_at expect) lines
 asked_by_command (Recording file options) = recording_request file.now (asked_by_options options)
 asked_by_command (Chart setup schedule) = chart_request setup.now schedule.now
+asked_by_command (Audit file options) = audit_request file.now (asked_by_audit_options options)
 
 -- what `show` asks for, by its argument and options
 abbrev pub asked_by_show : Option Text → Option Text → Option Text → Option Request
@@ -194,6 +213,21 @@ asked_by_chart None schedule = None
 asked_by_chart (Some setup) None = None
 asked_by_chart (Some setup) (Some schedule) = Some (chart_request setup schedule)
 
+-- what `audit` asks for, by its argument and options
+abbrev pub asked_by_audit : Option Text → AuditRequest → Option Request
+asked_by_audit None options = None
+asked_by_audit (Some file) options = Some (audit_request file options)
+
+-- its options, by what each matched
+abbrev pub audit_options_of : (ports answer_ms settle_ms : Option Text) → AuditRequest
+audit_options_of ports answer_ms settle_ms = record { ports = ports; answer_ms = answer_ms; settle_ms = settle_ms }
+
+abbrev pub audit_options_found : Found → AuditRequest
+audit_options_found f = audit_options_of (first_value f (codes "ports")) (first_value f (codes "answer-ms")) (first_value f (codes "settle-ms"))
+
+abbrev pub audit_options_in : List Row → AuditRequest
+audit_options_in rows = audit_options_of (first_of (codes "ports") rows) (first_of (codes "answer-ms") rows) (first_of (codes "settle-ms") rows)
+
 -- what a subcommand asks for, by its name and what its arguments matched
 abbrev pub asked_by_subcommand : Text → List Row → Option Request
 asked_by_subcommand name rows =
@@ -205,7 +239,8 @@ asked_by_subcommand name rows =
     then asked_by_run (first_of (codes "setup") rows) (first_of (codes "schedule") rows) (first_of (codes "expect") rows) (first_of (codes "lines") rows)
     else (if bytes_eq name (codes "recording")
     then asked_by_recording (first_of (codes "file") rows) (options_in rows)
-    else (if bytes_eq name (codes "chart") then asked_by_chart (first_of (codes "setup") rows) (first_of (codes "schedule") rows) else None)))))
+    else (if bytes_eq name (codes "chart") then asked_by_chart (first_of (codes "setup") rows) (first_of (codes "schedule") rows)
+    else (if bytes_eq name (codes "audit") then asked_by_audit (first_of (codes "recording") rows) (audit_options_in rows) else None))))))
 
 -- what the subcommand that was entered asks for, where one was
 abbrev pub asked_by_entered : Option (Text × List Row) → Option Request

@@ -7,7 +7,7 @@ use Rattle.someipctl_inputs.specs.declared.outcome.Outcome.{Outcome}
 use Rattle.someipctl_inputs.specs.declared.outcome.Outcome.TheVariants.{Done}
 use Rattle.std.specs.Borrow.{Bor}
 use Rattle.someipctl_cli.specs.declared.failure.Failure.{Failure}
-use Rattle.someipctl_cli.specs.declared.failure.Failure.TheVariants.{BadHex, BadVector, BadScheduleLine, BadSetup, BadExpectedLine, BadStep, BadShape, BadPayloadHex, BadRecording, BadTypes, BadPorts, BadServices, BadLimits, LimitAlone, Usage, NotText, OutOfMemory, CannotRead, CannotWrite}
+use Rattle.someipctl_cli.specs.declared.failure.Failure.TheVariants.{BadHex, BadVector, BadScheduleLine, BadSetup, BadExpectedLine, BadStep, BadShape, BadPayloadHex, BadRecording, BadTypes, BadPorts, BadServices, BadLimits, BadTimes, LimitAlone, Usage, NotText, OutOfMemory, CannotRead, CannotWrite}
 use Rattle.someipctl_commands.specs.declared.payload.PayloadRefusal.{PayloadRefusal}
 use Rattle.someipctl_commands.specs.declared.payload.PayloadRefusal.TheVariants as payloads
 use Rattle.someipctl_recordings.specs.declared.ports.PortsError.{PortsError}
@@ -41,9 +41,10 @@ status_of_failure (BadShape place) = 1
 status_of_failure BadPayloadHex = 1
 status_of_failure (BadRecording error) = 1
 status_of_failure (BadTypes error) = 1
-status_of_failure (BadPorts text) = 2
+status_of_failure (BadPorts text usage) = 2
 status_of_failure (BadServices text usage) = 2
 status_of_failure (BadLimits error) = 2
+status_of_failure (BadTimes error) = 2
 status_of_failure LimitAlone = 2
 status_of_failure (Usage error) = 2
 status_of_failure NotText = 2
@@ -98,10 +99,10 @@ failure_of_recording recordings.CannotRead path = CannotRead path
 failure_of_recording recordings.CannotWrite path = CannotWrite
 failure_of_recording recordings.OutOfMemory path = OutOfMemory
 
--- why a text names no ports
-abbrev pub failure_of_ports : PortsError → Bor (List ℕ) → Failure
-failure_of_ports ports.BadPorts text = BadPorts text
-failure_of_ports ports.OutOfMemory text = OutOfMemory
+-- why a text names no ports, of a command that is used so
+abbrev pub failure_of_ports : PortsError → Bor (List ℕ) → Bor (List ℕ) → Failure
+failure_of_ports ports.BadPorts text usage = BadPorts text usage
+failure_of_ports ports.OutOfMemory text usage = OutOfMemory
 
 -- why a text names no services, of a command that is used so
 abbrev pub failure_of_services : ServicesError → Bor (List ℕ) → Bor (List ℕ) → Failure

@@ -6,6 +6,8 @@ ghost use Rattle.clap.specs.Words.{Rule, with_rule, with_subcommand};
 ghost use Rattle.clap.specs.declared.builder.Command.TheViews.{out-Command};
 ghost use Rattle.someipctl_cli.specs.declared.command.LineError.TheVariants.{OutOfMemory};
 ghost use Rattle.someipctl_cli.specs.CommandLine.{CallsForHelp, HaveFault, IsLineErrorOf, IsTaken, RefusesWords};
+ghost use Rattle.someipctl_cli.specs.CommandLine.{asked_by_audit, asked_by_audit_options, audit_options_found};
+ghost use Rattle.someipctl_cli.specs.CommandLine.{audit_usage};
 ghost use Rattle.someipctl_cli.specs.CommandLine.{asked_by_chart, asked_by_command, asked_by_entered};
 ghost use Rattle.someipctl_cli.specs.CommandLine.{asked_by_payload, asked_by_recording, asked_by_run};
 ghost use Rattle.someipctl_cli.specs.CommandLine.{asked_by_show, asked_by_vectors, chart_usage, cli, is_flag};
@@ -15,7 +17,7 @@ ghost use Rattle.someipctl_cli.specs.CommandLine.{asked_by_options, options_foun
 ghost use Rattle.someipctl_cli.specs.CommandLine.{flag as flag_rule, valued, with_inputs};
 
 use crate::examples::{
-    CHART_EXAMPLE, PAYLOAD_EXAMPLE, PROGRAM_EXAMPLE, RECORDING_EXAMPLE, RUN_EXAMPLE, SHOW_EXAMPLE,
+    AUDIT_EXAMPLE, CHART_EXAMPLE, PAYLOAD_EXAMPLE, PROGRAM_EXAMPLE, RECORDING_EXAMPLE, RUN_EXAMPLE, SHOW_EXAMPLE,
     VECTORS_EXAMPLE,
 };
 use clap::error::ErrorKind;
@@ -73,6 +75,24 @@ pub enum Command<'w> {
         /// The schedule's path, as it was given.
         schedule: &'w str,
     },
+    /// Print what a recording of network traffic shows against the protocol.
+    Audit {
+        /// The recording's path, as it was given.
+        file: &'w str,
+        /// What the audit goes by.
+        options: AuditOptions<'w>,
+    },
+}
+
+/// The options of `audit`.
+#[derive(Clone, Copy, PartialEq, Eq)]
+pub struct AuditOptions<'w> {
+    /// The text of the ports that are looked at. None looks at the endpoints that are learnt.
+    pub ports: Option<&'w str>,
+    /// The text of how many milliseconds an answer may take.
+    pub answer_ms: Option<&'w str>,
+    /// The text of for how many milliseconds no event without a subscription is told.
+    pub settle_ms: Option<&'w str>,
 }
 
 /// The options of `recording`.
@@ -165,7 +185,8 @@ fn definition<'d>(alloc: Global) -> Result<clap::Command<'d>, AllocError>
     let vectors = adding(payload, vectors_definition(alloc));
     let run = adding(vectors, run_definition(alloc));
     let recording = adding(run, recording_definition(alloc));
-    adding(recording, chart_definition(alloc))
+    let chart = adding(recording, chart_definition(alloc));
+    adding(chart, audit_definition(alloc))
 }
 
 /// A command with a further one below it, where both are there.
@@ -216,6 +237,7 @@ fn matched<'w>(matches: &ArgMatches<'w>) -> Option<Command<'w>>
         "run" => run_matched(rest),
         "recording" => recording_matched(rest),
         "chart" => chart_matched(rest),
+        "audit" => audit_matched(rest),
         _ => None,
     }
 }
@@ -389,6 +411,65 @@ fn chart_matched<'w>(matches: &ArgMatches<'w>) -> Option<Command<'w>>
     let setup = matches.get_str("setup")?;
     let schedule = matches.get_str("schedule")?;
     Some(Command::Chart { setup, schedule })
+}
+
+fn audit_definition<'d>(alloc: Global) -> Result<clap::Command<'d>, AllocError>
+    ensures shape { IfOk result (λ command. shape_of command ≡ audit_usage) }
+    ensures local { IfOk result (λ command. (out-Command command).has_globals ≡ false) }
+{
+    let command = clap::Command::new(alloc, "audit")
+        .about("Prints what a recording of network traffic shows against the protocol")
+        .after_help(AUDIT_EXAMPLE);
+    let ports = valued_option(
+        alloc,
+        "ports",
+        "PORTS",
+        "Looks at these ports beside 30490, and learns none from Offers and Subscribes",
+    );
+    let answer = valued_option(
+        alloc,
+        "answer-ms",
+        "N",
+        "The milliseconds that an answer may take, 2000 without it",
+    );
+    let settle = valued_option(
+        alloc,
+        "settle-ms",
+        "N",
+        "The milliseconds at first in which no event without a subscription is told, 10000 without it",
+    );
+    let file = explained(
+        alloc,
+        "recording",
+        "RECORDING",
+        "The path of a recording, - for standard input",
+    );
+    let first = taking(Ok(command), ports);
+    let second = taking(first, answer);
+    let third = taking(second, settle);
+    taking(third, file)
+}
+
+fn audit_matched<'w>(matches: &ArgMatches<'w>) -> Option<Command<'w>>
+    ensures { option_map asked_by_command result
+        ≡ asked_by_audit (first_value (found_of matches.now) (codes "recording"))
+        (audit_options_found (found_of matches.now)) }
+{
+    let file = matches.get_str("recording")?;
+    Some(Command::Audit {
+        file,
+        options: audit_options_matched(matches),
+    })
+}
+
+fn audit_options_matched<'w>(matches: &ArgMatches<'w>) -> AuditOptions<'w>
+    ensures { asked_by_audit_options result ≡ audit_options_found (found_of matches.now) }
+{
+    AuditOptions {
+        ports: matches.get_str("ports"),
+        answer_ms: matches.get_str("answer-ms"),
+        settle_ms: matches.get_str("settle-ms"),
+    }
 }
 
 /// The command with the two files of a run as its further arguments.

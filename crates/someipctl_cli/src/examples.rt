@@ -110,6 +110,20 @@ and with --endpoints the same line begins with
 which are the time in seconds since 1970, - where the recording has none, and where the datagram
 came from and went to.";
 
+/// Of `audit`.
+pub(crate) const AUDIT_EXAMPLE: &str = "\
+RECORDING is one of `recording`, as - on standard input. Its datagrams from or to port 30490 are looked
+at, and beside these those at the endpoints that Offers and Subscribes before named, or at PORTS. A line
+is printed for each thing that is not as it should be, as it is read, and at last the summary. A line is
+  TIME K FROM TO FINDING
+where TIME is in seconds since 1970, - where the recording has none, and K is the number of the datagram
+in the recording, counted from 1. Of what had no answer or did not come in time, TIME is when it was due,
+and K, FROM and TO are of the datagram that opened it. So the call
+  someipctl audit examples/one.pcap
+prints
+  audited 0 datagrams, 0 messages, 0 findings
+The exit status is 0 without findings, and 1 with some.";
+
 /// Of `chart`.
 pub(crate) const CHART_EXAMPLE: &str = "\
 SETUP and SCHEDULE are those of `run`. The picture goes to standard output. So the call

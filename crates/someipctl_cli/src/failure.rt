@@ -7,6 +7,7 @@ ghost use Rattle.someipctl_cli.specs.Failures.{failure_of_services, failure_of_t
 
 use recording::RecordingError;
 use someip_world::{SetupError, StepFault};
+use someipctl_audit::TimesError;
 use someipctl_commands::payload::PayloadRefusal;
 use someipctl_commands::services::ServicesError;
 use someipctl_commands::show::ShowError;
@@ -51,15 +52,18 @@ pub enum Failure<'p> {
     /// The text of a types file is none.
     #[error("types: {0}")]
     BadTypes(TypesError),
-    /// This text names no ports.
-    #[error("error: invalid value '{0}' for '--ports <PORTS>': ports are numbers from 1 to 65535 with commas between them\n\nUsage: someipctl recording [OPTIONS] <FILE>")]
-    BadPorts(&'p str),
+    /// This text names no ports, of a command that is used so.
+    #[error("error: invalid value '{0}' for '--ports <PORTS>': ports are numbers from 1 to 65535 with commas between them\n\nUsage: someipctl {1}")]
+    BadPorts(&'p str, &'static str),
     /// This text names no services, of a command that is used so.
     #[error("error: invalid value '{0}' for '--service <SERVICES>': services are four hex digits, perhaps with a dot and four more, with commas between them\n\nUsage: someipctl {1}")]
     BadServices(&'p str, &'static str),
     /// One of the limits of messages that are put together is none.
     #[error("error: invalid value for '{}': {}\n\nUsage: someipctl recording [OPTIONS] <FILE>", option_of(*.0), .0)]
     BadLimits(LimitsError),
+    /// One of the times of an audit is none.
+    #[error("error: invalid value for '{}': {}\n\nUsage: someipctl audit [OPTIONS] <RECORDING>", option_of_time(*.0), .0)]
+    BadTimes(TimesError),
     /// Such a limit was given, and messages are not put together.
     #[error("error: limits of whole messages need '--whole'\n\nUsage: someipctl recording [OPTIONS] <FILE>")]
     LimitAlone,
@@ -99,9 +103,10 @@ impl<'p> Failure<'p> {
             | Failure::BadTypes(_) => 1,
             Failure::Usage(_)
             | Failure::NotText
-            | Failure::BadPorts(_)
+            | Failure::BadPorts(_, _)
             | Failure::BadServices(_, _)
             | Failure::BadLimits(_)
+            | Failure::BadTimes(_)
             | Failure::LimitAlone => 2,
             Failure::OutOfMemory => 3,
             Failure::CannotRead(_) | Failure::CannotWrite => 4,
@@ -190,12 +195,12 @@ impl<'p> Failure<'p> {
         }
     }
 
-    /// Why a text names no ports.
-    pub fn of_ports(error: PortsError, text: &'p str) -> Failure<'p>
-        ensures { result ≡ failure_of_ports error text.entry }
+    /// Why a text names no ports, of a command that is used so.
+    pub fn of_ports(error: PortsError, text: &'p str, usage: &'static str) -> Failure<'p>
+        ensures { result ≡ failure_of_ports error text.entry usage.entry }
     {
         match error {
-            PortsError::BadPorts => Failure::BadPorts(text),
+            PortsError::BadPorts => Failure::BadPorts(text, usage),
             PortsError::OutOfMemory => Failure::OutOfMemory,
         }
     }
@@ -219,6 +224,14 @@ impl<'p> Failure<'p> {
             TypesFault::CannotRead => Failure::CannotRead(path),
             TypesFault::OutOfMemory => Failure::OutOfMemory,
         }
+    }
+}
+
+/// The option that says such a time.
+fn option_of_time(error: TimesError) -> &'static str {
+    match error {
+        TimesError::BadAnswer => "--answer-ms <N>",
+        TimesError::BadSettle => "--settle-ms <N>",
     }
 }
 

@@ -4,6 +4,7 @@ ghost use Rattle.std.specs.Prelude.{◌≡◌, ◌∷◌, [], codes, false, true
 ghost use Rattle.someipctl_cli.specs.CommandLine.{CallsForHelp, HaveFault, IsTaken, is_flag, line};
 ghost use Rattle.someipctl_cli.specs.CommandLine.{requested, show_request, vectors_request, run_request};
 ghost use Rattle.someipctl_cli.specs.CommandLine.{recording_options_of, recording_request, chart_request};
+ghost use Rattle.someipctl_cli.specs.CommandLine.{audit_options_of, audit_request};
 
 use clap::error::ErrorKind;
 
@@ -48,6 +49,12 @@ pub fn calls_by_example()
 
     ensures chart { requested (line (codes "chart" ∷ codes "x" ∷ codes "y" ∷ []))
         ≡ Some (chart_request (codes "x") (codes "y")) }
+
+    ensures audit { requested (line (codes "audit" ∷ codes "x" ∷ []))
+        ≡ Some (audit_request (codes "x") (audit_options_of None None None)) }
+    ensures audit_options { requested (line (codes "audit" ∷ codes "--ports" ∷ codes "1,2" ∷ codes "--answer-ms" ∷ codes "5"
+        ∷ codes "--settle-ms" ∷ codes "0" ∷ codes "x" ∷ [])) ≡ Some (audit_request (codes "x")
+        (audit_options_of (Some (codes "1,2")) (Some (codes "5")) (Some (codes "0")))) }
 
     // An option without its value, and one that was given twice.
     ensures bare_expect { HaveFault (line (codes "run" ∷ codes "x" ∷ codes "y" ∷ codes "--expect" ∷ []))

@@ -1,7 +1,7 @@
 //! The command line of `someipctl`: what its words ask for, and how the program ends.
 //!
 //! What a command reads, does and prints stands in `someipctl_commands`, of `recording` in
-//! `someipctl_recordings`, and of `run` in `someipctl_run`.
+//! `someipctl_recordings`, of `audit` in `someipctl_audit`, and of `run` in `someipctl_run`.
 //!
 //! - `command`, `help`: what the words ask for, and the answer to others;
 //! - `examples`: the text below each help;
@@ -17,7 +17,7 @@ mod help;
 pub mod laws;
 mod program;
 
-pub use command::{Command, LineError, RecordingOptions, command_of};
+pub use command::{AuditOptions, Command, LineError, RecordingOptions, command_of};
 pub use failure::Failure;
 pub use help::answer_error;
 pub use program::{answer, report, run, words_of};

@@ -4,11 +4,12 @@ ghost use Rattle.std.specs.Prelude.{◌≡◌, true, false};
 ghost use Rattle.someipctl_run.specs.declared.form.TraceForm.TheVariants.{Plain, WithLines};
 ghost use Rattle.someipctl_cli.specs.Failures.{status_of_failure};
 
-use crate::command::{Command, RecordingOptions, command_of};
+use crate::command::{AuditOptions, Command, RecordingOptions, command_of};
 use crate::failure::Failure;
 use crate::help::answer_error;
 use someip_tp::IntervalPool;
 use someip_world::Setup;
+use someipctl_audit::{AuditAsked, rules_in, show_audit};
 use someipctl_chart::chart_schedule;
 use someipctl_commands::payload::payload;
 use someipctl_commands::services::{AskedService, services_in};
@@ -23,10 +24,12 @@ use std::io::ErrorKind;
 use std::rt::{Env, Files};
 use std::{env, fs, io};
 
-/// How `show` and `recording` are used.
+/// How `show`, `recording` and `audit` are used.
 const SHOW_USAGE: &str = "show [OPTIONS] <CAPTURE>";
 
 const RECORDING_USAGE: &str = "recording [OPTIONS] <FILE>";
+
+const AUDIT_USAGE: &str = "audit [OPTIONS] <RECORDING>";
 
 /// The program: does what its arguments ask for, tells on standard error what kept it from that, and gives the
 /// exit status.
@@ -103,6 +106,7 @@ fn run_command<'w, R: Files + Print + Eprint + Input + AllocGlobal>(
         } => run_files(rt, setup, schedule, expect, form_of(lines)),
         Command::Chart { setup, schedule } => chart_files(rt, setup, schedule),
         Command::Recording { file, options } => show_recorded(rt, file, options),
+        Command::Audit { file, options } => audit_recorded(rt, file, options),
     }
 }
 
@@ -129,7 +133,7 @@ fn show_recorded<'p, R: Files + Print + Eprint + Input + AllocGlobal>(
     path: &'p str,
     options: RecordingOptions<'p>,
 ) -> Result<Outcome, Failure<'p>> {
-    let ports = ports_of(rt, options.ports)?;
+    let ports = ports_of(rt, options.ports, RECORDING_USAGE)?;
     let services = services_of(rt, options.service, RECORDING_USAGE)?;
     let whole = whole_of(&options)?;
     let types = types_at(rt, options.types)?;
@@ -155,17 +159,53 @@ fn end_recording<R: Eprint>(rt: &R, shown: ShownRecording) -> Result<Outcome, Fa
     }
 }
 
-/// The ports that are asked for, if they are named.
+/// Shows the audit of a recording, and then tells on standard error what was left out of it, and its fault, if it
+/// has one. Whatever is wrong with the options is told before the recording is looked at.
+fn audit_recorded<'p, R: Files + Print + Eprint + Input + AllocGlobal>(
+    rt: &R,
+    path: &'p str,
+    options: AuditOptions<'p>,
+) -> Result<Outcome, Failure<'p>> {
+    let ports = ports_of(rt, options.ports, AUDIT_USAGE)?;
+    let rules = match rules_in(options.answer_ms, options.settle_ms) {
+        Ok(rules) => rules,
+        Err(error) => return Err(Failure::BadTimes(error)),
+    };
+    let asked = AuditAsked {
+        rules,
+        ports: ports.as_deref(),
+    };
+    end_recording(rt, show_audit_at(rt, path, &asked)?)
+}
+
+/// Shows the audit of the recording at a path, or of the one that comes on standard input, which is called `-`.
+fn show_audit_at<'p, R: Files + Print + Input + AllocGlobal>(
+    rt: &R,
+    path: &'p str,
+    asked: &AuditAsked<'_>,
+) -> Result<ShownRecording, Failure<'p>> {
+    let mut writer = io::writer(rt);
+    let shown = if path == "-" {
+        show_audit::<IntervalPool, _, _>(rt.alloc(), &mut rt.reader(), asked, &mut writer)
+    } else {
+        let mut file = open_file(rt, path)?;
+        show_audit::<IntervalPool, _, _>(rt.alloc(), &mut file, asked, &mut writer)
+    };
+    shown.map_err(|fault| Failure::of_recording(fault, path))
+}
+
+/// The ports that are asked for, if they are named, of a command that is used so.
 fn ports_of<'p, R: AllocGlobal>(
     rt: &R,
     text: Option<&'p str>,
+    usage: &'static str,
 ) -> Result<Option<Vec<u16>>, Failure<'p>> {
     let Some(text) = text else {
         return Ok(None);
     };
     match ports_in(rt.alloc(), text) {
         Ok(ports) => Ok(Some(ports)),
-        Err(error) => Err(Failure::of_ports(error, text)),
+        Err(error) => Err(Failure::of_ports(error, text, usage)),
     }
 }
 

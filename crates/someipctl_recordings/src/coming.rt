@@ -11,7 +11,7 @@ use std::io::{ErrorKind, Read, Write};
 
 /// What comes next of a recording.
 #[derive(Clone, Copy)]
-pub(crate) enum Coming {
+pub enum Coming {
     /// A record: that of the reader.
     Record,
     /// The fault that ends the recording.
@@ -22,7 +22,9 @@ pub(crate) enum Coming {
 
 /// Goes on to the next record of a recording, to its fault or to its end. What waits in the buffer is
 /// written before each read.
-pub(crate) fn next_coming<R: Read, W: Write>(
+///
+/// The only errors are that the recording could not be read, that writing failed, and that memory ran out.
+pub fn next_coming<R: Read, W: Write>(
     recording: &mut RecordingReader,
     source: &mut R,
     buffer: &mut Buffer,

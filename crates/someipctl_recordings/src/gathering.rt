@@ -183,7 +183,7 @@ fn is_at_discovery(datagram: &Datagram<'_>) -> bool
 }
 
 /// An endpoint, as the standard library knows it.
-pub(crate) fn socket_of(endpoint: Endpoint) -> SocketAddrV4
+pub fn socket_of(endpoint: Endpoint) -> SocketAddrV4
     ensures { result ≡ socket_of endpoint }
 {
     SocketAddrV4::new(Ipv4Addr::from_octets(endpoint.ip), endpoint.port)

@@ -75,8 +75,8 @@ fn endpoint_words(datagram: &Datagram<'_>) -> [Word<'static>; 2]
     ]
 }
 
-/// Prints a time in seconds, or `-` where there is none.
-fn put_time<W: Write>(
+/// Prints a time in seconds, with nine digits behind the dot, or `-` where there is none.
+pub fn put_time<W: Write>(
     buffer: &mut Buffer,
     writer: &mut W,
     time: Option<Time>,

@@ -39,7 +39,7 @@ impl LeftOut {
     }
 
     /// Counts one more of a kind.
-    pub(crate) fn add(&mut self, kind: Skipped)
+    pub fn add(&mut self, kind: Skipped)
         requires { total self.old < usize.MAX }
         ensures { self.new ≡ counted kind self.old }
     {

@@ -5,24 +5,26 @@
 //!   [`WholeLimits`]: what bounds messages that are put together from their segments;
 //! - [`ShownRecording`]: how that ended, with what was [`LeftOut`]; [`RecordingFault`]: why it was not
 //!   shown up to its end or its fault;
-//! - [`limits_in`]: the limits that texts say;
+//! - [`limits_in`]: the limits that texts say; [`number_or`]: a number of such a text;
 //! - [`ports`]: the ports that a text names;
+//! - [`coming`], [`moments`], [`heads`], [`gathering`]: what comes next of a recording, its moment, the text of
+//!   its time, and its endpoints, for whatever else goes over a recording;
 //! - [`laws`]: what the definitions behind the contracts promise.
 #![tactic(auto)]
 
 mod asked;
-mod coming;
+pub mod coming;
 mod datagrams;
-mod gathering;
-mod heads;
+pub mod gathering;
+pub mod heads;
 pub mod laws;
 mod left_out;
 mod limits;
-mod moments;
+pub mod moments;
 pub mod ports;
 mod recordings;
 
 pub use asked::{Asked, WholeLimits};
 pub use left_out::LeftOut;
-pub use limits::{LimitsError, limits_in};
+pub use limits::{LimitsError, limits_in, number_or};
 pub use recordings::{RecordingFault, ShownRecording, show_recording};

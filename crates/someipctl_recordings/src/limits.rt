@@ -46,8 +46,9 @@ pub fn limits_in(
     })
 }
 
-/// The number that a text writes, or what stands without one.
-fn number_or(text: Option<&str>, default: u64, low: u64, high: u64) -> Option<u64>
+/// The number that a text writes, in decimal digits without leading zeros and from `low` to `high`, or
+/// `default` where there is no text.
+pub fn number_or(text: Option<&str>, default: u64, low: u64, high: u64) -> Option<u64>
     ensures { result ≡ number_or default low high (view_text text.entry) }
 {
     match text {

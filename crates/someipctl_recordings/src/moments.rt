@@ -7,8 +7,9 @@ use recording::Time;
 /// The last moment that there is.
 const LAST_MOMENT: u64 = 9_223_372_036_854_775_807;
 
-/// The moment of a datagram with this time, in milliseconds since 1970, where the latest so far is this.
-pub(crate) fn moment_of(latest: u64, time: Option<Time>) -> u64
+/// The moment of a datagram with this time, in milliseconds since 1970, where the latest so far is this: it
+/// is no earlier, and without a time the latest.
+pub fn moment_of(latest: u64, time: Option<Time>) -> u64
     ensures moment { result ≡ moment_of latest time }
     ensures rises { latest ≤ result }
 {

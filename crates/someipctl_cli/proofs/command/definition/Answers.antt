@@ -7,4 +7,5 @@ returns c =
     let vectors = c.adding-vectors.ensures _ _ payload c.vectors_definition.ensures.shape in
     let run = c.adding-run.ensures _ _ vectors c.run_definition.ensures.shape in
     let recording = c.adding-recording.ensures _ _ run c.recording_definition.ensures.shape in
-    c.adding.ensures _ _ recording c.chart_definition.ensures.shape
+    let chart = c.adding-chart.ensures _ _ recording c.chart_definition.ensures.shape in
+    c.adding.ensures _ _ chart c.audit_definition.ensures.shape

@@ -1,6 +1,6 @@
 use Rattle.std.proofs.Common.{◌∙◌, rules}
 use Rattle.clap.specs.Words.{found_of}
-use Rattle.someipctl_cli.proofs.CommandLineLemmas.{chart_in, entered_is, payload_in, recording_in, run_in, show_in, vectors_in}
+use Rattle.someipctl_cli.proofs.CommandLineLemmas.{audit_in, chart_in, entered_is, payload_in, recording_in, run_in, show_in, vectors_in}
 use Rattle.someipctl_cli.proofs.command.matched.Goals as goal
 
 pub returns-in-show : goal.returns-in-show
@@ -32,3 +32,8 @@ pub returns-in-chart : goal.returns-in-chart
 returns-in-chart c =
     let entered = entered_is c.args.matches.now c.in_ok-name.name.now _ c.in_ok-name.ensures.name c.in_ok-name.ensures.rows in
     c.chart_matched.ensures ∙ chart_in c.args.matches.now c.in_ok-name.name.now (found_of c.in_ok-name.rest.now) entered (search rules) (search rules) (search rules) (search rules) (search rules) (search rules)
+
+pub returns-in-audit : goal.returns-in-audit
+returns-in-audit c =
+    let entered = entered_is c.args.matches.now c.in_ok-name.name.now _ c.in_ok-name.ensures.name c.in_ok-name.ensures.rows in
+    c.audit_matched.ensures ∙ audit_in c.args.matches.now c.in_ok-name.name.now (found_of c.in_ok-name.rest.now) entered (search rules) (search rules) (search rules) (search rules) (search rules) (search rules) (search rules)

@@ -1,0 +1,4 @@
+pub mod PutsLemmas
+pub mod TallyLemmas
+pub mod StepLemmas
+pub mod RunLemmas

@@ -1,0 +1,11 @@
+pub mod Kinds
+pub mod Said
+pub mod AuditText
+pub mod Tallies
+pub mod SeenIn
+pub mod AuditResult
+pub mod Steps
+pub mod Scenes
+pub mod Runs
+pub mod Times
+pub mod TextScenes

@@ -1,0 +1,41 @@
+-- What the laws of texts speak of as examples.
+use Rattle.std.specs.Prelude.{ℕ, [], ◌∷◌}
+use Rattle.std.specs.declared.net.socket_addr.SocketAddrV4.{SocketAddrV4}
+use Rattle.someip_wire.specs.declared.Header.{Header}
+use Rattle.someip_wire.specs.declared.MessageType.TheVariants.{Request}
+use Rattle.audit_tables.specs.declared.Origin.{Origin}
+use Rattle.audit_events.specs.declared.EventFlow.{EventFlow}
+use Rattle.audit_offers.specs.declared.OfferKey.{OfferKey}
+use Rattle.audit_receivers.specs.declared.Delivery.{Delivery}
+use Rattle.audit_subscriptions.specs.declared.SubscriptionKey.{SubscriptionKey}
+
+-- an endpoint of node n
+abbrev pub socket : ℕ → ℕ → SocketAddrV4
+socket n port = record { ip = record { octets = 192 ∷ 168 ∷ 0 ∷ n ∷ [] }; port = port }
+
+-- a datagram, a message, an event, an offer and a subscription
+abbrev pub origin_1 : Origin
+origin_1 = record { datagram = 12; from = socket 1 40000; to = socket 2 30490 }
+
+abbrev pub header_1 : Header
+header_1 = record { service = 0x1234; method = 0x0421; client = 0x0101; session = 2; interface = 1; kind = Request; code = record { 0 = 0 } }
+
+abbrev pub flow_1 : EventFlow
+flow_1 = record { sender = socket 1 30509; service = 0x1234; event = 0x8001; receiver = socket 2 40000 }
+
+abbrev pub event_1 : Delivery
+event_1 = record { server = record { octets = 192 ∷ 168 ∷ 0 ∷ 1 ∷ [] }; service = 0x1234; event = 0x8001; endpoint = socket 2 40000 }
+
+abbrev pub offer_1 : OfferKey
+offer_1 = record { service = 0x1234; instance = 1; major = 2 }
+
+abbrev pub key_1 : SubscriptionKey
+key_1 = record {
+  client = record { octets = 192 ∷ 168 ∷ 0 ∷ 2 ∷ [] };
+  server = record { octets = 192 ∷ 168 ∷ 0 ∷ 1 ∷ [] };
+  service = 0x1234;
+  instance = 1;
+  major = 2;
+  eventgroup = 5;
+  counter = 3;
+}

@@ -1,0 +1,12 @@
+//! What an audit goes by.
+use someip_audit::AuditRules;
+
+/// What an audit goes by.
+#[derive(Clone, Copy)]
+pub struct AuditAsked<'a> {
+    /// Its settings.
+    pub rules: AuditRules,
+    /// The ports that are looked at beside that of Service Discovery. None looks at the endpoints that
+    /// Offers and Subscribes named so far.
+    pub ports: Option<&'a [u16]>,
+}

@@ -1,0 +1,18 @@
+//! The command `audit` of `someipctl`.
+#![tactic(auto)]
+
+mod asked;
+mod auditing;
+mod audits;
+mod kind;
+pub mod laws;
+mod lines;
+mod says;
+mod summary;
+mod tally;
+mod times;
+
+pub use asked::AuditAsked;
+pub use audits::show_audit;
+pub use kind::Kind;
+pub use times::{TimesError, rules_in};
