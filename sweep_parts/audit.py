@@ -23,12 +23,14 @@ import audit_story
 KEPT = Path(os.environ.get("TMPDIR", "/tmp")) / "someipctl-audit"
 EXAMPLES = Path(__file__).resolve().parent.parent / "examples"
 WORLDS = 20
+SORTS = ["calm", "rough", "drawn", "crowds"]
 
 
 class Sweep:
     def __init__(self, program, seed, folder):
         self.program, self.seed, self.folder = program, seed, Path(folder)
         self.counts, self.kinds = collections.Counter(), collections.Counter()
+        self.calm_types = set()
         self.differences = 0
 
     def generator(self, *words):
@@ -85,8 +87,9 @@ class Sweep:
         """Nothing is to be told of calm worlds."""
         for number, some, records in self.worlds("calm", count):
             words = some.choice(([], ["--settle-ms", "1"]))
-            messages = sum(len(wire.messages_of(record.payload)[0]) for record in records)
-            expected = f"audited {len(records)} datagrams, {messages} messages, 0 findings\n"
+            messages = [header for record in records for _, header, _ in wire.messages_of(record.payload)[0]]
+            self.calm_types.update(header.kind for header in messages)
+            expected = f"audited {len(records)} datagrams, {len(messages)} messages, 0 findings\n"
             self.judge("calm", number, wire.pcap(records, nanoseconds=True), words, expected)
 
     def rough(self, count):
@@ -115,8 +118,12 @@ class Sweep:
 
 
 def missed(sweep, sorts):
-    """The kinds that did not come, where all sorts were tried."""
-    return [kind for kind in audit_model.KINDS if kind not in sweep.kinds] if len(sorts) == 4 else []
+    """What did not come, where all sorts were tried: kinds of findings, and types of messages in calm worlds."""
+    if len(sorts) < len(SORTS):
+        return []
+    types = [wire.REQUEST, wire.ONEWAY, wire.NOTIFICATION, wire.RESPONSE, wire.ERROR, wire.NOTIFICATION | wire.TP]
+    kinds = [kind for kind in audit_model.KINDS if kind not in sweep.kinds]
+    return kinds + [f"type {kind:02x} in a calm world" for kind in types if kind not in sweep.calm_types]
 
 
 def main():
@@ -126,7 +133,7 @@ def main():
     parser.add_argument("--count", type=int, default=1000)
     parser.add_argument("sorts", nargs="*")
     words = parser.parse_intermixed_args()
-    sorts = words.sorts or ["calm", "rough", "drawn", "crowds"]
+    sorts = words.sorts or SORTS
     with tempfile.TemporaryDirectory() as folder:
         sweep = Sweep(words.program, words.seed, folder)
         sweep.example()

@@ -322,7 +322,7 @@ class Audit:
                 key = (seen.sender, header.service, header.method, seen.datagram.destination)
                 if key not in told or self.came_subscribe(key, told[key], seen.place):
                     told[key] = seen.place
-                    self.tell(seen, 2, "event unsubscribed", " " + event_text(header))
+                    self.tell(seen, 1, "event unsubscribed", " " + event_text(header))
 
     def came_subscribe(self, key, first, last):
         server, service, _, endpoint = key
@@ -350,13 +350,13 @@ class Audit:
         last = flow[-1] if flow and not self.rebooted(ends, flow[-1].place, seen.place) else None
         text = f" {event_text(header)} session {header.session:04x}"
         if last and last.value[0].session == header.session:
-            return self.tell(seen, 1, "event repeated", text)
+            return self.tell(seen, 2, "event repeated", text)
         flow.append(seen)
         if not last:
             return
         expected = last.value[0].session % 0xFFFF + 1
         if header.session != expected and not self.is_excused(last, stream, standings, seen):
-            self.tell(seen, 1, "event gap", f"{text} expected {expected:04x}")
+            self.tell(seen, 2, "event gap", f"{text} expected {expected:04x}")
 
     def is_excused(self, last, stream, standings, seen):
         """Whether the sessions between two events of a flow need not be lost."""

@@ -11,7 +11,7 @@ import audit_bytes as wire
 
 GROUP = wire.address("239.0.0.1")
 ANSWER_MS = 2000
-ROUNDS = 16
+ROUNDS = 12
 
 
 class Node:
@@ -49,6 +49,7 @@ class World:
 
     def __init__(self, some, number, cyclic, rough):
         self.some, self.number, self.rough = some, number, rough
+        self.haste = 0.3 if rough else 0.6
         self.records, self.waiting = [], []
         self.nodes = [Node(self, at) for at in range(some.choice((2, 2, 3)))]
         least = 1 if rough else 2 * cyclic // 1000 + 1
@@ -66,10 +67,22 @@ class World:
         length = self.some.choice((0, 1, 2, 65, 200, 1401, 3000)) if self.some.random() < 0.3 else 1
         return f"{self.some.randrange(256):02x}*{length}"
 
-    def step(self, now):
-        """A step of an application, or None."""
+    def deeds(self):
+        """What applications do in a round: nothing, one step, an event several times, or a second step where the first
+        is none that peers have to hear of before."""
+        if self.some.random() < 0.2:
+            return []
+        first = self.step()
+        if first.startswith("publish ") and self.some.random() < 0.5:
+            return [first] * 4
+        is_heard = first.split(" ")[0] in ("call", "oneway", "publish", "publish_to")
+        return [first, self.step()] if is_heard and self.some.random() < 0.5 else [first]
+
+    def step(self):
+        """A step of an application."""
         kinds = ["call", "call", "oneway", "publish", "publish", "publish", "publish_to", "subscribe", "subscribe"]
         kinds += ["unsubscribe"] if self.some.random() < 0.5 else []
+        kinds += ["stop_offer"] if self.some.random() < 0.05 else []
         kinds += ["restart", "stop_offer"] if self.rough and self.some.random() < 0.3 else []
         return getattr(self, self.some.choice(kinds))()
 
@@ -119,7 +132,7 @@ class World:
         for asked, node, token in list(self.waiting):
             if self.rough and self.some.random() < 0.1:
                 self.waiting.remove((asked, node, token))
-            elif self.some.random() < 0.6 or not self.rough and asked + ANSWER_MS <= now + step:
+            elif self.some.random() < self.haste or not self.rough and asked + ANSWER_MS <= now + step:
                 self.waiting.remove((asked, node, token))
                 given.append(f"{self.some.choice(('answer', 'answer', 'error'))} {node} {token} 01 {self.payload()}")
         return given
@@ -136,7 +149,7 @@ class Run:
 
     def __init__(self, some, program, folder, count, rough):
         self.some, self.program, self.folder = some, program, Path(folder)
-        self.cyclic = some.choice((500, 1000, 2000))
+        self.rough, self.cyclic = rough, some.choice((500, 1000, 2000))
         self.worlds = [World(some, number, self.cyclic, rough) for number in range(1, count + 1)]
         self.world_of = {node.name: world for world in self.worlds for node in world.nodes}
         self.now, self.begin = 0, some.choice((0, 1700000000000))
@@ -180,11 +193,11 @@ class Run:
             steps = self.take(self.trace())
 
     def round(self):
-        step = self.some.choice((1, 10, 50, self.cyclic // 4, self.cyclic // 2, self.cyclic // 2))
+        longest = self.cyclic if self.rough else self.cyclic // 2
+        step = self.some.choice((1, 10, 50, self.cyclic // 4, self.cyclic // 2, longest))
         self.now += step
         self.settle([f"tick {node.name} {step}" for world in self.worlds for node in world.nodes])
-        self.settle([world.step(self.now) for world in self.worlds if self.some.random() < 0.8]
-                    + [world.step(self.now) for world in self.worlds if self.some.random() < 0.5])
+        self.settle([step for world in self.worlds for step in world.deeds()])
         self.settle([answer for world in self.worlds for answer in world.answers(self.now, self.cyclic)])
 
     def recordings(self):

@@ -73,7 +73,7 @@ def looked_at(datagrams, ports):
         if at_port or ports is None and any(end in named for end in ends):
             found.append(datagram)
             named.update(entry.endpoint for entry in entries_in(datagram)
-                         if entry.kind in (OFFER, SUBSCRIBE) and entry.endpoint is not None)
+                         if entry.kind in (OFFER, SUBSCRIBE) and entry.ttl and entry.endpoint is not None)
     return found
 
 
