@@ -1,0 +1,152 @@
+"""The sweep `audit`: what the built program prints of recordings, beside what the model tells of them, byte for byte.
+
+    audit.py PROGRAM [--seed SEED] [--count COUNT] [SORT..]
+
+SORT is `calm`, `rough`, `drawn` or `crowds`. A recording of which the two differ is kept, with both texts.
+"""
+import argparse
+import collections
+import os
+import random
+import subprocess
+import sys
+import tempfile
+from pathlib import Path
+
+import audit_bytes as wire
+import audit_crowds
+import audit_draws
+import audit_model
+import audit_runs
+import audit_story
+
+KEPT = Path(os.environ.get("TMPDIR", "/tmp")) / "someipctl-audit"
+EXAMPLES = Path(__file__).resolve().parent.parent / "examples"
+WORLDS = 20
+SORTS = ["calm", "rough", "drawn", "crowds"]
+
+
+class Sweep:
+    def __init__(self, program, seed, folder):
+        self.program, self.seed, self.folder = program, seed, Path(folder)
+        self.counts, self.kinds = collections.Counter(), collections.Counter()
+        self.calm_types = set()
+        self.differences = 0
+
+    def generator(self, *words):
+        """The generator of draws of this name."""
+        return random.Random(" ".join(map(str, (self.seed, *words))))
+
+    def printed(self, words, path):
+        """What the program prints of a recording, and its exit status."""
+        done = subprocess.run([self.program, "audit", *words, str(path)], capture_output=True, check=False)
+        return done.stdout.decode("utf8", "replace"), done.returncode
+
+    def judge(self, sort, name, data, words, expected):
+        """Compares what is printed of a recording with what is expected."""
+        path = self.folder / "recording"
+        path.write_bytes(data)
+        got, status = self.printed(words, path)
+        lines = expected.splitlines()
+        findings = int(lines[next(at for at, line in enumerate(lines) if line.startswith("audited "))].split(" ")[-2])
+        self.counts[sort] += 1
+        self.counts["datagrams"] += int(lines[findings].split(" ")[1])
+        self.kinds.update({line.rpartition(" ")[0]: int(line.rpartition(" ")[2]) for line in lines[findings + 1:]})
+        if got != expected or status != int(findings > 0):
+            self.keep(f"{sort}-{name}", data, words, expected, got, status)
+
+    def keep(self, name, data, words, expected, got, status):
+        """Tells a difference, and keeps what shows it."""
+        self.differences += 1
+        KEPT.mkdir(parents=True, exist_ok=True)
+        path = KEPT / f"{name}.pcap"
+        path.write_bytes(data)
+        path.with_suffix(".expected").write_text(expected)
+        path.with_suffix(".got").write_text(got)
+        pairs = zip(expected.splitlines() + ["-"], got.splitlines() + ["-"])
+        first = next((pair for pair in pairs if pair[0] != pair[1]), ("the same", f"status {status}"))
+        print(f"audit: {' '.join([*words, str(path)])}: expected '{first[0]}', got '{first[1]}'")
+
+    # ---- The sorts of recordings
+
+    def drawn(self, count):
+        for number in range(count):
+            data, words = audit_draws.drawn(self.generator("drawn", number))
+            expected = audit_model.audited(data, audit_model.rules_of(words)[0])
+            self.judge("drawn", number, data, words, expected)
+
+    def worlds(self, sort, count):
+        """The recordings of so many worlds, each with a generator for what is done to it."""
+        for number in range(0, count, WORLDS):
+            some = self.generator(sort, number)
+            run = audit_runs.Run(some, self.program, self.folder, min(WORLDS, count - number), sort == "rough")
+            for at, records in enumerate(run.recordings(), number):
+                yield at, some, records
+
+    def calm(self, count):
+        """Nothing is to be told of calm worlds."""
+        for number, some, records in self.worlds("calm", count):
+            words = some.choice(([], ["--settle-ms", "1"]))
+            messages = [header for record in records for _, header, _ in wire.messages_of(record.payload)[0]]
+            self.calm_types.update(header.kind for header in messages)
+            expected = f"audited {len(records)} datagrams, {len(messages)} messages, 0 findings\n"
+            self.judge("calm", number, wire.pcap(records, nanoseconds=True), words, expected)
+
+    def rough(self, count):
+        for number, some, records in self.worlds("rough", count):
+            words = some.choice(([], ["--settle-ms", "1"], ["--settle-ms", "1", "--answer-ms", "500"]))
+            data = wire.pcap(audit_runs.disturbed(some, records), nanoseconds=True)
+            self.judge("rough", number, data, words, audit_model.audited(data, audit_model.rules_of(words)[0]))
+
+    def crowds(self, _):
+        for name, make in audit_crowds.CROWDS.items():
+            records = make()
+            self.judge("crowds", name, wire.pcap(records), [], audit_crowds.told(name, records))
+
+    def example(self):
+        """The example, which stands as its script writes it, with what is told of it."""
+        data, expected = (EXAMPLES / "audit.pcap").read_bytes(), (EXAMPLES / "audit.txt").read_text()
+        if data != wire.pcap(audit_story.STORY) or audit_model.audited(data, audit_model.Rules()) != expected:
+            print("audit: examples/audit.pcap, or audit.txt there, is not what audit_story.py and the model make")
+            self.differences += 1
+        self.judge("examples", "story", data, [], expected)
+
+    def summary(self):
+        counts = ", ".join(f"{count} {name}" for name, count in self.counts.items() if name != "datagrams")
+        told = sum(self.kinds.values())
+        return f"audit: {counts}: {self.counts['datagrams']} datagrams, {told} findings, no difference"
+
+
+def missed(sweep, sorts):
+    """What did not come, where all sorts were tried: kinds of findings, and types of messages in calm worlds."""
+    if len(sorts) < len(SORTS):
+        return []
+    types = [wire.REQUEST, wire.ONEWAY, wire.NOTIFICATION, wire.RESPONSE, wire.ERROR, wire.NOTIFICATION | wire.TP]
+    kinds = [kind for kind in audit_model.KINDS if kind not in sweep.kinds]
+    return kinds + [f"type {kind:02x} in a calm world" for kind in types if kind not in sweep.calm_types]
+
+
+def main():
+    parser = argparse.ArgumentParser()
+    parser.add_argument("program")
+    parser.add_argument("--seed", default="1")
+    parser.add_argument("--count", type=int, default=1000)
+    parser.add_argument("sorts", nargs="*")
+    words = parser.parse_intermixed_args()
+    sorts = words.sorts or SORTS
+    with tempfile.TemporaryDirectory() as folder:
+        sweep = Sweep(words.program, words.seed, folder)
+        sweep.example()
+        for sort in sorts:
+            getattr(sweep, sort)(words.count)
+    lacking = missed(sweep, sorts)
+    if lacking:
+        print(f"audit: nothing showed {', '.join(lacking)}")
+    if lacking or sweep.differences:
+        return 1
+    print(sweep.summary())
+    return 0
+
+
+if __name__ == "__main__":
+    sys.exit(main())

@@ -1,0 +1,224 @@
+"""Recordings of drawn datagrams: messages of Service Discovery, calls, events, segments and garbage, over few addresses
+and IDs, so that their keys meet. Nothing in them need make sense."""
+import struct
+
+import audit_bytes as wire
+
+SERVERS = [wire.address("192.168.0.1"), wire.address("192.168.0.2")]
+CLIENTS = [wire.address("192.168.0.3"), wire.address("192.168.0.1")]
+GROUP = wire.address("239.0.0.1")
+SERVER_PORTS, CLIENT_PORTS = (30509, 30510), (40001, 40002)
+FLAGGED, UNFLAGGED = 0xC0, 0x40
+MILLISECOND = 10**6
+STEPS = (0, 0, 0, 1, 1, 3, 10, 100, 250, 500, 500, 999, 1000, 1000, 1001, 2000, 3000, 5000)
+PAYLOADS = [b"", b"\1", b"\2", bytes(64), bytes(65), bytes(64) + b"\1", bytes(63) + b"\1\0"]
+
+
+class Draws:
+    """Draws the datagrams of one recording: `some` is the generator."""
+
+    def __init__(self, some):
+        self.some = some
+        self.sessions = {}
+        self.loose = some.random() < 0.3
+        self.rare = some.choice((0, 0.1, 0.3))
+        self.steps = some.choice((STEPS, STEPS[:9], STEPS[3:]))
+        self.payloads = some.sample(PAYLOADS, 2)
+        self.weights = some.choice(((5, 3, 3, 2), (2, 8, 1, 0), (4, 0, 8, 1), (1, 1, 1, 8), (6, 1, 1, 0)))
+
+    def chance(self, share):
+        return self.some.random() < share
+
+    def one(self, *choices):
+        return self.some.choice(choices)
+
+    def mostly(self, usual, *others):
+        """The usual choice, or now and then another one; how often, the recording says."""
+        return self.some.choice(others) if self.chance(self.rare) else usual
+
+    def server(self):
+        return self.mostly(*SERVERS)
+
+    def client(self):
+        return self.mostly(*CLIENTS)
+
+    def server_end(self):
+        return self.server(), self.mostly(*SERVER_PORTS)
+
+    def client_end(self):
+        return self.client(), self.mostly(*CLIENT_PORTS)
+
+    def service(self):
+        return self.mostly(0x1111, 0x2222)
+
+    def next_session(self, key, first):
+        """The next session of what this key counts; or now and then another one."""
+        last = self.sessions.get(key, self.some.choice(first))
+        jump = self.some.choice((0, 0, 2, 3, -1, -2, -last)) if self.chance(0.5 if self.loose else 0.1) else 1
+        session = (last + jump) % 0x10000
+        session = 1 if last == 0xFFFF and jump == 1 else session
+        self.sessions[key] = session or last
+        return session
+
+    # ---- Service Discovery
+
+    def discovery(self):
+        """A message of Offers, of answers or of Subscribes, mostly."""
+        kind = self.one(1, 6, 6, 7)
+        server, client = self.server(), self.client()
+        source, destination = (client, server) if kind == 6 else (server, GROUP if kind == 1 else client)
+        destination = GROUP if self.chance(0.05) else destination
+        port = 30490 if self.chance(0.95) else 30509
+        message = self.discovery_message((source, destination), kind)
+        return (source, port), (destination, 30490 if self.chance(0.98) else 30491), message
+
+    def discovery_message(self, ends, kind):
+        session = self.next_session(ends, (0, 0, 0, 0xFFFC, 0xFFFD))
+        flags = self.flags(ends, session)
+        header = wire.Header(0xFFFF, 0x8100, 0, session, 1, wire.NOTIFICATION, 0)
+        if self.chance(0.02):
+            header = header._replace(**{self.one("service", "method", "interface", "kind", "client", "code"): 2})
+        return wire.message(header, self.payload_of_discovery(flags, kind))
+
+    def flags(self, ends, session):
+        """Flags that are mostly those of a sender whose sessions wrapped where they did."""
+        wrapped = self.sessions.setdefault(("wrapped", ends), False) or session == 0
+        self.sessions["wrapped", ends] = wrapped
+        return self.one(FLAGGED, UNFLAGGED) if self.chance(0.05) else UNFLAGGED if wrapped else FLAGGED
+
+    def payload_of_discovery(self, flags, kind):
+        own = self.client_end if kind == 6 else self.server_end
+        options = [self.option(own) for _ in range(self.one(0, 1, 1, 1, 2, 3))]
+        entries = [self.entry(self.kind(kind), len(options)) for _ in range(self.one(0, 1, 1, 1, 2, 3))]
+        texts, ends = b"".join(entries), b"".join(options)
+        return struct.pack(">II", flags << 24, len(texts)) + texts + struct.pack(">I", len(ends)) + ends
+
+    def kind(self, usual):
+        return usual if self.chance(0.85) else self.one(0, 1, 6, 7)
+
+    def option(self, own):
+        if self.chance(0.9):
+            return wire.endpoint_option(own() if self.chance(0.8) else self.one(self.client_end(), self.server_end()))
+        kind, protocol = self.one((4, 6), (0x14, 17), (0x24, 17), (1, 17), (2, 17))
+        if kind == 2:
+            return struct.pack(">HBBHH", 5, 2, 0, 1, 1)
+        return wire.endpoint_option((self.client(), 40001), protocol, kind)
+
+    def entry(self, kind, options):
+        first = self.some.randrange(options) if options else 0
+        counts = 0x10 if options and self.chance(0.9) else self.one(0x00, 0x11, 0x20, 0x01)
+        ttl = self.one(1, 2, 3, 3, 5, wire.FOREVER, 0)
+        versions = self.mostly(1, 2) << 24 | ttl
+        last = self.mostly(0, 1) << 16 | self.mostly(1, 2)
+        service, instance = self.service(), self.mostly(1, 2)
+        return struct.pack(">BBBBHHII", kind, first, self.one(0, 0, 1), counts, service, instance, versions, last)
+
+    # ---- Calls and events
+
+    def call(self):
+        kind = self.one(wire.REQUEST, wire.REQUEST, wire.RESPONSE, wire.RESPONSE, wire.ERROR, wire.ONEWAY)
+        client, server = self.client_end(), self.server_end()
+        ends = (server, client) if kind in (wire.RESPONSE, wire.ERROR) else (client, server)
+        header = wire.Header(self.service(), self.mostly(0x0421, 0x0422), 1, self.mostly(1, 0, 2), 1, kind, 0)
+        if self.chance(self.rare / 4):
+            header = header._replace(**{self.one("client", "interface", "code"): 2})
+        return *ends, wire.message(header, self.one(*self.payloads) if self.chance(0.4) else self.payloads[0])
+
+    def event(self):
+        server, client = self.server_end(), self.client_end()
+        receiver = (GROUP, 40001) if self.chance(0.2) else client
+        service, event = self.service(), self.mostly(0x8001, 0x8002)
+        session = self.next_session((server, service, event), (0, 0, 0, 0xFFFC, 0xFFFD))
+        header = wire.Header(service, event, 0, session, 1, wire.NOTIFICATION, 0)
+        return server, receiver, wire.message(header, b"")
+
+    def segment(self):
+        kind = self.one(wire.REQUEST, wire.RESPONSE, wire.RESPONSE, wire.NOTIFICATION, wire.NOTIFICATION)
+        client, server = self.client_end(), self.server_end()
+        ends = (client, server) if kind == wire.REQUEST else (server, client)
+        method = 0x8001 if kind == wire.NOTIFICATION else 0x0421
+        session = self.mostly(1, 2, *range(20))
+        header = wire.Header(self.service(), method, 1, session, 1, kind | wire.TP, 0)
+        return *ends, wire.message(header, self.piece())
+
+    def piece(self):
+        """The payload of a segment of a message of 48 bytes, or of one that is at odds with it."""
+        if self.chance(0.05):
+            far, last = struct.pack(">I", 0xFFFFFFF1) + bytes(16), struct.pack(">I", 0x100000)
+            return self.one(b"", b"\0", bytes(3), far, last)
+        at, size = self.one(0, 0, 16, 16, 32, 32), self.one(16, 16, 16, 16, 32, 15, 0)
+        more = at + size < 48 if self.chance(0.95) else self.one(0, 1)
+        byte = 0 if self.chance(0.95) else 1
+        return struct.pack(">I", at | self.one(0, 0, 0, 0xE) | more) + bytes([byte]) * size
+
+    # ---- Datagrams
+
+    def message(self):
+        draw = self.some.choices((self.discovery, self.call, self.event, self.segment), self.weights)[0]
+        return draw()
+
+    def datagram(self):
+        source, destination, payload = self.message()
+        while self.chance(0.15):
+            payload += self.message()[2]
+        if self.chance(0.04):
+            payload = self.spoilt(payload)
+        return source, destination, payload
+
+    def spoilt(self, payload):
+        """A payload that is cut, with a byte changed, with bytes after it, or none at all."""
+        place = self.some.randrange(len(payload) + 1)
+        changed = payload[:place] + bytes([self.some.randrange(256)]) + payload[place + 1:]
+        longer = payload + self.some.randbytes(self.one(1, 15, 16, 20))
+        return self.one(payload[:place], changed, changed, longer, b"")
+
+    def stray(self):
+        """A packet that gives no datagram: no IPv4, no UDP, a fragment or one that was cut."""
+        whole = bytearray(wire.packet(wire.Record(0, *self.datagram())))
+        place, byte = self.one((0, 0x60), (9, 6), (6, 0x20), (7, 1), (25, 4))
+        whole[place] = byte
+        return bytes(whole) if self.chance(0.8) else bytes(whole[:-1])
+
+    def time_after(self, time):
+        step = self.one(*self.steps) * MILLISECOND
+        if self.chance(0.05):
+            return time - step - self.some.randrange(2 * MILLISECOND)
+        if self.chance(0.002):
+            return time + wire.FOREVER * 1000 * MILLISECOND
+        return time + step + (self.some.randrange(MILLISECOND) if self.chance(0.2) else 0)
+
+    def records(self):
+        """The packets of a recording, with their times."""
+        time = self.one(0, 10**9, 1700000000 * 10**9, 1700000000 * 10**9 + 999999)
+        found = []
+        for _ in range(self.one(5, 20, 60, 120)):
+            found.append((time, self.stray()) if self.chance(0.02) else wire.Record(time, *self.datagram()))
+            time = max(0, self.time_after(time))
+        return found
+
+    def rules(self):
+        """The words of options of a call."""
+        words = []
+        if self.chance(0.2):
+            words += ["--ports", self.one("1", "30509", "30509,40001", "40001", "30490")]
+        if self.chance(0.3):
+            words += ["--answer-ms", self.one("1", "500", "1000", "3000")]
+        if self.chance(0.4):
+            words += ["--settle-ms", self.one("1", "250", "500", "1000", "3000")]
+        return words
+
+
+def drawn(some):
+    """The bytes of a drawn recording, and the options of a call over it."""
+    draws = Draws(some)
+    records = draws.records()
+    if draws.chance(0.2):
+        return wire.pcapng([untimed(some, record) for record in records]), draws.rules()
+    return wire.pcap(records, draws.one("<", ">"), draws.chance(0.5)), draws.rules()
+
+
+def untimed(some, record):
+    """The record, now and then without its time."""
+    if some.random() >= 0.1:
+        return record
+    return record._replace(time=None) if isinstance(record, wire.Record) else (None, record[1])

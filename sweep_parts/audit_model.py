@@ -1,0 +1,479 @@
+"""What `someipctl audit` has to print of a recording, told from docs/AUDIT.md and not from the sources. It keeps whole
+lists of what was seen, and looks back over them for each finding; nothing is forgotten, and nothing is ever full.
+
+    audit_model.py [--ports PORTS] [--answer-ms N] [--settle-ms N] RECORDING
+"""
+import sys
+from collections import defaultdict
+from typing import NamedTuple, Optional
+
+import audit_bytes as wire
+from audit_parts import TIMEOUT, refusal, whole_payload
+from audit_seen import ACK, OFFER, SUBSCRIBE, Datagram, Seen, datagrams_of, looked_at, seen_in
+
+KINDS = ("malformed", "reboot", "sd session", "unanswered", "late", "unasked", "repeated", "key reused",
+         "event repeated", "event gap", "event unsubscribed", "segments", "segments missing", "offer expired",
+         "offer moved", "nack", "subscribe unanswered", "full")
+CALLS, SEGMENTS, OFFERS, SUBSCRIBES = range(4)
+FIRST_GROUP = wire.address("224.0.0.0")
+
+
+class Rules(NamedTuple):
+    ports: Optional[list] = None
+    answer: int = 2000
+    settle: int = 10000
+
+
+class Finding(NamedTuple):
+    """A finding: where it stands among all, its time, the datagram that it names, its kind and its text."""
+    order: tuple
+    time: str
+    datagram: Datagram
+    kind: str
+    text: str
+
+    def line(self):
+        named = self.datagram
+        ends = f"{wire.endpoint_text(named.source)} {wire.endpoint_text(named.destination)}"
+        return f"{self.time} {named.number} {ends} {self.text}"
+
+
+# ---- Texts
+
+def call_text(header):
+    return f"{header.service:04x}.{header.method:04x} client {header.client:04x} session {header.session:04x}"
+
+
+def event_text(header):
+    return f"{header.service:04x}.{header.method:04x}"
+
+
+def offer_text(entry):
+    return f"{entry.service:04x}.{entry.instance:04x} major {entry.major:02x}"
+
+
+def subscription_text(entry):
+    return f"{offer_text(entry)} group {entry.group:04x} counter {entry.counter}"
+
+
+class Audit:
+    """All that was seen in a recording, and what it shows."""
+
+    def __init__(self, records, rules):
+        self.rules = rules
+        self.datagrams = datagrams_of(records)
+        self.begin = self.datagrams[0].moment if self.datagrams else 0
+        self.looked = looked_at(self.datagrams, rules.ports)
+        self.seen, self.messages = seen_in(self.looked)
+        self.findings = []
+        self.reboots = []
+        self.find_all()
+
+    def find_all(self):
+        self.find_faults()
+        self.find_sessions()
+        self.put_together()
+        self.find_calls()
+        self.find_offers()
+        self.find_subscribes()
+        self.find_unsubscribed()
+        self.find_gaps()
+        self.findings.sort(key=lambda finding: finding.order)
+
+    def text(self):
+        lines = [finding.line() for finding in self.findings]
+        lines.append(f"audited {len(self.looked)} datagrams, {self.messages} messages, {len(lines)} findings")
+        told = [finding.kind for finding in self.findings]
+        lines += [f"{kind} {told.count(kind)}" for kind in KINDS if kind in told]
+        return "".join(f"{line}\n" for line in lines)
+
+    def tell(self, seen, turn, kind, text=""):
+        """Tells a finding that something seen shows; `turn` orders those of one thing."""
+        time = seen.datagram.time
+        clock = "-" if time is None else f"{time // 10**9}.{time % 10**9:09d}"
+        order = (seen.datagram.number, 1, seen.place, turn)
+        self.findings.append(Finding(order, clock, seen.datagram, kind, kind + text))
+
+    def tell_due(self, opener, deadline, book, key, kind, text):
+        """Tells what fell due, before the first datagram after its opener whose moment has come to the deadline."""
+        if deadline > self.datagrams[-1].moment:
+            return
+        after = self.datagrams[opener.datagram.number:]
+        number = next((datagram.number for datagram in after if datagram.moment >= deadline), len(self.datagrams) + 1)
+        clock = f"{deadline // 1000}.{deadline % 1000:03d}000000"
+        self.findings.append(Finding((number, 0, deadline, book, key), clock, opener.datagram, kind, kind + text))
+
+    def all_seen(self, what):
+        return [seen for seen in self.seen if seen.what == what]
+
+    def rebooted(self, addresses, first, last):
+        """Whether one of these addresses began anew after this place and before that one."""
+        return any(seen.sender in addresses and first < seen.place < last for seen in self.reboots)
+
+    def place_at(self, moment):
+        """The place of the first thing that is seen at this moment or later."""
+        return next((seen.place for seen in self.seen if seen.moment >= moment), sys.maxsize)
+
+    # ---- Faults, and sessions of Service Discovery
+
+    def find_faults(self):
+        for seen in self.all_seen("fault"):
+            self.tell(seen, 0, "malformed", " {} at {}".format(*seen.value))
+
+    def find_sessions(self):
+        by_sender = defaultdict(list)
+        for seen in self.all_seen("session"):
+            if seen.value[0]:
+                by_sender[seen.sender].append(seen)
+        for sent in by_sender.values():
+            for at, seen in enumerate(sent):
+                self.judge_session(sent[:at], seen)
+        self.reboots.sort()
+
+    def judge_session(self, before, seen):
+        """Judges a message by those of its sender before it, since that began anew last."""
+        began = max((reboot.place for reboot in self.reboots if reboot.sender == seen.sender), default=-1)
+        pair = [last for last in before if last.place >= began and last.receiver == seen.receiver]
+        if not pair:
+            return
+        (last, flagged), (session, flag) = pair[-1].value, seen.value
+        following = (last + 1, flagged) if last < 0xFFFF else (1, 0)
+        if flag and (not flagged or session <= last):
+            self.reboots.append(seen)
+            self.tell(seen, 0, "reboot")
+        elif (session, flag) != following:
+            self.tell(seen, 0, "sd session", f" {session:04x} expected {following[0]:04x}")
+
+    # ---- Segments
+
+    def put_together(self):
+        """Judges each segment, and puts the message that it makes whole after it. A part is a list of segments."""
+        parts, whole = {}, []
+        for seen in self.all_seen("segment"):
+            key = (seen.datagram.source, seen.datagram.destination, *seen.value[0])
+            self.drop_missing(parts, seen.moment)
+            fault = refusal(parts, key, seen)
+            if fault == "Conflict":
+                del parts[key]
+            if fault:
+                self.tell(seen, 0, "segments", f" {fault} {call_text(seen.value[0])}")
+                continue
+            parts.setdefault(key, []).append(seen)
+            payload = whole_payload(parts[key])
+            if payload is not None:
+                del parts[key]
+                header = seen.value[0]._replace(kind=seen.value[0].kind & ~wire.TP)
+                whole.append(Seen(seen.place + 1, seen.datagram, "message", (header, payload)))
+        self.drop_missing(parts, self.datagrams[-1].moment if self.datagrams else 0)
+        self.seen = sorted(self.seen + whole)
+
+    def drop_missing(self, parts, moment):
+        for key in [key for key in parts if parts[key][-1].moment + TIMEOUT <= moment]:
+            part, text = parts.pop(key), " " + call_text(wire.Header(*key[2:]))
+            self.tell_due(part[0], part[-1].moment + TIMEOUT, SEGMENTS, key, "segments missing", text)
+
+    # ---- Calls
+
+    def find_calls(self):
+        calls = defaultdict(list)
+        for seen in self.all_seen("message"):
+            header, ends = seen.value[0], (seen.datagram.source, seen.datagram.destination)
+            if header.kind == wire.REQUEST:
+                calls[ends + header[:5]].append(seen)
+            elif header.kind in (wire.RESPONSE, wire.ERROR):
+                calls[ends[::-1] + header[:5]].append(seen)
+        for key, timeline in calls.items():
+            self.find_call(key, timeline)
+
+    def find_call(self, key, timeline):
+        """Parts the messages of a key by the REQUESTs that open a call, and judges each part."""
+        part = []
+        for seen in timeline:
+            if is_request(seen) and not self.is_same_question(part, seen):
+                if self.is_open(part, seen.moment) and seen.value[0].session:
+                    self.tell(seen, 0, "key reused", " " + call_text(seen.value[0]))
+                self.judge_call(key, part, seen.moment)
+                part = []
+            part.append(seen)
+        self.judge_call(key, part, None)
+
+    def is_open(self, part, moment):
+        """Whether the call that the first of these opened is open at this moment, no answer having come."""
+        opened = bool(part) and is_request(part[0]) and moment < part[0].moment + self.rules.answer
+        return opened and all(map(is_request, part))
+
+    def is_same_question(self, part, seen):
+        return self.is_open(part, seen.moment) and excerpt(part[0]) == excerpt(seen)
+
+    def judge_call(self, key, part, until):
+        """Judges the messages from a REQUEST, if one came, up to the next that opens a call, at the moment `until`, if
+        one came."""
+        answers = [seen for seen in part if not is_request(seen)]
+        if not part or not is_request(part[0]):
+            return self.judge_unasked(answers)
+        deadline = part[0].moment + self.rules.answer
+        is_overdue = (until is None or deadline <= until) and not any(seen.moment < deadline for seen in answers)
+        if is_overdue:
+            self.tell_due(part[0], deadline, CALLS, key, "unanswered", " " + call_text(part[0].value[0]))
+        for seen in answers[:1]:
+            if is_overdue:
+                self.tell(seen, 0, "late", f" {seen.moment - part[0].moment} ms {call_text(seen.value[0])}")
+        for seen in answers[1:]:
+            if seen.moment < answers[0].moment + self.rules.answer:
+                self.tell(seen, 0, "repeated", " " + call_text(seen.value[0]))
+            else:
+                self.judge_unasked([seen])
+
+    def judge_unasked(self, answers):
+        for seen in answers:
+            if seen.moment >= self.begin + self.rules.answer:
+                self.tell(seen, 0, "unasked", " " + call_text(seen.value[0]))
+
+    # ---- Offers
+
+    def find_offers(self):
+        offers = defaultdict(list)
+        for seen in self.all_seen("entry"):
+            if seen.value.kind == OFFER and (seen.value.endpoint or not seen.value.ttl):
+                offers[seen.value[1:4]].append(seen)
+        for key, timeline in offers.items():
+            for at, seen in enumerate(timeline):
+                if seen.value.ttl:
+                    self.judge_offer(key, timeline[:at], seen, timeline[at + 1:])
+
+    def judge_offer(self, key, before, seen, after):
+        last = next((offer for offer in reversed(before) if offer.value.ttl), None)
+        is_same = last and (last.sender, last.value.endpoint) == (seen.sender, seen.value.endpoint)
+        if last and not is_same and self.is_standing(last, before, seen.place, seen.moment):
+            self.tell(seen, 0, "offer moved", " " + offer_text(seen.value))
+        deadline = seen.moment + 1000 * seen.value.ttl
+        ended = any(later.moment < deadline and (later.value.ttl or later.sender == seen.sender) for later in after)
+        is_ended = ended or self.rebooted((seen.sender,), seen.place, self.place_at(deadline))
+        if seen.value.ttl != wire.FOREVER and not is_ended:
+            self.tell_due(seen, deadline, OFFERS, key, "offer expired", " " + offer_text(seen.value))
+
+    def is_standing(self, offer, timeline, place, moment):
+        """Whether an offer stands before this place, where no Offer came since."""
+        sender = offer.sender
+        stops = [seen for seen in timeline if not seen.value.ttl and seen.sender == sender]
+        stopped = any(seen.place > offer.place for seen in stops)
+        passed = offer.value.ttl != wire.FOREVER and offer.moment + 1000 * offer.value.ttl <= moment
+        return not stopped and not passed and not self.rebooted((sender,), offer.place, place)
+
+    # ---- Subscribes
+
+    def subscriptions(self):
+        """What came of each subscription, by its key: client, server, service, instance, major version, eventgroup and
+        counter."""
+        found = defaultdict(list)
+        for seen in self.all_seen("entry"):
+            entry = seen.value
+            if entry.kind in (SUBSCRIBE, ACK):
+                named = (entry.service, entry.instance, entry.major, entry.group, entry.counter)
+                found[sides(seen) + named].append(seen)
+        return found
+
+    def find_subscribes(self):
+        for key, timeline in self.subscriptions().items():
+            waits = None
+            for at, seen in enumerate(timeline):
+                if is_nack(seen.value):
+                    self.tell(seen, 0, "nack", " " + subscription_text(seen.value))
+                if asks(seen.value) and not self.is_waiting(key, waits, timeline[:at], seen):
+                    waits = seen
+                    self.judge_subscribe(key, seen, timeline[at + 1:])
+
+    def is_waiting(self, key, asked, timeline, seen):
+        """Whether a Subscribe that began to wait still waits where another thing is seen."""
+        if asked is None or asked.moment + self.rules.answer <= seen.moment:
+            return False
+        answered = any(other.place > asked.place and other.value.kind == ACK for other in timeline)
+        return not answered and not self.rebooted(key[:2], asked.place, seen.place)
+
+    def judge_subscribe(self, key, asked, after):
+        deadline = asked.moment + self.rules.answer
+        answered = any(seen.value.kind == ACK and seen.moment < deadline for seen in after)
+        if not answered and not self.rebooted(key[:2], asked.place, self.place_at(deadline)):
+            text = " " + subscription_text(asked.value)
+            self.tell_due(asked, deadline, SUBSCRIBES, key, "subscribe unanswered", text)
+
+    # ---- Events to one endpoint
+
+    def standings(self):
+        """Each time that a subscription stood."""
+        found = []
+        stops = [seen for seen in self.all_seen("entry") if is_stop(seen.value)]
+        for key, timeline in self.subscriptions().items():
+            ends = [seen for seen in stops if (seen.sender, *seen.value[1:4]) == key[1:5]]
+            ends += [seen for seen in self.reboots if seen.sender in key[:2]]
+            found += stood(key, sorted(timeline + ends))
+        return found
+
+    def find_unsubscribed(self):
+        """The notifications to one endpoint by no subscription. Each is told once until a Subscribe comes by which it
+        might go."""
+        standings, told = self.standings(), {}
+        for seen in self.all_seen("message"):
+            header = seen.value[0]
+            is_event = header.kind == wire.NOTIFICATION and seen.receiver < FIRST_GROUP
+            if not is_event or seen.moment < self.begin + self.rules.settle:
+                continue
+            if not any(goes_by(standing, seen) for standing in standings):
+                key = (seen.sender, header.service, header.method, seen.datagram.destination)
+                if key not in told or self.came_subscribe(key, told[key], seen.place):
+                    told[key] = seen.place
+                    self.tell(seen, 1, "event unsubscribed", " " + event_text(header))
+
+    def came_subscribe(self, key, first, last):
+        server, service, _, endpoint = key
+        asked = [seen for seen in self.all_seen("entry") if first < seen.place < last and asks(seen.value)]
+        ways = [(seen.receiver, seen.value.service, seen.value.endpoint) for seen in asked]
+        return (server, service, endpoint) in ways
+
+    # ---- Sessions of events
+
+    def find_gaps(self):
+        streams = defaultdict(list)
+        for seen in self.all_seen("message"):
+            header = seen.value[0]
+            if header.kind == wire.NOTIFICATION and header.session:
+                streams[seen.datagram.source, header.service, header.method].append(seen)
+        standings = self.standings()
+        for stream in streams.values():
+            flows = defaultdict(list)
+            for seen in stream:
+                self.judge_event(flows[seen.datagram.destination], stream, standings, seen)
+
+    def judge_event(self, flow, stream, standings, seen):
+        """Judges an event by those of its flow that were not repeated ones, and enters it where it is none."""
+        header, ends = seen.value[0], (seen.sender, seen.receiver)
+        last = flow[-1] if flow and not self.rebooted(ends, flow[-1].place, seen.place) else None
+        text = f" {event_text(header)} session {header.session:04x}"
+        if last and last.value[0].session == header.session:
+            return self.tell(seen, 2, "event repeated", text)
+        flow.append(seen)
+        if not last:
+            return
+        expected = last.value[0].session % 0xFFFF + 1
+        if header.session != expected and not self.is_excused(last, stream, standings, seen):
+            self.tell(seen, 2, "event gap", f"{text} expected {expected:04x}")
+
+    def is_excused(self, last, stream, standings, seen):
+        """Whether the sessions between two events of a flow need not be lost."""
+        ahead = lambda session: (session - last.value[0].session) % 0xFFFF
+        others = any(last.place < other.place < seen.place and other.datagram.destination != seen.datagram.destination
+                     and 0 < ahead(other.value[0].session) < ahead(seen.value[0].session) for other in stream)
+        return others or self.is_disturbed(last, standings, seen)
+
+    def is_disturbed(self, last, standings, seen):
+        """Whether a subscription of the receiver changed, or the offer was withdrawn, between two events of a flow."""
+        for other in self.all_seen("entry"):
+            changed = other.value.kind in (SUBSCRIBE, ACK) and concerns(*sides(other), seen)
+            is_own = (other.sender, other.value.service) == (seen.sender, seen.value[0].service)
+            if last.place < other.place < seen.place and (changed or is_own and is_stop(other.value)):
+                return True
+        passed = [standing.passed for standing in standings if concerns(*standing.key[:2], seen)]
+        return any(last.moment < moment <= seen.moment for moment in passed if moment is not None)
+
+
+# ---- Questions about single things
+
+def is_request(seen):
+    return seen.value[0].kind == wire.REQUEST
+
+
+def excerpt(seen):
+    return len(seen.value[1]), seen.value[1][:64]
+
+
+def is_nack(entry):
+    return entry.kind == ACK and not entry.ttl
+
+
+def is_stop(entry):
+    return entry.kind == OFFER and not entry.ttl
+
+
+def asks(entry):
+    return entry.kind == SUBSCRIBE and entry.ttl > 0
+
+
+def sides(seen):
+    """Client and server of an entry of an eventgroup: a Subscribe goes from the one to the other, its answer back."""
+    return (seen.sender, seen.receiver) if seen.value.kind == SUBSCRIBE else (seen.receiver, seen.sender)
+
+
+def concerns(client, server, seen):
+    """Whether a subscription between these two may be one by which an event goes."""
+    return server == seen.sender and (client == seen.receiver or seen.receiver >= FIRST_GROUP)
+
+
+class Standing(NamedTuple):
+    """A time that a subscription stood, between two places and to one endpoint; and the moment at which its time has
+    passed, where nothing ended it before."""
+    key: tuple
+    endpoint: tuple
+    begin: int
+    end: int
+    passed: Optional[int]
+
+
+def begun(key, endpoint, seen):
+    passed = None if seen.value.ttl == wire.FOREVER else seen.moment + 1000 * seen.value.ttl
+    return Standing(key, endpoint, seen.place, sys.maxsize, passed)
+
+
+def stood(key, steps):
+    """The times that a subscription stood, by what came of it, stops of its offer and reboots of either side."""
+    found, now = [], None
+    for seen in steps:
+        entry = seen.value if seen.what == "entry" else None
+        if now and now.passed is not None and now.passed <= seen.moment:
+            found, now = found + [now], None
+        if entry and asks(entry) and entry.endpoint:
+            then = begun(key, entry.endpoint, seen)
+        elif entry and entry.kind == ACK and entry.ttl and now:
+            then = begun(key, now.endpoint, seen)
+        elif entry and entry.kind in (SUBSCRIBE, ACK) and entry.ttl:
+            continue
+        else:
+            then = None
+        found, now = found + ([now._replace(end=seen.place, passed=None)] if now else []), then
+    return found + ([now] if now else [])
+
+
+def goes_by(standing, seen):
+    """Whether an event may go by a subscription."""
+    server, service = standing.key[1:3]
+    is_to = (server, service) == (seen.sender, seen.value[0].service) and standing.endpoint == seen.datagram.destination
+    stands = standing.begin < seen.place < standing.end
+    return is_to and stands and (standing.passed is None or seen.moment < standing.passed)
+
+
+# ---- The command
+
+def audited(data, rules):
+    """What is printed of the bytes of a recording."""
+    return Audit(wire.records_of(data), rules).text()
+
+
+def rules_of(words):
+    """The rules that options say, and the words after them."""
+    rules = Rules()
+    while words and words[0].startswith("--"):
+        option, value, *words = words
+        if option == "--ports":
+            rules = rules._replace(ports=list(map(int, value.split(","))))
+        elif option == "--answer-ms":
+            rules = rules._replace(answer=int(value))
+        elif option == "--settle-ms":
+            rules = rules._replace(settle=int(value))
+        else:
+            sys.exit(f"audit_model: no option {option}")
+    return rules, words
+
+
+if __name__ == "__main__":
+    rules, paths = rules_of(sys.argv[1:])
+    with open(paths[0], "rb") as file:
+        sys.stdout.write(audited(file.read(), rules))
