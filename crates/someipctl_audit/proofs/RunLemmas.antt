@@ -17,7 +17,7 @@ use Rattle.recording.specs.Records.{Item}
 use Rattle.audit_tables.specs.declared.Origin.{Origin}
 use Rattle.someip_audit.specs.declared.FellDue.{FellDue}
 use Rattle.someip_audit.specs.declared.Finding.{Finding}
-use Rattle.someip_audit.specs.Audits.{AuditState, Audits, Hears, Report, Seen, fell, found, seen_messages, seen_shown}
+use Rattle.someip_audit.specs.Audits.{AuditState, Hears, Report, Seen, fell, found, seen_messages, seen_shown}
 use Rattle.someipctl_inputs.specs.Inputs.{WasLeft}
 use Rattle.someipctl_inputs.specs.Outcomes.{fault_outcome}
 use Rattle.someipctl_print.specs.Sending.{Sends, Stops}
@@ -35,8 +35,8 @@ use Rattle.someipctl_audit.specs.declared.tally.Tally.{Tally}
 use Rattle.someipctl_audit.specs.Scenes.{view_seen}
 use Rattle.someipctl_audit.specs.AuditResult.{BeginsAudit, IsAuditText, ShowsAudit, has_findings}
 use Rattle.someipctl_audit.specs.AuditText.{Looked, audit_text, fell_line, report_line, report_lines, summary_text, time_of}
-use Rattle.someipctl_audit.specs.Runs.{EndsWith, PutsAudit, PutsDatagram, PutsEnd, PutsLast, PutsNext, PutsRecord, StopsDatagram, StopsEnd, StopsLast, StopsNext, StopsRecord, StopsSummary}
-use Rattle.someipctl_audit.specs.SeenIn.{AskedAudit, AuditsSome, StopsAt, Tells, TellsSome, audit_at, datagrams_in, looked_by, looked_more, looked_of, none_looked, seen_from, seen_in, seen_next}
+use Rattle.someipctl_audit.specs.Runs.{EndsWith, PutsAudit, PutsDatagram, PutsEnd, PutsLast, PutsNext, PutsRecord, StopsDatagram, StopsEnd, StopsLast, StopsNext, StopsRecord}
+use Rattle.someipctl_audit.specs.SeenIn.{AskedAudit, AuditsSome, StopsAt, Tells, TellsSome, audit_at, datagrams_in, looked_more, looked_of, none_looked, seen_from, seen_in, seen_next}
 use Rattle.someipctl_audit.specs.Steps.{CountsMore, PutsSeen, StopsSeen, line_at}
 use Rattle.someipctl_audit.specs.Tallies.{Counts}
 use Rattle.someipctl_audit.proofs.StepLemmas.{counts_none, stops_here}
@@ -382,6 +382,7 @@ audited_datagram asked r new were are now before after later last held waits res
         (subst (λ a. (others : List Seen) (rest : List Report) (t : Tells asked last a others rest) → Goes asked (two ++ others) (reports ++ rest) (looked_plus looked (looked_of asked last a others rest t))) (sym is)
         (subst (λ (l : List Seen). (others : List Seen) (rest : List Report) (t : Tells asked last (Some state) others rest) → Goes asked (l ++ others) (reports ++ rest) (looked_plus looked (looked_of asked last (Some state) others rest t))) (sym seens)
         goes))
+
     moved_some : {one two : List Seen} {audit : Option AuditState} {state : AuditState} {now last : ℕ} (reports : List Report) → two ≡ one → audit ≡ Some state → now ≡ last
         → ((others : List Seen) (rest : List Report) → TellsSome asked last (Some state) others rest → TellsSome asked 0 None (one ++ others) (reports ++ rest))
         → (others : List Seen) (rest : List Report) → TellsSome asked now audit others rest → TellsSome asked 0 None (two ++ others) (reports ++ rest)
@@ -496,8 +497,8 @@ stops_datagram asked r new were are now before after later last held waits audit
     let seen = seen_next gone.datagrams gone.now d in
     let others = seen_from (gone.datagrams + 1) (moment_of gone.now d.time) more in
     let all : datagrams_in (held_of f.0) ≡ ds ++ d ∷ more =
-        ap datagrams_in f.3 ∙ datagrams-append (is.done ++ Ok (datagram d) ∷ []) f.1
-        ∙ ap (λ (l : List DatagramValue). l ++ more) (datagrams-append is.done (Ok (datagram d) ∷ [])) ∙ append_assoc ds (d ∷ []) more in
+    ap datagrams_in f.3 ∙ datagrams-append (is.done ++ Ok (datagram d) ∷ []) f.1
+    ∙ ap (λ (l : List DatagramValue). l ++ more) (datagrams-append is.done (Ok (datagram d) ∷ [])) ∙ append_assoc ds (d ∷ []) more in
     begins_some asked were before last f.0 f.2 (ds ++ d ∷ more) all (is.reports ++ stops.told)
     (subst (λ (l : List Seen). TellsSome asked 0 None l (is.reports ++ stops.told)) (sym (seen_more gone ds (d ∷ more) is.number is.moment))
     (is.some (seen ∷ others) stops.told (some_heard asked gone.now audit seen others stops.told stops.some)))
@@ -570,13 +571,15 @@ audit_ends asked r new were are now before after later last held waits rest audi
     let ds = datagrams_in is.done in
     let goes = goes_end asked gone.now audit (seen_in ds) is.reports is.looked end.told end.ends is.goes in
     let text : EndText asked shown before last rest (datagrams_in (held_of f.0)) =
-        subst (EndText asked shown before last rest) (sym (whole_datagrams f.0 is.done items f.2 empty))
-        (is.reports ++ map fell end.told, goes.0,
-        subst (λ l. Sends before [] last rest (audit_text ds (is.reports ++ map fell end.told) l)) (sym goes.1)
-        (subst (Sends before [] last rest) (text_end ds is.reports end.told is.looked)
-        (Sends-trans before later last [] waits rest (report_lines ds is.reports) (flat_map fell_line end.told ++ summary_text is.looked (is.reports ++ map fell end.told))
-        (sent_before asked r were are before after later held waits audit gone is sends) end.sends)),
-        end.outcome) in
+    subst (EndText asked shown before last rest) (sym (whole_datagrams f.0 is.done items f.2 empty)) (
+      is.reports ++ map fell end.told,
+      goes.0,
+      subst (λ l. Sends before [] last rest (audit_text ds (is.reports ++ map fell end.told) l)) (sym goes.1)
+          (subst (Sends before [] last rest) (text_end ds is.reports end.told is.looked)
+          (Sends-trans before later last [] waits rest (report_lines ds is.reports) (flat_map fell_line end.told ++ summary_text is.looked (is.reports ++ map fell end.told))
+          (sent_before asked r were are before after later held waits audit gone is sends) end.sends)),
+      end.outcome,
+    ) in
     record {
       file = f.0;
       left = f.1;
@@ -629,12 +632,14 @@ audit_end_stops asked r new were are now before after later last held waits audi
     let ds = datagrams_in is.done in
     let goes = goes_end asked gone.now audit (seen_in ds) is.reports is.looked end.told end.ends is.goes in
     begins_whole asked were before last f.0 f.1
-    (subst (StopText asked before last) (sym (whole_datagrams f.0 is.done items f.2 empty))
-    (is.reports ++ map fell end.told, goes.0,
-    subst (λ l. Stops before [] last (audit_text ds (is.reports ++ map fell end.told) l)) (sym goes.1)
-    (subst (Stops before [] last) (text_end ds is.reports end.told is.looked)
-    (Stops-after before later last [] waits (report_lines ds is.reports) (flat_map fell_line end.told ++ summary_text is.looked (is.reports ++ map fell end.told))
-    (sent_before asked r were are before after later held waits audit gone is sends) end.stops))))
+    (subst (StopText asked before last) (sym (whole_datagrams f.0 is.done items f.2 empty)) (
+      is.reports ++ map fell end.told,
+      goes.0,
+      subst (λ l. Stops before [] last (audit_text ds (is.reports ++ map fell end.told) l)) (sym goes.1)
+          (subst (Stops before [] last) (text_end ds is.reports end.told is.looked)
+          (Stops-after before later last [] waits (report_lines ds is.reports) (flat_map fell_line end.told ++ summary_text is.looked (is.reports ++ map fell end.told))
+          (sent_before asked r were are before after later held waits audit gone is sends) end.stops)),
+    ))
 
 -- ---- what waited in the buffer
 

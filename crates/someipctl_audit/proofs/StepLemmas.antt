@@ -1,6 +1,5 @@
 -- What is printed of one datagram, step by step.
 use Rattle.std.proofs.Common.{◌≡◌, ℕ, ◌+◌, List, [], ◌∷◌, ◌++◌, map, Option, Some, None, Result, Ok, Err, refl, sym, ap, subst, ◌∙◌, append_assoc, inl, inr}
-use Rattle.std.specs.Prelude.{◌⊎◌}
 use Rattle.std.specs.List.{flat_map}
 use Rattle.std.specs.Result.{OnOk}
 use Rattle.std.proofs.lemmas.List.{append-nil}
@@ -15,7 +14,7 @@ use Rattle.someipctl_print.specs.Sending.{Sends, Stops}
 use Rattle.someipctl_print.proofs.SendingLemmas.{Sends-nil, Sends-trans, Stops-after}
 use Rattle.someipctl_audit.specs.declared.tally.Tally.{Tally}
 use Rattle.someipctl_audit.specs.AuditText.{Looked, fell_line, found_line, kind_of}
-use Rattle.someipctl_audit.specs.SeenIn.{DrainsSome, StopsAt, looked_more}
+use Rattle.someipctl_audit.specs.SeenIn.{DrainsSome, looked_more}
 use Rattle.someipctl_audit.specs.Steps.{CountsMore, PutsDue, PutsSeen, StopsDue, StopsSeen, line_at}
 use Rattle.someipctl_audit.specs.Tallies.{Counts, tally_after, tally_looked}
 use Rattle.someipctl_audit.proofs.TallyLemmas.{counts_more}

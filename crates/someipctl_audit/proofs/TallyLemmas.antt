@@ -1,16 +1,16 @@
 -- What was counted.
-use Rattle.std.proofs.Common.{◌≡◌, ◌≢◌, ◌==◌, ℕ, ◌+◌, ◌<◌, Bool, true, false, List, [], ◌∷◌, ◌++◌, Option, Some, None, length, refl, sym, ap, subst, ◌∙◌, arith, cond, lit<, add-zero, eqb-true, length-append}
+use Rattle.std.proofs.Common.{◌≡◌, ◌==◌, ℕ, ◌+◌, ◌<◌, Bool, true, false, List, [], ◌∷◌, ◌++◌, length, refl, sym, ap, ◌∙◌, cond, lit<, add-zero, eqb-true, length-append}
 use Rattle.std.proofs.lemmas.Bool.{eqb-false}
 use Rattle.std.proofs.lemmas.List.{get_or-set_other, get_or-set_same, length-set}
 use Rattle.std.proofs.lemmas.List.Sums.{sum_by_push}
-use Rattle.std.specs.List.{count_by, flat_map, slice_index, slice_set}
+use Rattle.std.specs.List.{flat_map, slice_index, slice_set}
 use Rattle.someip_audit.specs.Audits.{Report}
 use Rattle.someipctl_audit.specs.declared.kind.Kind.{Kind}
 use Rattle.someipctl_audit.specs.declared.kind.Kind.TheVariants.{Malformed}
 use Rattle.someipctl_audit.specs.declared.tally.Tally.{Tally}
 use Rattle.someipctl_audit.specs.Kinds.{all_kinds, kind_number}
 use Rattle.someipctl_audit.specs.AuditText.{Looked, audited_line, count_of, kind_line, kind_of, summary_text}
-use Rattle.someipctl_audit.specs.Tallies.{Counts, tally_after, tally_kinds, looked_in, tally_line, tally_looked}
+use Rattle.someipctl_audit.specs.Tallies.{Counts, tally_after, tally_kinds, looked_in, tally_line}
 
 -- ---- the summary
 

@@ -1,6 +1,5 @@
 -- What `audit` does with a recording.
-use Rattle.std.specs.Prelude.{ℕ, ◌≡◌, ◌⊎◌, Bool, true, false, List, [], ◌∷◌, ◌++◌, Option, Some, None, option_map}
-use Rattle.std.specs.Borrow.{Bor}
+use Rattle.std.specs.Prelude.{ℕ, ◌≡◌, ◌⊎◌, Bool, true, false, List, [], ◌∷◌, ◌++◌, Option, None, option_map}
 use Rattle.std.specs.Io.KnownBytes.{Appends}
 use Rattle.recording.specs.HeldItems.{held_of}
 use Rattle.recording.specs.Packets.{DatagramValue}
@@ -11,7 +10,7 @@ use Rattle.someipctl_recordings.specs.declared.ShownRecording.{ShownRecording}
 use Rattle.someipctl_recordings.specs.LeftOut.{left_out_of}
 use Rattle.someipctl_recordings.specs.RecordingResult.{fault_among}
 use Rattle.someipctl_audit.specs.declared.asked.AuditAsked.{AuditAsked}
-use Rattle.someipctl_audit.specs.AuditText.{Looked, audit_text, report_lines}
+use Rattle.someipctl_audit.specs.AuditText.{audit_text, report_lines}
 use Rattle.someipctl_audit.specs.SeenIn.{AskedAudit, Tells, TellsSome, datagrams_in, looked_of, seen_in}
 
 -- what is asked, by the program's values
@@ -39,7 +38,7 @@ abbrev pub IsAuditText : AskedAudit → List DatagramValue → List ℕ → Type
 IsAuditText asked datagrams text =
     ((reports : List Report) × TellsSome asked 0 None (seen_in datagrams) reports × (text ≡ report_lines datagrams reports))
     ⊎ ((reports : List Report) × (told : Tells asked 0 None (seen_in datagrams) reports)
-      × (text ≡ audit_text datagrams reports (looked_of asked 0 None (seen_in datagrams) reports told)))
+    × (text ≡ audit_text datagrams reports (looked_of asked 0 None (seen_in datagrams) reports told)))
 
 -- a beginning of that text was written, which may be nothing
 pub record BeginsAudit (input : Option (List ℕ)) (asked : AskedAudit) (before after : Option (List ℕ)) : Type 0 where

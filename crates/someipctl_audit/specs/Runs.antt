@@ -1,11 +1,10 @@
 -- What is printed of a recording, record by record.
-use Rattle.std.specs.Prelude.{◌≡◌, ◌⊎◌, ◌+◌, ℕ, List, [], ◌∷◌, ◌++◌, map, Option, None, Some}
+use Rattle.std.specs.Prelude.{◌≡◌, ◌⊎◌, ◌+◌, ℕ, List, [], ◌++◌, map, Option, None, Some}
 use Rattle.std.specs.List.{flat_map}
-use Rattle.recording.specs.declared.RecordingError.{RecordingError}
 use Rattle.recording.specs.HeldItems.{held_of}
 use Rattle.recording.specs.Packets.{DatagramValue, RecordValue, datagram, other}
 use Rattle.someip_audit.specs.declared.FellDue.{FellDue}
-use Rattle.someip_audit.specs.Audits.{AuditState, Drains, Report, Seen, fell}
+use Rattle.someip_audit.specs.Audits.{AuditState, Drains, Report, fell}
 use Rattle.someipctl_inputs.specs.Inputs.{WasLeft}
 use Rattle.someipctl_inputs.specs.Outcomes.{fault_outcome}
 use Rattle.someipctl_print.specs.Sending.{Sends, Stops}
@@ -17,11 +16,10 @@ use Rattle.someipctl_audit.specs.declared.audits.Gone.{Gone}
 use Rattle.someipctl_audit.specs.declared.auditing.SeenDatagram.{SeenDatagram}
 use Rattle.someipctl_audit.specs.declared.tally.Tally.{Tally}
 use Rattle.someipctl_audit.specs.AuditResult.{has_findings}
-use Rattle.someipctl_audit.specs.AuditText.{Looked, audit_text, fell_line, report_line, summary_text}
+use Rattle.someipctl_audit.specs.AuditText.{Looked, audit_text, fell_line, summary_text}
 use Rattle.someipctl_audit.specs.Scenes.{view_seen}
-use Rattle.someipctl_audit.specs.SeenIn.{AskedAudit, DrainsSome, Tells, audit_at, datagrams_in, looked_of, seen_in, seen_next}
+use Rattle.someipctl_audit.specs.SeenIn.{AskedAudit, Tells, audit_at, datagrams_in, looked_of, seen_in, seen_next}
 use Rattle.someipctl_audit.specs.Steps.{PutsDue, PutsSeen, StopsDue, StopsSeen}
-use Rattle.someipctl_audit.specs.Tallies.{Counts}
 
 -- ---- the next datagram
 

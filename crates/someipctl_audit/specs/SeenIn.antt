@@ -2,10 +2,9 @@
 use Rattle.std.specs.Prelude.{◌≡◌, ◌⊎◌, ⊤, ℕ, ◌+◌, List, [], ◌∷◌, ◌++◌, map, Option, None, Some, Ok, Err}
 use Rattle.recording.specs.Packets.{DatagramValue, datagram, other}
 use Rattle.recording.specs.Records.{Item}
-use Rattle.audit_tables.specs.declared.Origin.{Origin}
 use Rattle.someip_audit.specs.declared.AuditRules.{AuditRules}
 use Rattle.someip_audit.specs.declared.FellDue.{FellDue}
-use Rattle.someip_audit.specs.Audits.{AuditState, Audits, Drains, Hears, IsNext, Report, Seen, audit_begun, fell, seen_messages}
+use Rattle.someip_audit.specs.Audits.{AuditState, Audits, Hears, IsNext, Report, Seen, audit_begun, fell, seen_messages}
 use Rattle.someip_audit.specs.FellDues.{after_due}
 use Rattle.someipctl_recordings.specs.Gathered.{socket_of}
 use Rattle.someipctl_recordings.specs.Moments.{moment_of}

@@ -1,10 +1,8 @@
 -- What is told of one datagram, as it is printed.
-use Rattle.std.specs.Prelude.{◌≡◌, ◌⊎◌, ◌+◌, ℕ, List, [], ◌∷◌, ◌++◌, map, Option}
+use Rattle.std.specs.Prelude.{◌⊎◌, ℕ, List, ◌++◌, map, Option}
 use Rattle.std.specs.List.{flat_map}
 use Rattle.recording.specs.declared.Time.{Time}
-use Rattle.audit_tables.specs.declared.Origin.{Origin}
 use Rattle.someip_audit.specs.declared.FellDue.{FellDue}
-use Rattle.someip_audit.specs.declared.Finding.{Finding}
 use Rattle.someip_audit.specs.Audits.{AuditState, Drains, Hears, Report, Seen, fell, found, seen_messages}
 use Rattle.someipctl_print.specs.Sending.{Sends, Stops}
 use Rattle.someipctl_audit.specs.declared.tally.Tally.{Tally}

@@ -43,8 +43,8 @@ pub(crate) fn put_seen<S: Reassembly + Drop, W: Write>(
     findings: &mut Vec<Finding>,
     tally: &mut Tally,
 ) -> Result<(), RecordingFault>
-    ensures puts { OnOk result (PutsSeen seen.entry.now.time (view_seen seen.entry.now) audit.old audit.new tally.old tally.new
-        (W.contents writer.old) buffer.old (W.contents writer.new) buffer.new) }
+    ensures puts { OnOk result (PutsSeen seen.entry.now.time (view_seen seen.entry.now)
+        audit.old audit.new tally.old tally.new (W.contents writer.old) buffer.old (W.contents writer.new) buffer.new) }
     ensures stops { OnErr result (StopsSeen seen.entry.now.time (view_seen seen.entry.now) audit.old
         (W.contents writer.old) buffer.old (W.contents writer.new)) }
 {

@@ -256,7 +256,13 @@ fn put_end<S: Reassembly + Drop, W: Write>(
     ensures fault { IfOk result (λ shown. shown.fault ≡ fault) }
     ensures left_out { IfOk result (λ shown. shown.left_out ≡ gone.old.left_out) }
 {
-    put_last(buffer, writer, &mut auditing.audit, gone.now, &mut gone.tally)?;
+    put_last(
+        buffer,
+        writer,
+        &mut auditing.audit,
+        gone.now,
+        &mut gone.tally,
+    )?;
     put_summary(buffer, writer, &gone.tally)?;
     Ok(ShownRecording {
         outcome: Outcome::of(gone.tally.findings > 0),

@@ -42,7 +42,8 @@ pub fn findings_have_texts()
         ≡ codes " event unsubscribed 1234.8001\n" }
     ensures segment { said_text (said (findings.Segment header_1 segments.Conflict))
         ≡ codes " segments Conflict 1234.0421 client 0101 session 0002\n" }
-    ensures moved { said_text (said (findings.Offer offer_1 offers.Moved)) ≡ codes " offer moved 1234.0001 major 02\n" }
+    ensures moved { said_text (said (findings.Offer offer_1 offers.Moved))
+        ≡ codes " offer moved 1234.0001 major 02\n" }
     ensures nack { said_text (said (findings.Subscription key_1 subscriptions.Nack))
         ≡ codes " nack 1234.0001 major 02 group 0005 counter 3\n" }
     ensures full { said_text (said (findings.Event event_1 receivers.Full)) ≡ codes " full receivers\n" }

@@ -45,7 +45,12 @@ pub(crate) fn put_finding<W: Write>(
             put_event(buffer, writer, flow, *session, shown)
         }
         Finding::Segment(header, refusal) => {
-            put_said(buffer, writer, Kind::Segments, &segment_words(refusal.name(), header))
+            put_said(
+                buffer,
+                writer,
+                Kind::Segments,
+                &segment_words(refusal.name(), header),
+            )
         }
         Finding::EndpointsFull => put_full(buffer, writer, "endpoints"),
     }
@@ -88,7 +93,8 @@ fn put_malformed<W: Write>(
     name: &str,
     place: usize,
 ) -> Result<Kind, CannotWrite>
-    ensures { Puts (said_text (says kinds.Malformed (fault_words name.entry.now place))) (says kinds.Malformed (fault_words name.entry.now place)).kind result
+    ensures { Puts (said_text (says kinds.Malformed (fault_words name.entry.now place)))
+        (says kinds.Malformed (fault_words name.entry.now place)).kind result
         (W.contents writer.old) buffer.old (W.contents writer.new) buffer.new }
 {
     let words = [Word::Text(name), Word::Text("at"), Word::Number(place)];
@@ -96,11 +102,7 @@ fn put_malformed<W: Write>(
 }
 
 /// Prints that a table is full.
-fn put_full<W: Write>(
-    buffer: &mut Buffer,
-    writer: &mut W,
-    name: &str,
-) -> Result<Kind, CannotWrite>
+fn put_full<W: Write>(buffer: &mut Buffer, writer: &mut W, name: &str) -> Result<Kind, CannotWrite>
     ensures { Puts (said_text (full name.entry.now)) (full name.entry.now).kind result
         (W.contents writer.old) buffer.old (W.contents writer.new) buffer.new }
 {
@@ -155,7 +157,8 @@ fn put_subscription<W: Write>(
     key: &SubscriptionKey,
     shown: &audit_subscriptions::Finding,
 ) -> Result<Kind, CannotWrite>
-    ensures { Puts (said_text (said_of_subscription key.now shown.now)) (said_of_subscription key.now shown.now).kind result
+    ensures { Puts (said_text (said_of_subscription key.now shown.now))
+        (said_of_subscription key.now shown.now).kind result
         (W.contents writer.old) buffer.old (W.contents writer.new) buffer.new }
 {
     match shown {
@@ -174,12 +177,18 @@ fn put_receivers<W: Write>(
     event: u16,
     shown: &audit_receivers::Finding,
 ) -> Result<Kind, CannotWrite>
-    ensures { Puts (said_text (said_of_receivers service event shown.now)) (said_of_receivers service event shown.now).kind result
+    ensures { Puts (said_text (said_of_receivers service event shown.now))
+        (said_of_receivers service event shown.now).kind result
         (W.contents writer.old) buffer.old (W.contents writer.new) buffer.new }
 {
     match shown {
         audit_receivers::Finding::Unsubscribed => {
-            put_said(buffer, writer, Kind::EventUnsubscribed, &[Word::Ids(service, event)])
+            put_said(
+                buffer,
+                writer,
+                Kind::EventUnsubscribed,
+                &[Word::Ids(service, event)],
+            )
         }
         audit_receivers::Finding::Full => put_full(buffer, writer, "receivers"),
     }
@@ -192,7 +201,8 @@ fn put_call<W: Write>(
     header: &Header,
     shown: &CallFinding,
 ) -> Result<Kind, CannotWrite>
-    ensures { Puts (said_text (said_of_call header.now shown.now)) (said_of_call header.now shown.now).kind result
+    ensures { Puts (said_text (said_of_call header.now shown.now))
+        (said_of_call header.now shown.now).kind result
         (W.contents writer.old) buffer.old (W.contents writer.new) buffer.new }
 {
     match shown {
@@ -216,7 +226,8 @@ fn put_event<W: Write>(
     session: u16,
     shown: &audit_events::Finding,
 ) -> Result<Kind, CannotWrite>
-    ensures { Puts (said_text (said_of_event flow.now session shown.now)) (said_of_event flow.now session shown.now).kind result
+    ensures { Puts (said_text (said_of_event flow.now session shown.now))
+        (said_of_event flow.now session shown.now).kind result
         (W.contents writer.old) buffer.old (W.contents writer.new) buffer.new }
 {
     match shown {

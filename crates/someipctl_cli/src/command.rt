@@ -17,8 +17,8 @@ ghost use Rattle.someipctl_cli.specs.CommandLine.{asked_by_options, options_foun
 ghost use Rattle.someipctl_cli.specs.CommandLine.{flag as flag_rule, valued, with_inputs};
 
 use crate::examples::{
-    AUDIT_EXAMPLE, CHART_EXAMPLE, PAYLOAD_EXAMPLE, PROGRAM_EXAMPLE, RECORDING_EXAMPLE, RUN_EXAMPLE, SHOW_EXAMPLE,
-    VECTORS_EXAMPLE,
+    AUDIT_EXAMPLE, CHART_EXAMPLE, PAYLOAD_EXAMPLE, PROGRAM_EXAMPLE, RECORDING_EXAMPLE, RUN_EXAMPLE,
+    SHOW_EXAMPLE, VECTORS_EXAMPLE,
 };
 use clap::error::ErrorKind;
 use clap::{Arg, ArgAction, ArgMatches};

@@ -1,4 +1,4 @@
-use Rattle.std.proofs.Common.{sym, ap, ◌∙◌}
+use Rattle.std.proofs.Common.{ap, ◌∙◌}
 use Rattle.std.proofs.lemmas.Result.{on_err_weaker}
 use Rattle.someip_audit.specs.SdShown.{Work}
 use Rattle.someipctl_print.proofs.SendingLemmas.{OnErr-any}

@@ -1,4 +1,4 @@
-use Rattle.std.proofs.Common.{◌+◌, ◌∙◌, [], ◌∷◌, Some, None, Err, refl, sym, ap, arith}
+use Rattle.std.proofs.Common.{◌∙◌, [], ◌∷◌, Some, None, Err, refl, sym, ap, arith}
 use Rattle.std.specs.Prelude.{option_map}
 use Rattle.std.proofs.lemmas.Result.{on_err_weaker}
 use Rattle.recording.specs.View.{view_record}
@@ -6,7 +6,7 @@ use Rattle.someipctl_print.proofs.SendingLemmas.{OnErr-any, Sends-nil}
 use Rattle.someipctl_recordings.proofs.ComingLemmas.{comes_taken, comes_empty}
 use Rattle.someipctl_audit.specs.AuditResult.{view_asked}
 use Rattle.someipctl_audit.proofs.StepLemmas.{stops_here}
-use Rattle.someipctl_audit.proofs.RunLemmas.{if_ok_three, audited_begin, audited_none, audited_record, audit_ends, audit_end_stops, begins_nothing, one_record, stops_before, stops_record}
+use Rattle.someipctl_audit.proofs.RunLemmas.{if_ok_three, audited_begin, audited_none, audited_record, audit_ends, audit_end_stops, one_record, stops_before, stops_record}
 use Rattle.someipctl_audit.proofs.audits.put_audit.Goals as goal
 use Rattle.someipctl_audit.proofs.audits.put_audit.Goals.{in-Some+in_ok-put_record, in_default}
 

@@ -1,9 +1,7 @@
-use Rattle.std.proofs.Common.{[], ◌∷◌, map, subst, refl}
-use Rattle.someipctl_print.specs.Words.{spaced, ended, word_text}
-use Rattle.someipctl_print.specs.Sending.{Sends, Stops}
+use Rattle.std.proofs.Common.{map, refl}
+use Rattle.someipctl_print.specs.Words.{word_text}
 use Rattle.someipctl_print.proofs.SendingLemmas.{Sends-trans, Stops-after, Stops-before}
 use Rattle.someipctl_audit.specs.Kinds.{kind_words}
-use Rattle.someipctl_audit.specs.AuditText.{Puts}
 use Rattle.someipctl_audit.proofs.PutsLemmas.{ended_words, puts_err}
 use Rattle.someipctl_audit.proofs.says.put_said.Goals as goal
 

@@ -1,6 +1,3 @@
-use Rattle.std.proofs.Common.{subst}
-use Rattle.std.specs.Result.{OnErr, OnOk}
-use Rattle.someipctl_print.specs.Sending.{Sends, Stops}
 use Rattle.someipctl_audit.proofs.TallyLemmas.{same_summary}
 use Rattle.someipctl_audit.proofs.summary.put_summary.Goals as goal
 
