@@ -122,6 +122,7 @@ sweep_memory() {
     sweep_program show "$examples/segments.txt"
     sweep_program show --types "$examples/types.toml" "$examples/speed.txt"
     sweep_program recording --whole --types "$examples/types.toml" "$examples/route.pcap"
+    sweep_program audit --ports 30509 "$examples/route.pcap"
     sweep_program payload 'array/8<2,array/8<2,u8>>' 050201020103
     sweep_program vectors "$examples/vectors/two.txt"
     sweep_program run "$examples/runs/two.toml" "$examples/runs/two.txt"
