@@ -1,10 +1,10 @@
 //! Captures and payloads, of which no command line shows all.
 use crate::showing::show_all;
 use crate::slow::{Limits, NEVER, SlowWriter, UNLIMITED};
-use someipctl_commands::payload::{PayloadRefusal, payload};
-use someipctl_commands::read_capture;
-use someipctl_commands::show::ShowError;
 use someipctl_inputs::Outcome;
+use someipctl_show::payload::{PayloadRefusal, payload};
+use someipctl_show::read_capture;
+use someipctl_show::show::ShowError;
 use std::alloc::{AllocError, Global};
 
 /// Lengths of payloads at the edges of what is turned into hex and held back at once.

@@ -5,12 +5,12 @@ use crate::slow::{Limits, NEVER, SlowReader, SlowWriter};
 use rows::{Command, End, READINGS, RUNS, Row};
 use someip_world::Setup;
 use someipctl_cli::Failure;
-use someipctl_commands::payload::payload;
-use someipctl_commands::vectors::vectors;
 use someipctl_inputs::Outcome;
 use someipctl_run::{
     TraceForm, compare_schedule, read_expected, read_setup, run_schedule, run_schedule_in_form,
 };
+use someipctl_show::payload::payload;
+use someipctl_show::vectors::vectors;
 use std::alloc::Global;
 use std::io::{ErrorKind, Read};
 

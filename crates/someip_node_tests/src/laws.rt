@@ -1,7 +1,7 @@
 //! The laws of the commands and of the command line, called once each.
 use someipctl_cli::laws as words;
-use someipctl_commands::laws as commands;
 use someipctl_recordings::laws as recordings;
+use someipctl_show::laws as commands;
 use someipctl_types::laws as types;
 
 #[test]

@@ -1,5 +1,5 @@
 //! Texts that name services.
-use someipctl_commands::services::{AskedService, ServicesError, services_in};
+use someipctl_show::services::{AskedService, ServicesError, services_in};
 use std::alloc::Global;
 
 /// A text, and the services that it names with their methods or events; None where it names none.

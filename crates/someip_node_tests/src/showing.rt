@@ -1,8 +1,8 @@
 //! Commands that show datagrams, without what their options add.
 use someip_tp::IntervalPool;
-use someipctl_commands::show::{ShowError, show};
 use someipctl_inputs::Outcome;
 use someipctl_recordings::{Asked, RecordingFault, ShownRecording, show_recording};
+use someipctl_show::show::{ShowError, show};
 use someipctl_types::MessageTypes;
 use std::alloc::Global;
 use std::io::{Read, Write};

@@ -1,7 +1,7 @@
 //! Captures of which some services are asked for, or values are told.
 use crate::slow::{SlowWriter, UNLIMITED};
 use rows::{ROWS, Row};
-use someipctl_commands::show::show;
+use someipctl_show::show::show;
 use someipctl_types::MessageTypes;
 use std::alloc::Global;
 

@@ -11,11 +11,11 @@ use crate::actor::{Actor, act, started};
 use crate::log::Log;
 use crate::telling::tell;
 use someip_tp::Reassembly;
-use someip_world_ledger::verdict_on;
 use someip_world_rules::{Line, RunError, StepFault, Trace, place_of};
 use someip_world_safety::safety::runs_are_safe_by_their_verdict;
 use someip_world_schedule::Step;
 use someip_world_setup::{Setup, SetupNode};
+use someip_world_verdict::verdict_on;
 use std::alloc::Global;
 
 /// The nodes of a setup, each started with its delay, and its liars, each in its place.

@@ -8,20 +8,20 @@ use Rattle.someipctl_inputs.specs.declared.outcome.Outcome.TheVariants.{Done}
 use Rattle.std.specs.Borrow.{Bor}
 use Rattle.someipctl_cli.specs.declared.failure.Failure.{Failure}
 use Rattle.someipctl_cli.specs.declared.failure.Failure.TheVariants.{BadHex, BadVector, BadScheduleLine, BadSetup, BadExpectedLine, BadStep, BadShape, BadPayloadHex, BadRecording, BadTypes, BadPorts, BadServices, BadLimits, BadTimes, LimitAlone, Usage, NotText, OutOfMemory, CannotRead, CannotWrite}
-use Rattle.someipctl_commands.specs.declared.payload.PayloadRefusal.{PayloadRefusal}
-use Rattle.someipctl_commands.specs.declared.payload.PayloadRefusal.TheVariants as payloads
+use Rattle.someipctl_show.specs.declared.payload.PayloadRefusal.{PayloadRefusal}
+use Rattle.someipctl_show.specs.declared.payload.PayloadRefusal.TheVariants as payloads
 use Rattle.someipctl_recordings.specs.declared.ports.PortsError.{PortsError}
 use Rattle.someipctl_recordings.specs.declared.ports.PortsError.TheVariants as ports
 use Rattle.someipctl_recordings.specs.declared.recordings.RecordingFault.{RecordingFault}
 use Rattle.someipctl_recordings.specs.declared.recordings.RecordingFault.TheVariants as recordings
-use Rattle.someipctl_commands.specs.declared.services.ServicesError.{ServicesError}
-use Rattle.someipctl_commands.specs.declared.services.ServicesError.TheVariants as services
+use Rattle.someipctl_show.specs.declared.services.ServicesError.{ServicesError}
+use Rattle.someipctl_show.specs.declared.services.ServicesError.TheVariants as services
 use Rattle.someipctl_types.specs.declared.TypesFault.{TypesFault}
 use Rattle.someipctl_types.specs.declared.TypesFault.TheVariants as types
-use Rattle.someipctl_commands.specs.declared.show.ShowError.{ShowError}
-use Rattle.someipctl_commands.specs.declared.show.ShowError.TheVariants as shows
-use Rattle.someipctl_commands.specs.declared.vectors.VectorsError.{VectorsError}
-use Rattle.someipctl_commands.specs.declared.vectors.VectorsError.TheVariants as vectors
+use Rattle.someipctl_show.specs.declared.show.ShowError.{ShowError}
+use Rattle.someipctl_show.specs.declared.show.ShowError.TheVariants as shows
+use Rattle.someipctl_show.specs.declared.vectors.VectorsError.{VectorsError}
+use Rattle.someipctl_show.specs.declared.vectors.VectorsError.TheVariants as vectors
 use Rattle.someipctl_run.specs.declared.error.ExpectedFault.{ExpectedFault}
 use Rattle.someipctl_run.specs.declared.error.ExpectedFault.TheVariants as expected
 use Rattle.someipctl_run.specs.declared.error.RunFault.{RunFault}

@@ -8,14 +8,14 @@ ghost use Rattle.someipctl_cli.specs.Failures.{failure_of_services, failure_of_t
 use recording::RecordingError;
 use someip_world::{SetupError, StepFault};
 use someipctl_audit::TimesError;
-use someipctl_commands::payload::PayloadRefusal;
-use someipctl_commands::services::ServicesError;
-use someipctl_commands::show::ShowError;
-use someipctl_commands::vectors::VectorsError;
 use someipctl_inputs::ReadFault;
 use someipctl_recordings::ports::PortsError;
 use someipctl_recordings::{LimitsError, RecordingFault};
 use someipctl_run::{ExpectedFault, RunFault, SetupFault, SetupRefusal};
+use someipctl_show::payload::PayloadRefusal;
+use someipctl_show::services::ServicesError;
+use someipctl_show::show::ShowError;
+use someipctl_show::vectors::VectorsError;
 use someipctl_types::{TypesError, TypesFault};
 use thiserror::Error;
 

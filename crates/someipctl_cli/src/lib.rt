@@ -1,6 +1,6 @@
 //! The command line of `someipctl`: what its words ask for, and how the program ends.
 //!
-//! What a command reads, does and prints stands in `someipctl_commands`, of `recording` in
+//! What a command reads, does and prints stands in `someipctl_show`, of `recording` in
 //! `someipctl_recordings`, of `audit` in `someipctl_audit`, and of `run` in `someipctl_run`.
 //!
 //! - `command`, `help`: what the words ask for, and the answer to others;

@@ -19,9 +19,9 @@ use Rattle.someipctl_print.specs.Lines.{dropped_line, empty_line, whole_line}
 use Rattle.someipctl_print.specs.Words.{spaced}
 use Rattle.someipctl_types.specs.Types.{TypesValue}
 use Rattle.someipctl_types.specs.ValueLine.{value_line, has_value_fault}
-use Rattle.someipctl_commands.specs.declared.services.AskedService.{AskedService}
-use Rattle.someipctl_commands.specs.Services.{is_asked_by}
-use Rattle.someipctl_commands.specs.ShownText.{shows_fault, value_of_item}
+use Rattle.someipctl_show.specs.declared.services.AskedService.{AskedService}
+use Rattle.someipctl_show.specs.Services.{is_asked_by}
+use Rattle.someipctl_show.specs.ShownText.{shows_fault, value_of_item}
 use Rattle.someipctl_recordings.specs.Moments.{moment_of}
 use Rattle.someipctl_recordings.specs.Gathered.{StoreValue, told_of, store_after}
 

@@ -6,9 +6,9 @@ use Rattle.recording.specs.declared.RecordingError.{RecordingError}
 use Rattle.recording.specs.Records.{Item}
 use Rattle.recording.specs.HeldItems.{held_of}
 use Rattle.someip_reassembly.specs.Parts.{Limits}
-use Rattle.someipctl_commands.specs.declared.PrintFault.{PrintFault}
-use Rattle.someipctl_commands.specs.declared.PrintFault.TheVariants as prints
-use Rattle.someipctl_commands.specs.ShowResult.{view_services}
+use Rattle.someipctl_show.specs.declared.PrintFault.{PrintFault}
+use Rattle.someipctl_show.specs.declared.PrintFault.TheVariants as prints
+use Rattle.someipctl_show.specs.ShowResult.{view_services}
 use Rattle.someipctl_recordings.specs.declared.asked.Asked.{Asked}
 use Rattle.someipctl_recordings.specs.declared.asked.WholeLimits.{WholeLimits}
 use Rattle.someipctl_recordings.specs.declared.recordings.Shown.{Shown}

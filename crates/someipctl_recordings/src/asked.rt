@@ -1,6 +1,6 @@
 //! What of a recording is asked for.
 
-use someipctl_commands::services::AskedService;
+use someipctl_show::services::AskedService;
 use someipctl_types::MessageTypes;
 
 /// What of a recording is asked for, and what is told of it.

@@ -15,10 +15,10 @@ use crate::heads::put_with_heads;
 use recording::Datagram;
 use someip_reassembly::Reassembly;
 use someip_wire::{Message, Messages, WireError};
-use someipctl_commands::PrintFault;
-use someipctl_commands::readings::reading_of;
-use someipctl_commands::value_lines::{ValueLines, put_valued_item};
 use someipctl_print::{Buffer, item_len, put_dropped, put_empty, put_whole_line};
+use someipctl_show::PrintFault;
+use someipctl_show::readings::reading_of;
+use someipctl_show::value_lines::{ValueLines, put_valued_item};
 use std::alloc::{AllocError, Global};
 use std::io::Write;
 

@@ -2,7 +2,7 @@
 //! contract of a function that does nothing.
 ghost use Rattle.std.specs.Prelude.{◌≡◌, ◌+◌, List, None, false, map, length};
 ghost use Rattle.recording.specs.Packets.{DatagramValue};
-ghost use Rattle.someipctl_commands.specs.ShownText.{has_fault, text_from};
+ghost use Rattle.someipctl_show.specs.ShownText.{has_fault, text_from};
 ghost use Rattle.std.specs.List.{list_any};
 ghost use Rattle.std.specs.Prelude.{◌||◌};
 ghost use Rattle.someipctl_recordings.specs.RecordedText.{AskedValue, Progress, after_all, recorded_from};

@@ -2,10 +2,10 @@
 ghost use Rattle.std.specs.Prelude.{◌≡◌, IfOk, Some, None, Err, map, is_none, true};
 ghost use Rattle.std.specs.List.{list_any, list_all};
 ghost use Rattle.someipctl_recordings.specs.Ports.{begins_plain, is_digit, is_plain, port_in};
-ghost use Rattle.someipctl_commands.specs.Words.{comma_words};
+ghost use Rattle.someipctl_show.specs.Words.{comma_words};
 ghost use Rattle.someipctl_recordings.specs.declared.ports.PortsError.TheVariants.{OutOfMemory};
 
-use someipctl_commands::comma_words;
+use someipctl_show::comma_words;
 use std::alloc::{AllocError, AllocFailed, Global};
 use thiserror::Error;
 

@@ -2,7 +2,7 @@
 
 use crate::findings::Findings;
 use crate::worked::OFFER;
-use someipctl_commands::show::text_of_datagram;
+use someipctl_show::show::text_of_datagram;
 use std::alloc::{AllocError, Global};
 
 /// Shows each proper front of the worked Offer but the empty one: it is a fault at its end. It gives what was

@@ -1,7 +1,7 @@
 //! Captures, what of them is asked for, and what is shown.
-use someipctl_commands::services::AskedService;
 use someipctl_inputs::Outcome;
 use someipctl_inputs::Outcome::{Done, FaultShown};
+use someipctl_show::services::AskedService;
 
 /// A capture, what of it is asked for, and what is shown.
 #[derive(Clone, Copy)]

@@ -1,5 +1,5 @@
 use Rattle.someipctl_print.proofs.SendingLemmas.{OnErr-any}
-use Rattle.someipctl_commands.proofs.ShowResultLemmas.{Stops-none}
+use Rattle.someipctl_show.proofs.ShowResultLemmas.{Stops-none}
 use Rattle.someipctl_recordings.proofs.datagrams.put_recorded.Goals as goal
 
 pub returns-in_err-faulty-clause-err : goal.returns-in_err-faulty-clause-err

@@ -2,8 +2,8 @@ use Rattle.recording.specs.View.{view_datagram}
 use Rattle.someip_wire.specs.View.{view_item}
 use Rattle.someipctl_print.specs.Items.{item_lines}
 use Rattle.someipctl_print.proofs.SendingLemmas.{OnErr-any, Sends-trans, Stops-after, Stops-before}
-use Rattle.someipctl_commands.specs.ShownText.{value_of_item}
-use Rattle.someipctl_commands.proofs.ShowResultLemmas.{Stops-none}
+use Rattle.someipctl_show.specs.ShownText.{value_of_item}
+use Rattle.someipctl_show.proofs.ShowResultLemmas.{Stops-none}
 use Rattle.someipctl_recordings.specs.Gathered.{told_of, view_store}
 use Rattle.someipctl_recordings.specs.RecordedText.{gathered_lines}
 use Rattle.someipctl_recordings.proofs.datagrams.put_recorded_item.Goals as goal

@@ -3,7 +3,7 @@ use Rattle.someip_wire.specs.View.{view}
 use Rattle.someipctl_print.specs.Lines.{whole_line}
 use Rattle.someipctl_print.specs.Sending.{Sends, Stops}
 use Rattle.someipctl_print.proofs.SendingLemmas.{OnErr-any, Sends-trans, Stops-after, Stops-before}
-use Rattle.someipctl_commands.proofs.ShowResultLemmas.{Stops-none}
+use Rattle.someipctl_show.proofs.ShowResultLemmas.{Stops-none}
 use Rattle.someipctl_types.specs.ValueLine.{value_line}
 use Rattle.someipctl_recordings.proofs.datagrams.put_whole.Goals as goal
 

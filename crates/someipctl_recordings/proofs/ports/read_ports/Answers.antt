@@ -1,7 +1,7 @@
 use Rattle.std.proofs.Common.{ap, sym, ◌∙◌, map}
 use Rattle.std.proofs.lemmas.List.{drop_more}
 use Rattle.someipctl_recordings.specs.Ports.{port_in}
-use Rattle.someipctl_commands.proofs.WordLemmas.{bad_word}
+use Rattle.someipctl_show.proofs.WordLemmas.{bad_word}
 use Rattle.someipctl_recordings.proofs.ports.read_ports.Goals as goal
 
 pub returns-in-None-clause-bad : goal.returns-in-None-clause-bad

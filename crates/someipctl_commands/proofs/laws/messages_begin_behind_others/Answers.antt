@@ -1,8 +1,0 @@
-use Rattle.someipctl_commands.proofs.PlaceLemmas.{lines_from-front, payload_at}
-use Rattle.someipctl_commands.proofs.laws.messages_begin_behind_others.Goals as goal
-
-pub returns-clause-lines : goal.returns-clause-lines
-returns-clause-lines c = lines_from-front
-
-pub returns-clause-payload : goal.returns-clause-payload
-returns-clause-payload c = payload_at

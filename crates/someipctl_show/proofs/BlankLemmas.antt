@@ -1,0 +1,174 @@
+-- The text of a shape has no space, so a line `payload SHAPE HEX` is parted at its first one after the word.
+use Rattle.std.proofs.Common.{◌≡◌, ◌==◌, ◌||◌, ◌<◌, ◌≤◌, ◌^◌, ℕ, suc, ◌+◌, Bool, true, false, List, [], ◌∷◌, ◌++◌, length, take, drop, codes, Option, None, Some, Err, refl, sym, ap, subst, ◌∙◌, arith, length-append}
+use Rattle.std.specs.List.{list_any, position_or_len, before_first, after_first}
+use Rattle.std.specs.Fmt.{decimal}
+use Rattle.std.specs.Char.{digit_value}
+use Rattle.std.specs.Str.Parse.{AllDigits}
+use Rattle.std.proofs.lemmas.Bool.{eqb-true}
+use Rattle.std.proofs.lemmas.Fmt.{decimal_is_IsNumeral}
+use Rattle.std.proofs.lemmas.List.Folds.{list_any-append}
+use Rattle.someip_payload_values.specs.Check.{depth}
+use Rattle.someip_payload_values.specs.Data.{Form, Forms, Variants, Members}
+use Rattle.someip_payload_values.specs.View.{form}
+use Rattle.someip_payload_values.specs.declared.Shape.{Shape}
+use Rattle.someip_payload.specs.declared.ShapeTextError.{ShapeTextError}
+use Rattle.someip_payload.specs.declared.ShapeTextError.TheVariants as shapes
+use Rattle.someipctl_show.specs.declared.vector_lines.LineFault.TheVariants.{Bad}
+use Rattle.someipctl_show.specs.Payload.{argument_bytes}
+use Rattle.someipctl_show.specs.VectorLines.{AreArguments, fault_of_shape}
+use Rattle.someip_payload_values.specs.declared.shape.Width.{Width}
+use Rattle.someip_payload_values.specs.declared.shape.Width.TheVariants.{W8, W16, W32}
+use Rattle.someip_payload.specs.ShapeText.{IsReadAs, width_text, repeated_text, IsTextOf, bool_text, u8_text, u16_text, u32_text, u64_text, i8_text, i16_text, i32_text, i64_text, utf8_text, utf16_text, array_text, fixed_text, struct_text, union_text, tagged_text, mark_text, tagged_member_text, IsTextOfTaggedMembers, last_tagged, next_tagged, IsTextOfMembers, last_member, next_member, IsTextOfVariants, last_variant, next_variant}
+
+abbrev pub is_blank : ℕ → Bool
+is_blank b = b == 32
+
+-- a text without a space
+abbrev pub IsUnparted : List ℕ → Type 0
+IsUnparted text = list_any is_blank text ≡ false
+
+both : (xs ys : List ℕ) → IsUnparted xs → IsUnparted ys → IsUnparted (xs ++ ys)
+both xs ys left right = list_any-append is_blank xs ys ∙ rw (left, right) refl
+
+digit_unparted : (c : ℕ) (cs : List ℕ) (blank : Bool) → is_blank c ≡ blank → AllDigits 10 (c ∷ cs) → IsUnparted cs → IsUnparted (c ∷ cs)
+digit_unparted c cs true is digits rest =
+    let IsSmall : ℕ → Type 0 = λ b. digit_value b < 10 in
+    let same : c ≡ 32 = eqb-true c 32 is in
+    absurd (omega (arith, subst IsSmall same digits.0))
+digit_unparted c cs false is digits rest = rw is rest
+
+digits_unparted : (ds : List ℕ) → AllDigits 10 ds → IsUnparted ds
+digits_unparted [] digits = refl
+digits_unparted (c ∷ cs) digits = digit_unparted c cs (is_blank c) refl digits (digits_unparted cs digits.1)
+
+decimal_unparted : (n : ℕ) → n < 2 ^ 32 → IsUnparted (decimal n)
+decimal_unparted n fits = digits_unparted (decimal n) (decimal_is_IsNumeral n (omega (arith, fits))).0.1
+
+width_unparted : (w : Option Width) → IsUnparted (width_text w)
+width_unparted None = refl
+width_unparted (Some W8) = refl
+width_unparted (Some W16) = refl
+width_unparted (Some W32) = refl
+
+-- a text between two others without a space
+between : (front text rest : List ℕ) → IsUnparted front → IsUnparted text → IsUnparted rest → IsUnparted (front ++ (text ++ rest))
+between front text rest first middle last = both front (text ++ rest) first (both text rest middle last)
+
+repeated_unparted : (n : ℕ) (text : List ℕ) → n < 2 ^ 32 → IsUnparted text → IsUnparted (repeated_text n text)
+repeated_unparted n text fits h =
+    between (codes "<") (decimal n) (codes "," ++ (text ++ codes ">")) refl (decimal_unparted n fits) (between (codes ",") text (codes ">") refl h refl)
+
+number_unparted : (n : ℕ) (text : List ℕ) → n < 2 ^ 32 → IsUnparted text → IsUnparted (decimal n ++ (codes ":" ++ text))
+number_unparted n text fits h = between (decimal n) (codes ":") text (decimal_unparted n fits) refl h
+
+mark_unparted : (optional : Bool) → IsUnparted (mark_text optional)
+mark_unparted true = refl
+mark_unparted false = refl
+
+member_unparted : (id : ℕ) (optional : Bool) (text : List ℕ) → id < 2 ^ 12 → IsUnparted text → IsUnparted (tagged_member_text id optional text)
+member_unparted id optional text fits h =
+    both (decimal id) (mark_text optional ++ (codes ":" ++ text)) (decimal_unparted id (omega (arith, fits))) (between (mark_text optional) (codes ":") text (mark_unparted optional) refl h)
+
+mutual
+  pub shape_unparted : (f : Form) (text : List ℕ) → IsTextOf f text → IsUnparted text
+  shape_unparted f text bool_text = refl
+  shape_unparted f text u8_text = refl
+  shape_unparted f text u16_text = refl
+  shape_unparted f text u32_text = refl
+  shape_unparted f text u64_text = refl
+  shape_unparted f text i8_text = refl
+  shape_unparted f text i16_text = refl
+  shape_unparted f text i32_text = refl
+  shape_unparted f text i64_text = refl
+  shape_unparted f text (utf8_text w) = both (codes "utf8") (width_text w) refl (width_unparted w)
+  shape_unparted f text (utf16_text w) = both (codes "utf16") (width_text w) refl (width_unparted w)
+  shape_unparted f text (array_text w n e inner fits h) =
+      between (codes "array") (width_text w) (repeated_text n inner) refl (width_unparted w) (repeated_unparted n inner fits (shape_unparted e inner h))
+  shape_unparted f text (fixed_text n e inner fits h) =
+      both (codes "fixed") (repeated_text n inner) refl (repeated_unparted n inner fits (shape_unparted e inner h))
+  shape_unparted f text (struct_text w fs inner h) =
+      between (codes "struct") (width_text w) (codes "(" ++ (inner ++ codes ")")) refl (width_unparted w)
+      (between (codes "(") inner (codes ")") refl (members_unparted fs inner h) refl)
+  shape_unparted f text (union_text vs inner h) =
+      both (codes "union") (codes "(" ++ (inner ++ codes ")")) refl (between (codes "(") inner (codes ")") refl (variants_unparted vs inner h) refl)
+  shape_unparted f text (tagged_text w ms inner h) =
+      between (codes "tagged") (width_text w) (codes "(" ++ (inner ++ codes ")")) refl (width_unparted w)
+      (between (codes "(") inner (codes ")") refl (tagged_unparted ms inner h) refl)
+
+  members_unparted : (fs : Forms) (text : List ℕ) → IsTextOfMembers fs text → IsUnparted text
+  members_unparted fs text (last_member f inner h) = shape_unparted f inner h
+  members_unparted fs text (next_member f gs inner others h more) =
+      between inner (codes ",") others (shape_unparted f inner h) refl (members_unparted gs others more)
+
+  variants_unparted : (vs : Variants) (text : List ℕ) → IsTextOfVariants vs text → IsUnparted text
+  variants_unparted vs text (last_variant n f inner fits h) = number_unparted n inner fits (shape_unparted f inner h)
+  variants_unparted vs text (next_variant n f ws inner others fits h more) =
+      between (decimal n ++ (codes ":" ++ inner)) (codes ",") others (number_unparted n inner fits (shape_unparted f inner h)) refl (variants_unparted ws others more)
+
+  tagged_unparted : (ms : Members) (text : List ℕ) → IsTextOfTaggedMembers ms text → IsUnparted text
+  tagged_unparted ms text (last_tagged id optional f inner fits h) = member_unparted id optional inner fits (shape_unparted f inner h)
+  tagged_unparted ms text (next_tagged id optional f ns inner others fits h more) =
+      between (tagged_member_text id optional inner) (codes ",") others (member_unparted id optional inner fits (shape_unparted f inner h)) refl (tagged_unparted ns others more)
+
+-- ---- parting a line
+
+first_step : (b : ℕ) (text rest : List ℕ) (blank : Bool) → is_blank b ≡ blank → IsUnparted (b ∷ text)
+    → (IsUnparted text → position_or_len is_blank (text ++ (codes " " ++ rest)) ≡ length text)
+    → position_or_len is_blank ((b ∷ text) ++ (codes " " ++ rest)) ≡ suc (length text)
+first_step b text rest true is h first = absurd (let none : (is_blank b || list_any is_blank text) ≡ false = h in cc)
+first_step b text rest false is h first =
+    let none : (is_blank b || list_any is_blank text) ≡ false = h in
+    let more : 1 + length text ≡ suc (length text) = omega arith in
+    rw is (ap (λ n. 1 + n) (first (rw is at none)) ∙ more)
+
+-- the first space stands after a text without one
+pub first_blank : (text rest : List ℕ) → IsUnparted text → position_or_len is_blank (text ++ (codes " " ++ rest)) ≡ length text
+first_blank [] rest h = refl
+first_blank (b ∷ text) rest h = first_step b text rest (is_blank b) refl h (first_blank text rest)
+
+long_enough : (text s h : List ℕ) → text ≡ s ++ (codes " " ++ h) → length s < length text
+long_enough text s h is = rw is (omega (arith, length-append s (codes " " ++ h)))
+
+-- a text without a space is no two parts
+pub unparted_text : (text s h : List ℕ) → position_or_len is_blank text ≡ length text → text ≡ s ++ (codes " " ++ h) → IsUnparted s → ⊥
+unparted_text text s h all is h2 =
+    let first : position_or_len is_blank text ≡ length s = ap (position_or_len is_blank) is ∙ first_blank s h h2 in
+    absurd (omega (arith, all, first, long_enough text s h is))
+
+-- the parts of a text are those around its first space
+pub parts_are : (text s h p q : List ℕ) → p ≡ before_first is_blank text → q ≡ after_first is_blank text → text ≡ s ++ (codes " " ++ h) → IsUnparted s
+    → (p ≡ s) × (q ≡ h)
+parts_are text s h p q before after is unparted =
+    let first : position_or_len is_blank text ≡ length s = ap (position_or_len is_blank) is ∙ first_blank s h unparted in (
+      before ∙ ap (λ n. take n text) first ∙ ap (take (length s)) is ∙ take_front s (codes " " ++ h),
+      after ∙ ap (λ n. drop (n + 1) text) first ∙ ap (drop (length s + 1)) is ∙ drop_part s h,
+    )
+  where
+    take_front : (xs ys : List ℕ) → take (length xs) (xs ++ ys) ≡ xs
+    take_front [] ys = refl
+    take_front (x ∷ xs) ys = ap (λ t. x ∷ t) (take_front xs ys)
+
+    drop_part : (xs ys : List ℕ) → drop (length xs + 1) (xs ++ (codes " " ++ ys)) ≡ ys
+    drop_part [] ys = refl
+    drop_part (x ∷ xs) ys = let e : length (x ∷ xs) + 1 ≡ suc (length xs + 1) = omega arith in rw e (drop_part xs ys)
+
+-- ---- the arguments of a line `payload SHAPE HEX`
+
+-- a text without a space says no arguments
+pub unparted_says_none : (text : List ℕ) (shape : Form) (bytes : List ℕ) → position_or_len is_blank text ≡ length text → AreArguments text shape bytes → ⊥
+unparted_says_none text shape bytes all says = unparted_text text says.0 says.1 all says.2 (shape_unparted shape says.0 says.3)
+
+-- nor does one whose SHAPE is not read
+pub bad_shape_says_none : (text p q : List ℕ) (e : ShapeTextError) → p ≡ before_first is_blank text → q ≡ after_first is_blank text → fault_of_shape e ≡ Bad
+    → ((f : Form) → IsTextOf f p → depth f ≤ 64 → IsReadAs {X = Shape} form f (Err e)) → (shape : Form) (bytes : List ℕ) → depth shape ≤ 64 → AreArguments text shape bytes → ⊥
+bad_shape_says_none text p q (shapes.BadShape place) before after bad only shape bytes shallow says =
+    let parts = parts_are text says.0 says.1 p q before after says.2 (shape_unparted shape says.0 says.3) in
+    only shape (subst (IsTextOf shape) (sym parts.0) says.3) shallow
+bad_shape_says_none text p q shapes.OutOfMemory before after bad only shape bytes shallow says = absurd (cc bad)
+
+-- nor one whose HEX is none
+pub bad_hex_says_none : (text p q : List ℕ) → p ≡ before_first is_blank text → q ≡ after_first is_blank text → argument_bytes q ≡ None
+    → (shape : Form) (bytes : List ℕ) → AreArguments text shape bytes → ⊥
+bad_hex_says_none text p q before after none shape bytes says =
+    let parts = parts_are text says.0 says.1 p q before after says.2 (shape_unparted shape says.0 says.3) in
+    let some : None ≡ Some bytes = sym none ∙ (ap argument_bytes parts.1 ∙ says.4) in absurd (cc some)

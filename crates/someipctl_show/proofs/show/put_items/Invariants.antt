@@ -1,0 +1,18 @@
+use Rattle.std.proofs.Common.{◌≡◌, ◌≤◌, ◌+◌, ◌||◌, ◌++◌, List, Result, length, map}
+use Rattle.sd_wire.specs.declared.SdError.{SdError}
+use Rattle.sd_wire.specs.Values.{SdValue}
+use Rattle.std.specs.List.{list_any}
+use Rattle.someipctl_show.specs.Readings.{readings_in}
+use Rattle.someipctl_print.specs.Discovery.{view_reading}
+use Rattle.someipctl_show.specs.ShownText.{lines_from, shows_fault}
+use Rattle.someipctl_print.proofs.SendingLemmas.{IsSending}
+use Rattle.someipctl_show.proofs.ShownTextLemmas.{items_len}
+use Rattle.someipctl_show.proofs.show.put_items.Given as goal
+
+abbrev pub invariant-loop-item : goal.invariant-loop-item
+invariant-loop-item g l =
+    IsSending (g.W.Write.contents l.initial.writer) l.initial.buffer (g.W.Write.contents l.writer) l.buffer (lines_from l.fn.values.types.now l.k l.place l.item-iterator) (lines_from l.fn.values.types.now l.k 0 l.initial.item-iterator)
+    × ((l.faulty || list_any (shows_fault l.fn.values.types.now) l.item-iterator) ≡ list_any (shows_fault l.fn.values.types.now) l.initial.item-iterator)
+    × (l.place + items_len l.item-iterator ≤ length l.fn.datagram)
+    × ((others : List (Result SdValue SdError)) × (map view_reading l.left.now ≡ readings_in l.item-iterator ++ others) × (map view_reading l.initial.left.now ≡ readings_in l.initial.item-iterator ++ others))
+    × (l.values.types.now ≡ l.fn.values.types.now)

@@ -1,0 +1,23 @@
+use Rattle.std.proofs.Common.{refl}
+use Rattle.std.proofs.lemmas.Result.{err_from_is_err_and}
+use Rattle.someipctl_show.specs.ShowResult.{view_services}
+use Rattle.someipctl_show.proofs.ShownTextLemmas.{bytes_of_each}
+use Rattle.someipctl_show.proofs.ShowResultLemmas.{says, refuses_print}
+use Rattle.someipctl_show.proofs.show.show_capture.Goals as goal
+
+pub returns-in_err-outcome-clause-refused : goal.returns-in_err-outcome-clause-refused
+returns-in_err-outcome-clause-refused g c =
+    let p = err_from_is_err_and c.from_residual-in_err-outcome.result c.from_residual-in_err-outcome.ensures.1 in
+    rw (p.1, p.2)
+    (refuses_print (view_services c.args.services) c.args.types.now c.args.text.now c.in_ok-datagrams.datagrams.items c.in_err-outcome.field-0.0 _ _ c.in_ok-datagrams.ensures.found
+    (rw c.new-values.ensures at c.in_err-outcome.ensures.memory) (rw (c.deref-2.ensures.value, c.keep_asked.ensures, c.new-values.ensures) at c.in_err-outcome.ensures.err))
+
+pub returns-clause-shown : goal.returns-clause-shown
+returns-clause-shown g c = record {
+  capture = c.args.text.now;
+  left = refl;
+  datagrams = bytes_of_each c.in_ok-datagrams.datagrams.items;
+  says = says c.args.text.now c.in_ok-datagrams.datagrams.items c.in_ok-datagrams.ensures.found;
+  wrote = rw (c.deref-2.ensures.value, c.keep_asked.ensures, c.new-values.ensures) at c.in_ok-outcome.ensures.ok;
+  tells = rw (c.deref-2.ensures.value, c.keep_asked.ensures, c.new-values.ensures) at c.in_ok-outcome.ensures.outcome;
+}

@@ -1,0 +1,74 @@
+-- What `show` does with a capture.
+use Rattle.std.specs.Prelude.{ℕ, ◌≡◌, ◌≢◌, ◌⊎◌, List, [], ◌++◌, map, Option, Some, option_map}
+use Rattle.std.specs.Borrow.{Bor}
+use Rattle.std.specs.Io.KnownBytes.{Appends, Keeps}
+use Rattle.someipctl_inputs.specs.declared.outcome.Outcome.{Outcome}
+use Rattle.someipctl_show.specs.declared.capture.CaptureError.{CaptureError}
+use Rattle.someipctl_show.specs.declared.capture.CaptureError.TheVariants as captures
+use Rattle.someipctl_inputs.specs.declared.input.ReadFault.{ReadFault}
+use Rattle.someipctl_inputs.specs.declared.input.ReadFault.TheVariants as inputs
+use Rattle.someipctl_show.specs.declared.show.ShowError.{ShowError}
+use Rattle.someipctl_show.specs.declared.show.ShowError.TheVariants.{BadHex, CannotRead, CannotWrite, OutOfMemory}
+use Rattle.someipctl_show.specs.declared.print_fault.PrintFault.{PrintFault}
+use Rattle.someipctl_show.specs.declared.print_fault.PrintFault.TheVariants as prints
+use Rattle.someipctl_show.specs.declared.services.AskedService.{AskedService}
+use Rattle.someipctl_show.specs.Services.{asked_among}
+use Rattle.someipctl_types.specs.Types.{TypesValue}
+use Rattle.someipctl_show.specs.Capture.{captured_datagrams, first_bad}
+use Rattle.someipctl_inputs.specs.Inputs.{WasLeft}
+use Rattle.someipctl_show.specs.ShownText.{shown_text, shown_outcome}
+
+-- the capture says these datagrams, in order: none of its lines is bad
+abbrev pub SaysDatagrams : List ℕ → List (List ℕ) → Type 0
+SaysDatagrams capture datagrams = map (λ datagram. Some datagram) datagrams ≡ captured_datagrams capture
+
+-- the services behind a reference
+abbrev pub view_services : Option (Bor (List AskedService)) → Option (List AskedService)
+view_services services = option_map (λ s. s.now) services
+
+-- the text of the datagrams of the capture that are asked for was written whole, and the outcome says whether a fault is
+-- in it
+pub record Shows (input : Option (List ℕ)) (services : Option (List AskedService)) (types : TypesValue) (outcome : Outcome) (before after : Option (List ℕ)) : Type 0 where
+  pub capture : List ℕ
+  pub left : WasLeft input capture
+  pub datagrams : List (List ℕ)
+  pub says : SaysDatagrams capture datagrams
+  pub wrote : Appends before after (shown_text types (asked_among services datagrams))
+  pub tells : outcome ≡ shown_outcome types (asked_among services datagrams)
+
+-- a beginning of that text was written
+pub record ShowsBeginning (input : Option (List ℕ)) (services : Option (List AskedService)) (types : TypesValue) (before after : Option (List ℕ)) : Type 0 where
+  pub capture : List ℕ
+  pub left : WasLeft input capture
+  pub datagrams : List (List ℕ)
+  pub says : SaysDatagrams capture datagrams
+  pub sent : List ℕ
+  pub unsent : List ℕ
+  pub wrote : Appends before after sent
+  pub beginning : sent ++ unsent ≡ shown_text types (asked_among services datagrams)
+
+-- the line of this number is the first bad one of the capture
+abbrev pub IsFirstBad : Option (List ℕ) → ℕ → Type 0
+IsFirstBad input line = (capture : List ℕ) × WasLeft input capture × (first_bad capture ≡ Some line)
+
+-- what an error says of a capture, and of what was written
+abbrev pub RefusesShow : Option (List ℕ) → Option (List AskedService) → TypesValue → ShowError → Option (List ℕ) → Option (List ℕ) → Type 0
+RefusesShow input services types (BadHex line) before after = IsFirstBad input line × Keeps before after
+RefusesShow input services types CannotRead before after = Keeps before after
+RefusesShow input services types CannotWrite before after = ShowsBeginning input services types before after
+RefusesShow input services types OutOfMemory before after = Keeps before after ⊎ ((types ≢ []) × ShowsBeginning input services types before after)
+
+-- the error of a capture that was refused
+abbrev pub error_of_capture : CaptureError → ShowError
+error_of_capture (captures.BadHex line) = BadHex line
+error_of_capture captures.OutOfMemory = OutOfMemory
+
+-- the error of an input that was not read
+abbrev pub error_of_input : ReadFault → ShowError
+error_of_input inputs.CannotRead = CannotRead
+error_of_input inputs.OutOfMemory = OutOfMemory
+
+-- the error of a text that was not printed whole
+abbrev pub error_of_print : PrintFault → ShowError
+error_of_print prints.CannotWrite = CannotWrite
+error_of_print prints.OutOfMemory = OutOfMemory

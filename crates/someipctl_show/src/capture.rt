@@ -1,0 +1,132 @@
+//! Captures: one datagram a line, in hex.
+//!
+//! ```text
+//! # a comment, two datagrams of two bytes, and an empty one
+//! 12ff
+//! 12 f F
+//! -
+//! ```
+ghost use Rattle.std.specs.Prelude.{◌≡◌, ◌==◌, [], ◌∷◌, codes, true, None, Some, ℕ, List, map};
+ghost use Rattle.std.specs.Prelude.{IfErr, IfOk, IsOk, OnOk};
+ghost use Rattle.std.specs.List.{list_all};
+ghost use Rattle.std.specs.Option.{option_map};
+ghost use Rattle.std.specs.Result.{result_ok};
+ghost use Rattle.hex.specs.Hex.{decode_of, encode_lower, IsBytes};
+ghost use Rattle.someipctl_show.specs.declared.capture.CaptureError.TheVariants.{OutOfMemory};
+ghost use Rattle.someipctl_show.specs.Capture.{bytes_of, captured_datagrams, first_bad, RefusesCapture};
+ghost use Rattle.someipctl_show.specs.Capture.{is_bad, is_skipped, without_blanks};
+
+use hex::FromHexError;
+use std::alloc::{AllocError, AllocFailed, Global};
+use thiserror::Error;
+
+/// Why a capture was refused.
+#[derive(Clone, Copy, Debug, PartialEq, Eq, Error)]
+pub enum CaptureError {
+    /// The line of this number, counted from 1, says no bytes.
+    #[error("line {0}: bad hex")]
+    BadHex(usize),
+    /// The allocator gave no memory.
+    #[error("out of memory")]
+    OutOfMemory,
+}
+
+impl From<AllocError> for CaptureError {
+    ghost from_gives = { λ _ e. e ≡ OutOfMemory };
+
+    fn from(_e: AllocError) -> CaptureError {
+        CaptureError::OutOfMemory
+    }
+}
+
+impl<T: Drop> From<AllocFailed<T>> for CaptureError {
+    ghost from_gives = { λ _ e. e ≡ OutOfMemory };
+
+    fn from(_e: AllocFailed<T>) -> CaptureError {
+        CaptureError::OutOfMemory
+    }
+}
+
+/// Reads a capture: the bytes of one datagram a line, in hex of either case. `-` is the empty
+/// datagram, spaces are ignored, and empty lines and lines that begin with `#` are skipped.
+///
+/// Beside the datagrams it holds at most one line's digits at a time, so that a capture of many
+/// lines needs little more than what it says.
+pub fn read_capture(alloc: Global, text: &[u8]) -> Result<Vec<Vec<u8>>, CaptureError>
+    // The datagrams are what the lines say, in order, and no line is bad.
+    ensures found { IfOk result (λ datagrams.
+        map (λ d. Some d.items) datagrams.items ≡ captured_datagrams text.now) }
+    ensures only { OnOk result (first_bad text.now ≡ None) }
+
+    // The error names the first bad line.
+    ensures fault { IfErr result (RefusesCapture text.now) }
+
+    // A text with no line to read needs no memory.
+    ensures idle { captured_datagrams text.now ≡ [] → IsOk result }
+{
+    let mut datagrams = Vec::new(alloc);
+    let mut digits = Vec::new(alloc);
+    for (i, line) in text.split(|b| *b == b'\n').enumerate() {
+        if says_nothing(line) {
+            continue;
+        }
+        match datagram_of(alloc, line, &mut digits)? {
+            Some(bytes) => datagrams.push(bytes)?,
+            None => return Err(CaptureError::BadHex(i + 1)),
+        }
+    }
+    Ok(datagrams)
+}
+
+/// Whether a line is left out: it has only spaces, or is a comment.
+fn says_nothing(line: &[u8]) -> bool
+    ensures { result ≡ is_skipped line.now }
+{
+    line.starts_with(b"#") || is_blank(line)
+}
+
+fn is_blank(line: &[u8]) -> bool
+    ensures { result ≡ list_all (λ b. b == 0x20) line.now }
+{
+    line.iter().all(|b| *b == b' ')
+}
+
+/// The bytes that a line says, if it says any. A line is first decoded as it stands, which is all
+/// that one without spaces needs. `digits` is room for the digits of the others.
+fn datagram_of(
+    alloc: Global,
+    line: &[u8],
+    digits: &mut Vec<u8>,
+) -> Result<Option<Vec<u8>>, AllocError>
+    ensures { IfOk result (λ found. option_map (λ bytes. bytes.items) found ≡ bytes_of line.now) }
+{
+    if let Some(bytes) = decoded(alloc, line)? {
+        return Ok(Some(bytes));
+    }
+    copy_digits(line, digits)?;
+    if let [b'-'] = digits.as_slice() {
+        return Ok(Some(Vec::new(alloc)));
+    }
+    decoded(alloc, digits.as_slice())
+}
+
+fn decoded(alloc: Global, digits: &[u8]) -> Result<Option<Vec<u8>>, AllocError>
+    ensures { IfOk result (λ found.
+        option_map (λ bytes. bytes.items) found ≡ result_ok (decode_of digits.now)) }
+{
+    match hex::decode(alloc, digits) {
+        Ok(bytes) => Ok(Some(bytes)),
+        Err(FromHexError::OutOfMemory) => Err(AllocError),
+        Err(_) => Ok(None),
+    }
+}
+
+/// Leaves in `digits` the line without its spaces.
+fn copy_digits(line: &[u8], digits: &mut Vec<u8>) -> Result<(), AllocError>
+    ensures { OnOk result (digits.new.items ≡ without_blanks line.now) }
+{
+    digits.clear();
+    digits.extend_from_slice(line)?;
+    digits.retain(|b| *b != b' ');
+    Ok(())
+}

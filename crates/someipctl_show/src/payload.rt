@@ -1,0 +1,128 @@
+//! The command `payload`: the value that bytes have by a shape.
+ghost use Rattle.std.specs.Prelude.{◌≡◌, Some, None, IfErr, IfOk, string_bytes};
+ghost use Rattle.std.specs.Option.{option_map};
+ghost use Rattle.someipctl_show.specs.declared.payload.PayloadRefusal.TheVariants.{CannotWrite, OutOfMemory};
+ghost use Rattle.someip_payload_values.specs.View.{form};
+ghost use Rattle.someipctl_show.specs.Payload.{argument_bytes, refusal_of_shape};
+ghost use Rattle.someipctl_show.specs.Payload.{ShowsPayload, RefusesPayload, Told};
+
+use hex::FromHexError;
+use someip_payload::{PayloadError, Shape, ShapeTextError, decode, read_shape};
+use someipctl_inputs::Outcome;
+use someipctl_print::write_text;
+use std::alloc::{AllocError, Global};
+use std::io::Write;
+use thiserror::Error;
+
+/// Why a payload was not read.
+#[derive(Clone, Copy, Debug, PartialEq, Eq, Error)]
+pub enum PayloadRefusal {
+    /// The shape's text is none from this byte on. Nothing was written.
+    #[error("{}", ShapeTextError::BadShape(*.0))]
+    BadShape(usize),
+    /// The payload is no hex. Nothing was written.
+    #[error("bad hex")]
+    BadHex,
+    /// Writing failed, or took nothing. A beginning of the text was written.
+    #[error("{}", someipctl_print::CannotWrite)]
+    CannotWrite,
+    /// Memory ran out. Nothing was written.
+    #[error("out of memory")]
+    OutOfMemory,
+}
+
+/// Reads the payload by its shape, and writes its value and how many of its bytes that took, or the
+/// fault that it has. SHAPE is read before HEX.
+pub fn payload<W: Write>(
+    alloc: Global,
+    shape: &str,
+    hex: &str,
+    writer: &mut W,
+) -> Result<Outcome, PayloadRefusal>
+    // The value of a front of the bytes was written, or their first fault.
+    ensures shown { IfOk result (λ outcome. ShowsPayload shape.now hex.now outcome
+        (W.contents writer.old) (W.contents writer.new)) }
+    // An error names what is refused, and leaves nothing written, but for one of writing: that leaves
+    // a beginning of the text.
+    ensures refused { IfErr result (λ error. RefusesPayload shape.now hex.now error
+        (W.contents writer.old) (W.contents writer.new)) }
+{
+    let shape = read_shape(alloc, shape)?;
+    let Some(bytes) = bytes_of_argument(alloc, hex)? else {
+        return Err(PayloadRefusal::BadHex);
+    };
+    let (text, outcome) = read_text(alloc, &shape, &bytes)?;
+    write_text(writer, text.as_bytes())?;
+    Ok(outcome)
+}
+
+/// The text of the value, or of the fault, and which of them it is.
+pub fn read_text(
+    alloc: Global,
+    shape: &Shape,
+    bytes: &[u8],
+) -> Result<(String, Outcome), AllocError>
+    ensures { IfOk result (λ r. Told (form shape.now) bytes.now (string_bytes r.0) r.1) }
+{
+    let mut text = String::new(alloc);
+    match decode(alloc, shape, bytes) {
+        Ok((value, used)) => {
+            let all = bytes.len();
+            writeln!(text, "value {value}")?;
+            writeln!(text, "used {used} of {all}")?;
+            Ok((text, Outcome::Done))
+        }
+        Err(PayloadError::OutOfMemory) => Err(AllocError),
+        Err(fault) => {
+            let name = fault.name();
+            let place = fault.place();
+            writeln!(text, "fault {name} at {place}")?;
+            Ok((text, Outcome::FaultShown))
+        }
+    }
+}
+
+/// The bytes that the argument says: none for `-`, else those of its hex digits.
+pub fn bytes_of_argument(alloc: Global, text: &str) -> Result<Option<Vec<u8>>, AllocError>
+    ensures { IfOk result (λ found. option_map (λ bytes. bytes.items) found ≡ argument_bytes text.now) }
+{
+    let text = text.as_bytes();
+    if text.is_empty() {
+        return Ok(None);
+    }
+    if let [b'-'] = text {
+        return Ok(Some(Vec::new(alloc)));
+    }
+    match hex::decode(alloc, text) {
+        Ok(bytes) => Ok(Some(bytes)),
+        Err(FromHexError::OutOfMemory) => Err(AllocError),
+        Err(_) => Ok(None),
+    }
+}
+
+impl From<ShapeTextError> for PayloadRefusal {
+    ghost from_gives = { λ error e. e ≡ refusal_of_shape error };
+
+    fn from(error: ShapeTextError) -> PayloadRefusal {
+        match error {
+            ShapeTextError::BadShape(place) => PayloadRefusal::BadShape(place),
+            ShapeTextError::OutOfMemory => PayloadRefusal::OutOfMemory,
+        }
+    }
+}
+
+impl From<AllocError> for PayloadRefusal {
+    ghost from_gives = { λ _ e. e ≡ OutOfMemory };
+
+    fn from(_error: AllocError) -> PayloadRefusal {
+        PayloadRefusal::OutOfMemory
+    }
+}
+
+impl From<someipctl_print::CannotWrite> for PayloadRefusal {
+    ghost from_gives = { λ _ e. e ≡ CannotWrite };
+
+    fn from(_error: someipctl_print::CannotWrite) -> PayloadRefusal {
+        PayloadRefusal::CannotWrite
+    }
+}

@@ -1,0 +1,267 @@
+//! The command `show`: a capture's datagrams, message by message.
+ghost use Rattle.std.specs.Prelude.{◌≡◌, ◌≢◌, ◌++◌, [], Some, OnOk, OnErr, IfOk, IfErr, map};
+ghost use Rattle.std.specs.Io.KnownBytes.{Appends};
+ghost use Rattle.someip_wire.specs.Reading.{items_of};
+ghost use Rattle.someipctl_show.specs.declared.show.ShowError.TheVariants.{OutOfMemory};
+ghost use Rattle.someipctl_print.specs.Sending.{Sends, Stops};
+ghost use Rattle.someipctl_print.specs.Discovery.{view_reading};
+ghost use Rattle.someipctl_show.specs.Readings.{BeginWith, readings_in, readings_of};
+ghost use Rattle.someipctl_show.specs.Services.{asked_among};
+ghost use Rattle.someipctl_show.specs.ShownText.{ComesWith, datagram_text, lines_from, no_types};
+ghost use Rattle.someipctl_show.specs.ShownText.{shown_text, shown_outcome, has_fault};
+ghost use Rattle.someipctl_show.specs.ShowResult.{Shows, RefusesShow, view_services};
+ghost use Rattle.someipctl_show.specs.ShowResult.{error_of_capture, error_of_input, error_of_print};
+
+use crate::capture::{CaptureError, read_capture};
+use crate::print_fault::PrintFault;
+use crate::readings::{next_reading, read_ahead, read_datagram};
+use crate::services::{AskedService, is_asked_by};
+use crate::value_lines::{ValueLines, put_valued_item};
+use sd_wire::{SdError, SdRead};
+use someip_wire::Messages;
+use someipctl_inputs::{Outcome, ReadFault, read_all};
+use someipctl_print::{Buffer, item_len, put_empty};
+use someipctl_types::MessageTypes;
+use std::alloc::{AllocError, Global};
+use std::io::{Read, Write};
+use thiserror::Error;
+
+/// Why a capture was not shown whole.
+#[derive(Clone, Copy, Debug, PartialEq, Eq, Error)]
+pub enum ShowError {
+    /// The line of this number, counted from 1, is no hex. Nothing was written.
+    #[error("{}", CaptureError::BadHex(*.0))]
+    BadHex(usize),
+    /// The capture could not be read. Nothing was written.
+    #[error("{}", ReadFault::CannotRead)]
+    CannotRead,
+    /// Writing failed, or took nothing. A beginning of the text was written.
+    #[error("{}", someipctl_print::CannotWrite)]
+    CannotWrite,
+    /// Memory ran out. Nothing was written, or where values are told a beginning of the text.
+    #[error("out of memory")]
+    OutOfMemory,
+}
+
+/// Reads a capture whole, checks every line, and then writes what it shows: for each datagram its
+/// messages and the fault that ends it, or one line where it is empty. Where services are named, only
+/// datagrams with a message of one of them are shown; behind the line of a message that the types name
+/// stands that of its value.
+pub fn show<R: Read, W: Write>(
+    alloc: Global,
+    reader: &mut R,
+    services: Option<&[AskedService]>,
+    types: &MessageTypes,
+    writer: &mut W,
+) -> Result<Outcome, ShowError>
+    // The text of all datagrams that are asked for was written, and the outcome says whether a fault is
+    // in it.
+    ensures shown { IfOk result (λ outcome. Shows (R.remaining reader.old) (view_services services.entry)
+        types.now outcome (W.contents writer.old) (W.contents writer.new)) }
+    // An error names the first bad line, and leaves nothing written, but for one of writing, or of memory
+    // for a value: that leaves a beginning of the text.
+    ensures refused { IfErr result (λ error. RefusesShow (R.remaining reader.old)
+        (view_services services.entry) types.now error (W.contents writer.old) (W.contents writer.new)) }
+{
+    let text = read_all(alloc, reader)?;
+    show_capture(alloc, &text, services, types, writer)
+}
+
+/// Checks every line of a capture, and then writes what it shows, as `show` does.
+pub fn show_capture<W: Write>(
+    alloc: Global,
+    text: &[u8],
+    services: Option<&[AskedService]>,
+    types: &MessageTypes,
+    writer: &mut W,
+) -> Result<Outcome, ShowError>
+    ensures shown { IfOk result (λ outcome. Shows (Some text.now) (view_services services.entry)
+        types.now outcome (W.contents writer.old) (W.contents writer.new)) }
+    ensures refused { IfErr result (λ error. RefusesShow (Some text.now) (view_services services.entry)
+        types.now error (W.contents writer.old) (W.contents writer.new)) }
+    // A capture that is there cannot fail to be read.
+    ensures there { result ≢ Err ShowError.CannotRead }
+{
+    let mut datagrams = read_capture(alloc, text)?;
+    keep_asked(services, &mut datagrams);
+    let readings = read_ahead(alloc, &datagrams)?;
+    let mut buffer = Buffer::new(alloc)?;
+    let mut values = ValueLines::new(alloc, types);
+    let outcome = write_datagrams(&mut buffer, writer, &datagrams, &readings, &mut values)?;
+    Ok(outcome)
+}
+
+/// Keeps the datagrams that are asked for.
+fn keep_asked(services: Option<&[AskedService]>, datagrams: &mut Vec<Vec<u8>>)
+    ensures { map (λ d. d.items) datagrams.new.items
+        ≡ asked_among (view_services services.entry) (map (λ d. d.items) datagrams.old.items) }
+{
+    datagrams.retain(|d| is_asked_by(services, d));
+}
+
+/// Writes the text of all datagrams through an empty buffer.
+fn write_datagrams<W: Write>(
+    buffer: &mut Buffer,
+    writer: &mut W,
+    datagrams: &[Vec<u8>],
+    readings: &[Result<SdRead, SdError>],
+    values: &mut ValueLines<'_>,
+) -> Result<Outcome, PrintFault>
+    requires empty { buffer.old ≡ [] }
+    requires read { map view_reading readings.now ≡ readings_of (map (λ d. d.items) datagrams.now) }
+    ensures ok { OnOk result (Appends (W.contents writer.old)
+        (W.contents writer.new) (shown_text values.old.types.now (map (λ d. d.items) datagrams.now))) }
+    ensures outcome { IfOk result (λ outcome.
+        outcome ≡ shown_outcome values.old.types.now (map (λ d. d.items) datagrams.now)) }
+    ensures err { OnErr result (Stops (W.contents writer.old) []
+        (W.contents writer.new) (shown_text values.old.types.now (map (λ d. d.items) datagrams.now))) }
+    ensures memory { IfErr result (ComesWith values.old.types.now) }
+    ensures types { values.new.types.now ≡ values.old.types.now }
+{
+    let outcome = put_datagrams(buffer, writer, datagrams, readings, values)?;
+    buffer.flush(writer)?;
+    Ok(outcome)
+}
+
+/// Prints the text of all datagrams of a capture, in order.
+fn put_datagrams<W: Write>(
+    buffer: &mut Buffer,
+    writer: &mut W,
+    datagrams: &[Vec<u8>],
+    readings: &[Result<SdRead, SdError>],
+    values: &mut ValueLines<'_>,
+) -> Result<Outcome, PrintFault>
+    requires { map view_reading readings.now ≡ readings_of (map (λ d. d.items) datagrams.now) }
+    ensures ok { OnOk result (Sends (W.contents writer.old) buffer.old
+        (W.contents writer.new) buffer.new (shown_text values.old.types.now (map (λ d. d.items) datagrams.now))) }
+    ensures outcome { IfOk result (λ outcome.
+        outcome ≡ shown_outcome values.old.types.now (map (λ d. d.items) datagrams.now)) }
+    ensures err { OnErr result (Stops (W.contents writer.old) buffer.old
+        (W.contents writer.new) (shown_text values.old.types.now (map (λ d. d.items) datagrams.now))) }
+    ensures memory { IfErr result (ComesWith values.old.types.now) }
+    ensures types { values.new.types.now ≡ values.old.types.now }
+{
+    let mut fault_shown = false;
+    let mut left = readings;
+    for (i, datagram) in datagrams.iter().enumerate() {
+        fault_shown |= put_datagram(buffer, writer, i + 1, datagram, &mut left, values)?;
+    }
+    Ok(Outcome::of(fault_shown))
+}
+
+/// Prints the text of the k-th datagram, and says whether a fault is in it. What its Service Discovery
+/// messages hold is taken from what is left.
+pub(crate) fn put_datagram<W: Write>(
+    buffer: &mut Buffer,
+    writer: &mut W,
+    k: usize,
+    datagram: &[u8],
+    left: &mut &[Result<SdRead, SdError>],
+    values: &mut ValueLines<'_>,
+) -> Result<bool, PrintFault>
+    requires { BeginWith (map view_reading left.old.now) (readings_in (items_of datagram.now)) }
+    ensures ok { OnOk result (Sends (W.contents writer.old) buffer.old
+        (W.contents writer.new) buffer.new (datagram_text values.old.types.now k datagram.now)) }
+    ensures faulty { IfOk result (λ faulty. faulty ≡ has_fault values.old.types.now datagram.now) }
+    ensures left { OnOk result (map view_reading left.old.now
+        ≡ readings_in (items_of datagram.now) ++ map view_reading left.new.now) }
+    ensures err { OnErr result (Stops (W.contents writer.old) buffer.old
+        (W.contents writer.new) (datagram_text values.old.types.now k datagram.now)) }
+    ensures memory { IfErr result (ComesWith values.old.types.now) }
+    ensures types { values.new.types.now ≡ values.old.types.now }
+{
+    if datagram.is_empty() {
+        put_empty(buffer, writer, k)?;
+        return Ok(false);
+    }
+    put_items(buffer, writer, k, datagram, left, values)
+}
+
+/// The text of a datagram as the first of a capture.
+pub fn text_of_datagram(alloc: Global, datagram: &[u8]) -> Result<Vec<u8>, AllocError>
+    ensures { IfOk result (λ text. text.items ≡ datagram_text no_types 1 datagram.now) }
+{
+    let mut text = Vec::new(alloc);
+    let mut readings = Vec::new(alloc);
+    read_datagram(alloc, datagram, &mut readings)?;
+    let mut buffer = Buffer::new(alloc)?;
+    let mut left = readings.as_slice();
+    let types = MessageTypes::none(alloc);
+    let mut values = ValueLines::new(alloc, &types);
+    put_datagram(&mut buffer, &mut text, 1, datagram, &mut left, &mut values).map_err(
+        |_| AllocError,
+    )?;
+    buffer.flush(&mut text).map_err(|_| AllocError)?;
+    Ok(text)
+}
+
+/// Prints the lines of the items of the k-th datagram, and says whether a fault is among them.
+fn put_items<W: Write>(
+    buffer: &mut Buffer,
+    writer: &mut W,
+    k: usize,
+    datagram: &[u8],
+    left: &mut &[Result<SdRead, SdError>],
+    values: &mut ValueLines<'_>,
+) -> Result<bool, PrintFault>
+    requires { BeginWith (map view_reading left.old.now) (readings_in (items_of datagram.now)) }
+    ensures ok { OnOk result (Sends (W.contents writer.old) buffer.old
+        (W.contents writer.new) buffer.new (lines_from values.old.types.now k 0 (items_of datagram.now))) }
+    ensures faulty { IfOk result (λ faulty. faulty ≡ has_fault values.old.types.now datagram.now) }
+    ensures left { OnOk result (map view_reading left.old.now
+        ≡ readings_in (items_of datagram.now) ++ map view_reading left.new.now) }
+    ensures err { OnErr result (Stops (W.contents writer.old) buffer.old
+        (W.contents writer.new) (lines_from values.old.types.now k 0 (items_of datagram.now))) }
+    ensures memory { IfErr result (ComesWith values.old.types.now) }
+    ensures types { values.new.types.now ≡ values.old.types.now }
+{
+    let mut faulty = false;
+    let mut place = 0;
+    for item in Messages::new(datagram) {
+        let found = next_reading(&item, left);
+        faulty |= put_valued_item(buffer, writer, k, place, &item, found, values)?;
+        place += item_len(&item);
+    }
+    Ok(faulty)
+}
+
+impl From<CaptureError> for ShowError {
+    ghost from_gives = { λ error e. e ≡ error_of_capture error };
+
+    fn from(error: CaptureError) -> ShowError {
+        match error {
+            CaptureError::BadHex(line) => ShowError::BadHex(line),
+            CaptureError::OutOfMemory => ShowError::OutOfMemory,
+        }
+    }
+}
+
+impl From<ReadFault> for ShowError {
+    ghost from_gives = { λ fault e. e ≡ error_of_input fault };
+
+    fn from(fault: ReadFault) -> ShowError {
+        match fault {
+            ReadFault::CannotRead => ShowError::CannotRead,
+            ReadFault::OutOfMemory => ShowError::OutOfMemory,
+        }
+    }
+}
+
+impl From<PrintFault> for ShowError {
+    ghost from_gives = { λ fault e. e ≡ error_of_print fault };
+
+    fn from(fault: PrintFault) -> ShowError {
+        match fault {
+            PrintFault::CannotWrite => ShowError::CannotWrite,
+            PrintFault::OutOfMemory => ShowError::OutOfMemory,
+        }
+    }
+}
+
+impl From<AllocError> for ShowError {
+    ghost from_gives = { λ _ e. e ≡ OutOfMemory };
+
+    fn from(_error: AllocError) -> ShowError {
+        ShowError::OutOfMemory
+    }
+}

@@ -1,0 +1,105 @@
+//! The lines of the values of messages.
+ghost use Rattle.std.specs.Prelude.{◌≡◌, ◌+◌, ◌≤◌, [], IfErr, IfOk, IsOk, OnErr, OnOk, string_bytes};
+ghost use Rattle.someip_wire.specs.View.{view_item};
+ghost use Rattle.someipctl_print.specs.Sending.{Sends, Stops};
+ghost use Rattle.someipctl_print.specs.Discovery.{discovery_in, view_found};
+ghost use Rattle.someipctl_print.specs.Items.{item_len, item_lines};
+ghost use Rattle.someipctl_show.specs.ShownText.{ComesWith, has_value_fault_in, shows_fault, value_of_item};
+
+use crate::print_fault::PrintFault;
+use sd_wire::{SdError, SdRead};
+use someip_wire::{Message, WireError};
+use someipctl_print::{Buffer, put_item};
+use someipctl_types::MessageTypes;
+use std::alloc::{AllocError, Global};
+use std::io::Write;
+
+/// Makes the lines of the values of messages, one after the other, in one text.
+#[derive(Drop)]
+pub struct ValueLines<'t> {
+    alloc: Global,
+    /// What payloads are read by.
+    pub types: &'t MessageTypes,
+    /// The line that was made last.
+    pub line: String,
+}
+
+impl<'t> ValueLines<'t> {
+    /// Those of messages that these types name.
+    pub fn new(alloc: Global, types: &'t MessageTypes) -> ValueLines<'t>
+        ensures { result.types.now ≡ types.now }
+    {
+        ValueLines {
+            alloc,
+            types,
+            line: String::new(alloc),
+        }
+    }
+
+    /// Makes the line of the value of an item, which begins at a place of the k-th datagram: an empty
+    /// one where it has none. Says whether it tells a fault.
+    pub fn make(
+        &mut self,
+        k: usize,
+        place: usize,
+        item: &Result<Message<'_>, WireError>,
+    ) -> Result<bool, AllocError>
+        requires { place + item_len (view_item item.now) ≤ usize.MAX }
+        ensures line { OnOk result (string_bytes self.new.line
+            ≡ value_of_item self.old.types.now k place (view_item item.now)) }
+        ensures faulty { IfOk result (λ faulty.
+            faulty ≡ has_value_fault_in self.old.types.now (view_item item.now)) }
+        // Without types there is no line, which takes no memory.
+        ensures plain { self.old.types.now ≡ [] → IsOk result }
+        ensures types { self.new.types.now ≡ self.old.types.now }
+    {
+        self.line.clear();
+        if self.types.is_empty() {
+            return Ok(false);
+        }
+        match item {
+            Ok(message) => {
+                self.types
+                    .make_value_line(self.alloc, k, place, message, &mut self.line)
+            }
+            Err(_) => Ok(false),
+        }
+    }
+}
+
+/// Prints the lines of an item that begins at a place of the k-th datagram, and behind that of a message
+/// the line of its value, where it has one. Says whether a fault is among them.
+pub fn put_valued_item<W: Write>(
+    buffer: &mut Buffer,
+    writer: &mut W,
+    k: usize,
+    place: usize,
+    item: &Result<Message<'_>, WireError>,
+    found: Option<&Result<SdRead, SdError>>,
+    values: &mut ValueLines<'_>,
+) -> Result<bool, PrintFault>
+    requires found { view_found found ≡ discovery_in (view_item item.now) }
+    requires room { place + item_len (view_item item.now) ≤ usize.MAX }
+    ensures ok { OnOk result (Sends (W.contents writer.old) buffer.old
+        (W.contents writer.new) buffer.new (item_lines k place
+        (value_of_item values.old.types.now k place (view_item item.now)) (view_item item.now))) }
+    ensures faulty { IfOk result (λ faulty.
+        faulty ≡ shows_fault values.old.types.now (view_item item.now)) }
+    ensures err { OnErr result (Stops (W.contents writer.old) buffer.old
+        (W.contents writer.new) (item_lines k place
+        (value_of_item values.old.types.now k place (view_item item.now)) (view_item item.now))) }
+    ensures memory { IfErr result (ComesWith values.old.types.now) }
+    ensures types { values.new.types.now ≡ values.old.types.now }
+{
+    let is_value_faulty = values.make(k, place, item)?;
+    let faulty = put_item(
+        buffer,
+        writer,
+        k,
+        place,
+        item,
+        values.line.as_bytes(),
+        found,
+    )?;
+    Ok(is_value_faulty | faulty)
+}

@@ -1,0 +1,289 @@
+//! The command `vectors`: whether what is printed of datagrams and payloads is what a file says.
+ghost use Rattle.std.specs.Prelude.{◌≡◌, ◌≢◌, ◌++◌, [], Some, Err, OnOk, OnErr, IfOk, IfErr, List, Bool, codes, map, not};
+ghost use Rattle.std.specs.List.{list_any};
+ghost use Rattle.std.specs.Str.{bytes_eq};
+ghost use Rattle.std.specs.Io.KnownBytes.{Appends};
+ghost use Rattle.someipctl_show.specs.declared.vectors.VectorsError.TheVariants.{CannotWrite, OutOfMemory};
+ghost use Rattle.someipctl_show.specs.Capture.{lines_of};
+ghost use Rattle.someipctl_print.specs.Sending.{Sends, Stops};
+ghost use Rattle.someipctl_show.specs.VectorLines.{AreSaid, asked_by, has_vector, said_by};
+ghost use Rattle.someipctl_show.specs.Vectors.{AreJudged, IsJudged, IsPrintedOf, Judges, RefusesLines, RefusesVectors};
+ghost use Rattle.someipctl_show.specs.Vectors.{count_passed, error_of_file, expected_text, summary_line};
+ghost use Rattle.someipctl_show.specs.Vectors.{vectors_in, verdict_line, verdict_lines, verdicts_outcome};
+ghost use Rattle.someipctl_show.specs.Vectors.{verdicts_text};
+
+use crate::payload::read_text;
+use crate::show::text_of_datagram;
+use crate::vector_lines::{LineFault, Question, VectorLine, line_of};
+use someipctl_inputs::{Outcome, ReadFault, read_all};
+use someipctl_print::{Buffer, Part, put_parts};
+use std::alloc::{AllocError, AllocFailed, Global};
+use std::io::{Read, Write};
+use thiserror::Error;
+
+/// Why the vectors of a file were not all judged.
+#[derive(Clone, Copy, Debug, PartialEq, Eq, Error)]
+pub enum VectorsError {
+    /// The line of this number, counted from 1, is the first that is no line of a file of vectors.
+    /// Nothing was written.
+    #[error("line {}: {}", .0, LineFault::Bad)]
+    BadVector(usize),
+    /// The file could not be read. Nothing was written.
+    #[error("{}", ReadFault::CannotRead)]
+    CannotRead,
+    /// Writing failed, or took nothing. A beginning of the text was written.
+    #[error("{}", someipctl_print::CannotWrite)]
+    CannotWrite,
+    /// Memory ran out. Nothing was written.
+    #[error("out of memory")]
+    OutOfMemory,
+}
+
+/// Reads a file of vectors whole, checks every line, compares what is printed of each vector with
+/// what it expects, and then writes for each whether they are equal, and how many are.
+pub fn vectors<R: Read, W: Write>(
+    alloc: Global,
+    reader: &mut R,
+    writer: &mut W,
+) -> Result<Outcome, VectorsError>
+    // Every vector was judged and its line written, and the outcome says whether one differs.
+    ensures judged { IfOk result (λ outcome. Judges (R.remaining reader.old) outcome
+        (W.contents writer.old) (W.contents writer.new)) }
+    // An error names the first bad line, and leaves nothing written, but for one of writing: that
+    // leaves a beginning of the text.
+    ensures refused { IfErr result (λ error. RefusesVectors (R.remaining reader.old) error
+        (W.contents writer.old) (W.contents writer.new)) }
+{
+    let text = read_all(alloc, reader)?;
+    judge_vectors(alloc, &text, writer)
+}
+
+/// Checks every line of a file of vectors, and then judges them, as `vectors` does.
+pub fn judge_vectors<W: Write>(
+    alloc: Global,
+    text: &[u8],
+    writer: &mut W,
+) -> Result<Outcome, VectorsError>
+    ensures judged { IfOk result (λ outcome. Judges (Some text.now) outcome
+        (W.contents writer.old) (W.contents writer.new)) }
+    ensures refused { IfErr result (λ error. RefusesVectors (Some text.now) error
+        (W.contents writer.old) (W.contents writer.new)) }
+    // A file that is there cannot fail to be read.
+    ensures there { result ≢ Err VectorsError.CannotRead }
+{
+    let lines = read_lines(alloc, text)?;
+    let results = judge(alloc, &lines)?;
+    let mut buffer = Buffer::new(alloc)?;
+    write_verdicts(&mut buffer, writer, &results)?;
+    Ok(Outcome::of(results.contains(&false)))
+}
+
+/// What the lines of a file say that are not left out, or the number of the first bad one.
+fn read_lines<'t>(alloc: Global, text: &'t [u8]) -> Result<Vec<VectorLine<'t>>, VectorsError>
+    ensures said { IfOk result (λ lines. AreSaid (lines_of text.now) (map said_by lines.items)) }
+    ensures refused { IfErr result (RefusesLines text.now) }
+{
+    let mut lines = Vec::new(alloc);
+    for (i, line) in text.split(|b| *b == b'\n').enumerate() {
+        match line_of(alloc, line) {
+            Ok(None) => {}
+            Ok(Some(said)) => {
+                if !has_vector(&lines, &said) {
+                    return Err(VectorsError::BadVector(i + 1));
+                }
+                lines.push(said)?;
+            }
+            Err(LineFault::Bad) => return Err(VectorsError::BadVector(i + 1)),
+            Err(LineFault::OutOfMemory) => return Err(VectorsError::OutOfMemory),
+        }
+    }
+    Ok(lines)
+}
+
+/// Whether a line after others belongs to a vector: it begins one, or there is one before it.
+fn has_vector(lines: &[VectorLine<'_>], said: &VectorLine<'_>) -> bool
+    ensures { result ≡ has_vector (map said_by lines.now) (said_by said.now) }
+{
+    match said {
+        VectorLine::Asks(_) => true,
+        VectorLine::Expects(_) => !lines.is_empty(),
+    }
+}
+
+/// Whether each vector passes, in order.
+fn judge(alloc: Global, lines: &[VectorLine<'_>]) -> Result<Vec<bool>, AllocError>
+    ensures { IfOk result (λ results. AreJudged (vectors_in (map said_by lines.now)) results.items) }
+{
+    let mut results = Vec::new(alloc);
+    for (i, line) in lines.iter().enumerate() {
+        let VectorLine::Asks(question) = line else {
+            continue;
+        };
+        let passed = passes(alloc, question, &lines[i + 1..])?;
+        results.push(passed)?;
+    }
+    Ok(results)
+}
+
+/// Whether a vector passes that asks this, where these lines follow.
+fn passes(alloc: Global, question: &Question, lines: &[VectorLine<'_>]) -> Result<bool, AllocError>
+    ensures { IfOk result (IsJudged (record {
+      asked = asked_by question.now;
+      expected = expected_text (map said_by lines.now);
+    })) }
+{
+    let expected = expected_by(alloc, lines)?;
+    let text = answer(alloc, question)?;
+    Ok(text == expected)
+}
+
+/// The text that is expected by the lines in front of the next vector.
+fn expected_by(alloc: Global, lines: &[VectorLine<'_>]) -> Result<Vec<u8>, AllocError>
+    ensures { IfOk result (λ text. text.items ≡ expected_text (map said_by lines.now)) }
+{
+    let mut text = Vec::new(alloc);
+    for line in lines {
+        match line {
+            VectorLine::Asks(_) => break,
+            VectorLine::Expects(expected) => push_line(&mut text, expected)?,
+        }
+    }
+    Ok(text)
+}
+
+/// Appends a line, with the line feed that ends it.
+fn push_line(text: &mut Vec<u8>, line: &str) -> Result<(), AllocError>
+    ensures { OnOk result (text.new.items ≡ text.old.items ++ (line.now ++ codes "\n")) }
+{
+    text.extend_from_slice(line.as_bytes())?;
+    text.push(b'\n')?;
+    Ok(())
+}
+
+/// The text that is printed of what a vector asks for.
+fn answer(alloc: Global, question: &Question) -> Result<Vec<u8>, AllocError>
+    ensures { IfOk result (λ text. IsPrintedOf (asked_by question.now) text.items) }
+{
+    match question {
+        Question::Datagram(datagram) => text_of_datagram(alloc, datagram),
+        Question::Payload(shape, bytes) => {
+            let (text, _) = read_text(alloc, shape, bytes)?;
+            Ok(text.into_bytes())
+        }
+    }
+}
+
+/// Writes the line of each vector and the last line through an empty buffer.
+fn write_verdicts<W: Write>(
+    buffer: &mut Buffer,
+    writer: &mut W,
+    results: &[bool],
+) -> Result<(), someipctl_print::CannotWrite>
+    requires { buffer.old ≡ [] }
+    ensures ok { OnOk result (Appends (W.contents writer.old)
+        (W.contents writer.new) (verdicts_text results.now)) }
+    ensures err { OnErr result (Stops (W.contents writer.old) []
+        (W.contents writer.new) (verdicts_text results.now)) }
+{
+    put_verdicts(buffer, writer, results)?;
+    put_summary(buffer, writer, results)?;
+    buffer.flush(writer)
+}
+
+/// Prints the line of each vector.
+fn put_verdicts<W: Write>(
+    buffer: &mut Buffer,
+    writer: &mut W,
+    results: &[bool],
+) -> Result<(), someipctl_print::CannotWrite>
+    ensures ok { OnOk result (Sends (W.contents writer.old) buffer.old
+        (W.contents writer.new) buffer.new (verdict_lines 1 results.now)) }
+    ensures err { OnErr result (Stops (W.contents writer.old) buffer.old
+        (W.contents writer.new) (verdict_lines 1 results.now)) }
+{
+    for (i, passed) in results.iter().enumerate() {
+        put_verdict(buffer, writer, i + 1, *passed)?;
+    }
+    Ok(())
+}
+
+/// Prints whether the k-th vector passed.
+fn put_verdict<W: Write>(
+    buffer: &mut Buffer,
+    writer: &mut W,
+    k: usize,
+    passed: bool,
+) -> Result<(), someipctl_print::CannotWrite>
+    ensures ok { OnOk result (Sends (W.contents writer.old) buffer.old
+        (W.contents writer.new) buffer.new (verdict_line k passed)) }
+    ensures err { OnErr result (Stops (W.contents writer.old) buffer.old
+        (W.contents writer.new) (verdict_line k passed)) }
+{
+    let verdict = if passed { " ok\n" } else { " differs\n" };
+    put_parts(buffer, writer, &[Part::Number(k), Part::Text(verdict)])
+}
+
+/// Prints how many vectors passed, and how many there are.
+fn put_summary<W: Write>(
+    buffer: &mut Buffer,
+    writer: &mut W,
+    results: &[bool],
+) -> Result<(), someipctl_print::CannotWrite>
+    ensures ok { OnOk result (Sends (W.contents writer.old) buffer.old
+        (W.contents writer.new) buffer.new (summary_line results.now)) }
+    ensures err { OnErr result (Stops (W.contents writer.old) buffer.old
+        (W.contents writer.new) (summary_line results.now)) }
+{
+    put_parts(
+        buffer,
+        writer,
+        &[
+            Part::Text("passed "),
+            Part::Number(count_passed(results)),
+            Part::Text(" of "),
+            Part::Number(results.len()),
+            Part::Text("\n"),
+        ],
+    )
+}
+
+fn count_passed(results: &[bool]) -> usize
+    ensures { result ≡ count_passed results.now }
+{
+    results.iter().filter(|passed| **passed).count()
+}
+
+impl From<ReadFault> for VectorsError {
+    ghost from_gives = { λ fault e. e ≡ error_of_file fault };
+
+    fn from(fault: ReadFault) -> VectorsError {
+        match fault {
+            ReadFault::CannotRead => VectorsError::CannotRead,
+            ReadFault::OutOfMemory => VectorsError::OutOfMemory,
+        }
+    }
+}
+
+impl From<someipctl_print::CannotWrite> for VectorsError {
+    ghost from_gives = { λ _ e. e ≡ CannotWrite };
+
+    fn from(_error: someipctl_print::CannotWrite) -> VectorsError {
+        VectorsError::CannotWrite
+    }
+}
+
+impl From<AllocError> for VectorsError {
+    ghost from_gives = { λ _ e. e ≡ OutOfMemory };
+
+    fn from(_error: AllocError) -> VectorsError {
+        VectorsError::OutOfMemory
+    }
+}
+
+impl<T: Drop> From<AllocFailed<T>> for VectorsError {
+    ghost from_gives = { λ _ e. e ≡ OutOfMemory };
+
+    fn from(_error: AllocFailed<T>) -> VectorsError {
+        VectorsError::OutOfMemory
+    }
+}
