@@ -16,7 +16,7 @@ use audit_tables::Origin;
 use sd_wire::{SdError, SdRead, read_sd};
 use someip_reassembly::Reassembly;
 use someip_tables::Moment;
-use someip_wire::{Header, Message, MessageType};
+use someip_wire::{Header, Message};
 use std::alloc::{AllocError, Global};
 
 impl<S: Reassembly> Books<S> {
@@ -86,11 +86,7 @@ impl<S: Reassembly> Books<S> {
 fn is_sd(origin: &Origin, header: &Header) -> bool
     ensures { result ≡ is_sd origin.now header.now }
 {
-    is_at_discovery(origin)
-        && header.service == 0xffff
-        && header.method == 0x8100
-        && header.interface == 1
-        && matches!(header.kind, MessageType::Notification)
+    is_at_discovery(origin) && header.is_discovery()
 }
 
 /// Reads a payload, and keeps want of memory apart.

@@ -10,7 +10,8 @@ use Rattle.sd_wire.specs.Faults.{fault_place}
 use Rattle.sd_wire.specs.Program.{reading}
 use Rattle.sd_wire.proofs.PlaceLemmas.{fault_within}
 use Rattle.someipctl_print.specs.Items.{item_len}
-use Rattle.someipctl_print.specs.Discovery.{is_discovery, discovery_in}
+use Rattle.someip_wire.specs.Discovery.{is_discovery}
+use Rattle.someipctl_print.specs.Discovery.{discovery_in}
 
 pub room_for : (m : MessageValue) (place top : ℕ) (front : Option (Result SdValue SdError)) → front ≡ discovery_in (Ok m) → place + item_len (Ok m) ≤ top
     → IfSome front (λ r. IfErr r (λ e. (place + 16) + fault_place e ≤ top))

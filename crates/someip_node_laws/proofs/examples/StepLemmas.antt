@@ -30,7 +30,8 @@ use Rattle.someip_rpc.specs.declared.call.CallKind.TheVariants.{Request}
 use Rattle.someip_rpc.specs.declared.error.RpcError.TheVariants.{Busy, NotOffered, TooLong}
 use Rattle.someip_rpc.specs.Calls.{call_header, call_refusal, is_full}
 use Rattle.someip_rpc.specs.Ids.{call_cmp}
-use Rattle.someip_rpc.specs.Sessions.{next_of, session_after_last}
+use Rattle.someip_tables.specs.Sessions.{session_after_last}
+use Rattle.someip_rpc.specs.Sessions.{next_of}
 use Rattle.someip_node_rules.specs.steps.Advances.{after_inputs, stepped}
 use Rattle.someip_node_rules.specs.rules.Calling.{call_of, calls_at, first_free, first_free_of, session_of}
 use Rattle.someip_node_rules.specs.rules.Errors.{as_node_error}

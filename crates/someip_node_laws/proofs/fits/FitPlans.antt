@@ -45,7 +45,7 @@ use Rattle.someip_node_rules.specs.rules.ClientSubscribing.{standing_of, wish_en
 use Rattle.someip_node_rules.specs.rules.Ticking.{due_entries}
 use Rattle.someip_node_rules.specs.forms.Entries.{fronts}
 use Rattle.someip_node_laws.specs.Fitting.{FitsConfig, FitsHistory, FitsInput, FitsItem, FitsPacket, FitsWire, head_of}
-use Rattle.someip_node_rules.specs.rules.Handling.{client_plan, completed_plan, datagram_plan, discovery_plan, entries_plan, entry_plan, eventgroup_plan, good_plan, heard_plan, is_discovery, item_plan, items_plan, message_plan, reading_plan, same_address, segment_plan, service_plan, target_of, target_plan, whole_plan}
+use Rattle.someip_node_rules.specs.rules.Handling.{client_plan, completed_plan, datagram_plan, discovery_plan, entries_plan, entry_plan, eventgroup_plan, good_plan, heard_plan, is_valid_discovery, item_plan, items_plan, message_plan, reading_plan, same_address, segment_plan, service_plan, target_of, target_plan, whole_plan}
 use Rattle.someip_node_rules.specs.histories.History.{History, answers_of, historic, met, start_of}
 use Rattle.someip_node_rules.specs.trails.Meanings.{GivenBy}
 use Rattle.someip_node_rules.specs.forms.Outputs.{Given}
@@ -194,7 +194,7 @@ module _ (p : Packet) (fits : FitsPacket p) where
       cond_both (not (may_hold (answers_of w.state).config.common.peers (answers_of w.state).peers (v4_ip p.from))) _ _ (λ x. FitsPlan x w) (λ _. tt)
       (λ _. (tt, λ then. entries_fit v.entries all _ then))
 
-  reading_fits : (channel : Channel) (m : MessageValue) → HasMessage p m → is_discovery m.header ≡ true → (read : Result SdValue SdError) → reading m.payload ≡ read
+  reading_fits : (channel : Channel) (m : MessageValue) → HasMessage p m → is_valid_discovery m.header ≡ true → (read : Result SdValue SdError) → reading m.payload ≡ read
       → (w : Work History) → IsSound w → FitsPlan (reading_plan (v4_ip p.from) channel m.header.session read) w
   reading_fits channel m stands found (Err fault) is w sound = tt
   reading_fits channel m stands found (Ok v) is w sound =
@@ -204,7 +204,7 @@ module _ (p : Packet) (fits : FitsPacket p) where
 
   discovery_fits : (channel : Channel) (m : MessageValue) → HasMessage p m → (w : Work History) → IsSound w → FitsPlan (discovery_plan (v4_ip p.from) channel m) w
   discovery_fits channel m stands w sound =
-      cond_both (is_discovery m.header) _ _ (λ x. FitsPlan x w) (λ found. reading_fits channel m stands found (reading m.payload) refl w sound) (λ _. tt)
+      cond_both (is_valid_discovery m.header) _ _ (λ x. FitsPlan x w) (λ found. reading_fits channel m stands found (reading m.payload) refl w sound) (λ _. tt)
 
   item_fits : (goal : Target) (item : Result MessageValue WireError) → Contains (items_of p.bytes) item → (w : Work History) → IsSound w → FitsPlan (item_plan goal p.from p.to item) w
   item_fits goal (Err fault) stands w sound = tt

@@ -43,7 +43,7 @@ use Rattle.someip_node_rules.specs.rules.ClientSubscribing.{standing_of, stop_su
 use Rattle.someip_node_rules.specs.rules.Offering.{stop_offer_of}
 use Rattle.someip_node_rules.specs.rules.Ticking.{due_entries}
 use Rattle.someip_node_rules.specs.forms.Entries.{offer_entry, subscribe_entry}
-use Rattle.someip_node_rules.specs.rules.Handling.{client_plan, completed_plan, datagram_plan, discovery_plan, entries_plan, entry_plan, eventgroup_plan, good_plan, heard_plan, is_discovery, item_plan, message_plan, reading_plan, same_address, segment_plan, service_plan, target_of, target_plan, whole_plan}
+use Rattle.someip_node_rules.specs.rules.Handling.{client_plan, completed_plan, datagram_plan, discovery_plan, entries_plan, entry_plan, eventgroup_plan, good_plan, heard_plan, is_valid_discovery, item_plan, message_plan, reading_plan, same_address, segment_plan, service_plan, target_of, target_plan, whole_plan}
 use Rattle.someip_node_rules.specs.histories.History.{History, answers_of, historic}
 use Rattle.someip_node_rules.specs.rules.Inputs as inputs
 use Rattle.someip_node_rules.specs.rules.Inputs.{Input, peer_plan, plan_of, refusal_of, stop_subscribe_plan}
@@ -120,7 +120,7 @@ module _ (q : Eventgroup) where
 
     speaking_discovery : (channel : Channel) (m : MessageValue) → Speaking q (discovery_plan peer channel m)
     speaking_discovery channel m =
-        cond_both (is_discovery m.header) _ _ (Speaking q) (λ _. speaking_reading channel m.header.session (reading m.payload)) (λ _. speaking_act q (plans.Drops NotSd) refl refl refl)
+        cond_both (is_valid_discovery m.header) _ _ (Speaking q) (λ _. speaking_reading channel m.header.session (reading m.payload)) (λ _. speaking_act q (plans.Drops NotSd) refl refl refl)
 
   -- ---- messages of the application
 

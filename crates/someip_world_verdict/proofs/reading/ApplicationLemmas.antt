@@ -7,6 +7,7 @@ use Rattle.std.proofs.lemmas.List.Elements.{All-contains}
 use Rattle.std.proofs.lemmas.List.Sums.{AllPass-from_list_all}
 use Rattle.std.proofs.lemmas.Map.Views.{IfSome-get}
 use Rattle.std.specs.declared.net.socket_addr.SocketAddrV4.{SocketAddrV4}
+use Rattle.someip_wire.specs.Discovery.{is_discovery, is_notification}
 use Rattle.someip_wire.specs.declared.header.Header.{Header}
 use Rattle.someip_wire.specs.Spelling.{MessageValue}
 use Rattle.sd_instances.specs.declared.keys.InstanceId.{InstanceId}
@@ -20,7 +21,7 @@ use Rattle.someip_rpc.specs.Servers.{kind_of_reply}
 use Rattle.someip_node_rules.specs.declared.config.Config.{Config}
 use Rattle.someip_node_rules.specs.declared.config.OfferedService.{OfferedService}
 use Rattle.someip_node_rules.specs.forms.GoodConfigs.{is_good, is_good_common, is_good_id, is_good_instance, is_good_offer, is_good_port, is_good_want, has_own_ports}
-use Rattle.someip_node_rules.specs.rules.Handling.{is_notification, same_address}
+use Rattle.someip_node_rules.specs.rules.Handling.{same_address}
 use Rattle.someip_node_rules.specs.histories.History.{History, answers_of}
 use Rattle.someip_node_rules.specs.rules.Inputs.{Input}
 use Rattle.someip_node_rules.specs.trails.Meanings.{GivenBy}
@@ -31,7 +32,6 @@ use Rattle.someip_node_rules.specs.trails.SendingRules.{IsEventTo, IsSent}
 use Rattle.someip_node_rules.specs.forms.Setups.{offered_as}
 use Rattle.someip_node_rules.specs.histories.Tables.{Tables}
 use Rattle.someip_node_rules.proofs.rules.StepRules.{config_there}
-use Rattle.someip_world_verdict.specs.Contents.{is_of_discovery}
 
 -- ---- the services of a good configuration
 
@@ -79,28 +79,30 @@ module _ (config : Config) (good : is_good config ≡ true) (instance : Instance
 -- ---- the messages that are sent
 
 -- of another type
-pub no_event : (h : Header) → is_notification h.kind ≡ false → is_of_discovery h ≡ false
-no_event h is = cases (eqb h.service 0xFFFF) (is_notification h.kind) is
+pub no_event : (h : Header) → is_notification h.kind ≡ false → is_discovery h ≡ false
+no_event h is = cases (eqb h.service 0xFFFF) (eqb h.method 0x8100) (eqb h.interface 1) (is_notification h.kind) is
   where
-    cases : (a b : Bool) → b ≡ false → (a && b) ≡ false
-    cases true b e = e
-    cases false b e = refl
+    cases : (a b c d : Bool) → d ≡ false → (a && b && c && d) ≡ false
+    cases true true true d e = e
+    cases true true false d e = refl
+    cases true false c d e = refl
+    cases false b c d e = refl
 
 -- of another service
-no_service : (h : Header) → (eqb h.service 0xFFFF ≡ true → ⊥) → is_of_discovery h ≡ false
-no_service h other = cases (eqb h.service 0xFFFF) (is_notification h.kind) other
+no_service : (h : Header) → (eqb h.service 0xFFFF ≡ true → ⊥) → is_discovery h ≡ false
+no_service h other = cases (eqb h.service 0xFFFF) (eqb h.method 0x8100 && eqb h.interface 1 && is_notification h.kind) other
   where
     cases : (a b : Bool) → (a ≡ true → ⊥) → (a && b) ≡ false
     cases true b not = absurd (not refl)
     cases false b not = refl
 
 event_sent : (instance : InstanceId) (event : ℕ) (payload : List ℕ) (ToIs : OfferedService → Type 0) (t : Tables) (from : SocketAddrV4) (m : MessageValue)
-    → is_good t.config ≡ true → IsEventTo instance event payload ToIs t from m → is_of_discovery m.header ≡ false
+    → is_good t.config ≡ true → IsEventTo instance event payload ToIs t from m → is_discovery m.header ≡ false
 event_sent instance event payload ToIs t from m good s =
     no_service m.header (λ is. other_service t.config good instance s.service s.offered (ap (λ x. eqb x.header.service 0xFFFF) (sym s.is) ∙ is))
 
 -- only events are Notifications, and they are of a service of the application
-pub sent_by_application : (r : Rule) (t : Tables) (from to : SocketAddrV4) (m : MessageValue) → is_good t.config ≡ true → IsSent r t from to m → is_of_discovery m.header ≡ false
+pub sent_by_application : (r : Rule) (t : Tables) (from to : SocketAddrV4) (m : MessageValue) → is_good t.config ≡ true → IsSent r t from to m → is_discovery m.header ≡ false
 sent_by_application (plans.Calls kind instance method payload) t from to m good s =
     no_event m.header (ap (λ x. is_notification x.header.kind) s.is ∙ by kind)
   where
@@ -120,7 +122,7 @@ sent_by_application r t from to m good s = absurd s
 
 -- a message that was given is none of Service Discovery
 pub given_by_application : (h : History) (input : Input) (from to : SocketAddrV4) (m : MessageValue) → is_good h.config ≡ true → GivenBy h input (Sends from to m)
-    → is_of_discovery m.header ≡ false
+    → is_discovery m.header ≡ false
 given_by_application h input from to m good by =
     let there : is_good by.done.before.state.config ≡ true = ap is_good (config_there h input by.done by.among) ∙ good in
     sent_by_application by.done.by (answers_of by.done.before.state) from to m there by.holds

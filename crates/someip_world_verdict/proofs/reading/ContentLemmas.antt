@@ -5,6 +5,7 @@ use Rattle.std.proofs.lemmas.Grind.{flat_map-append}
 use Rattle.std.specs.Net.Socket.{v4_ip}
 use Rattle.std.specs.declared.net.ipv4_addr.Ipv4Addr.{Ipv4Addr}
 use Rattle.std.specs.declared.net.socket_addr.SocketAddrV4.{SocketAddrV4}
+use Rattle.someip_wire.specs.Discovery.{is_discovery}
 use Rattle.someip_wire.specs.declared.header.Header.{Header}
 use Rattle.someip_wire.specs.declared.header.MessageType.{MessageType}
 use Rattle.someip_wire.specs.declared.header.MessageType.TheVariants as kinds
@@ -40,7 +41,7 @@ use Rattle.someip_world_exchanges.specs.declared.naming.Naming.{Naming}
 use Rattle.someip_world_exchanges.specs.Beginnings.{subscribe_in_head, subscribe_of, subscribes_among, subscribes_in}
 use Rattle.someip_world_exchanges.specs.Namings.{named_by_entries, named_by_head, named_by_kind, named_in}
 use Rattle.someip_world_exchanges.proofs.messages.WholeLemmas.{no_flag}
-use Rattle.someip_world_verdict.specs.Contents.{is_of_discovery, named_alone, said_by_entries, said_by_head, said_by_header, said_by_items, said_by_message, said_by_reading, said_in, stream_by_items, stream_by_message, stream_in, subscribe_said, whole_header}
+use Rattle.someip_world_verdict.specs.Contents.{named_alone, said_by_entries, said_by_head, said_by_header, said_by_items, said_by_message, said_by_reading, said_in, stream_by_items, stream_by_message, stream_in, subscribe_said, whole_header}
 use Rattle.someip_world_verdict.proofs.reading.ApplicationLemmas.{given_by_application, no_event}
 
 -- ---- a datagram that holds one message
@@ -117,11 +118,11 @@ segments_headed (suc n) header offset (b ∷ rest) = (refl, segments_headed n he
 
 -- a message that goes out as one of the application, and of which a header is: as the whole one's it is this
 pub record IsPieceHeader (m : MessageValue) (header : Header) : Type 0 where
-  pub application : is_of_discovery header ≡ false
+  pub application : is_discovery header ≡ false
   pub whole : whole_header header ≡ m.header
   pub flag : has_tp_flag header.kind ≡ is_long m.payload
 
-module _ (m : MessageValue) (none : has_tp_flag m.header.kind ≡ false) (application : is_of_discovery m.header ≡ false) where
+module _ (m : MessageValue) (none : has_tp_flag m.header.kind ≡ false) (application : is_discovery m.header ≡ false) where
   segment_is : is_long m.payload ≡ true → IsPieceHeader m (segment_header m.header)
   segment_is long = record {
     application = no_event (segment_header m.header) (no_notification m.header.kind);
@@ -238,7 +239,7 @@ module _ (d : SentDatagram) (from to : SocketAddrV4) (m : MessageValue) where
             ∙ (λ i. stream_of_message (source i) (goal i) m);
       }
 
-  pub message_read : has_tp_flag m.header.kind ≡ false → is_of_discovery m.header ≡ false → FitsWire (Sends from to m)
+  pub message_read : has_tp_flag m.header.kind ≡ false → is_discovery m.header ≡ false → FitsWire (Sends from to m)
       → Contains (written (Sends from to m)) (Sent d.from d.to d.bytes) → IsMessageRead d from to m
   message_read none application fits among =
       at_member (λ o. Sent d.from d.to d.bytes ≡ o → IsMessageRead d from to m) (map (datagram_of from to) (sent m)) (Sent d.from d.to d.bytes)
