@@ -47,9 +47,6 @@ mark_split (a ∷ b ∷ c ∷ t) e =
     let q = and_parts (eqb b 0xBB) (eqb c 0xBF) p.1 in
     rw (eqb-true _ _ p.0, eqb-true _ _ q.0, eqb-true _ _ q.1) refl
 
-mark_is : (s : List ℕ) → has_mark (utf8_mark ++ s) ≡ true
-mark_is s = refl
-
 spelled : (b : Bool) (t s : List ℕ) → has_mark t ≡ b → is_utf8 s ≡ true → cond b (drop 3 t) t ≡ s → SpellsUtf8 s (t ++ 0 ∷ [])
 spelled true t s is good same =
     let e : t ≡ utf8_mark ++ s = mark_split t is ∙ ap (λ (x : List ℕ). utf8_mark ++ x) same in

@@ -9,7 +9,7 @@ use Rattle.std.proofs.lemmas.List.{length-set, append-nil, take_all}
 use Rattle.std.proofs.lemmas.Option.{slice_get_within, slice_get-get_or, same_Some}
 use Rattle.someip_tp.specs.declared.pool.block.Block.{Block}
 use Rattle.someip_tp.specs.Blocks.{is_held, other_end, AreTied, AreUpTo, IsInterval, IsFirstTo, IsLastFrom}
-use Rattle.someip_tp.proofs.reserved_memory.Intervals.{first_alone, first_is, last_alone, last_is, IsJoined, tied_once_joined}
+use Rattle.someip_tp.proofs.reserved_memory.Intervals.{first_is, last_is, IsJoined, tied_once_joined}
 
 -- ---- an element that is set
 
@@ -54,22 +54,11 @@ first_found message blocks (suc k) d tied new some held =
     let told : other_end blocks k ≡ (get_or blocks (suc k - 1) d).other = told_as blocks k d (held_within message blocks k behind) ∙ ap (λ j. (get_or blocks j d).other) at in
     subst (λ f. IsFirstTo (is_held message blocks) (suc k) f) told (subst (λ n. IsFirstTo (is_held message blocks) n (other_end blocks k)) next found)
 
-pub first_none : (message : ℕ) (blocks : List Block) (k : ℕ) → is_held message blocks (k - 1) ≡ false → IsFirstTo (is_held message blocks) k k
-first_none message blocks k none = first_alone (is_held message blocks) k (λ j at.
-    let before : j ≡ k - 1 = omega (arith, at) in
-    ap (is_held message blocks) before ∙ none)
-
-pub first_of_all : (message : ℕ) (blocks : List Block) (k : ℕ) → k ≤ 0 → IsFirstTo (is_held message blocks) k k
-first_of_all message blocks k none = first_alone (is_held message blocks) k (λ j at. absurd (omega (arith, at, none)))
-
 pub last_found : (message : ℕ) (blocks : List Block) (k : ℕ) (d : Block) → AreTied (is_held message blocks) (other_end blocks) → is_held message blocks k ≡ false
     → is_held message blocks (k + 1) ≡ true → IsLastFrom (is_held message blocks) k (get_or blocks (k + 1) d).other
 last_found message blocks k d tied new held =
     let found = last_is (is_held message blocks) (other_end blocks) (length blocks) k (held_within message blocks) tied new held in
     subst (λ l. IsLastFrom (is_held message blocks) k l) (told_as blocks (k + 1) d (held_within message blocks (k + 1) held)) found
-
-pub last_none : (message : ℕ) (blocks : List Block) (k : ℕ) → is_held message blocks (k + 1) ≡ false → IsLastFrom (is_held message blocks) k k
-last_none message blocks k none = last_alone (is_held message blocks) k none
 
 -- ---- a block is held, and the ends of its interval tell one another
 

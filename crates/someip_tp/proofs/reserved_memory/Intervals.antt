@@ -243,10 +243,6 @@ from_start held other n below tied first =
     inside last is zero at = first
     inside last is (suc k) at = is.within (suc k) (omega arith) at
 
--- where none is held, there is no interval
-pub none_tied : (held : ℕ → Bool) (other : ℕ → ℕ) → ((j : ℕ) → held j ≡ false) → AreTied held other
-none_tied held other none first last this = absurd (let on = this.within first (omega arith) this.order in let off = none first in cc)
-
 -- ---- intervals are apart
 
 pub holds_all : (held : ℕ → Bool) (first last from to block : ℕ) → IsInterval held first last → ((k : ℕ) → from ≤ k → k < to → held k ≡ true) → first ≤ block → block ≤ last → from ≤ block → block < to
