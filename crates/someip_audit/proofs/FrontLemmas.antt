@@ -9,9 +9,9 @@ use Rattle.sd_wire.specs.declared.entry.EntryHead.TheVariants.{Service, Eventgro
 use Rattle.sd_wire.specs.declared.entry.ServiceEntry.{ServiceEntry}
 use Rattle.sd_wire.specs.declared.entry.ServiceKind.{ServiceKind}
 use Rattle.sd_wire.specs.declared.entry.ServiceKind.TheVariants.{Find, Offer}
-use Rattle.sd_wire.specs.Endpoints.{first_udp_endpoint, options_of}
+use Rattle.sd_wire.specs.contents.Endpoints.{first_udp_endpoint, options_of}
 use Rattle.sd_wire.specs.declared.message.ReadEntry.{ReadEntry}
-use Rattle.sd_wire.specs.Values.{ReadValue, SdValue, good, bad_run, view_read}
+use Rattle.sd_wire.specs.contents.Values.{ReadValue, SdValue, good, bad_run, view_read}
 use Rattle.audit_sessions.specs.declared.message.SdMessage.{SdMessage}
 use Rattle.someip_audit.specs.BooksHeld.{Held}
 use Rattle.someip_wire.specs.Discovery.{is_notification}
@@ -19,7 +19,7 @@ use Rattle.someip_wire.specs.declared.header.Header.{Header}
 use Rattle.someip_wire.specs.declared.error.WireError.{WireError}
 use Rattle.someip_wire.specs.Kinds.{has_tp_flag}
 use Rattle.someip_wire.specs.Spelling.{MessageValue}
-use Rattle.sd_wire.specs.Program.{reading}
+use Rattle.sd_wire.specs.decoding.Program.{reading}
 use Rattle.someip_segments.specs.declared.error.TpError.{TpError}
 use Rattle.audit_tables.specs.declared.origin.Origin.{Origin}
 use Rattle.audit_receivers.specs.ReceiverTables as receivers

@@ -6,8 +6,8 @@ use Rattle.someip_wire.specs.Discovery.{is_discovery}
 use Rattle.someip_wire.specs.Spelling.{MessageValue, spelling}
 use Rattle.sd_wire.specs.declared.error.SdError.{SdError}
 use Rattle.sd_wire.specs.declared.error.SdError.TheVariants as faults
-use Rattle.sd_wire.specs.Program.{reading}
-use Rattle.sd_wire.specs.Values.{SdValue}
+use Rattle.sd_wire.specs.decoding.Program.{reading}
+use Rattle.sd_wire.specs.contents.Values.{SdValue}
 use Rattle.audit_tables.specs.declared.origin.Origin.{Origin}
 use Rattle.someip_audit.specs.declared.finding.Finding.TheVariants as findings
 use Rattle.someip_audit.specs.MessageShown.{message_shown}

@@ -2,9 +2,9 @@
 ghost use Rattle.std.specs.Prelude.{◌≡◌, ◌≤◌, ◌+◌, length, IfOk, OnErr, OnOk};
 ghost use Rattle.std.specs.Result.{result_map_both};
 ghost use Rattle.someip_wire.specs.View.{view};
-ghost use Rattle.sd_wire.specs.Faults.{fault_place};
-ghost use Rattle.sd_wire.specs.Program.{reading};
-ghost use Rattle.sd_wire.specs.Values.{view_sd};
+ghost use Rattle.sd_wire.specs.decoding.Faults.{fault_place};
+ghost use Rattle.sd_wire.specs.decoding.Program.{reading};
+ghost use Rattle.sd_wire.specs.contents.Values.{view_sd};
 ghost use Rattle.someip_audit.specs.AnyShown.{any_shown, in_datagram, is_sd, payload_shown};
 ghost use Rattle.someip_audit.specs.SdShown.{IsBegun, working};
 

@@ -7,10 +7,10 @@ use Rattle.std.specs.Net.Socket.{IsSocketAddrV4}
 use Rattle.someip_wire.specs.declared.header.MessageType.TheVariants as kinds
 use Rattle.someip_wire.specs.Spelling.{Fits, MessageValue}
 use Rattle.sd_wire.specs.declared.entry.EntryHead.{EntryHead}
-use Rattle.sd_wire.specs.Spelling.{HeadFits}
-use Rattle.sd_wire.specs.Splitting.{FitsDatagram}
-use Rattle.sd_wire.specs.Values.{ReadValue, good, bad_run}
-use Rattle.sd_wire.specs.Writing.{EntryFits}
+use Rattle.sd_wire.specs.layout.Spelling.{HeadFits}
+use Rattle.sd_wire.specs.fronts.Splitting.{FitsDatagram}
+use Rattle.sd_wire.specs.contents.Values.{ReadValue, good, bad_run}
+use Rattle.sd_wire.specs.encoding.Writing.{EntryFits}
 use Rattle.sd_instances.specs.declared.keys.InstanceId.{InstanceId}
 use Rattle.someip_rpc.specs.Requests.{answer_header}
 use Rattle.someip_rpc.specs.Servers.{code_of_reply}

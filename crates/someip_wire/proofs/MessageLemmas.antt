@@ -69,11 +69,6 @@ pub record IsWhole (bytes : List ℕ) : Type 0 where
   pub kind : kind_byte (kind_in bytes) ≡ get_or bytes 14 0
   pub whole : length_field bytes + 8 ≤ length bytes
 
--- a test that did not fail
-guard_none : {A : Type 0} (b : Bool) (e : A) (rest : Option A) → cond b (Some e) rest ≡ None → (b ≡ false) × (rest ≡ None)
-guard_none true e rest h = absurd cc
-guard_none false e rest h = (refl, h)
-
 pub none_is_whole : (p : ℕ) (bytes : List ℕ) → fault_at p bytes ≡ None → IsWhole bytes
 none_is_whole p bytes h = record {
   header = grind arith;

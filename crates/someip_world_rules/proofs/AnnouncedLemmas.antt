@@ -10,15 +10,15 @@ use Rattle.someip_wire.specs.Spelling.{Fits, spelling}
 use Rattle.someip_wire.proofs.DatagramLemmas.{items_from-datagram}
 use Rattle.sd_wire.specs.declared.entry.EntryHead.TheVariants.{Service}
 use Rattle.sd_wire.specs.declared.entry.ServiceEntry.{ServiceEntry}
-use Rattle.sd_wire.specs.Endpoints.{first_udp_endpoint, options_of}
-use Rattle.sd_wire.specs.Program.{reading}
-use Rattle.sd_wire.specs.Splitting.{FitsDatagram}
-use Rattle.sd_wire.specs.Values.{EntryValue, SdMessageValue, ReadValue, SdValue, good}
-use Rattle.sd_wire.specs.Writing.{EntryFits, WritesSd, as_read}
-use Rattle.sd_wire.proofs.EncodingLemmas.{written_bytes}
-use Rattle.sd_wire.proofs.FrontLemmas.{fits_with}
-use Rattle.sd_wire.proofs.SdLemmas.{holds_read}
-use Rattle.sd_wire.proofs.WriteLemmas.{written_is_read}
+use Rattle.sd_wire.specs.contents.Endpoints.{first_udp_endpoint, options_of}
+use Rattle.sd_wire.specs.decoding.Program.{reading}
+use Rattle.sd_wire.specs.fronts.Splitting.{FitsDatagram}
+use Rattle.sd_wire.specs.contents.Values.{EntryValue, SdMessageValue, ReadValue, SdValue, good}
+use Rattle.sd_wire.specs.encoding.Writing.{EntryFits, WritesSd, as_read}
+use Rattle.sd_wire.proofs.encoding.EncodingLemmas.{written_bytes}
+use Rattle.sd_wire.proofs.fronts.FrontLemmas.{fits_with}
+use Rattle.sd_wire.proofs.decoding.SdLemmas.{holds_read}
+use Rattle.sd_wire.proofs.encoding.WriteLemmas.{written_is_read}
 use Rattle.sd_session.specs.declared.stamp.Stamp.{Stamp}
 use Rattle.someip_node_rules.specs.forms.Entries.{discovery_message, discovery_payload}
 use Rattle.someip_node_rules.specs.rules.Handling.{is_valid_discovery}

@@ -7,7 +7,7 @@ use Rattle.someip_wire.specs.Spelling.{Fits, spelling}
 use Rattle.someip_segments.specs.Sent.{PieceValue, piece_message, sent}
 use Rattle.someip_segments.proofs.SentLemmas.{all_fit}
 use Rattle.sd_wire.specs.declared.entry.ServiceEntry.{ServiceEntry}
-use Rattle.sd_wire.specs.Kinds.{is_offer}
+use Rattle.sd_wire.specs.contents.Kinds.{is_offer}
 use Rattle.sd_instances.specs.declared.keys.InstanceId.{InstanceId}
 use Rattle.sd_core.specs.declared.received.KnownOffer.{KnownOffer}
 use Rattle.someip_node_rules.specs.declared.config.Config.{Config}

@@ -14,10 +14,10 @@ use Rattle.someip_wire.specs.Spelling.{Fits, IsBytes, MessageValue, spelling}
 use Rattle.someip_segments.specs.Segments.{segment_header, segments_within}
 use Rattle.someip_segments.specs.Sent.{Alone, InSegment, is_long, piece_message, segments_of, sent}
 use Rattle.someip_segments.proofs.SentLemmas.{all_fit}
-use Rattle.sd_wire.specs.Spelling.{HeadFits}
-use Rattle.sd_wire.specs.Splitting.{FitsDatagram}
-use Rattle.sd_wire.specs.Values.{EntryValue, good}
-use Rattle.sd_wire.specs.Writing.{EntryFits}
+use Rattle.sd_wire.specs.layout.Spelling.{HeadFits}
+use Rattle.sd_wire.specs.fronts.Splitting.{FitsDatagram}
+use Rattle.sd_wire.specs.contents.Values.{EntryValue, good}
+use Rattle.sd_wire.specs.encoding.Writing.{EntryFits}
 use Rattle.sd_session.specs.declared.stamp.Stamp.{Stamp}
 use Rattle.sd_instances.specs.declared.keys.InstanceId.{InstanceId}
 use Rattle.someip_node_rules.specs.declared.config.Config.{Config}

@@ -16,9 +16,9 @@ use Rattle.someip_reassembly.specs.declared.key.ReassemblyKey.{ReassemblyKey}
 use Rattle.sd_wire.specs.declared.entry.EntryHead.{EntryHead}
 use Rattle.sd_wire.specs.declared.entry.EntryHead.TheVariants as heads
 use Rattle.sd_wire.specs.declared.error.SdError.{SdError}
-use Rattle.sd_wire.specs.Kinds.{is_subscribe}
-use Rattle.sd_wire.specs.Program.{reading}
-use Rattle.sd_wire.specs.Values.{ReadValue, SdValue}
+use Rattle.sd_wire.specs.contents.Kinds.{is_subscribe}
+use Rattle.sd_wire.specs.decoding.Program.{reading}
+use Rattle.sd_wire.specs.contents.Values.{ReadValue, SdValue}
 use Rattle.someip_node_rules.specs.declared.output.Output.{Output}
 use Rattle.someip_node_laws.specs.Fitting.{head_of}
 use Rattle.someip_world_rules.specs.Datagrams.{SentDatagram, sent_with}

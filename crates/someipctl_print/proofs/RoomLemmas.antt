@@ -5,10 +5,10 @@ use Rattle.std.proofs.lemmas.List.{append-nil}
 use Rattle.someip_wire.specs.Spelling.{MessageValue, spelling}
 use Rattle.someip_wire.proofs.MessageLemmas.{length_spelled}
 use Rattle.sd_wire.specs.declared.SdError.{SdError}
-use Rattle.sd_wire.specs.Values.{SdValue}
-use Rattle.sd_wire.specs.Faults.{fault_place}
-use Rattle.sd_wire.specs.Program.{reading}
-use Rattle.sd_wire.proofs.PlaceLemmas.{fault_within}
+use Rattle.sd_wire.specs.contents.Values.{SdValue}
+use Rattle.sd_wire.specs.decoding.Faults.{fault_place}
+use Rattle.sd_wire.specs.decoding.Program.{reading}
+use Rattle.sd_wire.proofs.decoding.PlaceLemmas.{fault_within}
 use Rattle.someipctl_print.specs.Items.{item_len}
 use Rattle.someip_wire.specs.Discovery.{is_discovery}
 use Rattle.someipctl_print.specs.Discovery.{discovery_in}

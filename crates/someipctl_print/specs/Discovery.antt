@@ -15,9 +15,9 @@ use Rattle.sd_wire.specs.declared.EventgroupKind.TheVariants.{Subscribe, Ack}
 use Rattle.sd_wire.specs.declared.EntryHead.{EntryHead}
 use Rattle.sd_wire.specs.declared.EntryHead.TheVariants.{Service, Eventgroup}
 use Rattle.sd_wire.specs.declared.SdRead.{SdRead}
-use Rattle.sd_wire.specs.Values.{ReadValue, good, bad_run, SdValue, view_sd}
-use Rattle.sd_wire.specs.Faults.{fault_name, fault_place}
-use Rattle.sd_wire.specs.Program.{reading}
+use Rattle.sd_wire.specs.contents.Values.{ReadValue, good, bad_run, SdValue, view_sd}
+use Rattle.sd_wire.specs.decoding.Faults.{fault_name, fault_place}
+use Rattle.sd_wire.specs.decoding.Program.{reading}
 use Rattle.someipctl_print.specs.Parts.{hex4, hex2}
 use Rattle.someipctl_print.specs.Lines.{joined, flag_text, fault_line}
 use Rattle.someipctl_print.specs.Options.{runs_text}

@@ -3,7 +3,7 @@
 ghost use Rattle.std.specs.Prelude.{◌≡◌, ◌≤◌, ◌+◌, ◌&&◌, ◌||◌, ◌++◌, OnOk, OnErr, IfOk, IfErr, IfSome};
 ghost use Rattle.someip_wire.specs.Kinds.{has_tp_flag};
 ghost use Rattle.someip_wire.specs.View.{view, view_item};
-ghost use Rattle.sd_wire.specs.Faults.{fault_place as sd_place};
+ghost use Rattle.sd_wire.specs.decoding.Faults.{fault_place as sd_place};
 ghost use Rattle.someipctl_print.specs.Sending.{Sends, Stops};
 ghost use Rattle.someipctl_print.specs.Lines.{segment_lines, has_no_tp_header};
 ghost use Rattle.someipctl_print.specs.Discovery.{view_found, discovery_in, discovery_lines, has_sd_fault};

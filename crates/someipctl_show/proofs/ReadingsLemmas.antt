@@ -3,7 +3,7 @@ use Rattle.std.proofs.Common.{◌≡◌, true, false, List, [], ◌∷◌, ◌++
 use Rattle.std.specs.Option.{is_some, option_to_list}
 use Rattle.sd_wire.specs.declared.SdError.{SdError}
 use Rattle.sd_wire.specs.declared.SdRead.{SdRead}
-use Rattle.sd_wire.specs.Values.{SdValue}
+use Rattle.sd_wire.specs.contents.Values.{SdValue}
 use Rattle.std.proofs.lemmas.List.{append_cancel_left, nil_from_length}
 use Rattle.someip_wire.specs.declared.WireError.{WireError}
 use Rattle.someip_wire.specs.Spelling.{MessageValue}

@@ -13,8 +13,8 @@ use Rattle.someip_tables.specs.Endpoints.{address_cmp}
 use Rattle.someip_tables.specs.declared.lasting.Lasting.{Lasting}
 use Rattle.someip_wire.specs.Spelling.{spelling}
 use Rattle.sd_wire.specs.declared.flags.SdFlags.{SdFlags}
-use Rattle.sd_wire.specs.Fronts.{fits_datagram, front_lengths, fronts_of}
-use Rattle.sd_wire.specs.Values.{EntryValue, ReadValue}
+use Rattle.sd_wire.specs.fronts.Fronts.{fits_datagram, front_lengths, fronts_of}
+use Rattle.sd_wire.specs.contents.Values.{EntryValue, ReadValue}
 use Rattle.sd_session.specs.declared.peers.Seen.{Seen}
 use Rattle.sd_session.specs.declared.peers.Seen.TheVariants.{Same}
 use Rattle.sd_session.specs.declared.peers.Stamps.{Stamps}

@@ -21,16 +21,16 @@ use Rattle.sd_wire.specs.declared.entry.EntryHead.TheVariants.{Service, Eventgro
 use Rattle.sd_wire.specs.declared.entry.EventgroupEntry.{EventgroupEntry}
 use Rattle.sd_wire.specs.declared.entry.ServiceEntry.{ServiceEntry}
 use Rattle.sd_wire.specs.declared.error.SdError.{SdError}
-use Rattle.sd_wire.specs.Endpoints.{first_udp_endpoint, options_of}
-use Rattle.sd_wire.specs.Fronts.{HasOneEndpointAtMost, front_lengths}
-use Rattle.sd_wire.specs.Kinds.{is_ack, is_find, is_stop_offer, is_stop_subscribe, is_subscribe}
-use Rattle.sd_wire.specs.Program.{reading}
-use Rattle.sd_wire.specs.Spelling.{EventgroupFits, HeadFits}
-use Rattle.sd_wire.specs.Splitting.{FitsDatagram}
-use Rattle.sd_wire.specs.Values.{EntryValue, ReadValue, SdValue, good, bad_run}
-use Rattle.sd_wire.specs.Writing.{EntryFits}
-use Rattle.sd_wire.proofs.AloneLemmas.{endpoint_fronts}
-use Rattle.sd_wire.proofs.FrontLemmas.{lengths_are}
+use Rattle.sd_wire.specs.contents.Endpoints.{first_udp_endpoint, options_of}
+use Rattle.sd_wire.specs.fronts.Fronts.{HasOneEndpointAtMost, front_lengths}
+use Rattle.sd_wire.specs.contents.Kinds.{is_ack, is_find, is_stop_offer, is_stop_subscribe, is_subscribe}
+use Rattle.sd_wire.specs.decoding.Program.{reading}
+use Rattle.sd_wire.specs.layout.Spelling.{EventgroupFits, HeadFits}
+use Rattle.sd_wire.specs.fronts.Splitting.{FitsDatagram}
+use Rattle.sd_wire.specs.contents.Values.{EntryValue, ReadValue, SdValue, good, bad_run}
+use Rattle.sd_wire.specs.encoding.Writing.{EntryFits}
+use Rattle.sd_wire.proofs.fronts.AloneLemmas.{endpoint_fronts}
+use Rattle.sd_wire.proofs.fronts.FrontLemmas.{lengths_are}
 use Rattle.sd_session.specs.declared.stamp.Channel.{Channel}
 use Rattle.sd_session.specs.Peers.{may_hold}
 use Rattle.sd_instances.specs.declared.eventgroup.Eventgroup as groups

@@ -21,11 +21,11 @@ use Rattle.sd_wire.specs.declared.entry.EntryHead.TheVariants.{Service, Eventgro
 use Rattle.sd_wire.specs.declared.entry.EventgroupEntry.{EventgroupEntry}
 use Rattle.sd_wire.specs.declared.entry.ServiceEntry.{ServiceEntry}
 use Rattle.sd_wire.specs.declared.error.SdError.{SdError}
-use Rattle.sd_wire.specs.Endpoints.{first_udp_endpoint, options_of}
-use Rattle.sd_wire.specs.Kinds.{is_ack, is_find, is_stop_offer, is_stop_subscribe, is_subscribe}
-use Rattle.sd_wire.specs.Fronts.{front_lengths}
-use Rattle.sd_wire.specs.Program.{reading}
-use Rattle.sd_wire.specs.Values.{EntryValue, ReadValue, SdValue, good, bad_run}
+use Rattle.sd_wire.specs.contents.Endpoints.{first_udp_endpoint, options_of}
+use Rattle.sd_wire.specs.contents.Kinds.{is_ack, is_find, is_stop_offer, is_stop_subscribe, is_subscribe}
+use Rattle.sd_wire.specs.fronts.Fronts.{front_lengths}
+use Rattle.sd_wire.specs.decoding.Program.{reading}
+use Rattle.sd_wire.specs.contents.Values.{EntryValue, ReadValue, SdValue, good, bad_run}
 use Rattle.sd_session.specs.declared.stamp.Channel.{Channel}
 use Rattle.sd_session.specs.Peers.{may_hold}
 use Rattle.someip_node_rules.specs.declared.target.Target.{Target}

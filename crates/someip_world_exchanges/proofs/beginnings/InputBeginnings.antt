@@ -23,10 +23,10 @@ use Rattle.sd_wire.specs.declared.entry.EntryHead.TheVariants as heads
 use Rattle.sd_wire.specs.declared.entry.EventgroupEntry.{EventgroupEntry}
 use Rattle.sd_wire.specs.declared.entry.ServiceEntry.{ServiceEntry}
 use Rattle.sd_wire.specs.declared.error.SdError.{SdError}
-use Rattle.sd_wire.specs.Endpoints.{first_udp_endpoint, options_of}
-use Rattle.sd_wire.specs.Kinds.{is_ack, is_find, is_stop_offer, is_stop_subscribe, is_subscribe}
-use Rattle.sd_wire.specs.Program.{reading}
-use Rattle.sd_wire.specs.Values.{EntryValue, ReadValue, SdValue, good, bad_run}
+use Rattle.sd_wire.specs.contents.Endpoints.{first_udp_endpoint, options_of}
+use Rattle.sd_wire.specs.contents.Kinds.{is_ack, is_find, is_stop_offer, is_stop_subscribe, is_subscribe}
+use Rattle.sd_wire.specs.decoding.Program.{reading}
+use Rattle.sd_wire.specs.contents.Values.{EntryValue, ReadValue, SdValue, good, bad_run}
 use Rattle.sd_session.specs.declared.stamp.Channel.{Channel}
 use Rattle.sd_session.specs.Peers.{may_hold}
 use Rattle.sd_instances.specs.declared.eventgroup.Eventgroup.{Eventgroup}

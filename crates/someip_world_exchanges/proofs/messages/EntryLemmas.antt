@@ -5,7 +5,7 @@ use Rattle.std.specs.declared.net.socket_addr.SocketAddrV4.{SocketAddrV4}
 use Rattle.someip_wire.specs.Spelling.{Fits, spelling}
 use Rattle.someip_segments.specs.Sent.{PieceValue, piece_message, sent}
 use Rattle.someip_segments.proofs.SentLemmas.{all_fit}
-use Rattle.sd_wire.specs.Values.{EntryValue, ReadValue, good}
+use Rattle.sd_wire.specs.contents.Values.{EntryValue, ReadValue, good}
 use Rattle.sd_session.specs.declared.stamp.Stamp.{Stamp}
 use Rattle.someip_node_rules.specs.declared.output.Output.TheVariants.{Sent}
 use Rattle.someip_node_rules.specs.forms.Entries.{discovery_message}

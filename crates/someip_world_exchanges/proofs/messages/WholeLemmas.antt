@@ -21,7 +21,7 @@ use Rattle.someip_rpc.specs.Calls.{kind_of_call}
 use Rattle.someip_rpc.specs.Servers.{kind_of_reply}
 use Rattle.sd_session.specs.declared.stamp.Channel.TheVariants as channels
 use Rattle.sd_session.specs.declared.stamp.Stamp.{Stamp}
-use Rattle.sd_wire.specs.Values.{EntryValue}
+use Rattle.sd_wire.specs.contents.Values.{EntryValue}
 use Rattle.someip_node_rules.specs.forms.Entries.{discovery_message}
 use Rattle.someip_node_rules.specs.declared.config.Config.{Config}
 use Rattle.someip_node_rules.specs.declared.output.Output.TheVariants.{Sent}

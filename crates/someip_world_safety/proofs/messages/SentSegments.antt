@@ -13,7 +13,7 @@ use Rattle.someip_reassembly.specs.SegmentOffers.{SegmentOffer, offer}
 use Rattle.someip_segments.specs.Segments.{SegmentValue, segment_header, segment_message}
 use Rattle.someip_segments.specs.Sent.{PieceValue, is_long, piece_message, segments_of, sent}
 use Rattle.someip_segments.specs.TpHeader.{segment_in}
-use Rattle.someip_tp.proofs.AcceptedLemmas.{own_read, segment_is}
+use Rattle.someip_tp.proofs.promises.AcceptedLemmas.{own_read, segment_is}
 use Rattle.someip_segments.proofs.SentLemmas.{all_fit}
 use Rattle.someip_node_rules.specs.declared.output.Output.TheVariants.{Sent}
 use Rattle.someip_node_rules.specs.forms.Entries.{discovery_message}

@@ -11,8 +11,8 @@ use Rattle.sd_wire.specs.declared.entry.EntryHead.TheVariants as heads
 use Rattle.sd_wire.specs.declared.entry.EventgroupEntry.{EventgroupEntry}
 use Rattle.sd_wire.specs.declared.entry.EventgroupKind.{EventgroupKind}
 use Rattle.sd_wire.specs.declared.entry.EventgroupKind.TheVariants.{Subscribe, Ack}
-use Rattle.sd_wire.specs.Kinds.{has_type_subscribe}
-use Rattle.sd_wire.specs.Values.{EntryValue, ReadValue, good}
+use Rattle.sd_wire.specs.contents.Kinds.{has_type_subscribe}
+use Rattle.sd_wire.specs.contents.Values.{EntryValue, ReadValue, good}
 use Rattle.sd_session.specs.declared.stamp.Stamp.{Stamp}
 use Rattle.someip_node_laws.specs.Fitting.{FitsWire, head_of}
 use Rattle.someip_node_rules.specs.forms.GoodConfigs.{has_own_ports, is_good, is_good_common, is_good_eventgroup, is_good_instance, is_good_offer, is_good_port, is_good_want}
