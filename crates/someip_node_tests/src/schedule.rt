@@ -129,7 +129,7 @@ const BAD_CALLS: &[&[u8]] = &[
     b"answer a 1 00",
 ];
 
-/// Errors, events, and what stands behind them, that are bad.
+/// Errors, events, and what stands after them, that are bad.
 const BAD_EVENTS: &[&[u8]] = &[
     b"error a 1 -",
     b"publish a 1234.0001 001 -",

@@ -74,7 +74,7 @@ events = [{ id = 0x8001, groups = [1] }]
 const SHARED: &str = "group = \"239.0.0.1\"\n";
 
 /// The parts of a row: what is replaced, by what, and `ok` or the error as it is printed. A row says them
-/// behind `- `, `+ ` and `= `, and an empty line ends it.
+/// after `- `, `+ ` and `= `, and an empty line ends it.
 fn parts(row: &str) -> Option<(&str, &str, &str)> {
     let (change, wanted) = row.split_once("\n= ")?;
     let (old, new) = change.split_once("\n+ ")?;

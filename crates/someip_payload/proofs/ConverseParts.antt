@@ -68,7 +68,7 @@ no_digit_colon d = omega (arith, d.1)
 
 -- ---- members, one after the other
 
--- the first member in front of the others, and what stands behind it
+-- the first member in front of the others, and what stands after it
 pub data FirstMember (fs : Forms) (text : List ℕ) : Type 0 where
   only_one : (f : Form) → IsTextOf f text → fs ≡ form_then f no_forms → FirstMember fs text
   and_others : (f : Form) (gs : Forms) (first others : List ℕ) → IsTextOf f first → IsTextOfMembers gs others → fs ≡ form_then f gs → text ≡ first ++ (codes "," ++ others) → FirstMember fs text
@@ -173,7 +173,7 @@ byte_there text rest b at is =
     let same : at + 0 ≡ at = omega arith in
     ap (λ n. get_or text n 0) (sym same) ∙ sym here ∙ ap (λ (t : List ℕ). get_or t 0 0) is
 
--- a member was read, and a comma stands behind it
+-- a member was read, and a comma stands after it
 pub member_more : (text : List ℕ) (at left : ℕ) (fs : Forms) (all rest : List ℕ) (ss : List Shape) (next : ℕ) (s : Shape) (end : ℕ) (n : NextMember text at left fs all rest ss next)
     → (form s ≡ n.f) × (end ≡ next + length n.front) → get_or text end 0 ≡ 44 → MembersLeft text at left fs all rest (ss ++ s ∷ []) (end + 1)
 member_more text at left fs all rest ss next s end n read comma = cases n.follows
@@ -196,7 +196,7 @@ member_more text at left fs all rest ss next s end n read comma = cases n.follow
       place = omega (arith, more.6, read.1);
     }
 
--- a member was read, and no comma stands behind it
+-- a member was read, and no comma stands after it
 pub record MembersRead (text : List ℕ) (at : ℕ) (fs : Forms) (all rest : List ℕ) (ss : List Shape) (end : ℕ) : Type 0 where
   pub is : forms ss ≡ fs
   pub bracket : drop end text ≡ 41 ∷ rest

@@ -16,7 +16,7 @@ use Rattle.someip_segments.specs.Segments.{SegmentValue, tp_header_of, segment_m
 tp_header_in-read : (payload slice : List ℕ) (tp_header : ℕ) → tp_header < 4294967296 → payload ≡ to_be_bytes w32 tp_header ++ slice → tp_header_in payload ≡ tp_header
 tp_header_in-read payload slice tp_header fits is = ap tp_header_in is ∙ from_be_bytes-to_be_bytes_4 tp_header fits
 
--- what a TP header and a slice behind it say
+-- what a TP header and a slice after it say
 pub says : (payload slice : List ℕ) (tp_header : ℕ) → tp_header < 4294967296 → payload ≡ to_be_bytes w32 tp_header ++ slice → Ok (offset_of tp_header, more_of tp_header, slice) ≡ segment_in payload
 says payload slice tp_header fits is =
     let read : tp_header_in payload ≡ tp_header = tp_header_in-read payload slice tp_header fits is in

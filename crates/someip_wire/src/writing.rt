@@ -71,7 +71,7 @@ fn write_ids(first: u16, second: u16, out: &mut [u8])
     BigEndian::write_u16(&mut out[2..], second);
 }
 
-/// Writes the four bytes behind the Request ID.
+/// Writes the four bytes after the Request ID.
 fn write_kind(header: &Header, out: &mut [u8])
     requires room { 4 ≤ length out.old }
     ensures { out.new

@@ -29,7 +29,7 @@ pub none_found : (front : Option (Result SdValue SdError)) → is_some front ≡
 none_found None none = refl
 none_found (Some x) none = cc
 
--- what the other items hold is left behind what the first does
+-- what the other items hold is left after what the first does
 pub left_behind : (front : Option (Result SdValue SdError)) (found : Option (Result SdValue SdError)) (left after others : List (Result SdValue SdError)) → found ≡ front
     → left ≡ option_to_list front ++ others → left ≡ option_to_list found ++ after → after ≡ others
 left_behind front found left after others same is was =

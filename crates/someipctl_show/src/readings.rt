@@ -42,7 +42,7 @@ pub fn read_datagram(
     Ok(())
 }
 
-/// Puts what an item holds for Service Discovery behind what is there, where it is such a message.
+/// Puts what an item holds for Service Discovery after what is there, where it is such a message.
 fn read_item(
     alloc: Global,
     item: &Result<Message<'_>, WireError>,

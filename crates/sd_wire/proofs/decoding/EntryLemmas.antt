@@ -7,7 +7,7 @@ use Rattle.sd_wire.specs.contents.Values.{ReadValue}
 use Rattle.sd_wire.specs.decoding.Faults.{is_entry_type}
 use Rattle.sd_wire.specs.decoding.Program.{type_fault, entry_in, entry_list}
 
--- the type of entry k, counted behind the first one
+-- the type of entry k, counted after the first one
 later : (k : ℕ) (bytes : List ℕ) (b : Bool) → is_entry_type (get_or bytes (suc k * 16) 0) ≡ b → is_entry_type (get_or (drop 16 bytes) (k * 16) 0) ≡ b
 later k bytes b is = let at : 16 + k * 16 ≡ suc k * 16 = omega arith in rw (get_or-drop, at) is
 

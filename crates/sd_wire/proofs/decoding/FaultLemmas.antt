@@ -31,7 +31,7 @@ types_none (suc k) p entries are = type_fault-more k p entries (types_none k p e
 pub types_fault : (n p : ℕ) (entries : List ℕ) (e : SdError) → FaultInTypes n p entries e → type_fault n p entries ≡ Some e
 types_fault n p entries e h = type_fault-found h.0 n p entries h.1 (types_none h.0 p entries h.2) h.3 ∙ ap (λ (x : SdError). Some x) (sym h.4)
 
--- the first types, behind a known one
+-- the first types, after a known one
 more_types : (k : ℕ) (entries : List ℕ) → is_entry_type (get_or entries 0 0) ≡ true → AreTypes k (drop 16 entries) → AreTypes (suc k) entries
 more_types k entries first rest zero lt = first
 more_types k entries first rest (suc j) lt =

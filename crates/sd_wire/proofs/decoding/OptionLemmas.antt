@@ -46,7 +46,7 @@ unfolding options_within
 options_from-none p [] some is = absurd (omega (arith, some))
 options_from-none p (b ∷ bytes) some is = ap (options_after (options_within (length bytes)) p (b ∷ bytes)) is
 
--- an option at the front, and the others behind it
+-- an option at the front, and the others after it
 pub options_from-some : (p n : ℕ) (bytes : List ℕ) → option_size bytes ≡ Some n → options_from p bytes ≡ and_then (option_in bytes ∷ []) (options_from (p + n) (drop n bytes))
 unfolding options_within
 options_from-some p n [] is = let has = has_option [] n is in absurd (omega (arith, has.size, has.within))

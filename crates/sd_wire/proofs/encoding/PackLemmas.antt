@@ -102,7 +102,7 @@ pool_bytes-push (x ∷ pool) o = ap (λ (t : List ℕ). option_bytes 0 0 x ++ t)
 
 -- ---- as the loop goes
 
--- an element, with those before and behind it
+-- an element, with those before and after it
 pub split_at : (entries : List Entry) (k : ℕ) (e : Entry) → k < length entries → e ≡ get_or entries k e
     → map view_entry entries ≡ map view_entry (take k entries) ++ view_entry e ∷ map view_entry (drop (k + 1) entries)
 split_at [] k e lt is = absurd (omega (arith, lt))

@@ -18,7 +18,7 @@ Pool = List SdOption
 
 -- ---- what is written is read
 
--- a run that the pool holds is selected from the pool, also where more options stand behind it
+-- a run that the pool holds is selected from the pool, also where more options stand after it
 selected_held : (pool more run : Pool) (index : ℕ) → HoldsAt pool run index → index + length run ≤ length pool → run ≡ selected (pool ++ more) index (length run)
 selected_held pool more run index holds le =
     let n = length run in

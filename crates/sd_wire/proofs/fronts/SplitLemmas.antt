@@ -197,7 +197,7 @@ same_fronts entries (n ∷ ns) (m ∷ ms) a b =
 
 -- ---- as the loop goes
 
--- these fronts, and behind them those of the rest
+-- these fronts, and after them those of the rest
 abbrev pub AreFrontsUpTo : List EntryValue → List ℕ → List EntryValue → Type 0
 AreFrontsUpTo entries lengths rest = (others : List ℕ) → AreFronts rest others → AreFronts entries (lengths ++ others)
 

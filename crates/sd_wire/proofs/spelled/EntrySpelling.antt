@@ -99,7 +99,7 @@ is_entry bytes fits le known =
 
 -- ---- what is spelled is read
 
--- these bytes, with any behind them, begin with this entry
+-- these bytes, with any after them, begin with this entry
 pub record IsEntryRead (head : EntryHead) (runs : Runs) (first rest : List ℕ) : Type 0 where
   pub length : length first ≡ 16
   pub known : is_entry_type (get_or (first ++ rest) 0 0) ≡ true

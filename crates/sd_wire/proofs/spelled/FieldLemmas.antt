@@ -29,7 +29,7 @@ length-range bytes i n le = omega (arith, length-take n (drop i bytes), length-d
 pub length-slice : (bytes : List ℕ) (i j : ℕ) → i ≤ j → j ≤ length bytes → length (slice_range bytes i j) ≡ j - i
 length-slice bytes i j le le' = omega (arith, length-take (j - i) (drop i bytes), length-drop i bytes)
 
--- ---- a field is spelled by its bytes, in front of what stands behind them
+-- ---- a field is spelled by its bytes, in front of what stands after them
 
 pub spells2 : (bytes xs : List ℕ) (i n : ℕ) → IsBytes bytes → i + 2 ≤ length bytes → n ≡ field16 bytes i → xs ≡ drop (i + 2) bytes → number16 n ++ xs ≡ drop i bytes
 spells2 bytes xs i n fits le is e =

@@ -18,7 +18,7 @@ use Rattle.sd_wire.specs.decoding.Faults.{has_len, option_size}
 use Rattle.sd_wire.specs.decoding.Program.{ipv4_in, ipv6_in, option_by, option_in}
 use Rattle.sd_wire.proofs.spelled.FieldLemmas.{segments_of-octets_of, length-octets_of}
 
--- these bytes, with any behind them, begin with this option
+-- these bytes, with any after them, begin with this option
 pub record IsRead (o : SdOption) (first rest : List ℕ) : Type 0 where
   pub size : option_size (first ++ rest) ≡ Some (length first)
   pub is : option_in (first ++ rest) ≡ o

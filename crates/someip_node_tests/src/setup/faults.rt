@@ -516,7 +516,7 @@ ttl = 1
 [[node.want]]
 = Clash port"#;
 
-/// Rows of the list of nodes, behind what nodes share.
+/// Rows of the list of nodes, after what nodes share.
 const LISTS: &[(&str, &str)] = &[
     ("", "Missing node"),
     ("node = []\n", "OutOfRange node"),

@@ -1,4 +1,4 @@
--- What is left to read behind an item of a tagged structure is shorter.
+-- What is left to read after an item of a tagged structure is shorter.
 use Rattle.std.proofs.Common.{◌≡◌, ◌⊎◌, inl, inr, ℕ, ◌+◌, ◌<◌, ◌≤◌, Bool, true, false, cond, eqb, ltb, List, length, take, Some, None, Result, Ok, Err, subst, arith, length-drop}
 use Rattle.std.specs.Int.{byte_len, from_be_bytes}
 use Rattle.std.proofs.lemmas.Bool.{ltb-false}

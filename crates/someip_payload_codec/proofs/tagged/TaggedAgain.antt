@@ -52,7 +52,7 @@ awaits_all (member_then id optional f ms) (present d ss) items (i, one, type, re
 awaits_all (member_then id optional f ms) (absent ss) items (none, more) = (none, awaits_all ms ss items more)
 awaits_all _ ss items h = absurd h
 
--- behind the last item
+-- after the last item
 awaits_none : (ms : Members) (cs ss : Slots) → Awaits ms cs ss [] → cs ≡ ss
 awaits_none no_members no_slots no_slots h = refl
 awaits_none (member_then id optional f ms) (present c cs) (present d ss) (same, none, more) =
@@ -166,7 +166,7 @@ loop_again ms are again (i ∷ items) (suc n) left cs ss w v full h skips p =
     let some : ltb 0 (length w.bytes) ≡ true = lt-ltb 0 (length w.bytes) (omega (arith, ap length s.0.bytes ∙ length-append (item_bytes i) u.bytes, item_len i)) in
     rw (some, tag_again i.reserved i.wire_type i.id w (skip (length tag) w) skips.0 t.0, e) (loop_again ms are again items n left next ss u v (omega (arith, full)) rest skips.2 s.1)
 
--- reading stands behind items that are spelled so
+-- reading stands after items that are spelled so
 pub tagged_again : (ms : Members) → AreMembers ms → EachAgain ms → (items : List TaggedItem) (ss : Slots) (b v : View) → ReadsItems ms ss items → SkipsOthers ms items → Took b (items_bytes items) v
     → (left : ℕ) × (length v.bytes ≤ left) × (tagged_at (item_at ms) (length b.bytes) (all_absent ms) b ≡ tagged_at (item_at ms) left ss v)
 tagged_again ms are again items ss b v reads skips p =

@@ -125,7 +125,7 @@ chosen_again one P complete kind w u v d body p (front, more, e, holds) =
     let t = front_of_all b front more e in
     rw (window_again w u v body p, complete.gives b (skip (length front) b) d front holds t.0) refl
 
--- the length and the type number of a union, and what stands behind them
+-- the length and the type number of a union, and what stands after them
 union_head : (width : Width) (known : ℕ → ℕ → ℕ → View → Result (Data × View) PayloadError) (w v : View) (len kind : ℕ) (rest : List ℕ) → len < limit_of (size_of width) → kind < 2 ^ 32
     → Took w (number (size_of width) len ++ (number S32 kind ++ rest)) v
     → (place : ℕ) × (u : View) × Took u rest v × (union_at width known w ≡ cond (eqb kind 0) (cond (eqb len 0) (Ok (nothing, u)) (Err (LengthMismatch w.place))) (known kind len place u))

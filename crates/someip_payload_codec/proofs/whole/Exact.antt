@@ -83,7 +83,7 @@ text_bad encoding place b e (Err d) fits fault h = ap (λ (x : PayloadError). le
 abbrev Reader : Type 0
 Reader = View → Result (Data × View) PayloadError
 
--- what is left behind a first element
+-- what is left after a first element
 record Left (w : View) (first others text rest : List ℕ) : Type 0 where
   pub took : Took w first (skip (length first) w)
   pub parts : drop (length first) w.bytes ≡ others ++ rest
@@ -103,7 +103,7 @@ left_of w first others text rest parts same =
           (ap (drop (length others)) t.1 ∙ drop_at others rest (length others) refl ∙ sym (ap (drop (length text)) parts ∙ drop_at text rest (length text) refl));
     }
 
--- behind nothing the window is the same
+-- after nothing the window is the same
 none_before : (w : View) (text : List ℕ) → text ≡ [] → skip (length text) w ≡ w
 none_before w text e = same_view (skip (length text) w) w refl (omega (arith, ap length e)) (ap (λ (t : List ℕ). drop (length t) w.bytes) e)
 

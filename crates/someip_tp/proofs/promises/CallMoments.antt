@@ -41,7 +41,7 @@ may_from limits last (call.Expire now ∷ calls) parts aligned rising none =
 may_from limits last (call.Clear ∷ calls) parts aligned rising none =
     (tt, may_from limits last calls _ (tail_aligned _ calls aligned) rising (none_in_empty last))
 
--- numbers that never fall, behind 0
+-- numbers that never fall, after 0
 behind_zero : (ns : List ℕ) → IsNonDecreasing ns → IsNonDecreasing (0 ∷ ns)
 behind_zero ns rising zero j d le lt = omega arith
 behind_zero ns rising (suc i) zero d le lt = absurd (omega (arith, le))

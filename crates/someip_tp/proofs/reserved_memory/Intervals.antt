@@ -265,7 +265,7 @@ holds_all held first last from to block this all a b c d = (low (nat_lt from fir
         let off = this.after in
         absurd (cc)
 
--- an interval that begins within another one, or right behind it, begins and ends no later than that
+-- an interval that begins within another one, or right after it, begins and ends no later than that
 begins_with : (held : ℕ → Bool) (a b c d : ℕ) → IsInterval held a b → IsInterval held c d → c ≤ b + 1 → c ≤ a
 begins_with held a b c d one other near = cases (nat_lt a c) refl
   where

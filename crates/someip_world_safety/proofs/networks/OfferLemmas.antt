@@ -98,7 +98,7 @@ no_other a b none false is = refl
 abbrev IsFound : List Offer → Offer → Type 0
 IsFound es e = lookup (is_at (instance_cmp e.0)) es ≡ Some e.1
 
--- what is found is found behind one of another instance
+-- what is found is found after one of another instance
 found_behind : (first : Offer) (es : List Offer) (e : Offer) → IsFound es e → same_instance first.0 e.0 ≡ false → IsFound (first ∷ es) e
 found_behind first es e found none =
     let other : is_at (instance_cmp e.0) first.0 ≡ false = no_other first.0 e.0 none (same_instance e.0 first.0) refl in

@@ -55,7 +55,7 @@ none_from : {X : Type 0} (o : Option X) → is_some o ≡ false → o ≡ None
 none_from None is = refl
 none_from (Some x) is = absurd cc
 
--- behind another one
+-- after another one
 found_behind : (first : Port) (es : List Port) (e : Port) → find nat_cmp first.0 es ≡ None → find nat_cmp e.0 es ≡ Some e.1 → find nat_cmp e.0 (first ∷ es) ≡ Some e.1
 found_behind first es e none found = cases (eq_by_cmp nat_cmp e.0 first.0) refl
   where

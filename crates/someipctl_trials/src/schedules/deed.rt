@@ -73,7 +73,7 @@ pub fn deed_at<'r>(
     })
 }
 
-/// The lines of a step, which stand one behind the other.
+/// The lines of a step, which stand one after the other.
 fn lines_of(lines: &[Line], index: usize) -> &[Line] {
     let mut start = 0;
     let mut end = 0;

@@ -3,7 +3,7 @@
 use crate::draws::Draws;
 use Part::{Delay, Mostly, NodeAndToken, OneOf, Payload};
 
-/// A part of a line, behind its first word.
+/// A part of a line, after its first word.
 #[derive(Clone, Copy)]
 pub enum Part {
     /// One of these words.

@@ -5,7 +5,7 @@ use someip_world::Line;
 use someipctl_run::told_text;
 use std::alloc::{AllocError, Global};
 
-/// Whether an output prints itself as its line of a trace tells it, where each word stands behind a space and
+/// Whether an output prints itself as its line of a trace tells it, where each word stands after a space and
 /// datagrams have numbers beside.
 pub fn prints_its_line(alloc: Global, line: &Line, output: &Output) -> Result<bool, AllocError> {
     let printed = format!(in alloc; " {output}\n")?;
