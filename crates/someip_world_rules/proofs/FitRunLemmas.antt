@@ -6,10 +6,8 @@ use Rattle.std.proofs.lemmas.Bool.{ltb-false}
 use Rattle.std.proofs.lemmas.List.Elements.{filter_map-append}
 use Rattle.std.specs.Net.Addr.{IsIpv4Addr}
 use Rattle.std.specs.Net.Socket.{IsSocketAddrV4}
+use Rattle.someip_wire.proofs.TypeLemmas.{flagged_is_no_event}
 use Rattle.someip_wire.specs.declared.header.Header.{Header}
-use Rattle.someip_wire.specs.declared.header.MessageType.{MessageType}
-use Rattle.someip_wire.specs.declared.header.MessageType.TheVariants as kinds
-use Rattle.someip_wire.specs.Kinds.{with_tp_flag}
 use Rattle.someip_wire.specs.Spelling.{Fits, IsBytes, MessageValue, spelling}
 use Rattle.someip_segments.specs.Segments.{segment_header, segments_within}
 use Rattle.someip_segments.specs.Sent.{Alone, InSegment, is_long, piece_message, segments_of, sent}
@@ -28,7 +26,6 @@ use Rattle.someip_node_rules.specs.declared.output.Output.{Output}
 use Rattle.someip_node_rules.specs.trails.Copies.{IsCopy, IsCopyOfOffer, IsCopyOfWant}
 use Rattle.someip_node_rules.specs.forms.Entries.{discovery_message}
 use Rattle.someip_node_laws.specs.Fitting.{FitsConfig, FitsHistory, FitsInput, FitsInstance, FitsOffer, FitsPacket, FitsPayload, FitsWant, FitsWire, head_of}
-use Rattle.someip_wire.specs.Discovery.{is_notification}
 use Rattle.someip_node_rules.specs.rules.Handling.{is_valid_discovery}
 use Rattle.someip_node_rules.specs.histories.History.{History, answers_of}
 use Rattle.someip_node_rules.specs.rules.Inputs as inputs
@@ -63,19 +60,6 @@ use Rattle.someip_world_rules.proofs.Sendings.{sends}
 
 -- ---- the pieces of a message that is none of Service Discovery
 
--- with the TP flag no type is that of an event
-flagged : (kind : MessageType) → is_notification (with_tp_flag kind) ≡ false
-flagged kinds.Request = refl
-flagged kinds.RequestNoReturn = refl
-flagged kinds.Notification = refl
-flagged kinds.Response = refl
-flagged kinds.Error = refl
-flagged kinds.TpRequest = refl
-flagged kinds.TpRequestNoReturn = refl
-flagged kinds.TpNotification = refl
-flagged kinds.TpResponse = refl
-flagged kinds.TpError = refl
-
 segments_undiscovered : (n : ℕ) (header : Header) (offset : ℕ) (rest : List ℕ) → is_valid_discovery header ≡ false → AllByRecursion (λ s. is_valid_discovery s.header ≡ false) (segments_within n header offset rest)
 unfolding segments_within
 segments_undiscovered zero header offset rest not = tt
@@ -88,7 +72,7 @@ pieces_undiscovered m not = cases (is_long m.payload)
     cases : (b : Bool) → AllByRecursion (λ piece. is_valid_discovery (piece_message piece).header ≡ false) (if b then map InSegment (segments_of m) else Alone m ∷ [])
     cases true =
         all_map (λ piece. is_valid_discovery (piece_message piece).header ≡ false) InSegment (segments_of m)
-        (segments_undiscovered (length m.payload) (segment_header m.header) 0 m.payload (no_notification (segment_header m.header) (flagged m.header.kind)))
+        (segments_undiscovered (length m.payload) (segment_header m.header) 0 m.payload (no_notification (segment_header m.header) (flagged_is_no_event m.header.kind)))
     cases false = (not, tt)
 
 -- ---- datagrams

@@ -5,11 +5,10 @@ use Rattle.std.proofs.lemmas.Grind.{flat_map-append}
 use Rattle.std.specs.Net.Socket.{v4_ip}
 use Rattle.std.specs.declared.net.ipv4_addr.Ipv4Addr.{Ipv4Addr}
 use Rattle.std.specs.declared.net.socket_addr.SocketAddrV4.{SocketAddrV4}
+use Rattle.someip_wire.proofs.TypeLemmas.{flag_cleared_again, flag_set, flagged_is_no_event, whole_already}
 use Rattle.someip_wire.specs.Discovery.{is_discovery}
 use Rattle.someip_wire.specs.declared.header.Header.{Header}
-use Rattle.someip_wire.specs.declared.header.MessageType.{MessageType}
-use Rattle.someip_wire.specs.declared.header.MessageType.TheVariants as kinds
-use Rattle.someip_wire.specs.Kinds.{has_tp_flag, with_tp_flag, without_tp_flag}
+use Rattle.someip_wire.specs.Kinds.{has_tp_flag}
 use Rattle.someip_wire.specs.Reading.{items_of}
 use Rattle.someip_wire.specs.Spelling.{Fits, MessageValue, spelling}
 use Rattle.someip_reassembly.specs.Keys.{segment_key}
@@ -29,7 +28,6 @@ use Rattle.someip_node_rules.specs.declared.output.Output.TheVariants.{Sent}
 use Rattle.someip_node_rules.specs.forms.Entries.{discovery_message}
 use Rattle.someip_node_laws.specs.Fitting.{FitsWire}
 use Rattle.someip_node_rules.specs.forms.GoodConfigs.{is_good}
-use Rattle.someip_node_rules.specs.rules.Handling.{is_notification}
 use Rattle.someip_node_rules.specs.histories.History.{History, answers_of}
 use Rattle.someip_node_rules.specs.rules.Inputs.{Input}
 use Rattle.someip_node_rules.specs.trails.Meanings.{GivenBy, IsTold}
@@ -59,57 +57,6 @@ module _ (d : SentDatagram) (m : MessageValue) (fits : Fits m) (is : d.bytes ≡
 
 -- ---- the pieces of a message
 
-flagged : (kind : MessageType) → has_tp_flag (with_tp_flag kind) ≡ true
-flagged kinds.Request = refl
-flagged kinds.RequestNoReturn = refl
-flagged kinds.Notification = refl
-flagged kinds.Response = refl
-flagged kinds.Error = refl
-flagged kinds.TpRequest = refl
-flagged kinds.TpRequestNoReturn = refl
-flagged kinds.TpNotification = refl
-flagged kinds.TpResponse = refl
-flagged kinds.TpError = refl
-
--- with the TP flag no type is that of an event
-no_notification : (kind : MessageType) → is_notification (with_tp_flag kind) ≡ false
-no_notification kinds.Request = refl
-no_notification kinds.RequestNoReturn = refl
-no_notification kinds.Notification = refl
-no_notification kinds.Response = refl
-no_notification kinds.Error = refl
-no_notification kinds.TpRequest = refl
-no_notification kinds.TpRequestNoReturn = refl
-no_notification kinds.TpNotification = refl
-no_notification kinds.TpResponse = refl
-no_notification kinds.TpError = refl
-
--- a type without the flag is that of the whole message
-whole_already : (kind : MessageType) → has_tp_flag kind ≡ false → without_tp_flag kind ≡ kind
-whole_already kinds.Request is = refl
-whole_already kinds.RequestNoReturn is = refl
-whole_already kinds.Notification is = refl
-whole_already kinds.Response is = refl
-whole_already kinds.Error is = refl
-whole_already kinds.TpRequest is = absurd cc
-whole_already kinds.TpRequestNoReturn is = absurd cc
-whole_already kinds.TpNotification is = absurd cc
-whole_already kinds.TpResponse is = absurd cc
-whole_already kinds.TpError is = absurd cc
-
--- and stays so after the flag was set and cleared
-whole_again : (kind : MessageType) → has_tp_flag kind ≡ false → without_tp_flag (with_tp_flag kind) ≡ kind
-whole_again kinds.Request is = refl
-whole_again kinds.RequestNoReturn is = refl
-whole_again kinds.Notification is = refl
-whole_again kinds.Response is = refl
-whole_again kinds.Error is = refl
-whole_again kinds.TpRequest is = absurd cc
-whole_again kinds.TpRequestNoReturn is = absurd cc
-whole_again kinds.TpNotification is = absurd cc
-whole_again kinds.TpResponse is = absurd cc
-whole_again kinds.TpError is = absurd cc
-
 segments_headed : (n : ℕ) (header : Header) (offset : ℕ) (rest : List ℕ) → AllByRecursion (λ s. s.header ≡ header) (segments_within n header offset rest)
 unfolding segments_within
 segments_headed zero header offset rest = tt
@@ -125,9 +72,9 @@ pub record IsPieceHeader (m : MessageValue) (header : Header) : Type 0 where
 module _ (m : MessageValue) (none : has_tp_flag m.header.kind ≡ false) (application : is_discovery m.header ≡ false) where
   segment_is : is_long m.payload ≡ true → IsPieceHeader m (segment_header m.header)
   segment_is long = record {
-    application = no_event (segment_header m.header) (no_notification m.header.kind);
-    whole = ap (λ kind. record m.header { kind = kind }) (whole_again m.header.kind none);
-    flag = flagged m.header.kind ∙ sym long;
+    application = no_event (segment_header m.header) (flagged_is_no_event m.header.kind);
+    whole = ap (λ kind. record m.header { kind = kind }) (flag_cleared_again m.header.kind none);
+    flag = flag_set m.header.kind ∙ sym long;
   }
 
   alone_is : is_long m.payload ≡ false → IsPieceHeader m m.header
