@@ -349,6 +349,11 @@ sweep_coming_recordings() {
     call waiting recording -
     expect "recording waiting, a packet of 16777201 bytes" 1 "recording: BlockTooLong at 24" /dev/null
 
+    cp "$examples/audit.pcap" "$piped"
+    sed '/^audited /,$d' "$examples/audit.txt" >"$scratch/whole"
+    call waiting audit -
+    expect "audit waiting" 124 "" "$scratch/whole"
+
     double "$scratch/packets" 18
     cat "$scratch/header" "$scratch/packets" >"$scratch/input"
     write_recorded 524288 >"$scratch/whole"
