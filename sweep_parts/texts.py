@@ -1,5 +1,5 @@
-"""The sweep `texts`: what the built program says of texts that are not quite right, by rows: of setups, types files and
-schedules, and of words that come to no command.
+"""The sweep `texts`: what the built program says of texts that are not quite right, by rows: of setups, types files,
+schedules, shapes and payloads, and of words that come to no command.
 
     texts.py PROGRAM
 """
@@ -10,6 +10,7 @@ import sys
 import tempfile
 from pathlib import Path
 
+from text_payloads import FAULTS, TAGGED_FAULTS, bad_shapes, deep_shapes
 from text_schedules import schedules
 from text_setups import setups
 from text_types import types
@@ -62,6 +63,20 @@ def is_schedule(program, data, bad_line):
     return said_of(program, data, ["run", str(SETUP)]) == (1, "", f"line {bad_line}: bad step\n")
 
 
+def is_bad_shape(program, text, place):
+    return run(program, ["payload", text, "00"]) == (1, "", f"bad shape at {place}\n")
+
+
+def is_shape(program, text):
+    """A text is that of a shape, though of one that payloads cannot have."""
+    status, shown, error = run(program, ["payload", text, "-"])
+    return (status, error) == (1, "") and shown.startswith("fault ")
+
+
+def is_fault(program, shape, digits, fault):
+    return run(program, ["payload", shape, digits]) == (1, f"fault {fault}\n", "")
+
+
 def is_help(program, words, part):
     name, *words = words.split("|")
     status, shown, error = run(program, words, name)
@@ -78,6 +93,9 @@ PARTS = {
     "setup": (is_setup, setups()),
     "types file": (is_types, types()),
     "schedule": (is_schedule, schedules()),
+    "shape": (is_bad_shape, bad_shapes()),
+    "deep shape": (is_shape, [(text,) for text in deep_shapes()]),
+    "payload": (is_fault, (*FAULTS, *TAGGED_FAULTS)),
     "help": (is_help, HELP),
     "usage": (is_usage, USAGE),
 }
@@ -89,8 +107,8 @@ def main():
     with concurrent.futures.ThreadPoolExecutor(os.cpu_count()) as pool:
         right = list(pool.map(lambda row: row[1](program, *row[2:]), rows))
     findings = [row for row, is_right in zip(rows, right) if not is_right]
-    for kind, _, text, wanted in findings:
-        print(f"texts: {kind} {text!r}: not {wanted!r}")
+    for kind, _, *row in findings:
+        print(f"texts: {kind}: not so: {row}")
     if not findings:
         counts = ", ".join(f"{len(of_kind)} of {kind}" for kind, (_, of_kind) in PARTS.items())
         print(f"texts: {counts}: no finding")
