@@ -6,8 +6,9 @@ use audit_tables::Origin;
 use sd_wire::SdError;
 use someip_audit::{Audit, AuditRules, FellDue, Finding};
 use someip_reassembly::SegmentList;
+use someip_tables::Moment;
 use someip_wire::WireError;
-use std::alloc::Global;
+use std::alloc::{AllocError, Global};
 
 /// What is told, with its numbers where it has some.
 #[derive(Clone, Copy, PartialEq, Eq)]
@@ -253,21 +254,37 @@ fn told_of_event(shown: &audit_events::Finding) -> Told {
     }
 }
 
-/// Whether a datagram comes out as its row says; None where memory ran out.
-fn comes_out(
+/// Adds what falls due at a moment, of which there is little.
+fn add_due(
+    audit: &mut Audit<SegmentList>,
+    now: Moment,
+    told: &mut Vec<Told>,
+) -> Result<(), AllocError> {
+    for _ in 0..8 {
+        match audit.due(now) {
+            Some(fell) => told.push(told_of_due(&fell))?,
+            None => break,
+        }
+    }
+    Ok(())
+}
+
+/// Adds what findings tell.
+fn add_findings(findings: &[Finding], told: &mut Vec<Told>) -> Result<(), AllocError> {
+    for finding in findings {
+        told.push(told_of(finding))?;
+    }
+    Ok(())
+}
+
+/// Adds what a datagram shows, and gives how many messages it has, if it is looked at.
+fn add_shown(
     alloc: Global,
     audit: &mut Audit<SegmentList>,
     number: u64,
     row: &Row,
-) -> Option<bool> {
-    let now = at(row.0);
-    let mut told = Vec::new(alloc);
-    for _ in 0..8 {
-        match audit.due(now) {
-            Some(fell) => told.push(told_of_due(&fell)).ok()?,
-            None => break,
-        }
-    }
+    told: &mut Vec<Told>,
+) -> Option<Option<usize>> {
     let bytes = hex::decode(alloc, row.3).ok()?;
     let origin = Origin {
         datagram: number,
@@ -275,16 +292,29 @@ fn comes_out(
         to: endpoint(row.2.0, row.2.1),
     };
     let mut findings = Vec::new(alloc);
-    let count = audit.saw(alloc, now, &origin, &bytes, &mut findings).ok()?;
-    for finding in &findings {
-        told.push(told_of(finding)).ok()?;
-    }
+    let count = audit
+        .saw(alloc, at(row.0), &origin, &bytes, &mut findings)
+        .ok()?;
+    add_findings(&findings, told).ok()?;
+    Some(count)
+}
+
+/// Whether a datagram comes out as its row says; None where memory ran out.
+fn comes_out(
+    alloc: Global,
+    audit: &mut Audit<SegmentList>,
+    number: u64,
+    row: &Row,
+) -> Option<bool> {
+    let mut told = Vec::new(alloc);
+    add_due(audit, at(row.0), &mut told).ok()?;
+    let count = add_shown(alloc, audit, number, row, &mut told)?;
     Some(told.as_slice() == row.4 && count == row.5)
 }
 
-/// The number of the first row that comes out otherwise.
-fn first_wrong(alloc: Global, ports: Option<&[u16]>, limit: usize, rows: &[Row]) -> Option<usize> {
-    let rules = AuditRules {
+/// The rules of an audit whose books have so much room.
+fn rules(limit: usize) -> AuditRules {
+    AuditRules {
         limit,
         answer_ms: 1000,
         settle_ms: 50,
@@ -293,33 +323,39 @@ fn first_wrong(alloc: Global, ports: Option<&[u16]>, limit: usize, rows: &[Row])
             limit: 1000,
             timeout_ms: 1000,
         },
-    };
-    let Ok(mut audit) = Audit::begin(alloc, &rules, ports, at(50)) else {
-        return Some(0);
-    };
+    }
+}
+
+/// The number of the first row that comes out otherwise.
+fn first_wrong(alloc: Global, ports: Option<&[u16]>, limit: usize, rows: &[Row]) -> Option<usize> {
+    match Audit::begin(alloc, &rules(limit), ports, at(50)) {
+        Ok(mut audit) => first_wrong_in(alloc, &mut audit, rows),
+        Err(_) => Some(0),
+    }
+}
+
+fn first_wrong_in(alloc: Global, audit: &mut Audit<SegmentList>, rows: &[Row]) -> Option<usize> {
     for (index, row) in rows.iter().enumerate() {
-        if comes_out(alloc, &mut audit, index as u64 + 1, row) != Some(true) {
+        if comes_out(alloc, audit, index as u64 + 1, row) != Some(true) {
             return Some(index);
         }
     }
     None
 }
 
+/// Tables by their names, the ports that are named, and how much room a book has.
+const TABLES: &[(&str, Option<&[u16]>, usize, &[Row])] = &[
+    ("STORY", None, 100, STORY),
+    ("CALLS", Some(&[30509]), 100, CALLS),
+    ("MALFORMED", None, 100, MALFORMED),
+    ("CROWDED", None, 1, CROWDED),
+];
+
 #[test]
 fn datagrams_are_told(rt: HostRuntime) {
-    let wrong = first_wrong(rt.alloc(), None, 100, STORY);
-    assert!(rt; wrong.is_none(), "the first wrong row of STORY: {wrong:?}");
-    let wrong = first_wrong(rt.alloc(), Some(&[30509]), 100, CALLS);
-    assert!(rt; wrong.is_none(), "the first wrong row of CALLS: {wrong:?}");
-    let wrong = first_wrong(rt.alloc(), None, 100, MALFORMED);
-    assert!(rt;
-        wrong.is_none(),
-        "the first wrong row of MALFORMED: {wrong:?}"
-    );
-    let wrong = first_wrong(rt.alloc(), None, 1, CROWDED);
-    assert!(rt;
-        wrong.is_none(),
-        "the first wrong row of CROWDED: {wrong:?}"
-    );
+    for (name, ports, limit, rows) in TABLES {
+        let wrong = first_wrong(rt.alloc(), *ports, *limit, rows);
+        assert!(rt; wrong.is_none(), "the first wrong row of {name}: {wrong:?}");
+    }
     someip_audit::laws::faults_are_told();
 }

@@ -1,6 +1,7 @@
 //! Offers of two nodes.
 use crate::places::{at, datagram, endpoint, node};
 use audit_offers::{Finding, OfferBook, OfferEntry, OfferKey, laws};
+use std::alloc::Global;
 
 /// What comes, and what has to come of it.
 enum Act {
@@ -14,9 +15,11 @@ enum Act {
     Due(u32, Option<(u64, u64)>),
     /// When an offer next expires.
     Next(Option<u64>),
+    /// How many offers stand.
+    Len(usize),
 }
 
-use Act::{Began, Due, Next, Offer, Stop};
+use Act::{Began, Due, Len, Next, Offer, Stop};
 
 /// Offers that are renewed, end, move and expire.
 const STORY: &[Act] = &[
@@ -51,6 +54,7 @@ const AT_ONCE: &[Act] = &[
     Due(2000, Some((1100, 2))),
     Due(2000, Some((1100, 1))),
     Due(2000, None),
+    Len(0),
 ];
 
 /// A book for one offer.
@@ -102,11 +106,17 @@ fn comes_out(book: &mut OfferBook, act: &Act) -> bool {
             None => told.is_none(),
         },
         Next(moment) => book.next_due() == *moment,
+        Len(count) => book.len() == *count,
     }
 }
 
-/// The number of the first act that comes out otherwise.
-fn first_wrong(book: &mut OfferBook, acts: &[Act]) -> Option<usize> {
+/// The number of the first act that comes out otherwise, in a book for so many offers.
+fn first_wrong(alloc: Global, limit: usize, acts: &[Act]) -> Option<usize> {
+    let mut book = OfferBook::new(alloc, limit);
+    first_wrong_in(&mut book, acts)
+}
+
+fn first_wrong_in(book: &mut OfferBook, acts: &[Act]) -> Option<usize> {
     for (index, act) in acts.iter().enumerate() {
         if !comes_out(book, act) {
             return Some(index);
@@ -115,23 +125,18 @@ fn first_wrong(book: &mut OfferBook, acts: &[Act]) -> Option<usize> {
     None
 }
 
+/// Tables by their names, and for how many offers a book is.
+const TABLES: &[(&str, usize, &[Act])] = &[
+    ("STORY", 100, STORY),
+    ("AT_ONCE", 100, AT_ONCE),
+    ("CROWDED", 1, CROWDED),
+];
+
 #[test]
 fn offers_are_told(rt: HostRuntime) {
-    let mut book = OfferBook::new(rt.alloc(), 100);
-    let wrong = first_wrong(&mut book, STORY);
-    assert!(rt; wrong.is_none(), "the first wrong act of STORY: {wrong:?}");
-    let mut book = OfferBook::new(rt.alloc(), 100);
-    let wrong = first_wrong(&mut book, AT_ONCE);
-    assert!(rt;
-        wrong.is_none(),
-        "the first wrong act of AT_ONCE: {wrong:?}"
-    );
-    assert!(rt; book.len() == 0);
-    let mut book = OfferBook::new(rt.alloc(), 1);
-    let wrong = first_wrong(&mut book, CROWDED);
-    assert!(rt;
-        wrong.is_none(),
-        "the first wrong act of CROWDED: {wrong:?}"
-    );
+    for (name, limit, acts) in TABLES {
+        let wrong = first_wrong(rt.alloc(), *limit, acts);
+        assert!(rt; wrong.is_none(), "the first wrong act of {name}: {wrong:?}");
+    }
     laws::offers_move();
 }

@@ -138,8 +138,13 @@ fn comes_out(alloc: Global, book: &mut ReceiverBook, act: &Act) -> bool {
     }
 }
 
-/// The number of the first act that comes out otherwise.
-fn first_wrong(alloc: Global, book: &mut ReceiverBook, acts: &[Act]) -> Option<usize> {
+/// The number of the first act that comes out otherwise, in a book of so many subscriptions.
+fn first_wrong(alloc: Global, limit: usize, acts: &[Act]) -> Option<usize> {
+    let mut book = ReceiverBook::new(alloc, limit, at(50));
+    first_wrong_in(alloc, &mut book, acts)
+}
+
+fn first_wrong_in(alloc: Global, book: &mut ReceiverBook, acts: &[Act]) -> Option<usize> {
     for (index, act) in acts.iter().enumerate() {
         if !comes_out(alloc, book, act) {
             return Some(index);
@@ -148,22 +153,18 @@ fn first_wrong(alloc: Global, book: &mut ReceiverBook, acts: &[Act]) -> Option<u
     None
 }
 
+/// Tables by their names, and how many subscriptions, or events that were told, a book has room for.
+const TABLES: &[(&str, usize, &[Act])] = &[
+    ("STORY", 100, STORY),
+    ("CROWDED", 1, CROWDED),
+    ("TALKATIVE", 1, TALKATIVE),
+];
+
 #[test]
 fn events_are_told(rt: HostRuntime) {
-    let mut book = ReceiverBook::new(rt.alloc(), 100, at(50));
-    let wrong = first_wrong(rt.alloc(), &mut book, STORY);
-    assert!(rt; wrong.is_none(), "the first wrong act of STORY: {wrong:?}");
-    let mut book = ReceiverBook::new(rt.alloc(), 1, at(50));
-    let wrong = first_wrong(rt.alloc(), &mut book, CROWDED);
-    assert!(rt;
-        wrong.is_none(),
-        "the first wrong act of CROWDED: {wrong:?}"
-    );
-    let mut book = ReceiverBook::new(rt.alloc(), 1, at(50));
-    let wrong = first_wrong(rt.alloc(), &mut book, TALKATIVE);
-    assert!(rt;
-        wrong.is_none(),
-        "the first wrong act of TALKATIVE: {wrong:?}"
-    );
+    for (name, limit, acts) in TABLES {
+        let wrong = first_wrong(rt.alloc(), *limit, acts);
+        assert!(rt; wrong.is_none(), "the first wrong act of {name}: {wrong:?}");
+    }
     laws::events_go_by_subscriptions();
 }

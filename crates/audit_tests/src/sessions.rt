@@ -2,6 +2,7 @@
 use crate::places::node;
 use audit_sessions::{Finding, SdMessage, SessionBook, laws};
 use sd_session::Stamp;
+use std::alloc::Global;
 
 /// What a message shows.
 enum Shown {
@@ -88,8 +89,17 @@ fn is_right(book: &mut SessionBook, row: &Heard) -> bool {
     book.saw(message).ok() == Some(told(shown, stamp))
 }
 
-/// The number of the first message that shows something else.
-fn first_wrong(book: &mut SessionBook, rows: &[Heard]) -> Option<usize> {
+/// The number of the first message that shows something else, in a book for so many pairs; or how many there are, where
+/// the book should have a number of pairs then and has another one.
+fn first_wrong(alloc: Global, limit: usize, rows: &[Heard], pairs: Option<usize>) -> Option<usize> {
+    let mut book = SessionBook::new(alloc, limit);
+    match first_wrong_in(&mut book, rows) {
+        None if book.len() != pairs.unwrap_or(book.len()) => Some(rows.len()),
+        wrong => wrong,
+    }
+}
+
+fn first_wrong_in(book: &mut SessionBook, rows: &[Heard]) -> Option<usize> {
     for (index, row) in rows.iter().enumerate() {
         if !is_right(book, row) {
             return Some(index);
@@ -98,26 +108,18 @@ fn first_wrong(book: &mut SessionBook, rows: &[Heard]) -> Option<usize> {
     None
 }
 
+/// Tables by their names, for how many pairs a book is, and how many it should have then, if that is told.
+const TABLES: &[(&str, usize, &[Heard], Option<usize>)] = &[
+    ("TWO_SENDERS", 100, TWO_SENDERS, Some(3)),
+    ("WRAPPING", 100, WRAPPING, None),
+    ("CROWDED", 2, CROWDED, None),
+];
+
 #[test]
 fn sessions_are_told(rt: HostRuntime) {
-    let mut book = SessionBook::new(rt.alloc(), 100);
-    let wrong = first_wrong(&mut book, TWO_SENDERS);
-    assert!(rt;
-        wrong.is_none(),
-        "the first wrong row of TWO_SENDERS: {wrong:?}"
-    );
-    assert!(rt; book.len() == 3);
-    let mut book = SessionBook::new(rt.alloc(), 100);
-    let wrong = first_wrong(&mut book, WRAPPING);
-    assert!(rt;
-        wrong.is_none(),
-        "the first wrong row of WRAPPING: {wrong:?}"
-    );
-    let mut book = SessionBook::new(rt.alloc(), 2);
-    let wrong = first_wrong(&mut book, CROWDED);
-    assert!(rt;
-        wrong.is_none(),
-        "the first wrong row of CROWDED: {wrong:?}"
-    );
+    for (name, limit, rows, pairs) in TABLES {
+        let wrong = first_wrong(rt.alloc(), *limit, rows, *pairs);
+        assert!(rt; wrong.is_none(), "the first wrong row of {name}: {wrong:?}");
+    }
     laws::findings_by_example();
 }

@@ -3,6 +3,7 @@ use crate::places::{at, datagram, node};
 use audit_subscriptions::{
     EntryKind, Finding, SubscribeBook, SubscribeEntry, SubscriptionKey, laws,
 };
+use std::alloc::Global;
 
 /// What comes, and what has to come of it.
 enum Act {
@@ -16,9 +17,11 @@ enum Act {
     Due(u32, Option<(u64, u64)>),
     /// When a Subscribe next has waited too long.
     Next(Option<u64>),
+    /// How many Subscribes wait.
+    Len(usize),
 }
 
-use Act::{Answer, Began, Due, Next, Subscribe};
+use Act::{Answer, Began, Due, Len, Next, Subscribe};
 
 /// An answer may take 2000 milliseconds.
 const STORY: &[Act] = &[
@@ -46,6 +49,7 @@ const STORY: &[Act] = &[
     Subscribe(11000, 10, 1, 3, None),
     Began(9),
     Next(None),
+    Len(0),
 ];
 
 /// A book for one Subscribe.
@@ -101,11 +105,17 @@ fn comes_out(book: &mut SubscribeBook, act: &Act) -> bool {
             None => told.is_none(),
         },
         Next(moment) => book.next_due() == *moment,
+        Len(count) => book.len() == *count,
     }
 }
 
-/// The number of the first act that comes out otherwise.
-fn first_wrong(book: &mut SubscribeBook, acts: &[Act]) -> Option<usize> {
+/// The number of the first act that comes out otherwise, in a book for so many Subscribes.
+fn first_wrong(alloc: Global, limit: usize, acts: &[Act]) -> Option<usize> {
+    let mut book = SubscribeBook::new(alloc, limit, 2000);
+    first_wrong_in(&mut book, acts)
+}
+
+fn first_wrong_in(book: &mut SubscribeBook, acts: &[Act]) -> Option<usize> {
     for (index, act) in acts.iter().enumerate() {
         if !comes_out(book, act) {
             return Some(index);
@@ -114,17 +124,14 @@ fn first_wrong(book: &mut SubscribeBook, acts: &[Act]) -> Option<usize> {
     None
 }
 
+/// Tables by their names, and for how many Subscribes a book is.
+const TABLES: &[(&str, usize, &[Act])] = &[("STORY", 100, STORY), ("CROWDED", 1, CROWDED)];
+
 #[test]
 fn subscribes_are_told(rt: HostRuntime) {
-    let mut book = SubscribeBook::new(rt.alloc(), 100, 2000);
-    let wrong = first_wrong(&mut book, STORY);
-    assert!(rt; wrong.is_none(), "the first wrong act of STORY: {wrong:?}");
-    assert!(rt; book.len() == 0);
-    let mut book = SubscribeBook::new(rt.alloc(), 1, 2000);
-    let wrong = first_wrong(&mut book, CROWDED);
-    assert!(rt;
-        wrong.is_none(),
-        "the first wrong act of CROWDED: {wrong:?}"
-    );
+    for (name, limit, acts) in TABLES {
+        let wrong = first_wrong(rt.alloc(), *limit, acts);
+        assert!(rt; wrong.is_none(), "the first wrong act of {name}: {wrong:?}");
+    }
     laws::nacks_are_told();
 }
