@@ -1,5 +1,5 @@
 //! Datagrams of a recording, over all books.
-use crate::places::{at, endpoint};
+use super::places::{at, endpoint};
 use audit_calls::CallFinding;
 use audit_segments::SegmentRules;
 use audit_tables::Origin;

@@ -1,5 +1,5 @@
 //! Offers of two nodes.
-use crate::places::{at, datagram, endpoint, node};
+use super::places::{at, datagram, endpoint, node};
 use audit_offers::{Finding, OfferBook, OfferEntry, OfferKey, laws};
 use std::alloc::Global;
 

@@ -1,5 +1,5 @@
 //! Subscribes of two clients at node 9.
-use crate::places::{at, datagram, node};
+use super::places::{at, datagram, node};
 use audit_subscriptions::{
     EntryKind, Finding, SubscribeBook, SubscribeEntry, SubscriptionKey, laws,
 };

@@ -4,7 +4,7 @@ use someip_tables::Moment;
 use std::net::{Ipv4Addr, SocketAddrV4};
 
 /// The address of a node; node 0 is the group.
-pub(crate) fn node(number: u8) -> Ipv4Addr {
+pub(super) fn node(number: u8) -> Ipv4Addr {
     if number == 0 {
         Ipv4Addr::new(224, 244, 224, 245)
     } else {
@@ -12,12 +12,12 @@ pub(crate) fn node(number: u8) -> Ipv4Addr {
     }
 }
 
-pub(crate) fn endpoint(number: u8, port: u16) -> SocketAddrV4 {
+pub(super) fn endpoint(number: u8, port: u16) -> SocketAddrV4 {
     SocketAddrV4::new(node(number), port)
 }
 
 /// A datagram from one node to another, at the port of Service Discovery.
-pub(crate) fn datagram(number: u64, from: u8, to: u8) -> Origin {
+pub(super) fn datagram(number: u64, from: u8, to: u8) -> Origin {
     Origin {
         datagram: number,
         from: endpoint(from, 30490),
@@ -26,7 +26,7 @@ pub(crate) fn datagram(number: u64, from: u8, to: u8) -> Origin {
 }
 
 /// A moment, which is before the last one.
-pub(crate) fn at(millis: u32) -> Moment {
+pub(super) fn at(millis: u32) -> Moment {
     match Moment::new(u64::from(millis)) {
         Some(moment) => moment,
         None => Moment::start(),

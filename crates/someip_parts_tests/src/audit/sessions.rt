@@ -1,5 +1,5 @@
 //! Sessions of three nodes.
-use crate::places::node;
+use super::places::node;
 use audit_sessions::{Finding, SdMessage, SessionBook, laws};
 use sd_session::Stamp;
 use std::alloc::Global;

@@ -1,5 +1,5 @@
 //! Events of node 9 to two clients.
-use crate::places::{at, endpoint, node};
+use super::places::{at, endpoint, node};
 use audit_receivers::{Delivery, Finding, ReceiverBook, ReceiverEntry, WithdrawnOffer, laws};
 use audit_subscriptions::{EntryKind, SubscriptionKey};
 use std::alloc::Global;
