@@ -71,7 +71,7 @@ BAD_CALLS = (
     b"answer a 1 00",
 )
 
-# Errors, events, and what stands behind them, that are bad.
+# Errors, events, and what stands after them, that are bad.
 BAD_EVENTS = (
     b"error a 1 -",
     b"publish a 1234.0001 001 -",

@@ -5,7 +5,7 @@ use Rattle.std.specs.Net.Socket.{v4_ip, v4_port}
 use Rattle.std.specs.Net.Addr.{ipv4_octets}
 use Rattle.audit_calls.specs.declared.call.AuditedCall.{AuditedCall}
 
--- the number that these digits to the base 256 spell, behind what was spelled before
+-- the number that these digits to the base 256 spell, after what was spelled before
 abbrev pub spelled : ℕ → List ℕ → ℕ
 spelled before [] = before
 spelled before (octet ∷ octets) = spelled (before * 256 + octet) octets

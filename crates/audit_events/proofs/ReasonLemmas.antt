@@ -3,7 +3,7 @@ use Rattle.std.specs.Prelude.{◌≢◌}
 use Rattle.std.proofs.Common.{◌≡◌, ℕ, ◌==◌, Bool, true, false, if◌then◌else◌, not, ◌||◌, List, Option, None, Some, refl, sym, ap, ap₂, subst, ◌∙◌}
 use Rattle.std.proofs.lemmas.Bool.{eqb-true, eqb-false, eq-eqb, ne_eqb}
 use Rattle.std.specs.List.{list_any}
-use Rattle.sd_session.specs.Sessions.{next_session}
+use Rattle.someip_tables.specs.Sessions.{next_session}
 use Rattle.audit_events.specs.declared.notification.Notification.{Notification}
 use Rattle.audit_events.specs.declared.finding.Finding.TheVariants.{Gap, Repeated}
 use Rattle.audit_events.specs.EventRules.{is_skipped}

@@ -6,7 +6,7 @@ use Rattle.std.specs.List.{list_any}
 use Rattle.std.specs.Option.{option_map}
 use Rattle.std.specs.Ordering.{eq_by_cmp}
 use Rattle.std.specs.declared.net.ipv4_addr.Ipv4Addr.{Ipv4Addr}
-use Rattle.sd_session.specs.Sessions.{next_session}
+use Rattle.someip_tables.specs.Sessions.{next_session}
 use Rattle.someip_tables.proofs.Entries.{own_test, same_by_test}
 use Rattle.audit_events.specs.declared.flow.EventFlow.{EventFlow}
 use Rattle.audit_events.specs.declared.notification.Notification.{Notification}

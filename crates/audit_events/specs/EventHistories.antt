@@ -5,7 +5,7 @@ use Rattle.std.specs.List.{list_any}
 use Rattle.std.specs.Ordering.{eq_by_cmp}
 use Rattle.std.specs.FinMap as finite
 use Rattle.std.specs.declared.net.ipv4_addr.Ipv4Addr.{Ipv4Addr}
-use Rattle.sd_session.specs.Sessions.{next_session}
+use Rattle.someip_tables.specs.Sessions.{next_session}
 use Rattle.audit_events.specs.declared.flow.EventFlow.{EventFlow}
 use Rattle.audit_events.specs.declared.last_event.LastEvent.{LastEvent}
 use Rattle.audit_events.specs.declared.notification.Notification.{Notification}

@@ -1,6 +1,6 @@
 -- Why something is told of an event, in plain words. A list of what was shown has the newest first.
 use Rattle.std.specs.Prelude.{◌≡◌, ◌≢◌, ◌⊎◌, ℕ, true, false, List, [], ◌∷◌, ◌++◌, Some}
-use Rattle.sd_session.specs.Sessions.{next_session}
+use Rattle.someip_tables.specs.Sessions.{next_session}
 use Rattle.audit_events.specs.declared.flow.EventFlow.{EventFlow}
 use Rattle.audit_events.specs.declared.notification.Notification.{Notification}
 use Rattle.audit_events.specs.declared.finding.Finding.TheVariants.{Repeated}

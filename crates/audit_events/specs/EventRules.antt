@@ -4,7 +4,7 @@ use Rattle.std.specs.Ordering.{eq_by_cmp}
 use Rattle.std.specs.declared.net.ipv4_addr.Ipv4Addr.{Ipv4Addr}
 use Rattle.std.specs.Net.Addr.{ipv4_octets}
 use Rattle.someip_tables.specs.Endpoints.{address_cmp, endpoint_cmp}
-use Rattle.sd_session.specs.Sessions.{next_session}
+use Rattle.someip_tables.specs.Sessions.{next_session}
 use Rattle.audit_events.specs.declared.flow.EventFlow.{EventFlow}
 use Rattle.audit_events.specs.declared.last_event.LastEvent.{LastEvent}
 use Rattle.audit_events.specs.declared.finding.Finding.{Finding}

@@ -3,7 +3,6 @@ ghost use Rattle.std.specs.Prelude.{◌≡◌, ◌==◌, IfOk, OnErr, if◌then�
 ghost use Rattle.std.specs.FinMap as finite;
 ghost use Rattle.someip_tables.specs.Changed.{each_changed};
 ghost use Rattle.someip_tables.specs.Tables.{map_of};
-ghost use Rattle.sd_session.specs.Sessions.{next_session};
 ghost use Rattle.audit_events.specs.FlowKeys.{flow_cmp};
 ghost use Rattle.audit_events.specs.EventRules.{ahead, disturbed, is_at, is_between, is_group, is_loss};
 ghost use Rattle.audit_events.specs.EventRules.{is_nearer, is_of_service, is_other, judged, nearer, past};
@@ -17,7 +16,7 @@ use crate::finding::Finding;
 use crate::flow::EventFlow;
 use crate::last_event::LastEvent;
 use crate::notification::Notification;
-use someip_tables::is_same_key;
+use someip_tables::{is_same_key, next_session};
 use std::alloc::AllocError;
 use std::collections::BTreeMap;
 use std::net::Ipv4Addr;
@@ -260,13 +259,6 @@ pub(crate) fn renewed(session: u16, last: Option<LastEvent>) -> LastEvent
             nearest: None,
         },
     }
-}
-
-/// The session after a session.
-fn next_session(session: u16) -> u16
-    ensures { result ≡ next_session session }
-{
-    if session == 0xffff { 1 } else { session + 1 }
 }
 
 /// By how many a session is ahead of another.

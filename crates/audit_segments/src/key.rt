@@ -1,12 +1,10 @@
 //! Reassembly keys as keys of tables.
 ghost use Rattle.std.specs.Prelude.{◌≡◌};
 ghost use Rattle.someip_reassembly.specs.Keys.{key_numbers};
-ghost use Rattle.someip_wire.specs.Kinds.{kind_byte};
 ghost use Rattle.audit_segments.specs.MessageKeys.{message_cmp, messages_total, exact_messages};
 
 use someip_reassembly::ReassemblyKey;
 use someip_tables::Key;
-use someip_wire::MessageType;
 use std::cmp::Ordering;
 
 /// A reassembly key, with its order: by source, destination, Message ID, Request ID, Interface Version,
@@ -82,25 +80,7 @@ fn numbers(key: &ReassemblyKey) -> [u16; 7]
         key.client,
         key.session,
         u16::from(key.interface),
-        number_of_kind(key.kind),
+        u16::from(key.kind.number()),
         u16::from(key.code.0),
     ]
-}
-
-/// The number of a type.
-fn number_of_kind(kind: MessageType) -> u16
-    ensures { result ≡ kind_byte kind }
-{
-    match kind {
-        MessageType::Request => 0x00,
-        MessageType::RequestNoReturn => 0x01,
-        MessageType::Notification => 0x02,
-        MessageType::Response => 0x80,
-        MessageType::Error => 0x81,
-        MessageType::TpRequest => 0x20,
-        MessageType::TpRequestNoReturn => 0x21,
-        MessageType::TpNotification => 0x22,
-        MessageType::TpResponse => 0xa0,
-        MessageType::TpError => 0xa1,
-    }
 }

@@ -133,7 +133,7 @@ block_in-spelled : (o own : ByteOrder) (kind : BlockKind) (body bytes rest : Lis
     → block_in o bytes ≡ record { kind = kind; order = own; body = body }
 block_in-spelled o own kind body bytes rest h = rw (h.order_is, h.kind_is, h.frame.total, h.frame.held) refl
 
--- what is known of a block as it is spelled, in a section with these interfaces, and the bytes behind it
+-- what is known of a block as it is spelled, in a section with these interfaces, and the bytes after it
 pub record BlockStep (o : ByteOrder) (interfaces : List Interface) (b : SpelledBlock) (bytes others : List ℕ) : Type 0 where
   pub some : 0 < length bytes
   pub meaning : (p : ℕ) → part_meaning (Blocks o) interfaces p bytes ≡ meaning_of interfaces p (value_by o b)

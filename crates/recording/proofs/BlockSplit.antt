@@ -102,7 +102,7 @@ magic_told n own false false is_a is_b is = absurd cc
 
 -- ---- a block
 
--- the block at the front, and what stands behind it
+-- the block at the front, and what stands after it
 record IsFront (o : ByteOrder) (bytes : List ℕ) : Type 0 where
   pub block : SpelledBlock
   pub rest : List ℕ

@@ -75,7 +75,7 @@ packet_record-spelled c k bytes rest h =
     let captured : take (length k.bytes + 16 - 16) (drop 16 bytes) ≡ k.bytes = rw h.behind (take_at k.bytes rest _ (omega arith)) in
     rw (h.captured, captured, h.seconds, h.fraction) refl
 
--- what is known of a packet as it is spelled, and the bytes behind it
+-- what is known of a packet as it is spelled, and the bytes after it
 pub record PacketStep (c : declared_classic.Classic) (k : PacketValue) (bytes others : List ℕ) : Type 0 where
   pub some : 0 < length bytes
   pub meaning : (p : ℕ) → part_meaning (Classic c) [] p bytes ≡ Ok (Some (given_by c k))
@@ -119,7 +119,7 @@ packets_read c p (k ∷ packets) end rest fits ends =
 
 -- ---- the file
 
--- the bytes behind a magic number
+-- the bytes after a magic number
 abbrev behind_magic : ByteOrder → ℕ → List ℕ → List ℕ → List ℕ
 behind_magic o link free body = free ++ (bytes32 o link ++ body)
 

@@ -27,7 +27,7 @@ IsBytes-range bytes i n fits = IsBytes-take n (drop i bytes) (IsBytes-drop i byt
 pub length-range : (bytes : List ℕ) (i j : ℕ) → j ≤ length bytes → length (slice_range bytes i j) ≡ j - i
 length-range bytes i j le = omega (arith, length-take (j - i) (drop i bytes), length-drop i bytes, le)
 
--- the number in four bytes, and what stands behind it
+-- the number in four bytes, and what stands after it
 pub spells32 : (o : ByteOrder) (bytes xs : List ℕ) (i n : ℕ) → IsBytes bytes → i + 4 ≤ length bytes → n ≡ number32 o bytes i → xs ≡ drop (i + 4) bytes → bytes32 o n ++ xs ≡ drop i bytes
 spells32 Big bytes xs i n fits le is e =
     let len : length (slice_range bytes i (i + 4)) ≡ 4 = omega (arith, length-range bytes i (i + 4) le) in

@@ -203,7 +203,7 @@ meaning-front (Blocks o) interfaces p w r le =
     let within : (total_len o w - 12) + 12 ≤ length w = rw all at le in
     omega (arith, within))
 
--- the interfaces behind a part that is whole
+-- the interfaces after a part that is whole
 section-front : (format : Format) (interfaces : List Interface) (w r : List ℕ) → head_len format ≤ length w → part_len format w ≤ length w
     → section_after format interfaces (w ++ r) ≡ section_after format interfaces w
 section-front (Classic c) interfaces w r le within = refl

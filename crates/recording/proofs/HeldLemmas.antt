@@ -28,7 +28,7 @@ pub held_from-part : (format : Format) (interfaces : List Interface) (p : ℕ) (
     ≡ items_after meaning (held_from (format_after format bytes) (section_after format interfaces bytes) (p + part_len format bytes) (drop (part_len format bytes) bytes))
 held_from-part = within-part held_meaning
 
--- what is left behind a part
+-- what is left after a part
 pub part_behind : (format : Format) (before after : List Interface) (p q : ℕ) (held bytes : List ℕ) (part : Part) → 0 < length bytes → IsPart format before after p held bytes part → q ≡ p + part.len
     → held_from format before p bytes ≡ items_after (Ok (given_in held part.packet)) (held_from part.format after q (drop part.len bytes))
 part_behind format before after p q held bytes part some is place =
@@ -50,7 +50,7 @@ fails_alone (UnknownInterface q) format interfaces p bytes all some is fails = i
 fails_alone (BlockTooLong q) format interfaces p bytes all some is fails = is ∙ fault_alone format interfaces p bytes (BlockTooLong q) some fails
 fails_alone (TooManyInterfaces q) format interfaces p bytes all some is fails = is ∙ fault_alone format interfaces p bytes (TooManyInterfaces q) some fails
 
--- the same from a place of the bytes that are held on, behind which these follow
+-- the same from a place of the bytes that are held on, after which these follow
 pub held_on : (format first : Format) (before after start : List Interface) (p0 len : ℕ) (held rest : List ℕ) (part : Part) → len < length held
     → held_from first start p0 (held ++ rest) ≡ held_from format before (p0 + len) (drop len (held ++ rest))
     → IsPart format before after (p0 + len) (drop len held) (drop len held ++ rest) part

@@ -88,7 +88,7 @@ packets_same c p (k ∷ packets) end rest fits ends held not =
 
 -- ---- pcapng
 
--- how many interfaces a section has behind a block, by its type
+-- how many interfaces a section has after a block, by its type
 by_number : (interfaces : List Interface) (v : BlockValue) (a b c d : Bool)
     → length (interfaces_by (cond a kinds.Interface (cond b kinds.OldPacket (cond c kinds.SimplePacket (cond d kinds.EnhancedPacket kinds.Other)))) interfaces v)
     ≡ cond a (length interfaces + 1) (length interfaces)
@@ -137,7 +137,7 @@ blocks_same o interfaces p (b ∷ blocks) end rest fits ends held few not =
 same_items : (one other : Result (List Item) RecordingError) (items others : List Item) → one ≡ other → one ≡ Ok items → other ≡ Ok others → items ≡ others
 same_items one other items others is is_one is_other = let both : Ok items ≡ Ok others = sym is_one ∙ is ∙ is_other in cc
 
--- a reader gives of a file what a slice gives behind its start
+-- a reader gives of a file what a slice gives after its start
 given_behind : (items : List Item) (file : List ℕ) (format : Format) (n : ℕ) → format_of file ≡ Some (format, n) → Same format [] n (drop n file) → items_of file ≡ Ok items
     → held_of file ≡ items
 given_behind items file format n start same read =

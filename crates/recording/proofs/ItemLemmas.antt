@@ -35,7 +35,7 @@ module _ (means : PartMeaning)
         (enough k n (format_after format (b ∷ bytes)) (section_after format interfaces (b ∷ bytes)) (p + size) (drop size (b ∷ bytes))
         (omega (arith, shorter, some, le)) (omega (arith, shorter, some, le')))
 
-    -- the items of bytes, and of those behind their first part
+    -- the items of bytes, and of those after their first part
     abbrev all : Format → List Interface → ℕ → List ℕ → List Item
     all format interfaces p bytes = items_within means (length bytes) format interfaces p bytes
 

@@ -7,7 +7,7 @@ use Rattle.recording.specs.declared.number.ByteOrder.{ByteOrder}
 use Rattle.recording.specs.Numbers.{number16}
 use Rattle.recording.specs.Interfaces.{value_len, option_len, option_within, option_in}
 
--- what is found, where the options behind the first give this
+-- what is found, where the options after the first give this
 abbrev pub first_or : ByteOrder → ℕ → List ℕ → Option (List ℕ) → Option (List ℕ)
 first_or order code options others =
     cond (ltb (length options) 4) None

@@ -56,7 +56,7 @@ network_at-spelled packet rest p start is long =
 ethernet_read : (packet rest : List ℕ) (p : ℕ) → ethernet_protocol packet ≡ p → drop p packet ≡ 0x08 ∷ 0x00 ∷ rest → p + 2 ≤ length packet → network_place 1 packet ≡ Ok (p + 2)
 ethernet_read packet rest p at is long = rw at (network_at-spelled packet rest p (p + 2) is long)
 
--- IPv4 begins behind the header
+-- IPv4 begins after the header
 place_read : (h : LinkHeader) (ip : List ℕ) → LinkFits h → network_place (link_type h) (link_bytes h ++ ip) ≡ Ok (length (link_bytes h))
 place_read (ethernet addresses) ip fits =
     let packet = (addresses ++ 0x08 ∷ 0x00 ∷ []) ++ ip in
@@ -118,7 +118,7 @@ record IsIp (f : Free) (d : DatagramValue) (ip : List ℕ) : Type 0 where
   pub size : network16 ip (ip_header_len f + 4) ≡ 8 + length d.payload
   pub payload : slice_range ip (ip_header_len f + 8) (ip_header_len f + (8 + length d.payload)) ≡ d.payload
 
--- the first 12 bytes of IPv4, and what stands behind them
+-- the first 12 bytes of IPv4, and what stands after them
 abbrev pub front : Free → DatagramValue → List ℕ → List ℕ
 front f d behind =
     (64 + ip_header_len f / 4) ∷ f.service ∷ (to_be_bytes w16 (ip_len f d)

@@ -18,11 +18,11 @@ use Rattle.recording.proofs.PacketReading.{flat}
 
 -- ---- fields
 
--- a byte, and what stands behind it
+-- a byte, and what stands after it
 spells1 : (bytes xs : List ℕ) (i b : ℕ) → i < length bytes → b ≡ get_or bytes i 0 → xs ≡ drop (i + 1) bytes → b ∷ xs ≡ drop i bytes
 spells1 bytes xs i b lt is e = ap (λ t. b ∷ t) e ∙ ap (λ x. x ∷ drop (i + 1) bytes) is ∙ sym (drop_more bytes i 0 lt)
 
--- the number in two bytes, and what stands behind it
+-- the number in two bytes, and what stands after it
 spells2 : (bytes xs : List ℕ) (i n : ℕ) → IsBytes bytes → i + 2 ≤ length bytes → n ≡ network16 bytes i → xs ≡ drop (i + 2) bytes → to_be_bytes w16 n ++ xs ≡ drop i bytes
 spells2 bytes xs i n fits le is e =
     let len : length (slice_range bytes i (i + 2)) ≡ 2 = omega (arith, length-range bytes i (i + 2) le) in
@@ -53,7 +53,7 @@ network_told packet protocol start place false false is_a is_b is = absurd cc
 network_told packet protocol start place false true is_a is_b is =
     let same : start ≡ place = cc in record { number = eqb-true _ _ is_b; long = ltb-false _ _ is_a; is = sym same }
 
--- the two bytes of the protocol, and what stands behind them
+-- the two bytes of the protocol, and what stands after them
 protocol_bytes : (packet : List ℕ) (protocol : ℕ) → IsBytes packet → protocol + 2 ≤ length packet → network16 packet protocol ≡ 0x0800
     → 0x08 ∷ 0x00 ∷ drop (protocol + 2) packet ≡ drop protocol packet
 protocol_bytes packet protocol fits long number = spells2 packet (drop (protocol + 2) packet) protocol 0x0800 fits long (sym number) refl
@@ -274,7 +274,7 @@ lengths time ip w =
       total = omega (arith, options, payload, behind, w.header, w.least, w.within);
     }
 
--- UDP, and what stands behind it
+-- UDP, and what stands after it
 udp_spells : (time : Option Time) (ip : List ℕ) → IsBytes ip → IsWhole ip
     → udp_bytes (free_in ip) (carried_in time ip) ++ ((free_in ip).behind ++ drop (total_len ip) ip) ≡ drop (header_len ip) ip
 udp_spells time ip fits w =
@@ -292,7 +292,7 @@ udp_spells time ip fits w =
     let to = spells2 ip _ (h + 2) d.to.port fits (omega (arith, long)) refl (size ∙ ap (λ k. drop k ip) (omega arith)) in
     spells2 ip _ h d.from.port fits (omega (arith, long)) refl to
 
--- the packet, and what stands behind it
+-- the packet, and what stands after it
 ip_spells : (time : Option Time) (ip : List ℕ) → IsBytes ip → IsWhole ip → ip_bytes (free_in ip) (carried_in time ip) ++ drop (total_len ip) ip ≡ ip
 ip_spells time ip fits w =
     let h = header_len ip in

@@ -36,14 +36,14 @@ given-behind xs body from to (Some k) is le lies =
     ap (λ (captured : List ℕ). Some (record_of k.time k.link captured))
     (ap (λ (b : List ℕ). slice_range b k.start k.end) is ∙ range-range xs from to k.start k.end lies.0 (omega (arith, le, room, lies.1)))
 
--- a front, and what stands behind a part of it
+-- a front, and what stands after a part of it
 pub take-both : (i m : ℕ) (xs : List ℕ) → take (i + m) xs ≡ take i xs ++ take m (drop i xs)
 take-both i m xs =
     sym (take-append-drop i (take (i + m) xs))
     ∙ ap (λ (front : List ℕ). front ++ drop i (take (i + m) xs)) (take-take i (i + m) xs (omega arith))
     ∙ ap (λ (back : List ℕ). take i xs ++ back) (drop-take i m xs)
 
--- what a list has after room was made behind it, a part of that was written, and the rest was cut
+-- what a list has after room was made after it, a part of that was written, and the rest was cut
 pub written : (bytes zeros whole tail : List ℕ) (held n total room : ℕ) → held ≡ length bytes → length whole ≡ total → held + n ≤ length whole
     → take held whole ≡ take held (take (held + room) bytes ++ zeros) → take (held + n) (take total (whole ++ tail)) ≡ bytes ++ take n (drop held whole)
 written bytes zeros whole tail held n total room is is_total within same =

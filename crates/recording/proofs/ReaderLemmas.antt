@@ -83,7 +83,7 @@ moved before inner after End whole further same next = (
 pub last-moved : (e : RecordingError) (one other : List Item) → one ≡ other → IsLast e other → IsLast e one
 last-moved e one other is last = rw is last
 
--- behind the start of a file the same is to come
+-- after the start of a file the same is to come
 pub opened : (format : Format) (interfaces : List Interface) (p len : ℕ) (bytes : List ℕ) (start : ℕ) (rest : List ℕ) → len ≤ length (drop start bytes)
     → format_of (drop start bytes ++ rest) ≡ Some (format, len)
     → items_by Head interfaces p (drop start bytes ++ rest) ≡ held_from format interfaces (p + len) (drop (start + len) bytes ++ rest)

@@ -11,7 +11,7 @@ use Rattle.recording.specs.Held.{held_meaning}
 abbrev pub held_from : Format → List Interface → ℕ → List ℕ → List Item
 held_from format interfaces p bytes = items_within held_meaning (length bytes) format interfaces p bytes
 
--- the items behind the start of a file, whose first byte has place p
+-- the items after the start of a file, whose first byte has place p
 abbrev pub held_behind : List Interface → ℕ → List ℕ → Option (Format × ℕ) → List Item
 held_behind interfaces p file None = Err (NotRecording 0) ∷ []
 held_behind interfaces p file (Some start) = held_from start.0 interfaces (p + start.1) (drop start.1 file)

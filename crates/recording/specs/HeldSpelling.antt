@@ -17,7 +17,7 @@ IsHeldPacket k = 16 + length k.bytes ≤ held_limit
 abbrev pub IsHeldBlock : SpelledBlock → Type 0
 IsHeldBlock b = 12 + length (body_by b) ≤ held_limit
 
--- how many interfaces its section has behind a block, before which it had n: none at its head, and one more behind the
+-- how many interfaces its section has after a block, before which it had n: none at its head, and one more after the
 -- description of one
 abbrev pub described_by : ℕ → SpelledBlock → ℕ
 described_by n (head own rest) = 0
@@ -28,7 +28,7 @@ abbrev pub HoldsInterfaces : ℕ → List SpelledBlock → Type 0
 HoldsInterfaces n [] = ⊤
 HoldsInterfaces n (b ∷ blocks) = (described_by n b ≤ interface_limit) × HoldsInterfaces (described_by n b) blocks
 
--- a reader holds each of these packets, and the rest behind them, which is no whole one, is not said to have more
+-- a reader holds each of these packets, and the rest after them, which is no whole one, is not said to have more
 pub record HoldsPackets (c : declared_classic.Classic) (packets : List PacketValue) (rest : List ℕ) : Type 0 where
   pub packets_held : AllByRecursion IsHeldPacket packets
   pub rest_held : is_too_long (Classic c) rest ≡ false

@@ -61,7 +61,7 @@ LinkFits raw_ipv4 = Unit {0}
 -- ---- IPv4 and UDP
 
 -- what is not looked at: Type of Service, Identification, the bits of Reserved and Don't Fragment, Time to Live, the
--- checksum of the header, the options, the checksum of UDP, and what IPv4 carries behind the datagram
+-- checksum of the header, the options, the checksum of UDP, and what IPv4 carries after the datagram
 pub record Free : Type 0 where
   pub service : ℕ
   pub identification : ℕ × ℕ
@@ -106,7 +106,7 @@ pub record Fits (f : Free) (d : DatagramValue) : Type 0 where
 
 -- ---- the packet
 
--- the packet carries the datagram, and has something behind it, as Ethernet pads short packets
+-- the packet carries the datagram, and has something after it, as Ethernet pads short packets
 pub record Carries (link : ℕ) (packet : List ℕ) (d : DatagramValue) : Type 0 where
   pub header : LinkHeader
   pub free : Free

@@ -24,14 +24,14 @@ pub data RecordValue : Type 0 where
 abbrev pub is_tag : ℕ → Bool
 is_tag kind = kind == 0x8100 || kind == 0x88a8 || kind == 0x9100
 
--- the place behind the VLAN tag at a place, or that place where there is none
+-- the place after the VLAN tag at a place, or that place where there is none
 abbrev pub after_tag : List ℕ → ℕ → ℕ
 after_tag packet place =
     if nat_lt (length packet) (place + 4) then place
     else (if is_tag (network16 packet place) then place + 4
     else place)
 
--- where the number of the protocol stands in an Ethernet frame: behind up to two tags
+-- where the number of the protocol stands in an Ethernet frame: after up to two tags
 abbrev pub ethernet_protocol : List ℕ → ℕ
 ethernet_protocol packet = after_tag packet (after_tag packet 12)
 

@@ -63,7 +63,7 @@ wanted_by Over bytes = 0
 
 -- what comes next of a reader, as this is answered: a record, which has some bytes, and the others are to come; nothing
 -- that is known yet, since too few bytes are held and others may follow, of which no more are wanted than can be held;
--- nothing. Only behind a record the reader has one.
+-- nothing. Only after a record the reader has one.
 abbrev pub IsNext : ReaderValue → ReaderValue → Next → Type 0
 IsNext before after Record =
     (r : RecordValue) × (after.current ≡ Some r) × (before.place < after.place)

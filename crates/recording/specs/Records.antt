@@ -17,7 +17,7 @@ use Rattle.recording.specs.Sections.{Meaning, meaning_of, interfaces_after}
 abbrev pub Item : Type 0
 Item = Result RecordValue RecordingError
 
--- ---- one packet or block: how long it is, what it says, and the format and the interfaces behind it
+-- ---- one packet or block: how long it is, what it says, and the format and the interfaces after it
 
 -- how many bytes the packet or the block at the front has
 abbrev pub part_len : Format → List ℕ → ℕ
@@ -34,13 +34,13 @@ abbrev pub part_meaning : Format → List Interface → ℕ → List ℕ → Mea
 part_meaning (Classic c) interfaces p bytes = or_fault (packet_fault c p bytes) (Ok (Some (packet_record c bytes)))
 part_meaning (Blocks order) interfaces p bytes = or_fault (block_fault order p bytes) (meaning_of interfaces p (block_in order bytes))
 
--- the format behind the packet or the block at the front: the same, but for the order of numbers that the head of a
+-- the format after the packet or the block at the front: the same, but for the order of numbers that the head of a
 -- section tells
 abbrev pub format_after : Format → List ℕ → Format
 format_after (Classic c) bytes = Classic c
 format_after (Blocks order) bytes = Blocks (order_in order bytes)
 
--- the interfaces behind the packet or the block at the front: a packet of classic pcap changes none
+-- the interfaces after the packet or the block at the front: a packet of classic pcap changes none
 abbrev pub section_after : Format → List Interface → List ℕ → List Interface
 section_after (Classic c) interfaces bytes = interfaces
 section_after (Blocks order) interfaces bytes = interfaces_after interfaces (block_in order bytes)
@@ -87,7 +87,7 @@ format_of file =
     else (if nat_lt (length file) 24 then None
     else classic_format (classic_in file)))
 
--- the items of a file behind its start
+-- the items of a file after its start
 abbrev pub items_behind : List ℕ → Option (Format × ℕ) → Result (List Item) RecordingError
 items_behind file None = Err (NotRecording 0)
 items_behind file (Some start) = Ok (items_from start.0 [] start.1 (drop start.1 file))

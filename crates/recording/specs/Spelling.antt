@@ -77,13 +77,13 @@ classic_list c packets end = map (λ k. Ok (given_by c k)) packets ++ ending end
 
 -- ---- pcapng
 
--- a block: the head of a section in this order, with what its body has behind the byte-order magic; or one of another
+-- a block: the head of a section in this order, with what its body has after the byte-order magic; or one of another
 -- type with its body, in the order of its section
 pub data SpelledBlock : Type 0 where
   head : ByteOrder → List ℕ → SpelledBlock
   plain : ℕ → List ℕ → SpelledBlock
 
--- the order of a block's numbers, behind blocks of this order
+-- the order of a block's numbers, after blocks of this order
 abbrev pub order_by : ByteOrder → SpelledBlock → ByteOrder
 order_by order (head own rest) = own
 order_by order (plain number body) = order
@@ -125,7 +125,7 @@ abbrev pub blocks_bytes : ByteOrder → List SpelledBlock → List ℕ
 blocks_bytes order [] = []
 blocks_bytes order (b ∷ blocks) = block_bytes order b ++ blocks_bytes (order_by order b) blocks
 
--- the order behind blocks
+-- the order after blocks
 abbrev pub last_order : ByteOrder → List SpelledBlock → ByteOrder
 last_order order [] = order
 last_order order (b ∷ blocks) = last_order (order_by order b) blocks

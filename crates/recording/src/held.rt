@@ -27,7 +27,7 @@ const INTERFACES: usize = 65_536;
 pub(crate) struct Told {
     /// The next packet, by where it lies in the held bytes, if they tell one.
     pub(crate) packet: Option<Packet>,
-    /// The format behind what was taken.
+    /// The format after what was taken.
     pub(crate) format: Format,
     /// How many bytes were taken: those of the packet, and of all blocks before it.
     pub(crate) len: usize,

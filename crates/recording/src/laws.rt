@@ -66,7 +66,7 @@ pub fn each_recording_is_read_in_one_way()
 {}
 
 /// A packet that carries a datagram under one of the headers of the link layer that are read gives
-/// this datagram, whatever stands in the fields that are not looked at, and behind it. No other packet
+/// this datagram, whatever stands in the fields that are not looked at, and after it. No other packet
 /// gives one.
 pub fn a_packet_gives_the_datagram_that_it_carries()
     ensures gives { (link : ℕ) (packet : List ℕ) (d : DatagramValue) → Carries link packet d

@@ -113,7 +113,7 @@ fn network_at(packet: &[u8], protocol: usize, start: usize) -> Result<usize, Ski
     Ok(start)
 }
 
-/// Where the number of the protocol stands in an Ethernet frame: behind up to two VLAN tags.
+/// Where the number of the protocol stands in an Ethernet frame: after up to two VLAN tags.
 fn ethernet_protocol(packet: &[u8]) -> usize
     ensures value { result ≡ ethernet_protocol packet.now }
     ensures most { result ≤ 20 }
@@ -121,7 +121,7 @@ fn ethernet_protocol(packet: &[u8]) -> usize
     after_tag(packet, after_tag(packet, 12))
 }
 
-/// The place behind the VLAN tag at a place, or that place where there is none.
+/// The place after the VLAN tag at a place, or that place where there is none.
 fn after_tag(packet: &[u8], place: usize) -> usize
     requires { place ≤ 16 }
     ensures value { result ≡ after_tag packet.now place }

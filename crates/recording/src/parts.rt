@@ -20,7 +20,7 @@ use crate::section::take_block;
 pub(crate) struct Part {
     /// The packet that it is, or that is in it, if there is one.
     pub(crate) packet: Option<Packet>,
-    /// The format behind it.
+    /// The format after it.
     pub(crate) format: Format,
     /// How many bytes it has.
     pub(crate) len: usize,
@@ -31,7 +31,7 @@ pub(crate) struct Part {
 pub(crate) struct Found<'a> {
     /// The record.
     pub(crate) record: Record<'a>,
-    /// The format behind it.
+    /// The format after it.
     pub(crate) format: Format,
     /// Where its packet or block ends.
     pub(crate) end: usize,
@@ -68,7 +68,7 @@ pub(crate) fn next_record<'a>(
 }
 
 /// The packet or the block that these bytes begin with: the rest of a file from a place on. The
-/// interfaces are those behind it.
+/// interfaces are those after it.
 pub(crate) fn front_part(
     format: Format,
     interfaces: &mut Vec<Interface>,

@@ -227,7 +227,7 @@ impl RecordingReader {
     /// An error is one of the read, or of memory, or that a recording of more than 2^64 - 1 bytes was
     /// read.
     pub fn read_from<R: Read>(&mut self, reader: &mut R) -> io::Result<()>
-        // What was read is held behind what was, and nothing else changed.
+        // What was read is held after what was, and nothing else changed.
         ensures read { OnOk result
             (IsAfterRead self.old self.new (R.remaining reader.old) (R.remaining reader.new)) }
         // Nothing was read, and nothing else is to come.
@@ -300,7 +300,7 @@ fn append_read<R: Read>(reader: &mut R, bytes: &mut Vec<u8>) -> io::Result<usize
     read
 }
 
-/// Reads once to the place behind the bytes that are held.
+/// Reads once to the place after the bytes that are held.
 fn read_behind<R: Read>(reader: &mut R, bytes: &mut [u8], held: usize) -> io::Result<usize>
     requires { held ≤ length bytes.old }
     ensures len { length bytes.new ≡ length bytes.old }

@@ -47,14 +47,6 @@ module _ {K X : Type 0} {R : K → K → Ordering} (o : IsTotalOrder R) (exact :
 
 -- ---- what a function finds in a list
 
-pub none_found_in : {A B : Type 0} (f : A → Option B) (xs : List A) → list_any (λ x. is_some (f x)) xs ≡ false → filter_map f xs ≡ []
-none_found_in f [] none = refl
-none_found_in {A = A} {B = B} f (x ∷ xs) none = cases (f x) refl none (none_found_in f xs)
-  where
-    cases : (v : Option B) → f x ≡ v → list_any (λ y. is_some (f y)) (x ∷ xs) ≡ false → (list_any (λ y. is_some (f y)) xs ≡ false → filter_map f xs ≡ []) → filter_map f (x ∷ xs) ≡ []
-    cases None is none rest = rw is (rest (rw is at none))
-    cases (Some y) is none rest = absurd (cc)
-
 pub some_found_in : {A B : Type 0} (f : A → Option B) (xs : List A) → list_any (λ x. is_some (f x)) xs ≡ true → filter_map f xs ≡ [] → ⊥
 some_found_in f [] some none = absurd (cc)
 some_found_in {A = A} {B = B} f (x ∷ xs) some none = cases (f x) refl some none (some_found_in f xs)

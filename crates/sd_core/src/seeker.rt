@@ -8,7 +8,7 @@ ghost use Rattle.someip_tables.specs.Tables.{map_of};
 ghost use Rattle.sd_instances.specs.Keys.{instance_cmp};
 ghost use Rattle.someip_tables.specs.Waits.{HoldsFrom, due_by};
 ghost use Rattle.sd_instances.specs.Sendings.{due_at};
-ghost use Rattle.sd_core.specs.SeekTables.{seek_of, searching, searching_from, seek_after_tick};
+ghost use Rattle.sd_core.specs.SeekTables.{seek_of, searching, seek_after_tick};
 ghost use Rattle.sd_core.specs.SeekTables.{IsQuiet, KnowsWanted, uncounted, counted_as, known_at, learned};
 ghost use Rattle.sd_core.specs.SeekTables.{is_stopped, known_of, forgetting};
 ghost use Rattle.sd_core.specs.Waiting.{want_moment};
@@ -99,7 +99,12 @@ impl Seeker {
     pub fn start(&mut self, delay: u32)
         ensures { self.new ≡ searching delay self.old }
     {
-        search_for_all(&mut self.wants, Sending::first_at(delay));
+        let first = Sending::first_at(delay);
+        self.wants.change_all(|_, want| Want {
+            major: want.major,
+            known: None,
+            finding: Some(first),
+        });
     }
 
     /// What a moment brings: the offers end whose time has passed, and the instances that are searched
@@ -148,7 +153,23 @@ impl Seeker {
         ensures refused { IfErr result (λ cause. uncounted offer.now now self.old ≡ Some cause) }
         ensures unchanged { OnErr result (self.new ≡ self.old) }
     {
-        learn(&mut self.wants, offer, now)
+        let Some(want) = self.wants.get(&offer.instance).copied() else {
+            return Err(Uncounted::Unwanted);
+        };
+        let known = want.known_at(now);
+        let endpoint = admit(want.major, known, offer)?;
+        let value = KnownOffer {
+            peer: offer.peer,
+            endpoint,
+        };
+        let until = Deadline::after_ttl(now, offer.ttl.seconds());
+        let found = Want {
+            major: want.major,
+            known: Some(Lasting { value, until }),
+            finding: None,
+        };
+        self.wants.replace(offer.instance, found);
+        Ok(counted_as(endpoint, known))
     }
 
     /// Ends the offer of an instance by a StopOffer, and says whether one ended: the instance is wanted
@@ -160,7 +181,19 @@ impl Seeker {
             ≡ record self.old { known = finite.remove self.old.known instance }) }
         ensures unchanged { OnFalse result (self.new ≡ self.old) }
     {
-        end_offer(&mut self.wants, instance, major, peer, now)
+        let Some(want) = self.wants.get(&instance).copied() else {
+            return false;
+        };
+        if !want.is_stopped_by(major, peer, now) {
+            return false;
+        }
+        let left = Want {
+            major: want.major,
+            known: None,
+            finding: want.finding,
+        };
+        self.wants.replace(instance, left);
+        true
     }
 
     /// Ends every offer that is known of a peer, since it began again, and answers their instances, by
@@ -191,18 +224,6 @@ impl Seeker {
             None => None,
         }
     }
-}
-
-/// Forgets what is known of every instance, and gives each this first Find.
-fn search_for_all(wants: &mut TimedMap<InstanceId, Want>, first: Sending)
-    ensures { seek_of (map_of instance_cmp wants.new)
-        ≡ searching_from first (seek_of (map_of instance_cmp wants.old)) }
-{
-    wants.change_all(|_, want| Want {
-        major: want.major,
-        known: None,
-        finding: Some(first),
-    });
 }
 
 /// What a moment brings to the instances whose own moment has come, which are these: those whose offer
@@ -264,74 +285,4 @@ fn forget(wants: &mut TimedMap<InstanceId, Want>, known: &[InstanceId], peer: Ip
         ≡ forgetting peer now (seek_of (map_of instance_cmp wants.old)) }
 {
     wants.change_those(known, |_, want| want.without_offer_by(peer, now));
-}
-
-/// Learns from an Offer, if it counts.
-fn learn(
-    wants: &mut TimedMap<InstanceId, Want>,
-    offer: &ReceivedOffer,
-    now: Moment,
-) -> Result<Counted, Uncounted>
-    ensures counts { OnOk result
-        (uncounted offer.now now (seek_of (map_of instance_cmp wants.old)) ≡ None) }
-    ensures counted { IfOk result (λ counted. (endpoint : SocketAddrV4)
-        → offer.now.endpoint ≡ Some endpoint → counted ≡ counted_as endpoint (known_at now
-        (finite.get (seek_of (map_of instance_cmp wants.old)).known offer.now.instance))) }
-    ensures learned { OnOk result ((endpoint : SocketAddrV4) → offer.now.endpoint ≡ Some endpoint
-        → seek_of (map_of instance_cmp wants.new)
-        ≡ learned offer.now endpoint now (seek_of (map_of instance_cmp wants.old))) }
-    ensures refused { IfErr result (λ cause.
-        uncounted offer.now now (seek_of (map_of instance_cmp wants.old)) ≡ Some cause) }
-    ensures unchanged { OnErr result (seek_of (map_of instance_cmp wants.new)
-        ≡ seek_of (map_of instance_cmp wants.old)) }
-{
-    let Some(want) = wants.get(&offer.instance).copied() else {
-        return Err(Uncounted::Unwanted);
-    };
-    let known = want.known_at(now);
-    let endpoint = admit(want.major, known, offer)?;
-    let value = KnownOffer {
-        peer: offer.peer,
-        endpoint,
-    };
-    let until = Deadline::after_ttl(now, offer.ttl.seconds());
-    let found = Want {
-        major: want.major,
-        known: Some(Lasting { value, until }),
-        finding: None,
-    };
-    wants.replace(offer.instance, found);
-    Ok(counted_as(endpoint, known))
-}
-
-/// Ends the offer of an instance, if it is by this peer and the instance is wanted in this version.
-fn end_offer(
-    wants: &mut TimedMap<InstanceId, Want>,
-    instance: InstanceId,
-    major: u8,
-    peer: Ipv4Addr,
-    now: Moment,
-) -> bool
-    ensures ended { result ≡ is_stopped instance major peer now
-        (seek_of (map_of instance_cmp wants.old)) }
-    ensures gone { OnTrue result (seek_of (map_of instance_cmp wants.new)
-        ≡ record (seek_of (map_of instance_cmp wants.old)) {
-          known = finite.remove (seek_of (map_of instance_cmp wants.old)).known instance;
-        }) }
-    ensures unchanged { OnFalse result (seek_of (map_of instance_cmp wants.new)
-        ≡ seek_of (map_of instance_cmp wants.old)) }
-{
-    let Some(want) = wants.get(&instance).copied() else {
-        return false;
-    };
-    if !want.is_stopped_by(major, peer, now) {
-        return false;
-    }
-    let left = Want {
-        major: want.major,
-        known: None,
-        finding: want.finding,
-    };
-    wants.replace(instance, left);
-    true
 }

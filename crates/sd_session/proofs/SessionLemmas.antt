@@ -6,10 +6,6 @@ use Rattle.std.proofs.lemmas.Bool.{eqb-true, eqb-false, lt-ltb, le-ltb, ltb-true
 use Rattle.sd_session.specs.declared.stamp.Stamp.{Stamp}
 use Rattle.sd_session.specs.Sessions.{after_uses, following}
 
--- the session and the flag after n uses
-stamp_at : ℕ → ℕ → Bool → Stamp
-stamp_at n session reboot = record { session = session; reboot = reboot }
-
 session_step : (n : ℕ) (wraps : Bool) → (n % 65535 + 1 == 0xffff) ≡ wraps → (if wraps then 1 else n % 65535 + 1 + 1) ≡ suc n % 65535 + 1
 session_step n true is =
     let last : n % 65535 + 1 ≡ 65535 = eqb-true (n % 65535 + 1) 65535 is in

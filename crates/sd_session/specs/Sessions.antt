@@ -1,10 +1,7 @@
 -- Session IDs and the Reboot flag (SOME/IP Service Discovery Protocol, "Session ID", "Reboot flag", "Detection of reboots").
-use Rattle.std.specs.Prelude.{ℕ, zero, suc, ◌+◌, ◌==◌, nat_le, Bool, true, not, ◌&&◌, ◌||◌, if◌then◌else◌}
+use Rattle.std.specs.Prelude.{ℕ, zero, suc, ◌==◌, nat_le, Bool, true, not, ◌&&◌, ◌||◌}
+use Rattle.someip_tables.specs.Sessions.{next_session}
 use Rattle.sd_session.specs.declared.stamp.Stamp.{Stamp}
-
--- the session after a session: FFFF is followed by 1, and 0 is never given
-abbrev pub next_session : ℕ → ℕ
-next_session session = if session == 0xffff then 1 else session + 1
 
 -- the first message of a counter
 abbrev pub first : Stamp

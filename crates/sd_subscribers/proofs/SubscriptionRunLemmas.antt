@@ -253,7 +253,7 @@ past_all {X = X} xs i end = let left = length-drop i xs in none_left (drop i xs)
     none_left [] none = refl
     none_left (y ∷ ys) none = absurd (omega arith)
 
--- one that stands behind others stands among all
+-- one that stands after others stands among all
 pub any_behind : {X : Type 0} (t : X → Bool) (i : ℕ) (xs : List X) → list_any t (drop i xs) ≡ true → list_any t xs ≡ true
 any_behind t zero xs is = is
 any_behind t (suc i) [] is = is

@@ -5,7 +5,7 @@ use Rattle.sd_wire.specs.declared.option.SdOption.TheVariants.{Endpoint4}
 use Rattle.sd_wire.specs.declared.entry.ServiceKind.TheVariants.{Offer}
 use Rattle.sd_wire.specs.declared.entry.EntryHead.{EntryHead}
 use Rattle.sd_wire.specs.declared.entry.EntryHead.TheVariants.{Service}
-use Rattle.sd_wire.specs.Values.{EntryValue, good, bad_run, SdValue, SdMessageValue}
+use Rattle.sd_wire.specs.contents.Values.{EntryValue, good, bad_run, SdValue, SdMessageValue}
 
 -- UDP at 192.168.0.1:30509
 abbrev pub endpoint_option : SdOption

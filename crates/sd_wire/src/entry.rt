@@ -1,6 +1,6 @@
 //! Entries (SOME/IP Service Discovery, "Entry Format").
 ghost use Rattle.std.specs.Prelude.{◌≡◌, ◌<◌, ◌≤◌, ◌%◌, ◌↔◌, IsTrue, Some, None};
-ghost use Rattle.sd_wire.specs.Kinds.{is_find, is_offer, is_stop_offer, is_subscribe, is_stop_subscribe, is_ack, is_nack};
+ghost use Rattle.sd_wire.specs.contents.Kinds.{is_find, is_offer, is_stop_offer, is_subscribe, is_stop_subscribe, is_ack, is_nack};
 ghost use Rattle.sd_wire.specs.declared.entry.ServiceKind.TheVariants.{Find, Offer};
 ghost use Rattle.sd_wire.specs.declared.entry.EventgroupKind.TheVariants.{Subscribe, Ack};
 

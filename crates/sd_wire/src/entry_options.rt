@@ -1,7 +1,7 @@
 //! The options of an entry (SOME/IP Service Discovery, "Referencing Options from Entries").
 ghost use Rattle.std.specs.Prelude.{◌≡◌};
-ghost use Rattle.sd_wire.specs.Values.{view_entry};
-ghost use Rattle.sd_wire.specs.Endpoints.{options_of, udp_endpoint, first_udp_endpoint};
+ghost use Rattle.sd_wire.specs.contents.Values.{view_entry};
+ghost use Rattle.sd_wire.specs.contents.Endpoints.{options_of, udp_endpoint, first_udp_endpoint};
 
 use crate::endpoint::Protocol;
 use crate::entry::Entry;

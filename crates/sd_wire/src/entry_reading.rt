@@ -1,11 +1,11 @@
 //! Entries from bytes.
 ghost use Rattle.std.specs.Prelude.{◌≡◌, ◌≤◌, ◌+◌, ◌*◌, ◌/◌, ◌%◌, false, None, length, map, IfOk, IfErr, OnOk, Some};
 ghost use Rattle.sd_wire.specs.declared.error.SdError.{SdError};
-ghost use Rattle.sd_wire.specs.Values.{view_read};
-ghost use Rattle.sd_wire.specs.Steps.{IsReadingError};
-ghost use Rattle.sd_wire.specs.Reading.{passes_pool, selected};
-ghost use Rattle.sd_wire.specs.Faults.{is_entry_type};
-ghost use Rattle.sd_wire.specs.Program.{type_fault, service_entry_in, eventgroup_entry_in, head_in, entry_in, entry_list};
+ghost use Rattle.sd_wire.specs.contents.Values.{view_read};
+ghost use Rattle.sd_wire.specs.decoding.Steps.{IsReadingError};
+ghost use Rattle.sd_wire.specs.decoding.Reading.{passes_pool, selected};
+ghost use Rattle.sd_wire.specs.decoding.Faults.{is_entry_type};
+ghost use Rattle.sd_wire.specs.decoding.Program.{type_fault, service_entry_in, eventgroup_entry_in, head_in, entry_in, entry_list};
 
 use crate::entry::{
     Entry, EntryHead, EventgroupEntry, EventgroupKind, ServiceEntry, ServiceKind,

@@ -1,9 +1,9 @@
 //! The bytes of entries.
 ghost use Rattle.std.specs.Prelude.{◌≡◌, ◌<◌, ◌≤◌, ◌^◌, ◌+◌, ◌*◌, ◌++◌, ◌∷◌, length, take, drop};
-ghost use Rattle.sd_wire.specs.Spelling.{RunsFit, service_type, eventgroup_type, entry_bytes, ServiceFits, EventgroupFits, HeadFits};
+ghost use Rattle.sd_wire.specs.layout.Spelling.{RunsFit, service_type, eventgroup_type, entry_bytes, ServiceFits, EventgroupFits, HeadFits};
 ghost use Rattle.sd_wire.specs.declared.entry.EntryHead.TheVariants.{Service, Eventgroup};
-ghost use Rattle.sd_wire.specs.Fields.{number16, number24};
-ghost use Rattle.sd_wire.specs.Written.{view_runs};
+ghost use Rattle.sd_wire.specs.layout.Fields.{number16, number24};
+ghost use Rattle.sd_wire.specs.encoding.Written.{view_runs};
 
 use crate::entry::{EntryHead, EventgroupEntry, EventgroupKind, ServiceEntry, ServiceKind};
 use crate::ttl::Ttl;

@@ -1,6 +1,6 @@
 //! Why a Service Discovery message is not read or not written.
 ghost use Rattle.std.specs.Prelude.{◌≡◌};
-ghost use Rattle.sd_wire.specs.Faults.{fault_name, fault_place};
+ghost use Rattle.sd_wire.specs.decoding.Faults.{fault_name, fault_place};
 ghost use Rattle.sd_wire.specs.declared.error.SdError.TheVariants.{OutOfMemory};
 
 use std::alloc::{AllocError, AllocFailed};

@@ -1,6 +1,6 @@
 //! Numbers in fields, the highest byte first.
 ghost use Rattle.std.specs.Prelude.{◌≡◌, ◌≤◌, ◌+◌, ◌<◌, ◌^◌, length};
-ghost use Rattle.sd_wire.specs.Fields.{field16, field24, field32};
+ghost use Rattle.sd_wire.specs.layout.Fields.{field16, field24, field32};
 
 /// The number in the two bytes at a place.
 pub(crate) fn u16_at(bytes: &[u8], i: usize) -> u16

@@ -1,6 +1,6 @@
 //! The flags of a Service Discovery message (SOME/IP Service Discovery, "SOME/IP-SD Header").
 ghost use Rattle.std.specs.Prelude.{◌≡◌, [], ◌∷◌, map, codes};
-ghost use Rattle.sd_wire.specs.Fields.{flags_byte, flags_in};
+ghost use Rattle.sd_wire.specs.layout.Fields.{flags_byte, flags_in};
 
 use bitflags::{Flag, Flags};
 

@@ -1,6 +1,6 @@
 //! Options (SOME/IP Service Discovery, "Options Format").
 ghost use Rattle.std.specs.Prelude.{◌≡◌, Some, None};
-ghost use Rattle.sd_wire.specs.Raw.{RawValue, IsRaw, layout_len};
+ghost use Rattle.sd_wire.specs.contents.Raw.{RawValue, IsRaw, layout_len};
 
 use crate::endpoint::{Ipv4Endpoint, Ipv6Endpoint};
 use std::alloc::AllocError;
@@ -18,7 +18,7 @@ pub struct RawOption {
 }
 
 impl Model for RawOption {
-    ghost use Rattle.sd_wire.specs.Raw.{RawValue, IsRaw};
+    ghost use Rattle.sd_wire.specs.contents.Raw.{RawValue, IsRaw};
 
     ghost Value = { RawValue };
 
@@ -68,7 +68,7 @@ impl RawOption {
 impl PartialEq for RawOption {
     ghost use Rattle.std.specs.Cmp.Rules.{comparing};
     ghost use Rattle.std.proofs.Common.{rules};
-    ghost use Rattle.sd_wire.specs.Raw.{raw_eq};
+    ghost use Rattle.sd_wire.specs.contents.Raw.{raw_eq};
 
     ghost eq = { raw_eq };
 

@@ -1,10 +1,10 @@
 //! Options from bytes.
 ghost use Rattle.std.specs.Prelude.{◌≡◌, ◌≤◌, ◌<◌, ◌+◌, ◌^◌, ◌==◌, true, false, length, slice_index, IfOk, IfErr, IfSome};
 ghost use Rattle.sd_wire.specs.declared.error.SdError.TheVariants.{OutOfMemory};
-ghost use Rattle.sd_wire.specs.Raw.{has_layout};
-ghost use Rattle.sd_wire.specs.Steps.{Gives, IsReadingError};
-ghost use Rattle.sd_wire.specs.Faults.{has_len, option_size};
-ghost use Rattle.sd_wire.specs.Program.{HasOption, ipv4_in, ipv6_in, option_in, options_from};
+ghost use Rattle.sd_wire.specs.contents.Raw.{has_layout};
+ghost use Rattle.sd_wire.specs.decoding.Steps.{Gives, IsReadingError};
+ghost use Rattle.sd_wire.specs.decoding.Faults.{has_len, option_size};
+ghost use Rattle.sd_wire.specs.decoding.Program.{HasOption, ipv4_in, ipv6_in, option_in, options_from};
 
 use crate::endpoint::{Ipv4Endpoint, Ipv6Endpoint, Protocol};
 use crate::error::SdError;

@@ -1,8 +1,8 @@
 //! The bytes of options.
 ghost use Rattle.std.specs.Prelude.{◌≡◌, ◌<◌, ◌≤◌, ◌^◌, ◌+◌, ◌++◌, ℕ, length, slice_index, OnOk};
 ghost use Rattle.std.specs.Net.Addr.{ipv4_octets, ipv6_octets, IsIpv4Addr, IsIpv6Addr};
-ghost use Rattle.sd_wire.specs.Fields.{IsBytes};
-ghost use Rattle.sd_wire.specs.Spelling.{ipv4_bytes, ipv6_bytes, option_bytes, Ipv4Fits, Ipv6Fits, RawFits, OptionFits};
+ghost use Rattle.sd_wire.specs.layout.Fields.{IsBytes};
+ghost use Rattle.sd_wire.specs.layout.Spelling.{ipv4_bytes, ipv6_bytes, option_bytes, Ipv4Fits, Ipv6Fits, RawFits, OptionFits};
 ghost use Rattle.sd_wire.specs.declared.option.SdOption.TheVariants.{LoadBalancing, Raw};
 
 use crate::endpoint::{Ipv4Endpoint, Ipv6Endpoint, Protocol};

@@ -1,10 +1,10 @@
 //! Entries and the pool of options that their runs are taken from.
 ghost use Rattle.std.specs.Prelude.{◌≡◌, ◌<◌, ◌≤◌, ◌^◌, ◌*◌, length, map, [], IfOk, IfErr};
 ghost use Rattle.std.specs.List.{AllByRecursion};
-ghost use Rattle.sd_wire.specs.Values.{view_entry};
-ghost use Rattle.sd_wire.specs.Spelling.{OptionFits, HeadFits};
-ghost use Rattle.sd_wire.specs.Writing.{PlacesEntry, Packs, pool_bytes};
-ghost use Rattle.sd_wire.specs.Written.{view_runs, IsPlaceError, IsPackError};
+ghost use Rattle.sd_wire.specs.contents.Values.{view_entry};
+ghost use Rattle.sd_wire.specs.layout.Spelling.{OptionFits, HeadFits};
+ghost use Rattle.sd_wire.specs.encoding.Writing.{PlacesEntry, Packs, pool_bytes};
+ghost use Rattle.sd_wire.specs.encoding.Written.{view_runs, IsPlaceError, IsPackError};
 
 use crate::entry::Entry;
 use crate::entry_writing::{RunFields, entry_text};

@@ -1,6 +1,6 @@
 //! The pool of options that the runs of entries are written from.
 ghost use Rattle.std.specs.Prelude.{◌≡◌, ◌<◌, ◌↔◌, IsTrue, length, take, ◌++◌, IfOk, IfSome, IfNone};
-ghost use Rattle.sd_wire.specs.Writing.{IsLeast, IsNowhere, Stands};
+ghost use Rattle.sd_wire.specs.encoding.Writing.{IsLeast, IsNowhere, Stands};
 
 use crate::option::SdOption;
 use std::alloc::AllocError;

@@ -1,13 +1,13 @@
 //! Messages from bytes (SOME/IP Service Discovery, "SOME/IP-SD Header").
 ghost use Rattle.std.specs.Prelude.{◌≡◌, ◌≤◌, ◌+◌, ◌*◌, Some, None, Ok, Err, length, IfOk, IfErr, OnOk};
 ghost use Rattle.sd_wire.specs.declared.error.SdError.{SdError};
-ghost use Rattle.sd_wire.specs.Values.{SdValue, view_sd};
-ghost use Rattle.sd_wire.specs.Reading.{Sd};
-ghost use Rattle.sd_wire.specs.Faults.{SdFault, IsFirstFault, fault_place};
-ghost use Rattle.sd_wire.specs.Steps.{Gives, IsReadingError};
-ghost use Rattle.sd_wire.specs.Layout.{options_place};
-ghost use Rattle.sd_wire.specs.Faults.{header_fault};
-ghost use Rattle.sd_wire.specs.Program.{reading};
+ghost use Rattle.sd_wire.specs.contents.Values.{SdValue, view_sd};
+ghost use Rattle.sd_wire.specs.decoding.Reading.{Sd};
+ghost use Rattle.sd_wire.specs.decoding.Faults.{SdFault, IsFirstFault, fault_place};
+ghost use Rattle.sd_wire.specs.decoding.Steps.{Gives, IsReadingError};
+ghost use Rattle.sd_wire.specs.layout.Layout.{options_place};
+ghost use Rattle.sd_wire.specs.decoding.Faults.{header_fault};
+ghost use Rattle.sd_wire.specs.decoding.Program.{reading};
 
 use crate::entry_reading::{check_types, read_entries};
 use crate::error::SdError;

@@ -1,11 +1,11 @@
 //! Entries split into messages that fit a datagram.
 ghost use Rattle.std.specs.Prelude.{◌≡◌, ◌<◌, ◌≤◌, ◌+◌, ◌*◌, ◌^◌, ℕ, List, length, map, IfOk, IfErr, IfSome};
 ghost use Rattle.sd_wire.specs.declared.error.SdError.TheVariants.{OutOfMemory};
-ghost use Rattle.sd_wire.specs.Values.{view_entry};
-ghost use Rattle.sd_wire.specs.Writing.{pool_bytes};
-ghost use Rattle.sd_wire.specs.Splitting.{IsLongestFront, AreFronts};
-ghost use Rattle.sd_wire.specs.Fronts.{front_lengths};
-ghost use Rattle.sd_wire.specs.Written.{IsGrown};
+ghost use Rattle.sd_wire.specs.contents.Values.{view_entry};
+ghost use Rattle.sd_wire.specs.encoding.Writing.{pool_bytes};
+ghost use Rattle.sd_wire.specs.fronts.Splitting.{IsLongestFront, AreFronts};
+ghost use Rattle.sd_wire.specs.fronts.Fronts.{front_lengths};
+ghost use Rattle.sd_wire.specs.encoding.Written.{IsGrown};
 
 use crate::entry::Entry;
 use crate::entry_reading::ENTRY_LEN;

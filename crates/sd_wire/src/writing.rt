@@ -1,15 +1,15 @@
 //! The bytes of messages (SOME/IP Service Discovery, "SOME/IP-SD Header").
 ghost use Rattle.std.specs.Prelude.{◌≡◌, ◌<◌, ◌≤◌, ◌^◌, ◌+◌, ◌++◌, ℕ, List, length, IfOk, IfErr, OnOk, OnErr, Some};
 ghost use Rattle.sd_wire.specs.declared.error.SdError.TheVariants.{OutOfMemory};
-ghost use Rattle.sd_wire.specs.Fields.{flags_byte, number32};
-ghost use Rattle.sd_wire.specs.Spelling.{sd_bytes};
-ghost use Rattle.sd_wire.specs.Values.{view_message};
-ghost use Rattle.sd_wire.specs.Reading.{Sd};
-ghost use Rattle.sd_wire.specs.Writing.{WritesSd, TooMany, IsWriteError, as_read};
-ghost use Rattle.sd_wire.specs.Written.{Appends, Refuses, HasNoBytes};
+ghost use Rattle.sd_wire.specs.layout.Fields.{flags_byte, number32};
+ghost use Rattle.sd_wire.specs.layout.Spelling.{sd_bytes};
+ghost use Rattle.sd_wire.specs.contents.Values.{view_message};
+ghost use Rattle.sd_wire.specs.decoding.Reading.{Sd};
+ghost use Rattle.sd_wire.specs.encoding.Writing.{WritesSd, TooMany, IsWriteError, as_read};
+ghost use Rattle.sd_wire.specs.encoding.Written.{Appends, Refuses, HasNoBytes};
 ghost use Rattle.std.specs.Option.{option_map};
-ghost use Rattle.sd_wire.specs.Encoding.{message_bytes};
-ghost use Rattle.sd_wire.specs.Splitting.{FitsDatagram};
+ghost use Rattle.sd_wire.specs.encoding.Encoding.{message_bytes};
+ghost use Rattle.sd_wire.specs.fronts.Splitting.{FitsDatagram};
 
 use crate::error::SdError;
 use crate::flags::SdFlags;

@@ -9,16 +9,17 @@ use Rattle.sd_wire.specs.declared.entry.EntryHead.TheVariants.{Service, Eventgro
 use Rattle.sd_wire.specs.declared.entry.ServiceEntry.{ServiceEntry}
 use Rattle.sd_wire.specs.declared.entry.ServiceKind.{ServiceKind}
 use Rattle.sd_wire.specs.declared.entry.ServiceKind.TheVariants.{Find, Offer}
-use Rattle.sd_wire.specs.Endpoints.{first_udp_endpoint, options_of}
+use Rattle.sd_wire.specs.contents.Endpoints.{first_udp_endpoint, options_of}
 use Rattle.sd_wire.specs.declared.message.ReadEntry.{ReadEntry}
-use Rattle.sd_wire.specs.Values.{ReadValue, SdValue, good, bad_run, view_read}
+use Rattle.sd_wire.specs.contents.Values.{ReadValue, SdValue, good, bad_run, view_read}
 use Rattle.audit_sessions.specs.declared.message.SdMessage.{SdMessage}
 use Rattle.someip_audit.specs.BooksHeld.{Held}
+use Rattle.someip_wire.specs.Discovery.{is_notification}
 use Rattle.someip_wire.specs.declared.header.Header.{Header}
 use Rattle.someip_wire.specs.declared.error.WireError.{WireError}
 use Rattle.someip_wire.specs.Kinds.{has_tp_flag}
 use Rattle.someip_wire.specs.Spelling.{MessageValue}
-use Rattle.sd_wire.specs.Program.{reading}
+use Rattle.sd_wire.specs.decoding.Program.{reading}
 use Rattle.someip_segments.specs.declared.error.TpError.{TpError}
 use Rattle.audit_tables.specs.declared.origin.Origin.{Origin}
 use Rattle.audit_receivers.specs.ReceiverTables as receivers
@@ -30,7 +31,7 @@ use Rattle.someip_wire.specs.Reading.{items_of}
 use Rattle.someip_audit.specs.Audits.{Seen, datagram_shown, seen_work, without_passed}
 use Rattle.someip_audit.specs.WatchedEndpoints.{is_looked_at}
 use Rattle.someip_audit.specs.AnyShown.{any_shown, in_datagram, is_sd, item_len, item_shown, items_shown, payload_shown}
-use Rattle.someip_audit.specs.MessageShown.{call_shown, delivery, event_flow, event_seen, event_shown, flow_shown, has_no_tp_header, has_type_event, is_event, message_shown, piece_shown, segment_held, segment_shown, segment_told, whole_shown}
+use Rattle.someip_audit.specs.MessageShown.{call_shown, delivery, event_flow, event_seen, event_shown, flow_shown, has_no_tp_header, is_event, message_shown, piece_shown, segment_held, segment_shown, segment_told, whole_shown}
 use Rattle.audit_subscriptions.specs.declared.entry.SubscribeEntry.{SubscribeEntry}
 use Rattle.audit_receivers.specs.declared.entry.ReceiverEntry.{ReceiverEntry}
 use Rattle.someip_audit.specs.declared.finding.Finding.{Finding}
@@ -184,7 +185,7 @@ event_front now origin header work = cases (is_event origin header)
     cases false = front_same work.told
 
 flow_front : (origin : Origin) (header : Header) (work : Work) → IsFront work.told (flow_shown origin header work).told
-flow_front origin header work = cases (has_type_event header.kind)
+flow_front origin header work = cases (is_notification header.kind)
   where
     cases : (b : Bool)
         → IsFront work.told

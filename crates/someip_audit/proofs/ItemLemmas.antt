@@ -8,9 +8,9 @@ use Rattle.someip_wire.specs.Datagram.{Datagram, items}
 use Rattle.std.proofs.lemmas.List.{append-nil}
 use Rattle.someip_wire.proofs.MessageLemmas.{length_spelled}
 use Rattle.sd_wire.specs.declared.error.SdError.{SdError}
-use Rattle.sd_wire.specs.Faults.{fault_place}
-use Rattle.sd_wire.specs.Program.{reading}
-use Rattle.sd_wire.proofs.PlaceLemmas.{fault_within}
+use Rattle.sd_wire.specs.decoding.Faults.{fault_place}
+use Rattle.sd_wire.specs.decoding.Program.{reading}
+use Rattle.sd_wire.proofs.decoding.PlaceLemmas.{fault_within}
 use Rattle.someip_audit.specs.AnyShown.{item_count, item_len}
 
 -- how many bytes items take

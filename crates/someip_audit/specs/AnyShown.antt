@@ -1,23 +1,24 @@
 -- What any message of a recording, and a datagram of several, show over all books.
-use Rattle.std.specs.Prelude.{ℕ, ◌+◌, ◌==◌, Bool, ◌&&◌, if◌then◌else◌, List, [], ◌∷◌, length, Some, Result, Ok, Err}
+use Rattle.std.specs.Prelude.{ℕ, ◌+◌, Bool, ◌&&◌, if◌then◌else◌, List, [], ◌∷◌, length, Some, Result, Ok, Err}
 use Rattle.someip_wire.specs.declared.error.WireError.{WireError}
 use Rattle.someip_wire.specs.declared.header.Header.{Header}
+use Rattle.someip_wire.specs.Discovery.{is_discovery}
 use Rattle.someip_wire.specs.Spelling.{MessageValue, spelling}
 use Rattle.sd_wire.specs.declared.error.SdError.{SdError}
 use Rattle.sd_wire.specs.declared.error.SdError.TheVariants as faults
-use Rattle.sd_wire.specs.Program.{reading}
-use Rattle.sd_wire.specs.Values.{SdValue}
+use Rattle.sd_wire.specs.decoding.Program.{reading}
+use Rattle.sd_wire.specs.contents.Values.{SdValue}
 use Rattle.audit_tables.specs.declared.origin.Origin.{Origin}
 use Rattle.someip_audit.specs.declared.finding.Finding.TheVariants as findings
-use Rattle.someip_audit.specs.MessageShown.{has_type_event, message_shown}
+use Rattle.someip_audit.specs.MessageShown.{message_shown}
 use Rattle.someip_audit.specs.SdShown.{Work, sd_shown, with_told}
 use Rattle.someip_audit.specs.WatchedEndpoints.{is_at_discovery}
 
 -- ---- a message
 
--- a message is one of Service Discovery: from or to port 30490, a NOTIFICATION with the Message ID FFFF8100 and interface 1
+-- a message is one of Service Discovery: it has the header of one, and goes from or to port 30490
 abbrev pub is_sd : Origin → Header → Bool
-is_sd origin header = is_at_discovery origin && ((header.service == 0xFFFF && header.method == 0x8100) && (header.interface == 1 && has_type_event header.kind))
+is_sd origin header = is_at_discovery origin && is_discovery header
 
 -- a fault of a payload that begins at this place of its datagram, with its place from the datagram's first byte
 abbrev pub in_datagram : ℕ → SdError → SdError

@@ -4,8 +4,7 @@ use Rattle.std.specs.Net.Addr.{ipv4_octets}
 use Rattle.std.specs.Net.Socket.{v4_ip}
 use Rattle.std.specs.declared.net.socket_addr.SocketAddrV4.{SocketAddrV4}
 use Rattle.someip_wire.specs.declared.header.Header.{Header}
-use Rattle.someip_wire.specs.declared.header.MessageType.{MessageType}
-use Rattle.someip_wire.specs.declared.header.MessageType.TheVariants.{Notification}
+use Rattle.someip_wire.specs.Discovery.{is_notification}
 use Rattle.someip_wire.specs.Kinds.{has_tp_flag}
 use Rattle.someip_wire.specs.Spelling.{MessageValue}
 use Rattle.someip_segments.specs.declared.error.TpError.{TpError}
@@ -40,12 +39,8 @@ abbrev pub is_unicast : SocketAddrV4 → Bool
 is_unicast endpoint = nat_lt (slice_index (ipv4_octets (v4_ip endpoint)) 0) 224
 
 -- a message is an event to one endpoint
-abbrev pub has_type_event : MessageType → Bool
-has_type_event Notification = true
-has_type_event _ = false
-
 abbrev pub is_event : Origin → Header → Bool
-is_event origin header = has_type_event header.kind && is_unicast origin.to
+is_event origin header = is_notification header.kind && is_unicast origin.to
 
 -- the event that it is
 abbrev pub delivery : Origin → Header → Delivery
@@ -71,7 +66,7 @@ event_seen origin header = record { flow = event_flow origin header; session = h
 -- what it shows by its session
 abbrev pub flow_shown : Origin → Header → Work → Work
 flow_shown origin header work =
-    if has_type_event header.kind
+    if is_notification header.kind
     then record {
       held = record work.held { events = events.after_event (event_seen origin header) work.held.events };
       told = with_told (option_map (findings.EventSession (event_flow origin header) header.session) (events.told_by (event_seen origin header) work.held.events)) work.told;

@@ -7,7 +7,7 @@ use Rattle.sd_wire.specs.declared.entry.EntryHead.TheVariants.{Service}
 use Rattle.sd_wire.specs.declared.entry.ServiceEntry.{ServiceEntry}
 use Rattle.sd_wire.specs.declared.entry.ServiceKind.{ServiceKind}
 use Rattle.sd_wire.specs.declared.option.SdOption.TheVariants.{Endpoint4}
-use Rattle.sd_wire.specs.Values.{ReadValue, good}
+use Rattle.sd_wire.specs.contents.Values.{ReadValue, good}
 use Rattle.someip_wire.specs.declared.header.Header.{Header}
 use Rattle.someip_wire.specs.declared.header.MessageType.TheVariants as kinds
 use Rattle.someip_tables.specs.declared.deadline.Deadline.TheVariants.{At}

@@ -7,8 +7,8 @@ use Rattle.sd_wire.specs.declared.entry.EntryHead.TheVariants.{Service, Eventgro
 use Rattle.sd_wire.specs.declared.entry.ServiceEntry.{ServiceEntry}
 use Rattle.sd_wire.specs.declared.entry.ServiceKind.{ServiceKind}
 use Rattle.sd_wire.specs.declared.entry.ServiceKind.TheVariants.{Find, Offer}
-use Rattle.sd_wire.specs.Endpoints.{first_udp_endpoint, options_of}
-use Rattle.sd_wire.specs.Values.{ReadValue, SdValue, good, bad_run}
+use Rattle.sd_wire.specs.contents.Endpoints.{first_udp_endpoint, options_of}
+use Rattle.sd_wire.specs.contents.Values.{ReadValue, SdValue, good, bad_run}
 use Rattle.audit_tables.specs.declared.origin.Origin.{Origin}
 use Rattle.audit_sessions.specs.declared.message.SdMessage.{SdMessage}
 use Rattle.audit_sessions.specs.declared.finding.Finding.{Finding as SessionFinding}

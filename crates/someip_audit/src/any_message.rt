@@ -2,9 +2,9 @@
 ghost use Rattle.std.specs.Prelude.{◌≡◌, ◌≤◌, ◌+◌, length, IfOk, OnErr, OnOk};
 ghost use Rattle.std.specs.Result.{result_map_both};
 ghost use Rattle.someip_wire.specs.View.{view};
-ghost use Rattle.sd_wire.specs.Faults.{fault_place};
-ghost use Rattle.sd_wire.specs.Program.{reading};
-ghost use Rattle.sd_wire.specs.Values.{view_sd};
+ghost use Rattle.sd_wire.specs.decoding.Faults.{fault_place};
+ghost use Rattle.sd_wire.specs.decoding.Program.{reading};
+ghost use Rattle.sd_wire.specs.contents.Values.{view_sd};
 ghost use Rattle.someip_audit.specs.AnyShown.{any_shown, in_datagram, is_sd, payload_shown};
 ghost use Rattle.someip_audit.specs.SdShown.{IsBegun, working};
 
@@ -16,7 +16,7 @@ use audit_tables::Origin;
 use sd_wire::{SdError, SdRead, read_sd};
 use someip_reassembly::Reassembly;
 use someip_tables::Moment;
-use someip_wire::{Header, Message, MessageType};
+use someip_wire::{Header, Message};
 use std::alloc::{AllocError, Global};
 
 impl<S: Reassembly> Books<S> {
@@ -86,11 +86,7 @@ impl<S: Reassembly> Books<S> {
 fn is_sd(origin: &Origin, header: &Header) -> bool
     ensures { result ≡ is_sd origin.now header.now }
 {
-    is_at_discovery(origin)
-        && header.service == 0xffff
-        && header.method == 0x8100
-        && header.interface == 1
-        && matches!(header.kind, MessageType::Notification)
+    is_at_discovery(origin) && header.is_discovery()
 }
 
 /// Reads a payload, and keeps want of memory apart.

@@ -11,11 +11,8 @@ use crate::finding::Finding;
 use audit_tables::Origin;
 use someip_reassembly::Reassembly;
 use someip_tables::Moment;
-use someip_wire::{Message, Messages, WireError, written_len};
+use someip_wire::{Header, Message, Messages, WireError, written_len};
 use std::alloc::{AllocError, Global};
-
-/// The bytes of a header, which stand before a payload.
-const HEADER_LEN: usize = 16;
 
 impl<S: Reassembly> Books<S> {
     /// Takes note of a datagram, and appends what its messages show in order, and its fault where it has
@@ -66,7 +63,7 @@ impl<S: Reassembly> Books<S> {
     {
         match item {
             Ok(message) => {
-                let begins = place + HEADER_LEN;
+                let begins = place + Header::LEN;
                 self.saw(alloc, now, origin, begins, message, bytes, findings)
             }
             Err(fault) => tell(findings, Finding::Malformed(*fault)),

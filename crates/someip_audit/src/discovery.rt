@@ -1,6 +1,6 @@
 //! Messages of Service Discovery over the books.
 ghost use Rattle.std.specs.Prelude.{◌≡◌, OnErr, OnOk, Some, [], map};
-ghost use Rattle.sd_wire.specs.Values.{view_read, view_sd};
+ghost use Rattle.sd_wire.specs.contents.Values.{view_read, view_sd};
 ghost use Rattle.someip_audit.specs.SdShown.{IsBegun, begun_again, changed, endpoint_shown, entries_shown, entry_shown};
 ghost use Rattle.someip_audit.specs.SdShown.{good_shown, group_shown, head_shown, offer_shown, receiver_shown, sd_shown};
 ghost use Rattle.someip_audit.specs.SdShown.{service_shown, session_shown, subscribe_shown};

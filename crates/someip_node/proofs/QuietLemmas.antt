@@ -13,8 +13,8 @@ use Rattle.std.specs.BTreeMap.{is_at}
 use Rattle.someip_tables.specs.declared.lasting.Lasting.{Lasting}
 use Rattle.someip_tables.specs.Retained.{kept_if, retain}
 use Rattle.someip_tables.proofs.Entries.{own_test, same_by_test, get-retain}
-use Rattle.sd_wire.specs.Fronts.{front_lengths, fronts_of, lengths_of_fronts, longest_front}
-use Rattle.sd_wire.specs.Values.{EntryValue}
+use Rattle.sd_wire.specs.fronts.Fronts.{front_lengths, fronts_of, lengths_of_fronts, longest_front}
+use Rattle.sd_wire.specs.contents.Values.{EntryValue}
 use Rattle.sd_instances.specs.declared.eventgroup.Eventgroup.{Eventgroup}
 use Rattle.sd_instances.specs.declared.keys.InstanceId.{InstanceId}
 use Rattle.sd_core.specs.declared.received.KnownOffer.{KnownOffer}

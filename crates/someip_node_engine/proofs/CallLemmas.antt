@@ -9,7 +9,8 @@ use Rattle.someip_rpc.specs.declared.call.Call.{Call}
 use Rattle.someip_rpc.specs.declared.call.ClientRules.{ClientRules}
 use Rattle.someip_rpc.specs.Calls.{Client, IsFirstFree, Pending, called, is_pending}
 use Rattle.someip_rpc.specs.IdOrder.{calls_total, exact_calls}
-use Rattle.someip_rpc.specs.Sessions.{next_session, session_after}
+use Rattle.someip_tables.specs.Sessions.{next_session}
+use Rattle.someip_rpc.specs.Sessions.{session_after}
 use Rattle.someip_rpc.proofs.SessionLemmas.{at_least, differ}
 use Rattle.someip_node_rules.specs.rules.Calling.{first_free, first_free_of, session_of}
 use Rattle.someip_node_rules.specs.histories.Items.{changed, Called}

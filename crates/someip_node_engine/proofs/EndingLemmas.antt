@@ -56,7 +56,7 @@ groups_after g (h ∷ hs) all = (cases (instance_cmp g.instance h.instance) refl
     cases Equal is lt = ap is_lt (tied_back instances_total g.instance h.instance is)
     cases Greater is lt = absurd (cc)
 
--- ---- the eventgroups of instances before one, and those behind them
+-- ---- the eventgroups of instances before one, and those after them
 
 module _ (x : InstanceId) where
   -- how many stand in front
@@ -78,7 +78,7 @@ module _ (x : InstanceId) where
   all_past g [] past all = tt
   all_past g (h ∷ hs) past all = (not_before instances_total exact_instances x g.instance h.instance past all.0, all_past g hs past all.1)
 
-  -- those behind are not
+  -- those after are not
   behind_past : (gs : List Eventgroup) → IsStrictlySortedBy eventgroup_cmp gs → AllByRecursion (λ g. is_before x g ≡ false) (drop (count gs) gs)
   unfolding IsStrictlySortedBy
   behind_past [] rises = tt

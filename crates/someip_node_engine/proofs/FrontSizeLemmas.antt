@@ -3,12 +3,12 @@ use Rattle.std.proofs.Common.{◌≡◌, ◌≤◌, ℕ, ◌*◌, List, [], ◌�
 use Rattle.std.proofs.lemmas.List.{length-append, length-map, length-take}
 use Rattle.sd_wire.specs.declared.entry.Entry.{Entry}
 use Rattle.sd_wire.specs.declared.option.SdOption.{SdOption}
-use Rattle.sd_wire.specs.Fields.{flags_byte}
-use Rattle.sd_wire.specs.Spelling.{entry_bytes}
-use Rattle.sd_wire.specs.Splitting.{FitsDatagram, IsLongestFront, AreFronts, message_of_entries}
-use Rattle.sd_wire.specs.Values.{EntryValue, view_entry}
-use Rattle.sd_wire.specs.Writing.{Packs, WritesSd, pool_bytes}
-use Rattle.sd_wire.proofs.SplitLemmas.{entry_length, sd_length}
+use Rattle.sd_wire.specs.layout.Fields.{flags_byte}
+use Rattle.sd_wire.specs.layout.Spelling.{entry_bytes}
+use Rattle.sd_wire.specs.fronts.Splitting.{FitsDatagram, IsLongestFront, AreFronts, message_of_entries}
+use Rattle.sd_wire.specs.contents.Values.{EntryValue, view_entry}
+use Rattle.sd_wire.specs.encoding.Writing.{Packs, WritesSd, pool_bytes}
+use Rattle.sd_wire.proofs.fronts.SplitLemmas.{entry_length, sd_length}
 use Rattle.someip_node_engine.specs.FrontSizes.{AreWithin}
 
 -- 16 bytes for each entry

@@ -6,7 +6,7 @@ use Rattle.someip_wire.specs.declared.header.Header.{Header}
 use Rattle.someip_wire.specs.declared.header.MessageType.{MessageType}
 use Rattle.someip_wire.specs.declared.header.MessageType.TheVariants as kinds
 use Rattle.sd_instances.specs.declared.keys.InstanceId.{InstanceId}
-use Rattle.sd_wire.specs.Values.{EntryValue}
+use Rattle.sd_wire.specs.contents.Values.{EntryValue}
 use Rattle.someip_rpc.specs.declared.request.Arrived.{Arrived}
 use Rattle.someip_rpc.specs.declared.request.Arrived.TheVariants as arrived
 use Rattle.someip_rpc.specs.declared.request.RequestFault.{RequestFault}

@@ -1,7 +1,7 @@
 -- What a moment brings, as the rule of the clock says it.
 use Rattle.std.proofs.Common.{◌≡◌, ℕ, ◌+◌, List, [], ◌∷◌, ◌++◌, map, refl, sym, ap, ◌∙◌}
 use Rattle.std.proofs.Common.{Bool, IsTrue, IsFalse}
-use Rattle.sd_wire.specs.Fronts.{front_lengths}
+use Rattle.sd_wire.specs.fronts.Fronts.{front_lengths}
 use Rattle.someip_node_rules.specs.forms.Entries.{fronts}
 use Rattle.std.proofs.lemmas.List.{append-nil}
 use Rattle.sd_instances.specs.declared.keys.InstanceId.{InstanceId}
@@ -12,7 +12,7 @@ use Rattle.someip_node_engine.proofs.WorkLemmas.{done}
 use Rattle.std.specs.List.{flat_map}
 use Rattle.std.proofs.Common.{OnErr, OnOk, Result, Ok, Err}
 use Rattle.std.specs.declared.alloc.AllocError.{AllocError}
-use Rattle.sd_wire.specs.Values.{EntryValue, view_entry}
+use Rattle.sd_wire.specs.contents.Values.{EntryValue, view_entry}
 use Rattle.someip_node_engine.specs.declared.giving.Giving.{Giving}
 use Rattle.someip_node_rules.specs.declared.receiver.Receiver.TheVariants.{Group}
 use Rattle.someip_tables.specs.Lastings.{unexpired}

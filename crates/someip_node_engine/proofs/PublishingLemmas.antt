@@ -11,7 +11,7 @@ use Rattle.someip_node_rules.specs.declared.config.OfferedService.{OfferedServic
 use Rattle.someip_node_rules.specs.declared.error.NodeError.{NodeError}
 use Rattle.someip_node_rules.specs.declared.error.NodeError.TheVariants.{Rpc}
 use Rattle.someip_node_engine.specs.declared.giving.Giving.{Giving}
-use Rattle.sd_wire.specs.Values.{view_entry}
+use Rattle.sd_wire.specs.contents.Values.{view_entry}
 use Rattle.someip_rpc.specs.Events.{published}
 use Rattle.someip_node_rules.specs.rules.Plans.{work}
 use Rattle.someip_node_rules.specs.rules.Errors.{as_node_error}

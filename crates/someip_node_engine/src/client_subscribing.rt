@@ -1,6 +1,6 @@
 //! The eventgroups that the application of a client wishes.
 ghost use Rattle.std.specs.Prelude.{◌≡◌, map, IfOk, OnOk, ◌≤◌, length};
-ghost use Rattle.sd_wire.specs.Values.{view_entry};
+ghost use Rattle.sd_wire.specs.contents.Values.{view_entry};
 ghost use Rattle.someip_node_rules.specs.declared.output.Output.TheVariants.{Unsubscribed};
 ghost use Rattle.someip_node_rules.specs.histories.Items.{changed, Unwished, Wished};
 ghost use Rattle.someip_node_rules.specs.rules.Plans.{plain, run};

@@ -2,10 +2,10 @@
 ghost use Rattle.std.specs.Prelude.{◌≡◌, map, IfOk, OnOk};
 ghost use Rattle.std.specs.Result.{result_map_both};
 ghost use Rattle.someip_wire.specs.View.{view};
-ghost use Rattle.sd_wire.specs.Program.{reading};
-ghost use Rattle.sd_wire.specs.Values.{view_read, view_sd};
+ghost use Rattle.sd_wire.specs.decoding.Program.{reading};
+ghost use Rattle.sd_wire.specs.contents.Values.{view_read, view_sd};
 ghost use Rattle.someip_node_rules.specs.rules.Handling.{discovery_plan, entries_plan, heard_plan};
-ghost use Rattle.someip_node_rules.specs.rules.Handling.{is_discovery, reading_plan};
+ghost use Rattle.someip_node_rules.specs.rules.Handling.{is_valid_discovery, reading_plan};
 ghost use Rattle.someip_node_rules.specs.forms.Receivers.{messages_plan_to};
 ghost use Rattle.someip_node_rules.specs.declared.receiver.Receiver.TheVariants.{Peer};
 ghost use Rattle.someip_node_rules.specs.rules.Plans.{plain, replying, run};
@@ -17,7 +17,7 @@ use sd_session::{Channel, Stamp};
 use sd_wire::{ReadEntry, SdError, SdRead, read_sd};
 use someip_node_rules::{DropReason, Receiver};
 use someip_tp::Reassembly;
-use someip_wire::{Header, Message, MessageType};
+use someip_wire::{Header, Message};
 use std::alloc::{AllocError, Global};
 use std::mem;
 use std::net::Ipv4Addr;
@@ -36,7 +36,7 @@ impl<R: Reassembly> Engine<R> {
             (working self.old giving.old)) }
         ensures config { self.new.config ≡ self.old.config }
     {
-        if !is_discovery(&message.header) {
+        if !is_valid_discovery(&message.header) {
             return giving.dropped(DropReason::NotSd);
         }
         let found = read_payload(self.alloc, message.payload)?;
@@ -114,15 +114,11 @@ impl<R: Reassembly> Engine<R> {
     }
 }
 
-/// Whether this is the header of a message of Service Discovery.
-fn is_discovery(header: &Header) -> bool
-    ensures { result ≡ is_discovery header.now }
+/// Whether this is the header of a message of Service Discovery that its sender counted.
+fn is_valid_discovery(header: &Header) -> bool
+    ensures { result ≡ is_valid_discovery header.now }
 {
-    header.service == 0xffff
-        && header.method == 0x8100
-        && header.interface == 1
-        && matches!(header.kind, MessageType::Notification)
-        && header.session != 0
+    header.is_discovery() && header.session != 0
 }
 
 /// Reads a message, and keeps out of memory apart.

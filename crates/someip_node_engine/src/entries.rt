@@ -1,6 +1,6 @@
 //! Entries of Service Discovery that come.
 ghost use Rattle.std.specs.Prelude.{◌≡◌, map, OnOk};
-ghost use Rattle.sd_wire.specs.Values.{view_read};
+ghost use Rattle.sd_wire.specs.contents.Values.{view_read};
 ghost use Rattle.someip_node_rules.specs.rules.Handling.{bad_plan, entry_plan, eventgroup_plan, service_plan};
 ghost use Rattle.someip_node_rules.specs.rules.Learning.{received_offer};
 ghost use Rattle.someip_node_rules.specs.rules.Plans.{each, plain, run};

@@ -1,6 +1,6 @@
 //! The entries of Service Discovery that a node sends.
 ghost use Rattle.std.specs.Prelude.{◌≡◌, ◌∷◌, [], IfOk};
-ghost use Rattle.sd_wire.specs.Values.{view_entry};
+ghost use Rattle.sd_wire.specs.contents.Values.{view_entry};
 ghost use Rattle.someip_node_rules.specs.forms.Entries.{ack_entry, find_entry, offer_entry, subscribe_entry, udp_option};
 
 use sd_core::{Eventgroup, InstanceId};

@@ -2,7 +2,7 @@
 ghost use Rattle.std.specs.Prelude.{◌≡◌, ◌++◌, map, IfErr, IfOk, None, OnErr, OnOk, Some};
 ghost use Rattle.std.specs.FinMap as finite;
 ghost use Rattle.std.specs.List.{flat_map};
-ghost use Rattle.sd_wire.specs.Values.{view_entry};
+ghost use Rattle.sd_wire.specs.contents.Values.{view_entry};
 ghost use Rattle.std.specs.Ordering.{eq_by_cmp};
 ghost use Rattle.sd_instances.specs.Keys.{instance_cmp};
 ghost use Rattle.sd_core.specs.SeekTables.{counted_as, known_at, learned, uncounted};

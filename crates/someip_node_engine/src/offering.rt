@@ -1,7 +1,7 @@
 //! What a server does with its offers: it answers Finds, and stops an offer where the application asks for it.
 ghost use Rattle.std.specs.Prelude.{◌≡◌, ◌++◌, map, IfOk, OnOk, ◌≤◌, length};
 ghost use Rattle.std.specs.List.{flat_map};
-ghost use Rattle.sd_wire.specs.Values.{view_entry};
+ghost use Rattle.sd_wire.specs.contents.Values.{view_entry};
 ghost use Rattle.someip_node_rules.specs.histories.Items.{changed, OfferStopped};
 ghost use Rattle.someip_node_rules.specs.rules.Plans.{act, plain, run, TakesFind};
 ghost use Rattle.someip_node_rules.specs.rules.Offering.{offer_of, sought_by};

@@ -1,7 +1,7 @@
 //! What a server does with Subscribes and StopSubscribes that come.
 ghost use Rattle.std.specs.Prelude.{◌≡◌, ◌++◌, ◌∷◌, [], map, None, IfOk, OnOk, OnErr};
 ghost use Rattle.std.specs.List.{flat_map, fold};
-ghost use Rattle.sd_wire.specs.Values.{view_entry};
+ghost use Rattle.sd_wire.specs.contents.Values.{view_entry};
 ghost use Rattle.sd_subscribers.specs.SubscriberTables.{nack_cause};
 ghost use Rattle.someip_node_rules.specs.declared.output.Output.TheVariants.{Accepted, Nacked};
 ghost use Rattle.someip_node_rules.specs.forms.Entries.{ack_entry};

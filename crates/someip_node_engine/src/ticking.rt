@@ -1,7 +1,7 @@
 //! The clock of a node.
 ghost use Rattle.std.specs.Prelude.{◌≡◌, ◌≢◌, ◌↔◌, ◌+◌, ◌++◌, map, IfErr, IfOk, IsTrue, OnErr, OnOk};
 ghost use Rattle.std.specs.List.{flat_map};
-ghost use Rattle.sd_wire.specs.Values.{view_entry};
+ghost use Rattle.sd_wire.specs.contents.Values.{view_entry};
 ghost use Rattle.someip_node_rules.specs.rules.Ticking.{find_of};
 ghost use Rattle.someip_node_engine.specs.Handled.{Handled};
 ghost use Rattle.someip_node_rules.specs.rules.Inputs as input;

@@ -6,8 +6,8 @@ use Rattle.std.specs.declared.net.socket_addr.SocketAddrV4.{SocketAddrV4}
 use Rattle.sd_wire.specs.declared.entry.EntryHead.TheVariants.{Eventgroup}
 use Rattle.sd_wire.specs.declared.entry.EventgroupEntry.{EventgroupEntry}
 use Rattle.sd_wire.specs.declared.entry.EventgroupKind.TheVariants.{Ack}
-use Rattle.sd_wire.specs.Kinds.{is_subscribe}
-use Rattle.sd_wire.specs.Values.{EntryValue}
+use Rattle.sd_wire.specs.contents.Kinds.{is_subscribe}
+use Rattle.sd_wire.specs.contents.Values.{EntryValue}
 use Rattle.sd_subscribers.specs.declared.error.Cause.{Cause}
 use Rattle.sd_subscribers.specs.SubscriberTables.{subscription_at}
 use Rattle.someip_node_rules.specs.declared.output.Output.TheVariants.{Nacked}

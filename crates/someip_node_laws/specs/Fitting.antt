@@ -7,17 +7,17 @@ use Rattle.std.specs.Net.Socket.{IsSocketAddrV4}
 use Rattle.someip_wire.specs.declared.header.MessageType.TheVariants as kinds
 use Rattle.someip_wire.specs.Spelling.{Fits, MessageValue}
 use Rattle.sd_wire.specs.declared.entry.EntryHead.{EntryHead}
-use Rattle.sd_wire.specs.Spelling.{HeadFits}
-use Rattle.sd_wire.specs.Splitting.{FitsDatagram}
-use Rattle.sd_wire.specs.Values.{ReadValue, good, bad_run}
-use Rattle.sd_wire.specs.Writing.{EntryFits}
+use Rattle.sd_wire.specs.layout.Spelling.{HeadFits}
+use Rattle.sd_wire.specs.fronts.Splitting.{FitsDatagram}
+use Rattle.sd_wire.specs.contents.Values.{ReadValue, good, bad_run}
+use Rattle.sd_wire.specs.encoding.Writing.{EntryFits}
 use Rattle.sd_instances.specs.declared.keys.InstanceId.{InstanceId}
 use Rattle.someip_rpc.specs.Requests.{answer_header}
 use Rattle.someip_rpc.specs.Servers.{code_of_reply}
 use Rattle.someip_node_rules.specs.declared.config.Config.{Config}
 use Rattle.someip_node_rules.specs.declared.config.OfferedService.{OfferedService}
 use Rattle.someip_node_rules.specs.declared.config.WantedService.{WantedService}
-use Rattle.someip_node_rules.specs.rules.Handling.{is_discovery}
+use Rattle.someip_node_rules.specs.rules.Handling.{is_valid_discovery}
 use Rattle.someip_node_rules.specs.histories.History.{History}
 use Rattle.someip_node_rules.specs.rules.Inputs.{Input, Datagram, Tick, Call, Answer, Publish, PublishTo, Subscribe, Unsubscribe, StopOffer}
 use Rattle.someip_node_rules.specs.histories.Items.{Item, Called, Requested, Wished}
@@ -30,7 +30,7 @@ use Rattle.someip_node_rules.specs.trails.Packets.{Packet, HasEntry, HasMessage}
 -- datagram. Any other message fits its fields, and is not taken for one of Service Discovery
 abbrev pub FitsWire : Given → Type 0
 FitsWire (Announces from to stamp entries) = (stamp.session < 2 ^ 16) × AllByRecursion EntryFits entries × FitsDatagram entries
-FitsWire (Sends from to m) = Fits m × IsFalse (is_discovery m.header)
+FitsWire (Sends from to m) = Fits m × IsFalse (is_valid_discovery m.header)
 FitsWire (Tells output) = Unit {0}
 
 -- ---- what a node is set up with

@@ -7,7 +7,7 @@ use Rattle.std.specs.declared.net.socket_addr.SocketAddrV4.{SocketAddrV4}
 use Rattle.sd_wire.specs.declared.entry.EntryHead.TheVariants.{Eventgroup}
 use Rattle.sd_wire.specs.declared.entry.EventgroupEntry.{EventgroupEntry}
 use Rattle.sd_wire.specs.declared.entry.EventgroupKind.TheVariants.{Subscribe}
-use Rattle.sd_wire.specs.Values.{EntryValue, SdValue, bad_run}
+use Rattle.sd_wire.specs.contents.Values.{EntryValue, SdValue, bad_run}
 use Rattle.someip_node_rules.specs.forms.Entries.{ack_entry}
 use Rattle.sd_subscribers.specs.declared.error.Cause.{Cause}
 use Rattle.sd_instances.specs.declared.keys.InstanceId.{InstanceId}

@@ -5,7 +5,7 @@ ghost use Rattle.std.specs.BTreeMap.{BTreeMap};
 ghost use Rattle.std.specs.BTreeSet.{BTreeSet};
 ghost use Rattle.std.specs.declared.net.socket_addr.SocketAddrV4.{SocketAddrV4};
 ghost use Rattle.someip_wire.specs.Spelling.{IsBytes};
-ghost use Rattle.sd_wire.specs.Values.{EntryValue};
+ghost use Rattle.sd_wire.specs.contents.Values.{EntryValue};
 ghost use Rattle.someip_rpc.specs.declared.call.Call.{Call};
 ghost use Rattle.someip_node_rules.specs.declared.config.Config.{Config};
 ghost use Rattle.someip_node_laws.specs.Fitting.{FitsConfig, FitsHistory, FitsInput, FitsItem, FitsOffer, FitsPacket, FitsWire};

@@ -1,3 +1,4 @@
+pub mod forms
 pub mod trails
 pub mod histories
 pub mod lists

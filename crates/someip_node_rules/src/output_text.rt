@@ -205,7 +205,7 @@ fn write_nacked<W: fmt::Write>(
     write!(f, " {}", cause.name())
 }
 
-/// A call: its Message ID and its Session ID, each behind a space.
+/// A call: its Message ID and its Session ID, each after a space.
 fn write_call<W: fmt::Write>(
     f: &mut fmt::Formatter<W>,
     message: MessageId,
@@ -218,7 +218,7 @@ fn write_call<W: fmt::Write>(
     write_id(f, session)
 }
 
-/// The token of a request, or `-` where it waits for no answer, behind a space.
+/// The token of a request, or `-` where it waits for no answer, after a space.
 fn write_token<W: fmt::Write>(f: &mut fmt::Formatter<W>, token: Option<u64>) -> fmt::Result
     ensures { WritesOnOk W.write_str_gives f.old result
         (codes " " ++ token_word token) f.new }
@@ -229,7 +229,7 @@ fn write_token<W: fmt::Write>(f: &mut fmt::Formatter<W>, token: Option<u64>) -> 
     }
 }
 
-/// An instance, behind a space.
+/// An instance, after a space.
 fn write_instance<W: fmt::Write>(f: &mut fmt::Formatter<W>, instance: InstanceId) -> fmt::Result
     ensures { WritesOnOk W.write_str_gives f.old result
         (codes " " ++ instance_word instance) f.new }
@@ -237,7 +237,7 @@ fn write_instance<W: fmt::Write>(f: &mut fmt::Formatter<W>, instance: InstanceId
     write_ids(f, instance.service, instance.instance)
 }
 
-/// An eventgroup: its instance and its ID, each behind a space.
+/// An eventgroup: its instance and its ID, each after a space.
 fn write_eventgroup<W: fmt::Write>(f: &mut fmt::Formatter<W>, eventgroup: Eventgroup) -> fmt::Result
     ensures { WritesOnOk W.write_str_gives f.old result
         ((codes " " ++ instance_word eventgroup.instance) ++ (codes " " ++ id_word eventgroup.id))
@@ -247,7 +247,7 @@ fn write_eventgroup<W: fmt::Write>(f: &mut fmt::Formatter<W>, eventgroup: Eventg
     write_id(f, eventgroup.id)
 }
 
-/// Two IDs with a dot between them, behind a space.
+/// Two IDs with a dot between them, after a space.
 fn write_ids<W: fmt::Write>(f: &mut fmt::Formatter<W>, first: u16, second: u16) -> fmt::Result
     ensures { WritesOnOk W.write_str_gives f.old result
         (codes " " ++ ids_word first second) f.new }
@@ -257,7 +257,7 @@ fn write_ids<W: fmt::Write>(f: &mut fmt::Formatter<W>, first: u16, second: u16) 
     write_hex(f, &second.to_be_bytes())
 }
 
-/// An ID, behind a space.
+/// An ID, after a space.
 fn write_id<W: fmt::Write>(f: &mut fmt::Formatter<W>, id: u16) -> fmt::Result
     ensures { WritesOnOk W.write_str_gives f.old result (codes " " ++ id_word id) f.new }
 {
@@ -265,7 +265,7 @@ fn write_id<W: fmt::Write>(f: &mut fmt::Formatter<W>, id: u16) -> fmt::Result
     write_hex(f, &id.to_be_bytes())
 }
 
-/// A Return Code, behind a space.
+/// A Return Code, after a space.
 fn write_code<W: fmt::Write>(f: &mut fmt::Formatter<W>, code: ReturnCode) -> fmt::Result
     ensures { WritesOnOk W.write_str_gives f.old result (codes " " ++ code_word code.0) f.new }
 {
@@ -273,7 +273,7 @@ fn write_code<W: fmt::Write>(f: &mut fmt::Formatter<W>, code: ReturnCode) -> fmt
     write_byte(f, code.0)
 }
 
-/// Bytes in hex, or `-` for none, behind a space.
+/// Bytes in hex, or `-` for none, after a space.
 fn write_bytes<W: fmt::Write>(f: &mut fmt::Formatter<W>, bytes: &[u8]) -> fmt::Result
     ensures { WritesOnOk W.write_str_gives f.old result (codes " " ++ bytes_word bytes.now) f.new }
 {
@@ -284,7 +284,7 @@ fn write_bytes<W: fmt::Write>(f: &mut fmt::Formatter<W>, bytes: &[u8]) -> fmt::R
     write_hex(f, bytes)
 }
 
-/// An endpoint, behind a space.
+/// An endpoint, after a space.
 fn write_endpoint<W: fmt::Write>(f: &mut fmt::Formatter<W>, endpoint: SocketAddrV4) -> fmt::Result
     ensures { WritesOnOk W.write_str_gives f.old result
         (codes " " ++ socket_v4_text endpoint) f.new }

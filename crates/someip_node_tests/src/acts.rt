@@ -226,7 +226,7 @@ pub(crate) fn is_told(alloc: Global, answer: &Result<Vec<Output>, NodeError>, li
     }
 }
 
-/// The lines behind those of all these outputs, if theirs come first.
+/// The lines after those of all these outputs, if theirs come first.
 fn rest_after_all<'a>(alloc: Global, outputs: &[Output], lines: &'a str) -> Option<&'a str> {
     let mut rest = lines;
     for output in outputs {
@@ -235,7 +235,7 @@ fn rest_after_all<'a>(alloc: Global, outputs: &[Output], lines: &'a str) -> Opti
     Some(rest)
 }
 
-/// The lines behind the line of this, if that comes first.
+/// The lines after the line of this, if that comes first.
 fn rest_after<'a, D: Display>(alloc: Global, told: &D, lines: &'a str) -> Option<&'a str> {
     let line = told.to_string(alloc).ok()?;
     let rest = lines.strip_prefix(line.as_str())?;

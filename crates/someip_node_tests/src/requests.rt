@@ -8,7 +8,7 @@ use someip_wire::ReturnCode;
 /// A request of the method 0421.
 const REQUEST: &str = "11110421000000080102000101010000";
 
-/// An ERROR before what is dropped behind it in the datagram, a oneway that is dropped, one that is
+/// An ERROR before what is dropped after it in the datagram, a oneway that is dropped, one that is
 /// handed up, and a request that comes twice.
 const ASKED: &[Row] = &[
     (

@@ -42,7 +42,7 @@ word_text-nonempty word.Struct h = cc
 word_text-nonempty word.Union h = cc
 word_text-nonempty word.Tagged h = cc
 
--- the place behind a word is not the place of the word
+-- the place after a word is not the place of the word
 pub behind_its_word : (r : Result (Word × ℕ) ShapeTextError) (text : List ℕ) (at high : ℕ) → IfOk r (λ x. (at ≤ x.1) × (x.1 ≤ high))
     → IfOk r (λ x. slice_range text at x.1 ≡ word_text x.0) → IfOk r (λ x. (at < x.1) × (x.1 ≤ high))
 behind_its_word (Ok x) text at high bounds found =

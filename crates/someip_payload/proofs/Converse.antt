@@ -100,7 +100,7 @@ pieces text piece at end le within is =
 pub piece_end : (text piece : List ℕ) (at end : ℕ) → at ≤ end → end ≤ length text → slice_range text at end ≡ piece → end ≡ at + length piece
 piece_end text piece at end le within is = omega (arith, le, within, ap length is, length-take (end - at) (drop at text), length-drop at text)
 
--- the text behind a piece
+-- the text after a piece
 pub behind_piece : (text piece rest : List ℕ) (at end : ℕ) → drop at text ≡ piece ++ rest → end ≡ at + length piece → drop end text ≡ rest
 behind_piece text piece rest at end is place =
     ap (λ n. drop n text) place ∙ sym (drop-drop (length piece) at text) ∙ ap (drop (length piece)) is ∙ drop_at piece rest (length piece) refl
@@ -176,7 +176,7 @@ width_is text at end v le within found (Some w) rest is stops =
 
 -- ---- a text by its word
 
--- the word of a text, and what stands behind it
+-- the word of a text, and what stands after it
 pub record Split (f : Form) (text : List ℕ) : Type 0 where
   pub first : Word
   pub back : List ℕ

@@ -4,7 +4,7 @@ use Rattle.std.specs.Prelude.{◌⊎◌, Result, Ok, Err, IfOk}
 use Rattle.std.specs.Fmt.{decimal}
 use Rattle.std.specs.declared.boxed.Box.{Box}
 use Rattle.std.proofs.lemmas.List.{length-append, get_or-drop}
-use Rattle.someip_payload_values.specs.declared.shape.Shape.{Shape, Text, Array, Fixed, Struct, Union, Tagged}
+use Rattle.someip_payload_values.specs.declared.shape.Shape.{Shape, Array, Struct, Union, Tagged}
 use Rattle.someip_payload_values.specs.declared.shape.Member.{Member}
 use Rattle.someip_payload_values.specs.declared.shape.Encoding.{Encoding}
 use Rattle.someip_payload_values.specs.declared.shape.Width.{Width}
@@ -15,7 +15,7 @@ use Rattle.someip_payload.specs.ShapeText.{IsTextOf, IsTextOfMembers, last_membe
 use Rattle.someip_payload_values.specs.View.{form, forms, all_variants, all_members}
 use Rattle.someip_payload.proofs.Members.{before, before-more, before-none, before_variants, before_variants-more, before_variants-none}
 use Rattle.someip_payload.proofs.Converse.{behind_piece}
-use Rattle.someip_payload.proofs.ShapePieces.{form-Text, form-Array, form-Fixed, form-Struct, form-Union, form-Tagged}
+use Rattle.someip_payload.proofs.ShapePieces.{form-Array, form-Struct, form-Union, form-Tagged}
 
 -- two pieces in front of the rest
 pub split_front : (bytes back rest a b : List ℕ) → bytes ≡ back ++ rest → back ≡ a ++ b → bytes ≡ a ++ (b ++ rest)
@@ -34,14 +34,8 @@ some_depth (tagged width ms) = omega arith
 
 -- ---- shapes of their parts
 
-pub text_is : (e : Encoding) (w v : Option Width) (meant : Width) (f : Form) → meant ≡ or_32 w → w ≡ v → f ≡ string e (or_32 v) → form (Text e meant) ≡ f
-text_is e w v meant f is same what = let own = form-Text e meant in let width = ap or_32 same in cc
-
 pub array_is : (w v : Option Width) (meant : Width) (n m : ℕ) (b : Box Shape Global) (f g : Form) → meant ≡ or_32 w → w ≡ v → n ≡ m → form b.value ≡ g → f ≡ array (or_32 v) m g → form (Array meant n b) ≡ f
 array_is w v meant n m b f g is same number element what = let own = form-Array meant n b in let width = ap or_32 same in cc
-
-pub fixed_is : (n m : ℕ) (b : Box Shape Global) (f g : Form) → n ≡ m → form b.value ≡ g → f ≡ fixed m g → form (Fixed n b) ≡ f
-fixed_is n m b f g number element what = let own = form-Fixed n b in cc
 
 pub struct_is : (w v : Option Width) (ss : Vec Shape Global) (f : Form) (fs : Forms) → w ≡ v → forms ss.items ≡ fs → f ≡ «struct» v fs → form (Struct w ss) ≡ f
 struct_is w v ss f fs same members what = let own = form-Struct w ss in cc
@@ -74,7 +68,7 @@ no_digit_colon d = omega (arith, d.1)
 
 -- ---- members, one after the other
 
--- the first member in front of the others, and what stands behind it
+-- the first member in front of the others, and what stands after it
 pub data FirstMember (fs : Forms) (text : List ℕ) : Type 0 where
   only_one : (f : Form) → IsTextOf f text → fs ≡ form_then f no_forms → FirstMember fs text
   and_others : (f : Form) (gs : Forms) (first others : List ℕ) → IsTextOf f first → IsTextOfMembers gs others → fs ≡ form_then f gs → text ≡ first ++ (codes "," ++ others) → FirstMember fs text
@@ -179,7 +173,7 @@ byte_there text rest b at is =
     let same : at + 0 ≡ at = omega arith in
     ap (λ n. get_or text n 0) (sym same) ∙ sym here ∙ ap (λ (t : List ℕ). get_or t 0 0) is
 
--- a member was read, and a comma stands behind it
+-- a member was read, and a comma stands after it
 pub member_more : (text : List ℕ) (at left : ℕ) (fs : Forms) (all rest : List ℕ) (ss : List Shape) (next : ℕ) (s : Shape) (end : ℕ) (n : NextMember text at left fs all rest ss next)
     → (form s ≡ n.f) × (end ≡ next + length n.front) → get_or text end 0 ≡ 44 → MembersLeft text at left fs all rest (ss ++ s ∷ []) (end + 1)
 member_more text at left fs all rest ss next s end n read comma = cases n.follows
@@ -202,7 +196,7 @@ member_more text at left fs all rest ss next s end n read comma = cases n.follow
       place = omega (arith, more.6, read.1);
     }
 
--- a member was read, and no comma stands behind it
+-- a member was read, and no comma stands after it
 pub record MembersRead (text : List ℕ) (at : ℕ) (fs : Forms) (all rest : List ℕ) (ss : List Shape) (end : ℕ) : Type 0 where
   pub is : forms ss ≡ fs
   pub bracket : drop end text ≡ 41 ∷ rest

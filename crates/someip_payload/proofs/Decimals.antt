@@ -51,7 +51,7 @@ more_digits n ds le small h = record { is = is; digits = digits; fronts = fronts
 decimal_parts : (n : ℕ) → n < 2 ^ 64 → DecimalParts n (decimal n)
 decimal_parts n small = decimal_by_steps (λ k ds. k < 2 ^ 64 → DecimalParts k ds) (λ k lt fits. one_digit k lt) (λ k ds le rest fits. more_digits k ds le fits (rest (omega arith))) n small small
 
--- ---- a number n at the front of the bytes, behind which no digit stands
+-- ---- a number n at the front of the bytes, after which no digit stands
 
 module _ (n b : ℕ) (rest bytes : List ℕ) (small : n < 2 ^ 32) (stop : IsDigit b → ⊥) (is : bytes ≡ decimal n ++ b ∷ rest) where
   fits : n < 2 ^ 64
@@ -95,7 +95,7 @@ module _ (n b : ℕ) (rest bytes : List ℕ) (small : n < 2 ^ 32) (stop : IsDigi
       let digit : IsDigit (get_or (decimal n) 0 0) = (decimal_parts n fits).digits 0 some in
       last (omega (arith, some, ap length is, length-append (decimal n) (b ∷ rest))) (subst IsDigit (sym (inside 0 some)) digit)
 
-  -- a zero with a digit behind it
+  -- a zero with a digit after it
   pub no_leading_zero : (k : ℕ) → 0 < k → length (decimal 0) ≡ k → take k bytes ≡ decimal 0 → IsDigit (get_or bytes k 0) → ⊥
   no_leading_zero k some len front digit = ⊎_elim above none (cases_lt 0 n)
     where

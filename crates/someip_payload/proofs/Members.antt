@@ -20,7 +20,7 @@ pub before-none : (ss : List Shape) → before ss no_forms ≡ forms ss
 before-none [] = refl
 before-none (s ∷ ss) = ap (form_then (form s)) (before-none ss)
 
--- the text of members, up to the comma behind the last of them
+-- the text of members, up to the comma after the last of them
 abbrev pub MembersSoFar : List Shape → List ℕ → Type 0
 MembersSoFar ss text = (fs : Forms) (others : List ℕ) → IsTextOfMembers fs others → IsTextOfMembers (before ss fs) (text ++ others)
 
@@ -58,7 +58,7 @@ pub before_variants-none : (ss : List (ℕ × Shape)) → before_variants ss no_
 before_variants-none [] = refl
 before_variants-none (s ∷ ss) = ap (variant s.0 (form s.1)) (before_variants-none ss)
 
--- the text of variants, up to the comma behind the last of them
+-- the text of variants, up to the comma after the last of them
 abbrev pub VariantsSoFar : List (ℕ × Shape) → List ℕ → Type 0
 VariantsSoFar ss text = (vs : Variants) (others : List ℕ) → IsTextOfVariants vs others → IsTextOfVariants (before_variants ss vs) (text ++ others)
 

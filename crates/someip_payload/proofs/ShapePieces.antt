@@ -138,7 +138,7 @@ repeated_piece text n at from comma first last end le le2 le3 le4 le5 before num
       behind,
     )
 
--- a word and what was read behind it
+-- a word and what was read after it
 pub behind_word : (r : Result (Shape × ℕ) ShapeTextError) (text word : List ℕ) (at end : ℕ) → at < end → slice_range text at end ≡ word
     → IfOk r (λ x. (end ≤ x.1) × (x.1 ≤ length text)) → IfOk r (λ x. IsTextOf (form x.0) (word ++ slice_range text end x.1))
     → IfOk r (λ x. IsTextOf (form x.0) (slice_range text at x.1))

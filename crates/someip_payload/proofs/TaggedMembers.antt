@@ -35,7 +35,7 @@ pub before_tagged-none : (ss : List Member) → before_tagged ss no_members ≡ 
 before_tagged-none [] = refl
 before_tagged-none (s ∷ ss) = ap (then_one (one_member s)) (before_tagged-none ss)
 
--- the text of members, up to the comma behind the last of them
+-- the text of members, up to the comma after the last of them
 abbrev pub TaggedSoFar : List Member → List ℕ → Type 0
 TaggedSoFar ss text = (fs : Members) (others : List ℕ) → IsTextOfTaggedMembers fs others → IsTextOfTaggedMembers (before_tagged ss fs) (text ++ others)
 
@@ -60,7 +60,7 @@ pub last_tagged_at : (ss : List Member) (s : Member) (text : List ℕ) (at next 
 last_tagged_at ss s text at next end le le2 so_far is =
     rw (← slice_range-append text at next end le le2) (tagged_so_far-last ss s (slice_range text at next) (slice_range text next end) so_far is)
 
--- the first member in front of the others, and what stands behind it
+-- the first member in front of the others, and what stands after it
 pub data FirstTagged (fs : Members) (text : List ℕ) : Type 0 where
   only_one : (f : OneMember) → IsTextOfTaggedMember f text → fs ≡ then_one f no_members → FirstTagged fs text
   and_others : (f : OneMember) (gs : Members) (first others : List ℕ) → IsTextOfTaggedMember f first → IsTextOfTaggedMembers gs others → fs ≡ then_one f gs → text ≡ first ++ (codes "," ++ others) → FirstTagged fs text
@@ -130,7 +130,7 @@ next_tagged_of text at left fs all rest ss next h = cases (first_tagged h.gs h.o
       );
     }
 
--- a member was read, and a comma stands behind it
+-- a member was read, and a comma stands after it
 pub tagged_more : (text : List ℕ) (at left : ℕ) (fs : Members) (all rest : List ℕ) (ss : List Member) (next : ℕ) (s : Member) (end : ℕ) (n : NextTagged text at left fs all rest ss next)
     → (one_member s ≡ n.f) × (end ≡ next + length n.front) → get_or text end 0 ≡ 44 → TaggedLeft text at left fs all rest (ss ++ s ∷ []) (end + 1)
 tagged_more text at left fs all rest ss next s end n read comma = cases n.follows
@@ -153,7 +153,7 @@ tagged_more text at left fs all rest ss next s end n read comma = cases n.follow
       place = omega (arith, more.6, read.1);
     }
 
--- a member was read, and no comma stands behind it
+-- a member was read, and no comma stands after it
 pub record TaggedRead (text : List ℕ) (at : ℕ) (fs : Members) (all rest : List ℕ) (ss : List Member) (end : ℕ) : Type 0 where
   pub is : all_members ss ≡ fs
   pub bracket : drop end text ≡ 41 ∷ rest
@@ -203,7 +203,7 @@ member_there text at m front rest is (shape, small, is_text, same) = record {
   len = omega (arith, ap length same, length-append (decimal m.id) (mark_text m.optional ++ (58 ∷ shape)), length-append (mark_text m.optional) (58 ∷ shape));
 }
 
--- what stands behind a Data ID is no digit
+-- what stands after a Data ID is no digit
 pub record MarkFirst (optional : Bool) (tail : List ℕ) : Type 0 where
   pub first : ℕ
   pub others : List ℕ

@@ -74,7 +74,7 @@ FaultInUnion width In w e =
 abbrev pub HasTag : Bool → WireType → ℕ → View → View → Type 0
 HasTag reserved t id w v = (id < 2 ^ 12) × (w.bytes ≡ number S16 (tag_number reserved t id) ++ v.bytes) × (v ≡ skip 2 w)
 
--- the bytes behind the tag of an item that is skipped pass the window
+-- the bytes after the tag of an item that is skipped pass the window
 abbrev pub FaultInSkipped : WireType → PayloadError → View → Type 0
 FaultInSkipped (Basic size) e w = FaultInSize size w e
 FaultInSkipped OwnLength e w = FaultInBody W32 (λ body. ⊥) w e
@@ -121,7 +121,7 @@ unfoldable mutual
       (((length v.bytes < len) × (e ≡ short_at w)) ⊎ ((len ≤ length v.bytes) × FaultBy (own_width f) f e (record { is_body = true; place = v.place; bytes = take len v.bytes })))
       (FaultInVariant vs place e kind len w v)
 
-  -- the item with this wire type and Data ID, whose tag stands at the place and v behind it, is at fault:
+  -- the item with this wire type and Data ID, whose tag stands at the place and v after it, is at fault:
   -- its member was there before, has another wire type or is at fault, or it is skipped and does not fit
   pub FaultBehindTag : Members → Slots → WireType → ℕ → ℕ → PayloadError → View → Type 0
   FaultBehindTag (member_then n optional f ms) (present d ss) t id place e v = Picks (n == id) (e ≡ DuplicateMember place) (FaultBehindTag ms ss t id place e v)

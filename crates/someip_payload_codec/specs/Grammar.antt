@@ -25,7 +25,7 @@ abbrev pub is_member : ℕ → Members → Bool
 is_member id no_members = false
 is_member id (member_then n optional f ms) = (n == id) || is_member id ms
 
--- each item has a Data ID of 12 bits, and where no member has that one, the bytes behind its tag can be skipped
+-- each item has a Data ID of 12 bits, and where no member has that one, the bytes after its tag can be skipped
 abbrev pub SkipsOthers : Members → List TaggedItem → Type 0
 SkipsOthers ms [] = Unit {0}
 SkipsOthers ms (i ∷ items) = (i.id < 2 ^ 12) × (is_member i.id ms ≡ false → Skips i.wire_type i.bytes) × SkipsOthers ms items

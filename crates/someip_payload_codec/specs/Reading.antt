@@ -144,7 +144,7 @@ skip_at (Length width) w = body_at width w >>= λ body. Ok body.1
 abbrev pub Filler : Type 0
 Filler = Slots → View → Result (Slots × View) PayloadError
 
--- reads a tag, and hands on the members so far, the tag, the place where it stands and what is behind it
+-- reads a tag, and hands on the members so far, the tag, the place where it stands and what is after it
 unfoldable pub item_by : (Slots → Tag → ℕ → View → Result (Slots × View) PayloadError) → Filler
 item_by one ss w = tag_at w >>= λ tag. one ss tag.0 w.place tag.1
 

@@ -1,4 +1,4 @@
--- The items of a tagged structure: each is a tag of 16 bits and bytes behind it (SOME/IP Protocol, "Structured
+-- The items of a tagged structure: each is a tag of 16 bits and bytes after it (SOME/IP Protocol, "Structured
 -- Datatypes and Arguments with Identifier and optional Members").
 use Rattle.std.specs.Prelude.{◌≡◌, ℕ, ◌+◌, ◌*◌, ◌/◌, ◌%◌, ◌^◌, ◌==◌, Bool, true, false, if◌then◌else◌, List, [], ◌∷◌, ◌++◌, length, Some, None}
 use Rattle.std.specs.Int.{byte_len}
@@ -27,14 +27,14 @@ wire_type_number (Length W32) = 7
 abbrev pub tag_number : Bool → WireType → ℕ → ℕ
 tag_number reserved t id = bit_of reserved * 2 ^ 15 + (wire_type_number t * 2 ^ 12 + id)
 
--- what a tag says and what stands behind it
+-- what a tag says and what stands after it
 pub record TaggedItem : Type 0 where
   pub reserved : Bool
   pub wire_type : WireType
   pub id : ℕ
   pub bytes : List ℕ
 
--- an item: its tag, and what stands behind it
+-- an item: its tag, and what stands after it
 abbrev pub item_bytes : TaggedItem → List ℕ
 item_bytes i = number S16 (tag_number i.reserved i.wire_type i.id) ++ i.bytes
 
@@ -88,13 +88,13 @@ same_size S64 S8 = false
 same_size S64 S16 = false
 same_size S64 S32 = false
 
--- a basic value of this size stands behind the tag
+-- a basic value of this size stands after the tag
 abbrev pub is_basic : Size → WireType → Bool
 is_basic size (Basic s) = same_size size s
 is_basic size OwnLength = false
 is_basic size (Length width) = false
 
--- a length field stands behind the tag
+-- a length field stands after the tag
 abbrev pub is_length : WireType → Bool
 is_length (Basic size) = false
 is_length OwnLength = true

@@ -8,7 +8,7 @@ ghost use Rattle.someip_payload_values.specs.View.{form};
 use crate::number::Size;
 use crate::shape::{Shape, Width};
 
-/// What stands behind a tag, which says it by a number of three bits, as the standard's table has it.
+/// What stands after a tag, which says it by a number of three bits, as the standard's table has it.
 ///
 /// ```text
 /// 0 1 2 3    a basic value of 8, 16, 32 or 64 bits
@@ -31,7 +31,7 @@ pub enum WireType {
 /// | R | wire type |                    Data ID                    |
 /// +---+-----------+-----------------------------------------------+
 ///
-/// 5002    wire type 5, Data ID 2: behind it a length field of 8 bits and a body
+/// 5002    wire type 5, Data ID 2: after it a length field of 8 bits and a body
 /// ```
 #[derive(Clone, Copy)]
 pub struct Tag {

@@ -42,7 +42,7 @@ fn write_between<W: fmt::Write>(
     f.write_str(closing)
 }
 
-/// The text of a variant, behind its type number.
+/// The text of a variant, after its type number.
 #[cycle(value_text)]
 fn write_choice<W: fmt::Write>(f: &mut fmt::Formatter<W>, number: u32, value: &Value) -> fmt::Result
     ensures { WritesOnOk W.write_str_gives f.old result (decimal number ++ (codes ":" ++ value_text value.now)) f.new }

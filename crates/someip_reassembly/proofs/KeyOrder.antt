@@ -1,5 +1,5 @@
 -- The order of reassembly keys is total, and tells all apart.
-use Rattle.std.proofs.Common.{rules, ◌≡◌, ℕ, Bool, true, false, List, ap, sym, ◌∙◌, refl}
+use Rattle.std.proofs.Common.{◌≡◌, ℕ, Bool, true, false, List, ap, sym, ◌∙◌, refl}
 use Rattle.std.specs.Ordering.{nat_cmp, ordering_then, is_eq}
 use Rattle.std.specs.Cmp.{IsTotalOrder, Equal-is, tied_itself}
 use Rattle.std.specs.Cmp.Lexicographic.{slice_cmp}
@@ -9,7 +9,6 @@ use Rattle.std.specs.declared.net.socket_addr.SocketAddrV4.{SocketAddrV4}
 use Rattle.someip_tables.specs.Endpoints.{endpoint_cmp}
 use Rattle.someip_tables.specs.EndpointOrder.{endpoints_total, exact_endpoints}
 use Rattle.someip_reassembly.specs.declared.key.ReassemblyKey.{ReassemblyKey}
-use denote.Enum.Bare.{same_true}
 use Rattle.someip_wire.specs.declared.header.MessageType.{MessageType}
 use Rattle.someip_wire.specs.contracts.header.MessageType.{the_type as the_kind}
 use Rattle.someip_wire.specs.contracts.header.MessageTypePartialEq.TheImpl.{ghosts as kind_eq}
@@ -40,9 +39,6 @@ test_is a b false to from = cases (same_key a b) refl
     cases : (t : Bool) → same_key a b ≡ t → false ≡ t
     cases false h = refl
     cases true h = from (same_from_test a b h)
-
-pub kind_from_test : (a b : MessageType) (r : Bool) → r ≡ (kind_eq).eq a b → r ≡ true → a ≡ b
-kind_from_test a b r is h = same_true the_kind (search rules) a b (sym is ∙ h)
 
 pub one_key : (a b : ReassemblyKey) → (a.source ≡ b.source) × (a.destination ≡ b.destination) → key_numbers a ≡ key_numbers b → a ≡ b
 one_key a b ends numbers = sym (key_back a) ∙ (ap key_of (λ i. (ends.0 i, (ends.1 i, numbers i))) ∙ key_back b)

@@ -17,10 +17,6 @@ use Rattle.someip_reassembly.proofs.OfferLemmas.{offered_by}
 
 -- ---- what a change leaves
 
--- what is said of each part, where the parts are among others of which it is said
-by_value : (now : ℕ) (v : Option Part) → ((part : Part) → v ≡ Some part → part.last ≤ now) → (w : Option Part) → v ≡ w → (part : Part) → w ≡ Some part → part.last ≤ now
-by_value now v all w is part there = all part (is ∙ there)
-
 none_is : (now : ℕ) (part : Part) → None ≡ Some part → part.last ≤ now
 none_is now part h = absurd (cc)
 

@@ -160,7 +160,7 @@ clashes_with slices offset bs i p r lt is one agrees not_so = cases (list_any (�
 
 -- ---- how far slices go without a gap
 
--- no byte behind a slice's end, nor before its offset
+-- no byte after a slice's end, nor before its offset
 pub byte_past : (offset : ℕ) (bs : List ℕ) (place : ℕ) → offset + length bs ≤ place → byte_at offset bs place ≡ None
 byte_past offset bs place past = cases (nat_le offset place) refl
   where

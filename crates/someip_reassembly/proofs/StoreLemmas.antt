@@ -203,10 +203,6 @@ judged_new slots now o parts none room =
     let empty_part : part_under parts o.key ≡ no_part = ap (λ p. unwrap_or p no_part) none in
     rw (new, room, empty_part, nothing_conflicts o) refl
 
-pub ok_acts : (judgement : Result Offered TpError) (now : ℕ) (o : SegmentOffer) (old new : Parts) (r : Result Offered TpError) (offered : Offered) → r ≡ Ok offered → Ok offered ≡ judgement
-    → new ≡ insert old o.key (with_offer (part_under old o.key) now o) → Acts judgement now o old r new
-ok_acts judgement now o old new r offered is told changed = subst (λ x. Acts judgement now o old x new) (sym is) (told, changed)
-
 pub wanting_acts : (judgement : Result Offered TpError) (now : ℕ) (o : SegmentOffer) (old new : Parts) (r : Result Offered TpError) (offered : Offered) → r ≡ Err OutOfMemory → Ok offered ≡ judgement → new ≡ old → Acts judgement now o old r new
 wanting_acts judgement now o old new r offered is told same = subst (λ x. Acts judgement now o old x new) (sym is) (ap is_ok (sym told), same)
 

@@ -7,13 +7,13 @@ use Rattle.std.specs.List.Sorted.{IsStrictlySortedBy}
 use Rattle.std.specs.Map.{keys_of, lookup}
 use Rattle.std.specs.BTreeMap as tree
 use Rattle.std.specs.BTreeMap.{BTreeMap, is_at}
-use Rattle.std.specs.FinMap.{nat_cmp-IsAntisymmetric, get, insert, remove, len, empty}
+use Rattle.std.specs.FinMap.{nat_cmp-IsAntisymmetric, get, insert, remove, len}
 use Rattle.slab.specs.Slab as slab
 use Rattle.slab.specs.Slab.{Slab}
 use Rattle.someip_tables.specs.Tables.{map_of}
 use Rattle.someip_tables.proofs.MapLaws.{remove_absent}
 use Rattle.someip_tables.proofs.Entries.{same_by_test, own_test}
-use Rattle.someip_tables.proofs.Trees.{get-map_of, map_of-insert, map_of-remove, map_of-none, len-map_of}
+use Rattle.someip_tables.proofs.Trees.{get-map_of, map_of-insert, map_of-remove, len-map_of}
 use Rattle.someip_rpc.specs.declared.request.Asked.{Asked}
 use Rattle.someip_rpc.specs.declared.open.Held.{Held}
 use Rattle.someip_rpc.specs.OpenSlab.{Indexes, request_of, requests_of}
@@ -46,9 +46,6 @@ pub len-requests : (held : Slab Held) (es : List (ℕ × ℕ)) → IsStrictlySor
 len-requests held es rising =
     let P : List ℕ → Type 0 = IsStrictlySortedBy nat_cmp in
     len-map_of nat_cmp_total nat_cmp-IsAntisymmetric (requests_of held es) (subst P (sym (keys-requests_of held es)) rising) ∙ length-requests_of held es
-
-pub no_requests : (held : Slab Held) (es : List (ℕ × ℕ)) → length es ≡ 0 → map_of nat_cmp (requests_of held es) ≡ empty
-no_requests held es none = map_of-none nat_cmp_total nat_cmp-IsAntisymmetric (requests_of held es) (length-requests_of held es ∙ none)
 
 -- a key of the index has a request
 never_gone : (held : Slab Held) (index : BTreeMap ℕ ℕ) (token key : ℕ) → Indexes index held → tree.get nat_cmp index token ≡ Some key → slab.get held key ≡ None → ⊥

@@ -1,13 +1,10 @@
 -- The sessions of the messages that have one Message ID (SOME/IP Protocol, "Session ID").
-use Rattle.std.specs.Prelude.{ℕ, zero, suc, ◌+◌, ◌==◌, if◌then◌else◌, Option, None, Some}
+use Rattle.std.specs.Prelude.{ℕ, zero, suc}
 use Rattle.std.specs.declared.cmp.Ordering.{Ordering}
 use Rattle.std.specs.FinMap as finite
 use Rattle.std.specs.FinMap.{FinMap}
+use Rattle.someip_tables.specs.Sessions.{next_session, session_after_last}
 use Rattle.someip_rpc.specs.Ids.{message_cmp}
-
--- the session after a session: FFFF is followed by 1, and 0 is never given
-abbrev pub next_session : ℕ → ℕ
-next_session session = if session == 0xffff then 1 else session + 1
 
 -- the n-th session after one, in cyclic order
 abbrev pub session_after : ℕ → ℕ → ℕ
@@ -17,11 +14,6 @@ session_after (suc n) session = next_session (session_after n session)
 -- the session that each Message ID was given last
 abbrev pub LastSessions : Type 0
 LastSessions = FinMap message_cmp ℕ
-
--- the session after the last one: the first session is 1
-abbrev pub session_after_last : Option ℕ → ℕ
-session_after_last None = 1
-session_after_last (Some last) = next_session last
 
 -- the next session of a Message ID, or of an event
 abbrev pub next_of : {K : Type 0} {R : K → K → Ordering} → FinMap R ℕ → K → ℕ

@@ -15,8 +15,7 @@ use crate::call::{Awaited, Call, CallKind, ClientRules, Outgoing};
 use crate::error::{DropCause, RpcError};
 use crate::ids::{CallKey, MessageId};
 use crate::pending::{Pending, first_free, is_awaited, is_full, wait};
-use crate::sessions::{last_session, put_session, session_after_last};
-use someip_tables::{DeadlineMap, Moment};
+use someip_tables::{DeadlineMap, Moment, put_value, session_after_last, value_at};
 use someip_wire::{Header, Message, MessageType, ReturnCode};
 use std::alloc::{AllocError, Global};
 use std::collections::{BTreeMap, BTreeSet};
@@ -240,9 +239,9 @@ fn begin(
     ensures sessions_kept { OnErr result (map_of message_cmp sessions.new.entries
         ≡ map_of message_cmp sessions.old.entries) }
 {
-    let last = last_session(sessions, call.message);
+    let last = value_at(sessions, call.message);
     let session = first_free(pending, call.message, session_after_last(last), now);
-    put_session(sessions, call.message, session)?;
+    put_value(sessions, call.message, session)?;
     let key = CallKey {
         message: call.message,
         session,
@@ -269,7 +268,7 @@ fn put_back(sessions: &mut BTreeMap<MessageId, u16>, message: MessageId, last: O
 {
     match last {
         Some(last) => {
-            let _ = put_session(sessions, message, last);
+            let _ = put_value(sessions, message, last);
         }
         None => {
             sessions.remove(&message);

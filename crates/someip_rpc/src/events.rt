@@ -11,7 +11,7 @@ use crate::error::RpcError;
 use crate::ids::EventId;
 use crate::publication::Subscriber;
 use crate::service::ServiceRules;
-use crate::sessions::{last_session, put_session, session_after_last};
+use someip_tables::{put_value, session_after_last, value_at};
 use someip_wire::{Header, Message, MessageType, ReturnCode};
 use std::collections::BTreeMap;
 
@@ -109,8 +109,8 @@ pub(crate) fn next_event<'a>(
         instance: rules.instance,
         event,
     };
-    let session = session_after_last(last_session(sessions, key));
-    put_session(sessions, key, session)?;
+    let session = session_after_last(value_at(sessions, key));
+    put_value(sessions, key, session)?;
     let header = event_header(rules, event, session);
     Ok(Message { header, payload })
 }

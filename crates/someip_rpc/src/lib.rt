@@ -28,7 +28,6 @@ mod publication;
 mod request;
 mod server;
 mod service;
-mod sessions;
 
 pub use call::{Awaited, Call, CallKind, ClientRules, Outgoing};
 pub use client::ClientCore;

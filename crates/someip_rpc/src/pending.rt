@@ -9,8 +9,7 @@ ghost use Rattle.someip_rpc.specs.Answers.{is_awaited};
 
 use crate::call::{Awaited, CallKind};
 use crate::ids::{CallKey, MessageId};
-use crate::sessions::next_session;
-use someip_tables::{Deadline, DeadlineMap, Moment, is_same_key};
+use someip_tables::{Deadline, DeadlineMap, Moment, is_same_key, next_session};
 use std::alloc::AllocError;
 use std::net::SocketAddrV4;
 

@@ -2,8 +2,7 @@
 use Rattle.std.proofs.Common.{◌≡◌, ℕ, ◌+◌, ◌-◌, ◌*◌, ◌/◌, ◌%◌, ◌^◌, ◌<◌, ◌≤◌, ◌==◌, Bool, true, false, if◌then◌else◌, List, ◌++◌, length, drop, Result, Ok, Err, refl, sym, ap, ◌∙◌, append_assoc, arith}
 use Rattle.std.specs.Int.{w32, to_be_bytes}
 use Rattle.std.specs.Result.{is_ok}
-use Rattle.std.specs.Borrow.{Bor}
-use Rattle.std.proofs.lemmas.Bool.{lt-ltb, le-ltb, eq-eqb}
+use Rattle.std.proofs.lemmas.Bool.{le-ltb, eq-eqb}
 use Rattle.std.proofs.lemmas.List.{length-append}
 use Rattle.std.proofs.lemmas.Nat.{from_be_bytes-to_be_bytes_4, div-add-mod'}
 use Rattle.std.proofs.Math.Nat.{mul-mod_left}
@@ -11,28 +10,19 @@ use Rattle.someip_wire.specs.Faults.{length_field}
 use Rattle.someip_wire.specs.declared.Header.{Header}
 use Rattle.someip_wire.specs.Spelling.{header_bytes, spelling}
 use Rattle.someip_segments.specs.declared.error.TpError.{TpError}
-use Rattle.someip_segments.specs.TpHeader.{reads_segment, offset_of, more_of, tp_header_in, segment_in, view_read_segment}
+use Rattle.someip_segments.specs.TpHeader.{offset_of, more_of, tp_header_in, segment_in}
 use Rattle.someip_segments.specs.Segments.{SegmentValue, tp_header_of, segment_message}
 
 tp_header_in-read : (payload slice : List ℕ) (tp_header : ℕ) → tp_header < 4294967296 → payload ≡ to_be_bytes w32 tp_header ++ slice → tp_header_in payload ≡ tp_header
 tp_header_in-read payload slice tp_header fits is = ap tp_header_in is ∙ from_be_bytes-to_be_bytes_4 tp_header fits
 
--- what a TP header and a slice behind it say
+-- what a TP header and a slice after it say
 pub says : (payload slice : List ℕ) (tp_header : ℕ) → tp_header < 4294967296 → payload ≡ to_be_bytes w32 tp_header ++ slice → Ok (offset_of tp_header, more_of tp_header, slice) ≡ segment_in payload
 says payload slice tp_header fits is =
     let read : tp_header_in payload ≡ tp_header = tp_header_in-read payload slice tp_header fits is in
     let rest : drop 4 payload ≡ slice = ap (drop 4) is in
     let long : 4 ≤ length payload = omega (arith, ap length is) in
     rw (le-ltb (length payload) 4 long, read, rest) refl
-
--- what is read is what the payload says
-pub segment_in-read : (payload : List ℕ) (read : Result (ℕ × Bool × Bor (List ℕ)) TpError) → reads_segment payload read → view_read_segment read ≡ segment_in payload
-segment_in-read payload (Err e) is = rw (lt-ltb (length payload) 4 is.0, is.1) refl
-segment_in-read payload (Ok r) read =
-    let tp_header : tp_header_in payload ≡ read.0 = tp_header_in-read payload r.2.now read.0 read.1 read.2 in
-    let rest : drop 4 payload ≡ r.2.now = ap (drop 4) read.2 in
-    let long : 4 ≤ length payload = omega (arith, ap length read.2) in
-    rw (le-ltb (length payload) 4 long, tp_header, rest, read.3, read.4) refl
 
 -- an offset that a TP header says is a multiple of 16
 pub aligned : (tp_header : ℕ) → offset_of tp_header % 16 ≡ 0

@@ -39,7 +39,7 @@ segments_from-cons h o (b ∷ rest) some =
 pub left_none : (h : Header) (o place : ℕ) (payload : List ℕ) → length payload ≤ place → segments_from h o (drop place payload) ≡ []
 left_none h o place payload le = ap (segments_from h o) (drop_all place payload le) ∙ segments_from-nil h o
 
--- the segment at a place, and those behind it
+-- the segment at a place, and those after it
 pub left_more : (h : Header) (place end : ℕ) (payload : List ℕ) → place < length payload → end ≡ place + 1392
     → segments_from h place (drop place payload) ≡ segment_at h place (drop place payload) ∷ segments_from h end (drop end payload)
 left_more h place end payload lt is_end =

@@ -10,9 +10,6 @@ use crate::sent::SentPiece;
 use someip_wire::{Header, Message, header_bytes};
 use std::alloc::AllocError;
 
-/// The bytes of a header.
-const HEADER_LEN: usize = 16;
-
 /// Appends the bytes of a message.
 ///
 /// The only error is that memory ran out where the vector had to grow, which leaves it as it was.
@@ -75,7 +72,7 @@ fn append_parts(
         + length (spelling (record { header = header.now; payload = tp_header.now ++ slice.now }))) }
 {
     let payload_len = tp_header.len() + slice.len();
-    out.reserve(HEADER_LEN + payload_len)?;
+    out.reserve(Header::LEN + payload_len)?;
     out.extend_from_slice(&header_bytes(header, payload_len as u32))
         .unwrap();
     out.extend_from_slice(tp_header).unwrap();

@@ -7,6 +7,7 @@
 //! - [`append_piece`], [`append_segment`] and [`append_message`]: their bytes are appended to a
 //!   vector;
 //! - [`read_segment`]: what the payload of a segment says;
+//! - [`ALONE_LEN`] and [`SLICE_LEN`]: the most bytes of a payload in one piece, and of a segment's slice;
 //! - [`TpError`]: why a segment is refused, or a message is not put together.
 #![tactic(auto)]
 
@@ -19,5 +20,5 @@ mod sent;
 pub use appending::{append_message, append_piece, append_segment};
 pub use error::TpError;
 pub use segment::{Segment, read_segment};
-pub use segments::Segments;
-pub use sent::{Sent, SentPiece, ShortMessage};
+pub use segments::{SLICE_LEN, Segments};
+pub use sent::{ALONE_LEN, Sent, SentPiece, ShortMessage};

@@ -6,8 +6,8 @@ use crate::segment::Segment;
 use someip_wire::{Header, Message};
 use std::marker::Model;
 
-/// The most bytes of a slice.
-const SLICE_LEN: usize = 1392;
+/// The most bytes of a slice: each segment but the last has so many.
+pub const SLICE_LEN: usize = 1392;
 
 /// The segments of a message, in order. Nothing is copied: each slice lies in the message's payload.
 ///

@@ -6,8 +6,9 @@ use crate::segments::Segments;
 use someip_wire::Message;
 use std::marker::Model;
 
-/// The most bytes of a payload that is sent in one piece.
-const ALONE_LEN: usize = 1400;
+/// The most bytes of a payload that is sent in one piece; a longer one goes in segments (SOME/IP
+/// Protocol, "SOME/IP-TP").
+pub const ALONE_LEN: usize = 1400;
 
 /// A message that is sent alone: its payload has at most 1400 bytes.
 #[derive(Clone, Copy, Debug, PartialEq, Eq)]

@@ -1,5 +1,5 @@
 -- The moments of a map's entries, put in order.
-use Rattle.std.proofs.Common.{◌≡◌, ℕ, ◌≤◌, ◌==◌, nat_lt, Bool, true, false, cond, ◌&&◌, ◌||◌, List, [], ◌∷◌, ◌++◌, length, Option, None, Some, refl, ap, sym, ◌∙◌, append_assoc, arith}
+use Rattle.std.proofs.Common.{◌≡◌, ℕ, ◌≤◌, ◌==◌, nat_lt, Bool, true, false, cond, ◌&&◌, ◌||◌, List, [], ◌∷◌, ◌++◌, length, Option, None, Some, refl, ap, sym, ◌∙◌, arith}
 use Rattle.std.specs.Option.{option_and_then}
 use Rattle.std.specs.List.{list_any, AllByRecursion, IsDistinct, cons_option}
 use Rattle.std.specs.List.Sorted.{IsStrictlySortedBy, IsSorted, IsPermutation}
@@ -28,11 +28,6 @@ apart_from_none p (x ∷ xs) none = cases (p x) refl none (apart_from_none p xs)
     cases : (b : Bool) → p x ≡ b → (b || list_any p xs) ≡ false → (list_any p xs ≡ false → AllByRecursion (λ y. p y ≡ false) xs) → (p x ≡ false) × AllByRecursion (λ y. p y ≡ false) xs
     cases true is none rest = absurd (cc)
     cases false is none rest = (is, rest none)
-
--- one more is appended
-pub append_more : {X : Type 0} (done : List X) (one : Option X) (rest : List X) → (done ++ cons_option one []) ++ rest ≡ done ++ cons_option one rest
-append_more done None rest = append_assoc done [] rest
-append_more done (Some x) rest = append_assoc done (x ∷ []) rest
 
 pub one_at_most : {X : Type 0} (one : Option X) → length (cons_option one []) ≤ 1
 one_at_most None = omega arith

@@ -5,9 +5,9 @@ use Rattle.std.specs.declared.cmp.Ordering.{Ordering}
 use Rattle.std.specs.declared.cmp.Ordering.TheVariants.{Less, Equal, Greater}
 use Rattle.std.specs.Ordering.{eq_by_cmp, is_eq, is_lt}
 use Rattle.std.specs.Cmp.{IsTotalOrder, Equal-is, eq_by_cmp_equiv, tied_itself}
-use Rattle.std.specs.FinMap.{FinMap, IsAntisymmetric, find, get, insert, remove, len, from_entries, retain_keys, get-retain_keys, get-from_entries, get-insert, get-remove, len-empty, len-insert, same_map, entries, entries_sorted, get-entries, len-entries}
+use Rattle.std.specs.FinMap.{FinMap, IsAntisymmetric, find, get, remove, len, from_entries, retain_keys, get-retain_keys, get-from_entries, get-remove, len-empty, len-insert, same_map, entries, entries_sorted, get-entries, len-entries}
 use Rattle.std.specs.FinMap.Entries.{find-append, below_all, is_sorted}
-use Rattle.std.proofs.lemmas.Bool.{and_parts, and_from, and_right}
+use Rattle.std.proofs.lemmas.Bool.{and_parts, and_from}
 use lib.Dec.{T}
 use Rattle.someip_tables.specs.Retained.{kept_if, retain}
 use Rattle.someip_tables.specs.Distinct.{are_distinct}
@@ -38,10 +38,6 @@ filter_alike p q (x ∷ xs) same = ap (λ b. cond b (x ∷ filter p xs) (filter 
 pub true_from : {b : Bool} → T b → b ≡ true
 true_from {b = true} h = refl
 true_from {b = false} h = absurd h
-
-pub and_pass : (x y : Bool) → y ≡ true → (x && y) ≡ x
-and_pass true y e = e
-and_pass false y e = refl
 
 module _ {K X : Type 0} {R : K → K → Ordering} (o : IsTotalOrder R) (exact : IsAntisymmetric R) where
   pub get-retain : (m : FinMap R X) (p : K → X → Bool) (q : K) → get (retain m p) q ≡ kept_if (p q) (get m q)
@@ -107,36 +103,6 @@ module _ {K X : Type 0} {R : K → K → Ordering} (o : IsTotalOrder R) (exact :
       let parts = and_parts _ _ d in
       let absent : is_some (get (from_entries {R = R} es) e.0) ≡ false = ap is_some (get-from_entries o es e.0 ∙ none_found _ parts.0) in
       len-insert o (from_entries es) e.0 e.1 ∙ rw absent (ap (λ n. n + 1) (len-from_entries es parts.1) ∙ omega arith)
-
-  put_kept : (p : K → X → Bool) (k q : K) (v : Option X) → eq_by_cmp R k q ≡ false → kept_if (λ x. p q x && not (eq_by_cmp R k q)) v ≡ kept_if (p q) v
-  put_kept p k q None other = refl
-  put_kept p k q (Some x) other = ap (λ b. cond b (Some x) None) (and_pass (p q x) _ (ap not other))
-
-  put_gone : (p : K → X → Bool) (k : K) (v : Option X) → kept_if (λ x. p k x && not (eq_by_cmp R k k)) v ≡ None
-  put_gone p k None = refl
-  put_gone p k (Some x) = ap (λ b. cond b (Some x) None) (and_right (p k x) _ (ap not (own_test o k)))
-
-  -- what stands with an entry, in place of an earlier one of its key
-  abbrev pub beside : (K → X → Bool) → K → K × X → Bool
-  beside p k e = p e.0 e.1 && not (eq_by_cmp R k e.0)
-
-  put_absent : (p : K → X → Bool) (k : K) (es : List (K × X)) → are_distinct R es ≡ true → find R k (filter (beside p k) es) ≡ None
-  put_absent p k es d = find-filter (beside p k) k es d ∙ put_gone p k (find R k es)
-
-  pub from_entries-put : (p : K → X → Bool) (k : K) (v : X) (es : List (K × X)) → are_distinct R es ≡ true
-      → from_entries {R = R} (filter (beside p k) es ++ (k, v) ∷ []) ≡ insert (retain (from_entries es) p) k v
-  from_entries-put p k v es d =
-      same_map o exact _ _ (λ q.
-      get-from_entries o _ q ∙ find-append R o _ k v q (put_absent p k es d) ∙ cases q (eq_by_cmp R q k) refl ∙ sym (get-insert o (retain (from_entries es) p) k v q))
-    where
-      cases : (q : K) (t : Bool) → eq_by_cmp R q k ≡ t → cond t (Some v) (find R q (filter (beside p k) es)) ≡ cond t (Some v) (get (retain (from_entries {R = R} es) p) q)
-      cases q true t = refl
-      cases q false t =
-          find-filter (beside p k) q es d ∙ put_kept p k q (find R q es) ((eq_by_cmp_equiv o).symm k q ∙ t)
-          ∙ sym (get-retain (from_entries es) p q ∙ ap (kept_if (p q)) (get-from_entries o es q))
-
-  pub distinct-put : (p : K → X → Bool) (k : K) (v : X) (es : List (K × X)) → are_distinct R es ≡ true → are_distinct R (filter (beside p k) es ++ (k, v) ∷ []) ≡ true
-  distinct-put p k v es d = distinct-push k v _ (put_absent p k es d) (distinct-filter (beside p k) es d)
 
   -- a map without a key
   pub remove_retain : (m : FinMap R X) (k : K) → retain m (λ q _. not (eq_by_cmp R k q)) ≡ remove m k

@@ -85,16 +85,6 @@ module _ {K X : Type 0} {R : K → K → Ordering} (o : IsTotalOrder R) (exact :
       at q true t = let here : p q x ≡ false = ap (λ j. p j x) (same_by_test exact q k t) ∙ fails in rw here refl
       at q false t = refl
 
-  pub retain-remove : (m : FinMap R X) (p : K → X → Bool) (k : K) → retain (remove m k) p ≡ remove (retain m p) k
-  retain-remove m p k =
-      same_map o exact _ _ (λ q.
-      get-retain o exact (remove m k) p q ∙ ap (kept_if (p q)) (get-remove o m k q) ∙ at q (eq_by_cmp R q k)
-      ∙ sym (get-remove o (retain m p) k q ∙ ap (cond (eq_by_cmp R q k) None) (get-retain o exact m p q)))
-    where
-      at : (q : K) (t : Bool) → kept_if (p q) (cond t None (get m q)) ≡ cond t None (kept_if (p q) (get m q))
-      at q true = refl
-      at q false = refl
-
   -- ---- two changes in turn
 
   pub insert-insert : (m : FinMap R X) (k : K) (x y : X) → insert (insert m k x) k y ≡ insert m k y

@@ -38,9 +38,6 @@ module _ {K X : Type 0} {R : K → K → Ordering} (o : IsTotalOrder R) where
   get-map_of es q = get-from_entries o es q ∙ find-lookup R q es
 
 module _ {K X : Type 0} {R : K → K → Ordering} (o : IsTotalOrder R) (exact : IsAntisymmetric R) where
-  pub map_of-same : (old new : List (K × X)) → ((q : K) → lookup (is_at (R q)) new ≡ lookup (is_at (R q)) old) → map_of R new ≡ map_of R old
-  map_of-same old new is = same_map o exact _ _ (λ q. get-map_of o new q ∙ is q ∙ sym (get-map_of o old q))
-
   pub map_of-insert : (old new : List (K × X)) (k : K) (x : X) → ((q : K) → lookup (is_at (R q)) new ≡ cond (is_at (R k) q) (Some x) (lookup (is_at (R q)) old))
       → map_of R new ≡ insert (map_of R old) k x
   map_of-insert old new k x is =

@@ -1,5 +1,6 @@
 pub mod Deadlines
 pub mod Retained
+pub mod Sessions
 pub mod Changed
 pub mod Waits
 pub mod Distinct

@@ -78,7 +78,7 @@ fn place_of<K: Key>(dues: &[Due<K>], due: &Due<K>) -> Result<usize, usize>
     dues.binary_search_by(|other| due.cmp(other))
 }
 
-/// Puts the moment of a key behind the others, whatever their order. There is room for it.
+/// Puts the moment of a key after the others, whatever their order. There is room for it.
 pub(crate) fn append<K: Key>(dues: &mut Vec<Due<K>>, key: K, moment: Option<u64>)
     requires { length dues.old.items < vec_capacity dues.old }
     ensures items { dues.new.items ≡ dues.old.items ++ cons_option (due_of key moment) [] }

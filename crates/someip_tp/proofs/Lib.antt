@@ -1,11 +1,2 @@
-pub mod WholeLemmas
-pub mod BoundLemmas
-pub mod CallMoments
-pub mod AcceptedLemmas
-pub mod ArrivalLemmas
-pub mod Intervals
-pub mod BlockLemmas
-pub mod RoomLemmas
-pub mod PoolLemmas
-pub mod SlotLemmas
-pub mod RisingLemmas
+pub mod promises
+pub mod reserved_memory

@@ -25,6 +25,6 @@ pub use moments::{are_in_time, calls_in_time_may_be_made, no_part_is_ahead_of_it
 pub use pool::IntervalPool;
 pub use someip_reassembly::{Offered, Reassembly, ReassemblyKey, SegmentList};
 pub use someip_segments::{
-    Segment, Segments, Sent, SentPiece, ShortMessage, TpError, append_message, append_piece,
-    append_segment, read_segment,
+    ALONE_LEN, SLICE_LEN, Segment, Segments, Sent, SentPiece, ShortMessage, TpError,
+    append_message, append_piece, append_segment, read_segment,
 };

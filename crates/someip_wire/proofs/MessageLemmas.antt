@@ -69,11 +69,6 @@ pub record IsWhole (bytes : List ℕ) : Type 0 where
   pub kind : kind_byte (kind_in bytes) ≡ get_or bytes 14 0
   pub whole : length_field bytes + 8 ≤ length bytes
 
--- a test that did not fail
-guard_none : {A : Type 0} (b : Bool) (e : A) (rest : Option A) → cond b (Some e) rest ≡ None → (b ≡ false) × (rest ≡ None)
-guard_none true e rest h = absurd cc
-guard_none false e rest h = (refl, h)
-
 pub none_is_whole : (p : ℕ) (bytes : List ℕ) → fault_at p bytes ≡ None → IsWhole bytes
 none_is_whole p bytes h = record {
   header = grind arith;
@@ -91,20 +86,20 @@ IsBytes-range bytes i n fits = IsBytes-take n (drop i bytes) (IsBytes-drop i byt
 length-range : (bytes : List ℕ) (i n : ℕ) → i + n ≤ length bytes → length (take n (drop i bytes)) ≡ n
 length-range bytes i n le = omega (arith, length-take n (drop i bytes), length-drop i bytes)
 
--- a number of two bytes, and what stands behind them
+-- a number of two bytes, and what stands after them
 spells2 : (bytes xs : List ℕ) (i : ℕ) → IsBytes bytes → i + 2 ≤ length bytes → xs ≡ drop (i + 2) bytes → to_be_bytes w16 (field16 bytes i) ++ xs ≡ drop i bytes
 spells2 bytes xs i fits le e =
     let n : (i + 2) - i ≡ 2 = omega arith in
     let same : to_be_bytes w16 (field16 bytes i) ≡ slice_range bytes i (i + 2) = be_bytes_2 (slice_range bytes i (i + 2)) (field16 bytes i) (rw n (length-range bytes i 2 le)) (IsBytes-range bytes i _ fits) refl in
     ap (λ (t : List ℕ). to_be_bytes w16 (field16 bytes i) ++ t) e ∙ ap (λ (t : List ℕ). t ++ drop (i + 2) bytes) same ∙ sym (drop_split bytes i (i + 2) (omega arith))
 
--- the Length field, and what stands behind it
+-- the Length field, and what stands after it
 spells4 : (bytes xs : List ℕ) (n : ℕ) → IsBytes bytes → 8 ≤ length bytes → n ≡ length_field bytes → xs ≡ drop 8 bytes → to_be_bytes w32 n ++ xs ≡ drop 4 bytes
 spells4 bytes xs n fits le is e =
     let same : to_be_bytes w32 n ≡ slice_range bytes 4 8 = be_bytes_4 (slice_range bytes 4 8) n (length-range bytes 4 4 le) (IsBytes-range bytes 4 4 fits) is in
     ap (λ (t : List ℕ). to_be_bytes w32 n ++ t) e ∙ ap (λ (t : List ℕ). t ++ drop 8 bytes) same ∙ sym (drop_split bytes 4 8 (omega arith))
 
--- a byte, and what stands behind it
+-- a byte, and what stands after it
 spells1 : (bytes xs : List ℕ) (i b : ℕ) → i < length bytes → b ≡ get_or bytes i 0 → xs ≡ drop (i + 1) bytes → b ∷ xs ≡ drop i bytes
 spells1 bytes xs i b lt is e = ap (λ t. b ∷ t) e ∙ ap (λ x. x ∷ drop (i + 1) bytes) is ∙ sym (drop_more bytes i 0 lt)
 
@@ -180,7 +175,7 @@ message_in_spelled m rest fits =
 
 -- ---- what bytes begin with
 
--- a message that the bytes begin with, and what stands behind it
+-- a message that the bytes begin with, and what stands after it
 pub begins_with : (m : MessageValue) (n : ℕ) (bytes : List ℕ) → BeginsWith m n bytes → (bytes ≡ spelling m ++ drop n bytes) × (length (spelling m) ≡ n)
 begins_with m n bytes begins =
     (sym (take-append-drop n bytes) ∙ ap (λ (t : List ℕ). t ++ drop n bytes) begins.1.1, omega (arith, ap length begins.1.1, length-take n bytes, begins.0))
@@ -197,7 +192,7 @@ begins_whole bytes fits w =
 pub begins_none : (p : ℕ) (m : MessageValue) (n : ℕ) (bytes : List ℕ) → BeginsWith m n bytes → fault_at p bytes ≡ None
 begins_none p m n bytes begins = ap (fault_at p) (begins_with m n bytes begins).0 ∙ fault_at_spelled p m (drop n bytes) begins.1.0
 
--- bytes behind a spelling begin with it
+-- bytes after a spelling begin with it
 pub begins_spelled : (m : MessageValue) (rest : List ℕ) → Fits m → BeginsWith m (length (spelling m)) (spelling m ++ rest)
 begins_spelled m rest fits = (omega (arith, length-append (spelling m) rest), (fits, take_at (spelling m) rest _ refl))
 

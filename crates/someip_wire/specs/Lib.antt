@@ -1,4 +1,5 @@
 pub mod Kinds
+pub mod Discovery
 pub mod Spelling
 pub mod Faults
 pub mod Datagram

@@ -1,6 +1,7 @@
 //! The header of a message (SOME/IP Protocol, "Header").
 ghost use Rattle.std.specs.Prelude.{◌≡◌};
-ghost use Rattle.someip_wire.specs.Kinds.{kind_of, has_tp_flag, with_tp_flag, without_tp_flag};
+ghost use Rattle.someip_wire.specs.Kinds.{kind_byte, kind_of, has_tp_flag, with_tp_flag, without_tp_flag};
+ghost use Rattle.someip_wire.specs.Discovery.{is_discovery};
 
 /// What a message is for (SOME/IP Protocol, "Message Type"). The five with `Tp` have the TP flag,
 /// hex 20: they are segments of such a message.
@@ -29,6 +30,24 @@ pub enum MessageType {
 }
 
 impl MessageType {
+    /// The number of the type.
+    pub fn number(self) -> u8
+        ensures { result ≡ kind_byte self }
+    {
+        match self {
+            MessageType::Request => 0x00,
+            MessageType::RequestNoReturn => 0x01,
+            MessageType::Notification => 0x02,
+            MessageType::Response => 0x80,
+            MessageType::Error => 0x81,
+            MessageType::TpRequest => 0x20,
+            MessageType::TpRequestNoReturn => 0x21,
+            MessageType::TpNotification => 0x22,
+            MessageType::TpResponse => 0xa0,
+            MessageType::TpError => 0xa1,
+        }
+    }
+
     /// Whether the TP flag is set: the message is a segment.
     pub fn has_tp_flag(self) -> bool
         ensures { result ≡ has_tp_flag self }
@@ -140,6 +159,31 @@ pub struct Header {
     pub kind: MessageType,
     /// Return Code.
     pub code: ReturnCode,
+}
+
+impl Header {
+    /// The bytes of a header, in front of the payload.
+    pub const LEN: usize = 16;
+
+    /// The Service ID of Service Discovery.
+    pub const DISCOVERY_SERVICE: u16 = 0xffff;
+
+    /// The Method ID of Service Discovery.
+    pub const DISCOVERY_METHOD: u16 = 0x8100;
+
+    /// The Interface Version of Service Discovery.
+    pub const DISCOVERY_INTERFACE: u8 = 1;
+
+    /// Whether this is the header of a message of Service Discovery, whatever its Request ID and Return
+    /// Code (SOME/IP Service Discovery Protocol, "SOME/IP-SD message").
+    pub fn is_discovery(&self) -> bool
+        ensures { result ≡ is_discovery self.now }
+    {
+        self.service == Header::DISCOVERY_SERVICE
+            && self.method == Header::DISCOVERY_METHOD
+            && self.interface == Header::DISCOVERY_INTERFACE
+            && matches!(self.kind, MessageType::Notification)
+    }
 }
 
 /// The type with this number, if there is one.

@@ -5,18 +5,15 @@ ghost use Rattle.someip_wire.specs.Kinds.{kind_byte};
 ghost use Rattle.someip_wire.specs.Spelling.{spelling, header_bytes};
 ghost use Rattle.someip_wire.specs.View.{view};
 
-use crate::header::{Header, MessageType};
+use crate::header::Header;
 use crate::message::Message;
 use byteorder::{BigEndian, ByteOrder};
-
-/// The bytes of a header.
-const HEADER_LEN: usize = 16;
 
 /// How many bytes the message has: 16, and its payload.
 pub fn written_len(message: &Message<'_>) -> usize
     ensures { result ≡ length (spelling (view message.now)) }
 {
-    HEADER_LEN + message.payload.len()
+    Header::LEN + message.payload.len()
 }
 
 /// Writes the message to the front of the bytes, and says how many bytes it has. The bytes after
@@ -34,7 +31,7 @@ pub fn write_message(message: &Message<'_>, out: &mut [u8]) -> usize
 {
     let size = written_len(message);
     write_header(&message.header, message.payload.len() as u32, out);
-    out[HEADER_LEN..size].copy_from_slice(message.payload);
+    out[Header::LEN..size].copy_from_slice(message.payload);
     size
 }
 
@@ -48,7 +45,7 @@ pub fn header_bytes(header: &Header, payload_len: u32) -> [u8; 16]
     requires { 8 + payload_len < 2 ^ 32 }
     ensures { result ≡ header_bytes header.now payload_len }
 {
-    let mut bytes = [0; HEADER_LEN];
+    let mut bytes = [0; Header::LEN];
     write_header(header, payload_len, &mut bytes);
     bytes
 }
@@ -74,7 +71,7 @@ fn write_ids(first: u16, second: u16, out: &mut [u8])
     BigEndian::write_u16(&mut out[2..], second);
 }
 
-/// Writes the four bytes behind the Request ID.
+/// Writes the four bytes after the Request ID.
 fn write_kind(header: &Header, out: &mut [u8])
     requires room { 4 ≤ length out.old }
     ensures { out.new
@@ -82,24 +79,6 @@ fn write_kind(header: &Header, out: &mut [u8])
 {
     out[0] = 1;
     out[1] = header.interface;
-    out[2] = byte_of_kind(header.kind);
+    out[2] = header.kind.number();
     out[3] = header.code.0;
-}
-
-/// The number of a type.
-fn byte_of_kind(kind: MessageType) -> u8
-    ensures { result ≡ kind_byte kind }
-{
-    match kind {
-        MessageType::Request => 0x00,
-        MessageType::RequestNoReturn => 0x01,
-        MessageType::Notification => 0x02,
-        MessageType::Response => 0x80,
-        MessageType::Error => 0x81,
-        MessageType::TpRequest => 0x20,
-        MessageType::TpRequestNoReturn => 0x21,
-        MessageType::TpNotification => 0x22,
-        MessageType::TpResponse => 0xa0,
-        MessageType::TpError => 0xa1,
-    }
 }

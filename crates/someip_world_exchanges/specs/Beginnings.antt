@@ -7,8 +7,8 @@ use Rattle.std.specs.declared.net.ipv4_addr.Ipv4Addr.{Ipv4Addr}
 use Rattle.sd_wire.specs.declared.entry.EntryHead.{EntryHead}
 use Rattle.sd_wire.specs.declared.entry.EntryHead.TheVariants as heads
 use Rattle.sd_wire.specs.declared.entry.EventgroupEntry.{EventgroupEntry}
-use Rattle.sd_wire.specs.Kinds.{is_subscribe}
-use Rattle.sd_wire.specs.Values.{EntryValue}
+use Rattle.sd_wire.specs.contents.Kinds.{is_subscribe}
+use Rattle.sd_wire.specs.contents.Values.{EntryValue}
 use Rattle.sd_instances.specs.declared.eventgroup.Eventgroup.{Eventgroup}
 use Rattle.someip_node_rules.specs.rules.Learning.{eventgroup_in}
 use Rattle.someip_node_rules.specs.forms.Outputs.{Given, Announces, Sends, Tells}

@@ -10,18 +10,18 @@ use Rattle.someip_wire.specs.Spelling.{Fits, spelling}
 use Rattle.someip_wire.proofs.DatagramLemmas.{items_from-datagram}
 use Rattle.sd_wire.specs.declared.entry.EntryHead.TheVariants.{Service}
 use Rattle.sd_wire.specs.declared.entry.ServiceEntry.{ServiceEntry}
-use Rattle.sd_wire.specs.Endpoints.{first_udp_endpoint, options_of}
-use Rattle.sd_wire.specs.Program.{reading}
-use Rattle.sd_wire.specs.Splitting.{FitsDatagram}
-use Rattle.sd_wire.specs.Values.{EntryValue, SdMessageValue, ReadValue, SdValue, good}
-use Rattle.sd_wire.specs.Writing.{EntryFits, WritesSd, as_read}
-use Rattle.sd_wire.proofs.EncodingLemmas.{written_bytes}
-use Rattle.sd_wire.proofs.FrontLemmas.{fits_with}
-use Rattle.sd_wire.proofs.SdLemmas.{holds_read}
-use Rattle.sd_wire.proofs.WriteLemmas.{written_is_read}
+use Rattle.sd_wire.specs.contents.Endpoints.{first_udp_endpoint, options_of}
+use Rattle.sd_wire.specs.decoding.Program.{reading}
+use Rattle.sd_wire.specs.fronts.Splitting.{FitsDatagram}
+use Rattle.sd_wire.specs.contents.Values.{EntryValue, SdMessageValue, ReadValue, SdValue, good}
+use Rattle.sd_wire.specs.encoding.Writing.{EntryFits, WritesSd, as_read}
+use Rattle.sd_wire.proofs.encoding.EncodingLemmas.{written_bytes}
+use Rattle.sd_wire.proofs.fronts.FrontLemmas.{fits_with}
+use Rattle.sd_wire.proofs.decoding.SdLemmas.{holds_read}
+use Rattle.sd_wire.proofs.encoding.WriteLemmas.{written_is_read}
 use Rattle.sd_session.specs.declared.stamp.Stamp.{Stamp}
 use Rattle.someip_node_rules.specs.forms.Entries.{discovery_message, discovery_payload}
-use Rattle.someip_node_rules.specs.rules.Handling.{is_discovery}
+use Rattle.someip_node_rules.specs.rules.Handling.{is_valid_discovery}
 use Rattle.someip_node_laws.proofs.fits.FitRules.{other_service}
 use Rattle.someip_node_rules.specs.trails.Packets.{Packet, HasDiscovery, HasMessage, HasServiceEntry}
 use Rattle.someip_node_rules.proofs.lists.MemberLemmas.{all_map, all_members, all_weaker, at_member}
@@ -42,10 +42,10 @@ only_message p m other is fits has =
     ok_same other m (at_member (λ x. x ≡ Ok m) (Ok m ∷ []) (Ok other) (refl, tt) (subst (λ xs. Contains xs (Ok other)) all has))
 
 -- a message that is not taken for one of Service Discovery holds none
-pub undiscovered : (p : Packet) (m : wire.MessageValue) (session : ℕ) (v : SdValue) → p.bytes ≡ spelling m → Fits m → is_discovery m.header ≡ false → HasDiscovery p session v → ⊥
+pub undiscovered : (p : Packet) (m : wire.MessageValue) (session : ℕ) (v : SdValue) → p.bytes ≡ spelling m → Fits m → is_valid_discovery m.header ≡ false → HasDiscovery p session v → ⊥
 undiscovered p m session v is fits not has =
     let same = only_message p m has.message is fits has.stands in
-    let found : is_discovery m.header ≡ true = subst (λ x. is_discovery x.header ≡ true) same has.discovery in
+    let found : is_valid_discovery m.header ≡ true = subst (λ x. is_valid_discovery x.header ≡ true) same has.discovery in
     absurd cc
 
 -- nor does one of another service

@@ -7,14 +7,14 @@ use Rattle.someip_wire.specs.Spelling.{Fits, spelling}
 use Rattle.someip_segments.specs.Sent.{PieceValue, piece_message, sent}
 use Rattle.someip_segments.proofs.SentLemmas.{all_fit}
 use Rattle.sd_wire.specs.declared.entry.ServiceEntry.{ServiceEntry}
-use Rattle.sd_wire.specs.Kinds.{is_offer}
+use Rattle.sd_wire.specs.contents.Kinds.{is_offer}
 use Rattle.sd_instances.specs.declared.keys.InstanceId.{InstanceId}
 use Rattle.sd_core.specs.declared.received.KnownOffer.{KnownOffer}
 use Rattle.someip_node_rules.specs.declared.config.Config.{Config}
 use Rattle.someip_node_rules.specs.declared.output.Output.TheVariants.{Sent}
 use Rattle.someip_node_rules.specs.forms.Entries.{discovery_message}
 use Rattle.someip_node_laws.specs.Fitting.{FitsConfig, FitsWire}
-use Rattle.someip_node_rules.specs.rules.Handling.{is_discovery}
+use Rattle.someip_node_rules.specs.rules.Handling.{is_valid_discovery}
 use Rattle.someip_node_rules.specs.histories.History.{History, answers_of}
 use Rattle.someip_node_rules.specs.rules.Inputs.{Input}
 use Rattle.someip_node_rules.specs.trails.Meanings.{GivenBy, IsTold}
@@ -42,7 +42,7 @@ module _ (p : Packet) (head : ServiceEntry) (endpoint : SocketAddrV4) (stands : 
   abbrev Due : Type 0
   Due = IsConfigured h.config (record { service = head.service; instance = head.instance }) head.major (Some endpoint)
 
-  no_piece : (from to : SocketAddrV4) (piece : PieceValue) → Fits (piece_message piece) → is_discovery (piece_message piece).header ≡ false
+  no_piece : (from to : SocketAddrV4) (piece : PieceValue) → Fits (piece_message piece) → is_valid_discovery (piece_message piece).header ≡ false
       → Sent p.from p.to p.bytes ≡ datagram_of from to piece → ⊥
   no_piece from to piece fits not is =
       let bytes : p.bytes ≡ spelling (piece_message piece) = cc in
@@ -58,7 +58,7 @@ module _ (p : Packet) (head : ServiceEntry) (endpoint : SocketAddrV4) (stands : 
   by_given (Sends from to m) by fits among =
       absurd (at_member (λ o. Sent p.from p.to p.bytes ≡ o → ⊥) (map (datagram_of from to) (sent m)) (Sent p.from p.to p.bytes)
       (all_map (λ o. Sent p.from p.to p.bytes ≡ o → ⊥) (datagram_of from to) (sent m)
-      (all_both (λ piece. Fits (piece_message piece)) (λ piece. is_discovery (piece_message piece).header ≡ false)
+      (all_both (λ piece. Fits (piece_message piece)) (λ piece. is_valid_discovery (piece_message piece).header ≡ false)
       (λ piece. Sent p.from p.to p.bytes ≡ datagram_of from to piece → ⊥) (no_piece from to) (sent m)
       (all_fit m fits.0) (pieces_undiscovered m fits.1))) among refl)
   by_given (Tells output) by fits among =

@@ -6,18 +6,16 @@ use Rattle.std.proofs.lemmas.Bool.{ltb-false}
 use Rattle.std.proofs.lemmas.List.Elements.{filter_map-append}
 use Rattle.std.specs.Net.Addr.{IsIpv4Addr}
 use Rattle.std.specs.Net.Socket.{IsSocketAddrV4}
+use Rattle.someip_wire.proofs.TypeLemmas.{flagged_is_no_event}
 use Rattle.someip_wire.specs.declared.header.Header.{Header}
-use Rattle.someip_wire.specs.declared.header.MessageType.{MessageType}
-use Rattle.someip_wire.specs.declared.header.MessageType.TheVariants as kinds
-use Rattle.someip_wire.specs.Kinds.{with_tp_flag}
 use Rattle.someip_wire.specs.Spelling.{Fits, IsBytes, MessageValue, spelling}
 use Rattle.someip_segments.specs.Segments.{segment_header, segments_within}
 use Rattle.someip_segments.specs.Sent.{Alone, InSegment, is_long, piece_message, segments_of, sent}
 use Rattle.someip_segments.proofs.SentLemmas.{all_fit}
-use Rattle.sd_wire.specs.Spelling.{HeadFits}
-use Rattle.sd_wire.specs.Splitting.{FitsDatagram}
-use Rattle.sd_wire.specs.Values.{EntryValue, good}
-use Rattle.sd_wire.specs.Writing.{EntryFits}
+use Rattle.sd_wire.specs.layout.Spelling.{HeadFits}
+use Rattle.sd_wire.specs.fronts.Splitting.{FitsDatagram}
+use Rattle.sd_wire.specs.contents.Values.{EntryValue, good}
+use Rattle.sd_wire.specs.encoding.Writing.{EntryFits}
 use Rattle.sd_session.specs.declared.stamp.Stamp.{Stamp}
 use Rattle.sd_instances.specs.declared.keys.InstanceId.{InstanceId}
 use Rattle.someip_node_rules.specs.declared.config.Config.{Config}
@@ -28,7 +26,7 @@ use Rattle.someip_node_rules.specs.declared.output.Output.{Output}
 use Rattle.someip_node_rules.specs.trails.Copies.{IsCopy, IsCopyOfOffer, IsCopyOfWant}
 use Rattle.someip_node_rules.specs.forms.Entries.{discovery_message}
 use Rattle.someip_node_laws.specs.Fitting.{FitsConfig, FitsHistory, FitsInput, FitsInstance, FitsOffer, FitsPacket, FitsPayload, FitsWant, FitsWire, head_of}
-use Rattle.someip_node_rules.specs.rules.Handling.{is_discovery, is_notification}
+use Rattle.someip_node_rules.specs.rules.Handling.{is_valid_discovery}
 use Rattle.someip_node_rules.specs.histories.History.{History, answers_of}
 use Rattle.someip_node_rules.specs.rules.Inputs as inputs
 use Rattle.someip_node_rules.specs.rules.Inputs.{Input}
@@ -62,32 +60,19 @@ use Rattle.someip_world_rules.proofs.Sendings.{sends}
 
 -- ---- the pieces of a message that is none of Service Discovery
 
--- with the TP flag no type is that of an event
-flagged : (kind : MessageType) → is_notification (with_tp_flag kind) ≡ false
-flagged kinds.Request = refl
-flagged kinds.RequestNoReturn = refl
-flagged kinds.Notification = refl
-flagged kinds.Response = refl
-flagged kinds.Error = refl
-flagged kinds.TpRequest = refl
-flagged kinds.TpRequestNoReturn = refl
-flagged kinds.TpNotification = refl
-flagged kinds.TpResponse = refl
-flagged kinds.TpError = refl
-
-segments_undiscovered : (n : ℕ) (header : Header) (offset : ℕ) (rest : List ℕ) → is_discovery header ≡ false → AllByRecursion (λ s. is_discovery s.header ≡ false) (segments_within n header offset rest)
+segments_undiscovered : (n : ℕ) (header : Header) (offset : ℕ) (rest : List ℕ) → is_valid_discovery header ≡ false → AllByRecursion (λ s. is_valid_discovery s.header ≡ false) (segments_within n header offset rest)
 unfolding segments_within
 segments_undiscovered zero header offset rest not = tt
 segments_undiscovered (suc n) header offset [] not = tt
 segments_undiscovered (suc n) header offset (b ∷ rest) not = (not, segments_undiscovered n header (offset + 1392) (drop 1392 (b ∷ rest)) not)
 
-pub pieces_undiscovered : (m : MessageValue) → is_discovery m.header ≡ false → AllByRecursion (λ piece. is_discovery (piece_message piece).header ≡ false) (sent m)
+pub pieces_undiscovered : (m : MessageValue) → is_valid_discovery m.header ≡ false → AllByRecursion (λ piece. is_valid_discovery (piece_message piece).header ≡ false) (sent m)
 pieces_undiscovered m not = cases (is_long m.payload)
   where
-    cases : (b : Bool) → AllByRecursion (λ piece. is_discovery (piece_message piece).header ≡ false) (if b then map InSegment (segments_of m) else Alone m ∷ [])
+    cases : (b : Bool) → AllByRecursion (λ piece. is_valid_discovery (piece_message piece).header ≡ false) (if b then map InSegment (segments_of m) else Alone m ∷ [])
     cases true =
-        all_map (λ piece. is_discovery (piece_message piece).header ≡ false) InSegment (segments_of m)
-        (segments_undiscovered (length m.payload) (segment_header m.header) 0 m.payload (no_notification (segment_header m.header) (flagged m.header.kind)))
+        all_map (λ piece. is_valid_discovery (piece_message piece).header ≡ false) InSegment (segments_of m)
+        (segments_undiscovered (length m.payload) (segment_header m.header) 0 m.payload (no_notification (segment_header m.header) (flagged_is_no_event m.header.kind)))
     cases false = (not, tt)
 
 -- ---- datagrams
@@ -127,7 +112,7 @@ module _ (p : Packet) where
         (subst (λ v. Contains v.entries e) value has.within);
   }
 
-  piece_comes : (m : MessageValue) → Fits m → is_discovery m.header ≡ false → p.bytes ≡ spelling m → FitsPacket p
+  piece_comes : (m : MessageValue) → Fits m → is_valid_discovery m.header ≡ false → p.bytes ≡ spelling m → FitsPacket p
   piece_comes m fits not is = record {
     messages = λ other has. subst Fits (sym (only_message p m other is fits has)) fits;
     entries = λ e has. absurd (undiscovered p m has.session has.value is fits not has.stands);
@@ -148,7 +133,7 @@ module _ (h : History) (input : Input) where
   )
   written_comes (Sends from to m) by fits =
       all_map Comes (datagram_of from to) (sent m)
-      (all_both (λ piece. Fits (piece_message piece)) (λ piece. is_discovery (piece_message piece).header ≡ false) (λ piece. Comes (datagram_of from to piece))
+      (all_both (λ piece. Fits (piece_message piece)) (λ piece. is_valid_discovery (piece_message piece).header ≡ false) (λ piece. Comes (datagram_of from to piece))
       (λ piece own not d is.
       let same : d ≡ record { from = from; to = to; bytes = spelling (piece_message piece) } = cc in
       subst FitsSent (sym same) (piece_comes (record { from = from; to = to; bytes = spelling (piece_message piece) }) (piece_message piece) own not refl))

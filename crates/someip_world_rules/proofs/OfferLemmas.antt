@@ -9,9 +9,9 @@ use Rattle.sd_wire.specs.declared.entry.EntryHead.TheVariants.{Service, Eventgro
 use Rattle.sd_wire.specs.declared.entry.EventgroupEntry.{EventgroupEntry}
 use Rattle.sd_wire.specs.declared.entry.ServiceEntry.{ServiceEntry}
 use Rattle.sd_wire.specs.declared.entry.ServiceKind.TheVariants.{Find}
-use Rattle.sd_wire.specs.Endpoints.{first_udp_endpoint, options_of}
-use Rattle.sd_wire.specs.Kinds.{is_offer}
-use Rattle.sd_wire.specs.Values.{EntryValue}
+use Rattle.sd_wire.specs.contents.Endpoints.{first_udp_endpoint, options_of}
+use Rattle.sd_wire.specs.contents.Kinds.{is_offer}
+use Rattle.sd_wire.specs.contents.Values.{EntryValue}
 use Rattle.sd_session.specs.declared.stamp.Stamp.{Stamp}
 use Rattle.sd_instances.specs.declared.eventgroup.Eventgroup as groups
 use Rattle.sd_instances.specs.declared.keys.InstanceId.{InstanceId}

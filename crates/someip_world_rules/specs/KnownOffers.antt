@@ -6,9 +6,9 @@ use Rattle.std.specs.Net.Socket.{v4_ip}
 use Rattle.std.specs.declared.net.socket_addr.SocketAddrV4.{SocketAddrV4}
 use Rattle.sd_wire.specs.declared.entry.ServiceEntry.{ServiceEntry}
 use Rattle.sd_wire.specs.declared.entry.EntryHead.TheVariants.{Service}
-use Rattle.sd_wire.specs.Endpoints.{first_udp_endpoint, options_of}
-use Rattle.sd_wire.specs.Kinds.{is_offer}
-use Rattle.sd_wire.specs.Values.{EntryValue}
+use Rattle.sd_wire.specs.contents.Endpoints.{first_udp_endpoint, options_of}
+use Rattle.sd_wire.specs.contents.Kinds.{is_offer}
+use Rattle.sd_wire.specs.contents.Values.{EntryValue}
 use Rattle.sd_instances.specs.declared.keys.InstanceId.{InstanceId}
 use Rattle.sd_core.specs.declared.received.KnownOffer.{KnownOffer}
 use Rattle.someip_node_rules.specs.histories.History.{History}

@@ -62,7 +62,7 @@ module _ (nodes : List SetupNode) (configs : List Config) (steps : List Step) wh
   OffersAreConfigured n = (w : World) → n ≤ length steps → LeadTo nodes configs (take n steps) w → KnowsAsConfigured configs w
 
   -- by the verdict keys are reused cleanly in the first so many steps: the run has so many, and is clean, or the first step that
-  -- breaks it has an index behind them
+  -- breaks it has an index after them
   abbrev pub IsCleanUpTo : Reuse → ℕ → Type 0
   IsCleanUpTo Clean n = n ≤ length steps
   IsCleanUpTo (Broken at) n = n < at

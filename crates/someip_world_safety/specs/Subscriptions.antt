@@ -6,7 +6,7 @@ use Rattle.std.specs.declared.net.ipv4_addr.Ipv4Addr.{Ipv4Addr}
 use Rattle.std.specs.declared.net.socket_addr.SocketAddrV4.{SocketAddrV4}
 use Rattle.someip_tables.specs.declared.deadline.Deadline.{Deadline}
 use Rattle.sd_wire.specs.declared.entry.EventgroupEntry.{EventgroupEntry}
-use Rattle.sd_wire.specs.Kinds.{is_subscribe}
+use Rattle.sd_wire.specs.contents.Kinds.{is_subscribe}
 use Rattle.sd_instances.specs.declared.eventgroup.Eventgroup.{Eventgroup}
 use Rattle.sd_subscribers.specs.SubscriberTables.{subscription_at}
 use Rattle.someip_node_rules.specs.declared.config.Config.{Config}

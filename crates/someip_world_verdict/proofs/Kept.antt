@@ -7,7 +7,8 @@ use Rattle.someip_wire.specs.Spelling.{MessageValue}
 use Rattle.someip_segments.specs.Sent.{is_long}
 use Rattle.someip_reassembly.specs.declared.key.ReassemblyKey.{ReassemblyKey}
 use Rattle.sd_instances.specs.declared.eventgroup.Eventgroup.{Eventgroup}
-use Rattle.someip_rpc.specs.Sessions.{session_after, session_after_last}
+use Rattle.someip_tables.specs.Sessions.{session_after_last}
+use Rattle.someip_rpc.specs.Sessions.{session_after}
 use Rattle.someip_rpc.specs.declared.ids.EventId.{EventId}
 use Rattle.someip_node_rules.specs.histories.CallQuestions.{times_published}
 use Rattle.someip_node_rules.specs.histories.History.{History}

@@ -11,7 +11,7 @@ use Rattle.sd_instances.specs.Eventgroups.{eventgroup_cmp}
 use Rattle.sd_instances.specs.Keys.{instance_cmp}
 use Rattle.sd_instances.specs.declared.keys.InstanceId.{InstanceId}
 use Rattle.someip_rpc.specs.Events.{event_of}
-use Rattle.someip_rpc.specs.Sessions.{session_after_last}
+use Rattle.someip_tables.specs.Sessions.{session_after_last}
 use Rattle.someip_rpc.specs.declared.ids.EventId.{EventId}
 use Rattle.someip_node_rules.specs.declared.config.Config.{Config}
 use Rattle.someip_node_rules.specs.declared.config.OfferedService.{OfferedService}

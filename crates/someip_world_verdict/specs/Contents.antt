@@ -7,6 +7,7 @@ use Rattle.std.specs.declared.net.ipv4_addr.Ipv4Addr.{Ipv4Addr}
 use Rattle.std.specs.declared.net.socket_addr.SocketAddrV4.{SocketAddrV4}
 use Rattle.someip_wire.specs.declared.error.WireError.{WireError}
 use Rattle.someip_wire.specs.declared.header.Header.{Header}
+use Rattle.someip_wire.specs.Discovery.{is_discovery}
 use Rattle.someip_wire.specs.Kinds.{has_tp_flag, without_tp_flag}
 use Rattle.someip_wire.specs.Reading.{items_of}
 use Rattle.someip_wire.specs.Spelling.{MessageValue}
@@ -15,12 +16,11 @@ use Rattle.someip_reassembly.specs.declared.key.ReassemblyKey.{ReassemblyKey}
 use Rattle.sd_wire.specs.declared.entry.EntryHead.{EntryHead}
 use Rattle.sd_wire.specs.declared.entry.EntryHead.TheVariants as heads
 use Rattle.sd_wire.specs.declared.error.SdError.{SdError}
-use Rattle.sd_wire.specs.Kinds.{is_subscribe}
-use Rattle.sd_wire.specs.Program.{reading}
-use Rattle.sd_wire.specs.Values.{ReadValue, SdValue}
+use Rattle.sd_wire.specs.contents.Kinds.{is_subscribe}
+use Rattle.sd_wire.specs.decoding.Program.{reading}
+use Rattle.sd_wire.specs.contents.Values.{ReadValue, SdValue}
 use Rattle.someip_node_rules.specs.declared.output.Output.{Output}
 use Rattle.someip_node_laws.specs.Fitting.{head_of}
-use Rattle.someip_node_rules.specs.rules.Handling.{is_notification}
 use Rattle.someip_world_rules.specs.Datagrams.{SentDatagram, sent_with}
 use Rattle.someip_world_exchanges.specs.declared.exchange_key.ExchangeKey.{ExchangeKey}
 use Rattle.someip_world_exchanges.specs.declared.exchange_key.ExchangeKey.TheVariants as keys
@@ -28,10 +28,6 @@ use Rattle.someip_world_exchanges.specs.declared.naming.Naming.{Naming}
 use Rattle.someip_world_exchanges.specs.Beginnings.{SentSubscribe}
 use Rattle.someip_world_exchanges.specs.Namings.{named_by_kind, named_by_type}
 use Rattle.someip_world_verdict.specs.declared.said.Said.{Said}
-
--- a message of Service Discovery is told by its Service ID and its type: a service of the application has another ID
-abbrev pub is_of_discovery : Header → Bool
-is_of_discovery h = (h.service == 0xFFFF) && is_notification h.kind
 
 -- the header of the whole message, of which this is one or a segment
 abbrev pub whole_header : Header → Header
@@ -60,7 +56,7 @@ said_by_header from to h = map named_alone (named_by_type h.kind from to h)
 
 abbrev pub said_by_message : SocketAddrV4 → SocketAddrV4 → MessageValue → List Said
 said_by_message from to m =
-    if is_of_discovery m.header then said_by_reading (v4_ip from) (v4_ip to) (reading m.payload)
+    if is_discovery m.header then said_by_reading (v4_ip from) (v4_ip to) (reading m.payload)
     else said_by_header from to (whole_header m.header)
 
 -- a datagram of a node holds one message

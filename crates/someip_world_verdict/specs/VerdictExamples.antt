@@ -117,7 +117,7 @@ subscribed_twice_lines =
 
 -- ---- mixed answers
 
--- an answer of 1500 times one byte, and its two segments: 1392 bytes, and the 108 behind them
+-- an answer of 1500 times one byte, and its two segments: 1392 bytes, and the 108 after them
 abbrev pub long_answer : ℕ → List ℕ
 long_answer byte = replicate 1500 byte
 

@@ -15,11 +15,11 @@ use crate::note::Note;
 use crate::opening::open_all;
 use crate::publishing::{Publication, publication_in};
 use crate::stream::Stream;
-use crate::table::{at, put};
 use crate::taken::Taken;
 use crate::telling::token_in;
 use sd_core::Eventgroup;
 use someip_node_rules::Config;
+use someip_tables::{put_value, value_at};
 use someip_world_rules::{Datagram, Line};
 use someip_world_steps::Step;
 use std::alloc::{AllocError, Global};
@@ -46,7 +46,7 @@ fn answered_in(notes: &[Note], life: &Life, step: &Step) -> Option<usize>
 {
     match step {
         Step::Deliver { number, .. } => Some(note_at(notes, *number)?.step),
-        Step::Answer { token, .. } => at(&life.tokens, *token),
+        Step::Answer { token, .. } => value_at(&life.tokens, *token),
         _ => None,
     }
 }
@@ -83,7 +83,7 @@ fn publish(
 {
     if let Some(publication) = publication {
         taken.take(publication.key, step)?;
-        put(&mut life.sessions, publication.event, publication.session)?;
+        put_value(&mut life.sessions, publication.event, publication.session)?;
     }
     Ok(())
 }
@@ -102,7 +102,7 @@ fn hand_up(
     };
     for line in lines {
         if let Some(token) = token_in(&line.told) {
-            put(tokens, token, sent)?;
+            put_value(tokens, token, sent)?;
         }
     }
     Ok(())

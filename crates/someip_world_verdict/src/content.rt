@@ -3,12 +3,12 @@ ghost use Rattle.std.specs.Prelude.{◌≡◌, map, IfOk};
 ghost use Rattle.std.specs.Option.{option_to_list};
 ghost use Rattle.std.specs.Result.{result_map_both};
 ghost use Rattle.someip_wire.specs.View.{view};
-ghost use Rattle.sd_wire.specs.Program.{reading};
-ghost use Rattle.sd_wire.specs.Values.{view_read, view_sd};
+ghost use Rattle.sd_wire.specs.decoding.Program.{reading};
+ghost use Rattle.sd_wire.specs.contents.Values.{view_read, view_sd};
 ghost use Rattle.someip_node_laws.specs.Fitting.{head_of};
 ghost use Rattle.someip_node_rules.specs.rules.Learning.{eventgroup_in};
 ghost use Rattle.someip_world_exchanges.specs.Namings.{named_by_kind, named_by_type, of_call, of_event, of_subscription};
-ghost use Rattle.someip_world_verdict.specs.Contents.{is_of_discovery, said_by_entries, said_by_head, said_by_header, said_by_message, said_by_reading, said_in, stream_in, whole_header};
+ghost use Rattle.someip_world_verdict.specs.Contents.{said_by_entries, said_by_head, said_by_header, said_by_message, said_by_reading, said_in, stream_in, whole_header};
 
 use crate::said::Said;
 use sd_core::{Eventgroup, InstanceId};
@@ -68,13 +68,6 @@ fn whole_header(header: Header) -> Header
     }
 }
 
-/// Whether a message is one of Service Discovery.
-fn is_of_discovery(header: &Header) -> bool
-    ensures { result ≡ is_of_discovery header.now }
-{
-    header.service == 0xffff && matches!(header.kind, MessageType::Notification)
-}
-
 /// What a message says.
 fn said_by_message(
     alloc: Global,
@@ -84,7 +77,7 @@ fn said_by_message(
 ) -> Result<Vec<Said>, AllocError>
     ensures { IfOk result (λ said. said.items ≡ said_by_message from to (view message.now)) }
 {
-    if is_of_discovery(&message.header) {
+    if message.header.is_discovery() {
         let found = read_payload(alloc, message.payload)?;
         said_by_reading(alloc, *from.ip(), *to.ip(), found)
     } else {

@@ -17,7 +17,6 @@ mod opening;
 mod publishing;
 mod said;
 mod stream;
-mod table;
 mod taken;
 mod telling;
 mod verdict;

@@ -6,10 +6,9 @@ ghost use Rattle.someip_world_verdict.specs.Views.{view_life};
 ghost use Rattle.std.specs.Prelude.{take, List, drop};
 
 use crate::stream::Stream;
-use crate::table::{at, put};
 use sd_core::Eventgroup;
 use someip_rpc::EventId;
-use someip_tables::Moment;
+use someip_tables::{Moment, put_value, value_at};
 use std::alloc::{AllocError, Global};
 use std::collections::BTreeMap;
 
@@ -65,7 +64,7 @@ impl Life {
     pub(crate) fn arrival(&self, stream: Option<Stream>) -> Option<Arrival>
         ensures { result ≡ arrival_at (view_life self.now) stream }
     {
-        at(&self.arrivals, stream?)
+        value_at(&self.arrivals, stream?)
     }
 
     /// A segment of a message comes, if it is one.
@@ -82,7 +81,7 @@ impl Life {
                     moment: self.clock,
                     payload,
                 };
-                put(&mut self.arrivals, stream, arrival)
+                put_value(&mut self.arrivals, stream, arrival)
             }
             _ => Ok(()),
         }

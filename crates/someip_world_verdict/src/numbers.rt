@@ -6,12 +6,10 @@ ghost use Rattle.someip_segments.specs.Sent.{is_long};
 ghost use Rattle.someip_world_verdict.specs.Booking.{long_payload_of, number_of, numbered, payload_of};
 ghost use Rattle.someip_world_verdict.specs.Views.{view_numbers};
 
+use someip_segments::ALONE_LEN;
 use someip_world_steps::{Step, StepPayload};
 use std::alloc::{AllocError, Global};
 use std::collections::BTreeMap;
-
-/// The most bytes of a payload that goes in one datagram (SOME/IP Protocol, "SOME/IP-TP").
-const SHORT: usize = 1400;
 
 /// The number of the payload that a step of an index sends, if it goes in segments.
 pub(crate) fn number_long(
@@ -71,7 +69,7 @@ fn long_payload_of(alloc: Global, step: &Step) -> Result<Option<Vec<u8>>, AllocE
     ensures { IfOk result (λ found. option_map (λ v. v.items) found ≡ long_payload_of step.now) }
 {
     match payload_of(step) {
-        Some(payload) if payload.len() > SHORT => {
+        Some(payload) if payload.len() > ALONE_LEN => {
             let bytes = payload.to_payload(alloc)?;
             Ok(Some(bytes.as_slice().to_vec(alloc)?))
         }

@@ -6,9 +6,9 @@ ghost use Rattle.someip_world_verdict.specs.Booking.{opened_by, opened_by_all, s
 ghost use Rattle.someip_world_verdict.specs.Views.{view_openings};
 
 use crate::said::Said;
-use crate::table::{at, put};
 use crate::taken::Taken;
 use sd_core::Eventgroup;
+use someip_tables::{put_value, value_at};
 use someip_world_exchanges::{ExchangeKey, Side, SubscriptionExchange};
 use std::alloc::AllocError;
 use std::collections::BTreeMap;
@@ -59,9 +59,9 @@ fn subscribe(
     ensures { OnOk result (view_openings taken.new counters.new
         ≡ subscribed step subscription (view_openings taken.old counters.old)) }
 {
-    if at(counters, subscription.eventgroup) == Some(subscription.counter) {
+    if value_at(counters, subscription.eventgroup) == Some(subscription.counter) {
         return Ok(());
     }
     taken.take(ExchangeKey::Subscription(subscription), step)?;
-    put(counters, subscription.eventgroup, subscription.counter)
+    put_value(counters, subscription.eventgroup, subscription.counter)
 }

@@ -1,16 +1,15 @@
 //! The events that steps publish.
 ghost use Rattle.std.specs.Prelude.{◌≡◌};
 ghost use Rattle.std.specs.FinMap as finite;
-ghost use Rattle.someip_rpc.specs.Sessions.{next_session, session_after_last};
 ghost use Rattle.someip_world_verdict.specs.Booking.{publication_by, publication_in, publication_of};
 ghost use Rattle.someip_world_verdict.specs.Views.{view_life, view_publication};
 ghost use Rattle.std.specs.Option.{option_map};
 
 use crate::life::Life;
-use crate::table::at;
 use sd_core::InstanceId;
 use someip_node_rules::{Config, OfferedService};
 use someip_rpc::{EventId, MessageId};
+use someip_tables::{session_after_last, value_at};
 use someip_world_exchanges::{EventExchange, ExchangeKey};
 use someip_world_steps::Step;
 
@@ -67,7 +66,7 @@ fn publication_by(life: &Life, service: &OfferedService, event: u16) -> Publicat
         instance: service.rules.instance,
         event,
     };
-    let session = session_after_last(at(&life.sessions, id));
+    let session = session_after_last(value_at(&life.sessions, id));
     let key = ExchangeKey::Event(EventExchange {
         server: service.rules.endpoint,
         message: MessageId {
@@ -81,16 +80,5 @@ fn publication_by(life: &Life, service: &OfferedService, event: u16) -> Publicat
         event: id,
         session,
         key,
-    }
-}
-
-/// The session after the last one, if there was one: the first session is 1, and FFFF is followed by 1
-/// (SOME/IP Protocol, "Session ID").
-fn session_after_last(last: Option<u16>) -> u16
-    ensures { result ≡ session_after_last last }
-{
-    match last {
-        None | Some(0xffff) => 1,
-        Some(last) => last + 1,
     }
 }

@@ -1,13 +1,11 @@
 //! The segments of one message, among those that come to a node.
 ghost use Rattle.std.specs.Prelude.{◌≡◌};
-ghost use Rattle.someip_wire.specs.Kinds.{kind_byte};
 ghost use Rattle.someip_world_verdict.specs.Streams.{stream_of};
 ghost use Rattle.someip_world_verdict.specs.StreamOrder.{exact_streams};
 
 use someip_rpc::MessageId;
 use someip_tables::Key;
 use someip_tp::ReassemblyKey;
-use someip_wire::MessageType;
 use std::net::SocketAddrV4;
 
 /// A reassembly key, with its numbers in an order: by source and destination, and then by the fields of
@@ -51,26 +49,8 @@ impl Stream {
             client: key.client,
             session: key.session,
             interface: key.interface,
-            kind: kind_byte(key.kind),
+            kind: key.kind.number(),
             code: key.code.0,
         }
-    }
-}
-
-/// The number of a Message Type (SOME/IP Protocol, "Message Type").
-fn kind_byte(kind: MessageType) -> u8
-    ensures { result ≡ kind_byte kind }
-{
-    match kind {
-        MessageType::Request => 0x00,
-        MessageType::RequestNoReturn => 0x01,
-        MessageType::Notification => 0x02,
-        MessageType::Response => 0x80,
-        MessageType::Error => 0x81,
-        MessageType::TpRequest => 0x20,
-        MessageType::TpRequestNoReturn => 0x21,
-        MessageType::TpNotification => 0x22,
-        MessageType::TpResponse => 0xa0,
-        MessageType::TpError => 0xa1,
     }
 }

@@ -3,7 +3,7 @@ ghost use Rattle.std.specs.Prelude.{◌≡◌, OnOk};
 ghost use Rattle.someip_world_verdict.specs.Books.{none_taken, taken_at, taken_with};
 ghost use Rattle.someip_world_verdict.specs.Views.{view_taken};
 
-use crate::table::{at, put};
+use someip_tables::{put_value, value_at};
 use someip_world_exchanges::{CallExchange, EventExchange, ExchangeKey, SubscriptionExchange};
 use std::alloc::{AllocError, Global};
 use std::collections::BTreeMap;
@@ -33,9 +33,9 @@ impl Taken {
         ensures { result ≡ taken_at (view_taken self.now) key }
     {
         match key {
-            ExchangeKey::Call(call) => at(&self.calls, call),
-            ExchangeKey::Event(event) => at(&self.events, event),
-            ExchangeKey::Subscription(subscription) => at(&self.subscriptions, subscription),
+            ExchangeKey::Call(call) => value_at(&self.calls, call),
+            ExchangeKey::Event(event) => value_at(&self.events, event),
+            ExchangeKey::Subscription(subscription) => value_at(&self.subscriptions, subscription),
         }
     }
 
@@ -44,10 +44,10 @@ impl Taken {
         ensures { OnOk result (view_taken self.new ≡ taken_with key step (view_taken self.old)) }
     {
         match key {
-            ExchangeKey::Call(call) => put(&mut self.calls, call, step),
-            ExchangeKey::Event(event) => put(&mut self.events, event, step),
+            ExchangeKey::Call(call) => put_value(&mut self.calls, call, step),
+            ExchangeKey::Event(event) => put_value(&mut self.events, event, step),
             ExchangeKey::Subscription(subscription) => {
-                put(&mut self.subscriptions, subscription, step)
+                put_value(&mut self.subscriptions, subscription, step)
             }
         }
     }

@@ -14,7 +14,7 @@ pub puts_err : (text : List ℕ) (kind : Kind) (r : Result Kind CannotWrite) (a 
 puts_err text kind (Ok k) a held b waits is stops = absurd (let same : false ≡ true = is in cc)
 puts_err text kind (Err e) a held b waits is stops = stops
 
--- behind another text
+-- after another text
 pub puts_behind : (front text : List ℕ) (kind : Kind) (r : Result Kind CannotWrite) (a : Option (List ℕ)) (held : List ℕ) (b : Option (List ℕ)) (waits : List ℕ) (c : Option (List ℕ)) (new : List ℕ)
     → Sends a held b waits front → Puts text kind r b waits c new → Puts (front ++ text) kind r a held c new
 puts_behind front text kind (Ok k) a held b waits c new sends puts = (puts.0, Sends-trans a b c held waits new front text sends puts.1)

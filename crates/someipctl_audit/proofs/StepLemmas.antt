@@ -169,7 +169,7 @@ seen_stop_due time seen before a held b due = record {
   stops = subst (Stops a held b) (sym (fell_lines time due.told)) due.stops;
 }
 
--- it stops behind what fell due
+-- it stops after what fell due
 pub seen_stop : (time : Option Time) (seen : Seen) (before between : AuditState) (tally counted : Tally) (a : Option (List ℕ)) (held : List ℕ) (b : Option (List ℕ)) (waits : List ℕ)
     → PutsDue seen.now before between tally counted a held b waits → StopsSeen time seen before a held b
 seen_stop time seen before between tally counted a held b waits due = record {

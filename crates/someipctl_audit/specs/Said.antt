@@ -3,7 +3,7 @@ use Rattle.std.specs.Prelude.{ℕ, List, [], ◌∷◌, codes, decimal}
 use Rattle.someip_wire.specs.declared.Header.{Header}
 use Rattle.someip_wire.specs.Faults as wire
 use Rattle.someip_segments.specs.Names.{error_name}
-use Rattle.sd_wire.specs.Faults as sd
+use Rattle.sd_wire.specs.decoding.Faults as sd
 use Rattle.audit_calls.specs.declared.CallFinding.{CallFinding}
 use Rattle.audit_calls.specs.declared.CallFinding.TheVariants as calls
 use Rattle.audit_events.specs.declared.EventFlow.{EventFlow}

@@ -44,7 +44,7 @@ fn push_message(
     lines: &[Line],
     message: &Message<'_>,
 ) -> Result<(), AllocError> {
-    if is_discovery(message) {
+    if message.header.is_discovery() {
         return match read_sd(alloc, message.payload) {
             Ok(read) => push_discovery(text, &read),
             Err(SdError::OutOfMemory) => Err(AllocError),
@@ -93,14 +93,6 @@ fn name_of_type(kind: MessageType) -> &'static str {
         MessageType::Response => "RESPONSE",
         _ => "ERROR",
     }
-}
-
-/// Whether a message is one of Service Discovery.
-fn is_discovery(message: &Message<'_>) -> bool {
-    let header = &message.header;
-    header.service == 0xffff
-        && header.method == 0x8100
-        && matches!(header.kind, MessageType::Notification)
 }
 
 /// Appends the first entry of a message of Service Discovery, and how many others there are.

@@ -26,7 +26,7 @@ impl Rows {
         self.firsts.get(index).copied().unwrap_or(0)
     }
 
-    /// The row behind the last one of the step of an index, counted from 0.
+    /// The row after the last one of the step of an index, counted from 0.
     pub(crate) fn behind_step(&self, index: usize) -> usize {
         self.firsts
             .get(index.saturating_add(1))
@@ -45,7 +45,7 @@ impl Rows {
     }
 }
 
-/// The first row of each step, and then the row behind the last one.
+/// The first row of each step, and then the row after the last one.
 fn firsts_of(alloc: Global, steps: usize, lines: &[Line]) -> Result<Vec<usize>, AllocError> {
     let counts = counts_of(alloc, steps, lines)?;
     places_of(alloc, &counts)

@@ -1,11 +1,8 @@
 //! Which segment of a message a datagram carries.
 
-use someip_tp::read_segment;
+use someip_tp::{SLICE_LEN, read_segment};
 use someip_wire::{Header, Message, Messages};
 use someip_world::Line;
-
-/// How many bytes a segment but the last one has, as nodes cut messages.
-const SLICE_LEN: u32 = 1392;
 
 /// The number of a segment, counted from 1, and whether others come after it. Nothing is told of a
 /// message that is none.
@@ -14,7 +11,7 @@ pub(crate) fn segment_in(message: &Message<'_>) -> Option<(u32, bool)> {
         return None;
     }
     let (offset, more, _) = read_segment(message.payload).ok()?;
-    Some(((offset / SLICE_LEN).saturating_add(1), more))
+    Some(((offset / SLICE_LEN as u32).saturating_add(1), more))
 }
 
 /// How many segments a message has, by the last of its segments among the datagrams of a step: these

@@ -41,7 +41,7 @@ pub fn calls_by_example()
     ensures recording { requested (line (codes "recording" ∷ codes "x" ∷ []))
         ≡ Some (recording_request (codes "x") (recording_options_of None None None None None None None None)) }
 
-    // Options may also stand behind the file, and have their value behind `=`.
+    // Options may also stand after the file, and have their value after `=`.
     ensures recording_options { requested (line (codes "recording" ∷ codes "x" ∷ codes "--ports=1,2"
         ∷ codes "--endpoints" ∷ codes "--whole" ∷ codes "--whole-slots" ∷ codes "4" ∷ []))
         ≡ Some (recording_request (codes "x") (recording_options_of (Some (codes "1,2")) (Some (codes "true"))

@@ -1,4 +1,4 @@
--- The line of a message in parts, and the line behind that of a segment's message.
+-- The line of a message in parts, and the line after that of a segment's message.
 use Rattle.std.proofs.Common.{◌≡◌, ℕ, ◌+◌, ◌<◌, ◌≤◌, Bool, true, List, [], ◌∷◌, ◌++◌, length, drop, Ok, codes, decimal, refl, ap, ◌∙◌, append_assoc, arith}
 use Rattle.std.specs.Int.{w32, to_be_bytes}
 use Rattle.std.specs.Borrow.{Bor}

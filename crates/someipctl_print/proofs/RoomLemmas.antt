@@ -5,12 +5,13 @@ use Rattle.std.proofs.lemmas.List.{append-nil}
 use Rattle.someip_wire.specs.Spelling.{MessageValue, spelling}
 use Rattle.someip_wire.proofs.MessageLemmas.{length_spelled}
 use Rattle.sd_wire.specs.declared.SdError.{SdError}
-use Rattle.sd_wire.specs.Values.{SdValue}
-use Rattle.sd_wire.specs.Faults.{fault_place}
-use Rattle.sd_wire.specs.Program.{reading}
-use Rattle.sd_wire.proofs.PlaceLemmas.{fault_within}
+use Rattle.sd_wire.specs.contents.Values.{SdValue}
+use Rattle.sd_wire.specs.decoding.Faults.{fault_place}
+use Rattle.sd_wire.specs.decoding.Program.{reading}
+use Rattle.sd_wire.proofs.decoding.PlaceLemmas.{fault_within}
 use Rattle.someipctl_print.specs.Items.{item_len}
-use Rattle.someipctl_print.specs.Discovery.{is_discovery, discovery_in}
+use Rattle.someip_wire.specs.Discovery.{is_discovery}
+use Rattle.someipctl_print.specs.Discovery.{discovery_in}
 
 pub room_for : (m : MessageValue) (place top : ℕ) (front : Option (Result SdValue SdError)) → front ≡ discovery_in (Ok m) → place + item_len (Ok m) ≤ top
     → IfSome front (λ r. IfErr r (λ e. (place + 16) + fault_place e ≤ top))

@@ -10,7 +10,7 @@ use Rattle.someipctl_print.specs.Sending.{Sends, Stops}
 pub Sends-nil : (a : Option (List ℕ)) (held : List ℕ) → Sends a held a held []
 Sends-nil a held = record { sent = []; wrote = Appends-nil a; rest = sym (append-nil held) }
 
--- a text that waits is held behind what was held
+-- a text that waits is held after what was held
 pub Sends-held : (a : Option (List ℕ)) (held text new : List ℕ) → new ≡ held ++ text → Sends a held a new text
 Sends-held a held text new is = record { sent = []; wrote = Appends-nil a; rest = is }
 
@@ -28,7 +28,7 @@ Sends-trans a b c held waits new text more one other = record {
       ∙ sym (append_assoc one.sent waits more) ∙ ap (λ (t : List ℕ). t ++ more) one.rest ∙ append_assoc held text more;
 }
 
--- a text that stops behind one that was sent
+-- a text that stops after one that was sent
 pub Stops-after : (a b c : Option (List ℕ)) (held waits text more : List ℕ) → Sends a held b waits text → Stops b waits c more → Stops a held c (text ++ more)
 Stops-after a b c held waits text more one other = record { unsent = other.unsent; sends = Sends-trans a b c held waits other.unsent text more one other.sends }
 
@@ -62,7 +62,7 @@ pub OnErr-any : {T E P : Type 0} (r : Result T E) → P → OnErr r P
 OnErr-any (Ok x) p = tt
 OnErr-any (Err e) p = p
 
--- bytes behind bytes
+-- bytes after bytes
 pub Appends-more : (a b c : Option (List ℕ)) (front back all : List ℕ) → Appends a b front → Appends b c back → all ≡ front ++ back → Appends a c all
 Appends-more a b c front back all one other is = subst (Appends a c) (sym is) (Appends-trans a b c front back one other)
 

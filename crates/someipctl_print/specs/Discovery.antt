@@ -2,10 +2,8 @@
 use Rattle.std.specs.Prelude.{ℕ, ◌+◌, Bool, true, false, ◌&&◌, ◌==◌, if◌then◌else◌, List, [], ◌∷◌, ◌++◌, length, codes, decimal, Option, Some, None, is_err, Result, Ok, Err}
 use Rattle.std.specs.Borrow.{Bor}
 use Rattle.std.specs.List.{flat_map}
-use Rattle.someip_wire.specs.declared.Header.{Header}
 use Rattle.someip_wire.specs.declared.WireError.{WireError}
-use Rattle.someip_wire.specs.declared.MessageType.{MessageType}
-use Rattle.someip_wire.specs.declared.MessageType.TheVariants.{Notification}
+use Rattle.someip_wire.specs.Discovery.{is_discovery}
 use Rattle.someip_wire.specs.Spelling.{MessageValue}
 use Rattle.sd_wire.specs.declared.SdError.{SdError}
 use Rattle.sd_wire.specs.declared.ServiceEntry.{ServiceEntry}
@@ -17,21 +15,12 @@ use Rattle.sd_wire.specs.declared.EventgroupKind.TheVariants.{Subscribe, Ack}
 use Rattle.sd_wire.specs.declared.EntryHead.{EntryHead}
 use Rattle.sd_wire.specs.declared.EntryHead.TheVariants.{Service, Eventgroup}
 use Rattle.sd_wire.specs.declared.SdRead.{SdRead}
-use Rattle.sd_wire.specs.Values.{ReadValue, good, bad_run, SdValue, view_sd}
-use Rattle.sd_wire.specs.Faults.{fault_name, fault_place}
-use Rattle.sd_wire.specs.Program.{reading}
+use Rattle.sd_wire.specs.contents.Values.{ReadValue, good, bad_run, SdValue, view_sd}
+use Rattle.sd_wire.specs.decoding.Faults.{fault_name, fault_place}
+use Rattle.sd_wire.specs.decoding.Program.{reading}
 use Rattle.someipctl_print.specs.Parts.{hex4, hex2}
 use Rattle.someipctl_print.specs.Lines.{joined, flag_text, fault_line}
 use Rattle.someipctl_print.specs.Options.{runs_text}
-
--- the type of events
-abbrev pub is_notification : MessageType → Bool
-is_notification Notification = true
-is_notification other = false
-
--- a message of Service Discovery: Message ID FFFF8100, Interface Version 01, type NOTIFICATION
-abbrev pub is_discovery : Header → Bool
-is_discovery h = h.service == 0xffff && h.method == 0x8100 && h.interface == 1 && is_notification h.kind
 
 -- what was read of a payload
 abbrev pub view_reading : Result SdRead SdError → Result SdValue SdError

@@ -23,10 +23,10 @@ word_text (Bytes bytes) = payload_text bytes.now
 word_text (Address address) = ipv4_text (ipv4_octets address)
 word_text (Endpoint endpoint) = socket_v4_text endpoint
 
--- words, each behind a space
+-- words, each after a space
 abbrev pub spaced : List (List ℕ) → List ℕ
 spaced words = flat_map (λ word. codes " " ++ word) words
 
--- words at the end of a line, each behind a space
+-- words at the end of a line, each after a space
 abbrev pub ended : List (List ℕ) → List ℕ
 ended words = spaced words ++ codes "\n"

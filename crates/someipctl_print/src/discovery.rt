@@ -1,8 +1,8 @@
 //! The lines of Service Discovery messages.
 ghost use Rattle.std.specs.Prelude.{◌≡◌, ◌≤◌, ◌+◌, OnOk, OnErr, IfOk, IfErr, is_err, map};
 ghost use Rattle.std.specs.List.{flat_map};
-ghost use Rattle.sd_wire.specs.Values.{view_read, view_sd};
-ghost use Rattle.sd_wire.specs.Faults.{fault_place};
+ghost use Rattle.sd_wire.specs.contents.Values.{view_read, view_sd};
+ghost use Rattle.sd_wire.specs.decoding.Faults.{fault_place};
 ghost use Rattle.someipctl_print.specs.Parts.{part_text};
 ghost use Rattle.someipctl_print.specs.Sending.{Sends, Stops};
 ghost use Rattle.someipctl_print.specs.Discovery.{service_name, eventgroup_name, service_text, eventgroup_text};

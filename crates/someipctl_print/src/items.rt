@@ -3,7 +3,7 @@
 ghost use Rattle.std.specs.Prelude.{◌≡◌, ◌≤◌, ◌+◌, ◌&&◌, ◌||◌, ◌++◌, OnOk, OnErr, IfOk, IfErr, IfSome};
 ghost use Rattle.someip_wire.specs.Kinds.{has_tp_flag};
 ghost use Rattle.someip_wire.specs.View.{view, view_item};
-ghost use Rattle.sd_wire.specs.Faults.{fault_place as sd_place};
+ghost use Rattle.sd_wire.specs.decoding.Faults.{fault_place as sd_place};
 ghost use Rattle.someipctl_print.specs.Sending.{Sends, Stops};
 ghost use Rattle.someipctl_print.specs.Lines.{segment_lines, has_no_tp_header};
 ghost use Rattle.someipctl_print.specs.Discovery.{view_found, discovery_in, discovery_lines, has_sd_fault};
@@ -13,11 +13,8 @@ use crate::discovery::put_reading;
 use crate::lines::{put_fault, put_message_line, put_segment};
 use crate::output::{Buffer, CannotWrite};
 use sd_wire::{SdError, SdRead};
-use someip_wire::{Message, WireError, written_len};
+use someip_wire::{Header, Message, WireError, written_len};
 use std::io::Write;
-
-/// The bytes of a header, which stand in front of a payload.
-const HEADER_LEN: usize = 16;
 
 /// Prints the lines of an item that begins at a place of the k-th datagram: a message, and after it
 /// what is told of its value, what its TP header says where it is a segment, or what its payload says
@@ -44,7 +41,7 @@ pub fn put_item<W: Write>(
         Ok(message) => {
             put_message_line(buffer, writer, k, message)?;
             buffer.put(writer, value)?;
-            put_behind(buffer, writer, k, place + HEADER_LEN, message, found)
+            put_behind(buffer, writer, k, place + Header::LEN, message, found)
         }
         Err(fault) => {
             put_fault(buffer, writer, k, fault.name(), fault.place())?;

@@ -26,7 +26,7 @@ const HEX_DIGITS: usize = 2 * HEX_BYTES;
 /// What is printed and not yet written. Contracts see these bytes.
 #[derive(Drop)]
 pub struct Buffer {
-    /// The bytes that are held, and behind them what no one reads.
+    /// The bytes that are held, and after them what no one reads.
     room: Vec<u8>,
     /// How many bytes are held.
     held: usize,
@@ -151,7 +151,7 @@ impl Buffer {
     }
 }
 
-/// Puts bytes behind those that are held.
+/// Puts bytes after those that are held.
 #[inline(always)]
 fn hold(room: &mut [u8], held: usize, bytes: &[u8])
     requires { held + length bytes.now ≤ length room.old }
@@ -160,7 +160,7 @@ fn hold(room: &mut [u8], held: usize, bytes: &[u8])
     room[held..held + bytes.len()].copy_from_slice(bytes);
 }
 
-/// Puts the digits of bytes behind the bytes that are held.
+/// Puts the digits of bytes after the bytes that are held.
 #[inline(always)]
 fn hold_hex(room: &mut [u8], held: usize, bytes: &[u8])
     requires { held + 2 * length bytes.now ≤ length room.old }

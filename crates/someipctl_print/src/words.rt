@@ -49,7 +49,7 @@ pub fn put_end<W: Write>(
     put_parts(buffer, writer, &[Part::Text("\n")])
 }
 
-/// Prints words, each behind a space.
+/// Prints words, each after a space.
 pub fn put_words<W: Write>(
     buffer: &mut Buffer,
     writer: &mut W,
@@ -66,7 +66,7 @@ pub fn put_words<W: Write>(
     Ok(())
 }
 
-/// Prints a word behind a space.
+/// Prints a word after a space.
 fn put_word<W: Write>(
     buffer: &mut Buffer,
     writer: &mut W,

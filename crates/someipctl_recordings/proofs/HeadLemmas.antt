@@ -20,7 +20,7 @@ line_len-most (b ∷ bytes) = go (b == 0x0a) (line_len-most bytes)
     go true h = omega arith
     go false h = omega (arith, h)
 
--- a line that has begun, and the text behind it
+-- a line that has begun, and the text after it
 behind_line : (head text : List ℕ) → with_heads head false text ≡ take (line_len text) text ++ with_heads head true (drop (line_len text) text)
 behind_line head [] = refl
 behind_line head (b ∷ bytes) = go (b == 0x0a) (behind_line head bytes)
@@ -30,14 +30,14 @@ behind_line head (b ∷ bytes) = go (b == 0x0a) (behind_line head bytes)
     go true h = refl
     go false h = ap (λ (t : List ℕ). b ∷ t) h
 
--- a head, the first line, and the text behind it
+-- a head, the first line, and the text after it
 pub with_heads-line : (head text : List ℕ) → 0 < length text
     → with_heads head true text ≡ (head ++ take (line_len text) text) ++ with_heads head true (drop (line_len text) text)
 with_heads-line head [] some = absurd (omega (arith, some))
 with_heads-line head (b ∷ bytes) some =
     ap (λ (t : List ℕ). head ++ t) (behind_line head (b ∷ bytes)) ∙ sym (append_assoc head (take (line_len (b ∷ bytes)) (b ∷ bytes)) (with_heads head true (drop (line_len (b ∷ bytes)) (b ∷ bytes))))
 
--- the same of a line and what stands behind it
+-- the same of a line and what stands after it
 pub headed : (head rest front back : List ℕ) (n : ℕ) → 0 < length rest → n ≡ line_len rest → front ≡ take n rest → back ≡ drop n rest
     → with_heads head true rest ≡ (head ++ front) ++ with_heads head true back
 headed head rest front back n some is f b = rw (f, b, is) (with_heads-line head rest some)

@@ -29,7 +29,7 @@ coming_items Record (Some r) = Ok r ∷ []
 coming_items (Fault fault) current = Err fault ∷ []
 coming_items End current = []
 
--- behind a fault, and at the end, nothing is to come
+-- after a fault, and at the end, nothing is to come
 abbrev pub IsEnded : Coming → ReaderValue → Type 0
 IsEnded Record r = ⊤
 IsEnded (Fault fault) r = (rest : List ℕ) → CanFollow r.is_whole rest → to_come r rest ≡ []

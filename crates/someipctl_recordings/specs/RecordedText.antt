@@ -68,7 +68,7 @@ time_text (Some t) = (decimal t.seconds ++ codes ".") ++ nine_digits t.nanosecon
 abbrev pub endpoint_text : Endpoint → List ℕ
 endpoint_text e = ipv4_text e.ip ++ codes ":" ++ decimal e.port
 
--- the time of a datagram, where it came from and where it went to, and a space behind each
+-- the time of a datagram, where it came from and where it went to, and a space after each
 abbrev pub head_text : DatagramValue → List ℕ
 head_text d = time_text d.time ++ (spaced (endpoint_text d.from ∷ endpoint_text d.to ∷ []) ++ codes " ")
 

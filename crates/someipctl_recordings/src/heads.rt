@@ -75,7 +75,7 @@ fn endpoint_words(datagram: &Datagram<'_>) -> [Word<'static>; 2]
     ]
 }
 
-/// Prints a time in seconds, with nine digits behind the dot, or `-` where there is none.
+/// Prints a time in seconds, with nine digits after the dot, or `-` where there is none.
 pub fn put_time<W: Write>(
     buffer: &mut Buffer,
     writer: &mut W,
@@ -115,7 +115,7 @@ fn put_nine_digits<W: Write>(
     buffer.put(writer, without_first(text))
 }
 
-/// The bytes behind the first.
+/// The bytes after the first.
 fn without_first(bytes: &[u8]) -> &[u8]
     ensures { result.now ≡ drop 1 bytes.now }
 {

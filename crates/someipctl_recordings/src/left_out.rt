@@ -79,7 +79,7 @@ impl fmt::Display for LeftOut {
     }
 }
 
-/// Writes a kind behind what stands between it and the one before, if it came. Gives what stands before
+/// Writes a kind after what stands between it and the one before, if it came. Gives what stands before
 /// the next one.
 fn write_kind<W: fmt::Write>(
     f: &mut fmt::Formatter<W>,

@@ -70,7 +70,7 @@ struct Shown {
 }
 
 /// Writes what a recording shows, as it is read: of each datagram that is asked for the lines of `show`,
-/// with its time and endpoints before each where these are asked for, and behind the lines of a segment
+/// with its time and endpoints before each where these are asked for, and after the lines of a segment
 /// that makes its message whole that message, where messages are put together; the body `S` does that.
 /// What waits to be written is written before each read.
 ///

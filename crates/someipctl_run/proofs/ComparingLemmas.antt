@@ -6,7 +6,7 @@ use Rattle.someipctl_run.specs.Expected.{FirstDiffer, PrintedLine, line_left, pr
 use Rattle.someipctl_run.specs.declared.comparing.Mismatch as declared
 use Rattle.someipctl_run.proofs.ExpectedLemmas.{goes_on}
 
--- behind all lines the text has ended, or goes on
+-- after all lines the text has ended, or goes on
 pub ends_all : (lines : List PrintedLine) (text rest : List ℕ) (r : Option declared.Mismatch) → text ≡ printed_text lines ++ rest
     → MatchOption r (rest ≡ []) (λ mismatch. (rest ≢ []) × (view_mismatch mismatch ≡ record { expected = line_left rest; got = None; came_by = None }))
     → MatchOption r (text ≡ printed_text lines) (λ mismatch. FirstDiffer lines text (view_mismatch mismatch))

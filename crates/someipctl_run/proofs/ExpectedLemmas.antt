@@ -81,7 +81,7 @@ pub next_printed : (form : TraceForm) (step_lines : List ℕ) (nodes : List Setu
 next_printed form step_lines nodes number lines i line lt is =
     at_drop_more (printed_from form step_lines nodes number) lines i line lt ∙ ap (λ l. printed_from form step_lines nodes number (l ∷ drop (i + 1) lines)) (sym is)
 
--- the text goes on behind all lines
+-- the text goes on after all lines
 pub goes_on : (lines : List PrintedLine) (text rest : List ℕ) (mismatch : Mismatch) → text ≡ printed_text lines ++ rest → (rest ≡ [] → ⊥)
     → mismatch ≡ record { expected = line_left rest; got = None; came_by = None } → FirstDiffer lines text mismatch
 goes_on lines text [] mismatch same some is = absurd (some refl)

@@ -55,7 +55,7 @@ words_before text nodes lines verdict =
 abbrev line_at : List (List ℕ) → ℕ → List ℕ
 line_at lines number = get_or lines (number - 1) []
 
--- a line more, behind which others spell what stands at their numbers
+-- a line more, after which others spell what stands at their numbers
 spelled_next : (front lines : List (List ℕ)) (line : List ℕ)
     → map (λ number. step_in (line_at ((front ++ line ∷ []) ++ lines) number)) (numbers_read (length (front ++ line ∷ []) + 1) lines) ≡ map step_in (filter is_read lines)
     → map (λ number. step_in (line_at (front ++ line ∷ lines) number)) (numbers_read (length front + 1) (line ∷ lines)) ≡ map step_in (filter is_read (line ∷ lines))
@@ -77,7 +77,7 @@ spelled_next front lines line after = cases (is_read line) refl
     cases true e = rw (e, here) (ap (λ (steps : List _). step_in line ∷ steps) others)
     cases false e = rw e others
 
--- lines behind others: those that are read spell what stands at their numbers
+-- lines after others: those that are read spell what stands at their numbers
 spelled_at : (front lines : List (List ℕ)) → map (λ number. step_in (line_at (front ++ lines) number)) (numbers_read (length front + 1) lines) ≡ map step_in (filter is_read lines)
 spelled_at front [] = refl
 spelled_at front (line ∷ lines) = spelled_next front lines line (spelled_at (front ++ line ∷ []) lines)

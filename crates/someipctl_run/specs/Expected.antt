@@ -30,7 +30,7 @@ is_no_line line = not (is_utf8 line && not (list_any (λ b. b == 0x0d) line))
 abbrev pub first_no_line : List ℕ → Option ℕ
 first_no_line file = position_from is_no_line 1 (lines_of file)
 
--- a text has bytes behind its last line feed
+-- a text has bytes after its last line feed
 abbrev pub is_unended : List ℕ → Bool
 is_unended text = option_map_or (λ b. not (b == 0x0a)) (slice_get text (length text - 1)) false
 

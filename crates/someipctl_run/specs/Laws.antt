@@ -13,7 +13,7 @@ use Rattle.someipctl_run.specs.Traces.{came_by_text, formed_trace, trace_text}
 use Rattle.someipctl_run.specs.declared.error.SetupFault.TheVariants as setups
 use Rattle.someipctl_run.specs.declared.form.TraceForm.TheVariants.{Plain, WithLines}
 
--- each line of a text stands in the other one behind a word, which is a number or `-`, and a space
+-- each line of a text stands in the other one after a word, which is a number or `-`, and a space
 abbrev pub StandBehindWords : List ℕ → List ℕ → Type 0
 StandBehindWords text marked =
     (rows : List (Option ℕ × List ℕ)) × (text ≡ flat_map (λ row. row.1) rows) × (marked ≡ flat_map (λ row. (came_by_text row.0 ++ codes " ") ++ row.1) rows)

@@ -174,7 +174,7 @@ fn take_line<'e>(rest: &'e [u8], came_by: Option<usize>, text: Vec<u8>) -> Compa
     }
 }
 
-/// The difference where a text goes on behind the last line of a trace.
+/// The difference where a text goes on after the last line of a trace.
 fn left_over<'e>(rest: &'e [u8]) -> Option<Mismatch<'e>>
     ensures { MatchOption result (rest.now ≡ [])
         (λ mismatch. (rest.now ≢ []) × (view_mismatch mismatch

@@ -49,7 +49,7 @@ fn is_no_line(line: &[u8]) -> bool
     text_of(line).is_none() || line.contains(&b'\r')
 }
 
-/// Whether bytes stand behind the last line feed of a text.
+/// Whether bytes stand after the last line feed of a text.
 fn is_unended(text: &[u8]) -> bool
     ensures { result ≡ is_unended text.now }
 {

@@ -15,7 +15,7 @@ use someip_world::{Line, Reuse, SetupNode, Told};
 use someipctl_print::{Buffer, CannotWrite, Part, put_parts};
 use std::io::Write;
 
-/// Prints lines over the nodes of a setup, each behind the line of the schedule by which it came, where
+/// Prints lines over the nodes of a setup, each after the line of the schedule by which it came, where
 /// those are shown. The datagrams that they tell of are numbered from 1.
 pub(crate) fn put_lines<W: Write>(
     buffer: &mut Buffer,
@@ -79,7 +79,7 @@ fn put_reuse<W: Write>(
     }
 }
 
-/// Prints a line, where the next datagram has a number, behind the line of the schedule by which it came.
+/// Prints a line, where the next datagram has a number, after the line of the schedule by which it came.
 pub(crate) fn put_marked_line<W: Write>(
     buffer: &mut Buffer,
     writer: &mut W,

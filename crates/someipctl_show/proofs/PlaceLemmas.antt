@@ -27,7 +27,7 @@ pub lines_from-front : (k : ℕ) (front others : List MessageValue) (end : Optio
 lines_from-front k front others end types =
     lines_from-append types k 0 front others end ∙ ap (λ n. lines_from types k 0 (items front None) ++ lines_from types k n (items others end)) (zero-add (length (flat_map spelling front)))
 
--- the bytes of messages, one of which is cut behind its header
+-- the bytes of messages, one of which is cut after its header
 bytes_at : (front : List MessageValue) (m : MessageValue) (others : List MessageValue) (rest : List ℕ)
     → flat_map spelling (front ++ m ∷ others) ++ rest
     ≡ (flat_map spelling front ++ header_bytes m.header (length m.payload)) ++ (m.payload ++ (flat_map spelling others ++ rest))

@@ -3,7 +3,7 @@ use Rattle.std.proofs.Common.{◌≡◌, true, false, List, [], ◌∷◌, ◌++
 use Rattle.std.specs.Option.{is_some, option_to_list}
 use Rattle.sd_wire.specs.declared.SdError.{SdError}
 use Rattle.sd_wire.specs.declared.SdRead.{SdRead}
-use Rattle.sd_wire.specs.Values.{SdValue}
+use Rattle.sd_wire.specs.contents.Values.{SdValue}
 use Rattle.std.proofs.lemmas.List.{append_cancel_left, nil_from_length}
 use Rattle.someip_wire.specs.declared.WireError.{WireError}
 use Rattle.someip_wire.specs.Spelling.{MessageValue}
@@ -29,7 +29,7 @@ pub none_found : (front : Option (Result SdValue SdError)) → is_some front ≡
 none_found None none = refl
 none_found (Some x) none = cc
 
--- what the other items hold is left behind what the first does
+-- what the other items hold is left after what the first does
 pub left_behind : (front : Option (Result SdValue SdError)) (found : Option (Result SdValue SdError)) (left after others : List (Result SdValue SdError)) → found ≡ front
     → left ≡ option_to_list front ++ others → left ≡ option_to_list found ++ after → after ≡ others
 left_behind front found left after others same is was =

@@ -47,7 +47,7 @@ items_within_datagram datagram given found =
 abbrev pub bytes_of_each : List (Vec ℕ Global) → List (List ℕ)
 bytes_of_each datagrams = map (λ d. d.items) datagrams
 
--- the datagram at a place, which has these bytes, and those behind it
+-- the datagram at a place, which has these bytes, and those after it
 pub next_datagram : (datagrams : List (Vec ℕ Global)) (i : ℕ) (d : Vec ℕ Global) (bytes : List ℕ) → i < length datagrams → (get_or datagrams i d).items ≡ bytes
     → drop i (bytes_of_each datagrams) ≡ bytes ∷ drop (i + 1) (bytes_of_each datagrams)
 next_datagram [] i d bytes lt is = absurd (omega (arith, lt))

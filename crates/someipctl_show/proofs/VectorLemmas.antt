@@ -116,7 +116,7 @@ said_more lines sayings line said h utf8 counts says has =
 
 -- ---- the lines up to a place
 
--- the line behind the first n
+-- the line after the first n
 take_next : (lines : List (List ℕ)) (n : ℕ) (line : List ℕ) → drop n lines ≡ line ∷ drop (n + 1) lines → take (n + 1) lines ≡ take n lines ++ line ∷ []
 take_next lines n line next = take-add n 1 lines ∙ ap (λ (ls : List (List ℕ)). take n lines ++ take 1 ls) next
 

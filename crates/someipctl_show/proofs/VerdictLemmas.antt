@@ -12,7 +12,7 @@ use Rattle.someipctl_show.specs.VectorLines.{asked_by, said_by}
 use Rattle.someipctl_show.specs.Vectors.{Vector, AreJudged, IsJudged, Judges, RefusesVectors, expected_text, vectors_in}
 use Rattle.someipctl_inputs.proofs.InputLemmas.{WasLeft-read}
 
--- the result at a place, and those behind it
+-- the result at a place, and those after it
 pub next_result : (results : List Bool) (i : ℕ) (d : Bool) → i < length results → drop i results ≡ get_or results i d ∷ drop (i + 1) results
 next_result [] i d lt = absurd (omega (arith, lt))
 next_result (x ∷ xs) zero d lt = refl

@@ -6,7 +6,7 @@ use Rattle.someip_wire.specs.declared.WireError.{WireError}
 use Rattle.someip_wire.specs.Spelling.{MessageValue}
 use Rattle.someip_wire.specs.Reading.{items_of}
 use Rattle.sd_wire.specs.declared.SdError.{SdError}
-use Rattle.sd_wire.specs.Values.{SdValue}
+use Rattle.sd_wire.specs.contents.Values.{SdValue}
 use Rattle.someipctl_print.specs.Discovery.{discovery_in}
 
 -- what items hold for Service Discovery, in order

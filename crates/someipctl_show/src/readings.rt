@@ -3,12 +3,12 @@ ghost use Rattle.std.specs.Prelude.{◌≡◌, ◌++◌, ◌∷◌, [], OnOk, If
 ghost use Rattle.std.specs.Option.{option_to_list};
 ghost use Rattle.someip_wire.specs.View.{view_item};
 ghost use Rattle.someip_wire.specs.Reading.{items_of};
-ghost use Rattle.sd_wire.specs.Program.{reading};
-ghost use Rattle.someipctl_print.specs.Discovery.{discovery_in, is_discovery, view_found, view_reading};
+ghost use Rattle.sd_wire.specs.decoding.Program.{reading};
+ghost use Rattle.someipctl_print.specs.Discovery.{discovery_in, view_found, view_reading};
 ghost use Rattle.someipctl_show.specs.Readings.{BeginWith, readings_in, readings_of};
 
 use sd_wire::{SdError, SdRead, read_sd};
-use someip_wire::{Header, Message, MessageType, Messages, WireError};
+use someip_wire::{Message, Messages, WireError};
 use std::alloc::{AllocError, Global};
 
 /// What the payloads of the Service Discovery messages of these datagrams hold, in order. The only
@@ -42,7 +42,7 @@ pub fn read_datagram(
     Ok(())
 }
 
-/// Puts what an item holds for Service Discovery behind what is there, where it is such a message.
+/// Puts what an item holds for Service Discovery after what is there, where it is such a message.
 fn read_item(
     alloc: Global,
     item: &Result<Message<'_>, WireError>,
@@ -67,7 +67,7 @@ pub fn reading_of(
 {
     match item {
         Ok(message) => {
-            if !is_discovery(&message.header) {
+            if !message.header.is_discovery() {
                 return Ok(None);
             }
             let reading = read_payload(alloc, message.payload)?;
@@ -119,17 +119,7 @@ fn holds_discovery(item: &Result<Message<'_>, WireError>) -> bool
     ensures { result ≡ is_some (discovery_in (view_item item.now)) }
 {
     match item {
-        Ok(message) => is_discovery(&message.header),
+        Ok(message) => message.header.is_discovery(),
         Err(_) => false,
     }
-}
-
-/// Whether it is the header of a Service Discovery message.
-fn is_discovery(header: &Header) -> bool
-    ensures { result ≡ is_discovery header.now }
-{
-    header.service == 0xffff
-        && header.method == 0x8100
-        && header.interface == 1
-        && matches!(header.kind, MessageType::Notification)
 }

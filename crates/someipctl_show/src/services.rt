@@ -50,7 +50,7 @@ impl<T: Drop> From<AllocFailed<T>> for ServicesError {
 }
 
 /// The services that a text names: Service IDs of four hex digits, each perhaps with a dot and a Method
-/// ID of four hex digits behind it, with commas between them and nothing else, as in `1111,2222.8001`.
+/// ID of four hex digits after it, with commas between them and nothing else, as in `1111,2222.8001`.
 pub fn services_in(alloc: Global, text: &str) -> Result<Vec<AskedService>, ServicesError>
     ensures ok { IfOk result (λ services.
         map (λ s. Some s) services.items ≡ map service_in (comma_words text.now)) }

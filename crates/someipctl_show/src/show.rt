@@ -45,7 +45,7 @@ pub enum ShowError {
 
 /// Reads a capture whole, checks every line, and then writes what it shows: for each datagram its
 /// messages and the fault that ends it, or one line where it is empty. Where services are named, only
-/// datagrams with a message of one of them are shown; behind the line of a message that the types name
+/// datagrams with a message of one of them are shown; after the line of a message that the types name
 /// stands that of its value.
 pub fn show<R: Read, W: Write>(
     alloc: Global,

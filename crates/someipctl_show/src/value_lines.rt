@@ -67,7 +67,7 @@ impl<'t> ValueLines<'t> {
     }
 }
 
-/// Prints the lines of an item that begins at a place of the k-th datagram, and behind that of a message
+/// Prints the lines of an item that begins at a place of the k-th datagram, and after that of a message
 /// the line of its value, where it has one. Says whether a fault is among them.
 pub fn put_valued_item<W: Write>(
     buffer: &mut Buffer,

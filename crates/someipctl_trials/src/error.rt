@@ -21,7 +21,7 @@ pub enum SweepError {
 }
 
 impl SweepError {
-    /// What it says, behind the place of it.
+    /// What it says, after the place of it.
     fn what(&self) -> &'static str {
         match self {
             SweepError::Usage => {

@@ -116,7 +116,7 @@ mutual
       (λ here. elim here [ inl (few, same) ↦ short_place n w e same before | inr (long, in_it) ↦ in_form n (own_width f) f e _ in_it (omega (arith, length-take len v.bytes)) ])
       (λ later. in_variant n vs place e kind len w v later at before le) h
 
-  -- the tag stands at the place, and v behind it
+  -- the tag stands at the place, and v after it
   behind_tag : (n : ℕ) (ms : Members) (ss : Slots) (t : WireType) (id place : ℕ) (e : PayloadError) (v : View) → FaultBehindTag ms ss t id place e v → place ≤ n → v.place + length v.bytes ≤ n → fault_place e ≤ n
   behind_tag n (member_then number optional f ms) (present d ss) t id place e v h at le =
       picks (eqb number id) _ _ (fault_place e ≤ n) (λ same. placed n e _ same at) (λ later. behind_tag n ms ss t id place e v later at le) h

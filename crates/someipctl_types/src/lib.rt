@@ -1,6 +1,6 @@
 //! What payloads of messages are read by: a types file names, for messages of a service, a method or
 //! event and a type, the shape that their payload has. With it the line of the value of a message is
-//! made, which `someipctl show` and `recording` print behind the line of the message.
+//! made, which `someipctl show` and `recording` print after the line of the message.
 //!
 //! - [`MessageTypes`]: a types file; its line of the value of a message;
 //! - [`TypesError`]: why a text is no types file;

@@ -8,10 +8,8 @@ ghost use Rattle.someipctl_types.specs.Views.{typed_view};
 
 use crate::typed_message::TypedMessage;
 use someip_payload::{PayloadError, Value, decode};
+use someip_wire::Header;
 use std::alloc::{AllocError, Global};
-
-/// How many bytes a header has, which stands in front of each payload.
-const HEADER_LEN: usize = 16;
 
 /// Puts the line of a payload after the text, by the table that names its message, which begins at the
 /// place in the k-th datagram. Says whether the line tells a fault.
@@ -36,7 +34,7 @@ pub(crate) fn put_payload_line(
         }
         Err(PayloadError::OutOfMemory) => Err(AllocError),
         Err(fault) => {
-            let place = place + HEADER_LEN + fault.place();
+            let place = place + Header::LEN + fault.place();
             put_fault_line(text, k, fault.name(), place)?;
             Ok(true)
         }

@@ -13,8 +13,8 @@ use Rattle.someip_tables.specs.Endpoints.{endpoint_cmp}
 use Rattle.sd_wire.specs.declared.entry.EntryHead.TheVariants.{Eventgroup as OfEventgroup}
 use Rattle.sd_wire.specs.declared.entry.EventgroupEntry.{EventgroupEntry}
 use Rattle.sd_wire.specs.declared.entry.EventgroupKind.TheVariants.{Ack}
-use Rattle.sd_wire.specs.Program.{options_within}
-use Rattle.sd_wire.specs.Values.{ReadValue, good}
+use Rattle.sd_wire.specs.decoding.Program.{options_within}
+use Rattle.sd_wire.specs.contents.Values.{ReadValue, good}
 use Rattle.sd_session.specs.declared.peers.Seen.TheVariants.{Same}
 use Rattle.sd_session.specs.declared.peers.Stamps.{Stamps}
 use Rattle.sd_session.specs.declared.stamp.Channel.TheVariants.{Unicast}

@@ -8,9 +8,9 @@ use Rattle.someip_wire.specs.Spelling.{spelling}
 use Rattle.sd_wire.specs.declared.entry.EntryHead.TheVariants.{Service}
 use Rattle.sd_wire.specs.declared.entry.ServiceKind.TheVariants.{Offer}
 use Rattle.sd_wire.specs.declared.flags.SdFlags.{SdFlags}
-use Rattle.sd_wire.specs.Encoding.{message_bytes}
-use Rattle.sd_wire.specs.Program.{options_within}
-use Rattle.sd_wire.specs.Values.{EntryValue, ReadValue, good}
+use Rattle.sd_wire.specs.encoding.Encoding.{message_bytes}
+use Rattle.sd_wire.specs.decoding.Program.{options_within}
+use Rattle.sd_wire.specs.contents.Values.{EntryValue, ReadValue, good}
 use Rattle.sd_session.specs.declared.stamp.Channel.TheVariants.{Multicast}
 use Rattle.sd_session.specs.Peers.{may_hold}
 use Rattle.sd_session.specs.Sessions.{after_uses, first}

@@ -36,8 +36,8 @@ use Rattle.someip_tables.proofs.Entries.{get-retain}
 use Rattle.someip_wire.specs.declared.header.Header.{Header}
 use Rattle.someip_wire.specs.declared.header.MessageType.{MessageType}
 use Rattle.someip_wire.specs.declared.header.MessageType.TheVariants.{Response}
-use Rattle.sd_wire.specs.Encoding.{message_bytes}
-use Rattle.sd_wire.specs.Program.{options_within, reading}
+use Rattle.sd_wire.specs.encoding.Encoding.{message_bytes}
+use Rattle.sd_wire.specs.decoding.Program.{options_within, reading}
 use Rattle.sd_subscribers.specs.declared.error.Cause.TheVariants.{NoEndpoint, UnknownEventgroup}
 use Rattle.sd_instances.specs.declared.keys.InstanceId.{InstanceId}
 use Rattle.sd_instances.specs.Keys.{instance_cmp}
@@ -59,7 +59,7 @@ use Rattle.someip_node_rules.specs.rules.ServerSubscribing.{nacked_for, rules_by
 use Rattle.someip_node_rules.specs.histories.Tables.{live_subscribers, waiting_calls}
 use Rattle.someip_node_laws.specs.WorkedExamples.{bad_subscribe, nack_answer, nack_payload, subscribe_head, subscribe_payload}
 use Rattle.someip_wire.specs.Spelling.{spelling}
-use Rattle.sd_wire.specs.Values.{bad_run}
+use Rattle.sd_wire.specs.contents.Values.{bad_run}
 use Rattle.sd_wire.specs.declared.entry.EntryHead.TheVariants.{Eventgroup}
 use Rattle.sd_wire.specs.declared.entry.EventgroupEntry.{EventgroupEntry}
 use Rattle.sd_session.specs.declared.stamp.Channel.TheVariants.{Unicast}

@@ -21,9 +21,9 @@ use Rattle.someip_tables.specs.SortedSet.{sorted_set}
 use Rattle.someip_tables.proofs.Entries.{len-retain-≤, len-retain_keys-≤}
 use Rattle.someip_tables.proofs.MapLaws.{len-remove-≤, retain-empty}
 use Rattle.sd_wire.specs.declared.entry.EntryHead.TheVariants.{Eventgroup as OfEventgroup}
-use Rattle.sd_wire.specs.Encoding.{message_bytes}
-use Rattle.sd_wire.specs.Program.{options_within}
-use Rattle.sd_wire.specs.Values.{EntryValue, ReadValue, good}
+use Rattle.sd_wire.specs.encoding.Encoding.{message_bytes}
+use Rattle.sd_wire.specs.decoding.Program.{options_within}
+use Rattle.sd_wire.specs.contents.Values.{EntryValue, ReadValue, good}
 use Rattle.sd_session.specs.declared.stamp.Channel.TheVariants.{Unicast}
 use Rattle.sd_session.specs.Sessions.{after_uses, first}
 use Rattle.sd_subscribers.specs.declared.error.Cause.TheVariants.{Full, NotOffered}

@@ -2,8 +2,8 @@
 use Rattle.std.proofs.Common.{◌≡◌, ℕ, ◌&&◌, ◌||◌, nat_le, not, Bool, true, false, if◌then◌else◌, List, [], ◌∷◌, ◌++◌, map, None, Some, Result, Ok, Err, refl, ap, ◌∙◌}
 use Rattle.std.specs.List.{flat_map}
 use Rattle.std.specs.FinMap.{get, get-from_entries, keys, len, len-empty}
-use Rattle.sd_wire.specs.Encoding.{message_bytes}
-use Rattle.sd_wire.specs.Values.{EntryValue}
+use Rattle.sd_wire.specs.encoding.Encoding.{message_bytes}
+use Rattle.sd_wire.specs.contents.Values.{EntryValue}
 use Rattle.sd_instances.specs.declared.keys.InstanceId.{InstanceId}
 use Rattle.sd_instances.specs.declared.sending.Sending.{Sending}
 use Rattle.sd_core.specs.Endings.{ends_at}

@@ -13,8 +13,8 @@ use Rattle.someip_tables.specs.Endpoints.{address_cmp}
 use Rattle.someip_tables.specs.declared.lasting.Lasting.{Lasting}
 use Rattle.someip_wire.specs.Spelling.{spelling}
 use Rattle.sd_wire.specs.declared.flags.SdFlags.{SdFlags}
-use Rattle.sd_wire.specs.Fronts.{fits_datagram, front_lengths, fronts_of}
-use Rattle.sd_wire.specs.Values.{EntryValue, ReadValue}
+use Rattle.sd_wire.specs.fronts.Fronts.{fits_datagram, front_lengths, fronts_of}
+use Rattle.sd_wire.specs.contents.Values.{EntryValue, ReadValue}
 use Rattle.sd_session.specs.declared.peers.Seen.{Seen}
 use Rattle.sd_session.specs.declared.peers.Seen.TheVariants.{Same}
 use Rattle.sd_session.specs.declared.peers.Stamps.{Stamps}
@@ -30,7 +30,8 @@ use Rattle.someip_rpc.specs.declared.call.CallKind.TheVariants.{Request}
 use Rattle.someip_rpc.specs.declared.error.RpcError.TheVariants.{Busy, NotOffered, TooLong}
 use Rattle.someip_rpc.specs.Calls.{call_header, call_refusal, is_full}
 use Rattle.someip_rpc.specs.Ids.{call_cmp}
-use Rattle.someip_rpc.specs.Sessions.{next_of, session_after_last}
+use Rattle.someip_tables.specs.Sessions.{session_after_last}
+use Rattle.someip_rpc.specs.Sessions.{next_of}
 use Rattle.someip_node_rules.specs.steps.Advances.{after_inputs, stepped}
 use Rattle.someip_node_rules.specs.rules.Calling.{call_of, calls_at, first_free, first_free_of, session_of}
 use Rattle.someip_node_rules.specs.rules.Errors.{as_node_error}

@@ -5,7 +5,7 @@ use Rattle.std.specs.Net.Socket.{v4_ip}
 use Rattle.std.specs.declared.net.ipv4_addr.Ipv4Addr.{Ipv4Addr}
 use Rattle.std.specs.declared.net.socket_addr.SocketAddrV4.{SocketAddrV4}
 use Rattle.sd_wire.specs.declared.flags.SdFlags.{SdFlags}
-use Rattle.sd_wire.specs.Values.{EntryValue, ReadValue}
+use Rattle.sd_wire.specs.contents.Values.{EntryValue, ReadValue}
 use Rattle.sd_session.specs.declared.peers.Seen.{Seen}
 use Rattle.sd_session.specs.declared.peers.Seen.TheVariants.{Same}
 use Rattle.sd_session.specs.declared.stamp.Channel.{Channel}

@@ -7,13 +7,13 @@ use Rattle.std.specs.Net.Socket.{IsSocketAddrV4}
 use Rattle.std.specs.declared.net.socket_addr.SocketAddrV4.{SocketAddrV4}
 use Rattle.std.proofs.lemmas.Map.Views.{IfSome-get}
 use Rattle.sd_wire.specs.declared.entry.EventgroupEntry.{EventgroupEntry}
-use Rattle.sd_wire.specs.Fronts.{HasOneEndpointAtMost}
-use Rattle.sd_wire.specs.Spelling.{EventgroupFits, Ipv4Fits}
-use Rattle.sd_wire.specs.Splitting.{FitsDatagram}
-use Rattle.sd_wire.specs.Values.{EntryValue}
-use Rattle.sd_wire.specs.Writing.{EntryFits}
-use Rattle.sd_wire.proofs.AloneLemmas.{endpoint_alone}
-use Rattle.sd_wire.proofs.SplitLemmas.{packed_fits}
+use Rattle.sd_wire.specs.fronts.Fronts.{HasOneEndpointAtMost}
+use Rattle.sd_wire.specs.layout.Spelling.{EventgroupFits, Ipv4Fits}
+use Rattle.sd_wire.specs.fronts.Splitting.{FitsDatagram}
+use Rattle.sd_wire.specs.contents.Values.{EntryValue}
+use Rattle.sd_wire.specs.encoding.Writing.{EntryFits}
+use Rattle.sd_wire.proofs.fronts.AloneLemmas.{endpoint_alone}
+use Rattle.sd_wire.proofs.fronts.SplitLemmas.{packed_fits}
 use Rattle.sd_instances.specs.declared.eventgroup.Eventgroup as groups
 use Rattle.sd_instances.specs.declared.keys.InstanceId.{InstanceId}
 use Rattle.sd_wishes.specs.declared.wish.OutgoingSubscribe.{OutgoingSubscribe}

@@ -8,7 +8,7 @@ use Rattle.std.proofs.lemmas.List.Elements.{Contains-get_or}
 use Rattle.someip_wire.specs.Faults.{length_field}
 use Rattle.someip_wire.specs.Reading.{items_from, items_of, message_in}
 use Rattle.someip_wire.proofs.DatagramLemmas.{items_from-message}
-use Rattle.sd_wire.proofs.FieldLemmas.{IsBytes-literal}
+use Rattle.sd_wire.proofs.spelled.FieldLemmas.{IsBytes-literal}
 use Rattle.someip_node_laws.specs.Fitting.{FitsOffer, FitsPacket, FitsWire}
 use Rattle.someip_node_rules.specs.forms.Outputs.{Announces}
 use Rattle.someip_node_laws.specs.WorkedExamples.{asking, instance, service}

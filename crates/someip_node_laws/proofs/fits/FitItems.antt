@@ -31,7 +31,8 @@ use Rattle.someip_rpc.specs.declared.ids.MessageId.{MessageId}
 use Rattle.someip_rpc.specs.declared.request.Asked.{Asked}
 use Rattle.someip_rpc.specs.Calls.{Pending, is_pending}
 use Rattle.someip_rpc.specs.Ids.{message_cmp}
-use Rattle.someip_rpc.specs.Sessions.{next_session, session_after, session_after_last}
+use Rattle.someip_tables.specs.Sessions.{next_session, session_after_last}
+use Rattle.someip_rpc.specs.Sessions.{session_after}
 use Rattle.someip_node_rules.specs.histories.CallQuestions.{last_session_at, next_token, open_request_at, requests_in}
 use Rattle.someip_node_rules.specs.rules.Calling.{first_free, first_free_of}
 use Rattle.someip_node_laws.specs.Fitting.{FitsItem}

@@ -8,11 +8,11 @@ use Rattle.someip_wire.specs.Reading.{items_of}
 use Rattle.someip_wire.specs.Spelling.{Fits, IsBytes, MessageValue, header_bytes, spelling}
 use Rattle.someip_wire.proofs.DatagramLemmas.{is_split}
 use Rattle.sd_wire.specs.declared.option.SdOption.{SdOption}
-use Rattle.sd_wire.specs.Reading.{Spelled, SpellsEntry}
-use Rattle.sd_wire.specs.Spelling.{HeadFits}
-use Rattle.sd_wire.specs.Values.{ReadValue, good, bad_run}
-use Rattle.sd_wire.proofs.FieldLemmas.{IsBytes-drop, IsBytes-take}
-use Rattle.sd_wire.proofs.SdLemmas.{reading_holds}
+use Rattle.sd_wire.specs.decoding.Reading.{Spelled, SpellsEntry}
+use Rattle.sd_wire.specs.layout.Spelling.{HeadFits}
+use Rattle.sd_wire.specs.contents.Values.{ReadValue, good, bad_run}
+use Rattle.sd_wire.proofs.spelled.FieldLemmas.{IsBytes-drop, IsBytes-take}
+use Rattle.sd_wire.proofs.decoding.SdLemmas.{reading_holds}
 use Rattle.someip_node_laws.specs.Fitting.{FitsPacket, head_of}
 use Rattle.someip_node_rules.specs.trails.Packets.{Packet}
 use Rattle.someip_node_rules.proofs.lists.MemberLemmas.{all_both, at_member}

@@ -21,16 +21,16 @@ use Rattle.sd_wire.specs.declared.entry.EntryHead.TheVariants.{Service, Eventgro
 use Rattle.sd_wire.specs.declared.entry.EventgroupEntry.{EventgroupEntry}
 use Rattle.sd_wire.specs.declared.entry.ServiceEntry.{ServiceEntry}
 use Rattle.sd_wire.specs.declared.error.SdError.{SdError}
-use Rattle.sd_wire.specs.Endpoints.{first_udp_endpoint, options_of}
-use Rattle.sd_wire.specs.Fronts.{HasOneEndpointAtMost, front_lengths}
-use Rattle.sd_wire.specs.Kinds.{is_ack, is_find, is_stop_offer, is_stop_subscribe, is_subscribe}
-use Rattle.sd_wire.specs.Program.{reading}
-use Rattle.sd_wire.specs.Spelling.{EventgroupFits, HeadFits}
-use Rattle.sd_wire.specs.Splitting.{FitsDatagram}
-use Rattle.sd_wire.specs.Values.{EntryValue, ReadValue, SdValue, good, bad_run}
-use Rattle.sd_wire.specs.Writing.{EntryFits}
-use Rattle.sd_wire.proofs.AloneLemmas.{endpoint_fronts}
-use Rattle.sd_wire.proofs.FrontLemmas.{lengths_are}
+use Rattle.sd_wire.specs.contents.Endpoints.{first_udp_endpoint, options_of}
+use Rattle.sd_wire.specs.fronts.Fronts.{HasOneEndpointAtMost, front_lengths}
+use Rattle.sd_wire.specs.contents.Kinds.{is_ack, is_find, is_stop_offer, is_stop_subscribe, is_subscribe}
+use Rattle.sd_wire.specs.decoding.Program.{reading}
+use Rattle.sd_wire.specs.layout.Spelling.{EventgroupFits, HeadFits}
+use Rattle.sd_wire.specs.fronts.Splitting.{FitsDatagram}
+use Rattle.sd_wire.specs.contents.Values.{EntryValue, ReadValue, SdValue, good, bad_run}
+use Rattle.sd_wire.specs.encoding.Writing.{EntryFits}
+use Rattle.sd_wire.proofs.fronts.AloneLemmas.{endpoint_fronts}
+use Rattle.sd_wire.proofs.fronts.FrontLemmas.{lengths_are}
 use Rattle.sd_session.specs.declared.stamp.Channel.{Channel}
 use Rattle.sd_session.specs.Peers.{may_hold}
 use Rattle.sd_instances.specs.declared.eventgroup.Eventgroup as groups
@@ -45,7 +45,7 @@ use Rattle.someip_node_rules.specs.rules.ClientSubscribing.{standing_of, wish_en
 use Rattle.someip_node_rules.specs.rules.Ticking.{due_entries}
 use Rattle.someip_node_rules.specs.forms.Entries.{fronts}
 use Rattle.someip_node_laws.specs.Fitting.{FitsConfig, FitsHistory, FitsInput, FitsItem, FitsPacket, FitsWire, head_of}
-use Rattle.someip_node_rules.specs.rules.Handling.{client_plan, completed_plan, datagram_plan, discovery_plan, entries_plan, entry_plan, eventgroup_plan, good_plan, heard_plan, is_discovery, item_plan, items_plan, message_plan, reading_plan, same_address, segment_plan, service_plan, target_of, target_plan, whole_plan}
+use Rattle.someip_node_rules.specs.rules.Handling.{client_plan, completed_plan, datagram_plan, discovery_plan, entries_plan, entry_plan, eventgroup_plan, good_plan, heard_plan, is_valid_discovery, item_plan, items_plan, message_plan, reading_plan, same_address, segment_plan, service_plan, target_of, target_plan, whole_plan}
 use Rattle.someip_node_rules.specs.histories.History.{History, answers_of, historic, met, start_of}
 use Rattle.someip_node_rules.specs.trails.Meanings.{GivenBy}
 use Rattle.someip_node_rules.specs.forms.Outputs.{Given}
@@ -194,7 +194,7 @@ module _ (p : Packet) (fits : FitsPacket p) where
       cond_both (not (may_hold (answers_of w.state).config.common.peers (answers_of w.state).peers (v4_ip p.from))) _ _ (λ x. FitsPlan x w) (λ _. tt)
       (λ _. (tt, λ then. entries_fit v.entries all _ then))
 
-  reading_fits : (channel : Channel) (m : MessageValue) → HasMessage p m → is_discovery m.header ≡ true → (read : Result SdValue SdError) → reading m.payload ≡ read
+  reading_fits : (channel : Channel) (m : MessageValue) → HasMessage p m → is_valid_discovery m.header ≡ true → (read : Result SdValue SdError) → reading m.payload ≡ read
       → (w : Work History) → IsSound w → FitsPlan (reading_plan (v4_ip p.from) channel m.header.session read) w
   reading_fits channel m stands found (Err fault) is w sound = tt
   reading_fits channel m stands found (Ok v) is w sound =
@@ -204,7 +204,7 @@ module _ (p : Packet) (fits : FitsPacket p) where
 
   discovery_fits : (channel : Channel) (m : MessageValue) → HasMessage p m → (w : Work History) → IsSound w → FitsPlan (discovery_plan (v4_ip p.from) channel m) w
   discovery_fits channel m stands w sound =
-      cond_both (is_discovery m.header) _ _ (λ x. FitsPlan x w) (λ found. reading_fits channel m stands found (reading m.payload) refl w sound) (λ _. tt)
+      cond_both (is_valid_discovery m.header) _ _ (λ x. FitsPlan x w) (λ found. reading_fits channel m stands found (reading m.payload) refl w sound) (λ _. tt)
 
   item_fits : (goal : Target) (item : Result MessageValue WireError) → Contains (items_of p.bytes) item → (w : Work History) → IsSound w → FitsPlan (item_plan goal p.from p.to item) w
   item_fits goal (Err fault) stands w sound = tt

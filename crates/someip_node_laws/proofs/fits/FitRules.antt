@@ -8,8 +8,8 @@ use Rattle.std.specs.declared.net.socket_addr.SocketAddrV4.{SocketAddrV4}
 use Rattle.someip_wire.specs.declared.header.Header.{Header}
 use Rattle.someip_wire.specs.declared.header.MessageType.TheVariants as kinds
 use Rattle.someip_wire.specs.Spelling.{Fits, MessageValue}
-use Rattle.sd_wire.specs.Spelling.{EventgroupFits}
-use Rattle.sd_wire.specs.Values.{EntryValue}
+use Rattle.sd_wire.specs.layout.Spelling.{EventgroupFits}
+use Rattle.sd_wire.specs.contents.Values.{EntryValue}
 use Rattle.sd_session.specs.declared.stamp.Stamp.{Stamp}
 use Rattle.sd_session.specs.Sessions.{after_uses}
 use Rattle.sd_instances.specs.declared.keys.InstanceId.{InstanceId}
@@ -24,14 +24,15 @@ use Rattle.someip_rpc.specs.Calls.{call_header, kind_of_call}
 use Rattle.someip_rpc.specs.Events.{event_header, event_of, next_session_of}
 use Rattle.someip_rpc.specs.Requests.{answer_header, asked, fault_code}
 use Rattle.someip_rpc.specs.Servers.{code_of_reply, kind_of_reply}
-use Rattle.someip_rpc.specs.Sessions.{session_after_last}
+use Rattle.someip_tables.specs.Sessions.{session_after_last}
 use Rattle.someip_node_rules.specs.declared.config.OfferedService.{OfferedService}
 use Rattle.someip_node_rules.specs.declared.config.WantedService.{WantedService}
 use Rattle.someip_node_rules.specs.histories.CallQuestions.{times_published}
 use Rattle.someip_node_rules.specs.rules.Calling.{call_of, session_of}
 use Rattle.someip_node_rules.specs.histories.DiscoveryQuestions.{group_addressed, messages_to}
 use Rattle.someip_node_laws.specs.Fitting.{FitsHistory, FitsItem, FitsPayload, FitsWire}
-use Rattle.someip_node_rules.specs.rules.Handling.{is_discovery, is_notification}
+use Rattle.someip_wire.specs.Discovery.{is_notification}
+use Rattle.someip_node_rules.specs.rules.Handling.{is_valid_discovery}
 use Rattle.someip_node_rules.specs.histories.History.{History, answers_of}
 use Rattle.someip_node_rules.specs.histories.Items as items
 use Rattle.someip_node_rules.specs.histories.Items.{Item}
@@ -68,7 +69,7 @@ FitsRule r = Unit {0}
 
 -- ---- which messages are of Service Discovery
 
-and_false : (a b c d e : Bool) → d ≡ false → (a && b && c && d && e) ≡ false
+and_false : (a b c d e : Bool) → d ≡ false → ((a && b && c && d) && e) ≡ false
 and_false false b c d e is = refl
 and_false true false c d e is = refl
 and_false true true false d e is = refl
@@ -76,16 +77,16 @@ and_false true true true true e is = absurd cc
 and_false true true true false e is = refl
 
 -- only a NOTIFICATION is
-pub no_notification : (header : Header) → is_notification header.kind ≡ false → is_discovery header ≡ false
+pub no_notification : (header : Header) → is_notification header.kind ≡ false → is_valid_discovery header ≡ false
 no_notification header is =
     and_false (eqb header.service 0xFFFF) (eqb header.method 0x8100) (eqb header.interface 1) (is_notification header.kind) (not (eqb header.session 0)) is
 
-first_false : (a b c d e : Bool) → a ≡ false → (a && b && c && d && e) ≡ false
+first_false : (a b c d e : Bool) → a ≡ false → ((a && b && c && d) && e) ≡ false
 first_false false b c d e is = refl
 first_false true b c d e is = absurd cc
 
 -- of the service of Service Discovery
-pub other_service : (header : Header) → header.service ≢ 0xFFFF → is_discovery header ≡ false
+pub other_service : (header : Header) → header.service ≢ 0xFFFF → is_valid_discovery header ≡ false
 other_service header ne =
     first_false (eqb header.service 0xFFFF) (eqb header.method 0x8100) (eqb header.interface 1) (is_notification header.kind) (not (eqb header.session 0))
     (cases (eqb header.service 0xFFFF) refl)
@@ -118,7 +119,7 @@ announced_fits r h from to stamp entries fits says = absurd says
 
 -- a message fits, and is not one of Service Discovery
 abbrev FitsSent : MessageValue → Type 0
-FitsSent m = Fits m × IsFalse (is_discovery m.header)
+FitsSent m = Fits m × IsFalse (is_valid_discovery m.header)
 
 module _ (h : History) (fits : FitsHistory h) where
   major_fits : (instance : InstanceId) (want : Option WantedService) → wanted_as h.config instance ≡ want → option_map_or (λ w. w.major) want 0 < 2 ^ 8

@@ -19,7 +19,8 @@ use Rattle.someip_rpc.specs.declared.ids.CallKey.{CallKey}
 use Rattle.someip_rpc.specs.declared.ids.EventId.{EventId}
 use Rattle.someip_rpc.specs.declared.ids.MessageId.{MessageId}
 use Rattle.someip_rpc.specs.Ids.{call_cmp, message_cmp}
-use Rattle.someip_rpc.specs.Sessions.{next_of, session_after, session_after_last}
+use Rattle.someip_tables.specs.Sessions.{session_after_last}
+use Rattle.someip_rpc.specs.Sessions.{next_of, session_after}
 use Rattle.someip_rpc.specs.IdOrder.{calls_total, exact_calls, events_total, exact_events, messages_total, exact_messages}
 use Rattle.sd_session.specs.Sessions.{after_uses}
 use Rattle.someip_tables.specs.EndpointOrder.{addresses_total, exact_addresses}

@@ -6,7 +6,7 @@ use Rattle.std.specs.declared.net.ipv4_addr.Ipv4Addr.{Ipv4Addr}
 use Rattle.std.specs.declared.net.socket_addr.SocketAddrV4.{SocketAddrV4}
 use Rattle.sd_wire.specs.declared.entry.EventgroupEntry.{EventgroupEntry}
 use Rattle.sd_wire.specs.declared.entry.EventgroupKind.TheVariants.{Ack, Subscribe}
-use Rattle.sd_wire.specs.Values.{EntryValue}
+use Rattle.sd_wire.specs.contents.Values.{EntryValue}
 use Rattle.sd_subscribers.specs.declared.error.Cause.{Cause}
 use Rattle.sd_subscribers.specs.SubscriberTables.{nack_cause}
 use Rattle.someip_node_laws.specs.Answerings.{AnswersAccepted, AnswersRefused, AnswersSubscribe, IsAnswer}

@@ -2,7 +2,7 @@
 use Rattle.std.proofs.Common.{List, [], ◌∷◌}
 use Rattle.someip_reassembly.specs.Parts.{Limits}
 use Rattle.someip_tp.specs.Wholes.{IsWithin}
-use Rattle.someip_tp.proofs.BoundLemmas.{within_nothing, within_after, within_less, within_at}
+use Rattle.someip_tp.proofs.promises.BoundLemmas.{within_nothing, within_after, within_less, within_at}
 use Rattle.someip_node_rules.specs.histories.DiscoveryQuestions.{parts_by, parts_in}
 use Rattle.someip_node_rules.specs.histories.Items.{Item, MessageTaken, SegmentOffered, Ticked}
 use Rattle.someip_node_rules.specs.histories.Questions.{clock_at}

@@ -16,7 +16,8 @@ use Rattle.someip_rpc.specs.declared.ids.EventId.{EventId}
 use Rattle.someip_rpc.specs.declared.request.Asked.{Asked}
 use Rattle.someip_rpc.specs.Calls.{called, pending_after}
 use Rattle.someip_rpc.specs.IdOrder.{calls_total, exact_calls, events_total, exact_events, messages_total, exact_messages}
-use Rattle.someip_rpc.specs.Sessions.{next_of, session_after, session_after_last}
+use Rattle.someip_tables.specs.Sessions.{session_after_last}
+use Rattle.someip_rpc.specs.Sessions.{next_of, session_after}
 use Rattle.someip_node_rules.specs.declared.config.Config.{Config}
 use Rattle.someip_node_rules.specs.histories.Items.{Item, AnswerTaken, Answered, Called, Published, Requested, Ticked}
 use Rattle.someip_node_rules.specs.histories.CallQuestions.{awaited_at, awaited_from, call_made, call_sessions_in, called_by, client_in, event_published, event_sessions_in, call_key, message_called, next_token, pending_in, requests_in, server_in, tokens_in}

@@ -2,8 +2,8 @@
 use Rattle.std.proofs.Common.{◌≡◌, ℕ, zero, suc, Bool, true, false, cond, List, [], ◌∷◌, ◌++◌, map, take, drop, Some, refl, subst, arith}
 use Rattle.std.specs.List.{AllByRecursion, Contains, find, flat_map}
 use Rattle.std.proofs.lemmas.List.Elements.{All-contains, All-contains_itself, All-from_recursion, Contains-append_right, Contains-get_or, recursion_from_All}
-use Rattle.sd_wire.specs.Fronts.{fronts_of}
-use Rattle.sd_wire.specs.Values.{EntryValue}
+use Rattle.sd_wire.specs.fronts.Fronts.{fronts_of}
+use Rattle.sd_wire.specs.contents.Values.{EntryValue}
 
 pub all_append : {X : Type 0} (P : X → Type 0) (xs ys : List X) → AllByRecursion P xs → AllByRecursion P ys → AllByRecursion P (xs ++ ys)
 all_append P [] ys h g = g

@@ -21,11 +21,11 @@ use Rattle.sd_wire.specs.declared.entry.EntryHead.TheVariants.{Service, Eventgro
 use Rattle.sd_wire.specs.declared.entry.EventgroupEntry.{EventgroupEntry}
 use Rattle.sd_wire.specs.declared.entry.ServiceEntry.{ServiceEntry}
 use Rattle.sd_wire.specs.declared.error.SdError.{SdError}
-use Rattle.sd_wire.specs.Endpoints.{first_udp_endpoint, options_of}
-use Rattle.sd_wire.specs.Kinds.{is_ack, is_find, is_stop_offer, is_stop_subscribe, is_subscribe}
-use Rattle.sd_wire.specs.Fronts.{front_lengths}
-use Rattle.sd_wire.specs.Program.{reading}
-use Rattle.sd_wire.specs.Values.{EntryValue, ReadValue, SdValue, good, bad_run}
+use Rattle.sd_wire.specs.contents.Endpoints.{first_udp_endpoint, options_of}
+use Rattle.sd_wire.specs.contents.Kinds.{is_ack, is_find, is_stop_offer, is_stop_subscribe, is_subscribe}
+use Rattle.sd_wire.specs.fronts.Fronts.{front_lengths}
+use Rattle.sd_wire.specs.decoding.Program.{reading}
+use Rattle.sd_wire.specs.contents.Values.{EntryValue, ReadValue, SdValue, good, bad_run}
 use Rattle.sd_session.specs.declared.stamp.Channel.{Channel}
 use Rattle.sd_session.specs.Peers.{may_hold}
 use Rattle.someip_node_rules.specs.declared.target.Target.{Target}
@@ -33,7 +33,7 @@ use Rattle.someip_node_rules.specs.declared.target.Target.TheVariants.{Instance,
 use Rattle.someip_node_rules.specs.declared.receiver.Receiver.TheVariants.{Peer}
 use Rattle.someip_node_rules.specs.trails.Bringing.{OfDatagram, RepliesToEntry}
 use Rattle.someip_node_rules.specs.forms.Entries.{fronts}
-use Rattle.someip_node_rules.specs.rules.Handling.{client_plan, completed_plan, datagram_plan, discovery_plan, entries_plan, entry_plan, eventgroup_plan, good_plan, heard_plan, is_discovery, item_plan, items_plan, message_plan, reading_plan, same_address, segment_plan, service_plan, target_of, target_plan, whole_plan}
+use Rattle.someip_node_rules.specs.rules.Handling.{client_plan, completed_plan, datagram_plan, discovery_plan, entries_plan, entry_plan, eventgroup_plan, good_plan, heard_plan, is_valid_discovery, item_plan, items_plan, message_plan, reading_plan, same_address, segment_plan, service_plan, target_of, target_plan, whole_plan}
 use Rattle.someip_node_rules.specs.histories.History.{History, answers_of, historic}
 use Rattle.someip_node_rules.specs.rules.Messages as messages
 use Rattle.someip_node_rules.specs.trails.Packets.{Packet, Came, HasDiscovery, HasEntry, HasEventgroupEntry, HasMessage, HasSegment, HasServiceEntry}
@@ -168,7 +168,7 @@ module _ (h : History) (p : Packet) where
             (all_from_members (HasEntry p) v.entries (λ e within. record { session = session; value = v; stands = stands; within = within })) _ _ then,
       ))
 
-  reading_allowed : (channel : Channel) → target_of h.config p.to ≡ Discovery channel → (m : MessageValue) → HasMessage p m → is_discovery m.header ≡ true
+  reading_allowed : (channel : Channel) → target_of h.config p.to ≡ Discovery channel → (m : MessageValue) → HasMessage p m → is_valid_discovery m.header ≡ true
       → (read : Result SdValue SdError) → reading m.payload ≡ read → (ds : List Done) (w : Work History)
       → Allowed ds (reading_plan (v4_ip p.from) channel m.header.session read) w
   reading_allowed channel at m stands is_sd (Err fault) is ds w = tt
@@ -178,7 +178,7 @@ module _ (h : History) (p : Packet) where
   discovery_allowed : (channel : Channel) → target_of h.config p.to ≡ Discovery channel → (m : MessageValue) → HasMessage p m
       → (ds : List Done) (w : Work History) → Allowed ds (discovery_plan (v4_ip p.from) channel m) w
   discovery_allowed channel at m stands ds w =
-      cond_both (is_discovery m.header) _ _ (λ x. Allowed ds x w) (λ is_sd. reading_allowed channel at m stands is_sd (reading m.payload) refl ds w) (λ _. tt)
+      cond_both (is_valid_discovery m.header) _ _ (λ x. Allowed ds x w) (λ is_sd. reading_allowed channel at m stands is_sd (reading m.payload) refl ds w) (λ _. tt)
 
   -- ---- datagrams
 

@@ -7,7 +7,7 @@ use Rattle.sd_wire.specs.declared.entry.EventgroupKind.TheVariants.{Subscribe, A
 use Rattle.sd_wire.specs.declared.entry.ServiceEntry.{ServiceEntry}
 use Rattle.sd_wire.specs.declared.entry.ServiceKind.{ServiceKind}
 use Rattle.sd_wire.specs.declared.entry.ServiceKind.TheVariants.{Find, Offer}
-use Rattle.sd_wire.specs.Kinds.{has_type_ack, has_type_find, has_type_offer, has_type_subscribe, is_ack, is_find, is_nack, is_offer, is_stop_offer, is_stop_subscribe, is_subscribe}
+use Rattle.sd_wire.specs.contents.Kinds.{has_type_ack, has_type_find, has_type_offer, has_type_subscribe, is_ack, is_find, is_nack, is_offer, is_stop_offer, is_stop_subscribe, is_subscribe}
 
 not_zero : (ttl : ℕ) → eqb ttl 0 ≡ false → ltb 0 ttl ≡ true
 not_zero zero h = absurd (cc)

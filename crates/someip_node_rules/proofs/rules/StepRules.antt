@@ -12,8 +12,8 @@ use Rattle.someip_segments.specs.declared.error.TpError.{TpError}
 use Rattle.someip_reassembly.specs.declared.reassembly.Offered.{Offered}
 use Rattle.someip_reassembly.specs.declared.reassembly.Offered.TheVariants.{Part, Whole}
 use Rattle.someip_reassembly.specs.SegmentOffers.{SegmentOffer}
-use Rattle.sd_wire.specs.Fronts.{front_lengths}
-use Rattle.sd_wire.specs.Values.{EntryValue}
+use Rattle.sd_wire.specs.fronts.Fronts.{front_lengths}
+use Rattle.sd_wire.specs.contents.Values.{EntryValue}
 use Rattle.sd_session.specs.declared.peers.Seen.{Seen}
 use Rattle.sd_session.specs.declared.peers.Seen.TheVariants.{Same, Rebooted}
 use Rattle.sd_session.specs.declared.stamp.Channel.{Channel}

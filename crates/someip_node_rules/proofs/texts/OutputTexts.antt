@@ -1,4 +1,4 @@
--- Texts of outputs: words, each behind a space, one after the other.
+-- Texts of outputs: words, each after a space, one after the other.
 use Rattle.std.proofs.Common.{◌≡◌, ℕ, List, [], ◌++◌, ◌∙◌, ap, sym, append_assoc}
 use Rattle.std.proofs.lemmas.List.{append-nil}
 

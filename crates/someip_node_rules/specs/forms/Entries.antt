@@ -11,9 +11,9 @@ use Rattle.sd_wire.specs.declared.entry.EventgroupKind.TheVariants.{Subscribe, A
 use Rattle.sd_wire.specs.declared.entry.ServiceKind.TheVariants.{Find, Offer}
 use Rattle.sd_wire.specs.declared.option.SdOption.{SdOption}
 use Rattle.sd_wire.specs.declared.option.SdOption.TheVariants.{Endpoint4}
-use Rattle.sd_wire.specs.Values.{EntryValue}
-use Rattle.sd_wire.specs.Encoding.{message_bytes}
-use Rattle.sd_wire.specs.Fronts.{front_lengths, fronts_of}
+use Rattle.sd_wire.specs.contents.Values.{EntryValue}
+use Rattle.sd_wire.specs.encoding.Encoding.{message_bytes}
+use Rattle.sd_wire.specs.fronts.Fronts.{front_lengths, fronts_of}
 use Rattle.sd_instances.specs.declared.eventgroup.Eventgroup.{Eventgroup}
 use Rattle.sd_instances.specs.declared.keys.InstanceId.{InstanceId}
 use Rattle.sd_session.specs.declared.stamp.Stamp.{Stamp}

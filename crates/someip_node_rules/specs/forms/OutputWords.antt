@@ -67,7 +67,7 @@ output_words number (Nacked eventgroup cause) = codes "nacked" ∷ instance_word
 output_words number (Rebooted peer) = codes "reboot" ∷ ipv4_text (ipv4_octets peer) ∷ []
 output_words number (Dropped reason) = codes "dropped" ∷ drop_name reason ∷ []
 
--- words, each behind a space
+-- words, each after a space
 abbrev pub spaced : List (List ℕ) → List ℕ
 spaced words = flat_map (λ word. codes " " ++ word) words
 

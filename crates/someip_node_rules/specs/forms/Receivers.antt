@@ -1,6 +1,6 @@
 -- Messages of Service Discovery to the group, or to a peer.
 use Rattle.std.specs.Prelude.{List}
-use Rattle.sd_wire.specs.Values.{EntryValue}
+use Rattle.sd_wire.specs.contents.Values.{EntryValue}
 use Rattle.someip_node_rules.specs.declared.receiver.Receiver.{Receiver}
 use Rattle.someip_node_rules.specs.declared.receiver.Receiver.TheVariants.{Group, Peer}
 use Rattle.someip_node_rules.specs.forms.Entries.{fronts}

@@ -1,7 +1,7 @@
 -- The rules of messages of Service Discovery that go out (SOME/IP Service Discovery Protocol, "SD Header").
 use Rattle.std.specs.Prelude.{List, [], ◌∷◌}
 use Rattle.std.specs.declared.net.ipv4_addr.Ipv4Addr.{Ipv4Addr}
-use Rattle.sd_wire.specs.Values.{EntryValue}
+use Rattle.sd_wire.specs.contents.Values.{EntryValue}
 use Rattle.someip_node_rules.specs.histories.Items.{GroupAddressed, PeerAddressed}
 use Rattle.someip_node_rules.specs.rules.Outcomes.{Outcome}
 use Rattle.someip_node_rules.specs.forms.Outputs.{Announces}

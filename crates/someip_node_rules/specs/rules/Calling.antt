@@ -8,7 +8,8 @@ use Rattle.someip_rpc.specs.declared.call.Call.{Call}
 use Rattle.someip_rpc.specs.declared.call.CallKind.{CallKind}
 use Rattle.someip_rpc.specs.declared.ids.MessageId.{MessageId}
 use Rattle.someip_rpc.specs.Calls.{Pending, call_header, call_refusal, is_pending}
-use Rattle.someip_rpc.specs.Sessions.{next_of, next_session}
+use Rattle.someip_tables.specs.Sessions.{next_session}
+use Rattle.someip_rpc.specs.Sessions.{next_of}
 use Rattle.someip_node_rules.specs.declared.config.Config.{Config}
 use Rattle.someip_node_rules.specs.declared.error.NodeError.{NodeError}
 use Rattle.someip_node_rules.specs.declared.output.Output.TheVariants.{Called as CallOutput}

@@ -8,6 +8,7 @@ use Rattle.someip_wire.specs.declared.error.WireError.{WireError}
 use Rattle.someip_wire.specs.declared.header.Header.{Header}
 use Rattle.someip_wire.specs.declared.header.MessageType.{MessageType}
 use Rattle.someip_wire.specs.declared.header.MessageType.TheVariants as kinds
+use Rattle.someip_wire.specs.Discovery.{is_discovery}
 use Rattle.someip_wire.specs.Kinds.{has_tp_flag, without_tp_flag}
 use Rattle.someip_wire.specs.Reading.{items_of}
 use Rattle.someip_wire.specs.Spelling.{MessageValue}
@@ -21,10 +22,10 @@ use Rattle.sd_wire.specs.declared.entry.EntryHead.TheVariants.{Service, Eventgro
 use Rattle.sd_wire.specs.declared.entry.EventgroupEntry.{EventgroupEntry}
 use Rattle.sd_wire.specs.declared.entry.ServiceEntry.{ServiceEntry}
 use Rattle.sd_wire.specs.declared.error.SdError.{SdError}
-use Rattle.sd_wire.specs.Endpoints.{first_udp_endpoint, options_of}
-use Rattle.sd_wire.specs.Kinds.{is_ack, is_find, is_stop_offer, is_stop_subscribe, is_subscribe}
-use Rattle.sd_wire.specs.Program.{reading}
-use Rattle.sd_wire.specs.Values.{ReadValue, SdValue, good, bad_run}
+use Rattle.sd_wire.specs.contents.Endpoints.{first_udp_endpoint, options_of}
+use Rattle.sd_wire.specs.contents.Kinds.{is_ack, is_find, is_stop_offer, is_stop_subscribe, is_subscribe}
+use Rattle.sd_wire.specs.decoding.Program.{reading}
+use Rattle.sd_wire.specs.contents.Values.{ReadValue, SdValue, good, bad_run}
 use Rattle.sd_session.specs.declared.stamp.Channel.{Channel}
 use Rattle.sd_session.specs.declared.stamp.Channel.TheVariants.{Multicast, Unicast}
 use Rattle.sd_session.specs.Peers.{may_hold}
@@ -123,19 +124,14 @@ abbrev pub reading_plan : Ipv4Addr → Channel → ℕ → Result SdValue SdErro
 reading_plan peer channel session (Err fault) = act (Drops (Sd fault))
 reading_plan peer channel session (Ok v) = heard_plan peer channel session v
 
-abbrev pub is_notification : MessageType → Bool
-is_notification kinds.Notification = true
-is_notification _ = false
-
--- the header of a message of Service Discovery
-abbrev pub is_discovery : Header → Bool
-is_discovery h =
-    (h.service == 0xFFFF) && (h.method == 0x8100) && (h.interface == 1) && is_notification h.kind && not (h.session == 0)
+-- the header of a message of Service Discovery that its sender counted: no counter gives session 0
+abbrev pub is_valid_discovery : Header → Bool
+is_valid_discovery h = is_discovery h && not (h.session == 0)
 
 -- a message comes to Service Discovery: it has the header of one and its payload is read, or it is dropped, `NotSd`
 abbrev pub discovery_plan : Ipv4Addr → Channel → MessageValue → Plan
 discovery_plan peer channel m =
-    if is_discovery m.header then reading_plan peer channel m.header.session (reading m.payload) else act (Drops NotSd)
+    if is_valid_discovery m.header then reading_plan peer channel m.header.session (reading m.payload) else act (Drops NotSd)
 
 -- ---- datagrams
 

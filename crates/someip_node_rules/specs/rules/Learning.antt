@@ -9,7 +9,7 @@ use Rattle.std.specs.declared.net.ipv4_addr.Ipv4Addr.{Ipv4Addr}
 use Rattle.std.specs.declared.net.socket_addr.SocketAddrV4.{SocketAddrV4}
 use Rattle.sd_wire.specs.declared.entry.EventgroupEntry.{EventgroupEntry}
 use Rattle.sd_wire.specs.declared.entry.ServiceEntry.{ServiceEntry}
-use Rattle.sd_wire.specs.Values.{EntryValue}
+use Rattle.sd_wire.specs.contents.Values.{EntryValue}
 use Rattle.sd_session.specs.declared.peers.Seen.{Seen}
 use Rattle.sd_session.specs.declared.peers.Seen.TheVariants.{Same}
 use Rattle.sd_session.specs.declared.peers.Seen.TheVariants as seen_as

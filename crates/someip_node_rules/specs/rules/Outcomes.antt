@@ -2,7 +2,7 @@
 use Rattle.std.specs.Prelude.{List, [], ◌∷◌, map, filter, ◌++◌, Bool, if◌then◌else◌}
 use Rattle.std.specs.List.{flat_map, list_any}
 use Rattle.std.specs.Ordering.{eq_by_cmp}
-use Rattle.sd_wire.specs.Values.{EntryValue}
+use Rattle.sd_wire.specs.contents.Values.{EntryValue}
 use Rattle.sd_instances.specs.declared.eventgroup.Eventgroup.{Eventgroup}
 use Rattle.sd_instances.specs.declared.keys.InstanceId.{InstanceId}
 use Rattle.sd_instances.specs.Keys.{instance_cmp}

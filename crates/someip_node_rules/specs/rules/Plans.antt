@@ -7,7 +7,7 @@ use Rattle.someip_wire.specs.declared.header.Header.{Header}
 use Rattle.someip_reassembly.specs.SegmentOffers.{SegmentOffer}
 use Rattle.sd_wire.specs.declared.entry.EventgroupEntry.{EventgroupEntry}
 use Rattle.sd_wire.specs.declared.entry.ServiceEntry.{ServiceEntry}
-use Rattle.sd_wire.specs.Values.{EntryValue}
+use Rattle.sd_wire.specs.contents.Values.{EntryValue}
 use Rattle.sd_session.specs.declared.stamp.Channel.{Channel}
 use Rattle.sd_session.specs.declared.stamp.Stamp.{Stamp}
 use Rattle.sd_instances.specs.declared.eventgroup.Eventgroup.{Eventgroup}

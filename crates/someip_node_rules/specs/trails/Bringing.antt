@@ -7,8 +7,8 @@ use Rattle.std.specs.declared.net.socket_addr.SocketAddrV4.{SocketAddrV4}
 use Rattle.someip_wire.specs.declared.header.Header.{Header}
 use Rattle.someip_wire.specs.declared.header.MessageType.TheVariants.{Notification}
 use Rattle.sd_wire.specs.declared.entry.ServiceEntry.{ServiceEntry}
-use Rattle.sd_wire.specs.Kinds.{is_ack, is_find, is_nack, is_offer, is_stop_offer, is_stop_subscribe, is_subscribe}
-use Rattle.sd_wire.specs.Values.{EntryValue, SdValue}
+use Rattle.sd_wire.specs.contents.Kinds.{is_ack, is_find, is_nack, is_offer, is_stop_offer, is_stop_subscribe, is_subscribe}
+use Rattle.sd_wire.specs.contents.Values.{EntryValue, SdValue}
 use Rattle.sd_session.specs.declared.stamp.Channel.{Channel}
 use Rattle.sd_instances.specs.declared.eventgroup.Eventgroup.{Eventgroup}
 use Rattle.sd_instances.specs.declared.keys.InstanceId.{InstanceId}

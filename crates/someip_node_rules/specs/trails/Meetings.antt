@@ -8,7 +8,7 @@ use Rattle.someip_wire.specs.declared.header.MessageType.TheVariants as kinds
 use Rattle.someip_reassembly.specs.declared.reassembly.Offered.TheVariants.{Whole}
 use Rattle.someip_reassembly.specs.SegmentOffers.{SegmentOffer, judgement}
 use Rattle.sd_wire.specs.declared.entry.EventgroupEntry.{EventgroupEntry}
-use Rattle.sd_wire.specs.Values.{EntryValue}
+use Rattle.sd_wire.specs.contents.Values.{EntryValue}
 use Rattle.sd_instances.specs.declared.keys.InstanceId.{InstanceId}
 use Rattle.sd_subscribers.specs.declared.subscription.Subscription.{Subscription}
 use Rattle.sd_wishes.specs.declared.wish.Beginning.{Beginning}

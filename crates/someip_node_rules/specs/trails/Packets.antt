@@ -12,10 +12,10 @@ use Rattle.someip_segments.specs.TpHeader.{segment_in}
 use Rattle.sd_wire.specs.declared.entry.EntryHead.TheVariants.{Service, Eventgroup}
 use Rattle.sd_wire.specs.declared.entry.EventgroupEntry.{EventgroupEntry}
 use Rattle.sd_wire.specs.declared.entry.ServiceEntry.{ServiceEntry}
-use Rattle.sd_wire.specs.Endpoints.{first_udp_endpoint, options_of}
-use Rattle.sd_wire.specs.Program.{reading}
-use Rattle.sd_wire.specs.Values.{EntryValue, ReadValue, SdValue, good, bad_run}
-use Rattle.someip_node_rules.specs.rules.Handling.{is_discovery}
+use Rattle.sd_wire.specs.contents.Endpoints.{first_udp_endpoint, options_of}
+use Rattle.sd_wire.specs.decoding.Program.{reading}
+use Rattle.sd_wire.specs.contents.Values.{EntryValue, ReadValue, SdValue, good, bad_run}
+use Rattle.someip_node_rules.specs.rules.Handling.{is_valid_discovery}
 use Rattle.someip_node_rules.specs.histories.History.{answers_of}
 use Rattle.someip_node_rules.specs.rules.Messages as messages
 use Rattle.someip_node_rules.specs.rules.Plans.{TakesSegment}
@@ -69,7 +69,7 @@ Came p header payload earlier = HasWhole p header payload ⊎ Completes p header
 pub record HasDiscovery (p : Packet) (session : ℕ) (v : SdValue) : Type 0 where
   pub message : MessageValue
   pub stands : HasMessage p message
-  pub discovery : IsTrue (is_discovery message.header)
+  pub discovery : IsTrue (is_valid_discovery message.header)
   pub numbered : session ≡ message.header.session
   pub reads : reading message.payload ≡ Ok v
 

@@ -39,7 +39,7 @@ pub const UNALIGNED_TOO_LONG: &str = "123404210000001000010001010120000000002120
 /// A segment without a TP header.
 pub const HEADLESS: &str = "12340421000000080001000101012000";
 
-/// A request of another service, and the last segment behind it.
+/// A request of another service, and the last segment after it.
 pub const OTHER: &str = "55550001000000080001000101010000";
 
 pub const OTHER_AND_LAST: &str =

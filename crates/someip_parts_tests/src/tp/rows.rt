@@ -31,7 +31,7 @@ pub const TOTALS: &[Run] = &[
         ],
         bytes: One,
     },
-    // A total behind the last held place.
+    // A total after the last held place.
     Run {
         slots: 1,
         limit: 1392,

@@ -17,7 +17,7 @@ use std::marker::Model;
 /// A segment costs what its own bytes need, in any order of arrival: each 16 places of it are
 /// compared where they are held, and joined to the intervals beside them. Besides, `offer` finds the
 /// part of its key by a binary search, and looks at the moment of each part only where the time of one
-/// may be over. A part that begins or goes moves those behind it in the list.
+/// may be over. A part that begins or goes moves those after it in the list.
 #[derive(Drop)]
 pub struct IntervalPool {
     slots: Slots,

@@ -2,11 +2,9 @@
 ghost use Rattle.std.specs.Prelude.{◌≡◌};
 ghost use Rattle.std.specs.Ordering.{nat_cmp};
 ghost use Rattle.std.specs.Cmp.Lexicographic.{slice_cmp};
-ghost use Rattle.someip_wire.specs.Kinds.{kind_byte};
 ghost use Rattle.someip_reassembly.specs.Keys.{key_cmp, key_numbers};
 
 use someip_reassembly::ReassemblyKey;
-use someip_wire::MessageType;
 use std::cmp::Ordering;
 
 /// The order of two keys: by source, by destination, and then by all else.
@@ -36,24 +34,7 @@ fn numbers(key: &ReassemblyKey) -> [u16; 7]
         key.client,
         key.session,
         key.interface.into(),
-        number_of_kind(key.kind),
+        key.kind.number().into(),
         key.code.0.into(),
     ]
-}
-
-fn number_of_kind(kind: MessageType) -> u16
-    ensures { result ≡ kind_byte kind }
-{
-    match kind {
-        MessageType::Request => 0x00,
-        MessageType::RequestNoReturn => 0x01,
-        MessageType::Notification => 0x02,
-        MessageType::Response => 0x80,
-        MessageType::Error => 0x81,
-        MessageType::TpRequest => 0x20,
-        MessageType::TpRequestNoReturn => 0x21,
-        MessageType::TpNotification => 0x22,
-        MessageType::TpResponse => 0xa0,
-        MessageType::TpError => 0xa1,
-    }
 }

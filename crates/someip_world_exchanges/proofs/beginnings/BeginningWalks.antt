@@ -6,10 +6,10 @@ use Rattle.std.specs.Net.Socket.{v4_ip}
 use Rattle.std.proofs.lemmas.Grind.{flat_map-append}
 use Rattle.std.proofs.lemmas.List.{append-nil, append_assoc, take-append-drop}
 use Rattle.std.proofs.lemmas.List.Elements.{filter-append}
-use Rattle.sd_wire.specs.Fronts.{front_lengths, fronts_of}
-use Rattle.sd_wire.specs.Splitting.{AreFronts}
-use Rattle.sd_wire.specs.Values.{EntryValue}
-use Rattle.sd_wire.proofs.FrontLemmas.{lengths_are}
+use Rattle.sd_wire.specs.fronts.Fronts.{front_lengths, fronts_of}
+use Rattle.sd_wire.specs.fronts.Splitting.{AreFronts}
+use Rattle.sd_wire.specs.contents.Values.{EntryValue}
+use Rattle.sd_wire.proofs.fronts.FrontLemmas.{lengths_are}
 use Rattle.sd_instances.specs.declared.eventgroup.Eventgroup.{Eventgroup}
 use Rattle.sd_core.specs.declared.received.ReceivedOffer.{ReceivedOffer}
 use Rattle.someip_node_rules.specs.forms.Entries.{fronts}

@@ -23,10 +23,10 @@ use Rattle.sd_wire.specs.declared.entry.EntryHead.TheVariants as heads
 use Rattle.sd_wire.specs.declared.entry.EventgroupEntry.{EventgroupEntry}
 use Rattle.sd_wire.specs.declared.entry.ServiceEntry.{ServiceEntry}
 use Rattle.sd_wire.specs.declared.error.SdError.{SdError}
-use Rattle.sd_wire.specs.Endpoints.{first_udp_endpoint, options_of}
-use Rattle.sd_wire.specs.Kinds.{is_ack, is_find, is_stop_offer, is_stop_subscribe, is_subscribe}
-use Rattle.sd_wire.specs.Program.{reading}
-use Rattle.sd_wire.specs.Values.{EntryValue, ReadValue, SdValue, good, bad_run}
+use Rattle.sd_wire.specs.contents.Endpoints.{first_udp_endpoint, options_of}
+use Rattle.sd_wire.specs.contents.Kinds.{is_ack, is_find, is_stop_offer, is_stop_subscribe, is_subscribe}
+use Rattle.sd_wire.specs.decoding.Program.{reading}
+use Rattle.sd_wire.specs.contents.Values.{EntryValue, ReadValue, SdValue, good, bad_run}
 use Rattle.sd_session.specs.declared.stamp.Channel.{Channel}
 use Rattle.sd_session.specs.Peers.{may_hold}
 use Rattle.sd_instances.specs.declared.eventgroup.Eventgroup.{Eventgroup}
@@ -43,7 +43,7 @@ use Rattle.someip_node_rules.specs.rules.ClientSubscribing.{standing_of, stop_su
 use Rattle.someip_node_rules.specs.rules.Offering.{stop_offer_of}
 use Rattle.someip_node_rules.specs.rules.Ticking.{due_entries}
 use Rattle.someip_node_rules.specs.forms.Entries.{offer_entry, subscribe_entry}
-use Rattle.someip_node_rules.specs.rules.Handling.{client_plan, completed_plan, datagram_plan, discovery_plan, entries_plan, entry_plan, eventgroup_plan, good_plan, heard_plan, is_discovery, item_plan, message_plan, reading_plan, same_address, segment_plan, service_plan, target_of, target_plan, whole_plan}
+use Rattle.someip_node_rules.specs.rules.Handling.{client_plan, completed_plan, datagram_plan, discovery_plan, entries_plan, entry_plan, eventgroup_plan, good_plan, heard_plan, is_valid_discovery, item_plan, message_plan, reading_plan, same_address, segment_plan, service_plan, target_of, target_plan, whole_plan}
 use Rattle.someip_node_rules.specs.histories.History.{History, answers_of, historic}
 use Rattle.someip_node_rules.specs.rules.Inputs as inputs
 use Rattle.someip_node_rules.specs.rules.Inputs.{Input, peer_plan, plan_of, refusal_of, stop_subscribe_plan}
@@ -120,7 +120,7 @@ module _ (q : Eventgroup) where
 
     speaking_discovery : (channel : Channel) (m : MessageValue) → Speaking q (discovery_plan peer channel m)
     speaking_discovery channel m =
-        cond_both (is_discovery m.header) _ _ (Speaking q) (λ _. speaking_reading channel m.header.session (reading m.payload)) (λ _. speaking_act q (plans.Drops NotSd) refl refl refl)
+        cond_both (is_valid_discovery m.header) _ _ (Speaking q) (λ _. speaking_reading channel m.header.session (reading m.payload)) (λ _. speaking_act q (plans.Drops NotSd) refl refl refl)
 
   -- ---- messages of the application
 

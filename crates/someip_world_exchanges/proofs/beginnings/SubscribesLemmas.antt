@@ -16,7 +16,7 @@ use Rattle.std.proofs.lemmas.List.Elements.{filter-append}
 use Rattle.std.proofs.lemmas.Map.Views.{IfSome-get}
 use Rattle.someip_tables.specs.Distinct.{are_distinct}
 use Rattle.someip_tables.proofs.Entries.{entries_distinct, none_found, own_test, same_by_test}
-use Rattle.sd_wire.specs.Values.{EntryValue}
+use Rattle.sd_wire.specs.contents.Values.{EntryValue}
 use Rattle.sd_instances.specs.declared.eventgroup.Eventgroup.{Eventgroup}
 use Rattle.sd_instances.specs.declared.keys.InstanceId.{InstanceId}
 use Rattle.sd_wishes.specs.declared.wish.Beginning.{Beginning}

@@ -5,12 +5,12 @@ use Rattle.std.specs.declared.net.socket_addr.SocketAddrV4.{SocketAddrV4}
 use Rattle.someip_wire.specs.Spelling.{Fits, spelling}
 use Rattle.someip_segments.specs.Sent.{PieceValue, piece_message, sent}
 use Rattle.someip_segments.proofs.SentLemmas.{all_fit}
-use Rattle.sd_wire.specs.Values.{EntryValue, ReadValue, good}
+use Rattle.sd_wire.specs.contents.Values.{EntryValue, ReadValue, good}
 use Rattle.sd_session.specs.declared.stamp.Stamp.{Stamp}
 use Rattle.someip_node_rules.specs.declared.output.Output.TheVariants.{Sent}
 use Rattle.someip_node_rules.specs.forms.Entries.{discovery_message}
 use Rattle.someip_node_laws.specs.Fitting.{FitsWire}
-use Rattle.someip_node_rules.specs.rules.Handling.{is_discovery}
+use Rattle.someip_node_rules.specs.rules.Handling.{is_valid_discovery}
 use Rattle.someip_node_rules.specs.histories.History.{History, answers_of}
 use Rattle.someip_node_rules.specs.rules.Inputs.{Input}
 use Rattle.someip_node_rules.specs.trails.Meanings.{GivenBy, IsTold}
@@ -33,7 +33,7 @@ pub record IsAnnouncedWith (p : Packet) (entry : ReadValue) (given : Given) : Ty
   pub same : entry ≡ good value
 
 module _ (p : Packet) (entry : ReadValue) (has : HasEntry p entry) (h : History) (input : Input) where
-  no_piece : (from to : SocketAddrV4) (piece : PieceValue) → Fits (piece_message piece) → is_discovery (piece_message piece).header ≡ false
+  no_piece : (from to : SocketAddrV4) (piece : PieceValue) → Fits (piece_message piece) → is_valid_discovery (piece_message piece).header ≡ false
       → Sent p.from p.to p.bytes ≡ datagram_of from to piece → ⊥
   no_piece from to piece fits not is =
       let bytes : p.bytes ≡ spelling (piece_message piece) = cc in
@@ -61,7 +61,7 @@ module _ (p : Packet) (entry : ReadValue) (has : HasEntry p entry) (h : History)
   announced_with (outputs.Sends from to m) by fits among =
       absurd (at_member (λ o. Sent p.from p.to p.bytes ≡ o → ⊥) (map (datagram_of from to) (sent m)) (Sent p.from p.to p.bytes)
       (all_map (λ o. Sent p.from p.to p.bytes ≡ o → ⊥) (datagram_of from to) (sent m)
-      (all_both (λ piece. Fits (piece_message piece)) (λ piece. is_discovery (piece_message piece).header ≡ false)
+      (all_both (λ piece. Fits (piece_message piece)) (λ piece. is_valid_discovery (piece_message piece).header ≡ false)
       (λ piece. Sent p.from p.to p.bytes ≡ datagram_of from to piece → ⊥) (no_piece from to) (sent m)
       (all_fit m fits.0) (pieces_undiscovered m fits.1))) among refl)
   announced_with (outputs.Tells output) by fits among =

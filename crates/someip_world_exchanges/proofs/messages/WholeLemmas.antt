@@ -4,10 +4,9 @@ use Rattle.std.proofs.Common.{◌≡◌, ℕ, zero, suc, ◌+◌, Bool, true, fa
 use Rattle.std.specs.List.{AllByRecursion, Contains}
 use Rattle.std.specs.Net.Socket.{v4_ip, v4_port}
 use Rattle.std.specs.declared.net.socket_addr.SocketAddrV4.{SocketAddrV4}
+use Rattle.someip_wire.proofs.TypeLemmas.{flag_set}
 use Rattle.someip_wire.specs.declared.header.Header.{Header}
-use Rattle.someip_wire.specs.declared.header.MessageType.{MessageType}
-use Rattle.someip_wire.specs.declared.header.MessageType.TheVariants as kinds
-use Rattle.someip_wire.specs.Kinds.{has_tp_flag, with_tp_flag}
+use Rattle.someip_wire.specs.Kinds.{has_tp_flag}
 use Rattle.someip_wire.specs.Spelling.{Fits, MessageValue, spelling}
 use Rattle.someip_segments.specs.Segments.{SegmentValue, segment_header, segments_within}
 use Rattle.someip_segments.specs.Sent.{PieceValue, Alone, InSegment, is_long, piece_message, segments_of, sent}
@@ -21,7 +20,7 @@ use Rattle.someip_rpc.specs.Calls.{kind_of_call}
 use Rattle.someip_rpc.specs.Servers.{kind_of_reply}
 use Rattle.sd_session.specs.declared.stamp.Channel.TheVariants as channels
 use Rattle.sd_session.specs.declared.stamp.Stamp.{Stamp}
-use Rattle.sd_wire.specs.Values.{EntryValue}
+use Rattle.sd_wire.specs.contents.Values.{EntryValue}
 use Rattle.someip_node_rules.specs.forms.Entries.{discovery_message}
 use Rattle.someip_node_rules.specs.declared.config.Config.{Config}
 use Rattle.someip_node_rules.specs.declared.output.Output.TheVariants.{Sent}
@@ -44,18 +43,6 @@ use Rattle.someip_world_rules.proofs.AnnouncedLemmas.{only_message}
 
 -- ---- the pieces of a message
 
-flagged : (kind : MessageType) → has_tp_flag (with_tp_flag kind) ≡ true
-flagged kinds.Request = refl
-flagged kinds.RequestNoReturn = refl
-flagged kinds.Notification = refl
-flagged kinds.Response = refl
-flagged kinds.Error = refl
-flagged kinds.TpRequest = refl
-flagged kinds.TpRequestNoReturn = refl
-flagged kinds.TpNotification = refl
-flagged kinds.TpResponse = refl
-flagged kinds.TpError = refl
-
 segments_flagged : (n : ℕ) (header : Header) (offset : ℕ) (rest : List ℕ) → has_tp_flag header.kind ≡ true → AllByRecursion (λ s. has_tp_flag s.header.kind ≡ true) (segments_within n header offset rest)
 unfolding segments_within
 segments_flagged zero header offset rest is = tt
@@ -73,7 +60,7 @@ whole_pieces m = cases (is_long m.payload) refl
     cases true is =
         all_map (IsItself m) InSegment (segments_of m)
         (all_weaker (λ s. has_tp_flag s.header.kind ≡ true) (λ s. IsItself m (InSegment s)) (λ s flag none. absurd cc) (segments_of m)
-        (segments_flagged (length m.payload) (segment_header m.header) 0 m.payload (flagged m.header.kind)))
+        (segments_flagged (length m.payload) (segment_header m.header) 0 m.payload (flag_set m.header.kind)))
     cases false is = ((λ none. (refl, is)), tt)
 
 -- a piece with the TP flag is a segment of the message, which is long; unless the message itself has the flag

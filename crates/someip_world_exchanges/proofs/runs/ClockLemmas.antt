@@ -1,7 +1,7 @@
 -- A step leaves the configuration as it is, and the clock too unless it is a tick.
 use Rattle.std.proofs.Common.{◌≡◌, ℕ, ◌+◌, false, List, [], ◌∷◌, Ok, refl, ap, subst, ◌∙◌}
 use Rattle.std.specs.List.{AllByRecursion}
-use Rattle.sd_wire.specs.Values.{EntryValue}
+use Rattle.sd_wire.specs.contents.Values.{EntryValue}
 use Rattle.someip_node_rules.specs.declared.receiver.Receiver.TheVariants.{Group}
 use Rattle.someip_node_rules.specs.rules.Ticking.{due_entries}
 use Rattle.someip_node_rules.specs.forms.Entries.{fronts}

@@ -16,7 +16,7 @@ use Rattle.someip_reassembly.specs.declared.reassembly.Offered.TheVariants.{Part
 use Rattle.someip_reassembly.specs.SegmentOffers.{SegmentOffer, judgement, message_at, offer, parts_after}
 use Rattle.someip_reassembly.specs.Keys.{segment_key}
 use Rattle.someip_segments.specs.TpHeader.{segment_in}
-use Rattle.sd_wire.specs.Values.{EntryValue}
+use Rattle.sd_wire.specs.contents.Values.{EntryValue}
 use Rattle.sd_instances.specs.declared.keys.InstanceId.{InstanceId}
 use Rattle.someip_rpc.specs.Answers.{answer_drop}
 use Rattle.someip_rpc.specs.declared.error.DropCause.{DropCause}

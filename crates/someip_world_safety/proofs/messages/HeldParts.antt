@@ -11,7 +11,7 @@ use Rattle.someip_reassembly.specs.declared.key.ReassemblyKey.{ReassemblyKey}
 use Rattle.someip_tp.specs.Accepted.{HoldsOnly}
 use Rattle.someip_reassembly.specs.SegmentOffers.{SegmentOffer, message_at, parts_after}
 use Rattle.someip_reassembly.specs.Parts.{Limits, Part, parts_at}
-use Rattle.someip_tp.proofs.BoundLemmas.{left_same}
+use Rattle.someip_tp.proofs.promises.BoundLemmas.{left_same}
 use Rattle.someip_node_rules.specs.declared.config.Config.{Config}
 use Rattle.someip_node_rules.specs.trails.Bringing.{Brings}
 use Rattle.someip_node_rules.specs.histories.DiscoveryQuestions.{parts_by, parts_in}

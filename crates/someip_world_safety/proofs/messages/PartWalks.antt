@@ -11,8 +11,8 @@ use Rattle.someip_tp.specs.Accepted.{HoldsOnly, IsSegmentOf}
 use Rattle.someip_reassembly.specs.Keys.{same_key}
 use Rattle.someip_reassembly.specs.SegmentOffers.{SegmentOffer, conflicts, is_too_long, is_unaligned, kept, message_at, message_of, no_part, part_under, parts_after, parts_less, with_offer}
 use Rattle.someip_reassembly.specs.Parts.{Limits, Part, Parts, is_gone, parts_at}
-use Rattle.someip_tp.proofs.AcceptedLemmas.{accepts, begins, whole_is_payload}
-use Rattle.someip_tp.proofs.BoundLemmas.{left_same, removed_same}
+use Rattle.someip_tp.proofs.promises.AcceptedLemmas.{accepts, begins, whole_is_payload}
+use Rattle.someip_tp.proofs.promises.BoundLemmas.{left_same, removed_same}
 use Rattle.someip_reassembly.proofs.KeyOrder.{exact_keys, keys_total, same_from_test}
 use Rattle.someip_reassembly.proofs.OfferLemmas.{judged_by}
 use Rattle.someip_node_rules.specs.histories.DiscoveryQuestions.{parts_by}

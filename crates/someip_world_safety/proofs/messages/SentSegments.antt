@@ -1,10 +1,9 @@
 -- A segment that came with a datagram is one of a long message, which the step that sent the datagram gave.
 use Rattle.std.proofs.Common.{◌≡◌, true, false, [], ◌∷◌, map, Result, Ok, refl, sym, ap, subst, ◌∙◌}
 use Rattle.std.specs.List.{Contains}
+use Rattle.someip_wire.proofs.TypeLemmas.{flag_cleared_again}
 use Rattle.someip_wire.specs.declared.header.Header.{Header}
-use Rattle.someip_wire.specs.declared.header.MessageType.{MessageType}
-use Rattle.someip_wire.specs.declared.header.MessageType.TheVariants as kinds
-use Rattle.someip_wire.specs.Kinds.{has_tp_flag, with_tp_flag, without_tp_flag}
+use Rattle.someip_wire.specs.Kinds.{has_tp_flag, without_tp_flag}
 use Rattle.someip_wire.specs.Spelling.{Fits, MessageValue, spelling}
 use Rattle.someip_reassembly.specs.declared.key.ReassemblyKey.{ReassemblyKey}
 use Rattle.someip_tp.specs.Accepted.{IsSegmentOf}
@@ -13,7 +12,7 @@ use Rattle.someip_reassembly.specs.SegmentOffers.{SegmentOffer, offer}
 use Rattle.someip_segments.specs.Segments.{SegmentValue, segment_header, segment_message}
 use Rattle.someip_segments.specs.Sent.{PieceValue, is_long, piece_message, segments_of, sent}
 use Rattle.someip_segments.specs.TpHeader.{segment_in}
-use Rattle.someip_tp.proofs.AcceptedLemmas.{own_read, segment_is}
+use Rattle.someip_tp.proofs.promises.AcceptedLemmas.{own_read, segment_is}
 use Rattle.someip_segments.proofs.SentLemmas.{all_fit}
 use Rattle.someip_node_rules.specs.declared.output.Output.TheVariants.{Sent}
 use Rattle.someip_node_rules.specs.forms.Entries.{discovery_message}
@@ -29,19 +28,6 @@ use Rattle.someip_world_exchanges.proofs.messages.WholeLemmas.{IsSegment, no_fla
 
 -- ---- the type without the TP flag
 
--- the TP flag is set and cleared again
-flag_back : (kind : MessageType) → has_tp_flag kind ≡ false → without_tp_flag (with_tp_flag kind) ≡ kind
-flag_back kinds.Request none = refl
-flag_back kinds.RequestNoReturn none = refl
-flag_back kinds.Notification none = refl
-flag_back kinds.Response none = refl
-flag_back kinds.Error none = refl
-flag_back kinds.TpRequest none = absurd cc
-flag_back kinds.TpRequestNoReturn none = absurd cc
-flag_back kinds.TpNotification none = absurd cc
-flag_back kinds.TpResponse none = absurd cc
-flag_back kinds.TpError none = absurd cc
-
 -- a header without the flag
 abbrev pub plain_header : Header → Header
 plain_header header = record header { kind = without_tp_flag header.kind }
@@ -52,7 +38,7 @@ plain_key key = record key { kind = without_tp_flag key.kind }
 
 -- the header of a message is that of its segments without the flag
 plain_back : (header : Header) → has_tp_flag header.kind ≡ false → plain_header (segment_header header) ≡ header
-plain_back header none = ap (λ kind. record header { kind = kind }) (flag_back header.kind none)
+plain_back header none = ap (λ kind. record header { kind = kind }) (flag_cleared_again header.kind none)
 
 -- ---- what a datagram with a segment was given as
 

@@ -1,14 +1,10 @@
 -- In a network that was read, each offer is at its node's own address, and is the only one of its instance.
-use Rattle.std.proofs.Common.{◌≡◌, ℕ, zero, suc, Bool, true, false, ◌&&◌, ◌||◌, ◌==◌, nat_le, not, cond, List, [], ◌∷◌, ◌++◌, map, slice_get, Some, refl, sym, ap, subst, ◌∙◌}
-use Rattle.std.specs.List.{AllByRecursion, AllZip, flat_map, list_all, list_any}
+use Rattle.std.proofs.Common.{◌≡◌, ℕ, zero, suc, Bool, true, false, ◌||◌, not, cond, List, [], ◌∷◌, ◌++◌, map, slice_get, Some, refl, sym, ap, subst, ◌∙◌}
+use Rattle.std.specs.List.{AllByRecursion, AllZip, flat_map, list_any}
 use Rattle.std.specs.Map.{lookup}
 use Rattle.std.specs.BTreeMap.{is_at}
-use Rattle.std.specs.BTreeSet.{contains}
-use Rattle.std.specs.Net.Socket.{v4_ip, v4_port}
-use Rattle.std.specs.Ordering.{nat_cmp}
-use Rattle.std.proofs.lemmas.Bool.{and_parts}
+use Rattle.std.specs.Net.Socket.{v4_ip}
 use Rattle.std.proofs.lemmas.List.Elements.{recursion_from_All}
-use Rattle.someip_tables.specs.EndpointOrder.{exact_addresses}
 use Rattle.someip_tables.proofs.Entries.{own_test, same_by_test}
 use Rattle.sd_instances.specs.KeyOrder.{exact_instances, instances_total}
 use Rattle.sd_instances.specs.Keys.{instance_cmp}
@@ -16,8 +12,8 @@ use Rattle.sd_instances.specs.declared.keys.InstanceId.{InstanceId}
 use Rattle.someip_node_rules.specs.trails.Copies.{IsCopy, IsCopyOfOffer}
 use Rattle.someip_node_rules.specs.declared.config.Config.{Config}
 use Rattle.someip_node_rules.specs.declared.config.OfferedService.{OfferedService}
-use Rattle.someip_node_rules.specs.forms.GoodConfigs.{are_good_methods, has_good_eventgroups, has_own_ports, is_good, is_good_common, is_good_instance, is_good_offer, is_good_port, is_good_want, is_within}
-use Rattle.someip_node_rules.specs.rules.Handling.{same_address}
+use Rattle.someip_node_rules.proofs.forms.GoodConfigParts.{good_offers, own_address}
+use Rattle.someip_node_rules.specs.forms.GoodConfigs.{is_good, is_good_offer}
 use Rattle.someip_node_rules.proofs.lists.MemberLemmas.{all_both, at_member}
 use Rattle.someip_world_setup_parts.specs.Clashes.{has_repeat, same_instance}
 use Rattle.someip_world_setup.specs.GoodSetups.{IsGoodNetwork, IsGoodNode, Network, instances_of}
@@ -63,21 +59,6 @@ none_twice (x ∷ nodes) zero node none is =
     ap (λ y. has_repeat same_instance (instances_of y)) (sym one) ∙ (no_repeats (instances_of x) (flat_map instances_of nodes) none).0
 none_twice (x ∷ nodes) (suc p) node none is = none_twice nodes p node (no_repeats (instances_of x) (flat_map instances_of nodes) none).1 is
 
--- all pass a test
-each_passes : {X : Type 0} (p : X → Bool) (xs : List X) → list_all p xs ≡ true → AllByRecursion (λ x. p x ≡ true) xs
-each_passes p [] all = tt
-each_passes p (x ∷ xs) all = let parts = and_parts (p x) (list_all p xs) all in (parts.0, each_passes p xs parts.1)
-
--- a conjunction of many
-abbrev and_then_all : Bool → List Bool → Bool
-and_then_all a [] = a
-and_then_all a (b ∷ bs) = and_then_all (a && b) bs
-
--- its first part
-first_of : (a : Bool) (bs : List Bool) → and_then_all a bs ≡ true → a ≡ true
-first_of a [] all = all
-first_of a (b ∷ bs) all = (and_parts a b (first_of (a && b) bs all)).0
-
 -- ---- offers of one configuration
 
 -- no offer of several has an instance of which a test holds
@@ -98,7 +79,7 @@ no_other a b none false is = refl
 abbrev IsFound : List Offer → Offer → Type 0
 IsFound es e = lookup (is_at (instance_cmp e.0)) es ≡ Some e.1
 
--- what is found is found behind one of another instance
+-- what is found is found after one of another instance
 found_behind : (first : Offer) (es : List Offer) (e : Offer) → IsFound es e → same_instance first.0 e.0 ≡ false → IsFound (first ∷ es) e
 found_behind first es e found none =
     let other : is_at (instance_cmp e.0) first.0 ≡ false = no_other first.0 e.0 none (same_instance e.0 first.0) refl in
@@ -114,31 +95,6 @@ each_found (e ∷ es) none =
       all_both (IsFound es) (λ x. same_instance e.0 x.0 ≡ false) (IsFound (e ∷ es)) (λ x found other. found_behind e es x found other) es
           (each_found es parts.1) (none_passes (same_instance e.0) es parts.0),
     )
-
-module _ (config : Config) where
-  -- a good offer is at the address of its node
-  good_address : (offer : Offer) → is_good_offer config offer ≡ true → v4_ip offer.1.rules.endpoint ≡ config.address
-  good_address offer good =
-      let before =
-      is_good_instance offer.0
-      && (offer.1.rules.service == offer.0.service) && (offer.1.rules.instance == offer.0.instance)
-      && nat_le offer.1.rules.major 0xFE && nat_le offer.1.minor 0xFFFFFFFE && not (offer.1.ttl == 0) in
-      let address = same_address (v4_ip offer.1.rules.endpoint) config.address in
-      same_by_test exact_addresses (v4_ip offer.1.rules.endpoint) config.address
-      (and_parts before address
-      (first_of (before && address)
-      (is_good_port (v4_port offer.1.rules.endpoint) ∷ not (v4_port offer.1.rules.endpoint == config.client_port)
-      ∷ are_good_methods offer.1.rules.methods ∷ are_good_methods offer.1.rules.oneways
-      ∷ not (list_any (contains nat_cmp offer.1.rules.methods) offer.1.rules.oneways.keys)
-      ∷ list_all has_good_eventgroups offer.1.rules.events.entries ∷ is_within 1 1024 offer.1.subscribers ∷ [])
-      good)).1
-
-  -- all offers of a good configuration are good
-  good_offers : is_good config ≡ true → list_all (is_good_offer config) config.offers.entries ≡ true
-  good_offers good =
-      let front = is_good_common config.common && not (same_address config.address config.common.group) && is_good_port config.client_port in
-      let offers = list_all (is_good_offer config) config.offers.entries in
-      (and_parts front offers (first_of (front && offers) (list_all is_good_want config.wants.entries ∷ has_own_ports config ∷ []) good)).1
 
 -- ---- copies
 
@@ -166,8 +122,8 @@ copy_offers config copy is good none instance service among =
     let address : config.address ≡ copy.address = sym (ap (λ c. c.address) is.0) in
     let at =
     copied_all (λ e. is_good_offer config e ≡ true) (λ e. v4_ip e.1.rules.endpoint ≡ copy.address)
-    (λ a b copies fine. ap (λ r. v4_ip r.endpoint) copies.1.1.0 ∙ good_address config a fine ∙ address) config.offers.entries copy.offers.entries is.1
-    (each_passes (is_good_offer config) config.offers.entries (good_offers config good)) in
+    (λ a b copies fine. ap (λ r. v4_ip r.endpoint) copies.1.1.0 ∙ own_address config a fine ∙ address) config.offers.entries copy.offers.entries is.1
+    (good_offers config good) in
     let found = each_found copy.offers.entries (ap (has_repeat same_instance) (same_instances config.offers.entries copy.offers.entries is.1) ∙ none) in (
       at_member (λ e. v4_ip e.1.rules.endpoint ≡ copy.address) copy.offers.entries (instance, service) at among,
       at_member (IsFound copy.offers.entries) copy.offers.entries (instance, service) found among,

@@ -1,22 +1,21 @@
 -- In a network that was read, instances that a node offers at one endpoint are one.
-use Rattle.std.proofs.Common.{◌≡◌, ℕ, suc, ◌+◌, ◌≤◌, Bool, true, false, ◌&&◌, not, cond, List, [], ◌∷◌, length, map, Option, None, Some, arith, refl, sym, ap, subst, ◌∙◌}
+use Rattle.std.proofs.Common.{◌≡◌, ℕ, suc, ◌+◌, ◌≤◌, Bool, true, false, cond, List, [], ◌∷◌, length, map, Option, None, Some, arith, refl, sym, ap, subst, ◌∙◌}
 use Rattle.std.specs.FinMap.{contains_key, find, from_entries, get, get-from_entries, insert, len, len-empty, len-insert}
-use Rattle.std.specs.List.{AllByRecursion, AllZip, Contains, list_all}
+use Rattle.std.specs.List.{AllByRecursion, AllZip, Contains}
 use Rattle.std.specs.Option.{IfSome, is_some}
 use Rattle.std.specs.Ordering.{eq_by_cmp, nat_cmp}
 use Rattle.std.specs.Cmp.{nat_cmp_total}
-use Rattle.std.proofs.lemmas.Bool.{and_parts, eqb-true}
+use Rattle.std.proofs.lemmas.Bool.{eqb-true}
 use Rattle.std.proofs.lemmas.List.Elements.{recursion_from_All}
 use Rattle.std.proofs.lemmas.Map.Lookups.{exact_unsigned}
 use Rattle.std.proofs.lemmas.Map.Views.{IfSome-get}
 use Rattle.someip_tables.proofs.Entries.{own_test, same_by_test}
 use Rattle.sd_instances.specs.KeyOrder.{exact_instances, instances_total}
 use Rattle.sd_instances.specs.declared.keys.InstanceId.{InstanceId}
+use Rattle.someip_node_rules.proofs.forms.GoodConfigParts.{good_ports}
 use Rattle.someip_node_rules.specs.trails.Copies.{IsCopyOfOffer}
 use Rattle.someip_node_rules.specs.declared.config.Config.{Config}
 use Rattle.someip_node_rules.specs.declared.config.OfferedService.{OfferedService}
-use Rattle.someip_node_rules.specs.forms.GoodConfigs.{has_own_ports, is_good, is_good_common, is_good_offer, is_good_port, is_good_want}
-use Rattle.someip_node_rules.specs.rules.Handling.{same_address}
 use Rattle.someip_node_rules.specs.forms.Setups.{offered_as}
 use Rattle.someip_node_rules.proofs.lists.MemberLemmas.{all_weaker, at_member}
 use Rattle.someip_world_setup.specs.GoodSetups.{IsGoodNetwork, IsGoodNode, Network}
@@ -55,7 +54,7 @@ none_from : {X : Type 0} (o : Option X) → is_some o ≡ false → o ≡ None
 none_from None is = refl
 none_from (Some x) is = absurd cc
 
--- behind another one
+-- after another one
 found_behind : (first : Port) (es : List Port) (e : Port) → find nat_cmp first.0 es ≡ None → find nat_cmp e.0 es ≡ Some e.1 → find nat_cmp e.0 (first ∷ es) ≡ Some e.1
 found_behind first es e none found = cases (eq_by_cmp nat_cmp e.0 first.0) refl
   where
@@ -136,13 +135,6 @@ same_ports (x ∷ xs) (y ∷ ys) all =
     let rest = same_ports xs ys all.1 in
     let port : y.1.rules.endpoint.port ≡ x.1.rules.endpoint.port = ap (λ r. r.endpoint.port) all.0.1.1.0 in
     ((λ i. (port i, all.0.0 i) ∷ rest.0 i), ap suc rest.1)
-
--- a good configuration has its own ports
-good_ports : (config : Config) → is_good config ≡ true → has_own_ports config ≡ true
-good_ports config good =
-    (and_parts
-    (is_good_common config.common && not (same_address config.address config.common.group) && is_good_port config.client_port
-    && list_all (is_good_offer config) config.offers.entries && list_all is_good_want config.wants.entries) (has_own_ports config) good).1
 
 pub own_ports : (network : Network) → IsGoodNetwork network → (configs : List Config) → AreCopies network.nodes configs → HaveOwnPorts configs
 own_ports network good configs are place config here =

@@ -4,7 +4,7 @@ use Rattle.std.specs.List.{Contains}
 use Rattle.std.specs.declared.net.ipv4_addr.Ipv4Addr.{Ipv4Addr}
 use Rattle.sd_wire.specs.declared.entry.EventgroupEntry.{EventgroupEntry}
 use Rattle.sd_wire.specs.declared.entry.ServiceEntry.{ServiceEntry}
-use Rattle.sd_wire.specs.Values.{EntryValue, good}
+use Rattle.sd_wire.specs.contents.Values.{EntryValue, good}
 use Rattle.someip_node_rules.specs.declared.config.Config.{Config}
 use Rattle.someip_node_rules.specs.trails.Bringing.{Brings, OfDatagram, WasBrought}
 use Rattle.someip_node_rules.specs.histories.History.{History}

@@ -7,8 +7,8 @@ use Rattle.std.specs.declared.net.ipv4_addr.Ipv4Addr.{Ipv4Addr}
 use Rattle.someip_tables.proofs.Entries.{same_by_test}
 use Rattle.someip_tables.specs.EndpointOrder.{exact_addresses}
 use Rattle.sd_wire.specs.declared.entry.EventgroupEntry.{EventgroupEntry}
-use Rattle.sd_wire.specs.Kinds.{is_ack, is_subscribe}
-use Rattle.sd_wire.specs.Values.{EntryValue}
+use Rattle.sd_wire.specs.contents.Kinds.{is_ack, is_subscribe}
+use Rattle.sd_wire.specs.contents.Values.{EntryValue}
 use Rattle.sd_instances.specs.declared.eventgroup.Eventgroup.{Eventgroup}
 use Rattle.sd_subscribers.specs.SubscriberTables.{subscription_at}
 use Rattle.someip_node_rules.specs.declared.config.Config.{Config}

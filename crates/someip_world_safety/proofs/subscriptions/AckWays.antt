@@ -6,8 +6,8 @@ use Rattle.std.specs.declared.net.ipv4_addr.Ipv4Addr.{Ipv4Addr}
 use Rattle.std.specs.declared.net.socket_addr.SocketAddrV4.{SocketAddrV4}
 use Rattle.sd_wire.specs.declared.entry.EntryHead.TheVariants as heads
 use Rattle.sd_wire.specs.declared.entry.EventgroupEntry.{EventgroupEntry}
-use Rattle.sd_wire.specs.Kinds.{is_ack}
-use Rattle.sd_wire.specs.Values.{EntryValue, bad_run, good}
+use Rattle.sd_wire.specs.contents.Kinds.{is_ack}
+use Rattle.sd_wire.specs.contents.Values.{EntryValue, bad_run, good}
 use Rattle.sd_session.specs.declared.stamp.Stamp.{Stamp}
 use Rattle.someip_node_rules.specs.declared.config.Config.{Config}
 use Rattle.someip_node_rules.specs.trails.Bringing.{Brings, OfDatagram, OfEntry, RepliesToEntry}

@@ -5,8 +5,8 @@ use Rattle.sd_wire.specs.declared.entry.EntryHead.TheVariants as heads
 use Rattle.sd_wire.specs.declared.entry.EventgroupEntry.{EventgroupEntry}
 use Rattle.sd_wire.specs.declared.entry.EventgroupKind.TheVariants as group_kinds
 use Rattle.sd_wire.specs.declared.entry.ServiceEntry.{ServiceEntry}
-use Rattle.sd_wire.specs.Kinds.{is_ack, is_find}
-use Rattle.sd_wire.specs.Values.{EntryValue}
+use Rattle.sd_wire.specs.contents.Kinds.{is_ack, is_find}
+use Rattle.sd_wire.specs.contents.Values.{EntryValue}
 use Rattle.someip_node_laws.specs.Answerings.{AnswersAccepted, AnswersSubscribe}
 use Rattle.someip_node_rules.specs.trails.Bringing.{OfEntry, RepliesToEntry}
 use Rattle.someip_node_rules.specs.histories.History.{answers_of}

@@ -10,8 +10,8 @@ use Rattle.someip_tables.specs.EndpointOrder.{exact_addresses}
 use Rattle.sd_wire.specs.declared.entry.EntryHead.TheVariants as heads
 use Rattle.sd_wire.specs.declared.entry.EventgroupEntry.{EventgroupEntry}
 use Rattle.sd_wire.specs.declared.entry.EventgroupKind.TheVariants as group_kinds
-use Rattle.sd_wire.specs.Kinds.{is_subscribe}
-use Rattle.sd_wire.specs.Values.{EntryValue, bad_run, good}
+use Rattle.sd_wire.specs.contents.Kinds.{is_subscribe}
+use Rattle.sd_wire.specs.contents.Values.{EntryValue, bad_run, good}
 use Rattle.sd_session.specs.declared.stamp.Stamp.{Stamp}
 use Rattle.someip_node_rules.specs.declared.config.Config.{Config}
 use Rattle.someip_node_laws.specs.Answerings.{AnswersSubscribe}

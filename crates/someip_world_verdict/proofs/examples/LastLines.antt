@@ -25,7 +25,7 @@ all_of index place (Ok outputs) = outputs_of outputs
     outputs_of [] = tt
     outputs_of (o ∷ outputs) = (refl, outputs_of outputs)
 
--- those of a later step stay behind the lines of a step
+-- those of a later step stay after the lines of a step
 module _ (k index : ℕ) (before : k < index) (last : List Line) (of : AreOf index last) where
   record Splits (lines : List Line) : Type 0 where
     pub own : own_lines k (lines ++ last) ≡ own_lines k lines

@@ -9,7 +9,7 @@ use Rattle.std.specs.Option.{option_map_or}
 use Rattle.std.specs.Ordering.{nat_cmp}
 use Rattle.someip_tables.proofs.Entries.{own_test}
 use Rattle.someip_wire.specs.Reading.{items_within}
-use Rattle.sd_wire.specs.Program.{options_within}
+use Rattle.sd_wire.specs.decoding.Program.{options_within}
 use Rattle.someip_rpc.specs.declared.call.CallKind.TheVariants as kinds
 use Rattle.someip_rpc.specs.declared.request.Reply.TheVariants.{Response}
 use Rattle.someip_node_laws.specs.WorkedExamples.{client, instance, server}

@@ -2,7 +2,7 @@
 use Rattle.std.proofs.Common.{◌≡◌, ℕ, List, [], ◌∷◌, drop, None, Some, refl, ◌∙◌}
 use Rattle.std.specs.FinMap as finite
 use Rattle.someip_wire.specs.Reading.{items_within}
-use Rattle.sd_wire.specs.Program.{options_within}
+use Rattle.sd_wire.specs.decoding.Program.{options_within}
 use Rattle.someip_rpc.specs.declared.call.CallKind.TheVariants as kinds
 use Rattle.someip_node_laws.specs.WorkedExamples.{instance}
 use Rattle.someip_world_steps.specs.declared.step.Step.{Step}

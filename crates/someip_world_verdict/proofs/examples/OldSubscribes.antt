@@ -5,7 +5,7 @@ use Rattle.std.specs.FinMap.{get-empty, get-insert}
 use Rattle.std.specs.Option.{option_map_or}
 use Rattle.someip_tables.proofs.Entries.{own_test}
 use Rattle.someip_wire.specs.Reading.{items_within}
-use Rattle.sd_wire.specs.Program.{options_within}
+use Rattle.sd_wire.specs.decoding.Program.{options_within}
 use Rattle.sd_instances.specs.Eventgroups.{eventgroup_cmp}
 use Rattle.someip_node_laws.specs.WorkedExamples.{client, server_address}
 use Rattle.someip_node_laws.specs.WorkedRun.{eventgroup}

@@ -11,7 +11,8 @@ use Rattle.someip_tables.proofs.Entries.{own_test, same_by_test}
 use Rattle.sd_instances.specs.Keys.{instance_cmp}
 use Rattle.sd_instances.specs.declared.keys.InstanceId.{InstanceId}
 use Rattle.someip_rpc.specs.Events.{event_of}
-use Rattle.someip_rpc.specs.Sessions.{session_after, session_after_last}
+use Rattle.someip_tables.specs.Sessions.{session_after_last}
+use Rattle.someip_rpc.specs.Sessions.{session_after}
 use Rattle.someip_rpc.specs.declared.ids.EventId.{EventId}
 use Rattle.someip_node_rules.specs.histories.CallQuestions.{times_published}
 use Rattle.someip_node_rules.specs.trails.Copies.{IsCopy, IsCopyOfOffer}

@@ -10,7 +10,8 @@ use Rattle.someip_node_rules.specs.histories.WishQuestions.{course_at}
 use Rattle.std.specs.Ordering.{nat_cmp}
 use Rattle.sd_instances.specs.Eventgroups.{eventgroup_cmp}
 use Rattle.someip_rpc.specs.Ids.{event_cmp}
-use Rattle.someip_rpc.specs.Sessions.{session_after, session_after_last}
+use Rattle.someip_tables.specs.Sessions.{session_after_last}
+use Rattle.someip_rpc.specs.Sessions.{session_after}
 use Rattle.someip_node_rules.specs.declared.config.Config.{Config}
 use Rattle.someip_world_steps.specs.declared.step.Step.{Step}
 use Rattle.someip_world_steps.specs.declared.step.Step.TheVariants as steps

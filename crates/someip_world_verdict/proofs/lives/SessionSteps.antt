@@ -14,7 +14,8 @@ use Rattle.sd_instances.specs.declared.keys.InstanceId.{InstanceId}
 use Rattle.someip_rpc.specs.Events.{event_of}
 use Rattle.someip_rpc.specs.IdOrder.{events_total, exact_events}
 use Rattle.someip_rpc.specs.Ids.{event_cmp}
-use Rattle.someip_rpc.specs.Sessions.{next_session, session_after, session_after_last}
+use Rattle.someip_tables.specs.Sessions.{next_session, session_after_last}
+use Rattle.someip_rpc.specs.Sessions.{session_after}
 use Rattle.someip_rpc.specs.declared.ids.EventId.{EventId}
 use Rattle.someip_node_rules.specs.histories.CallQuestions.{times_published}
 use Rattle.someip_node_rules.specs.trails.Copies.{IsCopy, IsCopyOfOffer}

@@ -5,10 +5,10 @@ use Rattle.std.proofs.lemmas.Grind.{flat_map-append}
 use Rattle.std.specs.Net.Socket.{v4_ip}
 use Rattle.std.specs.declared.net.ipv4_addr.Ipv4Addr.{Ipv4Addr}
 use Rattle.std.specs.declared.net.socket_addr.SocketAddrV4.{SocketAddrV4}
+use Rattle.someip_wire.proofs.TypeLemmas.{flag_cleared_again, flag_set, flagged_is_no_event, whole_already}
+use Rattle.someip_wire.specs.Discovery.{is_discovery}
 use Rattle.someip_wire.specs.declared.header.Header.{Header}
-use Rattle.someip_wire.specs.declared.header.MessageType.{MessageType}
-use Rattle.someip_wire.specs.declared.header.MessageType.TheVariants as kinds
-use Rattle.someip_wire.specs.Kinds.{has_tp_flag, with_tp_flag, without_tp_flag}
+use Rattle.someip_wire.specs.Kinds.{has_tp_flag}
 use Rattle.someip_wire.specs.Reading.{items_of}
 use Rattle.someip_wire.specs.Spelling.{Fits, MessageValue, spelling}
 use Rattle.someip_reassembly.specs.Keys.{segment_key}
@@ -20,15 +20,14 @@ use Rattle.sd_wire.specs.declared.entry.EntryHead.{EntryHead}
 use Rattle.sd_wire.specs.declared.entry.EntryHead.TheVariants as heads
 use Rattle.sd_wire.specs.declared.entry.EventgroupKind.{EventgroupKind}
 use Rattle.sd_wire.specs.declared.entry.EventgroupKind.TheVariants.{Subscribe, Ack}
-use Rattle.sd_wire.specs.Kinds.{has_type_subscribe}
-use Rattle.sd_wire.specs.Program.{reading}
-use Rattle.sd_wire.specs.Values.{EntryValue, good}
+use Rattle.sd_wire.specs.contents.Kinds.{has_type_subscribe}
+use Rattle.sd_wire.specs.decoding.Program.{reading}
+use Rattle.sd_wire.specs.contents.Values.{EntryValue, good}
 use Rattle.sd_session.specs.declared.stamp.Stamp.{Stamp}
 use Rattle.someip_node_rules.specs.declared.output.Output.TheVariants.{Sent}
 use Rattle.someip_node_rules.specs.forms.Entries.{discovery_message}
 use Rattle.someip_node_laws.specs.Fitting.{FitsWire}
 use Rattle.someip_node_rules.specs.forms.GoodConfigs.{is_good}
-use Rattle.someip_node_rules.specs.rules.Handling.{is_notification}
 use Rattle.someip_node_rules.specs.histories.History.{History, answers_of}
 use Rattle.someip_node_rules.specs.rules.Inputs.{Input}
 use Rattle.someip_node_rules.specs.trails.Meanings.{GivenBy, IsTold}
@@ -40,7 +39,7 @@ use Rattle.someip_world_exchanges.specs.declared.naming.Naming.{Naming}
 use Rattle.someip_world_exchanges.specs.Beginnings.{subscribe_in_head, subscribe_of, subscribes_among, subscribes_in}
 use Rattle.someip_world_exchanges.specs.Namings.{named_by_entries, named_by_head, named_by_kind, named_in}
 use Rattle.someip_world_exchanges.proofs.messages.WholeLemmas.{no_flag}
-use Rattle.someip_world_verdict.specs.Contents.{is_of_discovery, named_alone, said_by_entries, said_by_head, said_by_header, said_by_items, said_by_message, said_by_reading, said_in, stream_by_items, stream_by_message, stream_in, subscribe_said, whole_header}
+use Rattle.someip_world_verdict.specs.Contents.{named_alone, said_by_entries, said_by_head, said_by_header, said_by_items, said_by_message, said_by_reading, said_in, stream_by_items, stream_by_message, stream_in, subscribe_said, whole_header}
 use Rattle.someip_world_verdict.proofs.reading.ApplicationLemmas.{given_by_application, no_event}
 
 -- ---- a datagram that holds one message
@@ -58,57 +57,6 @@ module _ (d : SentDatagram) (m : MessageValue) (fits : Fits m) (is : d.bytes ≡
 
 -- ---- the pieces of a message
 
-flagged : (kind : MessageType) → has_tp_flag (with_tp_flag kind) ≡ true
-flagged kinds.Request = refl
-flagged kinds.RequestNoReturn = refl
-flagged kinds.Notification = refl
-flagged kinds.Response = refl
-flagged kinds.Error = refl
-flagged kinds.TpRequest = refl
-flagged kinds.TpRequestNoReturn = refl
-flagged kinds.TpNotification = refl
-flagged kinds.TpResponse = refl
-flagged kinds.TpError = refl
-
--- with the TP flag no type is that of an event
-no_notification : (kind : MessageType) → is_notification (with_tp_flag kind) ≡ false
-no_notification kinds.Request = refl
-no_notification kinds.RequestNoReturn = refl
-no_notification kinds.Notification = refl
-no_notification kinds.Response = refl
-no_notification kinds.Error = refl
-no_notification kinds.TpRequest = refl
-no_notification kinds.TpRequestNoReturn = refl
-no_notification kinds.TpNotification = refl
-no_notification kinds.TpResponse = refl
-no_notification kinds.TpError = refl
-
--- a type without the flag is that of the whole message
-whole_already : (kind : MessageType) → has_tp_flag kind ≡ false → without_tp_flag kind ≡ kind
-whole_already kinds.Request is = refl
-whole_already kinds.RequestNoReturn is = refl
-whole_already kinds.Notification is = refl
-whole_already kinds.Response is = refl
-whole_already kinds.Error is = refl
-whole_already kinds.TpRequest is = absurd cc
-whole_already kinds.TpRequestNoReturn is = absurd cc
-whole_already kinds.TpNotification is = absurd cc
-whole_already kinds.TpResponse is = absurd cc
-whole_already kinds.TpError is = absurd cc
-
--- and stays so after the flag was set and cleared
-whole_again : (kind : MessageType) → has_tp_flag kind ≡ false → without_tp_flag (with_tp_flag kind) ≡ kind
-whole_again kinds.Request is = refl
-whole_again kinds.RequestNoReturn is = refl
-whole_again kinds.Notification is = refl
-whole_again kinds.Response is = refl
-whole_again kinds.Error is = refl
-whole_again kinds.TpRequest is = absurd cc
-whole_again kinds.TpRequestNoReturn is = absurd cc
-whole_again kinds.TpNotification is = absurd cc
-whole_again kinds.TpResponse is = absurd cc
-whole_again kinds.TpError is = absurd cc
-
 segments_headed : (n : ℕ) (header : Header) (offset : ℕ) (rest : List ℕ) → AllByRecursion (λ s. s.header ≡ header) (segments_within n header offset rest)
 unfolding segments_within
 segments_headed zero header offset rest = tt
@@ -117,16 +65,16 @@ segments_headed (suc n) header offset (b ∷ rest) = (refl, segments_headed n he
 
 -- a message that goes out as one of the application, and of which a header is: as the whole one's it is this
 pub record IsPieceHeader (m : MessageValue) (header : Header) : Type 0 where
-  pub application : is_of_discovery header ≡ false
+  pub application : is_discovery header ≡ false
   pub whole : whole_header header ≡ m.header
   pub flag : has_tp_flag header.kind ≡ is_long m.payload
 
-module _ (m : MessageValue) (none : has_tp_flag m.header.kind ≡ false) (application : is_of_discovery m.header ≡ false) where
+module _ (m : MessageValue) (none : has_tp_flag m.header.kind ≡ false) (application : is_discovery m.header ≡ false) where
   segment_is : is_long m.payload ≡ true → IsPieceHeader m (segment_header m.header)
   segment_is long = record {
-    application = no_event (segment_header m.header) (no_notification m.header.kind);
-    whole = ap (λ kind. record m.header { kind = kind }) (whole_again m.header.kind none);
-    flag = flagged m.header.kind ∙ sym long;
+    application = no_event (segment_header m.header) (flagged_is_no_event m.header.kind);
+    whole = ap (λ kind. record m.header { kind = kind }) (flag_cleared_again m.header.kind none);
+    flag = flag_set m.header.kind ∙ sym long;
   }
 
   alone_is : is_long m.payload ≡ false → IsPieceHeader m m.header
@@ -238,7 +186,7 @@ module _ (d : SentDatagram) (from to : SocketAddrV4) (m : MessageValue) where
             ∙ (λ i. stream_of_message (source i) (goal i) m);
       }
 
-  pub message_read : has_tp_flag m.header.kind ≡ false → is_of_discovery m.header ≡ false → FitsWire (Sends from to m)
+  pub message_read : has_tp_flag m.header.kind ≡ false → is_discovery m.header ≡ false → FitsWire (Sends from to m)
       → Contains (written (Sends from to m)) (Sent d.from d.to d.bytes) → IsMessageRead d from to m
   message_read none application fits among =
       at_member (λ o. Sent d.from d.to d.bytes ≡ o → IsMessageRead d from to m) (map (datagram_of from to) (sent m)) (Sent d.from d.to d.bytes)

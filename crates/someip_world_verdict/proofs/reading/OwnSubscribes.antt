@@ -11,12 +11,12 @@ use Rattle.sd_wire.specs.declared.entry.EntryHead.TheVariants as heads
 use Rattle.sd_wire.specs.declared.entry.EventgroupEntry.{EventgroupEntry}
 use Rattle.sd_wire.specs.declared.entry.EventgroupKind.{EventgroupKind}
 use Rattle.sd_wire.specs.declared.entry.EventgroupKind.TheVariants.{Subscribe, Ack}
-use Rattle.sd_wire.specs.Kinds.{has_type_subscribe}
-use Rattle.sd_wire.specs.Values.{EntryValue, ReadValue, good}
+use Rattle.sd_wire.specs.contents.Kinds.{has_type_subscribe}
+use Rattle.sd_wire.specs.contents.Values.{EntryValue, ReadValue, good}
 use Rattle.sd_session.specs.declared.stamp.Stamp.{Stamp}
 use Rattle.someip_node_laws.specs.Fitting.{FitsWire, head_of}
-use Rattle.someip_node_rules.specs.forms.GoodConfigs.{has_own_ports, is_good, is_good_common, is_good_eventgroup, is_good_instance, is_good_offer, is_good_port, is_good_want}
-use Rattle.someip_node_rules.specs.rules.Handling.{same_address}
+use Rattle.someip_node_rules.proofs.forms.GoodConfigParts.{good_wants}
+use Rattle.someip_node_rules.specs.forms.GoodConfigs.{is_good, is_good_eventgroup, is_good_instance, is_good_want}
 use Rattle.someip_node_rules.specs.histories.History.{History, answers_of}
 use Rattle.someip_node_rules.specs.rules.Inputs.{Input}
 use Rattle.someip_node_rules.specs.rules.Learning.{eventgroup_in}
@@ -48,11 +48,6 @@ use Rattle.someip_world_verdict.proofs.keeping.SubscribeSteps.{IsOwn}
 
 -- ---- wants
 
--- where all pass a test, each does
-each_passes : {X : Type 0} (p : X → Bool) (xs : List X) → list_all p xs ≡ true → AllByRecursion (λ x. p x ≡ true) xs
-each_passes p [] all = tt
-each_passes p (x ∷ xs) all = let parts = and_parts (p x) (list_all p xs) all in (parts.0, each_passes p xs parts.1)
-
 -- a good want has a TTL
 good_ttl : (want : InstanceId × WantedService) → is_good_want want ≡ true → want.1.ttl ≢ 0
 good_ttl want well none =
@@ -65,14 +60,7 @@ good_ttl want well none =
 
 -- so what a good configuration wants has one
 pub has_ttls : (config : Config) → is_good config ≡ true → HasTtls config
-has_ttls config well =
-    let front =
-    is_good_common config.common && not (same_address config.address config.common.group) && is_good_port config.client_port
-    && list_all (is_good_offer config) config.offers.entries in
-    let wants = list_all is_good_want config.wants.entries in
-    let outer = and_parts (front && wants) (has_own_ports config) well in
-    let inner = and_parts front wants outer.0 in
-    all_weaker (λ want. is_good_want want ≡ true) (λ want. want.1.ttl ≢ 0) good_ttl config.wants.entries (each_passes is_good_want config.wants.entries inner.1)
+has_ttls config well = all_weaker (λ want. is_good_want want ≡ true) (λ want. want.1.ttl ≢ 0) good_ttl config.wants.entries (good_wants config well)
 
 -- ---- entries
 

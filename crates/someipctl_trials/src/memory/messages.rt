@@ -11,7 +11,7 @@ use std::alloc::{AllocError, Global};
 pub(crate) enum Act {
     /// A message is read from these bytes.
     Read(&'static [u8]),
-    /// The entries are written behind the bytes.
+    /// The entries are written after the bytes.
     Write,
     /// The entries are split into messages.
     Split,

@@ -115,7 +115,7 @@ impl NodeSubject {
     }
 
     /// The place at which it goes on after the act at a place was refused memory: a start with itself; any
-    /// other with the act behind the start, once the node failed for every call and was started again.
+    /// other with the act after the start, once the node failed for every call and was started again.
     fn resume(&mut self, refused: usize) -> Result<Option<usize>, Trouble> {
         match (self.acts.get(refused), &mut self.node) {
             (_, None) => Ok(Some(refused)),

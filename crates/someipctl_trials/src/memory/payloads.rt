@@ -16,7 +16,7 @@ pub(crate) enum Act {
     Check,
     /// A value of the shape is read from these bytes.
     Decode(&'static [u8]),
-    /// The value that was read is written behind the bytes.
+    /// The value that was read is written after the bytes.
     Encode,
     /// The bytes are told.
     Bytes,

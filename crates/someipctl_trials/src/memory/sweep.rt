@@ -134,7 +134,7 @@ impl Sweep {
         }
     }
 
-    /// Goes on behind an act that was refused memory. No other growth is refused, so nothing else may answer
+    /// Goes on after an act that was refused memory. No other growth is refused, so nothing else may answer
     /// that memory ran out.
     fn judge_refusal<S: Subject>(
         &mut self,

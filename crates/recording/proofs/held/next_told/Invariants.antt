@@ -3,7 +3,7 @@ use Rattle.recording.specs.HeldItems.{held_from}
 use Rattle.recording.specs.Readers.{CanFollow}
 use Rattle.recording.proofs.held.next_told.Given as goal
 
--- behind what was taken the same is left as at the start
+-- after what was taken the same is left as at the start
 abbrev pub invariant-loop-len : goal.invariant-loop-len
 invariant-loop-len l =
     ((rest : List ℕ) → CanFollow l.is_whole rest

@@ -1,5 +1,5 @@
 use Rattle.std.proofs.Common.{◌≡◌, drop}
-use Rattle.sd_wire.specs.Endpoints.{first_udp_endpoint}
+use Rattle.sd_wire.specs.contents.Endpoints.{first_udp_endpoint}
 use Rattle.sd_wire.proofs.entry_options.first_udp_endpoint.Given as goal
 
 abbrev pub invariant-loop-option : goal.invariant-loop-option

@@ -1,5 +1,5 @@
 use Rattle.std.proofs.Common.{sym, ◌∙◌, ◌≡◌, ◌+◌, suc, arith}
-use Rattle.sd_wire.proofs.EntryLemmas.{type_fault-found, type_fault-more}
+use Rattle.sd_wire.proofs.decoding.EntryLemmas.{type_fault-found, type_fault-more}
 use Rattle.sd_wire.proofs.entry_reading.check_types.Goals as goal
 
 pub returns-then-not-is_type-clause-err : goal.returns-then-not-is_type-clause-err

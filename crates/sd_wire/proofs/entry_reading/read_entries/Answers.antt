@@ -1,8 +1,8 @@
 use Rattle.std.proofs.Common.{◌≡◌, ◌+◌, ◌*◌, suc, drop, ◌∙◌, sym, arith}
 use Rattle.std.proofs.lemmas.List.{map_push, take_rest}
-use Rattle.sd_wire.specs.Values.{view_read}
-use Rattle.sd_wire.specs.Program.{entry_in}
-use Rattle.sd_wire.proofs.EntryLemmas.{entry_list-push}
+use Rattle.sd_wire.specs.contents.Values.{view_read}
+use Rattle.sd_wire.specs.decoding.Program.{entry_in}
+use Rattle.sd_wire.proofs.decoding.EntryLemmas.{entry_list-push}
 use Rattle.sd_wire.proofs.entry_reading.read_entries.Goals as goal
 
 pub loop-k-preserved : goal.loop-k-preserved

@@ -1,5 +1,5 @@
 use Rattle.std.proofs.Common.{◌≡◌, ◌+◌, ◌<◌, length, get_or, sym, rules}
-use Rattle.sd_wire.proofs.PoolLemmas.{selected-more}
+use Rattle.sd_wire.proofs.encoding.PoolLemmas.{selected-more}
 use Rattle.sd_wire.proofs.entry_reading.select.Goals as goal
 
 pub loop-i-preserved : goal.loop-i-preserved

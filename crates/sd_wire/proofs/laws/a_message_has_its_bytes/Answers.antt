@@ -1,4 +1,4 @@
-use Rattle.sd_wire.proofs.EncodingLemmas.{written_bytes, bytes_written, refused_bytes, bytes_refused}
+use Rattle.sd_wire.proofs.encoding.EncodingLemmas.{written_bytes, bytes_written, refused_bytes, bytes_refused}
 use Rattle.sd_wire.proofs.laws.a_message_has_its_bytes.Goals as goal
 
 pub returns-clause-some : goal.returns-clause-some

@@ -1,4 +1,4 @@
-use Rattle.sd_wire.proofs.WriteLemmas.{one_text, written_not_refused, one_refused}
+use Rattle.sd_wire.proofs.encoding.WriteLemmas.{one_text, written_not_refused, one_refused}
 use Rattle.sd_wire.proofs.laws.a_message_has_one_text.Goals as goal
 
 pub returns-clause-one : goal.returns-clause-one

@@ -1,13 +1,13 @@
 use Rattle.std.proofs.Common.{◌≡◌, ℕ, List, Result, Ok, Err, refl, sym, ◌∙◌, inl, inr}
 use Rattle.std.specs.Prelude.{◌⊎◌}
 use Rattle.sd_wire.specs.declared.error.SdError.{SdError}
-use Rattle.sd_wire.specs.Fields.{IsBytes}
-use Rattle.sd_wire.specs.Values.{SdValue}
-use Rattle.sd_wire.specs.Reading.{Sd}
-use Rattle.sd_wire.specs.Faults.{SdFault}
-use Rattle.sd_wire.specs.Program.{reading}
-use Rattle.sd_wire.proofs.SdLemmas.{reading_holds, holds_read}
-use Rattle.sd_wire.proofs.FaultLemmas.{fault_read, read_fault}
+use Rattle.sd_wire.specs.layout.Fields.{IsBytes}
+use Rattle.sd_wire.specs.contents.Values.{SdValue}
+use Rattle.sd_wire.specs.decoding.Reading.{Sd}
+use Rattle.sd_wire.specs.decoding.Faults.{SdFault}
+use Rattle.sd_wire.specs.decoding.Program.{reading}
+use Rattle.sd_wire.proofs.decoding.SdLemmas.{reading_holds, holds_read}
+use Rattle.sd_wire.proofs.decoding.FaultLemmas.{fault_read, read_fault}
 use Rattle.sd_wire.proofs.laws.bytes_hold_one_message_or_a_fault.Goals as goal
 
 some : (bytes : List ℕ) → IsBytes bytes → ((v : SdValue) × Sd v bytes) ⊎ ((fault : SdError) × SdFault fault bytes)

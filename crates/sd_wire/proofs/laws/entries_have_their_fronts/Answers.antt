@@ -1,8 +1,8 @@
 use Rattle.std.proofs.Common.{◌≡◌, ℕ, List, sym, subst}
-use Rattle.sd_wire.specs.Values.{EntryValue}
-use Rattle.sd_wire.specs.Splitting.{AreFronts}
-use Rattle.sd_wire.specs.Fronts.{front_lengths}
-use Rattle.sd_wire.proofs.FrontLemmas.{fits_test, test_fits, lengths_are, are_lengths}
+use Rattle.sd_wire.specs.contents.Values.{EntryValue}
+use Rattle.sd_wire.specs.fronts.Splitting.{AreFronts}
+use Rattle.sd_wire.specs.fronts.Fronts.{front_lengths}
+use Rattle.sd_wire.proofs.fronts.FrontLemmas.{fits_test, test_fits, lengths_are, are_lengths}
 use Rattle.sd_wire.proofs.laws.entries_have_their_fronts.Goals as goal
 
 fronts : (entries : List EntryValue) (lengths : List ℕ) → lengths ≡ front_lengths entries → AreFronts entries lengths

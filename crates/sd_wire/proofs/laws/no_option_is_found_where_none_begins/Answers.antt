@@ -1,13 +1,13 @@
 use Rattle.std.proofs.Common.{◌≡◌, ℕ, List, ◌++◌, drop, Option, Some, None, sym, ap, ◌∙◌, refl}
 use Rattle.sd_wire.specs.declared.option.SdOption.{SdOption}
-use Rattle.sd_wire.specs.Fields.{IsBytes}
-use Rattle.sd_wire.specs.Spelling.{option_bytes}
-use Rattle.sd_wire.specs.Reading.{SpellsOption}
-use Rattle.sd_wire.specs.Faults.{option_size}
-use Rattle.sd_wire.specs.Program.{option_in}
-use Rattle.sd_wire.proofs.OptionLemmas.{has_option}
-use Rattle.sd_wire.proofs.OptionSpelling.{is_front}
-use Rattle.sd_wire.proofs.OptionRead.{option_read}
+use Rattle.sd_wire.specs.layout.Fields.{IsBytes}
+use Rattle.sd_wire.specs.layout.Spelling.{option_bytes}
+use Rattle.sd_wire.specs.decoding.Reading.{SpellsOption}
+use Rattle.sd_wire.specs.decoding.Faults.{option_size}
+use Rattle.sd_wire.specs.decoding.Program.{option_in}
+use Rattle.sd_wire.proofs.decoding.OptionLemmas.{has_option}
+use Rattle.sd_wire.proofs.spelled.OptionSpelling.{is_front}
+use Rattle.sd_wire.proofs.spelled.OptionRead.{option_read}
 use Rattle.sd_wire.proofs.laws.no_option_is_found_where_none_begins.Goals as goal
 
 BeginsWithNone : List ℕ → Type 0

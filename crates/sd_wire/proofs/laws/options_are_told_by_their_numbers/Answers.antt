@@ -1,4 +1,4 @@
-use Rattle.sd_wire.proofs.EncodingLemmas.{same_option-Decides}
+use Rattle.sd_wire.proofs.encoding.EncodingLemmas.{same_option-Decides}
 use Rattle.sd_wire.proofs.laws.options_are_told_by_their_numbers.Goals as goal
 
 pub returns : goal.returns

@@ -1,5 +1,5 @@
-use Rattle.sd_wire.proofs.FrontLemmas.{fronts_fit}
-use Rattle.sd_wire.proofs.AloneLemmas.{short_alone, endpoint_alone, endpoint_fronts}
+use Rattle.sd_wire.proofs.fronts.FrontLemmas.{fronts_fit}
+use Rattle.sd_wire.proofs.fronts.AloneLemmas.{short_alone, endpoint_alone, endpoint_fronts}
 use Rattle.sd_wire.proofs.laws.small_entries_fit_alone.Goals as goal
 
 pub returns-clause-short : goal.returns-clause-short

@@ -2,13 +2,13 @@ use Rattle.std.proofs.Common.{◌≡◌, List, [], ◌∷◌, length, take, drop
 use Rattle.std.specs.Prelude.{Ok}
 use Rattle.std.proofs.lemmas.List.{length-take, length-drop}
 use Rattle.sd_wire.specs.declared.option.SdOption.{SdOption}
-use Rattle.sd_wire.specs.Spelling.{Runs}
-use Rattle.sd_wire.specs.Writing.{IsNowhere, PlacesEntry, WritesSd}
-use Rattle.sd_wire.specs.Program.{options_within, reading}
+use Rattle.sd_wire.specs.layout.Spelling.{Runs}
+use Rattle.sd_wire.specs.encoding.Writing.{IsNowhere, PlacesEntry, WritesSd}
+use Rattle.sd_wire.specs.decoding.Program.{options_within, reading}
 use Rattle.sd_wire.specs.Examples.{bytes_from, read_offer, read_bad, two_offers, shared_text, anew_text, offer_entry, endpoint_option, entry_from}
-use Rattle.sd_wire.proofs.FieldLemmas.{IsBytes-literal}
-use Rattle.sd_wire.proofs.SdLemmas.{reading_holds, holds_read}
-use Rattle.sd_wire.proofs.WriteLemmas.{one_text}
+use Rattle.sd_wire.proofs.spelled.FieldLemmas.{IsBytes-literal}
+use Rattle.sd_wire.proofs.decoding.SdLemmas.{reading_holds, holds_read}
+use Rattle.sd_wire.proofs.encoding.WriteLemmas.{one_text}
 use Rattle.sd_wire.proofs.laws.worked_messages.Goals as goal
 
 pub returns-clause-offer : goal.returns-clause-offer

@@ -1,6 +1,6 @@
 use Rattle.std.proofs.Common.{◌≡◌, ◌∙◌, ap, arith, slice_range}
-use Rattle.sd_wire.proofs.FieldLemmas.{field16_fits, length-slice}
-use Rattle.sd_wire.specs.Fields.{IsBytes}
+use Rattle.sd_wire.proofs.spelled.FieldLemmas.{field16_fits, length-slice}
+use Rattle.sd_wire.specs.layout.Fields.{IsBytes}
 use Rattle.sd_wire.proofs.option_reading.raw.Goals as goal
 
 pub kept-requires : goal.kept-requires

@@ -1,7 +1,7 @@
 use Rattle.std.proofs.Common.{◌≡◌, ◌<◌, length, Some, None, rules, arith}
 use Rattle.std.proofs.lemmas.List.{take_rest, length-drop}
-use Rattle.sd_wire.specs.Faults.{option_size}
-use Rattle.sd_wire.proofs.OptionLemmas.{more_options, no_option, all_options}
+use Rattle.sd_wire.specs.decoding.Faults.{option_size}
+use Rattle.sd_wire.proofs.decoding.OptionLemmas.{more_options, no_option, all_options}
 use Rattle.sd_wire.proofs.option_reading.read_options.Goals as goal
 
 pub returns-in_default-clause-gives : goal.returns-in_default-clause-gives

@@ -1,5 +1,5 @@
 use Rattle.std.proofs.Common.{◌≡◌, ◌≤◌, ◌+◌, length}
-use Rattle.sd_wire.specs.Program.{and_then, options_from}
+use Rattle.sd_wire.specs.decoding.Program.{and_then, options_from}
 use Rattle.sd_wire.proofs.option_reading.read_options.Given as goal
 
 abbrev pub invariant-loop-rest : goal.invariant-loop-rest

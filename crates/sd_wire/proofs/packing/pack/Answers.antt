@@ -1,7 +1,7 @@
 use Rattle.std.proofs.Common.{◌≡◌, length, rules}
 use Rattle.std.proofs.lemmas.Result.{err_from_is_err_and}
-use Rattle.sd_wire.specs.Written.{view_runs}
-use Rattle.sd_wire.proofs.PackLemmas.{packed_more, packed_error}
+use Rattle.sd_wire.specs.encoding.Written.{view_runs}
+use Rattle.sd_wire.proofs.encoding.PackLemmas.{packed_more, packed_error}
 use Rattle.sd_wire.proofs.packing.pack.Goals as goal
 
 pub returns-in_err-runs-clause-refused : goal.returns-in_err-runs-clause-refused

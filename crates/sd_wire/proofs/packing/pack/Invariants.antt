@@ -1,4 +1,4 @@
-use Rattle.sd_wire.proofs.PackLemmas.{PackedUpTo}
+use Rattle.sd_wire.proofs.encoding.PackLemmas.{PackedUpTo}
 use Rattle.sd_wire.proofs.packing.pack.Given as goal
 
 abbrev pub invariant-loop-k : goal.invariant-loop-k

@@ -1,4 +1,4 @@
-use Rattle.sd_wire.proofs.PackLemmas.{pooled_more}
+use Rattle.sd_wire.proofs.encoding.PackLemmas.{pooled_more}
 use Rattle.sd_wire.proofs.packing.pool_text.Goals as goal
 
 pub loop-option-preserved : goal.loop-option-preserved

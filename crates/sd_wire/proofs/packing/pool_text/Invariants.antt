@@ -1,4 +1,4 @@
-use Rattle.sd_wire.proofs.PackLemmas.{PooledUpTo}
+use Rattle.sd_wire.proofs.encoding.PackLemmas.{PooledUpTo}
 use Rattle.sd_wire.proofs.packing.pool_text.Given as goal
 
 abbrev pub invariant-loop-option : goal.invariant-loop-option

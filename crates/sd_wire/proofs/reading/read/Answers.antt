@@ -1,8 +1,8 @@
 use Rattle.std.proofs.Common.{◌≡◌, ◌∙◌, ap, drop}
 use Rattle.std.proofs.lemmas.Result.{err_from_is_err_and}
 use Rattle.std.proofs.lemmas.List.{take_rest}
-use Rattle.sd_wire.specs.Program.{options_from, value_by, reading}
-use Rattle.sd_wire.proofs.ReadingLemmas.{fails_too, reading-at}
+use Rattle.sd_wire.specs.decoding.Program.{options_from, value_by, reading}
+use Rattle.sd_wire.proofs.decoding.ReadingLemmas.{fails_too, reading-at}
 use Rattle.sd_wire.proofs.reading.read.Goals as goal
 
 pub returns-in_err-pool-clause-exact : goal.returns-in_err-pool-clause-exact

@@ -2,15 +2,15 @@ use Rattle.std.proofs.Common.{ℕ, List, Ok, Err, subst, arith, Result}
 use Rattle.std.specs.Prelude.{IfOk, IfErr}
 use Rattle.sd_wire.specs.declared.error.SdError.{SdError}
 use Rattle.sd_wire.specs.declared.message.SdRead.{SdRead}
-use Rattle.sd_wire.specs.Fields.{IsBytes}
-use Rattle.sd_wire.specs.Values.{SdValue, view_sd}
-use Rattle.sd_wire.specs.Reading.{Sd}
-use Rattle.sd_wire.specs.Faults.{IsFirstFault}
-use Rattle.sd_wire.specs.Steps.{Gives}
-use Rattle.sd_wire.specs.Program.{reading}
-use Rattle.sd_wire.proofs.SdLemmas.{reading_holds, holds_read}
-use Rattle.sd_wire.proofs.FaultLemmas.{fault_read, first_fault}
-use Rattle.sd_wire.proofs.PlaceLemmas.{few, places}
+use Rattle.sd_wire.specs.layout.Fields.{IsBytes}
+use Rattle.sd_wire.specs.contents.Values.{SdValue, view_sd}
+use Rattle.sd_wire.specs.decoding.Reading.{Sd}
+use Rattle.sd_wire.specs.decoding.Faults.{IsFirstFault}
+use Rattle.sd_wire.specs.decoding.Steps.{Gives}
+use Rattle.sd_wire.specs.decoding.Program.{reading}
+use Rattle.sd_wire.proofs.decoding.SdLemmas.{reading_holds, holds_read}
+use Rattle.sd_wire.proofs.decoding.FaultLemmas.{fault_read, first_fault}
+use Rattle.sd_wire.proofs.decoding.PlaceLemmas.{few, places}
 use Rattle.sd_wire.proofs.reading.read_sd.Goals as goal
 
 found : (bytes : List ℕ) (r : Result SdRead SdError) → IsBytes bytes → Gives view_sd r (reading bytes) → IfOk r (λ x. Sd (view_sd x) bytes)

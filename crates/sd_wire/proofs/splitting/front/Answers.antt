@@ -1,7 +1,7 @@
 use Rattle.std.proofs.Common.{◌≤◌, ◌<◌, length, map, drop, ◌+◌, rules, arith}
-use Rattle.sd_wire.specs.Values.{view_entry}
-use Rattle.sd_wire.proofs.PackLemmas.{length_view}
-use Rattle.sd_wire.proofs.SplitLemmas.{at_entry, next_entry, refused_here, full_here, front_more, all_here}
+use Rattle.sd_wire.specs.contents.Values.{view_entry}
+use Rattle.sd_wire.proofs.encoding.PackLemmas.{length_view}
+use Rattle.sd_wire.proofs.fronts.SplitLemmas.{at_entry, next_entry, refused_here, full_here, front_more, all_here}
 use Rattle.sd_wire.proofs.splitting.front.Goals as goal
 
 pub overflow_add-size : goal.overflow_add-size

@@ -1,6 +1,6 @@
 use Rattle.std.proofs.Common.{map}
-use Rattle.sd_wire.specs.Values.{view_entry}
-use Rattle.sd_wire.proofs.SplitLemmas.{FrontUpTo}
+use Rattle.sd_wire.specs.contents.Values.{view_entry}
+use Rattle.sd_wire.proofs.fronts.SplitLemmas.{FrontUpTo}
 use Rattle.sd_wire.proofs.splitting.front.Given as goal
 
 abbrev pub invariant-loop-k : goal.invariant-loop-k

@@ -1,5 +1,5 @@
 use Rattle.std.proofs.Common.{◌≡◌, ◌≤◌, ◌*◌, length, take}
-use Rattle.sd_wire.specs.Writing.{pool_bytes}
+use Rattle.sd_wire.specs.encoding.Writing.{pool_bytes}
 use Rattle.sd_wire.proofs.splitting.options_len.Given as goal
 
 abbrev pub invariant-loop-option : goal.invariant-loop-option

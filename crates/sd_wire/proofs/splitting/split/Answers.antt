@@ -1,7 +1,7 @@
 use Rattle.std.proofs.Common.{◌≡◌, length, map, ap, rules}
 use Rattle.std.proofs.lemmas.List.{nil_from_length}
-use Rattle.sd_wire.specs.Values.{view_entry}
-use Rattle.sd_wire.proofs.SplitLemmas.{fronts_more, fronts_all, drop_view}
+use Rattle.sd_wire.specs.contents.Values.{view_entry}
+use Rattle.sd_wire.proofs.fronts.SplitLemmas.{fronts_more, fronts_all, drop_view}
 use Rattle.sd_wire.proofs.splitting.split.Goals as goal
 
 pub loop-rest-preserved : goal.loop-rest-preserved

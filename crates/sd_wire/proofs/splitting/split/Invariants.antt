@@ -1,6 +1,6 @@
 use Rattle.std.proofs.Common.{length, map}
-use Rattle.sd_wire.specs.Values.{view_entry}
-use Rattle.sd_wire.proofs.SplitLemmas.{AreFrontsUpTo}
+use Rattle.sd_wire.specs.contents.Values.{view_entry}
+use Rattle.sd_wire.proofs.fronts.SplitLemmas.{AreFrontsUpTo}
 use Rattle.sd_wire.proofs.splitting.split.Given as goal
 
 abbrev pub invariant-loop-rest : goal.invariant-loop-rest

@@ -1,11 +1,11 @@
 use Rattle.std.proofs.Common.{◌≡◌, List, ℕ, Result, Ok, Err, map}
 use Rattle.std.specs.Prelude.{IfOk}
 use Rattle.sd_wire.specs.declared.error.SdError.{SdError}
-use Rattle.sd_wire.specs.Values.{EntryValue, view_entry}
-use Rattle.sd_wire.specs.Splitting.{AreFronts}
-use Rattle.sd_wire.specs.Fronts.{front_lengths}
-use Rattle.sd_wire.proofs.SplitLemmas.{same_fronts}
-use Rattle.sd_wire.proofs.FrontLemmas.{are_lengths}
+use Rattle.sd_wire.specs.contents.Values.{EntryValue, view_entry}
+use Rattle.sd_wire.specs.fronts.Splitting.{AreFronts}
+use Rattle.sd_wire.specs.fronts.Fronts.{front_lengths}
+use Rattle.sd_wire.proofs.fronts.SplitLemmas.{same_fronts}
+use Rattle.sd_wire.proofs.fronts.FrontLemmas.{are_lengths}
 use Rattle.sd_wire.proofs.splitting.split_entries.Goals as goal
 
 only : {V : Type 0} (items : V → List ℕ) (entries : List EntryValue) (r : Result V SdError) → IfOk r (λ v. AreFronts entries (items v)) → (lengths : List ℕ) → AreFronts entries lengths → IfOk r (λ v. items v ≡ lengths)

@@ -1,9 +1,9 @@
 use Rattle.std.proofs.Common.{◌≡◌, ℕ, List, rules}
-use Rattle.sd_wire.specs.Fields.{flags_byte}
-use Rattle.sd_wire.specs.Values.{SdMessageValue, view_message}
-use Rattle.sd_wire.specs.Spelling.{sd_bytes}
-use Rattle.sd_wire.specs.Writing.{WritesSd, pool_bytes}
-use Rattle.sd_wire.proofs.WriteLemmas.{written_holds}
+use Rattle.sd_wire.specs.layout.Fields.{flags_byte}
+use Rattle.sd_wire.specs.contents.Values.{SdMessageValue, view_message}
+use Rattle.sd_wire.specs.layout.Spelling.{sd_bytes}
+use Rattle.sd_wire.specs.encoding.Writing.{WritesSd, pool_bytes}
+use Rattle.sd_wire.proofs.encoding.WriteLemmas.{written_holds}
 use Rattle.sd_wire.proofs.writing.text_of.Goals as goal
 
 pub returns-clause-holds : goal.returns-clause-holds

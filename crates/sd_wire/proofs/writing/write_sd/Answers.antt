@@ -3,13 +3,13 @@ use Rattle.std.proofs.lemmas.Result.{err_from_is_err_and}
 use Rattle.sd_wire.specs.declared.error.SdError.{SdError}
 use Rattle.sd_wire.specs.declared.error.SdError.TheVariants as errors
 use Rattle.sd_wire.specs.declared.error.SdError.TheVariants.{OutOfMemory, TooManyOptions}
-use Rattle.sd_wire.specs.Values.{SdMessageValue, view_message}
-use Rattle.sd_wire.specs.Writing.{WritesSd, TooMany, IsWriteError}
-use Rattle.sd_wire.specs.Written.{Refuses, HasNoBytes}
-use Rattle.sd_wire.specs.Encoding.{message_bytes}
-use Rattle.sd_wire.proofs.WriteLemmas.{written_not_refused, one_refused}
-use Rattle.sd_wire.proofs.EncodingLemmas.{written_bytes, refused_bytes}
-use Rattle.sd_wire.proofs.FrontLemmas.{fits_with}
+use Rattle.sd_wire.specs.contents.Values.{SdMessageValue, view_message}
+use Rattle.sd_wire.specs.encoding.Writing.{WritesSd, TooMany, IsWriteError}
+use Rattle.sd_wire.specs.encoding.Written.{Refuses, HasNoBytes}
+use Rattle.sd_wire.specs.encoding.Encoding.{message_bytes}
+use Rattle.sd_wire.proofs.encoding.WriteLemmas.{written_not_refused, one_refused}
+use Rattle.sd_wire.proofs.encoding.EncodingLemmas.{written_bytes, refused_bytes}
+use Rattle.sd_wire.proofs.fronts.FrontLemmas.{fits_with}
 use Rattle.sd_wire.proofs.writing.write_sd.Goals as goal
 
 only_memory : (m : SdMessageValue) (text : List ℕ) (e : SdError) → WritesSd m text → IsWriteError m e → e ≡ OutOfMemory

@@ -1,4 +1,4 @@
-use Rattle.someip_payload_codec.proofs.Whole.{written_again}
+use Rattle.someip_payload_codec.proofs.whole.Whole.{written_again}
 use Rattle.someip_payload_codec.proofs.laws.what_is_written_is_read_again.Goals as goal
 
 pub returns : goal.returns

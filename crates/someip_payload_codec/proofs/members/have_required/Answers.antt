@@ -1,6 +1,6 @@
 use Rattle.std.proofs.Common.{◌≡◌, is_some, true, None, get_or, refl, ap, arith, sym, ◌∙◌, inl, inr}
 use Rattle.std.proofs.lemmas.List.{get_or_read_under}
-use Rattle.someip_payload_codec.proofs.TaggedLoops.{required_next}
+use Rattle.someip_payload_codec.proofs.tagged.TaggedLoops.{required_next}
 use Rattle.someip_payload_codec.proofs.members.have_required.Goals as goal
 use Rattle.someip_payload_codec.proofs.members.have_required.Goals.{else-not-members-i-via-then-not-members-i+else-is_none, else-not-members-i-via-else-not-members-i}
 

@@ -1,4 +1,4 @@
-use Rattle.someip_payload_codec.proofs.TaggedLoops.{HasIndexesFrom}
+use Rattle.someip_payload_codec.proofs.tagged.TaggedLoops.{HasIndexesFrom}
 use Rattle.someip_payload_codec.proofs.members.indexes_of.Given as goal
 
 abbrev pub invariant-loop-i : goal.invariant-loop-i

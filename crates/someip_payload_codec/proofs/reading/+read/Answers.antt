@@ -6,10 +6,10 @@ use Rattle.someip_payload_values.specs.View.{form, all_variants, all_members, da
 use Rattle.someip_payload_codec.specs.View.{seen}
 use Rattle.someip_payload_codec.specs.Reading.{data_at, data_by, items_at, chosen_at, item_by, item_at}
 use Rattle.someip_payload_values.proofs.Shapes.{form-Bool, form-U8, form-U16, form-U32, form-U64, form-I8, form-I16, form-I32, form-I64, form-Text, form-Array, form-Fixed, form-Union, form-Tagged, data_of-Some}
-use Rattle.someip_payload_codec.proofs.Loops.{items_go_on, items_fail, items_too_many, items_done, fixed_more, fixed_bad, fixed_end, members_go_on, members_fail, members_done, variant_hit, variant_miss, variant_none}
+use Rattle.someip_payload_codec.proofs.parts.Loops.{items_go_on, items_fail, items_too_many, items_done, fixed_more, fixed_bad, fixed_end, members_go_on, members_fail, members_done, variant_hit, variant_miss, variant_none}
 use Rattle.someip_payload_values.specs.declared.shape.Shape.{the_lemmas}
-use Rattle.someip_payload_codec.proofs.TaggedLoops.{none_read, found_in, skip_fills, slots_duplicate, slots_fault, slots_value, tagged_go_on, tagged_fail, tagged_done}
-use Rattle.someip_payload_codec.proofs.Shorter.{item_shorter}
+use Rattle.someip_payload_codec.proofs.tagged.TaggedLoops.{none_read, found_in, skip_fills, slots_duplicate, slots_fault, slots_value, tagged_go_on, tagged_fail, tagged_done}
+use Rattle.someip_payload_codec.proofs.parts.Shorter.{item_shorter}
 use Rattle.someip_payload_codec.proofs.reading.+read.Goals as goal
 
 pub items-returns-then-left-eq0 : goal.items-returns-then-left-eq0

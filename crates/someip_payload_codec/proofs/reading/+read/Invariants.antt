@@ -2,7 +2,7 @@ use Rattle.std.proofs.Common.{◌≡◌, ℕ, ◌-◌, ◌≤◌, length, map, d
 use Rattle.someip_payload_values.specs.View.{form, forms, all_variants, all_members, data_of, slots_of}
 use Rattle.someip_payload_codec.specs.View.{seen}
 use Rattle.someip_payload_codec.specs.Reading.{data_at, items_at, fixed_at, members_at, variant_at, tagged_at, item_at, all_absent}
-use Rattle.someip_payload_codec.proofs.Loops.{items_after, members_after}
+use Rattle.someip_payload_codec.proofs.parts.Loops.{items_after, members_after}
 use Rattle.someip_payload_codec.proofs.reading.+read.Given as goal
 
 abbrev pub invariant-items-loop-window : goal.invariant-items-loop-window

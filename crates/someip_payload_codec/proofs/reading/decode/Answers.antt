@@ -1,9 +1,9 @@
 use Rattle.std.proofs.Common.{subst, arith}
 use Rattle.someip_payload_values.specs.View.{form, data_of}
 use Rattle.someip_payload_values.specs.Steps.{Gives}
-use Rattle.someip_payload_codec.proofs.Whole.{is_found, is_first, decoded_only}
-use Rattle.someip_payload_codec.proofs.ErrorKinds.{reading_faults}
-use Rattle.someip_payload_codec.proofs.Exact.{decoded_bad, decoded_refused}
+use Rattle.someip_payload_codec.proofs.whole.Whole.{is_found, is_first, decoded_only}
+use Rattle.someip_payload_codec.proofs.whole.ErrorKinds.{reading_faults}
+use Rattle.someip_payload_codec.proofs.whole.Exact.{decoded_bad, decoded_refused}
 use Rattle.someip_payload_codec.proofs.reading.decode.Goals as goal
 
 pub returns-clause-found : goal.returns-clause-found

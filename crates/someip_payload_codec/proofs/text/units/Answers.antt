@@ -1,7 +1,7 @@
 use Rattle.std.proofs.Common.{rules, ◌≡◌, ◌+◌, ◌++◌, ◌∷◌, [], ◌∙◌, sym, drop, get_or, append_assoc, append-nil, arith}
 use Rattle.std.proofs.lemmas.List.{length-drop}
 use Rattle.someip_payload_codec.specs.Reading.{unit_of, units_of}
-use Rattle.someip_payload_codec.proofs.Strings.{units_more, units_none}
+use Rattle.someip_payload_codec.proofs.texts.Strings.{units_more, units_none}
 use Rattle.someip_payload_codec.proofs.text.units.Goals as goal
 
 pub loop-at-preserved : goal.loop-at-preserved

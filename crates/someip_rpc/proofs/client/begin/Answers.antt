@@ -7,7 +7,7 @@ use Rattle.someip_rpc.proofs.client.begin.Goals as goal
 
 pub put_back-requires : goal.put_back-requires
 put_back-requires c = λ none.
-    let there = ap (λ m. finite.get m c.args.call.message) c.in_ok-put_session.ensures.ok ∙ get-insert_own messages_total exact_messages _ _ _ in
+    let there = ap (λ m. finite.get m c.args.call.message) c.in_ok-put_value.ensures.ok ∙ get-insert_own messages_total exact_messages _ _ _ in
     cc
 
 pub returns-in-Ok-clause-few : goal.returns-in-Ok-clause-few

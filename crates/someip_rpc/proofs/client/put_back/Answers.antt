@@ -13,5 +13,5 @@ returns-in-None c before session was is =
 
 pub returns-in-Some : goal.returns-in-Some
 returns-in-Some c before session was is =
-    on_ok_since c.put_session.result c.put_session.ensures.ok c.put_session.ensures.absent c.requires
+    on_ok_since c.put_value.result c.put_value.ensures.ok c.put_value.ensures.absent c.requires
     ∙ undone messages_total exact_messages (map_of message_cmp c.args.sessions.now.entries) before c.args.message c.in-Some.last session (was ∙ c.in-Some.is) is

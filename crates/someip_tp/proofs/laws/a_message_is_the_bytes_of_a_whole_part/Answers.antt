@@ -1,4 +1,4 @@
-use Rattle.someip_tp.proofs.WholeLemmas.{whole_from_message, message_from_whole}
+use Rattle.someip_tp.proofs.promises.WholeLemmas.{whole_from_message, message_from_whole}
 use Rattle.someip_tp.proofs.laws.a_message_is_the_bytes_of_a_whole_part.Goals as goal
 
 pub returns : goal.returns

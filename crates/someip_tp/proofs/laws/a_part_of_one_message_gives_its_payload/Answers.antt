@@ -1,4 +1,4 @@
-use Rattle.someip_tp.proofs.AcceptedLemmas.{begins, accepts, whole_is_payload, run_gives_payload}
+use Rattle.someip_tp.proofs.promises.AcceptedLemmas.{begins, accepts, whole_is_payload, run_gives_payload}
 use Rattle.someip_tp.proofs.laws.a_part_of_one_message_gives_its_payload.Goals as goal
 
 pub returns : goal.returns

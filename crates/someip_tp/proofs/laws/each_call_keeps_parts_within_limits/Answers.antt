@@ -1,4 +1,4 @@
-use Rattle.someip_tp.proofs.BoundLemmas.{within_nothing, within_after, within_offered_so, within_less, within_at}
+use Rattle.someip_tp.proofs.promises.BoundLemmas.{within_nothing, within_after, within_offered_so, within_less, within_at}
 use Rattle.someip_tp.proofs.laws.each_call_keeps_parts_within_limits.Goals as goal
 
 pub returns : goal.returns

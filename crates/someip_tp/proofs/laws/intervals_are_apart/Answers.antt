@@ -1,4 +1,4 @@
-use Rattle.someip_tp.proofs.Intervals.{holds_all, are_one}
+use Rattle.someip_tp.proofs.reserved_memory.Intervals.{holds_all, are_one}
 use Rattle.someip_tp.proofs.laws.intervals_are_apart.Goals as goal
 
 pub returns-clause-whole : goal.returns-clause-whole

@@ -1,5 +1,5 @@
 use Rattle.std.specs.FinMap.{empty}
-use Rattle.someip_tp.proofs.BoundLemmas.{within_nothing, within_through}
+use Rattle.someip_tp.proofs.promises.BoundLemmas.{within_nothing, within_through}
 use Rattle.someip_tp.proofs.laws.parts_stay_within_limits.Goals as goal
 
 pub returns : goal.returns

@@ -1,5 +1,5 @@
 use Rattle.std.proofs.Common.{sym, ◌∙◌}
-use Rattle.someip_tp.proofs.CallMoments.{follow_from_start, follow_at, none_at, all_followed}
+use Rattle.someip_tp.proofs.promises.CallMoments.{follow_from_start, follow_at, none_at, all_followed}
 use Rattle.someip_tp.proofs.moments.are_in_time.Goals as goal
 
 pub loop-call-init : goal.loop-call-init

@@ -1,5 +1,5 @@
 use Rattle.std.proofs.Common.{◌≡◌, ◌++◌, drop, map}
-use Rattle.sd_wire.specs.Values.{view_read}
+use Rattle.sd_wire.specs.contents.Values.{view_read}
 use Rattle.someip_world_verdict.specs.Contents.{said_by_entries}
 use Rattle.someip_world_verdict.proofs.content.said_by_entries.Given as goal
 

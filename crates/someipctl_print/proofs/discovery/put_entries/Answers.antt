@@ -1,7 +1,7 @@
 use Rattle.std.proofs.Common.{ap, map}
 use Rattle.someipctl_print.proofs.DiscoveryLemmas.{next_left}
 use Rattle.std.specs.List.{flat_map}
-use Rattle.sd_wire.specs.Values.{view_read}
+use Rattle.sd_wire.specs.contents.Values.{view_read}
 use Rattle.someipctl_print.specs.Discovery.{entry_line}
 use Rattle.someipctl_print.proofs.SendingLemmas.{OnErr-any, IsSending-more, IsSending-stop}
 use Rattle.someipctl_print.proofs.discovery.put_entries.Goals as goal

@@ -1,6 +1,6 @@
 use Rattle.std.proofs.Common.{drop, map}
 use Rattle.std.specs.List.{flat_map}
-use Rattle.sd_wire.specs.Values.{view_read}
+use Rattle.sd_wire.specs.contents.Values.{view_read}
 use Rattle.someipctl_print.specs.Discovery.{entry_line}
 use Rattle.someipctl_print.proofs.SendingLemmas.{IsSending}
 use Rattle.someipctl_print.proofs.discovery.put_entries.Given as goal

@@ -1,6 +1,6 @@
 use Rattle.std.proofs.Common.{◌≡◌, ◌≤◌, ◌+◌, ◌||◌, ◌++◌, List, Result, length, map}
 use Rattle.sd_wire.specs.declared.SdError.{SdError}
-use Rattle.sd_wire.specs.Values.{SdValue}
+use Rattle.sd_wire.specs.contents.Values.{SdValue}
 use Rattle.std.specs.List.{list_any}
 use Rattle.someipctl_show.specs.Readings.{readings_in}
 use Rattle.someipctl_print.specs.Discovery.{view_reading}

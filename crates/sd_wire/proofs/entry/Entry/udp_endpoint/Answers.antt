@@ -1,5 +1,5 @@
 use Rattle.std.proofs.Common.{rules}
-use Rattle.sd_wire.proofs.EndpointLemmas.{first_of_both}
+use Rattle.sd_wire.proofs.decoding.EndpointLemmas.{first_of_both}
 use Rattle.sd_wire.proofs.entry.Entry.udp_endpoint.Goals as goal
 
 pub returns-in-Some : goal.returns-in-Some

@@ -1,5 +1,5 @@
 use Rattle.std.proofs.Common.{◌≡◌, map, drop}
-use Rattle.sd_wire.specs.Values.{view_read}
+use Rattle.sd_wire.specs.contents.Values.{view_read}
 use Rattle.someip_audit.specs.SdShown.{IsFront, entries_shown, working}
 use Rattle.someip_audit.proofs.books.Books.saw_entries.Given as goal
 

@@ -1,8 +1,8 @@
 use Rattle.std.proofs.Common.{ap, refl, sym, ◌∙◌}
 use Rattle.std.specs.Result.{result_map_both}
-use Rattle.sd_wire.specs.Values.{view_sd}
+use Rattle.sd_wire.specs.contents.Values.{view_sd}
 use Rattle.someip_audit.proofs.ItemLemmas.{fault_fits}
-use Rattle.sd_wire.specs.Program.{reading}
+use Rattle.sd_wire.specs.decoding.Program.{reading}
 use Rattle.someip_audit.specs.SdShown.{working}
 use Rattle.someip_audit.proofs.FrontLemmas.{begun_none, on_err_any, payload_front}
 use Rattle.someip_audit.proofs.books.Books.saw_payload.Goals as goal

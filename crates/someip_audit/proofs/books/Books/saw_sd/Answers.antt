@@ -1,4 +1,4 @@
-use Rattle.sd_wire.specs.Values.{view_sd}
+use Rattle.sd_wire.specs.contents.Values.{view_sd}
 use Rattle.someip_audit.specs.SdShown.{working}
 use Rattle.someip_audit.proofs.FrontLemmas.{begun_none, on_err_any, on_err_by, sd_begun, sd_front}
 use Rattle.someip_audit.proofs.books.Books.saw_sd.Goals as goal

@@ -1,5 +1,5 @@
 use Rattle.std.proofs.Common.{◌≡◌, map, drop}
-use Rattle.sd_wire.specs.Values.{view_read}
+use Rattle.sd_wire.specs.contents.Values.{view_read}
 use Rattle.someip_node_rules.specs.rules.Handling.{entry_plan}
 use Rattle.someip_node_rules.specs.rules.Plans.{each, plain, run}
 use Rattle.someip_node_engine.specs.Working.{working}

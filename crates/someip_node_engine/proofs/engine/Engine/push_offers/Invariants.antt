@@ -1,6 +1,6 @@
 use Rattle.std.proofs.Common.{◌≡◌, ◌++◌, map, drop}
 use Rattle.std.specs.List.{flat_map}
-use Rattle.sd_wire.specs.Values.{view_entry}
+use Rattle.sd_wire.specs.contents.Values.{view_entry}
 use Rattle.someip_node_rules.specs.rules.Offering.{offer_of}
 use Rattle.someip_node_engine.proofs.engine.Engine.push_offers.Given as goal
 

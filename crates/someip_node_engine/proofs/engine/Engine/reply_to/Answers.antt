@@ -1,5 +1,5 @@
 use Rattle.std.proofs.Common.{map, refl}
-use Rattle.sd_wire.specs.Values.{view_entry}
+use Rattle.sd_wire.specs.contents.Values.{view_entry}
 use Rattle.someip_node_rules.specs.rules.Announcing.{replies_to}
 use Rattle.someip_node_engine.proofs.WorkLemmas.{done}
 use Rattle.someip_node_engine.proofs.engine.Engine.reply_to.Goals as goal

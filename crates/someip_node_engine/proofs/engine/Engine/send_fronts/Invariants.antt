@@ -1,6 +1,6 @@
 use Rattle.std.proofs.Common.{◌≡◌, length, map, drop}
-use Rattle.sd_wire.specs.Fronts.{fronts_of}
-use Rattle.sd_wire.specs.Values.{view_entry}
+use Rattle.sd_wire.specs.fronts.Fronts.{fronts_of}
+use Rattle.sd_wire.specs.contents.Values.{view_entry}
 use Rattle.someip_node_engine.specs.FrontSizes.{AreWithin}
 use Rattle.someip_node_rules.specs.rules.Plans.{each, plain, run}
 use Rattle.someip_node_rules.specs.forms.Receivers.{message_plan_to}

@@ -1,5 +1,5 @@
 use Rattle.std.proofs.Common.{sym, ◌∙◌}
-use Rattle.someip_tp.proofs.BlockLemmas.{first_found}
+use Rattle.someip_tp.proofs.reserved_memory.BlockLemmas.{first_found}
 use Rattle.someip_tp.proofs.pool.block.first_to.Goals as goal
 
 pub returns-then-is_held : goal.returns-then-is_held

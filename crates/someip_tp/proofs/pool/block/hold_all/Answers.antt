@@ -1,5 +1,5 @@
 use Rattle.std.proofs.Common.{ap, ◌∙◌, ◌||◌, ◌==◌, arith}
-use Rattle.someip_tp.proofs.BlockLemmas.{one_more, all_done}
+use Rattle.someip_tp.proofs.reserved_memory.BlockLemmas.{one_more, all_done}
 use Rattle.someip_tp.proofs.pool.block.hold_all.Goals as goal
 
 pub loop-k-preserved : goal.loop-k-preserved

@@ -1,4 +1,4 @@
-use Rattle.someip_tp.proofs.BlockLemmas.{tied_so, up_to_set}
+use Rattle.someip_tp.proofs.reserved_memory.BlockLemmas.{tied_so, up_to_set}
 use Rattle.someip_tp.proofs.pool.block.tie.Goals as goal
 
 pub returns-clause-tied : goal.returns-clause-tied

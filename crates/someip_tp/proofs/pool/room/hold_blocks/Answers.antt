@@ -1,6 +1,6 @@
 use Rattle.std.proofs.Common.{sym, ap, subst, ◌∙◌, ◌||◌, ◌&&◌, nat_le, nat_lt, length, arith}
 use Rattle.someip_tp.specs.Blocks.{is_held, other_end, AreTied, AreUpTo}
-use Rattle.someip_tp.proofs.BlockLemmas.{blank_held, blank_other, blank_up_to, tied_alike, whole_again}
+use Rattle.someip_tp.proofs.reserved_memory.BlockLemmas.{blank_held, blank_other, blank_up_to, tied_alike, whole_again}
 use Rattle.someip_tp.proofs.pool.room.hold_blocks.Goals as goal
 
 pub hold_all-requires-clause-tied : goal.hold_all-requires-clause-tied

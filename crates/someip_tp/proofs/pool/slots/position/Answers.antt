@@ -2,7 +2,7 @@ use Rattle.std.proofs.Common.{rules}
 use Rattle.std.proofs.lemmas.Fn.{always_returns_same}
 use Rattle.someip_tp.specs.RoomParts.{PartInRoom}
 use Rattle.someip_reassembly.specs.Keys.{key_cmp}
-use Rattle.someip_tp.proofs.RisingLemmas.{found_so}
+use Rattle.someip_tp.proofs.reserved_memory.RisingLemmas.{found_so}
 use Rattle.someip_tp.proofs.pool.slots.position.Goals as goal
 
 pub returns : goal.returns

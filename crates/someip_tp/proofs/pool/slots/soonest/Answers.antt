@@ -1,6 +1,6 @@
 use Rattle.std.proofs.Common.{ap, arith}
 use Rattle.someip_tp.specs.RoomParts.{PartInRoom}
-use Rattle.someip_tp.proofs.SlotLemmas.{none_sooner}
+use Rattle.someip_tp.proofs.reserved_memory.SlotLemmas.{none_sooner}
 use Rattle.someip_tp.proofs.pool.slots.soonest.Goals as goal
 
 pub loop-part-init : goal.loop-part-init

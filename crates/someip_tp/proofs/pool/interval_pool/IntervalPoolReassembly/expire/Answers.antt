@@ -4,7 +4,7 @@ use Rattle.someip_reassembly.specs.Stores.{parts_of_entries}
 use Rattle.someip_tp.specs.Pools.{entries_in}
 use Rattle.someip_reassembly.proofs.MomentLemmas.{none_after-parts_at}
 use Rattle.someip_reassembly.proofs.StoreLemmas.{left_parts}
-use Rattle.someip_tp.proofs.RisingLemmas.{apart}
+use Rattle.someip_tp.proofs.reserved_memory.RisingLemmas.{apart}
 use Rattle.someip_tp.proofs.pool.interval_pool.IntervalPoolReassembly.expire.Goals as goal
 
 pub returns-clause-parts : goal.returns-clause-parts

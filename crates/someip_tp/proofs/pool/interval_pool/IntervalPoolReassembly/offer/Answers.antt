@@ -5,7 +5,7 @@ use Rattle.someip_reassembly.specs.Stores.{Offers, parts_of_entries}
 use Rattle.someip_tp.specs.Pools.{entries_in}
 use Rattle.someip_reassembly.proofs.MomentLemmas.{none_after-offered_by}
 use Rattle.someip_reassembly.proofs.StoreLemmas.{left_parts, judged_so, changed_so}
-use Rattle.someip_tp.proofs.RisingLemmas.{apart}
+use Rattle.someip_tp.proofs.reserved_memory.RisingLemmas.{apart}
 use Rattle.someip_tp.proofs.pool.interval_pool.IntervalPoolReassembly.offer.Goals as goal
 
 pub returns-clause-judged : goal.returns-clause-judged

@@ -5,7 +5,7 @@ use Rattle.someip_tp.specs.Rooms.{held_bytes}
 use Rattle.someip_tp.specs.RoomParts.{view_part}
 use Rattle.someip_reassembly.proofs.Placed.{agree_where_none_differs}
 use Rattle.someip_reassembly.proofs.PartialLemmas.{no_conflict}
-use Rattle.someip_tp.proofs.PoolLemmas.{fit_of, last_past, before_end, sound_still}
+use Rattle.someip_tp.proofs.reserved_memory.PoolLemmas.{fit_of, last_past, before_end, sound_still}
 use Rattle.someip_tp.proofs.pool.part.RoomPart.accept.Goals as goal
 
 pub hold-requires-clause-agrees : goal.hold-requires-clause-agrees

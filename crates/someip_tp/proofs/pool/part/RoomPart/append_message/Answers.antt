@@ -4,7 +4,7 @@ use Rattle.std.proofs.lemmas.Result.{on_ok_weaker}
 use Rattle.someip_reassembly.specs.SegmentOffers.{message_of}
 use Rattle.someip_tp.specs.RoomParts.{view_part}
 use Rattle.someip_reassembly.proofs.PartialLemmas.{message_appended}
-use Rattle.someip_tp.proofs.PoolLemmas.{held_below}
+use Rattle.someip_tp.proofs.reserved_memory.PoolLemmas.{held_below}
 use Rattle.someip_tp.proofs.pool.part.RoomPart.append_message.Goals as goal
 
 pub returns-clause-ok : goal.returns-clause-ok

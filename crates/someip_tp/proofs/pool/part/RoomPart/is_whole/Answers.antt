@@ -3,7 +3,7 @@ use Rattle.std.specs.Option.{is_some}
 use Rattle.someip_reassembly.specs.SegmentOffers.{message_of}
 use Rattle.someip_tp.specs.RoomParts.{view_part}
 use Rattle.someip_reassembly.proofs.PartialLemmas.{whole_is}
-use Rattle.someip_tp.proofs.PoolLemmas.{held_below}
+use Rattle.someip_tp.proofs.reserved_memory.PoolLemmas.{held_below}
 use Rattle.someip_tp.proofs.pool.part.RoomPart.is_whole.Goals as goal
 
 pub returns-in-Some : goal.returns-in-Some

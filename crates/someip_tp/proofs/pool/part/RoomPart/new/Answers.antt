@@ -1,5 +1,5 @@
 use Rattle.std.proofs.Common.{ap, None}
-use Rattle.someip_tp.proofs.RoomLemmas.{nothing_before_0}
+use Rattle.someip_tp.proofs.reserved_memory.RoomLemmas.{nothing_before_0}
 use Rattle.someip_tp.proofs.pool.part.RoomPart.new.Goals as goal
 
 pub returns-clause-entry : goal.returns-clause-entry

@@ -1,7 +1,7 @@
 use Rattle.std.proofs.Common.{sym, ap, ◌∙◌, ◌/◌, ◌-◌, ◌+◌, refl, arith, take, drop}
 use Rattle.std.specs.List.{slice_get}
 use Rattle.someip_tp.specs.Blocks.{is_held}
-use Rattle.someip_tp.proofs.RoomLemmas.{agrees_with_none, agrees_with, part_get, part_past}
+use Rattle.someip_tp.proofs.reserved_memory.RoomLemmas.{agrees_with_none, agrees_with, part_get, part_past}
 use Rattle.someip_tp.proofs.pool.room.Room.agrees.Goals as goal
 use Rattle.someip_tp.proofs.pool.room.Room.agrees.Goals.{then-start-self-via-then-start-self, then-start-self-via-else-start-self+then-not-is_held}
 

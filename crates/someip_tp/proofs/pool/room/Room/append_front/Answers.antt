@@ -2,7 +2,7 @@ use Rattle.std.proofs.Common.{sym, take, arith}
 use Rattle.std.proofs.lemmas.List.{length-take-le}
 use Rattle.someip_reassembly.specs.Slices.{AppendsFront}
 use Rattle.someip_tp.specs.Rooms.{held_bytes}
-use Rattle.someip_tp.proofs.RoomLemmas.{front_bytes, front_within, on_ok_appended}
+use Rattle.someip_tp.proofs.reserved_memory.RoomLemmas.{front_bytes, front_within, on_ok_appended}
 use Rattle.someip_tp.proofs.pool.room.Room.append_front.Goals as goal
 
 pub slice_bounds-extend_from_slice-end : goal.slice_bounds-extend_from_slice-end

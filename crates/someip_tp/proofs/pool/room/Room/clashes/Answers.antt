@@ -2,7 +2,7 @@ use Rattle.std.proofs.Common.{sym, ◌*◌, ◌-◌, arith}
 use Rattle.std.specs.FinMap.{get}
 use Rattle.someip_tp.specs.Rooms.{held_bytes}
 use Rattle.someip_reassembly.proofs.Placed.{none_differs}
-use Rattle.someip_tp.proofs.RoomLemmas.{agrees_so_far, all_agree_so_far, part_clashes, part_get, part_some}
+use Rattle.someip_tp.proofs.reserved_memory.RoomLemmas.{agrees_so_far, all_agree_so_far, part_clashes, part_get, part_some}
 use Rattle.someip_tp.proofs.pool.room.Room.clashes.Goals as goal
 
 pub returns-then-not-agrees : goal.returns-then-not-agrees

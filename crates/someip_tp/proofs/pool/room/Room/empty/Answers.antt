@@ -1,5 +1,5 @@
 use Rattle.std.proofs.Common.{refl, ◌+◌}
-use Rattle.someip_tp.proofs.RoomLemmas.{nothing_before_0}
+use Rattle.someip_tp.proofs.reserved_memory.RoomLemmas.{nothing_before_0}
 use Rattle.someip_tp.proofs.pool.room.Room.empty.Goals as goal
 
 pub returns-then-self-clause-empty : goal.returns-then-self-clause-empty

@@ -1,7 +1,7 @@
 use Rattle.std.proofs.Common.{◌≡◌, true, sym, ap, ◌∙◌, arith}
 use Rattle.someip_tp.specs.Blocks.{is_held, other_end}
-use Rattle.someip_tp.proofs.BlockLemmas.{told_as, held_within}
-use Rattle.someip_tp.proofs.RoomLemmas.{front_is, no_front}
+use Rattle.someip_tp.proofs.reserved_memory.BlockLemmas.{told_as, held_within}
+use Rattle.someip_tp.proofs.reserved_memory.RoomLemmas.{front_is, no_front}
 use Rattle.someip_tp.proofs.pool.room.Room.front.Goals as goal
 
 pub returns-then-is_held : goal.returns-then-is_held

@@ -1,6 +1,6 @@
 use Rattle.std.proofs.Common.{◌≡◌, ap, ◌∙◌, ◌+◌, ◌<◌, ◌/◌, ◌&&◌, ◌||◌, nat_le, nat_lt, length, ℕ, arith}
 use Rattle.someip_tp.specs.Blocks.{is_held}
-use Rattle.someip_tp.proofs.RoomLemmas.{holds}
+use Rattle.someip_tp.proofs.reserved_memory.RoomLemmas.{holds}
 use Rattle.someip_tp.proofs.pool.room.Room.hold.Goals as goal
 
 pub returns-clause-held : goal.returns-clause-held

@@ -2,7 +2,7 @@ use Rattle.std.proofs.Common.{sym, ap, ◌∙◌}
 use Rattle.std.specs.FinMap.{keys}
 use Rattle.someip_reassembly.specs.SegmentOffers.{passes}
 use Rattle.someip_tp.specs.Rooms.{held_bytes}
-use Rattle.someip_tp.proofs.RoomLemmas.{reaches_as}
+use Rattle.someip_tp.proofs.reserved_memory.RoomLemmas.{reaches_as}
 use Rattle.someip_tp.proofs.pool.room.Room.reaches.Goals as goal
 
 pub returns-in-Some : goal.returns-in-Some

@@ -2,8 +2,8 @@ use Rattle.std.proofs.Common.{◌≡◌, ◌≤◌, sym, ap, subst, ◌∙◌, a
 use Rattle.std.specs.List.{All}
 use Rattle.someip_tp.specs.RoomParts.{PartInRoom}
 use Rattle.someip_tp.specs.Pools.{IsFree, entries_in}
-use Rattle.someip_tp.proofs.SlotLemmas.{as_without, entries_left, all_without, all_pushed}
-use Rattle.someip_tp.proofs.RisingLemmas.{rising_left}
+use Rattle.someip_tp.proofs.reserved_memory.SlotLemmas.{as_without, entries_left, all_without, all_pushed}
+use Rattle.someip_tp.proofs.reserved_memory.RisingLemmas.{rising_left}
 use Rattle.someip_tp.proofs.pool.slots.Slots.free_at.Goals as goal
 
 pub returns-clause-pooled : goal.returns-clause-pooled

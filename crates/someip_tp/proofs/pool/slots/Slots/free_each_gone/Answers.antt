@@ -1,7 +1,7 @@
 use Rattle.std.proofs.Common.{◌∙◌, ◌-◌, not, ap, sym, arith}
 use Rattle.someip_reassembly.specs.Parts.{is_gone}
 use Rattle.someip_tp.specs.Pools.{entries_in}
-use Rattle.someip_tp.proofs.SlotLemmas.{gone_step, stay_step, kept_length}
+use Rattle.someip_tp.proofs.reserved_memory.SlotLemmas.{gone_step, stay_step, kept_length}
 use Rattle.someip_tp.proofs.pool.slots.Slots.free_each_gone.Goals as goal
 
 pub loop-i-preserved-then-is_gone : goal.loop-i-preserved-then-is_gone

@@ -1,7 +1,7 @@
 use Rattle.std.proofs.Common.{◌≡◌, ◌≤◌, not, length}
 use Rattle.someip_reassembly.specs.Parts.{is_gone}
 use Rattle.someip_tp.specs.Pools.{ArePooled, SameBounds, entries_in}
-use Rattle.someip_tp.proofs.SlotLemmas.{kept_from}
+use Rattle.someip_tp.proofs.reserved_memory.SlotLemmas.{kept_from}
 use Rattle.someip_tp.proofs.pool.slots.Slots.free_each_gone.Given as goal
 
 abbrev pub decreases-loop-i : goal.decreases-loop-i

@@ -1,5 +1,5 @@
 use Rattle.std.proofs.Common.{sym, ◌∙◌}
-use Rattle.someip_tp.proofs.SlotLemmas.{none_gone}
+use Rattle.someip_tp.proofs.reserved_memory.SlotLemmas.{none_gone}
 use Rattle.someip_tp.proofs.pool.slots.Slots.free_gone.Goals as goal
 
 pub returns-else-is_over-clause-entries : goal.returns-else-is_over-clause-entries

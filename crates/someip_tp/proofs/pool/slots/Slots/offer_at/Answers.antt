@@ -6,8 +6,8 @@ use Rattle.someip_reassembly.specs.Stores.{segment_arrived, parts_of_entries}
 use Rattle.someip_reassembly.specs.SegmentOffers.{conflicts, part_or_whole, with_offer, part_under}
 use Rattle.someip_tp.specs.Pools.{entries_of}
 use Rattle.someip_reassembly.proofs.StoreLemmas.{judged_conflict, judged_fit, part_there, removed_parts}
-use Rattle.someip_tp.proofs.SlotLemmas.{as_many, part_in, freed, parts_once_changed, sooner}
-use Rattle.someip_tp.proofs.RisingLemmas.{apart, rising_once_changed}
+use Rattle.someip_tp.proofs.reserved_memory.SlotLemmas.{as_many, part_in, freed, parts_once_changed, sooner}
+use Rattle.someip_tp.proofs.reserved_memory.RisingLemmas.{apart, rising_once_changed}
 use Rattle.someip_tp.proofs.pool.slots.Slots.offer_at.Goals as goal
 
 pub returns-then-contradicts-clause-offers : goal.returns-then-contradicts-clause-offers

@@ -8,8 +8,8 @@ use Rattle.someip_reassembly.specs.Stores.{segment_arrived, parts_of_entries}
 use Rattle.someip_reassembly.specs.SegmentOffers.{conflicts, part_or_whole, with_offer, no_part}
 use Rattle.someip_tp.specs.Pools.{IsFree, entries_in}
 use Rattle.someip_reassembly.proofs.StoreLemmas.{no_part_there, judged_full, judged_new, no_part_under, nothing_conflicts}
-use Rattle.someip_tp.proofs.SlotLemmas.{part_count, one_of_all, all_put, sooner}
-use Rattle.someip_tp.proofs.RisingLemmas.{apart, new_there, rising_with, parts_with}
+use Rattle.someip_tp.proofs.reserved_memory.SlotLemmas.{part_count, one_of_all, all_put, sooner}
+use Rattle.someip_tp.proofs.reserved_memory.RisingLemmas.{apart, new_there, rising_with, parts_with}
 use Rattle.someip_tp.proofs.pool.slots.Slots.offer_new.Goals as goal
 
 pub returns-in_default-clause-offers : goal.returns-in_default-clause-offers

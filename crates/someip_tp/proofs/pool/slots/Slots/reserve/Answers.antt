@@ -1,7 +1,7 @@
 use Rattle.std.proofs.Common.{sym, subst, arith}
 use Rattle.std.specs.List.{All}
 use Rattle.someip_tp.specs.Pools.{IsFree}
-use Rattle.someip_tp.proofs.SlotLemmas.{all_pushed}
+use Rattle.someip_tp.proofs.reserved_memory.SlotLemmas.{all_pushed}
 use Rattle.someip_tp.proofs.pool.slots.Slots.reserve.Goals as goal
 
 pub loop-preserved : goal.loop-preserved

@@ -4,8 +4,8 @@ use Rattle.someip_reassembly.specs.SegmentOffers.{message_at}
 use Rattle.someip_reassembly.specs.Stores.{StandsAt, parts_of_entries}
 use Rattle.someip_tp.specs.Pools.{GoesAt, entries_in, entries_of}
 use Rattle.someip_reassembly.proofs.StoreLemmas.{no_part_there, none_whole, nothing_appended, on_err_any, parts_less_none}
-use Rattle.someip_tp.proofs.SlotLemmas.{message_in, freed_parts}
-use Rattle.someip_tp.proofs.RisingLemmas.{apart, new_there}
+use Rattle.someip_tp.proofs.reserved_memory.SlotLemmas.{message_in, freed_parts}
+use Rattle.someip_tp.proofs.reserved_memory.RisingLemmas.{apart, new_there}
 use Rattle.someip_tp.proofs.pool.slots.Slots.take.Goals as goal
 
 pub returns-in_default-clause-taken : goal.returns-in_default-clause-taken

@@ -1,0 +1,4 @@
+-- How entries are split into messages.
+pub mod SplitLemmas
+pub mod FrontLemmas
+pub mod AloneLemmas

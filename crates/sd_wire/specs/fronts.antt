@@ -1,0 +1,3 @@
+-- How entries are split into messages.
+pub mod Splitting
+pub mod Fronts

@@ -1,0 +1,2 @@
+-- What good configurations are made of.
+pub mod GoodConfigParts

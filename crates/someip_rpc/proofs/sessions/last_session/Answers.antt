@@ -1,9 +1,0 @@
-use Rattle.std.proofs.Common.{◌∙◌, sym, rules, ◌≡◌}
-use Rattle.std.specs.BTreeMap as tree
-use Rattle.someip_tables.proofs.Trees.{get-map_of}
-use Rattle.someip_rpc.proofs.sessions.last_session.Goals as goal
-
-pub returns : goal.returns
-returns g c =
-    let known : c.copied.result ≡ tree.get g.K.Ord.cmp c.args.sessions.now c.args.key = search rules in
-    known ∙ sym (get-map_of g.met.K.Ord.total c.args.sessions.now.entries c.args.key)
