@@ -3,9 +3,9 @@ use crate::endings::is_end;
 use crate::printed::is_printed;
 use crate::slow::{Limits, SlowWriter, UNLIMITED};
 use recording::RecordingError;
-use rows::{ROWS, Row, SHOWING, Wanted};
+use rows::{ROWS, Row, SHOWING};
 use someip_world::{SetupError, StepFault};
-use someipctl_cli::{Failure, LineError, answer_error, command_of};
+use someipctl_cli::{Command, Failure, LineError, answer_error, command_of};
 use someipctl_recordings::ports::PortsError;
 use someipctl_recordings::{LimitsError, RecordingFault};
 use someipctl_run::{RunFault, SetupFault, read_setup};
@@ -136,32 +136,33 @@ fn help_is_printed_and_usage_is_not(rt: HostRuntime) {
     assert!(rt; is_answered(alloc, &["someipctl"], UNLIMITED, 2, b""));
 }
 
-/// Whether an answer that is no command is what is wanted.
-fn is_refusal(alloc: Global, error: &LineError, wanted: Wanted) -> Option<bool> {
-    let part = match (error, wanted) {
-        (LineError::Help(_), Wanted::Help(part)) => part,
-        (LineError::Usage(_), Wanted::Usage(part)) => part,
-        _ => return Some(false),
-    };
-    let text = error.to_string(alloc).ok()?;
-    Some(text.contains(part))
-}
-
-/// Whether words come to what is wanted.
-fn come_to(alloc: Global, words: &[&str], wanted: Wanted) -> Option<bool> {
+/// Whether no word at all comes to a fault of usage that says so.
+fn is_told_without_words(alloc: Global) -> Option<bool> {
+    let words: &[&str] = &[];
     match command_of(alloc, words) {
-        Ok(command) => Some(matches!(wanted, Wanted::Is(other) if other == command)),
-        Err(error) => is_refusal(alloc, &error, wanted),
+        Err(LineError::Usage(error)) => {
+            let text = error.to_string(alloc).ok()?;
+            Some(text.contains("requires a subcommand but one was not provided"))
+        }
+        _ => Some(false),
     }
 }
 
-/// Whether the words of a row come to what is wanted.
-fn is_right(alloc: Global, words: &str, wanted: Wanted) -> Option<bool> {
-    let words: Vec<&str> = words.split('|').collect(alloc).ok()?;
-    come_to(alloc, &words, wanted)
+/// Whether words come to this command.
+fn come_to(alloc: Global, words: &[&str], wanted: Command<'static>) -> bool {
+    match command_of(alloc, words) {
+        Ok(command) => command == wanted,
+        Err(_) => false,
+    }
 }
 
-/// The words of each of these rows come to what is wanted.
+/// Whether the words of a row come to its command.
+fn is_right(alloc: Global, words: &str, wanted: Command<'static>) -> Option<bool> {
+    let words: Vec<&str> = words.split('|').collect(alloc).ok()?;
+    Some(come_to(alloc, &words, wanted))
+}
+
+/// The words of each of these rows come to its command.
 fn check(rt: &impl Abort, alloc: Global, rows: &[Row]) {
     for (words, wanted) in rows {
         assert!(rt; is_right(alloc, words, *wanted) == Some(true), "{words}");
@@ -169,13 +170,8 @@ fn check(rt: &impl Abort, alloc: Global, rows: &[Row]) {
 }
 
 #[test]
-fn words_come_to_a_command_or_a_text(rt: HostRuntime) {
-    let none = Wanted::Usage("requires a subcommand but one was not provided");
-    assert!(rt; come_to(rt.alloc(), &[], none) == Some(true));
+fn words_come_to_a_command(rt: HostRuntime) {
+    assert!(rt; is_told_without_words(rt.alloc()) == Some(true));
     check(&rt, rt.alloc(), ROWS);
-}
-
-#[test]
-fn words_of_show_and_payload_come_to_a_command_or_a_text(rt: HostRuntime) {
     check(&rt, rt.alloc(), SHOWING);
 }

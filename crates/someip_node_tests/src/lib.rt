@@ -10,15 +10,16 @@
 //! - `embedding`: two nodes in one process;
 //! - `starts`, `carried`: the node for other languages, its start by a text, and two whose outputs are taken
 //!   and carried by hand;
-//! - `setup`, `schedule`: what is read of setups and of schedules;
+//! - `setup`, `schedule`: what is read of setups and of schedules; those that are not quite right are rows of the sweep
+//!   `texts`, as are types files;
 //! - `world`, `bodies`: short runs, and runs over both bodies of reassembly;
 //! - `cli`: what words come to, and the texts and statuses of failures;
 //! - `commands`: captures and payloads;
 //! - `failing`: commands over a reader and a writer that fail, for each of their calls;
 //! - `recordings`: what is left out of a recording, and recordings that are not written whole;
 //! - `wholes`: recordings whose messages are put together, over both bodies of reassembly;
-//! - `services`, `limits`, `types`, `shown`: texts that name services or say limits, types files, and captures; `showing`: commands
-//!   without what they add;
+//! - `services`, `limits`, `shown`: texts that name services or say limits, and a capture of which none is asked for;
+//!   `showing`: commands without what they add;
 //! - `laws`: the laws of the commands, of types files and of the command line;
 //! - `printed`, `endings`, `slow`: how values are printed, how what the program does ends, and readers and writers
 //!   that move few bytes a call.
@@ -74,8 +75,6 @@ mod shown;
 mod slow;
 #[cfg(test)]
 mod starts;
-#[cfg(test)]
-mod types;
 #[cfg(test)]
 mod waking;
 #[cfg(test)]

@@ -1,4 +1,4 @@
-//! Schedules, line by line: what each good line spells, and what almost right ones are refused for.
+//! Schedules, line by line: what each good line spells. Those with a bad line are rows of the sweep `texts`.
 use crate::printed::is_printed;
 use sd_core::{Eventgroup, InstanceId};
 use someip_rpc::{CallKind, Reply};
@@ -6,7 +6,6 @@ use someip_wire::ReturnCode;
 use someip_world_schedule::{ScheduleError, Step, StepPayload, read_schedule};
 use std::alloc::Global;
 use std::net::{Ipv4Addr, SocketAddrV4};
-use std::process::Abort;
 
 /// Lines that each spell one step.
 const GOOD: &[&[u8]] = &[
@@ -58,143 +57,20 @@ const EMPTY: &[&[u8]] = &[
     b"#\xc3\xa4\n\n#x",
 ];
 
-/// Texts whose first line is bad: words, and ticks.
-const BAD: &[&[u8]] = &[
-    b"tick a",
-    b"tick",
-    b" ",
-    b"\r",
-    b"tick a 5\r",
-    b"tick  a 5",
-    b" tick a 5",
-    b"tick a 5 ",
-    b"tick a 5 6",
-    b"tick a\t5",
-    b"Tick a 5",
-    b"tock a 5",
-    b"tick a 05",
-    b"tick a 00",
-    b"tick a +5",
-    b"tick a -5",
-    b"tick a ",
-    b"tick a 5x",
-    b"tick a 18446744073709551616",
-    b"tick A 5",
-    b"tick a_b 5",
-    b"tick abcdefghijklmnopq 5",
-    b"tick \xc3\xa4 5",
-    b"tick \xff 5",
-    b"#\xff",
-    b"# \xc3",
-    b" # comment",
-];
-
-/// Deliveries, calls and answers that are bad.
-const BAD_CALLS: &[&[u8]] = &[
-    b"deliver a 0",
-    b"deliver 0",
-    b"deliver 01 a",
-    b"deliver 0 a b",
-    b"call a 1234.0001 8000 -",
-    b"call a 1234.0001 ffff -",
-    b"call a 1234.0001 001 -",
-    b"call a 1234.0001 00001 -",
-    b"call a 1234.0001 000g -",
-    b"call a 12340001 0001 -",
-    b"call a 1234.001 0001 -",
-    b"call a 1234.0001.0001 0001 -",
-    b"call a 1234:0001 0001 -",
-    b"call a 1234.0001 0001",
-    b"call a 1234.0001 0001 ",
-    b"call a 1234.0001 0001 - -",
-    b"call a 1234.0001 0001 --",
-    b"call a 1234.0001 0001 1",
-    b"call a 1234.0001 0001 123",
-    b"call a 1234.0001 0001 1g",
-    b"call a 1234.0001 0001 0x12",
-    b"call a 1234.0001 0001 aa*1048577",
-    b"call a 1234.0001 0001 aa*01",
-    b"call a 1234.0001 0001 aa*",
-    b"call a 1234.0001 0001 *1",
-    b"call a 1234.0001 0001 aaaa*1",
-    b"call a 1234.0001 0001 a*1",
-    b"call a 1234.0001 0001 aa*1*1",
-    b"call a 1234.0001 0001 aa*18446744073709551616",
-    b"call A 1234.0001 0001 -",
-    b"oneway a 1234.0001 8000 -",
-    b"answer a 1 0 -",
-    b"answer a 1 000 -",
-    b"answer a 01 00 -",
-    b"answer a 1 0g -",
-    b"answer a 1 00",
-];
-
-/// Errors, events, and what stands after them, that are bad.
-const BAD_EVENTS: &[&[u8]] = &[
-    b"error a 1 -",
-    b"publish a 1234.0001 001 -",
-    b"publish a 1234.0001 0001",
-    b"publish_to a 1234.0001 0001 10.0.0.1:65536 8001 -",
-    b"publish_to a 1234.0001 0001 10.0.0.1:00 8001 -",
-    b"publish_to a 1234.0001 0001 10.0.0.1: 8001 -",
-    b"publish_to a 1234.0001 0001 10.0.0.1 8001 -",
-    b"publish_to a 1234.0001 0001 10.0.0:1 8001 -",
-    b"publish_to a 1234.0001 0001 10.0.0.0.1:1 8001 -",
-    b"publish_to a 1234.0001 0001 256.0.0.1:1 8001 -",
-    b"publish_to a 1234.0001 0001 01.0.0.1:1 8001 -",
-    b"publish_to a 1234.0001 0001 10.0.0.1:1:1 8001 -",
-    b"publish_to a 1234.0001 10.0.0.1:1 8001 -",
-    b"publish_to a 1234.0001 0001 10.0.0.1:1 8001",
-    b"subscribe a 1234.0001",
-    b"subscribe a 1234.0001 001",
-    b"unsubscribe a 1234.0001 0001 0001",
-    b"stop_offer a",
-    b"stop_offer a 1234",
-    b"restart a",
-    b"restart a 18446744073709551616",
-    b"start a 1",
-    b"inject a 0 10.0.0.1:1 -",
-    b"inject a 65536 10.0.0.1:1 -",
-    b"inject a 01 10.0.0.1:1 -",
-    b"inject a 1234.0001 10.0.0.1:1 -",
-    b"inject a 1 10.0.0.1 -",
-    b"inject a 1 10.0.0.1:65536 -",
-    b"inject a 1 10.0.0.1:1",
-    b"inject a 1 10.0.0.1:1 aa*1048577",
-    b"inject a 1 10.0.0.1:1 - -",
-    b"inject A 1 10.0.0.1:1 -",
-];
-
-/// How many steps a text has, or which of its lines is bad.
-fn counted(alloc: Global, text: &[u8]) -> Result<usize, ScheduleError> {
-    match read_schedule(alloc, text) {
-        Ok(steps) => Ok(steps.len()),
-        Err(error) => Err(error),
-    }
+/// How many steps a text has, if it has no bad line.
+fn count_of(alloc: Global, text: &[u8]) -> Option<usize> {
+    Some(read_schedule(alloc, text).ok()?.len())
 }
 
-/// The number of the first text that has another count of steps, or another bad line.
-fn first_other(
-    alloc: Global,
-    texts: &[&[u8]],
-    wanted: Result<usize, ScheduleError>,
-) -> Option<usize> {
+/// The number of the first text that has another count of steps, or a bad line.
+fn first_other(alloc: Global, texts: &[&[u8]], count: usize) -> Option<usize> {
     for (index, text) in texts.iter().enumerate() {
-        if counted(alloc, text) != wanted {
+        if count_of(alloc, text) != Some(count) {
             return Some(index);
         }
     }
     None
 }
-
-/// Texts, and the number of the first bad line of each.
-const FIRST_BAD: &[(&[u8], usize)] = &[
-    (b"tick a 5\n\n# x\ntick a 05\ntick a", 4),
-    (b"\n\ntick a", 3),
-    (b"tick a 5\n#\xff\n", 2),
-    (b"tick a 5\r\n", 1),
-    (b"tick a 5\ntick a 6\n \n", 3),
-];
 
 /// A step of each kind.
 const EACH: &[u8] = b"tick a 5
@@ -416,47 +292,12 @@ const PRINTED: &[(ScheduleError, &str)] = &[
     (ScheduleError::OutOfMemory, "out of memory"),
 ];
 
-/// Ends the test where a text of the table with this name has another count of steps, or another bad line.
-fn check(
-    rt: &impl Abort,
-    alloc: Global,
-    name: &str,
-    texts: &[&[u8]],
-    wanted: Result<usize, ScheduleError>,
-) {
-    let other = first_other(alloc, texts, wanted);
-    assert!(rt; other.is_none(), "{name}: {other:?}");
-}
-
-/// The first line of each text is bad.
-const AT_FIRST: Result<usize, ScheduleError> = Err(ScheduleError::BadLine(1));
-
-#[test]
-fn good_lines(rt: HostRuntime) {
-    check(&rt, rt.alloc(), "GOOD", GOOD, Ok(1));
-}
-
-#[test]
-fn bad_lines(rt: HostRuntime) {
-    check(&rt, rt.alloc(), "BAD", BAD, AT_FIRST);
-}
-
-#[test]
-fn bad_calls(rt: HostRuntime) {
-    check(&rt, rt.alloc(), "BAD_CALLS", BAD_CALLS, AT_FIRST);
-}
-
-#[test]
-fn bad_events(rt: HostRuntime) {
-    check(&rt, rt.alloc(), "BAD_EVENTS", BAD_EVENTS, AT_FIRST);
-}
-
 #[test]
 fn lines_and_steps(rt: HostRuntime) {
-    check(&rt, rt.alloc(), "EMPTY", EMPTY, Ok(0));
-    for (text, line) in FIRST_BAD {
-        assert!(rt; counted(rt.alloc(), text) == Err(ScheduleError::BadLine(*line)));
-    }
+    let other = first_other(rt.alloc(), GOOD, 1);
+    assert!(rt; other.is_none(), "GOOD: {other:?}");
+    let other = first_other(rt.alloc(), EMPTY, 0);
+    assert!(rt; other.is_none(), "EMPTY: {other:?}");
     for (error, text) in PRINTED {
         assert!(rt; is_printed(rt.alloc(), error, text) == Some(true));
     }

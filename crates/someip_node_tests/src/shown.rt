@@ -1,33 +1,30 @@
-//! Captures of which some services are asked for, or values are told.
+//! A capture of which no service is asked for: no text that names services says so.
 use crate::slow::{SlowWriter, UNLIMITED};
-use rows::{ROWS, Row};
+use someipctl_inputs::Outcome;
 use someipctl_show::show::show;
 use someipctl_types::MessageTypes;
 use std::alloc::Global;
 
-mod rows;
+/// An event; two requests of two services in one datagram; a request of the second; an empty datagram; and one of the
+/// second with a fault alone.
+const MIXED: &str = "\
+1234800100000009000000010101020007
+55550001000000080001000101010000123404210000000800010002010100ff
+55550001000000080001000301010000
+-
+55550001000000070001000401010000
+";
 
-/// Whether what a row asks for is shown with these types.
-fn is_shown(alloc: Global, row: &Row, types: &MessageTypes) -> bool {
-    let mut capture = row.capture.as_bytes();
+/// Whether nothing of the capture is shown.
+fn shows_nothing(alloc: Global) -> bool {
+    let mut capture = MIXED.as_bytes();
     let mut writer = SlowWriter::new(alloc, UNLIMITED);
-    match show(alloc, &mut capture, row.services, types, &mut writer) {
-        Ok(outcome) => outcome == row.outcome && writer.taken.as_slice() == row.shown.as_bytes(),
-        Err(_) => false,
-    }
-}
-
-/// Whether what a row asks for is shown.
-fn is_right(alloc: Global, row: &Row) -> bool {
-    match MessageTypes::read(alloc, row.types) {
-        Ok(types) => is_shown(alloc, row, &types),
-        Err(_) => false,
-    }
+    let types = MessageTypes::none(alloc);
+    let shown = show(alloc, &mut capture, Some(&[]), &types, &mut writer);
+    matches!(shown, Ok(Outcome::Done)) && writer.taken.is_empty()
 }
 
 #[test]
-fn what_is_asked_for_is_shown(rt: HostRuntime) {
-    for (index, row) in ROWS.iter().enumerate() {
-        assert!(rt; is_right(rt.alloc(), row), "row {index}");
-    }
+fn nothing_is_shown_where_no_service_is_asked_for(rt: HostRuntime) {
+    assert!(rt; shows_nothing(rt.alloc()));
 }

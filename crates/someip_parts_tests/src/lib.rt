@@ -1,6 +1,6 @@
 //! Tests of what is read and written (messages, payloads, segments and their reassembly, Service Discovery
-//! messages, recordings), and of the cores: tables with deadlines or moments, sessions, Service Discovery
-//! at both ends, and calls and answers.
+//! messages, recordings), of the cores: tables with deadlines or moments, sessions, Service Discovery
+//! at both ends, and calls and answers, and of the audit of recordings.
 //!
 //! Tests stand over the crates that they try, since a crate is proved again with its tests. What is tried
 //! stands in tables of plain data, since the prover reads each line of a test, and little of a table. The
@@ -9,6 +9,8 @@
 //! alone.
 #![tactic(auto)]
 
+#[cfg(test)]
+mod audit;
 #[cfg(test)]
 mod discovery;
 #[cfg(test)]

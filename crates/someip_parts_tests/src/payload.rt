@@ -1,4 +1,5 @@
-//! The rows of payloads: bytes, the values that they are read as, and faults.
+//! The rows of payloads: bytes, and the values that they are read as. Bytes that are no payload are rows of the sweep
+//! `texts`.
 use crate::rows::{Row, check, is_printed};
 use someip_payload::{PayloadError, Shape, Value, decode, encode, laws, read_shape};
 use std::alloc::Global;
@@ -255,142 +256,6 @@ const PARTS: &[Read] = &[
     ),
 ];
 
-/// Bytes that are none of a shape, and the first fault.
-struct Faulty(&'static str, &'static [u8], PayloadError);
-
-impl Row for Faulty {
-    fn is_right(&self, alloc: Global) -> Option<bool> {
-        let Faulty(shape, bytes, error) = self;
-        Some(fault_of(alloc, shape, bytes)? == *error)
-    }
-}
-
-/// The fault of bytes of a shape.
-fn fault_of(alloc: Global, shape: &str, bytes: &[u8]) -> Option<PayloadError> {
-    let shape = read_shape(alloc, shape).ok()?;
-    decode(alloc, &shape, bytes).err()
-}
-
-const FAULTS: &[Faulty] = &[
-    Faulty("u32", &[0, 0, 0], PayloadError::Truncated(0)),
-    Faulty(
-        "array<2,u16>",
-        &[0, 0, 0, 6, 0, 1, 0, 2, 0, 3],
-        PayloadError::TooMany(8),
-    ),
-    Faulty(
-        "array<2,u16>",
-        &[0, 0, 0, 3, 0, 1, 0],
-        PayloadError::LengthMismatch(6),
-    ),
-    Faulty(
-        "array<4294967295,u8>",
-        &[0xff, 0xff, 0xff, 0xff, 1],
-        PayloadError::Truncated(0),
-    ),
-    Faulty("fixed<3,u8>", &[1, 2], PayloadError::Truncated(2)),
-    Faulty("utf8", &[0, 0, 0, 1, 0x41], PayloadError::NoTerminator(0)),
-    Faulty("utf8/8", &[0], PayloadError::NoTerminator(0)),
-    Faulty("utf8/8", &[2, 0xc3, 0], PayloadError::BadText(0)),
-    Faulty(
-        "utf16/8",
-        &[6, 0xfe, 0xff, 0xd8, 0x3d, 0, 0],
-        PayloadError::BadText(0),
-    ),
-    Faulty(
-        "utf16/8",
-        &[6, 0xff, 0xfe, 0, 0xde, 0, 0],
-        PayloadError::BadText(0),
-    ),
-    Faulty("utf16/8", &[2, 0, 0], PayloadError::BadText(0)),
-    Faulty("utf16/8", &[2, 0xfe, 0xff], PayloadError::NoTerminator(0)),
-    Faulty("utf16/8", &[1, 0], PayloadError::NoTerminator(0)),
-    Faulty(
-        "union(1:u8)",
-        &[0, 0, 0, 1, 0, 0, 0, 0],
-        PayloadError::LengthMismatch(0),
-    ),
-    Faulty(
-        "union(1:u8)",
-        &[0, 0, 0, 0, 0, 0, 0, 2],
-        PayloadError::UnknownVariant(4),
-    ),
-    Faulty(
-        "union(1:u8)",
-        &[0, 0, 0, 2, 0, 0, 0, 1, 7],
-        PayloadError::Truncated(0),
-    ),
-    Faulty(
-        "union(1:u8)",
-        &[0, 0, 0, 0, 0, 0, 0, 1, 7],
-        PayloadError::LengthMismatch(8),
-    ),
-    Faulty(
-        "union(1:u8)",
-        &[0, 0, 0, 0, 0, 0],
-        PayloadError::Truncated(4),
-    ),
-    Faulty(
-        "struct(u8,struct(u8,fixed<2,u16>))",
-        &[1, 2, 0, 3, 0],
-        PayloadError::Truncated(4),
-    ),
-    Faulty(
-        "struct(u8,array/8<2,u16>)",
-        &[7, 3, 0, 1, 0],
-        PayloadError::LengthMismatch(4),
-    ),
-    Faulty(
-        "struct(u8,array/8<2,u16>)",
-        &[7, 6, 0, 1, 0, 2, 0, 3],
-        PayloadError::TooMany(6),
-    ),
-    Faulty(
-        "struct(u8,array/8<2,array/8<1,u8>>)",
-        &[7, 3, 2, 0x0a, 0x0b],
-        PayloadError::TooMany(4),
-    ),
-    Faulty(
-        "struct(u8,array/8<2,array/8<1,u8>>)",
-        &[7, 2, 5, 0],
-        PayloadError::LengthMismatch(2),
-    ),
-    Faulty(
-        "struct(u8,array/8<2,union(1:u8)>)",
-        &[7, 8, 0, 0, 0, 0, 0, 0, 0, 2],
-        PayloadError::UnknownVariant(6),
-    ),
-    Faulty(
-        "struct(u8,array/8<2,utf8/8>)",
-        &[7, 2, 1, 0x41],
-        PayloadError::NoTerminator(2),
-    ),
-    Faulty(
-        "struct(u8,array/8<2,utf8/8>)",
-        &[7, 3, 2, 0xff, 0],
-        PayloadError::BadText(2),
-    ),
-    Faulty(
-        "struct(u8,array/8<2,utf16/8>)",
-        &[7, 5, 4, 0, 0x41, 0, 0],
-        PayloadError::BadText(2),
-    ),
-    Faulty(
-        "struct(u8,array/8<2,utf16/8>)",
-        &[7, 3, 2, 0xfe, 0xff],
-        PayloadError::NoTerminator(2),
-    ),
-    Faulty("fixed<0,u8>", &[], PayloadError::BadShape(0)),
-    Faulty("fixed<1,fixed<1,u8>>", &[], PayloadError::BadShape(0)),
-    Faulty("union(0:u8)", &[], PayloadError::BadShape(0)),
-    Faulty("union(2:u8,1:u8,2:u8)", &[], PayloadError::BadShape(0)),
-    Faulty(
-        "struct(u8,array/8<2,fixed<0,u8>>)",
-        &[],
-        PayloadError::BadShape(0),
-    ),
-];
-
 /// A shape, and a value that is none of it, as bytes of another shape: why it is not written.
 struct Refused(&'static str, &'static str, &'static [u8], PayloadError);
 
@@ -535,11 +400,6 @@ fn values(rt: HostRuntime) {
 fn texts_and_parts(rt: HostRuntime) {
     check(&rt, rt.alloc(), "TEXTS", TEXTS);
     check(&rt, rt.alloc(), "PARTS", PARTS);
-}
-
-#[test]
-fn faults(rt: HostRuntime) {
-    check(&rt, rt.alloc(), "FAULTS", FAULTS);
 }
 
 #[test]

@@ -1,7 +1,7 @@
-//! The texts of shapes: the places of faults, which no clause states in full, and rows.
+//! The texts of shapes. The places of faults, which no clause states in full, are rows of the sweep `texts`.
 use crate::rows::{Printed, Row, check};
 use someip_payload::{ShapeTextError, read_shape};
-use std::alloc::{AllocError, Global};
+use std::alloc::Global;
 
 /// The text of a shape, and how the shape is printed for a programmer.
 struct Shaped(&'static str, &'static str);
@@ -63,222 +63,10 @@ const SHAPED: &[Shaped] = &[
     ),
 ];
 
-/// The place of the fault, or none where the text is that of a shape.
-fn fault(alloc: Global, text: &str) -> Option<usize> {
-    match read_shape(alloc, text) {
-        Ok(_) | Err(ShapeTextError::OutOfMemory) => None,
-        Err(ShapeTextError::BadShape(place)) => Some(place),
-    }
+/// Whether a text is refused at a place, which no words of a command can hold.
+fn is_refused(alloc: Global) -> bool {
+    matches!(read_shape(alloc, "u8\0"), Err(ShapeTextError::BadShape(2)))
 }
-
-/// A text of no shape, and the place of the fault.
-struct Faulty(&'static str, usize);
-
-impl Row for Faulty {
-    fn is_right(&self, alloc: Global) -> Option<bool> {
-        let Faulty(text, place) = self;
-        Some(fault(alloc, text) == Some(*place))
-    }
-}
-
-/// Where a text breaks off, and where a word, a width or a bracket is another one.
-const WORDS: &[Faulty] = &[
-    Faulty("", 0),
-    Faulty("u", 1),
-    Faulty("u1", 2),
-    Faulty("u3", 2),
-    Faulty("u9", 1),
-    Faulty("uu", 1),
-    Faulty("u6x", 2),
-    Faulty("u81", 2),
-    Faulty("u8/8", 2),
-    Faulty("i", 1),
-    Faulty("i7", 1),
-    Faulty("i6", 2),
-    Faulty("i12", 2),
-    Faulty("un", 2),
-    Faulty("uno", 2),
-    Faulty("ut", 2),
-    Faulty("utf", 3),
-    Faulty("utf/8", 3),
-    Faulty("utf32", 3),
-    Faulty("utf1", 4),
-    Faulty("utf17", 4),
-    Faulty("utf8/", 5),
-    Faulty("utf8/9", 5),
-    Faulty("utf8/64", 5),
-    Faulty("utf8/1", 6),
-    Faulty("utf8/3", 6),
-    Faulty("utf8/31", 6),
-    Faulty("utf8/81", 6),
-    Faulty("utf8/165", 7),
-    Faulty("utf16/8/8", 7),
-    Faulty("utf8<", 4),
-    Faulty("b", 1),
-    Faulty("bo0l", 2),
-    Faulty("bool ", 4),
-    Faulty("boolx", 4),
-    Faulty("bool/8", 4),
-    Faulty(" bool", 0),
-    Faulty("Bool", 0),
-    Faulty("x", 0),
-    Faulty(",", 0),
-    Faulty("8", 0),
-    Faulty("arr<", 3),
-    Faulty("fix", 3),
-    Faulty("struck", 5),
-    Faulty("unions", 5),
-    Faulty("u8\n", 2),
-    Faulty("u8\0", 2),
-    Faulty("é", 0),
-    Faulty("u8é", 2),
-    Faulty("utf8/é", 5),
-    Faulty("array<1,ü8>", 8),
-];
-
-/// Where lists, brackets and numbers break off or go wrong.
-const PARTS: &[Faulty] = &[
-    Faulty("array", 5),
-    Faulty("array(", 5),
-    Faulty("array/<", 6),
-    Faulty("array/8", 7),
-    Faulty("array/8(", 7),
-    Faulty("array<", 6),
-    Faulty("array<,u8>", 6),
-    Faulty("array<x", 6),
-    Faulty("array<-1,u8>", 6),
-    Faulty("array<+1,u8>", 6),
-    Faulty("array<1", 7),
-    Faulty("array<1>", 7),
-    Faulty("array<1 ,u8>", 7),
-    Faulty("array<0x1,u8>", 7),
-    Faulty("array<00,u8>", 7),
-    Faulty("array<01,u8>", 7),
-    Faulty("array<4294967296,u8>", 15),
-    Faulty("array<9999999999,u8>", 15),
-    Faulty("array<42949672950,u8>", 16),
-    Faulty("array<10000000000", 16),
-    Faulty("array<1,", 8),
-    Faulty("array<1,>", 8),
-    Faulty("array<1, u8>", 8),
-    Faulty("array<1,u8", 10),
-    Faulty("array<1,u8)", 10),
-    Faulty("array<1,u8,u8>", 10),
-    Faulty("array<1,u8>>", 11),
-    Faulty("fixed", 5),
-    Faulty("fixed/8<1,u8>", 5),
-    Faulty("fixed<1,u7>", 9),
-    Faulty("struct", 6),
-    Faulty("struct<", 6),
-    Faulty("struct(", 7),
-    Faulty("struct()", 7),
-    Faulty("struct(,u8)", 7),
-    Faulty("struct( u8)", 7),
-    Faulty("struct/8", 8),
-    Faulty("struct/8()", 9),
-    Faulty("struct(u8", 9),
-    Faulty("struct(u8>", 9),
-    Faulty("struct(u8;u8)", 9),
-    Faulty("struct(u8,", 10),
-    Faulty("struct(u8,)", 10),
-    Faulty("struct(u8))", 10),
-    Faulty("struct(bool,u8x)", 14),
-    Faulty("union", 5),
-    Faulty("union/8(1:u8)", 5),
-    Faulty("union()", 6),
-    Faulty("union(u8)", 6),
-    Faulty("union(1", 7),
-    Faulty("union(1)", 7),
-    Faulty("union(1,u8)", 7),
-    Faulty("union(1:", 8),
-    Faulty("union(1:)", 8),
-    Faulty("union(1:u8", 10),
-    Faulty("union(1:u8;", 10),
-    Faulty("union(1:u8,)", 11),
-    Faulty("union(1:u8,02:u8)", 12),
-    Faulty("union(1:u8,u8)", 11),
-    Faulty("union(4294967296:u8)", 15),
-    Faulty("tag", 3),
-    Faulty("tagged", 6),
-    Faulty("tagged()", 7),
-    Faulty("tagged/9(1:u8)", 7),
-    Faulty("tagged(u8)", 7),
-    Faulty("tagged(?:u8)", 7),
-    Faulty("tagged(1", 8),
-    Faulty("tagged(1?", 9),
-    Faulty("tagged(1u8)", 8),
-    Faulty("tagged(1?u8)", 9),
-    Faulty("tagged(1??:u8)", 9),
-    Faulty("tagged(1:?u8)", 9),
-    Faulty("tagged(01:u8)", 8),
-    Faulty("tagged(4095:u8", 14),
-    Faulty("tagged(4096:u8)", 10),
-    Faulty("tagged(5000:u8)", 10),
-    Faulty("tagged(1:u8,)", 12),
-    Faulty("tagged(1:u8,2?:utf8/8", 21),
-];
-
-/// Adds the piece so many times, and then the end.
-fn add_repeated(text: &mut String, piece: &str, count: u32, end: &str) -> Result<(), AllocError> {
-    for _ in 0..count {
-        text.push_str(piece)?;
-    }
-    text.push_str(end)
-}
-
-/// What opens and what closes a shape: 63 of them around a number are a shape.
-struct Balanced(&'static str, &'static str);
-
-impl Row for Balanced {
-    fn is_right(&self, alloc: Global) -> Option<bool> {
-        let Balanced(piece, end) = self;
-        let mut text = String::new(alloc);
-        let is_open = add_repeated(&mut text, piece, 63, "u8").is_ok();
-        let is_closed = add_repeated(&mut text, end, 63, "").is_ok();
-        Some(is_open && is_closed && read_shape(alloc, text.as_str()).is_ok())
-    }
-}
-
-const BALANCED: &[Balanced] = &[
-    Balanced("array<1,", ">"),
-    Balanced("fixed<1,", ">"),
-    Balanced("struct(", ")"),
-    Balanced("struct/8(u8,", ")"),
-    Balanced("union(1:", ")"),
-    Balanced("tagged(1:", ")"),
-    Balanced("tagged/8(1?:u8,2?:", ")"),
-];
-
-/// So many times the piece, then the end, and the place of the fault.
-struct Repeated(&'static str, u32, &'static str, usize);
-
-impl Row for Repeated {
-    fn is_right(&self, alloc: Global) -> Option<bool> {
-        let Repeated(piece, count, end, place) = self;
-        let mut text = String::new(alloc);
-        let is_made = add_repeated(&mut text, piece, *count, end).is_ok();
-        Some(is_made && fault(alloc, text.as_str()) == Some(*place))
-    }
-}
-
-const REPEATED: &[Repeated] = &[
-    Repeated("array<1,", 64, "", 512),
-    Repeated("array<1,", 64, "u8", 512),
-    Repeated("array<1,", 64, "u9", 512),
-    Repeated("array<1,", 64, ">", 512),
-    Repeated("array<1,", 63, "u9", 505),
-    Repeated("fixed<1,", 64, "bool", 512),
-    Repeated("struct(", 64, "utf8", 448),
-    Repeated("struct(u8,", 63, "struct(u8", 637),
-    Repeated("union(1:", 64, "i8", 512),
-    Repeated("array<1,fixed<2,struct(union(3:", 16, "u8", 496),
-    Repeated(
-        "array<1,fixed<2,struct(union(3:",
-        15,
-        "array<1,fixed<2,struct(u8,i9",
-        492,
-    ),
-];
 
 /// A fault of a text and how it is printed.
 const PRINTED_FAULTS: &[Printed<ShapeTextError>] = &[
@@ -289,21 +77,6 @@ const PRINTED_FAULTS: &[Printed<ShapeTextError>] = &[
 #[test]
 fn shapes(rt: HostRuntime) {
     check(&rt, rt.alloc(), "SHAPED", SHAPED);
-}
-
-#[test]
-fn faults_of_words(rt: HostRuntime) {
-    check(&rt, rt.alloc(), "WORDS", WORDS);
-}
-
-#[test]
-fn faults_of_parts(rt: HostRuntime) {
-    check(&rt, rt.alloc(), "PARTS", PARTS);
-}
-
-#[test]
-fn nested_shapes(rt: HostRuntime) {
-    check(&rt, rt.alloc(), "BALANCED", BALANCED);
-    check(&rt, rt.alloc(), "REPEATED", REPEATED);
     check(&rt, rt.alloc(), "PRINTED_FAULTS", PRINTED_FAULTS);
+    assert!(rt; is_refused(rt.alloc()));
 }

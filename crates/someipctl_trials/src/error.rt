@@ -6,7 +6,7 @@ use std::{fmt, io};
 /// Why a sweep could not be made. What a sweep finds wrong with the stack is none of these.
 #[derive(Clone, Copy)]
 pub enum SweepError {
-    /// A word is neither the name of a sweep nor the number of a schedule, or says no way of one.
+    /// A word is no name of a sweep, or says no way of one.
     Usage,
     /// A file of the data could not be read.
     CannotRead,
@@ -25,7 +25,7 @@ impl SweepError {
     fn what(&self) -> &'static str {
         match self {
             SweepError::Usage => {
-                "usage: someipctl_trials [memory SWEEP again|left-out|bare] [cases] [schedules] [liars] [inputs] [fronts] [NUMBER] [liars-NUMBER]"
+                "usage: someipctl_trials [memory SWEEP again|left-out|bare] [cases] [inputs]"
             }
             SweepError::CannotRead => "cannot read the data",
             SweepError::BadVector(_) => "bad vector",

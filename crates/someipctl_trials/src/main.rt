@@ -1,19 +1,16 @@
 //! `someipctl_trials`: runs the commands of a file, and prints what each of them does; and tries the stack over many
 //! inputs that loops make, and while memory is refused, and prints what it finds wrong.
 //!
-//! Its words are `cases`, which runs the commands of the file `cases` of `data/`, and names of sweeps: `schedules`,
-//! `liars`, `inputs` and `fronts`. Before them may stand `memory SWEEP again|left-out|bare`. docs/SWEEPS.md tells what
-//! each sweep does, and the crate's file `stdout` what comes of the words in `args`.
+//! Its words are `cases`, which runs the commands of the file `cases` of `data/`, and `inputs`, which makes the sweep of
+//! that name. Before them may stand `memory SWEEP again|left-out|bare`. docs/SWEEPS.md tells what each sweep does, and the
+//! crate's file `stdout` what comes of the words in `args`.
 #![tactic(auto)]
 
 mod cases;
-mod draws;
 mod error;
 mod findings;
-mod fronts;
 mod inputs;
 mod memory;
-mod schedules;
 mod sweeping;
 mod worked;
 

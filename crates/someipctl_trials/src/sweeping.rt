@@ -3,9 +3,8 @@
 use crate::cases::run_cases;
 use crate::error::SweepError;
 use crate::findings::Findings;
+use crate::inputs;
 use crate::memory::sweep_memory;
-use crate::schedules::Schedules;
-use crate::{fronts, inputs, schedules};
 use someip_world::Setup;
 use std::alloc::Global;
 use std::rt::{Env, Files};
@@ -17,25 +16,8 @@ const CASES: &str = "cases";
 /// The file of the setup.
 const SETUP: &str = "examples/runs/two.toml";
 
-/// The file of the setup with a liar.
-const SETUP_WITH_LIAR: &str = "examples/runs/liars.toml";
-
 /// The file of the vectors.
 const VECTORS: &str = "examples/vectors/all.txt";
-
-/// The schedules that are drawn over the setup of two nodes.
-const SCHEDULES: Schedules = Schedules {
-    all: "schedules",
-    one: "schedule",
-    count: 1000,
-};
-
-/// The schedules that are drawn among liars.
-const AMONG_LIARS: Schedules = Schedules {
-    all: "liars",
-    one: "liars",
-    count: 400,
-};
 
 /// Does what the program's words ask for, and prints what each comes to. It answers whether nothing was found.
 pub fn sweep_all<R: Files + Env + Print + Input + AllocGlobal>(rt: &R) -> Result<bool, SweepError> {
@@ -70,17 +52,13 @@ fn sweep_each<R: Files + Print + Input + AllocGlobal>(
     Ok(is_clean)
 }
 
-/// Makes the sweep of a word, and prints what it comes to, or runs the cases. A number asks for the lines of its
-/// schedule. It answers whether nothing was found.
+/// Makes the sweep of a word, and prints what it comes to, or runs the cases. It answers whether nothing was found.
 fn sweep<R: Files + Print + Input + AllocGlobal>(rt: &R, word: &str) -> Result<bool, SweepError> {
     let mut findings = Findings::new(rt.alloc());
     let done = match word {
         "cases" => return run_all_cases(rt),
-        "schedules" => sweep_schedules(rt, SETUP, SCHEDULES, &mut findings)?,
-        "liars" => sweep_schedules(rt, SETUP_WITH_LIAR, AMONG_LIARS, &mut findings)?,
         "inputs" => sweep_inputs(rt, &mut findings)?,
-        "fronts" => fronts::sweep(rt.alloc(), &mut findings)?,
-        number => return print_schedule_of(rt, number),
+        _ => return Err(SweepError::Usage),
     };
     Ok(print(rt, done.as_str(), findings.lines())?)
 }
@@ -92,18 +70,6 @@ fn run_all_cases<R: Files + Print + Input + AllocGlobal>(rt: &R) -> Result<bool,
     Ok(true)
 }
 
-/// Makes the sweep over schedules for the setup of a file.
-fn sweep_schedules<R: Files + AllocGlobal>(
-    rt: &R,
-    path: &str,
-    schedules: Schedules,
-    findings: &mut Findings,
-) -> Result<String, SweepError> {
-    let setup = read_setup(rt, path)?;
-    let done = schedules::sweep(rt.alloc(), &setup, schedules, findings)?;
-    Ok(done)
-}
-
 fn sweep_inputs<R: Files + AllocGlobal>(
     rt: &R,
     findings: &mut Findings,
@@ -111,32 +77,6 @@ fn sweep_inputs<R: Files + AllocGlobal>(
     let setup = read_setup(rt, SETUP)?;
     let text = read_text(rt, VECTORS)?;
     inputs::sweep(rt.alloc(), &setup, text.as_str(), findings)
-}
-
-/// Prints the lines of the schedule of a number, among liars where `liars-` stands before it.
-fn print_schedule_of<R: Files + Print + AllocGlobal>(
-    rt: &R,
-    word: &str,
-) -> Result<bool, SweepError> {
-    match word.strip_prefix("liars-") {
-        Some(number) => print_schedule(rt, number, SETUP_WITH_LIAR),
-        None => print_schedule(rt, word, SETUP),
-    }
-}
-
-/// Prints the lines of the schedule of a number for the setup of a file.
-fn print_schedule<R: Files + Print + AllocGlobal>(
-    rt: &R,
-    number: &str,
-    path: &str,
-) -> Result<bool, SweepError> {
-    let Ok(seed) = number.parse::<u64>() else {
-        return Err(SweepError::Usage);
-    };
-    let setup = read_setup(rt, path)?;
-    let text = schedules::text_of(rt.alloc(), &setup, seed)?;
-    print!(rt; "{text}")?;
-    Ok(true)
 }
 
 /// The setup of a file.

@@ -1,5 +1,5 @@
 //! The rows of tagged structures: what is read and written of them, and what is refused.
-use super::{Faulty, Read, Refused};
+use super::{Read, Refused};
 use crate::rows::check;
 use someip_payload::PayloadError;
 
@@ -93,57 +93,6 @@ const READ: &[Read] = &[
     ),
 ];
 
-const FAULTS: &[Faulty] = &[
-    Faulty(
-        "tagged(1:u8,2?:utf8/8)",
-        &[0, 0, 0, 6, 0, 1, 7, 0, 1, 8],
-        PayloadError::DuplicateMember(7),
-    ),
-    Faulty(
-        "tagged(1:u8,2?:utf8/8)",
-        &[0, 0, 0, 7, 0, 1, 7, 0x10, 1, 0, 8],
-        PayloadError::DuplicateMember(7),
-    ),
-    Faulty(
-        "tagged(1:u8,2?:utf8/8)",
-        &[0, 0, 0, 4, 0x10, 1, 0, 7],
-        PayloadError::WrongWireType(4),
-    ),
-    Faulty(
-        "tagged(1:u8,2?:utf8/8)",
-        &[0, 0, 0, 0],
-        PayloadError::MissingMember(0),
-    ),
-    Faulty(
-        "tagged(1:u8,2?:utf8/8)",
-        &[0, 0, 0, 5, 0x40, 9, 0, 0, 0],
-        PayloadError::LengthMismatch(6),
-    ),
-    Faulty(
-        "tagged(1:u8,2?:utf8/8)",
-        &[0, 0, 0, 4, 0, 1, 7, 0x50],
-        PayloadError::LengthMismatch(7),
-    ),
-    Faulty(
-        "tagged/8(1:u8,2:u8)",
-        &[6, 0, 2, 7, 0, 2, 7],
-        PayloadError::DuplicateMember(4),
-    ),
-    Faulty(
-        "struct(u8,tagged/8(1:u8))",
-        &[9, 3, 0, 5, 7],
-        PayloadError::MissingMember(1),
-    ),
-    Faulty("tagged(1:u8,1:u16)", &[], PayloadError::BadShape(0)),
-    Faulty("tagged(1:fixed<1,u8>)", &[], PayloadError::BadShape(0)),
-    Faulty("tagged(1:struct(u8))", &[], PayloadError::BadShape(0)),
-    Faulty(
-        "tagged(1:tagged(2:fixed<1,u8>))",
-        &[],
-        PayloadError::BadShape(0),
-    ),
-];
-
 /// The length of the list is judged before its members, and each member at its turn.
 const REFUSED: &[Refused] = &[
     Refused(
@@ -188,10 +137,5 @@ const REFUSED: &[Refused] = &[
 #[test]
 fn tagged_values(rt: HostRuntime) {
     check(&rt, rt.alloc(), "READ", READ);
-}
-
-#[test]
-fn tagged_faults(rt: HostRuntime) {
-    check(&rt, rt.alloc(), "FAULTS", FAULTS);
     check(&rt, rt.alloc(), "REFUSED", REFUSED);
 }

@@ -1,0 +1,119 @@
+"""The sweep `texts`: what the built program says of texts that are not quite right, by rows: of setups, types files,
+schedules, shapes and payloads, and of words that come to no command.
+
+    texts.py PROGRAM
+"""
+import concurrent.futures
+import os
+import subprocess
+import sys
+import tempfile
+from pathlib import Path
+
+from text_payloads import FAULTS, TAGGED_FAULTS, bad_shapes, deep_shapes
+from text_schedules import schedules
+from text_setups import setups
+from text_types import types
+from text_words import HELP, USAGE
+
+SETUP = Path(__file__).resolve().parent.parent / "examples" / "runs" / "two.toml"
+
+# A request of the service 0, and the line that shows it.
+CAPTURE = "00000000 00000009 00000001 01010000 07\n"
+SHOWN = ("1 message 0000.0000 length 9 client 0000 session 0001 interface 01 type REQUEST code 00 payload 07\n")
+
+
+def run(program, words, name="someipctl"):
+    """The exit status, and what comes on standard output and on standard error."""
+    done = subprocess.run([name, *words], executable=program, stdin=subprocess.DEVNULL, capture_output=True, text=True,
+                          check=False)
+    return done.returncode, done.stdout, done.stderr
+
+
+def said_of(program, data, words, *more):
+    """What the program says of a file with these bytes, whose path stands between words."""
+    with tempfile.NamedTemporaryFile() as file:
+        file.write(data)
+        file.flush()
+        return run(program, [*words, file.name, *more])
+
+
+def is_setup(program, text, wanted):
+    """A setup is run over a schedule without steps, or refused."""
+    said = said_of(program, text.encode(), ["run"], "/dev/null")
+    return said == ((0, "reuse clean\n", "") if wanted == "ok" else (1, "", f"setup: {wanted}\n"))
+
+
+def is_types(program, data, wanted):
+    """A types file is refused; or where it has tables they tell the value of the request, and else none is told."""
+    with tempfile.NamedTemporaryFile("w") as capture:
+        capture.write(CAPTURE)
+        capture.flush()
+        status, shown, error = said_of(program, data, ["show", "--types"], capture.name)
+    if wanted == "empty":
+        return (status, shown, error) == (0, SHOWN, "")
+    if wanted == "tables":
+        value = shown.removeprefix(SHOWN)
+        return (status, error) == (0, "") and len(value) < len(shown) and value.startswith("1 value ")
+    return (status, shown, error) == (1, "", f"types: {wanted}\n")
+
+
+def is_schedule(program, data, bad_line):
+    """A schedule is refused by its first bad line."""
+    return said_of(program, data, ["run", str(SETUP)]) == (1, "", f"line {bad_line}: bad step\n")
+
+
+def is_bad_shape(program, text, place):
+    return run(program, ["payload", text, "00"]) == (1, "", f"bad shape at {place}\n")
+
+
+def is_shape(program, text):
+    """A text is that of a shape, though of one that payloads cannot have."""
+    status, shown, error = run(program, ["payload", text, "-"])
+    return (status, error) == (1, "") and shown.startswith("fault ")
+
+
+def is_fault(program, shape, digits, fault):
+    return run(program, ["payload", shape, digits]) == (1, f"fault {fault}\n", "")
+
+
+def is_help(program, words, part):
+    name, *words = words.split("|")
+    status, shown, error = run(program, words, name)
+    return (status, error) == (0, "") and part in shown
+
+
+def is_usage(program, words, part):
+    name, *words = words.split("|")
+    status, shown, error = run(program, words, name)
+    return (status, shown) == (2, "") and part in error
+
+
+PARTS = {
+    "setup": (is_setup, setups()),
+    "types file": (is_types, types()),
+    "schedule": (is_schedule, schedules()),
+    "shape": (is_bad_shape, bad_shapes()),
+    "deep shape": (is_shape, [(text,) for text in deep_shapes()]),
+    "payload": (is_fault, (*FAULTS, *TAGGED_FAULTS)),
+    "help": (is_help, HELP),
+    "usage": (is_usage, USAGE),
+}
+
+
+def main():
+    program = os.path.abspath(sys.argv[1])
+    rows = [(kind, is_right, *row) for kind, (is_right, of_kind) in PARTS.items() for row in of_kind]
+    with concurrent.futures.ThreadPoolExecutor(os.cpu_count()) as pool:
+        right = list(pool.map(lambda row: row[1](program, *row[2:]), rows))
+    findings = [row for row, is_right in zip(rows, right) if not is_right]
+    for kind, _, *row in findings:
+        print(f"texts: {kind}: not so: {row}")
+    if not findings:
+        counts = ", ".join(f"{len(of_kind)} of {kind}" for kind, (_, of_kind) in PARTS.items())
+        print(f"texts: {counts}: no finding")
+    return int(bool(findings))
+
+
+if __name__ == "__main__":
+    sys.exit(main())
