@@ -10,14 +10,6 @@ use Rattle.someipctl_print.specs.Sending.{Sends, Stops}
 pub Sends-nil : (a : Option (List ℕ)) (held : List ℕ) → Sends a held a held []
 Sends-nil a held = record { sent = []; wrote = Appends-nil a; rest = sym (append-nil held) }
 
--- a text that waits is held behind what was held
-pub Sends-held : (a : Option (List ℕ)) (held text new : List ℕ) → new ≡ held ++ text → Sends a held a new text
-Sends-held a held text new is = record { sent = []; wrote = Appends-nil a; rest = is }
-
--- all that was held is written
-pub Sends-flushed : (a b : Option (List ℕ)) (held new : List ℕ) → Appends a b held → new ≡ [] → Sends a held b new []
-Sends-flushed a b held new wrote none = record { sent = held; wrote = wrote; rest = ap (λ (t : List ℕ). held ++ t) none }
-
 -- one text after the other
 pub Sends-trans : (a b c : Option (List ℕ)) (held waits new text more : List ℕ) → Sends a held b waits text → Sends b waits c new more → Sends a held c new (text ++ more)
 Sends-trans a b c held waits new text more one other = record {

@@ -13,8 +13,8 @@ ghost use Rattle.someipctl_run.specs.Traces.{marked_line, marked_verdict, pointe
 
 use crate::error::RunFault;
 use crate::form::TraceForm;
-use crate::running::trace_of;
-use crate::step_lines::{line_of_step, lines_of_steps};
+use crate::running::run_of_text;
+use crate::step_lines::line_of_step;
 use crate::trace_lines::{came_by_part, number_after, put_marked_line, put_verdict};
 use someip_world::{Line, Reuse, Setup, SetupNode};
 use someipctl_inputs::{Outcome, read_all};
@@ -80,17 +80,16 @@ fn compare_text<W: Write>(
     ensures refused { IfErr result (λ fault. RefusesComparing form setup.now.nodes expected.now
         text.now fault (W.contents writer.old) (W.contents writer.new)) }
 {
-    let trace = trace_of(alloc, setup, text)?;
-    let step_lines = lines_of_steps(alloc, text)?;
+    let ran = run_of_text(alloc, setup, text)?;
     let mut buffer = Buffer::new(alloc)?;
     let found = first_mismatch(
         alloc,
         &mut buffer,
         form,
-        &step_lines,
+        &ran.step_lines,
         setup.nodes(),
-        &trace.lines,
-        trace.verdict,
+        &ran.trace.lines,
+        ran.trace.verdict,
         expected,
     )?;
     match found {

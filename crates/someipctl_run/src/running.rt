@@ -1,6 +1,7 @@
 //! Running a schedule.
 ghost use Rattle.std.specs.Prelude.{◌≡◌, [], IfOk, IfErr, OnOk, OnErr};
 ghost use Rattle.std.specs.Io.KnownBytes.{Appends};
+ghost use Rattle.someip_world_schedule.specs.Schedule.{lines_of_steps};
 ghost use Rattle.someipctl_print.specs.Sending.{Sends, Stops};
 ghost use Rattle.someipctl_run.specs.Commands.{IsTraceOf, RanInForm, RanInput, RanInputInForm};
 ghost use Rattle.someipctl_run.specs.Commands.{RefusesInputRun, RefusesInputRunInForm, RefusesRunInForm};
@@ -9,10 +10,10 @@ ghost use Rattle.someipctl_run.specs.Traces.{marked_trace, pointed};
 
 use crate::error::RunFault;
 use crate::form::TraceForm;
-use crate::step_lines::lines_to_show;
 use crate::trace_lines::{put_lines, put_verdict};
 use someip_tp::IntervalPool;
-use someip_world::{Line, Reuse, Setup, SetupNode, Trace, read_schedule, run};
+use someip_world::{Line, Reuse, Setup, SetupNode, Trace, run};
+use someip_world_schedule::read_numbered_schedule;
 use someipctl_inputs::read_all;
 use someipctl_print::{Buffer, CannotWrite};
 use std::alloc::Global;
@@ -70,29 +71,45 @@ fn run_text<W: Write>(
     ensures refused { IfErr result (λ fault. RefusesRunInForm form setup.now.nodes text.now fault
         (W.contents writer.old) (W.contents writer.new)) }
 {
-    let trace = trace_of(alloc, setup, text)?;
-    let step_lines = lines_to_show(alloc, form, text)?;
+    let ran = run_of_text(alloc, setup, text)?;
     let mut buffer = Buffer::new(alloc)?;
     write_trace(
         &mut buffer,
         writer,
-        form.shown(&step_lines),
+        form.shown(&ran.step_lines),
         setup.nodes(),
-        &trace.lines,
-        trace.verdict,
+        &ran.trace.lines,
+        ran.trace.verdict,
     )?;
     Ok(())
 }
 
-/// The trace of the schedule that a text spells over a setup.
-pub(crate) fn trace_of(alloc: Global, setup: &Setup, text: &[u8]) -> Result<Trace, RunFault>
+/// What a schedule gave.
+#[derive(Drop)]
+pub(crate) struct ScheduleRun {
+    /// Its trace.
+    pub(crate) trace: Trace,
+    /// The numbers of the lines of the schedule on which its steps stand, in order.
+    pub(crate) step_lines: Vec<usize>,
+}
+
+/// What the schedule that a text spells gives over a setup.
+pub(crate) fn run_of_text(
+    alloc: Global,
+    setup: &Setup,
+    text: &[u8],
+) -> Result<ScheduleRun, RunFault>
     ensures ok { IfOk result
-        (λ trace. IsTraceOf setup.now.nodes text.now trace.lines.items trace.verdict) }
+        (λ ran. IsTraceOf setup.now.nodes text.now ran.trace.lines.items ran.trace.verdict) }
+    ensures lines { IfOk result (λ ran. ran.step_lines.items ≡ lines_of_steps text.now) }
     ensures err { IfErr result (RefusesTrace setup.now.nodes text.now) }
 {
-    let steps = read_schedule(alloc, text)?;
-    let trace = run::<IntervalPool>(alloc, setup, &steps)?;
-    Ok(trace)
+    let read = read_numbered_schedule(alloc, text)?;
+    let trace = run::<IntervalPool>(alloc, setup, &read.steps)?;
+    Ok(ScheduleRun {
+        trace,
+        step_lines: read.lines,
+    })
 }
 
 /// Writes lines and the verdict on them through an empty buffer.
