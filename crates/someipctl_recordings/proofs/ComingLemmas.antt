@@ -9,7 +9,7 @@ use Rattle.recording.specs.Packets.{RecordValue}
 use Rattle.recording.specs.Records.{Item}
 use Rattle.recording.specs.HeldItems.{held_of}
 use Rattle.recording.specs.Readers.{ReaderValue, CanFollow, IsNext, IsAfterRead, items_by, to_come}
-use Rattle.someipctl_inputs.specs.Inputs.{WasLeft}
+use Rattle.someipctl_io.specs.Inputs.{WasLeft}
 use Rattle.someipctl_recordings.specs.Coming.{Comes, EndsAt, coming_items}
 use Rattle.someipctl_recordings.specs.declared.coming.Coming.{Coming}
 use Rattle.someipctl_recordings.specs.declared.coming.Coming.TheVariants.{Record}

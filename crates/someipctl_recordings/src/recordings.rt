@@ -4,7 +4,7 @@ ghost use Rattle.std.specs.Prelude.{◌≡◌, ◌<◌, ◌+◌, ◌^◌, [], �
 ghost use Rattle.std.specs.List.{list_any};
 ghost use Rattle.recording.specs.View.{view_datagram, view_record};
 ghost use Rattle.someip_reassembly.specs.Parts.{NoneAfter};
-ghost use Rattle.someipctl_print.specs.Sending.{Sends, Stops};
+ghost use Rattle.someipctl_io.specs.Sending.{Sends, Stops};
 ghost use Rattle.someipctl_recordings.specs.declared.recordings.RecordingFault.TheVariants as faults;
 ghost use Rattle.someipctl_recordings.specs.Gathered.{IsInTime, view_store};
 ghost use Rattle.someipctl_recordings.specs.LeftOut.{left_out_of, plus, total};
@@ -21,8 +21,7 @@ use crate::left_out::LeftOut;
 use crate::moments::moment_of;
 use recording::{Datagram, Record, RecordingError, RecordingReader};
 use someip_reassembly::Reassembly;
-use someipctl_inputs::{Outcome, ReadFault};
-use someipctl_print::{Buffer, CannotWrite};
+use someipctl_io::{Buffer, CannotWrite, Outcome, ReadFault};
 use someipctl_show::PrintFault;
 use someipctl_show::services::is_asked_by;
 use someipctl_show::value_lines::ValueLines;
@@ -38,7 +37,7 @@ pub enum RecordingFault {
     #[error("{}", ReadFault::CannotRead)]
     CannotRead,
     /// Writing failed, or took nothing.
-    #[error("{}", someipctl_print::CannotWrite)]
+    #[error("{}", someipctl_io::CannotWrite)]
     CannotWrite,
     /// Memory ran out.
     #[error("out of memory")]

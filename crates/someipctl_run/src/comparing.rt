@@ -3,7 +3,7 @@ ghost use Rattle.std.specs.Prelude.{◌≡◌, ◌≢◌, ◌≤◌, [], None, I
 ghost use Rattle.std.specs.Prelude.{codes, length};
 ghost use Rattle.std.specs.Option.{option_map_or};
 ghost use Rattle.std.specs.Io.KnownBytes.{Appends};
-ghost use Rattle.someipctl_print.specs.Sending.{Sends, Stops};
+ghost use Rattle.someipctl_io.specs.Sending.{Sends, Stops};
 ghost use Rattle.someipctl_run.specs.Comparing.{ComparedFrom, IsLineTaken, view_mismatch};
 ghost use Rattle.someipctl_run.specs.Expected.{Compares, ComparesInput, FirstDiffer, RefusesComparing};
 ghost use Rattle.someipctl_run.specs.Expected.{RefusesInputComparing, line_left, line_len};
@@ -17,8 +17,7 @@ use crate::running::run_of_text;
 use crate::step_lines::line_of_step;
 use crate::trace_lines::{came_by_part, number_after, put_marked_line, put_verdict};
 use someip_world::{Line, Reuse, Setup, SetupNode};
-use someipctl_inputs::{Outcome, read_all};
-use someipctl_print::{Buffer, CannotWrite, Part, put_parts};
+use someipctl_io::{Buffer, CannotWrite, Outcome, Part, put_parts, read_all};
 use std::alloc::{AllocError, Global};
 use std::io::{Read, Write};
 

@@ -2,7 +2,7 @@
 ghost use Rattle.std.specs.Prelude.{◌≡◌, [], IfOk, IfErr, OnOk, OnErr};
 ghost use Rattle.std.specs.Io.KnownBytes.{Appends};
 ghost use Rattle.someip_world_schedule.specs.Schedule.{lines_of_steps};
-ghost use Rattle.someipctl_print.specs.Sending.{Sends, Stops};
+ghost use Rattle.someipctl_io.specs.Sending.{Sends, Stops};
 ghost use Rattle.someipctl_run.specs.Commands.{IsTraceOf, RanInForm, RanInput, RanInputInForm};
 ghost use Rattle.someipctl_run.specs.Commands.{RefusesInputRun, RefusesInputRunInForm, RefusesRunInForm};
 ghost use Rattle.someipctl_run.specs.Commands.{RefusesTrace};
@@ -14,8 +14,7 @@ use crate::trace_lines::{put_lines, put_verdict};
 use someip_tp::IntervalPool;
 use someip_world::{Line, Reuse, Setup, SetupNode, Trace, run};
 use someip_world_schedule::read_numbered_schedule;
-use someipctl_inputs::read_all;
-use someipctl_print::{Buffer, CannotWrite};
+use someipctl_io::{Buffer, CannotWrite, read_all};
 use std::alloc::Global;
 use std::io::{Read, Write};
 

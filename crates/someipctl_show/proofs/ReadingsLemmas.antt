@@ -9,7 +9,7 @@ use Rattle.someip_wire.specs.declared.WireError.{WireError}
 use Rattle.someip_wire.specs.Spelling.{MessageValue}
 use Rattle.someip_wire.specs.Reading.{items_of}
 use Rattle.someip_wire.proofs.DatagramLemmas.{items_from-nil}
-use Rattle.someipctl_print.specs.Discovery.{discovery_in, view_reading}
+use Rattle.someipctl_io.specs.Discovery.{discovery_in, view_reading}
 use Rattle.someipctl_show.specs.Readings.{BeginWith, readings_in}
 
 -- where an item holds something, something is left

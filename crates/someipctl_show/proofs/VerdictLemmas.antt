@@ -2,7 +2,7 @@
 use Rattle.std.proofs.Common.{◌≡◌, ◌<◌, ◌≤◌, ℕ, zero, suc, ◌+◌, Bool, List, [], ◌∷◌, ◌++◌, length, get_or, drop, map, Option, Some, refl, sym, ap, ◌∙◌, subst, append_assoc, arith, add-one, drop-cons}
 use Rattle.std.specs.Prelude.{IfSome}
 use Rattle.std.proofs.lemmas.List.{append-nil, drop_all}
-use Rattle.someipctl_inputs.specs.declared.outcome.Outcome.{Outcome}
+use Rattle.someipctl_io.specs.declared.outcome.Outcome.{Outcome}
 use Rattle.someipctl_show.specs.declared.vector_lines.Question.{Question}
 use Rattle.someipctl_show.specs.declared.vector_lines.VectorLine.{VectorLine}
 use Rattle.someipctl_show.specs.declared.vector_lines.VectorLine.TheVariants.{Asks}
@@ -10,7 +10,7 @@ use Rattle.someipctl_show.specs.declared.vectors.VectorsError.{VectorsError}
 use Rattle.someipctl_show.specs.declared.vectors.VectorsError.TheVariants.{BadVector, CannotRead, CannotWrite, OutOfMemory}
 use Rattle.someipctl_show.specs.VectorLines.{asked_by, said_by}
 use Rattle.someipctl_show.specs.Vectors.{Vector, AreJudged, IsJudged, RefusesVectors, expected_text, vectors_in}
-use Rattle.someipctl_inputs.proofs.InputLemmas.{WasLeft-read}
+use Rattle.someipctl_io.proofs.InputLemmas.{WasLeft-read}
 
 -- the result at a place, and those behind it
 pub next_result : (results : List Bool) (i : ℕ) (d : Bool) → i < length results → drop i results ≡ get_or results i d ∷ drop (i + 1) results

@@ -1,15 +1,15 @@
 //! The lines of the values of messages.
 ghost use Rattle.std.specs.Prelude.{◌≡◌, ◌+◌, ◌≤◌, [], IfErr, IfOk, IsOk, OnErr, OnOk, string_bytes};
 ghost use Rattle.someip_wire.specs.View.{view_item};
-ghost use Rattle.someipctl_print.specs.Sending.{Sends, Stops};
-ghost use Rattle.someipctl_print.specs.Discovery.{discovery_in, view_found};
-ghost use Rattle.someipctl_print.specs.Items.{item_len, item_lines};
+ghost use Rattle.someipctl_io.specs.Sending.{Sends, Stops};
+ghost use Rattle.someipctl_io.specs.Discovery.{discovery_in, view_found};
+ghost use Rattle.someipctl_io.specs.Items.{item_len, item_lines};
 ghost use Rattle.someipctl_show.specs.ShownText.{ComesWith, has_value_fault_in, shows_fault, value_of_item};
 
 use crate::print_fault::PrintFault;
 use sd_wire::{SdError, SdRead};
 use someip_wire::{Message, WireError};
-use someipctl_print::{Buffer, put_item};
+use someipctl_io::{Buffer, put_item};
 use someipctl_types::MessageTypes;
 use std::alloc::{AllocError, Global};
 use std::io::Write;

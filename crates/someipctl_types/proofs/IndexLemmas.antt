@@ -115,12 +115,6 @@ module _ (places : BTreeMap MessageKey ℕ) (i : ℕ) (ts : List TypedMessage) w
       let one : (list_any has_place (drop i ts) || has_clash (types_view (drop i ts))) ≡ true = rw (drop_more ts i t lt, sym is, found) refl in
       sym h.met ∙ one
 
-  )
-    where
-      last : (o : Option ℕ) → option_or o None ≡ o
-      last None = refl
-      last (Some n) = refl
-
 pub empty_index : (places : BTreeMap MessageKey ℕ) (ts : List TypedMessage) → places.entries ≡ [] → IsIndexTo places 0 ts
 empty_index places ts empty = record {
   placed = λ key. rw empty refl;

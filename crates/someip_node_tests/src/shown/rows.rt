@@ -1,6 +1,6 @@
 //! Captures, what of them is asked for, and what is shown.
-use someipctl_inputs::Outcome;
-use someipctl_inputs::Outcome::{Done, FaultShown};
+use someipctl_io::Outcome;
+use someipctl_io::Outcome::{Done, FaultShown};
 use someipctl_show::services::AskedService;
 
 /// A capture, what of it is asked for, and what is shown.

@@ -2,7 +2,7 @@ use Rattle.std.proofs.Common.{◌+◌, ◌∙◌, [], ◌∷◌, Some, None, Err
 use Rattle.std.specs.Prelude.{option_map}
 use Rattle.recording.specs.View.{view_record}
 use Rattle.someipctl_show.proofs.ShowResultLemmas.{Stops-none}
-use Rattle.someipctl_print.proofs.SendingLemmas.{OnErr-any}
+use Rattle.someipctl_io.proofs.SendingLemmas.{OnErr-any}
 use Rattle.someipctl_recordings.specs.Gathered.{view_store}
 use Rattle.someipctl_recordings.specs.RecordingResult.{view_asked}
 use Rattle.someipctl_recordings.proofs.ComingLemmas.{comes_taken, comes_empty}
