@@ -26,7 +26,7 @@ pub(crate) fn text(
     }
 }
 
-#[tactic(auto, using(crate::proofs::Strings::is_utf8_true, crate::proofs::Strings::is_utf8_false), unfolding(crate::specs::Reading::utf8_at))]
+#[tactic(auto, using(crate::proofs::texts::Strings::is_utf8_true, crate::proofs::texts::Strings::is_utf8_false), unfolding(crate::specs::Reading::utf8_at))]
 fn utf8(alloc: Global, place: usize, body: &[u8]) -> Result<String, PayloadError>
     ensures { Gives (λ s. string_bytes s) result (utf8_at place body.now) }
 {

@@ -43,7 +43,7 @@ fn offers<'a>(alloc: Global, sent: &Outgoing<'a>) -> Result<Vec<TpCall<'a>>, All
 }
 
 /// What a receiver puts together of these offers.
-#[tactic(auto, using(someip_tp::proofs::CallMoments::may_run))]
+#[tactic(auto, using(someip_tp::proofs::promises::CallMoments::may_run))]
 fn received<R: Reassembly>(alloc: Global, calls: &[TpCall<'_>]) -> Result<Vec<u8>, TpError> {
     let mut store = R::make(alloc, 1, 65536, 1000)?;
     let mut taken = Vec::new(alloc);

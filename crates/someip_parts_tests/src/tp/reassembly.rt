@@ -13,7 +13,7 @@ const TIMEOUT: u64 = 1000;
 
 /// What a store answers to calls; the bytes that it gives are appended. Calls that are not in time get
 /// no answers.
-#[tactic(auto, using(someip_tp::proofs::CallMoments::may_run))]
+#[tactic(auto, using(someip_tp::proofs::promises::CallMoments::may_run))]
 fn answers_of<R: Reassembly>(
     alloc: Global,
     slots: usize,
