@@ -36,7 +36,7 @@ struct Answer {
 
 /// An event that the application of a node published.
 #[derive(Drop)]
-struct Publication {
+struct PublishedEvent {
     node: usize,
     instance: InstanceId,
     event: u16,
@@ -50,7 +50,7 @@ pub struct Past {
     calls: Vec<Call>,
     requests: Vec<Request>,
     answers: Vec<Answer>,
-    publications: Vec<Publication>,
+    publications: Vec<PublishedEvent>,
 }
 
 impl Past {
@@ -179,7 +179,7 @@ impl Past {
     ) -> Result<(), AllocError> {
         let payload = payload.to_payload(self.alloc)?;
         Ok(
-            self.publications.push(Publication {
+            self.publications.push(PublishedEvent {
                 node,
                 instance,
                 event,

@@ -2,7 +2,7 @@ use Rattle.std.proofs.Common.{◌≡◌, true, drop}
 use Rattle.std.specs.List.{AllByRecursion}
 use Rattle.someip_node_rules.specs.forms.GoodConfigs.{is_good}
 use Rattle.someip_world_rules.specs.Announced.{FitNodes}
-use Rattle.someip_world_rules.proofs.numbers.nodes_fit.Given as goal
+use Rattle.someip_world_rules.proofs.number_laws.nodes_fit.Given as goal
 
 -- those that are left are good, and all fit where they do
 abbrev pub invariant-loop-node : goal.invariant-loop-node

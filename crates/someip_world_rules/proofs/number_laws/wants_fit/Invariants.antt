@@ -1,6 +1,6 @@
 use Rattle.std.specs.List.{AllByRecursion}
 use Rattle.someip_node_laws.specs.Fitting.{FitsWant}
-use Rattle.someip_world_rules.proofs.numbers.wants_fit.Given as goal
+use Rattle.someip_world_rules.proofs.number_laws.wants_fit.Given as goal
 
 -- all fit where those that are left do
 abbrev pub invariant-loop-instance : goal.invariant-loop-instance

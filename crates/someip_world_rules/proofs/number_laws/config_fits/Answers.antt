@@ -1,6 +1,6 @@
 use Rattle.std.proofs.Common.{rules}
 use Rattle.someip_world_rules.proofs.NumberLemmas.{limit_fits, offers_are}
-use Rattle.someip_world_rules.proofs.numbers.config_fits.Goals as goal
+use Rattle.someip_world_rules.proofs.number_laws.config_fits.Goals as goal
 
 pub returns : goal.returns
 returns c = record {

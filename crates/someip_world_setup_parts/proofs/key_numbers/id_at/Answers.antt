@@ -3,7 +3,7 @@ use Rattle.std.proofs.lemmas.Result.{err_from_is_err_and}
 use Rattle.toml.specs.View.{view}
 use Rattle.someip_world_setup_parts.specs.Keys.{integer_at, within}
 use Rattle.someip_world_setup_parts.proofs.AskingLemmas.{number_then, tells_none}
-use Rattle.someip_world_setup_parts.proofs.numbers.id_at.Goals as goal
+use Rattle.someip_world_setup_parts.proofs.key_numbers.id_at.Goals as goal
 
 pub returns-in_err-integer : goal.returns-in_err-integer
 returns-in_err-integer c =
