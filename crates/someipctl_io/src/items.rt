@@ -19,35 +19,51 @@ use std::io::Write;
 /// The bytes of a header, which stand in front of a payload.
 const HEADER_LEN: usize = 16;
 
-/// Prints the lines of an item that begins at a place of the k-th datagram: a message, and after it
-/// what is told of its value, what its TP header says where it is a segment, or what its payload says
-/// where it is one of Service Discovery; or the fault that ends the datagram. Says whether a fault is
-/// among them, of which `value` is none.
+/// An item of a datagram, with what was read of it.
+#[derive(Clone, Copy)]
+pub struct FoundItem<'i> {
+    /// The number of the datagram.
+    pub k: usize,
+    /// Where the item begins in it.
+    pub place: usize,
+    /// The item.
+    pub item: &'i Result<Message<'i>, WireError>,
+    /// What its payload says, where it is a message of Service Discovery.
+    pub found: Option<&'i Result<SdRead, SdError>>,
+}
+
+/// Prints the lines of an item: a message, and after it what is told of its value, what its TP header
+/// says where it is a segment, or what its payload says where it is one of Service Discovery; or the
+/// fault that ends the datagram. Says whether a fault is among them, of which `value` is none.
 pub fn put_item<W: Write>(
     buffer: &mut Buffer,
     writer: &mut W,
-    k: usize,
-    place: usize,
-    item: &Result<Message<'_>, WireError>,
+    shown: &FoundItem<'_>,
     value: &[u8],
-    found: Option<&Result<SdRead, SdError>>,
 ) -> Result<bool, CannotWrite>
-    requires found { view_found found ≡ discovery_in (view_item item.now) }
-    requires room { place + item_len (view_item item.now) ≤ usize.MAX }
-    ensures ok { OnOk result (Sends (W.contents writer.old) buffer.old
-        (W.contents writer.new) buffer.new (item_lines k place value.now (view_item item.now))) }
-    ensures faulty { IfOk result (λ faulty. faulty ≡ is_faulty (view_item item.now)) }
-    ensures err { OnErr result (Stops (W.contents writer.old) buffer.old
-        (W.contents writer.new) (item_lines k place value.now (view_item item.now))) }
+    requires found { view_found shown.now.found ≡ discovery_in (view_item shown.now.item.now) }
+    requires room { shown.now.place + item_len (view_item shown.now.item.now) ≤ usize.MAX }
+    ensures ok { OnOk result (Sends (W.contents writer.old) buffer.old (W.contents writer.new) buffer.new
+        (item_lines shown.now.k shown.now.place value.now (view_item shown.now.item.now))) }
+    ensures faulty { IfOk result (λ faulty. faulty ≡ is_faulty (view_item shown.now.item.now)) }
+    ensures err { OnErr result (Stops (W.contents writer.old) buffer.old (W.contents writer.new)
+        (item_lines shown.now.k shown.now.place value.now (view_item shown.now.item.now))) }
 {
-    match item {
+    match shown.item {
         Ok(message) => {
-            put_message_line(buffer, writer, k, message)?;
+            put_message_line(buffer, writer, shown.k, message)?;
             buffer.put(writer, value)?;
-            put_behind(buffer, writer, k, place + HEADER_LEN, message, found)
+            put_behind(
+                buffer,
+                writer,
+                shown.k,
+                shown.place + HEADER_LEN,
+                message,
+                shown.found,
+            )
         }
         Err(fault) => {
-            put_fault(buffer, writer, k, fault.name(), fault.place())?;
+            put_fault(buffer, writer, shown.k, fault.name(), fault.place())?;
             Ok(true)
         }
     }

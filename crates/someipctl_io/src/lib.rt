@@ -7,7 +7,7 @@
 //! - [`Buffer`], [`write_text`]: text on its way out;
 //! - [`Part`], [`put_parts`]: the parts of a line;
 //! - [`Word`], [`put_words`], [`put_end`]: the words of a line;
-//! - [`put_item`], [`put_empty`]: the lines of what a datagram holds;
+//! - [`put_item`], [`put_empty`]: the lines of what a datagram holds, of a [`FoundItem`] each;
 //! - [`put_whole_line`], [`put_dropped`]: the lines of segments that are put together.
 //!
 //! The lines of messages and segments stand in `lines`, those of Service Discovery in `discovery`,
@@ -25,7 +25,7 @@ mod parts;
 mod words;
 
 pub use input::{ReadFault, read_all};
-pub use items::{item_len, put_item};
+pub use items::{FoundItem, item_len, put_item};
 pub use lines::{put_dropped, put_empty, put_whole_line};
 pub use outcome::Outcome;
 pub use output::{Buffer, CannotWrite, write_text};

@@ -15,7 +15,7 @@ use crate::heads::put_with_heads;
 use recording::Datagram;
 use someip_reassembly::Reassembly;
 use someip_wire::{Message, Messages, WireError};
-use someipctl_io::{Buffer, item_len, put_dropped, put_empty, put_whole_line};
+use someipctl_io::{Buffer, FoundItem, item_len, put_dropped, put_empty, put_whole_line};
 use someipctl_show::PrintFault;
 use someipctl_show::readings::reading_of;
 use someipctl_show::value_lines::{ValueLines, put_valued_item};
@@ -205,15 +205,13 @@ fn put_recorded_item<S: Reassembly + Drop, W: Write>(
         item,
         &mut telling.bytes,
     )?;
-    let is_item_faulty = put_valued_item(
-        buffer,
-        writer,
-        shown.k,
+    let found_item = FoundItem {
+        k: shown.k,
         place,
         item,
-        found.as_ref(),
-        &mut telling.values,
-    )?;
+        found: found.as_ref(),
+    };
+    let is_item_faulty = put_valued_item(buffer, writer, &found_item, &mut telling.values)?;
     let is_whole_faulty = put_told(
         buffer,
         writer,

@@ -19,7 +19,7 @@ use crate::services::{AskedService, is_asked_by};
 use crate::value_lines::{ValueLines, put_valued_item};
 use sd_wire::{SdError, SdRead};
 use someip_wire::Messages;
-use someipctl_io::{Buffer, Outcome, ReadFault, item_len, put_empty, read_all};
+use someipctl_io::{Buffer, FoundItem, Outcome, ReadFault, item_len, put_empty, read_all};
 use someipctl_types::MessageTypes;
 use std::alloc::{AllocError, Global};
 use std::io::{Read, Write};
@@ -218,7 +218,13 @@ fn put_items<W: Write>(
     let mut place = 0;
     for item in Messages::new(datagram) {
         let found = next_reading(&item, left);
-        faulty |= put_valued_item(buffer, writer, k, place, &item, found, values)?;
+        let shown = FoundItem {
+            k,
+            place,
+            item: &item,
+            found,
+        };
+        faulty |= put_valued_item(buffer, writer, &shown, values)?;
         place += item_len(&item);
     }
     Ok(faulty)

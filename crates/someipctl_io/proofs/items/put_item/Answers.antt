@@ -8,8 +8,8 @@ use Rattle.someipctl_io.proofs.items.put_item.Goals as goal
 
 pub put_behind-requires : goal.put_behind-requires
 put_behind-requires g c =
-    let same : view_found c.args.found ≡ discovery_in (Ok (view c.in-Ok.message)) = c.requires.found ∙ ap (λ i. discovery_in (view_item i)) c.in-Ok.is in
-    room_for (view c.in-Ok.message) c.args.place _ (view_found c.args.found) same (rw c.in-Ok.is at c.requires.room)
+    let same : view_found c.args.shown.now.found ≡ discovery_in (Ok (view c.in-Ok.message)) = c.requires.found ∙ ap (λ i. discovery_in (view_item i)) c.in-Ok.is in
+    room_for (view c.in-Ok.message) c.args.shown.now.place _ (view_found c.args.shown.now.found) same (rw c.in-Ok.is at c.requires.room)
 
 pub returns-in_err-put_message_line-in-Ok-clause-err : goal.returns-in_err-put_message_line-in-Ok-clause-err
 returns-in_err-put_message_line-in-Ok-clause-err g c =
@@ -21,10 +21,10 @@ returns-in_err-put-in-Ok-clause-err g c =
 
 pub returns-in_ok-put-in-Ok-clause-ok : goal.returns-in_ok-put-in-Ok-clause-ok
 returns-in_ok-put-in-Ok-clause-ok g c =
-    let same : view_found c.args.found ≡ discovery_in (Ok (view c.in-Ok.message)) = c.requires.found ∙ ap (λ i. discovery_in (view_item i)) c.in-Ok.is in
+    let same : view_found c.args.shown.now.found ≡ discovery_in (Ok (view c.in-Ok.message)) = c.requires.found ∙ ap (λ i. discovery_in (view_item i)) c.in-Ok.is in
     rw c.in-Ok.is (on_ok_weaker c.put_behind.result (λ s. Sends-trans _ _ _ _ _ _ _ _ c.in_ok-put_message_line-in-Ok.ensures.ok (Sends-trans _ _ _ _ _ _ _ _ c.in_ok-put-in-Ok.ensures.ok s)) (rw same at c.put_behind.ensures.ok))
 
 pub returns-in_ok-put-in-Ok-clause-err : goal.returns-in_ok-put-in-Ok-clause-err
 returns-in_ok-put-in-Ok-clause-err g c =
-    let same : view_found c.args.found ≡ discovery_in (Ok (view c.in-Ok.message)) = c.requires.found ∙ ap (λ i. discovery_in (view_item i)) c.in-Ok.is in
+    let same : view_found c.args.shown.now.found ≡ discovery_in (Ok (view c.in-Ok.message)) = c.requires.found ∙ ap (λ i. discovery_in (view_item i)) c.in-Ok.is in
     rw c.in-Ok.is (on_err_weaker c.put_behind.result (λ s. Stops-after _ _ _ _ _ _ _ c.in_ok-put_message_line-in-Ok.ensures.ok (Stops-after _ _ _ _ _ _ _ c.in_ok-put-in-Ok.ensures.ok s)) (rw same at c.put_behind.ensures.err))
