@@ -6,13 +6,13 @@ ghost use Rattle.someipctl_io.specs.Sending.{Sends, Stops};
 ghost use Rattle.someipctl_run.specs.Commands.{IsTraceOf, RanInForm, RanInput, RanInputInForm};
 ghost use Rattle.someipctl_run.specs.Commands.{RefusesInputRun, RefusesInputRunInForm, RefusesRunInForm};
 ghost use Rattle.someipctl_run.specs.Commands.{RefusesTrace};
-ghost use Rattle.someipctl_run.specs.Traces.{marked_trace, pointed};
+ghost use Rattle.someipctl_run.specs.FormedTraces.{trace_in_form};
 
 use crate::error::RunFault;
-use crate::form::TraceForm;
+use crate::form::{FormedTrace, TraceForm};
 use crate::trace_lines::{put_lines, put_verdict};
 use someip_tp::IntervalPool;
-use someip_world::{Line, Reuse, Setup, SetupNode, Trace, read_numbered_schedule, run};
+use someip_world::{Setup, Trace, read_numbered_schedule, run};
 use someipctl_io::{Buffer, CannotWrite, read_all};
 use std::alloc::Global;
 use std::io::{Read, Write};
@@ -71,14 +71,14 @@ fn run_text<W: Write>(
 {
     let ran = run_of_text(alloc, setup, text)?;
     let mut buffer = Buffer::new(alloc)?;
-    write_trace(
-        &mut buffer,
-        writer,
-        form.shown(&ran.step_lines),
-        setup.nodes(),
-        &ran.trace.lines,
-        ran.trace.verdict,
-    )?;
+    let trace = FormedTrace {
+        form,
+        step_lines: &ran.step_lines,
+        nodes: setup.nodes(),
+        lines: &ran.trace.lines,
+        verdict: ran.trace.verdict,
+    };
+    write_trace(&mut buffer, writer, &trace)?;
     Ok(())
 }
 
@@ -110,39 +110,34 @@ pub(crate) fn run_of_text(
     })
 }
 
-/// Writes lines and the verdict on them through an empty buffer.
+/// Writes a trace through an empty buffer.
 fn write_trace<W: Write>(
     buffer: &mut Buffer,
     writer: &mut W,
-    step_lines: Option<&[usize]>,
-    nodes: &[SetupNode],
-    lines: &[Line],
-    verdict: Reuse,
+    trace: &FormedTrace<'_>,
 ) -> Result<(), CannotWrite>
     requires empty { buffer.old ≡ [] }
     ensures ok { OnOk result (Appends (W.contents writer.old) (W.contents writer.new)
-        (marked_trace (pointed step_lines.entry) nodes.now lines.now verdict)) }
+        (trace_in_form trace.now)) }
     ensures err { OnErr result (Stops (W.contents writer.old) [] (W.contents writer.new)
-        (marked_trace (pointed step_lines.entry) nodes.now lines.now verdict)) }
+        (trace_in_form trace.now)) }
 {
-    put_trace(buffer, writer, step_lines, nodes, lines, verdict)?;
+    put_trace(buffer, writer, trace)?;
     buffer.flush(writer)
 }
 
-/// Prints lines and the verdict on them.
+/// Prints a trace.
 fn put_trace<W: Write>(
     buffer: &mut Buffer,
     writer: &mut W,
-    step_lines: Option<&[usize]>,
-    nodes: &[SetupNode],
-    lines: &[Line],
-    verdict: Reuse,
+    trace: &FormedTrace<'_>,
 ) -> Result<(), CannotWrite>
     ensures ok { OnOk result (Sends (W.contents writer.old) buffer.old (W.contents writer.new) buffer.new
-        (marked_trace (pointed step_lines.entry) nodes.now lines.now verdict)) }
+        (trace_in_form trace.now)) }
     ensures err { OnErr result (Stops (W.contents writer.old) buffer.old (W.contents writer.new)
-        (marked_trace (pointed step_lines.entry) nodes.now lines.now verdict)) }
+        (trace_in_form trace.now)) }
 {
-    put_lines(buffer, writer, step_lines, nodes, lines)?;
-    put_verdict(buffer, writer, step_lines, verdict)
+    let step_lines = trace.form.shown(trace.step_lines);
+    put_lines(buffer, writer, step_lines, trace.nodes, trace.lines)?;
+    put_verdict(buffer, writer, step_lines, trace.verdict)
 }
