@@ -1,7 +1,7 @@
 //! Captures and payloads, of which no command line shows all.
 use crate::showing::show_all;
 use crate::slow::{Limits, NEVER, SlowWriter, UNLIMITED};
-use someipctl_inputs::Outcome;
+use someipctl_io::Outcome;
 use someipctl_show::payload::{PayloadRefusal, payload};
 use someipctl_show::read_capture;
 use someipctl_show::show::ShowError;

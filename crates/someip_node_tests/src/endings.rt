@@ -2,7 +2,7 @@
 //! takes the prover far longer.
 use crate::printed::is_printed;
 use someipctl_cli::Failure;
-use someipctl_inputs::Outcome;
+use someipctl_io::Outcome;
 use std::alloc::Global;
 
 /// Whether this is the text of a failure, where one is named.

@@ -5,7 +5,7 @@ use crate::slow::{Limits, NEVER, SlowReader, SlowWriter};
 use rows::{Command, End, READINGS, RUNS, Row};
 use someip_world::Setup;
 use someipctl_cli::Failure;
-use someipctl_inputs::Outcome;
+use someipctl_io::Outcome;
 use someipctl_run::{
     TraceForm, compare_schedule, read_expected, read_setup, run_schedule, run_schedule_in_form,
 };

@@ -3,7 +3,7 @@
 use crate::printed::is_printed;
 use crate::showing::show_endpoints;
 use crate::slow::{Limits, SlowReader, SlowWriter, UNLIMITED};
-use someipctl_inputs::Outcome;
+use someipctl_io::Outcome;
 use someipctl_recordings::{LeftOut, RecordingFault};
 use std::alloc::Global;
 use std::io::ErrorKind;

@@ -1,6 +1,6 @@
 //! Commands that show datagrams, without what their options add.
 use someip_tp::IntervalPool;
-use someipctl_inputs::Outcome;
+use someipctl_io::Outcome;
 use someipctl_recordings::{Asked, RecordingFault, ShownRecording, show_recording};
 use someipctl_show::show::{ShowError, show};
 use someipctl_types::MessageTypes;

@@ -1,6 +1,6 @@
 //! A capture of which no service is asked for: no text that names services says so.
 use crate::slow::{SlowWriter, UNLIMITED};
-use someipctl_inputs::Outcome;
+use someipctl_io::Outcome;
 use someipctl_show::show::show;
 use someipctl_types::MessageTypes;
 use std::alloc::Global;

@@ -2,7 +2,7 @@
 //! run tells what each of them gives.
 //!
 //! - [`Setup::read`]: the setup of a network, read from TOML;
-//! - [`read_schedule`]: the steps of a schedule;
+//! - [`read_schedule`]: the steps of a schedule; [`read_numbered_schedule`]: the same with their lines;
 //! - [`run`]: the trace of a schedule over the nodes of a setup, as [`Line`]s, and the verdict on it,
 //!   whether it reused the keys of its exchanges cleanly: [`Reuse`].
 //!
@@ -17,10 +17,11 @@ mod telling;
 mod world_run;
 
 pub use someip_world_rules::{
-    Line, Reuse, RunError, StepFault, Told, Trace, example_laws, liar_laws, numbers, run_laws,
+    Line, Reuse, RunError, StepFault, Told, Trace, example_laws, liar_laws, number_laws, run_laws,
 };
 pub use someip_world_schedule::{
-    MethodId, NodeName, ScheduleError, SourcePort, Step, StepPayload, read_schedule,
+    MethodId, NodeName, NumberedSteps, ScheduleError, SourcePort, Step, StepPayload,
+    read_numbered_schedule, read_schedule,
 };
 pub use someip_world_setup::{Setup, SetupError, SetupNode};
 pub use world_run::run;

@@ -6,7 +6,7 @@
 //! - [`place_of`]: the node of a name;
 //! - [`run_laws`]: what holds of every run, whatever its setup and schedule;
 //! - [`liar_laws`]: what liars do in it, and what they can't;
-//! - [`numbers`]: that the numbers of setups and steps fit their fields;
+//! - [`number_laws`]: that the numbers of setups and steps fit their fields;
 //! - [`example_laws`]: a worked run.
 #![tactic(auto)]
 
@@ -15,7 +15,7 @@ pub mod example_laws;
 pub mod liar_laws;
 mod line;
 mod nodes;
-pub mod numbers;
+pub mod number_laws;
 mod reuse;
 pub mod run_laws;
 mod step_fault;

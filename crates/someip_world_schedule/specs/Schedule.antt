@@ -1,5 +1,5 @@
 -- What the lines of a schedule say.
-use Rattle.std.specs.Prelude.{ℕ, ◌≡◌, Bool, not, ◌&&◌, ◌==◌, true, false, List, [], ◌∷◌, filter, map, Option, Some, None, is_none, Result, Ok, Err}
+use Rattle.std.specs.Prelude.{ℕ, ◌≡◌, ◌+◌, Bool, if◌then◌else◌, not, ◌&&◌, ◌==◌, true, false, List, [], ◌∷◌, filter, map, Option, Some, None, is_none, Result, Ok, Err}
 use Rattle.std.specs.List.{slice_split, position_from}
 use Rattle.std.specs.Str.{is_utf8}
 use Rattle.someip_world_schedule.specs.declared.error.ScheduleError.{ScheduleError}
@@ -40,6 +40,15 @@ IsFoundOf line (Err faults.OutOfMemory) = is_skipped line ≡ false
 -- what the lines spell that are read, in order
 abbrev pub steps_of : List ℕ → List (Option Step)
 steps_of text = map step_in (filter is_read (lines_of text))
+
+-- the numbers of the lines that are read, where the first line has this number
+abbrev pub numbers_read : ℕ → List (List ℕ) → List ℕ
+numbers_read number [] = []
+numbers_read number (line ∷ lines) = if is_read line then number ∷ numbers_read (number + 1) lines else numbers_read (number + 1) lines
+
+-- the numbers of the lines on which the steps of a schedule stand, in order. Lines count from 1, skipped ones too
+abbrev pub lines_of_steps : List ℕ → List ℕ
+lines_of_steps text = numbers_read 1 (lines_of text)
 
 -- the number of the first bad line. Lines count from 1, skipped ones too
 abbrev pub first_bad : List ℕ → Option ℕ

@@ -21,12 +21,21 @@ ghost use Rattle.std.specs.Prelude.{◌≡◌, ◌==◌, Some, None, IfErr, IfOk
 ghost use Rattle.std.specs.Prelude.{IsOk, [], map, true, false};
 ghost use Rattle.std.specs.Str.{is_utf8};
 ghost use Rattle.someip_world_schedule.specs.Schedule.{IsFoundOf, RefusesSchedule, first_bad, is_left_out};
-ghost use Rattle.someip_world_schedule.specs.Schedule.{steps_of};
+ghost use Rattle.someip_world_schedule.specs.Schedule.{lines_of_steps, steps_of};
 
 use crate::error::ScheduleError;
 use someip_world_steps::{Step, WordFault, step_of_line};
 use std::alloc::Global;
 use std::str;
+
+/// The steps of a schedule, and the lines on which they stand.
+#[derive(Drop)]
+pub struct NumberedSteps {
+    /// The steps, in order.
+    pub steps: Vec<Step>,
+    /// The number of the line of each. Lines count from 1, skipped ones too.
+    pub lines: Vec<usize>,
+}
 
 /// Reads a schedule: the steps of its lines, in order. Lines count from 1, skipped ones too.
 ///
@@ -42,7 +51,20 @@ pub fn read_schedule(alloc: Global, text: &[u8]) -> Result<Vec<Step>, ScheduleEr
     // A text with no line to read needs no memory.
     ensures idle { steps_of text.now ≡ [] → IsOk result }
 {
+    let read = read_numbered_schedule(alloc, text)?;
+    Ok(read.steps)
+}
+
+/// The same, with the number of the line on which each step stands.
+pub fn read_numbered_schedule(alloc: Global, text: &[u8]) -> Result<NumberedSteps, ScheduleError>
+    ensures found { IfOk result (λ read. map (λ s. Some s) read.steps.items ≡ steps_of text.now) }
+    ensures lines { IfOk result (λ read. read.lines.items ≡ lines_of_steps text.now) }
+    ensures only { OnOk result (first_bad text.now ≡ None) }
+    ensures fault { IfErr result (RefusesSchedule text.now) }
+    ensures idle { steps_of text.now ≡ [] → IsOk result }
+{
     let mut steps = Vec::new(alloc);
+    let mut lines = Vec::new(alloc);
     for (i, line) in text.split(|b| *b == b'\n').enumerate() {
         let step = match step_of(alloc, line) {
             Ok(Some(step)) => step,
@@ -51,8 +73,9 @@ pub fn read_schedule(alloc: Global, text: &[u8]) -> Result<Vec<Step>, ScheduleEr
             Err(WordFault::OutOfMemory) => return Err(ScheduleError::OutOfMemory),
         };
         steps.push(step)?;
+        lines.push(i + 1)?;
     }
-    Ok(steps)
+    Ok(NumberedSteps { steps, lines })
 }
 
 /// The step that a line spells, if it is not skipped.

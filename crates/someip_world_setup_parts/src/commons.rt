@@ -8,7 +8,7 @@ ghost use Rattle.someip_world_setup_parts.specs.Values.{phases_view, common_view
 
 use crate::addresses::address_at;
 use crate::error::SetupError;
-use crate::numbers::{byte, count_or, integer_or, time_or, word_or};
+use crate::key_numbers::{byte, count_or, integer_or, time_or, word_or};
 use sd_core::Phases;
 use someip_node_rules::Common;
 use toml::Value;

@@ -5,7 +5,7 @@ ghost use Rattle.someip_world_setup_parts.specs.Keys.{IsAsFound};
 ghost use Rattle.someip_world_setup_parts.specs.Lists.{id_of, ids_of};
 
 use crate::error::SetupError;
-use crate::numbers::short;
+use crate::key_numbers::short;
 use std::alloc::Global;
 use toml::Value;
 

@@ -7,8 +7,8 @@ ghost use Rattle.someip_world_setup_parts.specs.Says.{methods_at, groups_at, eve
 ghost use Rattle.someip_world_setup_parts.specs.Values.{listed_view, offer_view};
 
 use crate::error::SetupError;
+use crate::key_numbers::{count_or, id_at, integer, major_at, port_at, short, ttl_at, word_or};
 use crate::lists::ids;
-use crate::numbers::{count_or, id_at, integer, major_at, port_at, short, ttl_at, word_or};
 use crate::parts::{Listed, OfferParts};
 use crate::tables::{integers_at, integers_or_none, tables_or_none};
 use sd_core::InstanceId;

@@ -7,8 +7,8 @@ ghost use Rattle.someip_world_setup_parts.specs.Says.{group_events, said_eventgr
 ghost use Rattle.someip_world_setup_parts.specs.Values.{listed_view, want_view};
 
 use crate::error::SetupError;
+use crate::key_numbers::{id_at, major_at, ttl_at};
 use crate::lists::ids;
-use crate::numbers::{id_at, major_at, ttl_at};
 use crate::parts::{Listed, WantParts};
 use crate::tables::{integers_at, tables_or_none};
 use sd_core::InstanceId;

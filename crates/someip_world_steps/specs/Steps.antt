@@ -2,6 +2,7 @@
 use Rattle.std.specs.Prelude.{ℕ, ◌≡◌, ◌^◌, ◌==◌, false, if◌then◌else◌, List, [], ◌∷◌, ◌++◌, codes, bytes_eq, Option, Some, None}
 use Rattle.std.specs.List.{find, list_any, slice_split}
 use Rattle.std.specs.Str.{is_utf8}
+use Rattle.sd_instances.specs.declared.eventgroup.Eventgroup.{Eventgroup}
 use Rattle.someip_rpc.specs.declared.call.CallKind.{CallKind}
 use Rattle.someip_rpc.specs.declared.call.CallKind.TheVariants as kinds
 use Rattle.someip_rpc.specs.declared.request.Reply.{Reply}
@@ -11,8 +12,10 @@ use Rattle.someip_world_steps.specs.declared.step.Step.{Step}
 use Rattle.someip_world_steps.specs.declared.step.Step.TheVariants.{Tick, Deliver, Call, Answer, Publish, PublishTo, Subscribe, Unsubscribe, StopOffer, Restart, Inject}
 use Rattle.someip_world_steps.specs.declared.step_reading.AnswerKind.{AnswerKind}
 use Rattle.someip_world_steps.specs.declared.step_reading.AnswerKind.TheVariants as answers
-use Rattle.someip_world_steps.specs.declared.step_command.Command.{Command}
-use Rattle.someip_world_steps.specs.declared.step_command.Command.TheVariants as commands
+use Rattle.someip_world_steps.specs.declared.step_reading.SubscriptionKind.{SubscriptionKind}
+use Rattle.someip_world_steps.specs.declared.step_reading.SubscriptionKind.TheVariants as subscriptions
+use Rattle.someip_world_steps.specs.declared.step_kind.StepKind.{StepKind}
+use Rattle.someip_world_steps.specs.declared.step_kind.StepKind.TheVariants as steps
 use Rattle.someip_world_steps.specs.StepWords.{◌>>=◌, number_in, source_port_in, id_in, method_in, code_in, name_in, instance_in, eventgroup_in, endpoint_in, payload_in}
 
 -- the words of a line: what stands between spaces. Between two spaces, and at an end with a space, stands an empty word,
@@ -30,31 +33,31 @@ joined_by_blanks [] = []
 joined_by_blanks (word ∷ []) = word
 joined_by_blanks (word ∷ next ∷ others) = word ++ 0x20 ∷ joined_by_blanks (next ∷ others)
 
--- the word that asks for each command
-abbrev pub command_word : Command → List ℕ
-command_word commands.Tick = codes "tick"
-command_word commands.Deliver = codes "deliver"
-command_word commands.Call = codes "call"
-command_word commands.Oneway = codes "oneway"
-command_word commands.Answer = codes "answer"
-command_word commands.Error = codes "error"
-command_word commands.Publish = codes "publish"
-command_word commands.PublishTo = codes "publish_to"
-command_word commands.Subscribe = codes "subscribe"
-command_word commands.Unsubscribe = codes "unsubscribe"
-command_word commands.StopOffer = codes "stop_offer"
-command_word commands.Restart = codes "restart"
-command_word commands.Inject = codes "inject"
+-- the first word of the line of each kind of step
+abbrev pub step_word : StepKind → List ℕ
+step_word steps.Tick = codes "tick"
+step_word steps.Deliver = codes "deliver"
+step_word steps.Call = codes "call"
+step_word steps.Oneway = codes "oneway"
+step_word steps.Answer = codes "answer"
+step_word steps.Error = codes "error"
+step_word steps.Publish = codes "publish"
+step_word steps.PublishTo = codes "publish_to"
+step_word steps.Subscribe = codes "subscribe"
+step_word steps.Unsubscribe = codes "unsubscribe"
+step_word steps.StopOffer = codes "stop_offer"
+step_word steps.Restart = codes "restart"
+step_word steps.Inject = codes "inject"
 
--- all commands
-abbrev pub known_commands : List Command
-known_commands =
-    commands.Tick ∷ commands.Deliver ∷ commands.Call ∷ commands.Oneway ∷ commands.Answer ∷ commands.Error ∷ commands.Publish
-    ∷ commands.PublishTo ∷ commands.Subscribe ∷ commands.Unsubscribe ∷ commands.StopOffer ∷ commands.Restart ∷ commands.Inject ∷ []
+-- all kinds of steps
+abbrev pub step_kinds : List StepKind
+step_kinds =
+    steps.Tick ∷ steps.Deliver ∷ steps.Call ∷ steps.Oneway ∷ steps.Answer ∷ steps.Error ∷ steps.Publish
+    ∷ steps.PublishTo ∷ steps.Subscribe ∷ steps.Unsubscribe ∷ steps.StopOffer ∷ steps.Restart ∷ steps.Inject ∷ []
 
--- what the first word asks for
-abbrev pub command_in : List ℕ → Option Command
-command_in word = find (λ command. bytes_eq word (command_word command)) known_commands
+-- the kind of the step that a line with this first word spells
+abbrev pub step_kind_in : List ℕ → Option StepKind
+step_kind_in word = find (λ kind. bytes_eq word (step_word kind)) step_kinds
 
 -- NODE MS
 abbrev pub tick_step : List (List ℕ) → Option Step
@@ -122,20 +125,22 @@ publish_to_step (node ∷ instance ∷ group ∷ endpoint ∷ event ∷ payload 
   Some (PublishTo node eventgroup to event payload)
 publish_to_step words = None
 
--- NODE SI GROUP
-abbrev pub subscribe_step : List (List ℕ) → Option Step
-subscribe_step (node ∷ instance ∷ group ∷ []) = do
-  node ← name_in node
-  eventgroup ← eventgroup_in instance group
-  Some (Subscribe node eventgroup)
-subscribe_step words = None
+-- what becomes of a subscription
+abbrev pub Subscription : Type 0
+Subscription = List ℕ → Eventgroup → Step
 
-abbrev pub unsubscribe_step : List (List ℕ) → Option Step
-unsubscribe_step (node ∷ instance ∷ group ∷ []) = do
+-- it begins or ends
+abbrev pub subscription : SubscriptionKind → Subscription
+subscription subscriptions.Begun = Subscribe
+subscription subscriptions.Ended = Unsubscribe
+
+-- NODE SI GROUP
+abbrev pub subscription_step : Subscription → List (List ℕ) → Option Step
+subscription_step step (node ∷ instance ∷ group ∷ []) = do
   node ← name_in node
   eventgroup ← eventgroup_in instance group
-  Some (Unsubscribe node eventgroup)
-unsubscribe_step words = None
+  Some (step node eventgroup)
+subscription_step step words = None
 
 -- NODE SI
 abbrev pub stop_offer_step : List (List ℕ) → Option Step
@@ -163,28 +168,28 @@ inject_step (node ∷ port ∷ to ∷ payload ∷ []) = do
   Some (Inject node port to payload)
 inject_step words = None
 
--- the step of a command with these words after it
-abbrev pub commanded : Command → List (List ℕ) → Option Step
-commanded commands.Tick words = tick_step words
-commanded commands.Deliver words = deliver_step words
-commanded commands.Call words = call_step kinds.Request words
-commanded commands.Oneway words = call_step kinds.RequestNoReturn words
-commanded commands.Answer words = answer_step replies.Response words
-commanded commands.Error words = answer_step replies.Error words
-commanded commands.Publish words = publish_step words
-commanded commands.PublishTo words = publish_to_step words
-commanded commands.Subscribe words = subscribe_step words
-commanded commands.Unsubscribe words = unsubscribe_step words
-commanded commands.StopOffer words = stop_offer_step words
-commanded commands.Restart words = restart_step words
-commanded commands.Inject words = inject_step words
+-- the step of a kind, with these words after the first
+abbrev pub step_of_kind : StepKind → List (List ℕ) → Option Step
+step_of_kind steps.Tick words = tick_step words
+step_of_kind steps.Deliver words = deliver_step words
+step_of_kind steps.Call words = call_step kinds.Request words
+step_of_kind steps.Oneway words = call_step kinds.RequestNoReturn words
+step_of_kind steps.Answer words = answer_step replies.Response words
+step_of_kind steps.Error words = answer_step replies.Error words
+step_of_kind steps.Publish words = publish_step words
+step_of_kind steps.PublishTo words = publish_to_step words
+step_of_kind steps.Subscribe words = subscription_step Subscribe words
+step_of_kind steps.Unsubscribe words = subscription_step Unsubscribe words
+step_of_kind steps.StopOffer words = stop_offer_step words
+step_of_kind steps.Restart words = restart_step words
+step_of_kind steps.Inject words = inject_step words
 
 -- the step that words spell, and none if they spell none
 abbrev pub step_of_words : List (List ℕ) → Option Step
 step_of_words [] = None
 step_of_words (word ∷ others) = do
-  command ← command_in word
-  commanded command others
+  kind ← step_kind_in word
+  step_of_kind kind others
 
 -- the step that a line spells. Only a line of UTF-8 spells one
 abbrev pub step_in : List ℕ → Option Step

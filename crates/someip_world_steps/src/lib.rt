@@ -7,7 +7,7 @@
 #![tactic(auto)]
 
 mod step;
-mod step_command;
+mod step_kind;
 mod step_method;
 mod step_name;
 mod step_payload;

@@ -2,11 +2,11 @@
 ghost use Rattle.std.specs.Prelude.{◌≡◌, map, IfOk};
 ghost use Rattle.someip_world_steps.specs.StepWords.{IsReadOf};
 ghost use Rattle.someip_world_steps.specs.Steps.{words_in, tick_step, deliver_step, call_step, answer_step};
-ghost use Rattle.someip_world_steps.specs.Steps.{publish_step, publish_to_step, subscribe_step, unsubscribe_step};
-ghost use Rattle.someip_world_steps.specs.Steps.{answered, stop_offer_step, restart_step, inject_step, commanded, step_of_words};
+ghost use Rattle.someip_world_steps.specs.Steps.{publish_step, publish_to_step, subscription, subscription_step};
+ghost use Rattle.someip_world_steps.specs.Steps.{answered, stop_offer_step, restart_step, inject_step, step_of_kind, step_of_words};
 
 use crate::step::Step;
-use crate::step_command::{Command, command_of};
+use crate::step_kind::{StepKind, step_kind_of};
 use crate::step_name::name;
 use crate::step_payload::payload;
 use crate::step_port::source_port;
@@ -34,6 +34,13 @@ impl AnswerKind {
     }
 }
 
+/// What becomes of a subscription.
+#[derive(Clone, Copy)]
+enum SubscriptionKind {
+    Begun,
+    Ended,
+}
+
 /// The words of a line.
 fn words_of<'t>(alloc: Global, line: &'t str) -> Result<Vec<&'t str>, AllocError>
     ensures { IfOk result (λ words. map (λ w. w.now) words.items ≡ words_in line.now) }
@@ -56,30 +63,30 @@ fn step_of_words(alloc: Global, words: &[&str]) -> Result<Step, WordFault>
     let [word, others @ ..] = words else {
         return Err(WordFault::Bad);
     };
-    match command_of(word) {
-        Some(command) => step_of(alloc, command, others),
+    match step_kind_of(word) {
+        Some(kind) => step_of(alloc, kind, others),
         None => Err(WordFault::Bad),
     }
 }
 
-/// The step of a command and the words after it.
-fn step_of(alloc: Global, command: Command, words: &[&str]) -> Result<Step, WordFault>
-    ensures { IsReadOf (commanded command (map (λ w. w.now) words.now)) result }
+/// The step of a kind, and of the words after the first.
+fn step_of(alloc: Global, kind: StepKind, words: &[&str]) -> Result<Step, WordFault>
+    ensures { IsReadOf (step_of_kind kind (map (λ w. w.now) words.now)) result }
 {
-    match command {
-        Command::Tick => tick(alloc, words),
-        Command::Deliver => deliver(alloc, words),
-        Command::Call => call(alloc, CallKind::Request, words),
-        Command::Oneway => call(alloc, CallKind::RequestNoReturn, words),
-        Command::Answer => answer(alloc, AnswerKind::Response, words),
-        Command::Error => answer(alloc, AnswerKind::Error, words),
-        Command::Publish => publish(alloc, words),
-        Command::PublishTo => publish_to(alloc, words),
-        Command::Subscribe => subscribe(alloc, words),
-        Command::Unsubscribe => unsubscribe(alloc, words),
-        Command::StopOffer => stop_offer(alloc, words),
-        Command::Restart => restart(alloc, words),
-        Command::Inject => inject(alloc, words),
+    match kind {
+        StepKind::Tick => tick(alloc, words),
+        StepKind::Deliver => deliver(alloc, words),
+        StepKind::Call => call(alloc, CallKind::Request, words),
+        StepKind::Oneway => call(alloc, CallKind::RequestNoReturn, words),
+        StepKind::Answer => answer(alloc, AnswerKind::Response, words),
+        StepKind::Error => answer(alloc, AnswerKind::Error, words),
+        StepKind::Publish => publish(alloc, words),
+        StepKind::PublishTo => publish_to(alloc, words),
+        StepKind::Subscribe => subscription(alloc, SubscriptionKind::Begun, words),
+        StepKind::Unsubscribe => subscription(alloc, SubscriptionKind::Ended, words),
+        StepKind::StopOffer => stop_offer(alloc, words),
+        StepKind::Restart => restart(alloc, words),
+        StepKind::Inject => inject(alloc, words),
     }
 }
 
@@ -186,28 +193,19 @@ fn publish_to(alloc: Global, words: &[&str]) -> Result<Step, WordFault>
     })
 }
 
-/// NODE SI GROUP.
-fn subscribe(alloc: Global, words: &[&str]) -> Result<Step, WordFault>
-    ensures { IsReadOf (subscribe_step (map (λ w. w.now) words.now)) result }
+/// NODE SI GROUP, of a subscription that begins or ends.
+fn subscription(alloc: Global, kind: SubscriptionKind, words: &[&str]) -> Result<Step, WordFault>
+    ensures { IsReadOf (subscription_step (subscription kind) (map (λ w. w.now) words.now)) result }
 {
     let [node, si, group] = words else {
         return Err(WordFault::Bad);
     };
     let node = name(alloc, node)?;
     let eventgroup = eventgroup(si, group).ok_or(WordFault::Bad)?;
-    Ok(Step::Subscribe { node, eventgroup })
-}
-
-/// NODE SI GROUP.
-fn unsubscribe(alloc: Global, words: &[&str]) -> Result<Step, WordFault>
-    ensures { IsReadOf (unsubscribe_step (map (λ w. w.now) words.now)) result }
-{
-    let [node, si, group] = words else {
-        return Err(WordFault::Bad);
-    };
-    let node = name(alloc, node)?;
-    let eventgroup = eventgroup(si, group).ok_or(WordFault::Bad)?;
-    Ok(Step::Unsubscribe { node, eventgroup })
+    match kind {
+        SubscriptionKind::Begun => Ok(Step::Subscribe { node, eventgroup }),
+        SubscriptionKind::Ended => Ok(Step::Unsubscribe { node, eventgroup }),
+    }
 }
 
 /// NODE SI.

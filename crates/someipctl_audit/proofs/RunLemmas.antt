@@ -18,10 +18,10 @@ use Rattle.audit_tables.specs.declared.Origin.{Origin}
 use Rattle.someip_audit.specs.declared.FellDue.{FellDue}
 use Rattle.someip_audit.specs.declared.Finding.{Finding}
 use Rattle.someip_audit.specs.Audits.{AuditState, Hears, Report, Seen, fell, found, seen_messages, seen_shown}
-use Rattle.someipctl_inputs.specs.Inputs.{WasLeft}
-use Rattle.someipctl_inputs.specs.Outcomes.{fault_outcome}
-use Rattle.someipctl_print.specs.Sending.{Sends, Stops}
-use Rattle.someipctl_print.proofs.SendingLemmas.{Sends-all, Sends-flush, Sends-nil, Sends-trans, Stops-after, Stops-flush}
+use Rattle.someipctl_io.specs.Inputs.{WasLeft}
+use Rattle.someipctl_io.specs.Outcomes.{fault_outcome}
+use Rattle.someipctl_io.specs.Sending.{Sends, Stops}
+use Rattle.someipctl_io.proofs.SendingLemmas.{Sends-all, Sends-flush, Sends-nil, Sends-trans, Stops-after, Stops-flush}
 use Rattle.someipctl_recordings.specs.declared.ShownRecording.{ShownRecording}
 use Rattle.someipctl_recordings.specs.Coming.{Comes}
 use Rattle.someipctl_recordings.specs.LeftOut.{counted, left_out_of, nothing_left_out, plus, total}

@@ -10,8 +10,8 @@ use Rattle.someip_audit.specs.declared.FellDue.{FellDue}
 use Rattle.someip_audit.specs.declared.Finding.{Finding}
 use Rattle.someip_audit.specs.FellDues.{after_due}
 use Rattle.someip_audit.specs.Audits.{AuditState, Drains, Hears, IsNext, IsNoneDue, Report, Seen, after_seen, fell, found, seen_messages, seen_shown}
-use Rattle.someipctl_print.specs.Sending.{Sends, Stops}
-use Rattle.someipctl_print.proofs.SendingLemmas.{Sends-nil, Sends-trans, Stops-after}
+use Rattle.someipctl_io.specs.Sending.{Sends, Stops}
+use Rattle.someipctl_io.proofs.SendingLemmas.{Sends-nil, Sends-trans, Stops-after}
 use Rattle.someipctl_audit.specs.declared.tally.Tally.{Tally}
 use Rattle.someipctl_audit.specs.AuditText.{Looked, fell_line, found_line, kind_of}
 use Rattle.someipctl_audit.specs.SeenIn.{DrainsSome, looked_more}

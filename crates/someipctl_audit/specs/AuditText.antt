@@ -11,9 +11,9 @@ use Rattle.someip_audit.specs.declared.FellDue.{FellDue}
 use Rattle.someip_audit.specs.declared.FellDue.TheVariants as due
 use Rattle.someip_audit.specs.FellDues.{deadline}
 use Rattle.someip_audit.specs.Audits.{Report, fell, found}
-use Rattle.someipctl_print.specs.declared.CannotWrite.{CannotWrite}
-use Rattle.someipctl_print.specs.Sending.{Sends, Stops}
-use Rattle.someipctl_print.specs.Words.{spaced}
+use Rattle.someipctl_io.specs.declared.CannotWrite.{CannotWrite}
+use Rattle.someipctl_io.specs.Sending.{Sends, Stops}
+use Rattle.someipctl_io.specs.Words.{spaced}
 use Rattle.someipctl_recordings.specs.RecordedText.{time_text}
 use Rattle.someipctl_audit.specs.declared.kind.Kind.{Kind}
 use Rattle.someipctl_audit.specs.Kinds.{all_kinds, kind_number, kind_words}

@@ -5,9 +5,9 @@ use Rattle.recording.specs.HeldItems.{held_of}
 use Rattle.recording.specs.Packets.{DatagramValue, RecordValue, datagram, other}
 use Rattle.someip_audit.specs.declared.FellDue.{FellDue}
 use Rattle.someip_audit.specs.Audits.{AuditState, Drains, Report, fell}
-use Rattle.someipctl_inputs.specs.Inputs.{WasLeft}
-use Rattle.someipctl_inputs.specs.Outcomes.{fault_outcome}
-use Rattle.someipctl_print.specs.Sending.{Sends, Stops}
+use Rattle.someipctl_io.specs.Inputs.{WasLeft}
+use Rattle.someipctl_io.specs.Outcomes.{fault_outcome}
+use Rattle.someipctl_io.specs.Sending.{Sends, Stops}
 use Rattle.someipctl_recordings.specs.declared.ShownRecording.{ShownRecording}
 use Rattle.someipctl_recordings.specs.LeftOut.{counted, left_out_of}
 use Rattle.someipctl_recordings.specs.Moments.{moment_of}

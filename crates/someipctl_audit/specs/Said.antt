@@ -23,8 +23,8 @@ use Rattle.someip_audit.specs.declared.Finding.{Finding}
 use Rattle.someip_audit.specs.declared.Finding.TheVariants as findings
 use Rattle.someip_audit.specs.declared.FellDue.{FellDue}
 use Rattle.someip_audit.specs.declared.FellDue.TheVariants as due
-use Rattle.someipctl_print.specs.Parts.{hex2, hex4}
-use Rattle.someipctl_print.specs.Words.{ended, ids_text}
+use Rattle.someipctl_io.specs.Parts.{hex2, hex4}
+use Rattle.someipctl_io.specs.Words.{ended, ids_text}
 use Rattle.someipctl_audit.specs.declared.kind.Kind.{Kind}
 use Rattle.someipctl_audit.specs.declared.kind.Kind.TheVariants as kinds
 use Rattle.someipctl_audit.specs.Kinds.{kind_words}

@@ -4,7 +4,7 @@ use Rattle.std.specs.List.{flat_map}
 use Rattle.recording.specs.declared.Time.{Time}
 use Rattle.someip_audit.specs.declared.FellDue.{FellDue}
 use Rattle.someip_audit.specs.Audits.{AuditState, Drains, Hears, Report, Seen, fell, found, seen_messages}
-use Rattle.someipctl_print.specs.Sending.{Sends, Stops}
+use Rattle.someipctl_io.specs.Sending.{Sends, Stops}
 use Rattle.someipctl_audit.specs.declared.tally.Tally.{Tally}
 use Rattle.someipctl_audit.specs.AuditText.{Looked, fell_line, found_line}
 use Rattle.someipctl_audit.specs.SeenIn.{DrainsSome, StopsAt, looked_more}

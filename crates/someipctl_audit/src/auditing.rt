@@ -2,7 +2,7 @@
 ghost use Rattle.std.specs.Prelude.{◌≡◌, OnErr, OnOk, map};
 ghost use Rattle.std.specs.List.{flat_map};
 ghost use Rattle.someip_audit.specs.Audits.{found};
-ghost use Rattle.someipctl_print.specs.Sending.{Sends, Stops};
+ghost use Rattle.someipctl_io.specs.Sending.{Sends, Stops};
 ghost use Rattle.someipctl_audit.specs.AuditText.{found_line};
 ghost use Rattle.someipctl_audit.specs.Scenes.{view_seen};
 ghost use Rattle.someipctl_audit.specs.Steps.{CountsMore, PutsDue, PutsSeen, StopsDue, StopsSeen};
@@ -14,7 +14,7 @@ use recording::Time;
 use someip_audit::{Audit, Finding};
 use someip_reassembly::Reassembly;
 use someip_tables::Moment;
-use someipctl_print::Buffer;
+use someipctl_io::Buffer;
 use someipctl_recordings::RecordingFault;
 use std::alloc::Global;
 use std::io::Write;

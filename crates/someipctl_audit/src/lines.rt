@@ -1,9 +1,9 @@
 //! The lines of findings.
 ghost use Rattle.std.specs.Prelude.{◌≡◌, ◌∷◌, [], OnErr, OnOk, Some, decimal, map};
 ghost use Rattle.std.specs.Net.Text.{socket_v4_text};
-ghost use Rattle.someipctl_print.specs.Sending.{Sends, Stops};
+ghost use Rattle.someipctl_io.specs.Sending.{Sends, Stops};
 ghost use Rattle.someip_audit.specs.FellDues.{deadline};
-ghost use Rattle.someipctl_print.specs.Words.{word_text};
+ghost use Rattle.someipctl_io.specs.Words.{word_text};
 ghost use Rattle.someipctl_audit.specs.AuditText.{Puts, fell_line, found_line, head_text, origin_of_due, time_at};
 ghost use Rattle.someipctl_audit.specs.Said.{said, said_of_due};
 
@@ -12,7 +12,7 @@ use crate::says::{put_fallen, put_finding};
 use audit_tables::Origin;
 use recording::Time;
 use someip_audit::{FellDue, Finding};
-use someipctl_print::{Buffer, CannotWrite, Word, put_words};
+use someipctl_io::{Buffer, CannotWrite, Word, put_words};
 use someipctl_recordings::heads::put_time;
 use std::io::Write;
 

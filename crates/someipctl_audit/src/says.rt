@@ -1,6 +1,6 @@
 //! What the line of a finding says.
 ghost use Rattle.std.specs.Prelude.{◌≡◌, ◌∷◌, codes, decimal, map};
-ghost use Rattle.someipctl_print.specs.Words.{word_text};
+ghost use Rattle.someipctl_io.specs.Words.{word_text};
 ghost use Rattle.someipctl_audit.specs.AuditText.{Puts};
 ghost use Rattle.someipctl_audit.specs.Said.{call_words, fault_words, full, header_words, offer_words, said};
 ghost use Rattle.someipctl_audit.specs.Said.{said_of_call, said_of_due, subscription_words};
@@ -15,7 +15,7 @@ use audit_offers::OfferKey;
 use audit_subscriptions::SubscriptionKey;
 use someip_audit::{FellDue, Finding};
 use someip_wire::Header;
-use someipctl_print::{Buffer, CannotWrite, Word, put_end, put_words};
+use someipctl_io::{Buffer, CannotWrite, Word, put_end, put_words};
 use std::io::Write;
 
 /// Prints what is said of a finding, to the end of its line, and tells its kind.

@@ -2,15 +2,15 @@
 ghost use Rattle.std.specs.Prelude.{◌≡◌, ◌++◌, List, OnErr, OnOk, codes, decimal};
 ghost use Rattle.std.specs.List.{flat_map};
 ghost use Rattle.someip_audit.specs.Audits.{Report};
-ghost use Rattle.someipctl_print.specs.Parts.{part_text};
-ghost use Rattle.someipctl_print.specs.Sending.{Sends, Stops};
+ghost use Rattle.someipctl_io.specs.Parts.{part_text};
+ghost use Rattle.someipctl_io.specs.Sending.{Sends, Stops};
 ghost use Rattle.someipctl_audit.specs.AuditText.{Looked, kind_line, summary_text};
 ghost use Rattle.someipctl_audit.specs.Kinds.{all_kinds, kind_words};
 ghost use Rattle.someipctl_audit.specs.Tallies.{Counts, tally_kinds, tally_line};
 
 use crate::kind::{KIND_COUNT, Kind, kinds};
 use crate::tally::Tally;
-use someipctl_print::{Buffer, CannotWrite, Part, put_parts};
+use someipctl_io::{Buffer, CannotWrite, Part, put_parts};
 use std::io::Write;
 
 /// Prints the summary of what was counted.

@@ -3,8 +3,8 @@ use Rattle.std.specs.Prelude.{◌≡◌, ℕ, List, take, Option, Result, Ok, Er
 use Rattle.std.specs.Io.KnownBytes.{Appends, Keeps}
 use Rattle.someipctl_cli.specs.declared.command.LineError.{LineError}
 use Rattle.someipctl_cli.specs.declared.command.LineError.TheVariants as words
-use Rattle.someipctl_inputs.specs.declared.outcome.Outcome.{Outcome}
-use Rattle.someipctl_inputs.specs.declared.outcome.Outcome.TheVariants.{Done}
+use Rattle.someipctl_io.specs.declared.outcome.Outcome.{Outcome}
+use Rattle.someipctl_io.specs.declared.outcome.Outcome.TheVariants.{Done}
 use Rattle.std.specs.Borrow.{Bor}
 use Rattle.someipctl_cli.specs.declared.failure.Failure.{Failure}
 use Rattle.someipctl_cli.specs.declared.failure.Failure.TheVariants.{BadHex, BadVector, BadScheduleLine, BadSetup, BadExpectedLine, BadStep, BadShape, BadPayloadHex, BadRecording, BadTypes, BadPorts, BadServices, BadLimits, BadTimes, LimitAlone, Usage, NotText, OutOfMemory, CannotRead, CannotWrite}

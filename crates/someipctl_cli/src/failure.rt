@@ -8,7 +8,7 @@ ghost use Rattle.someipctl_cli.specs.Failures.{failure_of_services, failure_of_t
 use recording::RecordingError;
 use someip_world::{SetupError, StepFault};
 use someipctl_audit::TimesError;
-use someipctl_inputs::ReadFault;
+use someipctl_io::ReadFault;
 use someipctl_recordings::ports::PortsError;
 use someipctl_recordings::{LimitsError, RecordingFault};
 use someipctl_run::{ExpectedFault, RunFault, SetupFault, SetupRefusal};
@@ -80,7 +80,7 @@ pub enum Failure<'p> {
     #[error("{} {}", ReadFault::CannotRead, .0)]
     CannotRead(&'p str),
     /// Standard output could not be written.
-    #[error("{}", someipctl_print::CannotWrite)]
+    #[error("{}", someipctl_io::CannotWrite)]
     CannotWrite,
 }
 

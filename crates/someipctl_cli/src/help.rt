@@ -3,8 +3,7 @@ ghost use Rattle.someipctl_cli.specs.Failures.{Answers};
 
 use crate::command::LineError;
 use crate::failure::Failure;
-use someipctl_inputs::Outcome;
-use someipctl_print::{CannotWrite, write_text};
+use someipctl_io::{CannotWrite, Outcome, write_text};
 use std::io::Write;
 
 /// Prints the help that was asked for. Other words without a command are a failure, and nothing is

@@ -11,7 +11,7 @@ use someip_tp::IntervalPool;
 use someip_world::Setup;
 use someipctl_audit::{AuditAsked, rules_in, show_audit};
 use someipctl_chart::chart_schedule;
-use someipctl_inputs::Outcome;
+use someipctl_io::Outcome;
 use someipctl_recordings::ports::ports_in;
 use someipctl_recordings::{Asked, ShownRecording, WholeLimits, limits_in, show_recording};
 use someipctl_run::{TraceForm, compare_schedule, read_expected, read_setup, run_schedule_in_form};

@@ -1,17 +1,15 @@
 -- What comes of a recording, step by step.
-use Rattle.std.proofs.Common.{◌≡◌, ℕ, Bool, true, false, List, [], ◌∷◌, ◌++◌, Option, Some, None, Ok, Err, refl, sym, ap, subst, ◌∙◌, append_assoc}
+use Rattle.std.proofs.Common.{◌≡◌, ℕ, Bool, true, false, List, [], ◌∷◌, ◌++◌, Option, Some, None, Ok, refl, sym, ap, subst, ◌∙◌, append_assoc}
 use Rattle.std.specs.Io.KnownBytes.{Consumes, IsAtEnd}
 use Rattle.std.proofs.lemmas.List.{append-nil}
 use Rattle.recording.specs.declared.RecordingError.{RecordingError}
-use Rattle.recording.specs.declared.RecordingError.TheVariants.{NotRecording, Truncated, BadOrder, BlockLength, UnknownInterface, BlockTooLong, TooManyInterfaces, OutOfMemory}
 use Rattle.recording.specs.declared.Next.TheVariants as next
 use Rattle.recording.specs.declared.stage.Stage.TheVariants.{Head}
 use Rattle.recording.specs.Packets.{RecordValue}
 use Rattle.recording.specs.Records.{Item}
-use Rattle.recording.specs.Steps.{IsLast}
 use Rattle.recording.specs.HeldItems.{held_of}
 use Rattle.recording.specs.Readers.{ReaderValue, CanFollow, IsNext, IsAfterRead, items_by, to_come}
-use Rattle.someipctl_inputs.specs.Inputs.{WasLeft}
+use Rattle.someipctl_io.specs.Inputs.{WasLeft}
 use Rattle.someipctl_recordings.specs.Coming.{Comes, EndsAt, coming_items}
 use Rattle.someipctl_recordings.specs.declared.coming.Coming.{Coming}
 use Rattle.someipctl_recordings.specs.declared.coming.Coming.TheVariants.{Record}
@@ -77,30 +75,6 @@ quiet b c known items whole came = record {
 
 pub comes_unread : (b c : ReaderValue) (known : Option (List ℕ)) → IsNext b c next.Unread → c.is_whole ≡ b.is_whole → Comes b c known known []
 comes_unread b c known is whole = quiet b c known [] whole (λ rest f. is.2 rest)
-
-pub comes_record : (b c : ReaderValue) (known : Option (List ℕ)) → IsNext b c next.Record → c.is_whole ≡ b.is_whole → Comes b c known known (coming_items Record c.current)
-comes_record b c known is whole =
-    subst (λ (items : List Item). Comes b c known known items) (sym (ap (coming_items Record) is.1)) (quiet b c known (Ok is.0 ∷ []) whole (λ rest f. is.3 rest (rw whole at f)))
-
-pub comes_end : (b c : ReaderValue) (known : Option (List ℕ)) → IsNext b c next.End → c.is_whole ≡ b.is_whole → Comes b c known known []
-comes_end b c known is whole = quiet b c known [] whole (λ rest f.
-    let n = is.0 rest (rw whole at f) in
-    n.0 ∙ sym n.1)
-
-last_is : (e : RecordingError) (items : List Item) → (e ≡ OutOfMemory → ⊥) → IsLast e items → items ≡ Err e ∷ []
-last_is OutOfMemory items not is = absurd (not refl)
-last_is (NotRecording p) items not is = is
-last_is (Truncated p) items not is = is
-last_is (BadOrder p) items not is = is
-last_is (BlockLength p) items not is = is
-last_is (UnknownInterface p) items not is = is
-last_is (BlockTooLong p) items not is = is
-last_is (TooManyInterfaces p) items not is = is
-
-pub comes_fault : (b c : ReaderValue) (known : Option (List ℕ)) (e : RecordingError) → (e ≡ OutOfMemory → ⊥) → ((rest : List ℕ) → CanFollow b.is_whole rest → IsLast e (to_come b rest))
-    → ((rest : List ℕ) → to_come c rest ≡ []) → c.is_whole ≡ b.is_whole → Comes b c known known (Err e ∷ [])
-comes_fault b c known e not last none whole = quiet b c known (Err e ∷ []) whole (λ rest f.
-    last_is e (to_come b rest) not (last rest (rw whole at f)) ∙ ap (λ (l : List Item). Err e ∷ l) (sym (none rest)))
 
 follows_read : (before after : Bool) (bytes rest : List ℕ) → (before ≡ true → (after ≡ true) × (bytes ≡ [])) → CanFollow after rest → CanFollow before (bytes ++ rest)
 follows_read false after bytes rest whole f = tt

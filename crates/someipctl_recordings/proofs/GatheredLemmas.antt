@@ -27,11 +27,3 @@ pub fault_more : (c : Scene) (store : Option StoreValue) (so_far all : Bool) (it
     → (so_far || has_fault_with c store items) ≡ all → ((so_far || records_fault c store item) || has_fault_with c (store_after store c.now c.datagram item) rest) ≡ all
 fault_more c store so_far all items rest item is h =
     or_assoc so_far (records_fault c store item) (has_fault_with c (store_after store c.now c.datagram item) rest) ∙ ap (λ l. so_far || has_fault_with c store l) (sym is) ∙ h
-
-or_false : (b : Bool) → (b || false) ≡ b
-or_false true = refl
-or_false false = refl
-
--- the same of all, where none is left
-pub fault_end : (c : Scene) (store : Option StoreValue) (so_far all : Bool) (items : List (Result MessageValue WireError)) → items ≡ [] → (so_far || has_fault_with c store items) ≡ all → so_far ≡ all
-fault_end c store so_far all items none h = sym (or_false so_far) ∙ ap (λ l. so_far || has_fault_with c store l) (sym none) ∙ h

@@ -14,17 +14,6 @@ use Rattle.someipctl_recordings.specs.RecordingResult.{fault_among}
 
 -- ---- what is left out
 
-one_more : (a b : ℕ) → (a + 1) + b ≡ a + (b + 1)
-one_more a b = omega arith
-
-pub plus-counted : (kind : Skipped) (l m : LeftOut) → plus (counted kind l) m ≡ plus l (counted kind m)
-plus-counted LinkType l m = rw (one_more l.link_type m.link_type) refl
-plus-counted NotIpv4 l m = rw (one_more l.not_ipv4 m.not_ipv4) refl
-plus-counted Fragment l m = rw (one_more l.fragmented m.fragmented) refl
-plus-counted NotUdp l m = rw (one_more l.not_udp m.not_udp) refl
-plus-counted Cut l m = rw (one_more l.cut m.cut) refl
-plus-counted BadUdpLength l m = rw (one_more l.bad_udp_length m.bad_udp_length) refl
-
 more_first : (a b : ℕ) → (a + b) + 1 ≡ (a + 1) + b
 more_first a b = omega arith
 
@@ -35,13 +24,6 @@ counted-plus Fragment l m = rw (more_first l.fragmented m.fragmented) refl
 counted-plus NotUdp l m = rw (more_first l.not_udp m.not_udp) refl
 counted-plus Cut l m = rw (more_first l.cut m.cut) refl
 counted-plus BadUdpLength l m = rw (more_first l.bad_udp_length m.bad_udp_length) refl
-
-three : (a b c : ℕ) → (a + b) + c ≡ a + (b + c)
-three a b c = omega arith
-
-pub plus-plus : (k l m : LeftOut) → plus (plus k l) m ≡ plus k (plus l m)
-plus-plus k l m =
-    rw (three k.link_type l.link_type m.link_type, three k.not_ipv4 l.not_ipv4 m.not_ipv4, three k.fragmented l.fragmented m.fragmented, three k.not_udp l.not_udp m.not_udp, three k.cut l.cut m.cut, three k.bad_udp_length l.bad_udp_length m.bad_udp_length) refl
 
 no_more : (a : ℕ) → a + 0 ≡ a
 no_more a = omega arith

@@ -7,9 +7,9 @@ use Rattle.recording.specs.Packets.{DatagramValue, RecordValue, datagram, other}
 use Rattle.recording.specs.Records.{Item}
 use Rattle.recording.specs.HeldItems.{held_of}
 use Rattle.recording.specs.Readers.{ReaderValue, CanFollow, to_come}
-use Rattle.someipctl_inputs.specs.Outcomes.{fault_outcome}
-use Rattle.someipctl_print.specs.Sending.{Sends, Stops}
-use Rattle.someipctl_print.proofs.SendingLemmas.{Sends-all, Stops-flush, Sends-flush, Sends-nil, Sends-trans, Stops-after, Stops-before}
+use Rattle.someipctl_io.specs.Outcomes.{fault_outcome}
+use Rattle.someipctl_io.specs.Sending.{Sends, Stops}
+use Rattle.someipctl_io.proofs.SendingLemmas.{Sends-all, Stops-flush, Sends-flush, Sends-nil, Sends-trans, Stops-after, Stops-before}
 use Rattle.someipctl_show.proofs.ShowResultLemmas.{Stops-none}
 use Rattle.someipctl_recordings.specs.declared.recordings.Shown.{Shown}
 use Rattle.someipctl_recordings.specs.declared.recordings.ShownRecording.{ShownRecording}

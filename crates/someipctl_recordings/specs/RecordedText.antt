@@ -14,9 +14,9 @@ use Rattle.someip_wire.specs.Reading.{items_of}
 use Rattle.someip_segments.specs.declared.TpError.{TpError}
 use Rattle.someip_segments.specs.Names.{error_name}
 use Rattle.someip_reassembly.specs.Parts.{Limits}
-use Rattle.someipctl_print.specs.Items.{item_len, item_lines}
-use Rattle.someipctl_print.specs.Lines.{dropped_line, empty_line, whole_line}
-use Rattle.someipctl_print.specs.Words.{spaced}
+use Rattle.someipctl_io.specs.Items.{item_len, item_lines}
+use Rattle.someipctl_io.specs.Lines.{dropped_line, empty_line, whole_line}
+use Rattle.someipctl_io.specs.Words.{spaced}
 use Rattle.someipctl_types.specs.Types.{TypesValue}
 use Rattle.someipctl_types.specs.ValueLine.{value_line, has_value_fault}
 use Rattle.someipctl_show.specs.declared.services.AskedService.{AskedService}

@@ -15,9 +15,9 @@ use Rattle.someipctl_recordings.specs.declared.recordings.Shown.{Shown}
 use Rattle.someipctl_recordings.specs.declared.recordings.ShownRecording.{ShownRecording}
 use Rattle.someipctl_recordings.specs.declared.recordings.RecordingFault.{RecordingFault}
 use Rattle.someipctl_recordings.specs.declared.recordings.RecordingFault.TheVariants.{CannotWrite, OutOfMemory}
-use Rattle.someipctl_inputs.specs.Inputs.{WasLeft}
-use Rattle.someipctl_inputs.specs.Outcomes.{fault_outcome}
-use Rattle.someipctl_print.specs.Sending.{Sends}
+use Rattle.someipctl_io.specs.Inputs.{WasLeft}
+use Rattle.someipctl_io.specs.Outcomes.{fault_outcome}
+use Rattle.someipctl_io.specs.Sending.{Sends}
 use Rattle.someipctl_recordings.specs.LeftOut.{left_out_of, nothing_left_out}
 use Rattle.someipctl_recordings.specs.Gathered.{StoreValue}
 use Rattle.someipctl_recordings.specs.RecordedText.{AskedValue, Progress, after_all, asked_of, at_first, recorded_from}

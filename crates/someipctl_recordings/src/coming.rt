@@ -1,11 +1,11 @@
 //! What comes next of a recording, as it is read.
 ghost use Rattle.std.specs.Prelude.{◌≡◌, ◌≤◌, ◌<◌, ◌^◌, ℕ, List, [], OnOk, OnErr, IfOk};
-ghost use Rattle.someipctl_print.specs.Sending.{Sends, Stops};
+ghost use Rattle.someipctl_io.specs.Sending.{Sends, Stops};
 ghost use Rattle.someipctl_recordings.specs.Coming.{Comes, IsEnded, IsFurther, coming_items};
 
 use crate::recordings::RecordingFault;
 use recording::{Next, RecordingError, RecordingReader};
-use someipctl_print::Buffer;
+use someipctl_io::Buffer;
 use std::io;
 use std::io::{ErrorKind, Read, Write};
 

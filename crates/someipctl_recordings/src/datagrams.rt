@@ -3,8 +3,8 @@ ghost use Rattle.std.specs.Prelude.{◌≡◌, ◌+◌, ◌≤◌, [], Some, Ok,
 ghost use Rattle.recording.specs.View.{view_datagram};
 ghost use Rattle.someip_wire.specs.Reading.{items_of};
 ghost use Rattle.someip_wire.specs.View.{view, view_item};
-ghost use Rattle.someipctl_print.specs.Sending.{Sends, Stops};
-ghost use Rattle.someipctl_print.specs.Items.{item_len};
+ghost use Rattle.someipctl_io.specs.Sending.{Sends, Stops};
+ghost use Rattle.someipctl_io.specs.Items.{item_len};
 ghost use Rattle.someipctl_recordings.specs.Gathered.{IsInTime, store_after, view_store, view_told};
 ghost use Rattle.someipctl_recordings.specs.RecordedText.{gathered_lines, gathers_fault, has_fault_with, headed_text};
 ghost use Rattle.someipctl_recordings.specs.RecordedText.{lines_with, recorded_lines, records_fault, scene_text, store_after_all};
@@ -15,7 +15,7 @@ use crate::heads::put_with_heads;
 use recording::Datagram;
 use someip_reassembly::Reassembly;
 use someip_wire::{Message, Messages, WireError};
-use someipctl_print::{Buffer, item_len, put_dropped, put_empty, put_whole_line};
+use someipctl_io::{Buffer, FoundItem, item_len, put_dropped, put_empty, put_whole_line};
 use someipctl_show::PrintFault;
 use someipctl_show::readings::reading_of;
 use someipctl_show::value_lines::{ValueLines, put_valued_item};
@@ -205,15 +205,13 @@ fn put_recorded_item<S: Reassembly + Drop, W: Write>(
         item,
         &mut telling.bytes,
     )?;
-    let is_item_faulty = put_valued_item(
-        buffer,
-        writer,
-        shown.k,
+    let found_item = FoundItem {
+        k: shown.k,
         place,
         item,
-        found.as_ref(),
-        &mut telling.values,
-    )?;
+        found: found.as_ref(),
+    };
+    let is_item_faulty = put_valued_item(buffer, writer, &found_item, &mut telling.values)?;
     let is_whole_faulty = put_told(
         buffer,
         writer,

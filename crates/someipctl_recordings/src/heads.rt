@@ -1,15 +1,15 @@
 //! Lines with the time and the endpoints of their datagram before each.
 ghost use Rattle.std.specs.Prelude.{◌≡◌, ◌∷◌, [], OnOk, OnErr, drop, map, true};
 ghost use Rattle.recording.specs.View.{view_datagram};
-ghost use Rattle.someipctl_print.specs.Sending.{Sends, Stops};
+ghost use Rattle.someipctl_io.specs.Sending.{Sends, Stops};
 ghost use Rattle.someipctl_recordings.specs.RecordedText.{endpoint_text, head_text, nine_digits, time_text};
 ghost use Rattle.someipctl_recordings.specs.RecordedText.{with_heads};
 ghost use Rattle.someipctl_recordings.specs.Heads.{line_len};
-ghost use Rattle.someipctl_print.specs.Words.{word_text};
+ghost use Rattle.someipctl_io.specs.Words.{word_text};
 ghost use Rattle.std.specs.Net.Text.{socket_v4_text};
 
 use recording::{Datagram, Endpoint, Time};
-use someipctl_print::{Buffer, CannotWrite, Part, Word, put_parts, put_words};
+use someipctl_io::{Buffer, CannotWrite, Part, Word, put_parts, put_words};
 use std::io::Write;
 use std::net::{Ipv4Addr, SocketAddrV4};
 

@@ -4,7 +4,7 @@ ghost use Rattle.std.specs.Prelude.{◌≡◌, ◌<◌, ◌+◌, ◌^◌, [], �
 ghost use Rattle.std.specs.List.{list_any};
 ghost use Rattle.recording.specs.View.{view_datagram, view_record};
 ghost use Rattle.someip_reassembly.specs.Parts.{NoneAfter};
-ghost use Rattle.someipctl_print.specs.Sending.{Sends, Stops};
+ghost use Rattle.someipctl_io.specs.Sending.{Sends, Stops};
 ghost use Rattle.someipctl_recordings.specs.declared.recordings.RecordingFault.TheVariants as faults;
 ghost use Rattle.someipctl_recordings.specs.Gathered.{IsInTime, view_store};
 ghost use Rattle.someipctl_recordings.specs.LeftOut.{left_out_of, plus, total};
@@ -21,8 +21,7 @@ use crate::left_out::LeftOut;
 use crate::moments::moment_of;
 use recording::{Datagram, Record, RecordingError, RecordingReader};
 use someip_reassembly::Reassembly;
-use someipctl_inputs::{Outcome, ReadFault};
-use someipctl_print::{Buffer, CannotWrite};
+use someipctl_io::{Buffer, CannotWrite, Outcome, ReadFault};
 use someipctl_show::PrintFault;
 use someipctl_show::services::is_asked_by;
 use someipctl_show::value_lines::ValueLines;
@@ -38,7 +37,7 @@ pub enum RecordingFault {
     #[error("{}", ReadFault::CannotRead)]
     CannotRead,
     /// Writing failed, or took nothing.
-    #[error("{}", someipctl_print::CannotWrite)]
+    #[error("{}", someipctl_io::CannotWrite)]
     CannotWrite,
     /// Memory ran out.
     #[error("out of memory")]
@@ -69,6 +68,17 @@ struct Shown {
     left_out: LeftOut,
 }
 
+/// What goes from record to record.
+#[derive(Drop)]
+struct Recorder<'t, S> {
+    /// What was shown so far.
+    shown: Shown,
+    /// Holds the lines of a datagram that get its time and endpoints before them. Between datagrams it is
+    /// empty.
+    lines: Buffer,
+    telling: Telling<'t, S>,
+}
+
 /// Writes what a recording shows, as it is read: of each datagram that is asked for the lines of `show`,
 /// with its time and endpoints before each where these are asked for, and after the lines of a segment
 /// that makes its message whole that message, where messages are put together; the body `S` does that.
@@ -91,13 +101,17 @@ pub fn show_recording<S: Reassembly + Drop, R: Read, W: Write>(
         (W.contents writer.old) (W.contents writer.new)) }
 {
     let mut buffer = Buffer::new(alloc)?;
-    let mut telling = Telling {
-        alloc,
-        values: ValueLines::new(alloc, asked.types),
-        store: store_for::<S>(alloc, asked.whole)?,
-        bytes: Vec::new(alloc),
+    let mut recorder = Recorder {
+        shown: Shown::nothing(),
+        lines: Buffer::new(alloc)?,
+        telling: Telling {
+            alloc,
+            values: ValueLines::new(alloc, asked.types),
+            store: store_for::<S>(alloc, asked.whole)?,
+            bytes: Vec::new(alloc),
+        },
     };
-    let shown = put_recording(source, asked, &mut telling, &mut buffer, writer)?;
+    let shown = put_recording(source, asked, &mut recorder, &mut buffer, writer)?;
     buffer.flush(writer)?;
     Ok(shown)
 }
@@ -124,34 +138,32 @@ fn store_for<S: Reassembly + Drop>(
 fn put_recording<S: Reassembly + Drop, R: Read, W: Write>(
     source: &mut R,
     asked: &Asked<'_>,
-    telling: &mut Telling<'_, S>,
+    recorder: &mut Recorder<'_, S>,
     buffer: &mut Buffer,
     writer: &mut W,
 ) -> Result<ShownRecording, RecordingFault>
     requires empty { buffer.old ≡ [] }
-    requires types { telling.old.values.types.now ≡ asked.now.types.now }
-    requires store { view_store S.limits S.parts telling.old.store
+    requires shown { recorder.old.shown ≡ nothing_shown }
+    requires lines { recorder.old.lines ≡ [] }
+    requires types { recorder.old.telling.values.types.now ≡ asked.now.types.now }
+    requires store { view_store S.limits S.parts recorder.old.telling.store
         ≡ option_map empty_store (option_map view_limits asked.now.whole) }
-    requires in_time { IsInTime S.parts 0 telling.old.store }
+    requires in_time { IsInTime S.parts 0 recorder.old.telling.store }
     ensures puts { IfOk result (λ shown. PutsRecording (R.remaining source.old) (view_asked asked.now)
         shown (W.contents writer.old) (W.contents writer.new) buffer.new) }
     ensures begun { OnErr result (BeginsRecording (R.remaining source.old) (view_asked asked.now)
         (W.contents writer.old) (W.contents writer.new)) }
 {
-    let mut recording = RecordingReader::new(telling.alloc);
-    let mut lines = Buffer::new(telling.alloc)?;
-    let mut shown = Shown::nothing();
+    let mut recording = RecordingReader::new(recorder.telling.alloc);
     for _ in 0..u64::MAX {
         let coming = next_coming(&mut recording, source, buffer, writer)?;
         match coming {
             Coming::Record => {}
-            Coming::Fault(fault) => return Ok(shown.ended(Some(fault))),
-            Coming::End => return Ok(shown.ended(None)),
+            Coming::Fault(fault) => return Ok(recorder.shown.ended(Some(fault))),
+            Coming::End => return Ok(recorder.shown.ended(None)),
         }
         if let Some(found) = recording.record() {
-            put_record(
-                buffer, writer, &found, asked, &mut shown, &mut lines, telling,
-            )?;
+            put_record(buffer, writer, &found, asked, recorder)?;
         }
     }
     Err(RecordingFault::CannotRead)
@@ -188,48 +200,38 @@ fn put_record<S: Reassembly + Drop, W: Write>(
     writer: &mut W,
     found: &Record<'_>,
     asked: &Asked<'_>,
-    shown: &mut Shown,
-    lines: &mut Buffer,
-    telling: &mut Telling<'_, S>,
+    recorder: &mut Recorder<'_, S>,
 ) -> Result<(), PrintFault>
-    requires empty { lines.old ≡ [] }
-    requires few { shown.old.datagrams + total shown.old.left_out + 1 < 2 ^ 64 }
-    requires types { telling.old.values.types.now ≡ asked.now.types.now }
-    requires in_time { IsInTime S.parts shown.old.now telling.old.store }
-    ensures empty { OnOk result (lines.new ≡ []) }
+    requires empty { recorder.old.lines ≡ [] }
+    requires few { recorder.old.shown.datagrams + total recorder.old.shown.left_out + 1 < 2 ^ 64 }
+    requires types { recorder.old.telling.values.types.now ≡ asked.now.types.now }
+    requires in_time { IsInTime S.parts recorder.old.shown.now recorder.old.telling.store }
+    ensures empty { OnOk result (recorder.new.lines ≡ []) }
     ensures ok { OnOk result (Sends (W.contents writer.old) buffer.old (W.contents writer.new)
         buffer.new (recorded_from (view_asked asked.now)
-        (progress_of shown.old (view_store S.limits S.parts telling.old.store))
+        (progress_of recorder.old.shown (view_store S.limits S.parts recorder.old.telling.store))
         (asked_of (view_asked asked.now) (Ok (view_record found.now) ∷ [])))) }
-    ensures progress { OnOk result (progress_of shown.new (view_store S.limits S.parts telling.new.store)
+    ensures progress { OnOk result (progress_of recorder.new.shown (view_store S.limits S.parts recorder.new.telling.store)
         ≡ after_all (view_asked asked.now)
-        (progress_of shown.old (view_store S.limits S.parts telling.old.store))
+        (progress_of recorder.old.shown (view_store S.limits S.parts recorder.old.telling.store))
         (asked_of (view_asked asked.now) (Ok (view_record found.now) ∷ []))) }
-    ensures left_out { OnOk result (shown.new.left_out
-        ≡ plus shown.old.left_out (left_out_of (Ok (view_record found.now) ∷ []))) }
-    ensures in_time { OnOk result (IsInTime S.parts shown.new.now telling.new.store) }
+    ensures left_out { OnOk result (recorder.new.shown.left_out
+        ≡ plus recorder.old.shown.left_out (left_out_of (Ok (view_record found.now) ∷ []))) }
+    ensures in_time { OnOk result (IsInTime S.parts recorder.new.shown.now recorder.new.telling.store) }
     ensures err { OnErr result (Stops (W.contents writer.old) buffer.old (W.contents writer.new)
         (recorded_from (view_asked asked.now)
-        (progress_of shown.old (view_store S.limits S.parts telling.old.store))
+        (progress_of recorder.old.shown (view_store S.limits S.parts recorder.old.telling.store))
         (asked_of (view_asked asked.now) (Ok (view_record found.now) ∷ [])))) }
-    ensures types { telling.new.values.types.now ≡ telling.old.values.types.now }
+    ensures types { recorder.new.telling.values.types.now ≡ recorder.old.telling.values.types.now }
 {
     if let Record::Other(kind) = found {
-        shown.left_out.add(*kind);
+        recorder.shown.left_out.add(*kind);
         return Ok(());
     }
     let Some(datagram) = asked_in(asked, found) else {
         return Ok(());
     };
-    put_next(
-        buffer,
-        writer,
-        datagram,
-        asked.endpoints,
-        shown,
-        lines,
-        telling,
-    )
+    put_next(buffer, writer, datagram, asked.endpoints, recorder)
 }
 
 /// Prints the text of the next datagram that is asked for, and counts it.
@@ -238,39 +240,44 @@ fn put_next<S: Reassembly + Drop, W: Write>(
     writer: &mut W,
     datagram: Datagram<'_>,
     endpoints: bool,
-    shown: &mut Shown,
-    lines: &mut Buffer,
-    telling: &mut Telling<'_, S>,
+    recorder: &mut Recorder<'_, S>,
 ) -> Result<(), PrintFault>
-    requires empty { lines.old ≡ [] }
-    requires few { shown.old.datagrams + 1 < 2 ^ 64 }
-    requires in_time { IsInTime S.parts shown.old.now telling.old.store }
-    ensures empty { OnOk result (lines.new ≡ []) }
-    ensures ok { (asked : AskedValue) → asked.types ≡ telling.old.values.types.now → asked.endpoints ≡ endpoints
+    requires empty { recorder.old.lines ≡ [] }
+    requires few { recorder.old.shown.datagrams + 1 < 2 ^ 64 }
+    requires in_time { IsInTime S.parts recorder.old.shown.now recorder.old.telling.store }
+    ensures empty { OnOk result (recorder.new.lines ≡ []) }
+    ensures ok { (asked : AskedValue) → asked.types ≡ recorder.old.telling.values.types.now → asked.endpoints ≡ endpoints
         → OnOk result (Sends (W.contents writer.old) buffer.old (W.contents writer.new) buffer.new
-        (recorded_text asked (progress_of shown.old (view_store S.limits S.parts telling.old.store))
+        (recorded_text asked (progress_of recorder.old.shown (view_store S.limits S.parts recorder.old.telling.store))
         (view_datagram datagram.entry))) }
-    ensures progress { (asked : AskedValue) → asked.types ≡ telling.old.values.types.now
-        → OnOk result (progress_of shown.new (view_store S.limits S.parts telling.new.store)
-        ≡ after_datagram asked (progress_of shown.old (view_store S.limits S.parts telling.old.store))
+    ensures progress { (asked : AskedValue) → asked.types ≡ recorder.old.telling.values.types.now
+        → OnOk result (progress_of recorder.new.shown (view_store S.limits S.parts recorder.new.telling.store)
+        ≡ after_datagram asked (progress_of recorder.old.shown (view_store S.limits S.parts recorder.old.telling.store))
         (view_datagram datagram.entry)) }
-    ensures left_out { shown.new.left_out ≡ shown.old.left_out }
-    ensures in_time { OnOk result (IsInTime S.parts shown.new.now telling.new.store) }
-    ensures err { (asked : AskedValue) → asked.types ≡ telling.old.values.types.now → asked.endpoints ≡ endpoints
+    ensures left_out { recorder.new.shown.left_out ≡ recorder.old.shown.left_out }
+    ensures in_time { OnOk result (IsInTime S.parts recorder.new.shown.now recorder.new.telling.store) }
+    ensures err { (asked : AskedValue) → asked.types ≡ recorder.old.telling.values.types.now → asked.endpoints ≡ endpoints
         → OnErr result (Stops (W.contents writer.old) buffer.old (W.contents writer.new)
-        (recorded_text asked (progress_of shown.old (view_store S.limits S.parts telling.old.store))
+        (recorded_text asked (progress_of recorder.old.shown (view_store S.limits S.parts recorder.old.telling.store))
         (view_datagram datagram.entry))) }
-    ensures types { telling.new.values.types.now ≡ telling.old.values.types.now }
+    ensures types { recorder.new.telling.values.types.now ≡ recorder.old.telling.values.types.now }
 {
     let next = Numbered {
-        k: shown.datagrams + 1,
-        now: moment_of(shown.now, datagram.time),
+        k: recorder.shown.datagrams + 1,
+        now: moment_of(recorder.shown.now, datagram.time),
         datagram,
     };
-    let is_faulty = put_recorded(buffer, writer, &next, endpoints, lines, telling)?;
-    shown.datagrams = next.k;
-    shown.now = next.now;
-    shown.is_faulty |= is_faulty;
+    let is_faulty = put_recorded(
+        buffer,
+        writer,
+        &next,
+        endpoints,
+        &mut recorder.lines,
+        &mut recorder.telling,
+    )?;
+    recorder.shown.datagrams = next.k;
+    recorder.shown.now = next.now;
+    recorder.shown.is_faulty |= is_faulty;
     Ok(())
 }
 

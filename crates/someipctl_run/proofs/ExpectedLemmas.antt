@@ -8,7 +8,8 @@ use Rattle.someip_world_rules.specs.declared.line.Line.{Line}
 use Rattle.someip_world_rules.specs.declared.reuse.Reuse.{Reuse}
 use Rattle.someip_world_setup.specs.declared.setup_node.SetupNode.{SetupNode}
 use Rattle.someipctl_run.specs.Expected.{FirstDiffer, GoesOnOtherwise, Mismatch, PrintedLine, is_no_line, line_left, line_len, printed_from, printed_lines, printed_text}
-use Rattle.someipctl_run.specs.StepLines.{line_of_step, lines_of_steps}
+use Rattle.someip_world_schedule.specs.Schedule.{lines_of_steps}
+use Rattle.someipctl_run.specs.StepLines.{line_of_step}
 use Rattle.someipctl_run.specs.Traces.{formed_trace, marked_line, marked_lines, marked_verdict, number_after, shown_lines}
 use Rattle.someipctl_run.specs.declared.form.TraceForm.{TraceForm}
 

@@ -6,11 +6,11 @@ use Rattle.std.proofs.lemmas.List.Concat.{flat_map-append}
 use Rattle.std.proofs.lemmas.Grind.{common_steps}
 use Rattle.someip_world_rules.specs.declared.line.Line.{Line}
 use Rattle.someip_world_rules.specs.declared.reuse.Reuse.{Reuse}
-use Rattle.someip_world_schedule.specs.Schedule.{is_read, lines_of}
+use Rattle.someip_world_schedule.specs.Schedule.{is_read, lines_of, lines_of_steps, numbers_read}
 use Rattle.someip_world_steps.specs.Steps.{step_in}
 use Rattle.someip_world_setup.specs.declared.setup_node.SetupNode.{SetupNode}
 use Rattle.someipctl_run.specs.Laws.{StandBehindWords}
-use Rattle.someipctl_run.specs.StepLines.{line_of_step, lines_of_steps, numbers_read}
+use Rattle.someipctl_run.specs.StepLines.{line_of_step}
 use Rattle.someipctl_run.specs.Traces.{came_by_text, formed_trace, line_text, marked_lines, number_after, numbered_lines, reuse_line, trace_text}
 use Rattle.someipctl_run.specs.declared.form.TraceForm.TheVariants.{WithLines}
 

@@ -13,7 +13,7 @@ use Rattle.someip_world_setup.specs.GoodSetups.{Network}
 use Rattle.someip_world_setup.specs.Readings.{HasValues, TextHasFault, setup_of_text, tree_of}
 use Rattle.someip_world_setup_parts.specs.declared.error.SetupError.TheVariants as errors
 use Rattle.someip_world_setup.specs.declared.setup_node.SetupNode.{SetupNode}
-use Rattle.someipctl_inputs.specs.Inputs.{WasLeft}
+use Rattle.someipctl_io.specs.Inputs.{WasLeft}
 use Rattle.someipctl_run.specs.Traces.{formed_trace, trace_text}
 use Rattle.someipctl_run.specs.declared.error.RunFault.{RunFault}
 use Rattle.someipctl_run.specs.declared.error.RunFault.TheVariants.{BadLine, BadStep, CannotRead, CannotWrite, OutOfMemory}

@@ -6,13 +6,13 @@ use Rattle.std.specs.Option.{option_map_or}
 use Rattle.std.specs.Str.{is_utf8}
 use Rattle.someip_world_rules.specs.declared.line.Line.{Line}
 use Rattle.someip_world_rules.specs.declared.reuse.Reuse.{Reuse}
-use Rattle.someip_world_schedule.specs.Schedule.{lines_of}
+use Rattle.someip_world_schedule.specs.Schedule.{lines_of, lines_of_steps}
 use Rattle.someip_world_setup.specs.declared.setup_node.SetupNode.{SetupNode}
-use Rattle.someipctl_inputs.specs.declared.outcome.Outcome.{Outcome}
-use Rattle.someipctl_inputs.specs.declared.outcome.Outcome.TheVariants.{Done, FaultShown}
-use Rattle.someipctl_print.specs.Lines.{joined}
+use Rattle.someipctl_io.specs.declared.outcome.Outcome.{Outcome}
+use Rattle.someipctl_io.specs.declared.outcome.Outcome.TheVariants.{Done, FaultShown}
+use Rattle.someipctl_io.specs.Lines.{joined}
 use Rattle.someipctl_run.specs.Commands.{IsTraceOf, OfInput, RefusesReading, RefusesTrace}
-use Rattle.someipctl_run.specs.StepLines.{line_of_step, lines_of_steps}
+use Rattle.someipctl_run.specs.StepLines.{line_of_step}
 use Rattle.someipctl_run.specs.Traces.{came_by_text, formed_trace, marked_line, marked_verdict, number_after, shown_lines}
 use Rattle.someipctl_run.specs.declared.error.ExpectedFault.{ExpectedFault}
 use Rattle.someipctl_run.specs.declared.error.ExpectedFault.TheVariants as expected

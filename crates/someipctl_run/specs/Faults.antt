@@ -3,8 +3,8 @@ use Rattle.someip_world_rules.specs.declared.error.RunError.{RunError}
 use Rattle.someip_world_rules.specs.declared.error.RunError.TheVariants as runs
 use Rattle.someip_world_schedule.specs.declared.error.ScheduleError.{ScheduleError}
 use Rattle.someip_world_schedule.specs.declared.error.ScheduleError.TheVariants as schedules
-use Rattle.someipctl_inputs.specs.declared.input.ReadFault.{ReadFault}
-use Rattle.someipctl_inputs.specs.declared.input.ReadFault.TheVariants as inputs
+use Rattle.someipctl_io.specs.declared.input.ReadFault.{ReadFault}
+use Rattle.someipctl_io.specs.declared.input.ReadFault.TheVariants as inputs
 use Rattle.someipctl_run.specs.declared.error.ExpectedFault.{ExpectedFault}
 use Rattle.someipctl_run.specs.declared.error.ExpectedFault.TheVariants as expected
 use Rattle.someipctl_run.specs.declared.error.RunFault.{RunFault}

@@ -4,5 +4,6 @@ pub mod StepLines
 pub mod Traces
 pub mod Commands
 pub mod Expected
+pub mod FormedTraces
 pub mod Comparing
 pub mod Laws

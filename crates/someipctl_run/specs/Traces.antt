@@ -7,10 +7,11 @@ use Rattle.someip_world_rules.specs.declared.line.Line.{Line}
 use Rattle.someip_world_rules.specs.declared.reuse.Reuse.{Reuse}
 use Rattle.someip_world_rules.specs.declared.reuse.Reuse.TheVariants.{Broken, Clean}
 use Rattle.someip_world_setup.specs.declared.setup_node.SetupNode.{SetupNode}
-use Rattle.someipctl_print.specs.Lines.{joined}
-use Rattle.someipctl_print.specs.Words.{ended}
+use Rattle.someipctl_io.specs.Lines.{joined}
+use Rattle.someipctl_io.specs.Words.{ended}
 use Rattle.someipctl_run.specs.Outputs.{told_words}
-use Rattle.someipctl_run.specs.StepLines.{line_of_step, lines_of_steps}
+use Rattle.someip_world_schedule.specs.Schedule.{lines_of_steps}
+use Rattle.someipctl_run.specs.StepLines.{line_of_step}
 use Rattle.someipctl_run.specs.declared.form.TraceForm.{TraceForm}
 use Rattle.someipctl_run.specs.declared.form.TraceForm.TheVariants.{Plain, WithLines}
 

@@ -3,22 +3,21 @@ ghost use Rattle.std.specs.Prelude.{◌≡◌, ◌≢◌, ◌≤◌, [], None, I
 ghost use Rattle.std.specs.Prelude.{codes, length};
 ghost use Rattle.std.specs.Option.{option_map_or};
 ghost use Rattle.std.specs.Io.KnownBytes.{Appends};
-ghost use Rattle.someipctl_print.specs.Sending.{Sends, Stops};
+ghost use Rattle.someipctl_io.specs.Sending.{Sends, Stops};
 ghost use Rattle.someipctl_run.specs.Comparing.{ComparedFrom, IsLineTaken, view_mismatch};
 ghost use Rattle.someipctl_run.specs.Expected.{Compares, ComparesInput, FirstDiffer, RefusesComparing};
 ghost use Rattle.someipctl_run.specs.Expected.{RefusesInputComparing, line_left, line_len};
-ghost use Rattle.someipctl_run.specs.Expected.{line_or_dash, mismatch_text, printed_from};
-ghost use Rattle.someipctl_run.specs.Expected.{printed_lines, printed_text};
+ghost use Rattle.someipctl_run.specs.Expected.{line_or_dash, mismatch_text, printed_text};
+ghost use Rattle.someipctl_run.specs.FormedTraces.{lines_before_verdict, lines_in_form};
 ghost use Rattle.someipctl_run.specs.Traces.{marked_line, marked_verdict, pointed};
 
 use crate::error::RunFault;
-use crate::form::TraceForm;
-use crate::running::trace_of;
-use crate::step_lines::{line_of_step, lines_of_steps};
+use crate::form::{FormedTrace, TraceForm};
+use crate::running::run_of_text;
+use crate::step_lines::line_of_step;
 use crate::trace_lines::{came_by_part, number_after, put_marked_line, put_verdict};
 use someip_world::{Line, Reuse, Setup, SetupNode};
-use someipctl_inputs::{Outcome, read_all};
-use someipctl_print::{Buffer, CannotWrite, Part, put_parts};
+use someipctl_io::{Buffer, CannotWrite, Outcome, Part, put_parts, read_all};
 use std::alloc::{AllocError, Global};
 use std::io::{Read, Write};
 
@@ -80,19 +79,16 @@ fn compare_text<W: Write>(
     ensures refused { IfErr result (λ fault. RefusesComparing form setup.now.nodes expected.now
         text.now fault (W.contents writer.old) (W.contents writer.new)) }
 {
-    let trace = trace_of(alloc, setup, text)?;
-    let step_lines = lines_of_steps(alloc, text)?;
+    let ran = run_of_text(alloc, setup, text)?;
     let mut buffer = Buffer::new(alloc)?;
-    let found = first_mismatch(
-        alloc,
-        &mut buffer,
+    let trace = FormedTrace {
         form,
-        &step_lines,
-        setup.nodes(),
-        &trace.lines,
-        trace.verdict,
-        expected,
-    )?;
+        step_lines: &ran.step_lines,
+        nodes: setup.nodes(),
+        lines: &ran.trace.lines,
+        verdict: ran.trace.verdict,
+    };
+    let found = first_mismatch(alloc, &mut buffer, &trace, expected)?;
     match found {
         None => Ok(Outcome::Done),
         Some(mismatch) => {
@@ -106,26 +102,25 @@ fn compare_text<W: Write>(
 fn first_mismatch<'e>(
     alloc: Global,
     buffer: &mut Buffer,
-    form: TraceForm,
-    step_lines: &[usize],
-    nodes: &[SetupNode],
-    lines: &[Line],
-    verdict: Reuse,
+    trace: &FormedTrace<'_>,
     expected: &'e [u8],
 ) -> Result<Option<Mismatch<'e>>, AllocError>
     requires { buffer.old ≡ [] }
     ensures empty { OnOk result (buffer.new ≡ []) }
     ensures found { IfOk result (λ found. MatchOption found
-        (expected.now
-        ≡ printed_text (printed_lines form step_lines.now nodes.now lines.now verdict))
-        (λ mismatch. FirstDiffer (printed_lines form step_lines.now nodes.now lines.now verdict)
-        expected.now (view_mismatch mismatch))) }
+        (expected.now ≡ printed_text (lines_in_form trace.now))
+        (λ mismatch. FirstDiffer (lines_in_form trace.now) expected.now (view_mismatch mismatch))) }
 {
-    let rest = match compare_lines(alloc, buffer, form, step_lines, nodes, lines, expected)? {
+    let rest = match compare_lines(alloc, buffer, trace, expected)? {
         Compared::Same(rest) => rest,
         Compared::Differs(mismatch) => return Ok(Some(mismatch)),
     };
-    let text = text_of_verdict(alloc, buffer, form.shown(step_lines), verdict)?;
+    let text = text_of_verdict(
+        alloc,
+        buffer,
+        trace.form.shown(trace.step_lines),
+        trace.verdict,
+    )?;
     match take_line(rest, None, text) {
         Compared::Same(rest) => Ok(left_over(rest)),
         Compared::Differs(mismatch) => Ok(Some(mismatch)),
@@ -136,22 +131,21 @@ fn first_mismatch<'e>(
 fn compare_lines<'e>(
     alloc: Global,
     buffer: &mut Buffer,
-    form: TraceForm,
-    step_lines: &[usize],
-    nodes: &[SetupNode],
-    lines: &[Line],
+    trace: &FormedTrace<'_>,
     expected: &'e [u8],
 ) -> Result<Compared<'e>, AllocError>
     requires { buffer.old ≡ [] }
     ensures empty { OnOk result (buffer.new ≡ []) }
     ensures compared { IfOk result
-        (ComparedFrom (printed_from form step_lines.now nodes.now 1 lines.now) expected.now) }
+        (ComparedFrom (lines_before_verdict trace.now) expected.now) }
 {
+    let lines = trace.lines;
     let mut number = 1;
     let mut rest = expected;
     for line in lines {
-        let text = text_of_line(alloc, buffer, form.shown(step_lines), nodes, number, line)?;
-        match take_line(rest, line_of_step(step_lines, line.step), text) {
+        let step_lines = trace.form.shown(trace.step_lines);
+        let text = text_of_line(alloc, buffer, step_lines, trace.nodes, number, line)?;
+        match take_line(rest, line_of_step(trace.step_lines, line.step), text) {
             Compared::Same(others) => rest = others,
             Compared::Differs(mismatch) => return Ok(Compared::Differs(mismatch)),
         }

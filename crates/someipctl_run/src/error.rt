@@ -6,7 +6,7 @@ ghost use Rattle.someipctl_run.specs.Faults.{expected_fault_of_input, fault_of_i
 ghost use Rattle.someipctl_run.specs.Faults.{fault_of_schedule, setup_fault_of_input};
 
 use someip_world::{RunError, ScheduleError, SetupError, StepFault};
-use someipctl_inputs::ReadFault;
+use someipctl_io::ReadFault;
 use std::alloc::{AllocError, AllocFailed};
 use thiserror::Error;
 
@@ -56,7 +56,7 @@ pub enum RunFault {
     #[error("{}", ReadFault::CannotRead)]
     CannotRead,
     /// Writing failed, or took nothing. A beginning of the text was written.
-    #[error("{}", someipctl_print::CannotWrite)]
+    #[error("{}", someipctl_io::CannotWrite)]
     CannotWrite,
     /// Memory ran out. Nothing was written.
     #[error("out of memory")]
@@ -126,10 +126,10 @@ impl From<RunError> for RunFault {
     }
 }
 
-impl From<someipctl_print::CannotWrite> for RunFault {
+impl From<someipctl_io::CannotWrite> for RunFault {
     ghost from_gives = { λ _ e. e ≡ CannotWrite };
 
-    fn from(_error: someipctl_print::CannotWrite) -> RunFault {
+    fn from(_error: someipctl_io::CannotWrite) -> RunFault {
         RunFault::CannotWrite
     }
 }

@@ -6,7 +6,7 @@ ghost use Rattle.someipctl_run.specs.Expected.{is_unended};
 
 use crate::error::ExpectedFault;
 use crate::texts::text_of;
-use someipctl_inputs::read_all;
+use someipctl_io::read_all;
 use std::alloc::Global;
 use std::io::Read;
 

@@ -1,6 +1,8 @@
-//! The forms of a trace.
+//! The forms of a trace, and a trace in its form.
 ghost use Rattle.std.specs.Prelude.{◌≡◌};
 ghost use Rattle.someipctl_run.specs.Traces.{pointed, shown_lines};
+
+use someip_world::{Line, Reuse, SetupNode};
 
 /// What stands before the lines of a trace.
 #[derive(Clone, Copy, Debug, PartialEq, Eq)]
@@ -22,4 +24,19 @@ impl TraceForm {
             TraceForm::WithLines => Some(step_lines),
         }
     }
+}
+
+/// A trace, as it is printed or compared.
+#[derive(Clone, Copy)]
+pub(crate) struct FormedTrace<'t> {
+    /// What stands before its lines.
+    pub(crate) form: TraceForm,
+    /// The numbers of the lines of the schedule on which its steps stand, in order.
+    pub(crate) step_lines: &'t [usize],
+    /// The nodes of its setup.
+    pub(crate) nodes: &'t [SetupNode],
+    /// Its lines.
+    pub(crate) lines: &'t [Line],
+    /// The verdict on it.
+    pub(crate) verdict: Reuse,
 }

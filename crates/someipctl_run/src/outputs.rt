@@ -1,8 +1,8 @@
 //! What the lines of a trace tell, word by word.
 ghost use Rattle.std.specs.Prelude.{◌≡◌, ◌∷◌, [], IfOk, OnOk, OnErr, decimal, map};
 ghost use Rattle.someip_node_rules.specs.declared.output.Output.TheVariants as output;
-ghost use Rattle.someipctl_print.specs.Sending.{Sends, Stops};
-ghost use Rattle.someipctl_print.specs.Words.{ended, word_text};
+ghost use Rattle.someipctl_io.specs.Sending.{Sends, Stops};
+ghost use Rattle.someipctl_io.specs.Words.{ended, word_text};
 ghost use Rattle.someip_node_rules.specs.forms.OutputWords.{output_words, token_word};
 ghost use Rattle.someipctl_run.specs.Outputs.{told_words};
 
@@ -12,7 +12,7 @@ use someip_node::Output;
 use someip_rpc::MessageId;
 use someip_wire::ReturnCode;
 use someip_world::Told;
-use someipctl_print::{Buffer, CannotWrite, Word, put_end};
+use someipctl_io::{Buffer, CannotWrite, Word, put_end};
 use std::alloc::{AllocError, Global};
 use std::io::Write;
 use std::net::{Ipv4Addr, SocketAddrV4};

@@ -1,20 +1,19 @@
 //! Running a schedule.
 ghost use Rattle.std.specs.Prelude.{◌≡◌, [], IfOk, IfErr, OnOk, OnErr};
 ghost use Rattle.std.specs.Io.KnownBytes.{Appends};
-ghost use Rattle.someipctl_print.specs.Sending.{Sends, Stops};
+ghost use Rattle.someip_world_schedule.specs.Schedule.{lines_of_steps};
+ghost use Rattle.someipctl_io.specs.Sending.{Sends, Stops};
 ghost use Rattle.someipctl_run.specs.Commands.{IsTraceOf, RanInForm, RanInput, RanInputInForm};
 ghost use Rattle.someipctl_run.specs.Commands.{RefusesInputRun, RefusesInputRunInForm, RefusesRunInForm};
 ghost use Rattle.someipctl_run.specs.Commands.{RefusesTrace};
-ghost use Rattle.someipctl_run.specs.Traces.{marked_trace, pointed};
+ghost use Rattle.someipctl_run.specs.FormedTraces.{trace_in_form};
 
 use crate::error::RunFault;
-use crate::form::TraceForm;
-use crate::step_lines::lines_to_show;
+use crate::form::{FormedTrace, TraceForm};
 use crate::trace_lines::{put_lines, put_verdict};
 use someip_tp::IntervalPool;
-use someip_world::{Line, Reuse, Setup, SetupNode, Trace, read_schedule, run};
-use someipctl_inputs::read_all;
-use someipctl_print::{Buffer, CannotWrite};
+use someip_world::{Setup, Trace, read_numbered_schedule, run};
+use someipctl_io::{Buffer, CannotWrite, read_all};
 use std::alloc::Global;
 use std::io::{Read, Write};
 
@@ -70,64 +69,75 @@ fn run_text<W: Write>(
     ensures refused { IfErr result (λ fault. RefusesRunInForm form setup.now.nodes text.now fault
         (W.contents writer.old) (W.contents writer.new)) }
 {
-    let trace = trace_of(alloc, setup, text)?;
-    let step_lines = lines_to_show(alloc, form, text)?;
+    let ran = run_of_text(alloc, setup, text)?;
     let mut buffer = Buffer::new(alloc)?;
-    write_trace(
-        &mut buffer,
-        writer,
-        form.shown(&step_lines),
-        setup.nodes(),
-        &trace.lines,
-        trace.verdict,
-    )?;
+    let trace = FormedTrace {
+        form,
+        step_lines: &ran.step_lines,
+        nodes: setup.nodes(),
+        lines: &ran.trace.lines,
+        verdict: ran.trace.verdict,
+    };
+    write_trace(&mut buffer, writer, &trace)?;
     Ok(())
 }
 
-/// The trace of the schedule that a text spells over a setup.
-pub(crate) fn trace_of(alloc: Global, setup: &Setup, text: &[u8]) -> Result<Trace, RunFault>
-    ensures ok { IfOk result
-        (λ trace. IsTraceOf setup.now.nodes text.now trace.lines.items trace.verdict) }
-    ensures err { IfErr result (RefusesTrace setup.now.nodes text.now) }
-{
-    let steps = read_schedule(alloc, text)?;
-    let trace = run::<IntervalPool>(alloc, setup, &steps)?;
-    Ok(trace)
+/// What a schedule gave.
+#[derive(Drop)]
+pub(crate) struct ScheduleRun {
+    /// Its trace.
+    pub(crate) trace: Trace,
+    /// The numbers of the lines of the schedule on which its steps stand, in order.
+    pub(crate) step_lines: Vec<usize>,
 }
 
-/// Writes lines and the verdict on them through an empty buffer.
+/// What the schedule that a text spells gives over a setup.
+pub(crate) fn run_of_text(
+    alloc: Global,
+    setup: &Setup,
+    text: &[u8],
+) -> Result<ScheduleRun, RunFault>
+    ensures ok { IfOk result
+        (λ ran. IsTraceOf setup.now.nodes text.now ran.trace.lines.items ran.trace.verdict) }
+    ensures lines { IfOk result (λ ran. ran.step_lines.items ≡ lines_of_steps text.now) }
+    ensures err { IfErr result (RefusesTrace setup.now.nodes text.now) }
+{
+    let read = read_numbered_schedule(alloc, text)?;
+    let trace = run::<IntervalPool>(alloc, setup, &read.steps)?;
+    Ok(ScheduleRun {
+        trace,
+        step_lines: read.lines,
+    })
+}
+
+/// Writes a trace through an empty buffer.
 fn write_trace<W: Write>(
     buffer: &mut Buffer,
     writer: &mut W,
-    step_lines: Option<&[usize]>,
-    nodes: &[SetupNode],
-    lines: &[Line],
-    verdict: Reuse,
+    trace: &FormedTrace<'_>,
 ) -> Result<(), CannotWrite>
     requires empty { buffer.old ≡ [] }
     ensures ok { OnOk result (Appends (W.contents writer.old) (W.contents writer.new)
-        (marked_trace (pointed step_lines.entry) nodes.now lines.now verdict)) }
+        (trace_in_form trace.now)) }
     ensures err { OnErr result (Stops (W.contents writer.old) [] (W.contents writer.new)
-        (marked_trace (pointed step_lines.entry) nodes.now lines.now verdict)) }
+        (trace_in_form trace.now)) }
 {
-    put_trace(buffer, writer, step_lines, nodes, lines, verdict)?;
+    put_trace(buffer, writer, trace)?;
     buffer.flush(writer)
 }
 
-/// Prints lines and the verdict on them.
+/// Prints a trace.
 fn put_trace<W: Write>(
     buffer: &mut Buffer,
     writer: &mut W,
-    step_lines: Option<&[usize]>,
-    nodes: &[SetupNode],
-    lines: &[Line],
-    verdict: Reuse,
+    trace: &FormedTrace<'_>,
 ) -> Result<(), CannotWrite>
     ensures ok { OnOk result (Sends (W.contents writer.old) buffer.old (W.contents writer.new) buffer.new
-        (marked_trace (pointed step_lines.entry) nodes.now lines.now verdict)) }
+        (trace_in_form trace.now)) }
     ensures err { OnErr result (Stops (W.contents writer.old) buffer.old (W.contents writer.new)
-        (marked_trace (pointed step_lines.entry) nodes.now lines.now verdict)) }
+        (trace_in_form trace.now)) }
 {
-    put_lines(buffer, writer, step_lines, nodes, lines)?;
-    put_verdict(buffer, writer, step_lines, verdict)
+    let step_lines = trace.form.shown(trace.step_lines);
+    put_lines(buffer, writer, step_lines, trace.nodes, trace.lines)?;
+    put_verdict(buffer, writer, step_lines, trace.verdict)
 }

@@ -5,7 +5,7 @@ ghost use Rattle.someipctl_run.specs.Commands.{IsSetupOf, IsSetupOfInput, Refuse
 use crate::error::SetupFault;
 use crate::texts::text_of;
 use someip_world::{Setup, SetupError};
-use someipctl_inputs::read_all;
+use someipctl_io::read_all;
 use std::alloc::Global;
 use std::io::Read;
 

@@ -2,8 +2,8 @@
 ghost use Rattle.std.specs.Prelude.{◌≡◌, ◌<◌, OnOk, OnErr, is_some};
 ghost use Rattle.someip_world_rules.specs.Datagrams.{datagram_in};
 ghost use Rattle.std.specs.List.{flat_map};
-ghost use Rattle.someipctl_print.specs.Parts.{part_text};
-ghost use Rattle.someipctl_print.specs.Sending.{Sends, Stops};
+ghost use Rattle.someipctl_io.specs.Parts.{part_text};
+ghost use Rattle.someipctl_io.specs.Sending.{Sends, Stops};
 ghost use Rattle.someipctl_run.specs.Traces.{came_by_text, line_head, line_text, margin, marked_line};
 ghost use Rattle.someipctl_run.specs.Traces.{marked_lines, marked_verdict, node_name, number_after};
 ghost use Rattle.someipctl_run.specs.Traces.{pointed, reuse_line, shown_line_of};
@@ -12,7 +12,7 @@ use crate::outputs::put_told;
 use crate::step_lines::line_of_step;
 use someip_node::Output;
 use someip_world::{Line, Reuse, SetupNode, Told};
-use someipctl_print::{Buffer, CannotWrite, Part, put_parts};
+use someipctl_io::{Buffer, CannotWrite, Part, put_parts};
 use std::io::Write;
 
 /// Prints lines over the nodes of a setup, each after the line of the schedule by which it came, where

@@ -8,7 +8,7 @@ use Rattle.someip_payload_values.specs.Data.{Form, Data}
 use Rattle.someip_payload_values.specs.Check.{checked}
 use Rattle.someip_payload_codec.specs.Faults.{FaultIn, IsFirstFault, whole}
 use Rattle.someip_payload_values.specs.Steps.{Fails}
-use Rattle.someipctl_inputs.specs.declared.outcome.Outcome.{Outcome}
+use Rattle.someipctl_io.specs.declared.outcome.Outcome.{Outcome}
 use Rattle.someipctl_show.specs.Payload.{AnswersPayload, IsFaultOf, ShowsPayloadBeginning}
 
 -- two answers of a reading are one fault

@@ -6,7 +6,7 @@ use Rattle.std.proofs.lemmas.List.{drop_at}
 use Rattle.someip_wire.specs.declared.WireError.{WireError}
 use Rattle.someip_wire.specs.Spelling.{MessageValue, header_bytes, spelling}
 use Rattle.someip_wire.specs.Datagram.{Datagram, items}
-use Rattle.someipctl_print.specs.Items.{item_lines}
+use Rattle.someipctl_io.specs.Items.{item_lines}
 use Rattle.someipctl_types.specs.Types.{TypesValue}
 use Rattle.someipctl_types.specs.ValueLine.{value_line}
 use Rattle.someipctl_show.specs.ShownText.{lines_from}

@@ -9,15 +9,8 @@ use Rattle.someip_wire.specs.declared.WireError.{WireError}
 use Rattle.someip_wire.specs.Spelling.{MessageValue}
 use Rattle.someip_wire.specs.Reading.{items_of}
 use Rattle.someip_wire.proofs.DatagramLemmas.{items_from-nil}
-use Rattle.someipctl_print.specs.Discovery.{discovery_in, view_reading}
+use Rattle.someipctl_io.specs.Discovery.{discovery_in, view_reading}
 use Rattle.someipctl_show.specs.Readings.{BeginWith, readings_in}
-
--- the first of what is left is what the item holds
-pub first_left : (r : Result SdRead SdError) (rest left : List (Result SdRead SdError)) (front : Option (Result SdValue SdError)) → left ≡ r ∷ rest → is_some front ≡ true
-    → BeginWith (map view_reading left) (option_to_list front) → Some (view_reading r) ≡ front
-first_left r rest left None is some begins = cc
-first_left r rest left (Some x) is some begins =
-    let whole : view_reading r ∷ map view_reading rest ≡ x ∷ begins.0 = sym (ap (map view_reading) is) ∙ begins.1 in cc
 
 -- where an item holds something, something is left
 pub some_left : (left : List (Result SdRead SdError)) (front : Option (Result SdValue SdError)) → left ≡ [] → is_some front ≡ true → BeginWith (map view_reading left) (option_to_list front) → None ≡ front

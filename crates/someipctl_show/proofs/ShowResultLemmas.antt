@@ -1,20 +1,18 @@
 -- From what was read and written to what `show` promises.
-use Rattle.std.proofs.Common.{◌≡◌, ℕ, List, [], ◌∷◌, ◌++◌, map, Option, Some, Vec, Global, refl, ap, ◌∙◌, inl, inr}
-use Rattle.std.specs.Prelude.{IfSome}
+use Rattle.std.proofs.Common.{◌≡◌, ℕ, List, [], ◌∷◌, ◌++◌, map, Option, Some, Vec, Global, refl, ap, ◌∙◌, inr}
 use Rattle.std.proofs.KnownBytes.{Appends-nil}
-use Rattle.someipctl_inputs.specs.declared.outcome.Outcome.{Outcome}
+use Rattle.someipctl_io.specs.declared.outcome.Outcome.{Outcome}
 use Rattle.someipctl_show.specs.declared.show.ShowError.{ShowError}
-use Rattle.someipctl_show.specs.declared.show.ShowError.TheVariants.{BadHex, CannotRead, CannotWrite, OutOfMemory}
+use Rattle.someipctl_show.specs.declared.show.ShowError.TheVariants.{CannotWrite, OutOfMemory}
 use Rattle.someipctl_show.specs.Capture.{captured_datagrams}
-use Rattle.someipctl_print.specs.Sending.{Stops}
+use Rattle.someipctl_io.specs.Sending.{Stops}
 use Rattle.someipctl_show.specs.ShownText.{ComesWith, shown_text}
-use Rattle.someipctl_show.specs.ShowResult.{SaysDatagrams, Shows, ShowsBeginning, RefusesShow, error_of_print}
+use Rattle.someipctl_show.specs.ShowResult.{SaysDatagrams, ShowsBeginning, RefusesShow, error_of_print}
 use Rattle.someipctl_show.specs.declared.print_fault.PrintFault.{PrintFault}
 use Rattle.someipctl_show.specs.declared.print_fault.PrintFault.TheVariants as prints
 use Rattle.someipctl_show.specs.declared.services.AskedService.{AskedService}
 use Rattle.someipctl_show.specs.Services.{asked_among}
 use Rattle.someipctl_types.specs.Types.{TypesValue}
-use Rattle.someipctl_inputs.proofs.InputLemmas.{WasLeft-read}
 use Rattle.someipctl_show.proofs.ShownTextLemmas.{bytes_of_each}
 
 map_some : (datagrams : List (Vec ℕ Global)) → map (λ (t : List ℕ). Some t) (bytes_of_each datagrams) ≡ map (λ d. Some d.items) datagrams
@@ -36,38 +34,6 @@ shows_beginning services types text datagrams a b is stops = record {
   wrote = stops.sends.wrote;
   beginning = stops.sends.rest;
 }
-
-pub Shows-read : (services : Option (List AskedService)) (types : TypesValue) (input : Option (List ℕ)) (text : List ℕ) (outcome : Outcome) (a b : Option (List ℕ)) → IfSome input (λ known. text ≡ known)
-    → Shows (Some text) services types outcome a b → Shows input services types outcome a b
-Shows-read services types input text outcome a b read s = record {
-  capture = s.capture;
-  left = WasLeft-read input text s.capture read s.left;
-  datagrams = s.datagrams;
-  says = s.says;
-  wrote = s.wrote;
-  tells = s.tells;
-}
-
-begins_read : (services : Option (List AskedService)) (types : TypesValue) (input : Option (List ℕ)) (text : List ℕ) (a b : Option (List ℕ)) → IfSome input (λ known. text ≡ known)
-    → ShowsBeginning (Some text) services types a b → ShowsBeginning input services types a b
-begins_read services types input text a b read r = record {
-  capture = r.capture;
-  left = WasLeft-read input text r.capture read r.left;
-  datagrams = r.datagrams;
-  says = r.says;
-  sent = r.sent;
-  unsent = r.unsent;
-  wrote = r.wrote;
-  beginning = r.beginning;
-}
-
-pub RefusesShow-read : (services : Option (List AskedService)) (types : TypesValue) (input : Option (List ℕ)) (text : List ℕ) (e : ShowError) (a b : Option (List ℕ)) → IfSome input (λ known. text ≡ known)
-    → RefusesShow (Some text) services types e a b → RefusesShow input services types e a b
-RefusesShow-read services types input text (BadHex line) a b read r = ((r.0.0, WasLeft-read input text r.0.0 read r.0.1, r.0.2), r.1)
-RefusesShow-read services types input text CannotRead a b read r = r
-RefusesShow-read services types input text CannotWrite a b read r = begins_read services types input text a b read r
-RefusesShow-read services types input text OutOfMemory a b read (inl kept) = inl kept
-RefusesShow-read services types input text OutOfMemory a b read (inr r) = inr (r.0, begins_read services types input text a b read r.1)
 
 -- what was written of a text that was not printed whole
 pub refuses_print : (services : Option (List AskedService)) (types : TypesValue) (text : List ℕ) (datagrams : List (Vec ℕ Global)) (fault : PrintFault) (a b : Option (List ℕ)) → map (λ d. Some d.items) datagrams ≡ captured_datagrams text

@@ -7,8 +7,8 @@ use Rattle.someip_wire.specs.Spelling.{MessageValue, spelling}
 use Rattle.someip_wire.specs.Datagram.{Datagram, items}
 use Rattle.someip_wire.specs.Reading.{items_of}
 use Rattle.someip_wire.proofs.DatagramLemmas.{items_from-nil}
-use Rattle.someipctl_print.specs.Lines.{empty_line}
-use Rattle.someipctl_print.specs.Items.{item_len}
+use Rattle.someipctl_io.specs.Lines.{empty_line}
+use Rattle.someipctl_io.specs.Items.{item_len}
 use Rattle.someipctl_types.specs.Types.{TypesValue}
 use Rattle.someipctl_show.specs.ShownText.{datagram_text, has_fault, lines_from, shows_fault}
 

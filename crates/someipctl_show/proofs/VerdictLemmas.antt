@@ -2,15 +2,15 @@
 use Rattle.std.proofs.Common.{◌≡◌, ◌<◌, ◌≤◌, ℕ, zero, suc, ◌+◌, Bool, List, [], ◌∷◌, ◌++◌, length, get_or, drop, map, Option, Some, refl, sym, ap, ◌∙◌, subst, append_assoc, arith, add-one, drop-cons}
 use Rattle.std.specs.Prelude.{IfSome}
 use Rattle.std.proofs.lemmas.List.{append-nil, drop_all}
-use Rattle.someipctl_inputs.specs.declared.outcome.Outcome.{Outcome}
+use Rattle.someipctl_io.specs.declared.outcome.Outcome.{Outcome}
 use Rattle.someipctl_show.specs.declared.vector_lines.Question.{Question}
 use Rattle.someipctl_show.specs.declared.vector_lines.VectorLine.{VectorLine}
-use Rattle.someipctl_show.specs.declared.vector_lines.VectorLine.TheVariants.{Asks, Expects}
+use Rattle.someipctl_show.specs.declared.vector_lines.VectorLine.TheVariants.{Asks}
 use Rattle.someipctl_show.specs.declared.vectors.VectorsError.{VectorsError}
 use Rattle.someipctl_show.specs.declared.vectors.VectorsError.TheVariants.{BadVector, CannotRead, CannotWrite, OutOfMemory}
 use Rattle.someipctl_show.specs.VectorLines.{asked_by, said_by}
-use Rattle.someipctl_show.specs.Vectors.{Vector, AreJudged, IsJudged, Judges, RefusesVectors, expected_text, vectors_in}
-use Rattle.someipctl_inputs.proofs.InputLemmas.{WasLeft-read}
+use Rattle.someipctl_show.specs.Vectors.{Vector, AreJudged, IsJudged, RefusesVectors, expected_text, vectors_in}
+use Rattle.someipctl_io.proofs.InputLemmas.{WasLeft-read}
 
 -- the result at a place, and those after it
 pub next_result : (results : List Bool) (i : ℕ) (d : Bool) → i < length results → drop i results ≡ get_or results i d ∷ drop (i + 1) results
@@ -25,14 +25,6 @@ vectors_from_asks lines i d question lt is =
     let next : drop i lines ≡ Asks question ∷ drop (i + 1) lines = rw (add-one) (drop-cons lines i d lt ∙ ap (λ l. l ∷ drop (suc i) lines) is) in
     rw next refl
 
--- the vectors from a line on, where that is a line of expected text
-pub vectors_from_expects : (lines : List VectorLine) (i : ℕ) (d : VectorLine) → i < length lines → ((question : Question) → get_or lines i d ≡ Asks question → ⊥)
-    → vectors_in (map said_by (drop i lines)) ≡ vectors_in (map said_by (drop (i + 1) lines))
-vectors_from_expects [] i d lt other = absurd (omega (arith, lt))
-vectors_from_expects (Asks question ∷ lines) zero d lt other = absurd (other question refl)
-vectors_from_expects (Expects text ∷ lines) zero d lt other = refl
-vectors_from_expects (l ∷ lines) (suc i) d lt other = let k : suc i + 1 ≡ suc (i + 1) = omega arith in rw k (vectors_from_expects lines i d (omega (arith, lt)) other)
-
 -- a vector more
 pub judged_more : (all before behind : List Vector) (vector : Vector) (results : List Bool) (passed : Bool) → before ≡ vector ∷ behind → IsJudged vector passed
     → ((others : List Bool) → AreJudged before others → AreJudged all (results ++ others)) → (others : List Bool) → AreJudged behind others → AreJudged all ((results ++ passed ∷ []) ++ others)
@@ -46,19 +38,6 @@ pub judged_all : (lines : List VectorLine) (i : ℕ) (results : List Bool) → l
 judged_all lines i results end so_far =
     let none : AreJudged (vectors_in (map said_by (drop i lines))) [] = rw (drop_all i lines end) tt in
     subst (AreJudged (vectors_in (map said_by lines))) (append-nil results) (so_far [] none)
-
--- what holds of the file that was read holds of what the reader had left
-pub Judges-read : (input : Option (List ℕ)) (text : List ℕ) (outcome : Outcome) (a b : Option (List ℕ)) → IfSome input (λ known. text ≡ known) → Judges (Some text) outcome a b → Judges input outcome a b
-Judges-read input text outcome a b read j = record {
-  file = j.file;
-  left = WasLeft-read input text j.file read j.left;
-  sayings = j.sayings;
-  says = j.says;
-  results = j.results;
-  judged = j.judged;
-  wrote = j.wrote;
-  tells = j.tells;
-}
 
 pub RefusesVectors-read : (input : Option (List ℕ)) (text : List ℕ) (e : VectorsError) (a b : Option (List ℕ)) → IfSome input (λ known. text ≡ known)
     → RefusesVectors (Some text) e a b → RefusesVectors input e a b

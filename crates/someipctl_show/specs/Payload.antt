@@ -12,8 +12,8 @@ use Rattle.someip_payload_values.specs.Names.{fault_name, fault_place}
 use Rattle.someip_payload_codec.specs.Faults.{FaultIn, whole}
 use Rattle.someip_payload.specs.ShapeText.{IsTextOf}
 use Rattle.someip_payload_values.specs.ValueText.{value_text}
-use Rattle.someipctl_inputs.specs.declared.outcome.Outcome.{Outcome}
-use Rattle.someipctl_inputs.specs.declared.outcome.Outcome.TheVariants.{Done, FaultShown}
+use Rattle.someipctl_io.specs.declared.outcome.Outcome.{Outcome}
+use Rattle.someipctl_io.specs.declared.outcome.Outcome.TheVariants.{Done, FaultShown}
 use Rattle.std.specs.Result.{result_ok}
 use Rattle.hex.specs.Hex.{decode_of}
 use Rattle.someip_payload.specs.declared.ShapeTextError.{ShapeTextError}

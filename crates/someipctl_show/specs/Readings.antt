@@ -7,7 +7,7 @@ use Rattle.someip_wire.specs.Spelling.{MessageValue}
 use Rattle.someip_wire.specs.Reading.{items_of}
 use Rattle.sd_wire.specs.declared.SdError.{SdError}
 use Rattle.sd_wire.specs.contents.Values.{SdValue}
-use Rattle.someipctl_print.specs.Discovery.{discovery_in}
+use Rattle.someipctl_io.specs.Discovery.{discovery_in}
 
 -- what items hold for Service Discovery, in order
 abbrev pub readings_in : List (Result MessageValue WireError) → List (Result SdValue SdError)

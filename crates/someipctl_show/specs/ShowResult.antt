@@ -2,11 +2,11 @@
 use Rattle.std.specs.Prelude.{ℕ, ◌≡◌, ◌≢◌, ◌⊎◌, List, [], ◌++◌, map, Option, Some, option_map}
 use Rattle.std.specs.Borrow.{Bor}
 use Rattle.std.specs.Io.KnownBytes.{Appends, Keeps}
-use Rattle.someipctl_inputs.specs.declared.outcome.Outcome.{Outcome}
+use Rattle.someipctl_io.specs.declared.outcome.Outcome.{Outcome}
 use Rattle.someipctl_show.specs.declared.capture.CaptureError.{CaptureError}
 use Rattle.someipctl_show.specs.declared.capture.CaptureError.TheVariants as captures
-use Rattle.someipctl_inputs.specs.declared.input.ReadFault.{ReadFault}
-use Rattle.someipctl_inputs.specs.declared.input.ReadFault.TheVariants as inputs
+use Rattle.someipctl_io.specs.declared.input.ReadFault.{ReadFault}
+use Rattle.someipctl_io.specs.declared.input.ReadFault.TheVariants as inputs
 use Rattle.someipctl_show.specs.declared.show.ShowError.{ShowError}
 use Rattle.someipctl_show.specs.declared.show.ShowError.TheVariants.{BadHex, CannotRead, CannotWrite, OutOfMemory}
 use Rattle.someipctl_show.specs.declared.print_fault.PrintFault.{PrintFault}
@@ -15,7 +15,7 @@ use Rattle.someipctl_show.specs.declared.services.AskedService.{AskedService}
 use Rattle.someipctl_show.specs.Services.{asked_among}
 use Rattle.someipctl_types.specs.Types.{TypesValue}
 use Rattle.someipctl_show.specs.Capture.{captured_datagrams, first_bad}
-use Rattle.someipctl_inputs.specs.Inputs.{WasLeft}
+use Rattle.someipctl_io.specs.Inputs.{WasLeft}
 use Rattle.someipctl_show.specs.ShownText.{shown_text, shown_outcome}
 
 -- the capture says these datagrams, in order: none of its lines is bad

@@ -4,10 +4,10 @@ use Rattle.std.specs.List.{list_any}
 use Rattle.someip_wire.specs.declared.WireError.{WireError}
 use Rattle.someip_wire.specs.Spelling.{MessageValue}
 use Rattle.someip_wire.specs.Reading.{items_of}
-use Rattle.someipctl_inputs.specs.declared.outcome.Outcome.{Outcome}
-use Rattle.someipctl_inputs.specs.Outcomes.{fault_outcome}
-use Rattle.someipctl_print.specs.Lines.{empty_line}
-use Rattle.someipctl_print.specs.Items.{item_len, item_lines, is_faulty}
+use Rattle.someipctl_io.specs.declared.outcome.Outcome.{Outcome}
+use Rattle.someipctl_io.specs.Outcomes.{fault_outcome}
+use Rattle.someipctl_io.specs.Lines.{empty_line}
+use Rattle.someipctl_io.specs.Items.{item_len, item_lines, is_faulty}
 use Rattle.someipctl_show.specs.declared.print_fault.PrintFault.{PrintFault}
 use Rattle.someipctl_show.specs.declared.print_fault.PrintFault.TheVariants.{CannotWrite, OutOfMemory}
 use Rattle.someipctl_types.specs.Types.{TypesValue}

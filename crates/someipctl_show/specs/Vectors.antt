@@ -3,17 +3,17 @@ use Rattle.std.specs.Prelude.{ℕ, ◌+◌, ◌≡◌, Bool, true, false, not, L
 use Rattle.std.specs.List.{list_any}
 use Rattle.std.specs.Str.{bytes_eq}
 use Rattle.std.specs.Io.KnownBytes.{Appends, Keeps}
-use Rattle.someipctl_inputs.specs.declared.outcome.Outcome.{Outcome}
-use Rattle.someipctl_inputs.specs.declared.input.ReadFault.{ReadFault}
-use Rattle.someipctl_inputs.specs.declared.input.ReadFault.TheVariants as inputs
+use Rattle.someipctl_io.specs.declared.outcome.Outcome.{Outcome}
+use Rattle.someipctl_io.specs.declared.input.ReadFault.{ReadFault}
+use Rattle.someipctl_io.specs.declared.input.ReadFault.TheVariants as inputs
 use Rattle.someipctl_show.specs.declared.vectors.VectorsError.{VectorsError}
 use Rattle.someipctl_show.specs.declared.vectors.VectorsError.TheVariants.{BadVector, CannotRead, CannotWrite, OutOfMemory}
 use Rattle.someipctl_show.specs.Capture.{lines_of}
-use Rattle.someipctl_print.specs.Lines.{joined}
-use Rattle.someipctl_inputs.specs.Outcomes.{fault_outcome}
+use Rattle.someipctl_io.specs.Lines.{joined}
+use Rattle.someipctl_io.specs.Outcomes.{fault_outcome}
 use Rattle.someipctl_show.specs.Payload.{Told}
 use Rattle.someipctl_show.specs.ShownText.{datagram_text, no_types}
-use Rattle.someipctl_inputs.specs.Inputs.{WasLeft}
+use Rattle.someipctl_io.specs.Inputs.{WasLeft}
 use Rattle.someipctl_show.specs.VectorLines.{Asked, of_datagram, of_payload, Said, asks, expects, AreSaid, IsFirstBadLine}
 
 -- ---- vectors

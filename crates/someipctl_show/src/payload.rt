@@ -8,8 +8,7 @@ ghost use Rattle.someipctl_show.specs.Payload.{ShowsPayload, RefusesPayload, Tol
 
 use hex::FromHexError;
 use someip_payload::{PayloadError, Shape, ShapeTextError, decode, read_shape};
-use someipctl_inputs::Outcome;
-use someipctl_print::write_text;
+use someipctl_io::{Outcome, write_text};
 use std::alloc::{AllocError, Global};
 use std::io::Write;
 use thiserror::Error;
@@ -24,7 +23,7 @@ pub enum PayloadRefusal {
     #[error("bad hex")]
     BadHex,
     /// Writing failed, or took nothing. A beginning of the text was written.
-    #[error("{}", someipctl_print::CannotWrite)]
+    #[error("{}", someipctl_io::CannotWrite)]
     CannotWrite,
     /// Memory ran out. Nothing was written.
     #[error("out of memory")]
@@ -119,10 +118,10 @@ impl From<AllocError> for PayloadRefusal {
     }
 }
 
-impl From<someipctl_print::CannotWrite> for PayloadRefusal {
+impl From<someipctl_io::CannotWrite> for PayloadRefusal {
     ghost from_gives = { λ _ e. e ≡ CannotWrite };
 
-    fn from(_error: someipctl_print::CannotWrite) -> PayloadRefusal {
+    fn from(_error: someipctl_io::CannotWrite) -> PayloadRefusal {
         PayloadRefusal::CannotWrite
     }
 }

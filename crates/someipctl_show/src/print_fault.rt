@@ -2,7 +2,7 @@
 ghost use Rattle.std.specs.Prelude.{◌≡◌};
 ghost use Rattle.someipctl_show.specs.declared.print_fault.PrintFault.TheVariants as prints;
 
-use someipctl_print::CannotWrite;
+use someipctl_io::CannotWrite;
 use std::alloc::AllocError;
 
 /// Why a text was not printed whole.

@@ -4,7 +4,7 @@ ghost use Rattle.std.specs.Option.{option_to_list};
 ghost use Rattle.someip_wire.specs.View.{view_item};
 ghost use Rattle.someip_wire.specs.Reading.{items_of};
 ghost use Rattle.sd_wire.specs.decoding.Program.{reading};
-ghost use Rattle.someipctl_print.specs.Discovery.{discovery_in, view_found, view_reading};
+ghost use Rattle.someipctl_io.specs.Discovery.{discovery_in, view_found, view_reading};
 ghost use Rattle.someipctl_show.specs.Readings.{BeginWith, readings_in, readings_of};
 
 use sd_wire::{SdError, SdRead, read_sd};

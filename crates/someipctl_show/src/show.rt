@@ -3,8 +3,8 @@ ghost use Rattle.std.specs.Prelude.{◌≡◌, ◌≢◌, ◌++◌, [], Some, On
 ghost use Rattle.std.specs.Io.KnownBytes.{Appends};
 ghost use Rattle.someip_wire.specs.Reading.{items_of};
 ghost use Rattle.someipctl_show.specs.declared.show.ShowError.TheVariants.{OutOfMemory};
-ghost use Rattle.someipctl_print.specs.Sending.{Sends, Stops};
-ghost use Rattle.someipctl_print.specs.Discovery.{view_reading};
+ghost use Rattle.someipctl_io.specs.Sending.{Sends, Stops};
+ghost use Rattle.someipctl_io.specs.Discovery.{view_reading};
 ghost use Rattle.someipctl_show.specs.Readings.{BeginWith, readings_in, readings_of};
 ghost use Rattle.someipctl_show.specs.Services.{asked_among};
 ghost use Rattle.someipctl_show.specs.ShownText.{ComesWith, datagram_text, lines_from, no_types};
@@ -19,8 +19,7 @@ use crate::services::{AskedService, is_asked_by};
 use crate::value_lines::{ValueLines, put_valued_item};
 use sd_wire::{SdError, SdRead};
 use someip_wire::Messages;
-use someipctl_inputs::{Outcome, ReadFault, read_all};
-use someipctl_print::{Buffer, item_len, put_empty};
+use someipctl_io::{Buffer, FoundItem, Outcome, ReadFault, item_len, put_empty, read_all};
 use someipctl_types::MessageTypes;
 use std::alloc::{AllocError, Global};
 use std::io::{Read, Write};
@@ -36,7 +35,7 @@ pub enum ShowError {
     #[error("{}", ReadFault::CannotRead)]
     CannotRead,
     /// Writing failed, or took nothing. A beginning of the text was written.
-    #[error("{}", someipctl_print::CannotWrite)]
+    #[error("{}", someipctl_io::CannotWrite)]
     CannotWrite,
     /// Memory ran out. Nothing was written, or where values are told a beginning of the text.
     #[error("out of memory")]
@@ -219,7 +218,13 @@ fn put_items<W: Write>(
     let mut place = 0;
     for item in Messages::new(datagram) {
         let found = next_reading(&item, left);
-        faulty |= put_valued_item(buffer, writer, k, place, &item, found, values)?;
+        let shown = FoundItem {
+            k,
+            place,
+            item: &item,
+            found,
+        };
+        faulty |= put_valued_item(buffer, writer, &shown, values)?;
         place += item_len(&item);
     }
     Ok(faulty)

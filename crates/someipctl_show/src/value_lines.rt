@@ -1,15 +1,14 @@
 //! The lines of the values of messages.
 ghost use Rattle.std.specs.Prelude.{◌≡◌, ◌+◌, ◌≤◌, [], IfErr, IfOk, IsOk, OnErr, OnOk, string_bytes};
 ghost use Rattle.someip_wire.specs.View.{view_item};
-ghost use Rattle.someipctl_print.specs.Sending.{Sends, Stops};
-ghost use Rattle.someipctl_print.specs.Discovery.{discovery_in, view_found};
-ghost use Rattle.someipctl_print.specs.Items.{item_len, item_lines};
+ghost use Rattle.someipctl_io.specs.Sending.{Sends, Stops};
+ghost use Rattle.someipctl_io.specs.Discovery.{discovery_in, view_found};
+ghost use Rattle.someipctl_io.specs.Items.{item_len, item_lines};
 ghost use Rattle.someipctl_show.specs.ShownText.{ComesWith, has_value_fault_in, shows_fault, value_of_item};
 
 use crate::print_fault::PrintFault;
-use sd_wire::{SdError, SdRead};
 use someip_wire::{Message, WireError};
-use someipctl_print::{Buffer, put_item};
+use someipctl_io::{Buffer, FoundItem, put_item};
 use someipctl_types::MessageTypes;
 use std::alloc::{AllocError, Global};
 use std::io::Write;
@@ -67,39 +66,28 @@ impl<'t> ValueLines<'t> {
     }
 }
 
-/// Prints the lines of an item that begins at a place of the k-th datagram, and after that of a message
-/// the line of its value, where it has one. Says whether a fault is among them.
+/// Prints the lines of an item, and after that of a message the line of its value, where it has one.
+/// Says whether a fault is among them.
 pub fn put_valued_item<W: Write>(
     buffer: &mut Buffer,
     writer: &mut W,
-    k: usize,
-    place: usize,
-    item: &Result<Message<'_>, WireError>,
-    found: Option<&Result<SdRead, SdError>>,
+    shown: &FoundItem<'_>,
     values: &mut ValueLines<'_>,
 ) -> Result<bool, PrintFault>
-    requires found { view_found found ≡ discovery_in (view_item item.now) }
-    requires room { place + item_len (view_item item.now) ≤ usize.MAX }
-    ensures ok { OnOk result (Sends (W.contents writer.old) buffer.old
-        (W.contents writer.new) buffer.new (item_lines k place
-        (value_of_item values.old.types.now k place (view_item item.now)) (view_item item.now))) }
+    requires found { view_found shown.now.found ≡ discovery_in (view_item shown.now.item.now) }
+    requires room { shown.now.place + item_len (view_item shown.now.item.now) ≤ usize.MAX }
+    ensures ok { OnOk result (Sends (W.contents writer.old) buffer.old (W.contents writer.new) buffer.new
+        (item_lines shown.now.k shown.now.place (value_of_item values.old.types.now shown.now.k
+        shown.now.place (view_item shown.now.item.now)) (view_item shown.now.item.now))) }
     ensures faulty { IfOk result (λ faulty.
-        faulty ≡ shows_fault values.old.types.now (view_item item.now)) }
-    ensures err { OnErr result (Stops (W.contents writer.old) buffer.old
-        (W.contents writer.new) (item_lines k place
-        (value_of_item values.old.types.now k place (view_item item.now)) (view_item item.now))) }
+        faulty ≡ shows_fault values.old.types.now (view_item shown.now.item.now)) }
+    ensures err { OnErr result (Stops (W.contents writer.old) buffer.old (W.contents writer.new)
+        (item_lines shown.now.k shown.now.place (value_of_item values.old.types.now shown.now.k
+        shown.now.place (view_item shown.now.item.now)) (view_item shown.now.item.now))) }
     ensures memory { IfErr result (ComesWith values.old.types.now) }
     ensures types { values.new.types.now ≡ values.old.types.now }
 {
-    let is_value_faulty = values.make(k, place, item)?;
-    let faulty = put_item(
-        buffer,
-        writer,
-        k,
-        place,
-        item,
-        values.line.as_bytes(),
-        found,
-    )?;
+    let is_value_faulty = values.make(shown.k, shown.place, shown.item)?;
+    let faulty = put_item(buffer, writer, shown, values.line.as_bytes())?;
     Ok(is_value_faulty | faulty)
 }

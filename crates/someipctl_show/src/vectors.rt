@@ -5,7 +5,7 @@ ghost use Rattle.std.specs.Str.{bytes_eq};
 ghost use Rattle.std.specs.Io.KnownBytes.{Appends};
 ghost use Rattle.someipctl_show.specs.declared.vectors.VectorsError.TheVariants.{CannotWrite, OutOfMemory};
 ghost use Rattle.someipctl_show.specs.Capture.{lines_of};
-ghost use Rattle.someipctl_print.specs.Sending.{Sends, Stops};
+ghost use Rattle.someipctl_io.specs.Sending.{Sends, Stops};
 ghost use Rattle.someipctl_show.specs.VectorLines.{AreSaid, asked_by, has_vector, said_by};
 ghost use Rattle.someipctl_show.specs.Vectors.{AreJudged, IsJudged, IsPrintedOf, Judges, RefusesLines, RefusesVectors};
 ghost use Rattle.someipctl_show.specs.Vectors.{count_passed, error_of_file, expected_text, summary_line};
@@ -15,8 +15,7 @@ ghost use Rattle.someipctl_show.specs.Vectors.{verdicts_text};
 use crate::payload::read_text;
 use crate::show::text_of_datagram;
 use crate::vector_lines::{LineFault, Question, VectorLine, line_of};
-use someipctl_inputs::{Outcome, ReadFault, read_all};
-use someipctl_print::{Buffer, Part, put_parts};
+use someipctl_io::{Buffer, Outcome, Part, ReadFault, put_parts, read_all};
 use std::alloc::{AllocError, AllocFailed, Global};
 use std::io::{Read, Write};
 use thiserror::Error;
@@ -32,7 +31,7 @@ pub enum VectorsError {
     #[error("{}", ReadFault::CannotRead)]
     CannotRead,
     /// Writing failed, or took nothing. A beginning of the text was written.
-    #[error("{}", someipctl_print::CannotWrite)]
+    #[error("{}", someipctl_io::CannotWrite)]
     CannotWrite,
     /// Memory ran out. Nothing was written.
     #[error("out of memory")]
@@ -178,7 +177,7 @@ fn write_verdicts<W: Write>(
     buffer: &mut Buffer,
     writer: &mut W,
     results: &[bool],
-) -> Result<(), someipctl_print::CannotWrite>
+) -> Result<(), someipctl_io::CannotWrite>
     requires { buffer.old ≡ [] }
     ensures ok { OnOk result (Appends (W.contents writer.old)
         (W.contents writer.new) (verdicts_text results.now)) }
@@ -195,7 +194,7 @@ fn put_verdicts<W: Write>(
     buffer: &mut Buffer,
     writer: &mut W,
     results: &[bool],
-) -> Result<(), someipctl_print::CannotWrite>
+) -> Result<(), someipctl_io::CannotWrite>
     ensures ok { OnOk result (Sends (W.contents writer.old) buffer.old
         (W.contents writer.new) buffer.new (verdict_lines 1 results.now)) }
     ensures err { OnErr result (Stops (W.contents writer.old) buffer.old
@@ -213,7 +212,7 @@ fn put_verdict<W: Write>(
     writer: &mut W,
     k: usize,
     passed: bool,
-) -> Result<(), someipctl_print::CannotWrite>
+) -> Result<(), someipctl_io::CannotWrite>
     ensures ok { OnOk result (Sends (W.contents writer.old) buffer.old
         (W.contents writer.new) buffer.new (verdict_line k passed)) }
     ensures err { OnErr result (Stops (W.contents writer.old) buffer.old
@@ -228,7 +227,7 @@ fn put_summary<W: Write>(
     buffer: &mut Buffer,
     writer: &mut W,
     results: &[bool],
-) -> Result<(), someipctl_print::CannotWrite>
+) -> Result<(), someipctl_io::CannotWrite>
     ensures ok { OnOk result (Sends (W.contents writer.old) buffer.old
         (W.contents writer.new) buffer.new (summary_line results.now)) }
     ensures err { OnErr result (Stops (W.contents writer.old) buffer.old
@@ -264,10 +263,10 @@ impl From<ReadFault> for VectorsError {
     }
 }
 
-impl From<someipctl_print::CannotWrite> for VectorsError {
+impl From<someipctl_io::CannotWrite> for VectorsError {
     ghost from_gives = { λ _ e. e ≡ CannotWrite };
 
-    fn from(_error: someipctl_print::CannotWrite) -> VectorsError {
+    fn from(_error: someipctl_io::CannotWrite) -> VectorsError {
         VectorsError::CannotWrite
     }
 }

@@ -10,7 +10,7 @@ use Rattle.std.proofs.lemmas.Option.{slice_get_past, slice_get_read}
 use Rattle.std.specs.Ordering.{nat_cmp, is_eq, ordering_then, eq_by_cmp}
 use Rattle.std.specs.Cmp.{IsTotalOrder, unsigned_tied, nat_cmp_total, eq_by_cmp_equiv}
 use Rattle.std.proofs.lemmas.Cmp.{on_total, then_total}
-use Rattle.std.proofs.lemmas.List.{drop_all, drop_more}
+use Rattle.std.proofs.lemmas.List.{drop_more}
 use Rattle.std.specs.BTreeMap as tree
 use Rattle.std.specs.BTreeMap.{BTreeMap}
 use Rattle.someip_wire.specs.declared.header.Header.{Header}
@@ -114,16 +114,6 @@ module _ (places : BTreeMap MessageKey ℕ) (i : ℕ) (ts : List TypedMessage) w
   met_again t lt is found h =
       let one : (list_any has_place (drop i ts) || has_clash (types_view (drop i ts))) ≡ true = rw (drop_more ts i t lt, sym is, found) refl in
       sym h.met ∙ one
-
-  pub whole_index : length ts ≤ i → IsIndexTo → IsIndex places ts × (has_clash (types_view ts) ≡ false)
-  whole_index le h = (
-    λ key. sym (last (tree.get key_cmp places key)) ∙ (rw (drop_all i ts le) at h.placed key),
-    let one : (list_any has_place (drop i ts) || has_clash (types_view (drop i ts))) ≡ false = rw (drop_all i ts le) refl in sym h.met ∙ one,
-  )
-    where
-      last : (o : Option ℕ) → option_or o None ≡ o
-      last None = refl
-      last (Some n) = refl
 
 pub empty_index : (places : BTreeMap MessageKey ℕ) (ts : List TypedMessage) → places.entries ≡ [] → IsIndexTo places 0 ts
 empty_index places ts empty = record {

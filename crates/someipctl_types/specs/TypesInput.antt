@@ -1,9 +1,9 @@
 -- What an input says as a types file.
 use Rattle.std.specs.Prelude.{ℕ, ◌≡◌, true, List, Option, None}
 use Rattle.std.specs.Str.{is_utf8}
-use Rattle.someipctl_inputs.specs.Inputs.{WasLeft}
-use Rattle.someipctl_inputs.specs.declared.input.ReadFault.{ReadFault}
-use Rattle.someipctl_inputs.specs.declared.input.ReadFault.TheVariants as inputs
+use Rattle.someipctl_io.specs.Inputs.{WasLeft}
+use Rattle.someipctl_io.specs.declared.input.ReadFault.{ReadFault}
+use Rattle.someipctl_io.specs.declared.input.ReadFault.TheVariants as inputs
 use Rattle.someipctl_types.specs.declared.error.TypesError.TheVariants as errors
 use Rattle.someipctl_types.specs.declared.error.TypesFault.{TypesFault}
 use Rattle.someipctl_types.specs.declared.error.TypesFault.TheVariants as faults

@@ -3,7 +3,7 @@ ghost use Rattle.std.specs.Prelude.{◌≡◌};
 ghost use Rattle.someipctl_types.specs.declared.error.TypesError.TheVariants.{OutOfMemory};
 ghost use Rattle.someipctl_types.specs.TypesInput.{fault_of_input};
 
-use someipctl_inputs::ReadFault;
+use someipctl_io::ReadFault;
 use std::alloc::{AllocError, AllocFailed};
 use thiserror::Error;
 

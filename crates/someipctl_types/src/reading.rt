@@ -5,7 +5,7 @@ ghost use Rattle.someipctl_types.specs.TypesInput.{BytesSay, InputSays, RefusesB
 
 use crate::error::{TypesError, TypesFault};
 use crate::message_types::MessageTypes;
-use someipctl_inputs::read_all;
+use someipctl_io::read_all;
 use std::alloc::Global;
 use std::io::Read;
 use std::str;

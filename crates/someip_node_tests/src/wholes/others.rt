@@ -8,7 +8,7 @@ use super::segments::{
     TOO_LONG, TOO_LONG_LINE, UNALIGNED, UNALIGNED_LINE, UNALIGNED_TOO_LONG,
     UNALIGNED_TOO_LONG_LINE, WHOLE, WHOLE_2, WHOLE_LONG,
 };
-use someipctl_inputs::Outcome::FaultShown;
+use someipctl_io::Outcome::FaultShown;
 use someipctl_recordings::WholeLimits;
 use someipctl_show::services::AskedService;
 

@@ -4,8 +4,8 @@ use super::segments::{
     AT_0, AT_16, FIRST, FIRST_2, FIRST_2_LINE, FIRST_AND_LAST, FIRST_LINE, FORTH, LAST, LAST_2,
     LAST_2_LINE, LAST_LINE, OTHER, OTHER_LINE, OTHERS, WHOLE, WHOLE_2,
 };
-use someipctl_inputs::Outcome;
-use someipctl_inputs::Outcome::Done;
+use someipctl_io::Outcome;
+use someipctl_io::Outcome::Done;
 use someipctl_recordings::WholeLimits;
 use someipctl_show::services::AskedService;
 

@@ -1,7 +1,7 @@
 use Rattle.std.proofs.Common.{ap, ◌∙◌}
 use Rattle.std.specs.List.{flat_map}
 use Rattle.std.proofs.lemmas.List.{drop_all, drop_more}
-use Rattle.someipctl_print.proofs.SendingLemmas.{OnErr-any, IsSending-more, IsSending-stop}
+use Rattle.someipctl_io.proofs.SendingLemmas.{OnErr-any, IsSending-more, IsSending-stop}
 use Rattle.someipctl_audit.specs.AuditText.{found_line}
 use Rattle.someipctl_audit.specs.Tallies.{tally_after}
 use Rattle.someipctl_audit.proofs.StepLemmas.{counts_cons, counts_none, stops_here}

@@ -1,7 +1,7 @@
 use Rattle.std.proofs.Common.{drop, map}
 use Rattle.std.specs.List.{flat_map}
 use Rattle.someip_audit.specs.Audits.{found}
-use Rattle.someipctl_print.proofs.SendingLemmas.{IsSending}
+use Rattle.someipctl_io.proofs.SendingLemmas.{IsSending}
 use Rattle.someipctl_audit.specs.declared.tally.Tally.{Tally}
 use Rattle.someipctl_audit.specs.AuditText.{found_line}
 use Rattle.someipctl_audit.specs.Steps.{CountsMore}

@@ -1,5 +1,5 @@
 use Rattle.std.proofs.Common.{ap, ◌∙◌}
-use Rattle.someipctl_print.proofs.SendingLemmas.{OnErr-any}
+use Rattle.someipctl_io.proofs.SendingLemmas.{OnErr-any}
 use Rattle.someipctl_audit.specs.Tallies.{tally_after}
 use Rattle.someipctl_audit.proofs.StepLemmas.{draining_begin, draining_end, draining_more, draining_rest, draining_stop, stops_here}
 use Rattle.someipctl_audit.proofs.auditing.put_due.Goals as goal

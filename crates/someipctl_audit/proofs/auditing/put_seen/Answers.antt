@@ -1,7 +1,7 @@
 use Rattle.std.proofs.Common.{ap, ◌∙◌}
 use Rattle.std.proofs.lemmas.Result.{on_err_weaker}
 use Rattle.someip_audit.specs.SdShown.{Work}
-use Rattle.someipctl_print.proofs.SendingLemmas.{OnErr-any}
+use Rattle.someipctl_io.proofs.SendingLemmas.{OnErr-any}
 use Rattle.someipctl_audit.specs.Tallies.{tally_looked}
 use Rattle.someipctl_audit.specs.Scenes.{view_seen}
 use Rattle.someipctl_audit.proofs.StepLemmas.{on_ok_two, seen_end, seen_stop, seen_stop_due, seen_stop_found}

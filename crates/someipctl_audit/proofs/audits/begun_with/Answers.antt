@@ -1,5 +1,5 @@
 use Rattle.std.proofs.Common.{None, refl}
-use Rattle.someipctl_print.proofs.SendingLemmas.{OnErr-any}
+use Rattle.someipctl_io.proofs.SendingLemmas.{OnErr-any}
 use Rattle.someipctl_audit.specs.AuditResult.{view_asked}
 use Rattle.someipctl_audit.proofs.RunLemmas.{begin_stops}
 use Rattle.someipctl_audit.proofs.audits.begun_with.Goals as goal

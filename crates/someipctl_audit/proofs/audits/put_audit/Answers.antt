@@ -2,7 +2,7 @@ use Rattle.std.proofs.Common.{◌∙◌, [], ◌∷◌, Some, None, Err, refl, s
 use Rattle.std.specs.Prelude.{option_map}
 use Rattle.std.proofs.lemmas.Result.{on_err_weaker}
 use Rattle.recording.specs.View.{view_record}
-use Rattle.someipctl_print.proofs.SendingLemmas.{OnErr-any, Sends-nil}
+use Rattle.someipctl_io.proofs.SendingLemmas.{OnErr-any, Sends-nil}
 use Rattle.someipctl_recordings.proofs.ComingLemmas.{comes_taken, comes_empty}
 use Rattle.someipctl_audit.specs.AuditResult.{view_asked}
 use Rattle.someipctl_audit.proofs.StepLemmas.{stops_here}

@@ -1,5 +1,5 @@
 use Rattle.recording.specs.View.{view_datagram}
-use Rattle.someipctl_print.proofs.SendingLemmas.{OnErr-any}
+use Rattle.someipctl_io.proofs.SendingLemmas.{OnErr-any}
 use Rattle.someipctl_audit.specs.AuditResult.{view_asked}
 use Rattle.someipctl_audit.proofs.RunLemmas.{next_puts, next_stops}
 use Rattle.someipctl_audit.proofs.audits.put_datagram.Goals as goal

@@ -1,4 +1,4 @@
-use Rattle.someipctl_print.proofs.SendingLemmas.{OnErr-any}
+use Rattle.someipctl_io.proofs.SendingLemmas.{OnErr-any}
 use Rattle.someipctl_audit.proofs.RunLemmas.{end_puts, end_stops}
 use Rattle.someipctl_audit.proofs.audits.put_end.Goals as goal
 

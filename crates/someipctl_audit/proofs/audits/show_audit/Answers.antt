@@ -1,4 +1,4 @@
-use Rattle.someipctl_print.proofs.SendingLemmas.{OnErr-any}
+use Rattle.someipctl_io.proofs.SendingLemmas.{OnErr-any}
 use Rattle.someipctl_audit.specs.AuditResult.{view_asked}
 use Rattle.someipctl_audit.proofs.RunLemmas.{begins_nothing, puts_begun, puts_shown}
 use Rattle.someipctl_audit.proofs.audits.show_audit.Goals as goal

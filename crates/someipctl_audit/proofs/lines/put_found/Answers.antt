@@ -1,4 +1,4 @@
-use Rattle.someipctl_print.proofs.SendingLemmas.{Stops-before}
+use Rattle.someipctl_io.proofs.SendingLemmas.{Stops-before}
 use Rattle.someipctl_audit.proofs.PutsLemmas.{puts_behind, puts_err}
 use Rattle.someipctl_audit.proofs.lines.put_found.Goals as goal
 

@@ -1,6 +1,6 @@
 use Rattle.std.proofs.Common.{map, refl}
-use Rattle.someipctl_print.specs.Words.{word_text}
-use Rattle.someipctl_print.proofs.SendingLemmas.{Sends-trans, Stops-after, Stops-before}
+use Rattle.someipctl_io.specs.Words.{word_text}
+use Rattle.someipctl_io.proofs.SendingLemmas.{Sends-trans, Stops-after, Stops-before}
 use Rattle.someipctl_audit.specs.Kinds.{kind_words}
 use Rattle.someipctl_audit.proofs.PutsLemmas.{ended_words, puts_err}
 use Rattle.someipctl_audit.proofs.says.put_said.Goals as goal

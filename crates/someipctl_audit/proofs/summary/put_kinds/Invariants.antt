@@ -1,5 +1,5 @@
 use Rattle.std.proofs.Common.{drop}
-use Rattle.someipctl_print.proofs.SendingLemmas.{IsSending}
+use Rattle.someipctl_io.proofs.SendingLemmas.{IsSending}
 use Rattle.someipctl_audit.specs.Tallies.{tally_kinds}
 use Rattle.someipctl_audit.proofs.summary.put_kinds.Given as goal
 

@@ -1,7 +1,7 @@
 use Rattle.std.proofs.Common.{[], ap, arith}
 use Rattle.recording.specs.Readers.{IsNext, ReaderValue}
 use Rattle.recording.specs.declared.Next.TheVariants.{Unread}
-use Rattle.someipctl_print.proofs.SendingLemmas.{OnErr-any, Sends-flush, Stops-flush}
+use Rattle.someipctl_io.proofs.SendingLemmas.{OnErr-any, Sends-flush, Stops-flush}
 use Rattle.someipctl_recordings.proofs.ComingLemmas.{comes_both, comes_unread, comes_read}
 use Rattle.someipctl_recordings.proofs.coming.next_coming.Goals as goal
 

@@ -1,5 +1,5 @@
 use Rattle.std.proofs.Common.{◌≤◌, []}
-use Rattle.someipctl_print.specs.Sending.{Sends}
+use Rattle.someipctl_io.specs.Sending.{Sends}
 use Rattle.someipctl_recordings.specs.Coming.{Comes}
 use Rattle.someipctl_recordings.proofs.coming.next_coming.Given as goal
 

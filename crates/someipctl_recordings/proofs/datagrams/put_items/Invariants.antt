@@ -1,6 +1,6 @@
 use Rattle.std.proofs.Common.{◌≡◌, ◌≤◌, ◌+◌, ◌||◌, length}
 use Rattle.recording.specs.View.{view_datagram}
-use Rattle.someipctl_print.proofs.SendingLemmas.{IsSending}
+use Rattle.someipctl_io.proofs.SendingLemmas.{IsSending}
 use Rattle.someipctl_show.proofs.ShownTextLemmas.{items_len}
 use Rattle.someipctl_recordings.specs.Gathered.{IsInTime, view_store}
 use Rattle.someipctl_recordings.specs.RecordedText.{has_fault_with, lines_with, store_after_all}

@@ -1,7 +1,7 @@
 use Rattle.recording.specs.View.{view_datagram}
 use Rattle.someip_wire.specs.View.{view_item}
-use Rattle.someipctl_print.specs.Items.{item_lines}
-use Rattle.someipctl_print.proofs.SendingLemmas.{OnErr-any, Sends-trans, Stops-after, Stops-before}
+use Rattle.someipctl_io.specs.Items.{item_lines}
+use Rattle.someipctl_io.proofs.SendingLemmas.{OnErr-any, Sends-trans, Stops-after, Stops-before}
 use Rattle.someipctl_show.specs.ShownText.{value_of_item}
 use Rattle.someipctl_show.proofs.ShowResultLemmas.{Stops-none}
 use Rattle.someipctl_recordings.specs.Gathered.{told_of, view_store}

@@ -1,7 +1,7 @@
 use Rattle.std.proofs.Common.{rules}
 use Rattle.recording.specs.View.{view_datagram}
 use Rattle.someipctl_recordings.specs.RecordedText.{head_text}
-use Rattle.someipctl_print.proofs.SendingLemmas.{OnErr-any, IsSending-more, IsSending-stop, Sends-trans, Stops-after, Stops-before}
+use Rattle.someipctl_io.proofs.SendingLemmas.{OnErr-any, IsSending-more, IsSending-stop, Sends-trans, Stops-after, Stops-before}
 use Rattle.someipctl_recordings.proofs.HeadLemmas.{headed, line_len-most, smaller}
 use Rattle.someipctl_recordings.proofs.heads.put_with_heads.Goals as goal
 

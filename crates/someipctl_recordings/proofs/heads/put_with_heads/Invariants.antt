@@ -1,7 +1,7 @@
 use Rattle.std.proofs.Common.{true, length}
 use Rattle.recording.specs.View.{view_datagram}
 use Rattle.someipctl_recordings.specs.RecordedText.{head_text, with_heads}
-use Rattle.someipctl_print.proofs.SendingLemmas.{IsSending}
+use Rattle.someipctl_io.proofs.SendingLemmas.{IsSending}
 use Rattle.someipctl_recordings.proofs.heads.put_with_heads.Given as goal
 
 abbrev pub invariant-loop-rest : goal.invariant-loop-rest

@@ -8,18 +8,18 @@ use Rattle.someipctl_recordings.proofs.recordings.put_record.Goals as goal
 
 pub returns-clause-ok : goal.returns-clause-ok
 returns-clause-ok g c =
-    let p = progress_of c.args.shown.now (view_store g.S.Reassembly.limits g.S.Reassembly.parts c.args.telling.now.store) in
+    let p = progress_of c.args.recorder.now.shown (view_store g.S.Reassembly.limits g.S.Reassembly.parts c.args.recorder.now.telling.store) in
     let taken = sym c.asked_in.ensures ∙ ap (option_map view_datagram) c.in-Some.is in
     rw (recorded_one (view_asked c.args.asked.now) p (Ok (view_record c.args.found.now)) (view_datagram c.in-Some.datagram) taken) (c.put_next.ensures.ok (view_asked c.args.asked.now) (sym c.requires.types) refl)
 
 pub returns-clause-progress : goal.returns-clause-progress
 returns-clause-progress g c =
-    let p = progress_of c.args.shown.now (view_store g.S.Reassembly.limits g.S.Reassembly.parts c.args.telling.now.store) in
+    let p = progress_of c.args.recorder.now.shown (view_store g.S.Reassembly.limits g.S.Reassembly.parts c.args.recorder.now.telling.store) in
     let taken = sym c.asked_in.ensures ∙ ap (option_map view_datagram) c.in-Some.is in
     rw (after_one (view_asked c.args.asked.now) p (Ok (view_record c.args.found.now)) (view_datagram c.in-Some.datagram) taken) (c.put_next.ensures.progress (view_asked c.args.asked.now) (sym c.requires.types))
 
 pub returns-clause-err : goal.returns-clause-err
 returns-clause-err g c =
-    let p = progress_of c.args.shown.now (view_store g.S.Reassembly.limits g.S.Reassembly.parts c.args.telling.now.store) in
+    let p = progress_of c.args.recorder.now.shown (view_store g.S.Reassembly.limits g.S.Reassembly.parts c.args.recorder.now.telling.store) in
     let taken = sym c.asked_in.ensures ∙ ap (option_map view_datagram) c.in-Some.is in
     rw (recorded_one (view_asked c.args.asked.now) p (Ok (view_record c.args.found.now)) (view_datagram c.in-Some.datagram) taken) (c.put_next.ensures.err (view_asked c.args.asked.now) (sym c.requires.types) refl)

@@ -2,7 +2,7 @@ use Rattle.std.proofs.Common.{◌+◌, ◌∙◌, [], ◌∷◌, Some, None, Err
 use Rattle.std.specs.Prelude.{option_map}
 use Rattle.recording.specs.View.{view_record}
 use Rattle.someipctl_show.proofs.ShowResultLemmas.{Stops-none}
-use Rattle.someipctl_print.proofs.SendingLemmas.{OnErr-any}
+use Rattle.someipctl_io.proofs.SendingLemmas.{OnErr-any}
 use Rattle.someipctl_recordings.specs.Gathered.{view_store}
 use Rattle.someipctl_recordings.specs.RecordingResult.{view_asked}
 use Rattle.someipctl_recordings.proofs.ComingLemmas.{comes_taken, comes_empty}
@@ -10,30 +10,27 @@ use Rattle.someipctl_recordings.proofs.ShowingLemmas.{shown_begin, begins_nothin
 use Rattle.someipctl_recordings.proofs.recordings.put_recording.Goals as goal
 use Rattle.someipctl_recordings.proofs.recordings.put_recording.Goals.{in-Some+in_ok-put_record, in_default}
 
-pub returns-in_err-lines-clause-begun : goal.returns-in_err-lines-clause-begun
-returns-in_err-lines-clause-begun g c = OnErr-any c.from_residual.result (begins_nothing (view_asked c.args.asked.now) (g.R.Read.remaining c.args.source.now) (g.W.Write.contents c.args.writer.now))
-
 pub loop-init : goal.loop-init
 loop-init g c = (
-  shown_begin (view_asked c.args.asked.now) c.new-recording.result (g.R.Read.remaining c.args.source.now) (g.W.Write.contents c.args.writer.now) c.args.buffer.now c.nothing-shown.result
-      (view_store g.S.Reassembly.limits g.S.Reassembly.parts c.args.telling.now.store)
-      c.new-recording.ensures c.requires.empty (rw (c.nothing-shown.ensures, c.requires.store) refl) (rw c.nothing-shown.ensures refl),
-  rw c.nothing-shown.ensures (omega arith),
-  c.in_ok-lines.ensures,
+  shown_begin (view_asked c.args.asked.now) c.new-recording.result (g.R.Read.remaining c.args.source.now) (g.W.Write.contents c.args.writer.now) c.args.buffer.now c.args.recorder.now.shown
+      (view_store g.S.Reassembly.limits g.S.Reassembly.parts c.args.recorder.now.telling.store)
+      c.new-recording.ensures c.requires.empty (rw (c.requires.shown, c.requires.store) refl) (rw c.requires.shown refl),
+  rw c.requires.shown (omega arith),
+  c.requires.lines,
   c.requires.types,
-  rw c.nothing-shown.ensures c.requires.in_time,
+  rw c.requires.shown c.requires.in_time,
 )
 
 pub returns-in_err-coming-clause-begun : goal.returns-in_err-coming-clause-begun
 returns-in_err-coming-clause-begun g c =
-    OnErr-any c.from_residual-in_err-coming.result (stops_before (view_asked c.args.asked.now) c.loop.recording _ _ _ _ _ c.loop.buffer c.loop.shown _ c.loop.invariant.0 c.in_err-coming.ensures.stops)
+    OnErr-any c.from_residual-in_err-coming.result (stops_before (view_asked c.args.asked.now) c.loop.recording _ _ _ _ _ c.loop.buffer c.loop.recorder.shown _ c.loop.invariant.0 c.in_err-coming.ensures.stops)
 
 pub returns-in-Fault-clause-puts : goal.returns-in-Fault-clause-puts
 returns-in-Fault-clause-puts g c =
     let comes = rw c.in-Fault.is at c.in_ok-coming.ensures.comes in
     let none = rw c.in-Fault.is at c.in_ok-coming.ensures.ended in
     rw c.ended.ensures
-    (puts_all (view_asked c.args.asked.now) c.loop.recording c.next_coming.new.recording _ _ _ _ _ _ c.loop.buffer c.next_coming.new.buffer c.loop.shown _ (Err c.in-Fault.fault ∷ []) (Some c.in-Fault.fault)
+    (puts_all (view_asked c.args.asked.now) c.loop.recording c.next_coming.new.recording _ _ _ _ _ _ c.loop.buffer c.next_coming.new.buffer c.loop.recorder.shown _ (Err c.in-Fault.fault ∷ []) (Some c.in-Fault.fault)
     c.loop.invariant.0 comes none c.in_ok-coming.ensures.sends refl refl refl)
 
 pub returns-in-End-clause-puts : goal.returns-in-End-clause-puts
@@ -41,7 +38,7 @@ returns-in-End-clause-puts g c =
     let comes = rw c.in-End.is at c.in_ok-coming.ensures.comes in
     let none = rw c.in-End.is at c.in_ok-coming.ensures.ended in
     rw c.ended-in-End.ensures
-    (puts_all (view_asked c.args.asked.now) c.loop.recording c.next_coming.new.recording _ _ _ _ _ _ c.loop.buffer c.next_coming.new.buffer c.loop.shown _ [] None
+    (puts_all (view_asked c.args.asked.now) c.loop.recording c.next_coming.new.recording _ _ _ _ _ _ c.loop.buffer c.next_coming.new.buffer c.loop.recorder.shown _ [] None
     c.loop.invariant.0 comes none c.in_ok-coming.ensures.sends refl refl refl)
 
 pub returns-in_err-put_record-clause-begun : goal.returns-in_err-put_record-clause-begun
@@ -49,7 +46,7 @@ returns-in_err-put_record-clause-begun g c =
     let taken = sym c.record.ensures ∙ ap (option_map view_record) c.in-Some.is in
     let comes = comes_taken c.loop.recording c.next_coming.new.recording _ _ c.in_ok-coming.coming _ c.in-Record.is taken c.in_ok-coming.ensures.comes in
     OnErr-any c.from_residual-in_err-put_record.result
-    (stops_within (view_asked c.args.asked.now) c.loop.recording c.next_coming.new.recording _ _ _ _ _ _ _ c.loop.buffer c.next_coming.new.buffer c.loop.shown _ _ c.loop.invariant.0 comes
+    (stops_within (view_asked c.args.asked.now) c.loop.recording c.next_coming.new.recording _ _ _ _ _ _ _ c.loop.buffer c.next_coming.new.buffer c.loop.recorder.shown _ _ c.loop.invariant.0 comes
     c.in_ok-coming.ensures.sends c.in_err-put_record.ensures.err)
 
 pub loop-preserved : goal.loop-preserved
@@ -60,9 +57,9 @@ loop-preserved g c =
           let taken = sym c.record.ensures ∙ ap (option_map view_record) w.in-Some.is in
           let comes = comes_taken c.loop.recording c.next_coming.new.recording _ _ c.in_ok-coming.coming _ c.in-Record.is taken c.in_ok-coming.ensures.comes in
           let e = w.in_ok-put_record.ensures in
-          let counts = count_more (view_asked c.args.asked.now) c.loop.shown w.put_record.new.shown _ _ (view_record w.in-Some.found) e.progress e.left_out in
-          rw (w.writer-is, w.buffer-is, w.shown-is, w.lines-is, w.telling-is) (
-            shown_more (view_asked c.args.asked.now) c.loop.recording c.next_coming.new.recording _ _ _ _ _ _ _ c.loop.buffer c.next_coming.new.buffer w.put_record.new.buffer c.loop.shown w.put_record.new.shown _ _ _ c.loop.invariant.0 comes
+          let counts = count_more (view_asked c.args.asked.now) c.loop.recorder.shown w.put_record.new.recorder.shown _ _ (view_record w.in-Some.found) e.progress e.left_out in
+          rw (w.writer-is, w.buffer-is, w.recorder-is) (
+            shown_more (view_asked c.args.asked.now) c.loop.recording c.next_coming.new.recording _ _ _ _ _ _ _ c.loop.buffer c.next_coming.new.buffer w.put_record.new.buffer c.loop.recorder.shown w.put_record.new.recorder.shown _ _ _ c.loop.invariant.0 comes
                 c.in_ok-coming.ensures.sends e.ok e.progress e.left_out refl,
             omega (arith, counts, c.loop.invariant.1, further.0),
             e.empty,
@@ -72,8 +69,8 @@ loop-preserved g c =
       | in_default w ↦
           let none = sym c.record.ensures ∙ ap (option_map view_record) w.in_default.is in
           let comes = comes_empty c.loop.recording c.next_coming.new.recording _ _ c.in_ok-coming.coming c.in-Record.is none c.in_ok-coming.ensures.comes in
-          rw (w.writer-is, w.buffer-is, w.shown-is, w.lines-is, w.telling-is) (
-            shown_none (view_asked c.args.asked.now) c.loop.recording c.next_coming.new.recording _ _ _ _ _ _ c.loop.buffer c.next_coming.new.buffer c.loop.shown _ c.loop.invariant.0 comes c.in_ok-coming.ensures.sends,
+          rw (w.writer-is, w.buffer-is, w.recorder-is) (
+            shown_none (view_asked c.args.asked.now) c.loop.recording c.next_coming.new.recording _ _ _ _ _ _ c.loop.buffer c.next_coming.new.buffer c.loop.recorder.shown _ c.loop.invariant.0 comes c.in_ok-coming.ensures.sends,
             omega (arith, c.loop.invariant.1, further.0),
             c.loop.invariant.2,
             c.loop.invariant.3,
@@ -83,4 +80,4 @@ loop-preserved g c =
 
 pub returns-clause-begun : goal.returns-clause-begun
 returns-clause-begun g c =
-    stops_before (view_asked c.args.asked.now) c.loop.recording _ _ _ _ _ c.loop.buffer c.loop.shown _ c.loop.invariant.0 (Stops-none _ c.loop.buffer [])
+    stops_before (view_asked c.args.asked.now) c.loop.recording _ _ _ _ _ c.loop.buffer c.loop.recorder.shown _ c.loop.invariant.0 (Stops-none _ c.loop.buffer [])

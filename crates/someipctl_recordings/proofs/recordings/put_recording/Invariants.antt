@@ -8,9 +8,9 @@ use Rattle.someipctl_recordings.proofs.recordings.put_recording.Given as goal
 -- the records that came so far were shown, and are no more than bytes were read
 abbrev pub invariant-loop : goal.invariant-loop
 invariant-loop g l =
-    IsShown (view_asked l.asked) l.recording (g.R.Read.remaining l.fn.source) (g.R.Read.remaining l.source) (g.W.Write.contents l.fn.writer) (g.W.Write.contents l.writer) l.buffer l.shown
-    (view_store g.S.Reassembly.limits g.S.Reassembly.parts l.telling.store)
-    × (l.shown.datagrams + total l.shown.left_out ≤ l.recording.place)
-    × (l.lines ≡ [])
-    × (l.telling.values.types.now ≡ l.asked.types.now)
-    × IsInTime g.S.Reassembly.parts l.shown.now l.telling.store
+    IsShown (view_asked l.asked) l.recording (g.R.Read.remaining l.fn.source) (g.R.Read.remaining l.source) (g.W.Write.contents l.fn.writer) (g.W.Write.contents l.writer) l.buffer l.recorder.shown
+    (view_store g.S.Reassembly.limits g.S.Reassembly.parts l.recorder.telling.store)
+    × (l.recorder.shown.datagrams + total l.recorder.shown.left_out ≤ l.recording.place)
+    × (l.recorder.lines ≡ [])
+    × (l.recorder.telling.values.types.now ≡ l.asked.types.now)
+    × IsInTime g.S.Reassembly.parts l.recorder.shown.now l.recorder.telling.store

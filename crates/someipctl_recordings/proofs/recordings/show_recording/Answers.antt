@@ -1,4 +1,4 @@
-use Rattle.someipctl_print.proofs.SendingLemmas.{OnErr-any}
+use Rattle.someipctl_io.proofs.SendingLemmas.{OnErr-any}
 use Rattle.someipctl_recordings.specs.RecordingResult.{view_asked}
 use Rattle.someipctl_recordings.proofs.ShowingLemmas.{begins_nothing, puts_begun, puts_shown}
 use Rattle.someipctl_recordings.proofs.recordings.show_recording.Goals as goal

@@ -5,5 +5,5 @@ use Rattle.someipctl_run.proofs.comparing.compare_text.Goals as goal
 
 pub returns-in-None-clause-compared : goal.returns-in-None-clause-compared
 returns-in-None-clause-compared g c =
-    let same = rw (c.deref.ensures.value, c.nodes.ensures.nodes, c.deref-2.ensures.value, c.in_ok-step_lines.ensures) at (rw c.in-None.is at c.in_ok-found.ensures.found) in
-    (c.in_ok-trace.trace.lines.items, c.in_ok-trace.trace.verdict, c.in_ok-trace.ensures.ok, (same ∙ trace_is c.args.form c.args.text.now c.args.setup.now.nodes c.in_ok-trace.trace.lines.items c.in_ok-trace.trace.verdict, Keeps-refl _))
+    let same = rw (c.deref.ensures.value, c.nodes.ensures.nodes, c.deref-2.ensures.value, c.in_ok-ran.ensures.lines) at (rw c.in-None.is at c.in_ok-found.ensures.found) in
+    (c.in_ok-ran.ran.trace.lines.items, c.in_ok-ran.ran.trace.verdict, c.in_ok-ran.ensures.ok, (same ∙ trace_is c.args.form c.args.text.now c.args.setup.now.nodes c.in_ok-ran.ran.trace.lines.items c.in_ok-ran.ran.trace.verdict, Keeps-refl _))

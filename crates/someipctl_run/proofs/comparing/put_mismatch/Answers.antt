@@ -1,5 +1,5 @@
 use Rattle.std.proofs.lemmas.Result.{on_ok_weaker, on_err_weaker}
-use Rattle.someipctl_print.proofs.SendingLemmas.{OnErr-any, Sends-trans, Stops-after, Stops-before}
+use Rattle.someipctl_io.proofs.SendingLemmas.{OnErr-any, Sends-trans, Stops-after, Stops-before}
 use Rattle.someipctl_run.proofs.comparing.put_mismatch.Goals as goal
 
 pub returns-in_err-put_parts-clause-err : goal.returns-in_err-put_parts-clause-err

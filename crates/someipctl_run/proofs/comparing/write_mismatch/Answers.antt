@@ -1,5 +1,5 @@
 use Rattle.std.proofs.lemmas.Result.{on_err_weaker}
-use Rattle.someipctl_print.proofs.SendingLemmas.{Stops-flush}
+use Rattle.someipctl_io.proofs.SendingLemmas.{Stops-flush}
 use Rattle.someipctl_run.proofs.comparing.write_mismatch.Goals as goal
 
 pub returns-clause-err : goal.returns-clause-err

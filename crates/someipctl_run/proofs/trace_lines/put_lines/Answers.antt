@@ -1,4 +1,4 @@
-use Rattle.someipctl_print.proofs.SendingLemmas.{OnErr-any, IsSending-more, IsSending-stop}
+use Rattle.someipctl_io.proofs.SendingLemmas.{OnErr-any, IsSending-more, IsSending-stop}
 use Rattle.someipctl_run.specs.Traces.{pointed}
 use Rattle.someipctl_run.proofs.TraceLemmas.{more_numbers, next_line}
 use Rattle.someipctl_run.proofs.trace_lines.put_lines.Goals as goal

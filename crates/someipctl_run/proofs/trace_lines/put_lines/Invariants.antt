@@ -1,5 +1,5 @@
 use Rattle.std.proofs.Common.{◌+◌, ◌≤◌, drop}
-use Rattle.someipctl_print.proofs.SendingLemmas.{IsSending}
+use Rattle.someipctl_io.proofs.SendingLemmas.{IsSending}
 use Rattle.someipctl_run.specs.Traces.{marked_lines, pointed}
 use Rattle.someipctl_run.proofs.trace_lines.put_lines.Given as goal
 

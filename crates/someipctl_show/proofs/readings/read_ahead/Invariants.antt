@@ -1,5 +1,5 @@
 use Rattle.std.proofs.Common.{◌≡◌, ◌++◌, map, drop}
-use Rattle.someipctl_print.specs.Discovery.{view_reading}
+use Rattle.someipctl_io.specs.Discovery.{view_reading}
 use Rattle.someipctl_show.specs.Readings.{readings_of}
 use Rattle.someipctl_show.proofs.readings.read_ahead.Given as goal
 

@@ -1,5 +1,5 @@
 use Rattle.std.proofs.Common.{◌≡◌, ◌++◌, map}
-use Rattle.someipctl_print.specs.Discovery.{view_reading}
+use Rattle.someipctl_io.specs.Discovery.{view_reading}
 use Rattle.someipctl_show.specs.Readings.{readings_in}
 use Rattle.someipctl_show.proofs.readings.read_datagram.Given as goal
 

@@ -1,6 +1,6 @@
 use Rattle.std.proofs.Common.{refl, sym, rules}
 use Rattle.someipctl_show.proofs.ReadingsLemmas.{none_in_empty}
-use Rattle.someipctl_print.proofs.SendingLemmas.{OnErr-any}
+use Rattle.someipctl_io.proofs.SendingLemmas.{OnErr-any}
 use Rattle.someipctl_show.proofs.ShownTextLemmas.{datagram_text-empty, datagram_text-some, has_fault-empty}
 use Rattle.someipctl_show.proofs.show.put_datagram.Goals as goal
 

@@ -3,7 +3,7 @@ use Rattle.someipctl_show.specs.Readings.{readings_in, readings_of}
 use Rattle.someip_wire.specs.Reading.{items_of}
 use Rattle.std.proofs.lemmas.List.{append_cancel_left}
 use Rattle.someipctl_show.specs.ShownText.{text_from, has_fault}
-use Rattle.someipctl_print.proofs.SendingLemmas.{OnErr-any, IsSending-more, IsSending-stop}
+use Rattle.someipctl_io.proofs.SendingLemmas.{OnErr-any, IsSending-more, IsSending-stop}
 use Rattle.someipctl_show.proofs.ShownTextLemmas.{next_datagram, any_more}
 use Rattle.someipctl_show.proofs.show.put_datagrams.Goals as goal
 

@@ -1,9 +1,9 @@
 use Rattle.std.proofs.Common.{◌≡◌, ◌+◌, ◌||◌, drop, map}
 use Rattle.std.specs.List.{list_any}
-use Rattle.someipctl_print.specs.Discovery.{view_reading}
+use Rattle.someipctl_io.specs.Discovery.{view_reading}
 use Rattle.someipctl_show.specs.Readings.{readings_of}
 use Rattle.someipctl_show.specs.ShownText.{text_from, has_fault}
-use Rattle.someipctl_print.proofs.SendingLemmas.{IsSending}
+use Rattle.someipctl_io.proofs.SendingLemmas.{IsSending}
 use Rattle.someipctl_show.proofs.show.put_datagrams.Given as goal
 
 abbrev pub invariant-loop-i : goal.invariant-loop-i

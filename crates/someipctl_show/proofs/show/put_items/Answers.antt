@@ -1,12 +1,12 @@
 use Rattle.std.proofs.Common.{◌≡◌, ◌+◌, ◌++◌, ap, sym, ◌∙◌, arith, refl, rules, map}
-use Rattle.someipctl_print.specs.Discovery.{discovery_in, view_reading}
+use Rattle.someipctl_io.specs.Discovery.{discovery_in, view_reading}
 use Rattle.someipctl_show.specs.Readings.{readings_in}
 use Rattle.someipctl_show.proofs.ReadingsLemmas.{left_behind, more}
 use Rattle.someip_wire.specs.Reading.{items_of}
 use Rattle.someip_wire.specs.View.{view_item}
-use Rattle.someipctl_print.specs.Items.{item_len, item_lines}
+use Rattle.someipctl_io.specs.Items.{item_len, item_lines}
 use Rattle.someipctl_show.specs.ShownText.{lines_from, shows_fault, value_of_item}
-use Rattle.someipctl_print.proofs.SendingLemmas.{OnErr-any, IsSending-start, IsSending-end, IsSending-more, IsSending-stop}
+use Rattle.someipctl_io.proofs.SendingLemmas.{OnErr-any, IsSending-start, IsSending-end, IsSending-more, IsSending-stop}
 use Rattle.someipctl_show.proofs.ShownTextLemmas.{any_end, any_more, items_len, items_within_datagram}
 use Rattle.someipctl_show.proofs.show.put_items.Goals as goal
 

@@ -3,9 +3,9 @@ use Rattle.sd_wire.specs.declared.SdError.{SdError}
 use Rattle.sd_wire.specs.contents.Values.{SdValue}
 use Rattle.std.specs.List.{list_any}
 use Rattle.someipctl_show.specs.Readings.{readings_in}
-use Rattle.someipctl_print.specs.Discovery.{view_reading}
+use Rattle.someipctl_io.specs.Discovery.{view_reading}
 use Rattle.someipctl_show.specs.ShownText.{lines_from, shows_fault}
-use Rattle.someipctl_print.proofs.SendingLemmas.{IsSending}
+use Rattle.someipctl_io.proofs.SendingLemmas.{IsSending}
 use Rattle.someipctl_show.proofs.ShownTextLemmas.{items_len}
 use Rattle.someipctl_show.proofs.show.put_items.Given as goal
 

@@ -1,4 +1,4 @@
-use Rattle.someipctl_print.proofs.SendingLemmas.{OnErr-any, Sends-all, Sends-flush, Stops-flush}
+use Rattle.someipctl_io.proofs.SendingLemmas.{OnErr-any, Sends-all, Sends-flush, Stops-flush}
 use Rattle.someipctl_show.proofs.show.write_datagrams.Goals as goal
 
 pub returns-in_err-outcome-clause-err : goal.returns-in_err-outcome-clause-err

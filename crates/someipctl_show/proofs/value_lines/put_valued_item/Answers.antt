@@ -1,4 +1,4 @@
-use Rattle.someipctl_print.proofs.SendingLemmas.{OnErr-any}
+use Rattle.someipctl_io.proofs.SendingLemmas.{OnErr-any}
 use Rattle.someipctl_show.proofs.ShowResultLemmas.{Stops-none}
 use Rattle.someipctl_show.proofs.value_lines.put_valued_item.Goals as goal
 

@@ -1,6 +1,6 @@
 use Rattle.std.proofs.Common.{◌+◌, ap}
 use Rattle.someipctl_show.specs.Vectors.{verdict_lines}
-use Rattle.someipctl_print.proofs.SendingLemmas.{OnErr-any, IsSending-more, IsSending-stop}
+use Rattle.someipctl_io.proofs.SendingLemmas.{OnErr-any, IsSending-more, IsSending-stop}
 use Rattle.someipctl_show.proofs.VerdictLemmas.{next_result}
 use Rattle.someipctl_show.proofs.vectors.put_verdicts.Goals as goal
 

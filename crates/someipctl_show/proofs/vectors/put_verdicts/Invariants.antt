@@ -1,6 +1,6 @@
 use Rattle.std.proofs.Common.{◌+◌, drop}
 use Rattle.someipctl_show.specs.Vectors.{verdict_lines}
-use Rattle.someipctl_print.proofs.SendingLemmas.{IsSending}
+use Rattle.someipctl_io.proofs.SendingLemmas.{IsSending}
 use Rattle.someipctl_show.proofs.vectors.put_verdicts.Given as goal
 
 abbrev pub invariant-loop-i : goal.invariant-loop-i

@@ -1,4 +1,4 @@
-use Rattle.someipctl_print.proofs.SendingLemmas.{OnErr-any, Sends-trans, Stops-after, Stops-before, Stops-flush}
+use Rattle.someipctl_io.proofs.SendingLemmas.{OnErr-any, Sends-trans, Stops-after, Stops-before, Stops-flush}
 use Rattle.someipctl_show.proofs.vectors.write_verdicts.Goals as goal
 use Rattle.std.proofs.lemmas.Result.{on_err_weaker}
 

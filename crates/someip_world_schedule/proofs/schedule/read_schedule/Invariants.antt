@@ -1,8 +1,0 @@
-use Rattle.std.proofs.Common.{Some, map, length}
-use Rattle.someip_world_schedule.specs.Schedule.{lines_of}
-use Rattle.someip_world_schedule.proofs.ScheduleLemmas.{HasRead}
-use Rattle.someip_world_schedule.proofs.schedule.read_schedule.Given as goal
-
-abbrev pub invariant-loop-i : goal.invariant-loop-i
-invariant-loop-i l =
-    HasRead (map (λ s. Some s) l.steps.items) (length l.yielded) (lines_of l.text)

@@ -1,0 +1,9 @@
+pub mod Inputs
+pub mod Outcomes
+pub mod Sending
+pub mod Parts
+pub mod Lines
+pub mod Words
+pub mod Options
+pub mod Discovery
+pub mod Items

@@ -1,5 +1,0 @@
-pub mod SendingLemmas
-pub mod HexLemmas
-pub mod LinesLemmas
-pub mod DiscoveryLemmas
-pub mod RoomLemmas

@@ -1,4 +1,0 @@
-use Rattle.someipctl_print.proofs.discovery.eventgroup_parts.Goals as goal
-
-pub returns : goal.returns
-returns c = rw (c.name_of_eventgroup.ensures, c.ttl_of_eventgroup.ensures, c.counter_of.ensures)

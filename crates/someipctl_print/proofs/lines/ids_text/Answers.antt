@@ -1,7 +1,0 @@
-use Rattle.std.proofs.Common.{refl}
-use Rattle.hex.specs.Hex.{encode_with}
-use Rattle.someipctl_print.proofs.lines.ids_text.Goals as goal
-
-pub returns : goal.returns
-unfolding encode_with
-returns c = rw (c.write_hex.ensures, c.write_hex-2.ensures, c.to_be_bytes.ensures, c.to_be_bytes-2.ensures) refl
