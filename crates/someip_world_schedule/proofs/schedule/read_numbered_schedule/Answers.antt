@@ -14,12 +14,10 @@ loop-i-preserved c =
     c.loop-i.yielded _ c.loop-i.yielded_by _ _ (c.in-Some.i, c.in-Some.line) c.in-Some.is c.next.ensures.steps) in
     let told = rw c.in-Ok-Some.field-0-is at c.in-Ok-Some.ensures in
     let more = map_push (λ s. Some s) c.loop-i.steps.items c.in-Ok-Some.step in
-    let read : is_read c.in-Some.line.now ≡ true = ap not told.0 in
-    let steps = rw (c.in_ok-push.ensures.items, more, length_push c.loop-i.yielded (c.in-Some.i, c.in-Some.line))
-    (HasRead-more _ _ _ _ _ next.1 told.0 told.1 c.loop-i.invariant.0) in
-    let lines = rw (c.in_ok-push-1.ensures.items, length_push c.loop-i.yielded (c.in-Some.i, c.in-Some.line), next.0)
-    (HasNumbered-read _ _ _ _ next.1 read c.loop-i.invariant.1) in
-    (steps, lines)
+    let read : is_read c.in-Some.line.now ≡ true = ap not told.0 in (
+      rw (c.in_ok-push.ensures.items, more, length_push c.loop-i.yielded (c.in-Some.i, c.in-Some.line)) (HasRead-more _ _ _ _ _ next.1 told.0 told.1 c.loop-i.invariant.0),
+      rw (c.in_ok-push-2.ensures.items, length_push c.loop-i.yielded (c.in-Some.i, c.in-Some.line), next.0) (HasNumbered-read _ _ _ _ next.1 read c.loop-i.invariant.1),
+    )
 
 pub loop-i-preserved-in-Ok-None : goal.loop-i-preserved-in-Ok-None
 loop-i-preserved-in-Ok-None c =
@@ -102,8 +100,8 @@ returns-in_err-push-clause-idle c =
     let told = rw c.in-Ok-Some.field-0-is at c.in-Ok-Some.ensures in
     λ none. absurd (HasRead-some _ _ _ _ next.1 told.0 c.loop-i.invariant.0 none)
 
-pub returns-in_err-push-1-clause-idle : goal.returns-in_err-push-1-clause-idle
-returns-in_err-push-1-clause-idle c =
+pub returns-in_err-push-2-clause-idle : goal.returns-in_err-push-2-clause-idle
+returns-in_err-push-2-clause-idle c =
     let next = next_line (lines_of c.args.text.now) _ _ _ (YieldsList-turn
     (YieldsList-lines _ c.args.text.now c.split.ensures.rest c.split.ensures.done c.split.ensures.closure
     (λ x b q k. search (rules, tests)) c.enumerate-i-items.ensures.source c.enumerate-i-items.ensures.count

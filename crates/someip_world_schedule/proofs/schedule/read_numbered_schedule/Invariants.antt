@@ -1,4 +1,4 @@
-use Rattle.std.proofs.Common.{◌×◌, Some, map, length}
+use Rattle.std.proofs.Common.{Some, map, length}
 use Rattle.someip_world_schedule.specs.Schedule.{lines_of}
 use Rattle.someip_world_schedule.proofs.ScheduleLemmas.{HasNumbered, HasRead}
 use Rattle.someip_world_schedule.proofs.schedule.read_numbered_schedule.Given as goal
