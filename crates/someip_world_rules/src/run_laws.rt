@@ -42,7 +42,7 @@ ghost use Rattle.someip_world_rules.specs.RunExamples.{CanPublish, GivesJust, su
 ghost use Rattle.someip_world_rules.specs.Runs.{AreCopies, IsRun, World, run_of};
 ghost use Rattle.someip_world_rules.specs.declared.trace.Trace.{Trace};
 
-use crate::numbers::{setup_fits, steps_fit};
+use crate::number_laws::{setup_fits, steps_fit};
 use someip_world_setup::Setup;
 use someip_world_steps::Step;
 
@@ -184,7 +184,7 @@ pub fn announced_offers_are_configured()
 /// What is given in the steps of a run fits its fields, where the numbers of its configurations and of its
 /// steps do: each message of Service Discovery has a session and entries that fit theirs, and the entries
 /// fit one datagram; each other message fits, and is not taken for one of Service Discovery.
-/// `numbers::setup_fits` and `numbers::steps_fit` say that all setups and steps of a program do.
+/// `number_laws::setup_fits` and `number_laws::steps_fit` say that all setups and steps of a program do.
 pub fn all_that_is_given_fits()
     ensures given { (nodes : List SetupNode) (configs : List Config) (steps : List Step)
         → AllByRecursion FitsConfig configs → AllByRecursion FitsStep steps
