@@ -1,9 +1,9 @@
 -- The key whose moment comes first, by the set of moments.
-use Rattle.std.proofs.Common.{◌≡◌, ◌≢◌, ℕ, ◌==◌, ◌≤◌, nat_le, nat_lt, Bool, true, false, cond, IsTrue, Option, None, Some, IfSome, IfNone, refl, ap, sym, ◌∙◌, arith}
+use Rattle.std.proofs.Common.{◌≡◌, ◌≢◌, ℕ, ◌==◌, ◌≤◌, nat_le, nat_lt, Bool, true, false, cond, ◌&&◌, IsTrue, Option, None, Some, IfSome, IfNone, refl, ap, sym, ◌∙◌, arith}
 use Rattle.std.specs.Option.{option_and_then}
 use Rattle.std.specs.declared.cmp.Ordering.{Ordering}
 use Rattle.std.specs.declared.cmp.Ordering.TheVariants.{Less, Equal, Greater}
-use Rattle.std.specs.Ordering.{is_le, is_gt, ordering_reverse, ordering_then}
+use Rattle.std.specs.Ordering.{is_le, is_gt, eq_by_cmp, ordering_reverse, ordering_then}
 use Rattle.std.specs.Cmp.{IsTotalOrder}
 use Rattle.std.specs.BTreeMap as tree
 use Rattle.std.specs.BTreeMap.{BTreeMap}
@@ -19,7 +19,7 @@ use Rattle.someip_tables.specs.Agendas.{is_awaited}
 use Rattle.someip_tables.specs.Retained.{kept_if}
 use Rattle.someip_tables.specs.Tables.{map_of}
 use Rattle.someip_tables.specs.Waits.{HoldsFrom, due_by, is_due_by}
-use Rattle.someip_tables.proofs.Entries.{get-retain, own_test}
+use Rattle.someip_tables.proofs.Entries.{get-retain, own_test, same_by_test}
 use Rattle.someip_tables.proofs.MapLaws.{retain_none}
 use Rattle.someip_tables.proofs.Trees.{get-map_of}
 use Rattle.someip_tables.proofs.DueLemmas.{test_is_true, true_is_test}
@@ -86,6 +86,40 @@ module _ {K V : Type 0} {R : K → K → Ordering} (o : IsTotalOrder R) where
     one_first moment m (Some due) None a b = absurd (never_none moment m due b a.0)
     one_first moment m (Some one) (Some other) a b =
         ap Some (exact_dues exact one other (tied (due_cmp R one other) (due_cmp R other one) ((dues_total o).antisymm one other) (a.1 other b.0) (b.1 one a.0)))
+
+-- what the first one leaves, once it was taken out
+module _ {K V : Type 0} {R : K → K → Ordering} (o : IsTotalOrder R) (exact : IsAntisymmetric R) (moment : V → Option ℕ) (dues : BTreeSet (Due K)) (held : BTreeMap K V) (first : Due K)
+    (tracks : Tracks R moment dues held) (is : IsFirstDue moment (map_of R held.entries) (Some first)) where
+  pub first_member : contains (due_cmp R) dues first ≡ true
+  first_member = test_is_true (waits_tracked o moment dues held first tracks is.0)
+
+  pub first_least : (due : Due K) → contains (due_cmp R) dues due ≡ true → is_le (due_cmp R first due) ≡ true
+  first_least due there = is.1 due (ap (option_and_then moment) (get-map_of o held.entries due.key) ∙ awaited_is due.at _ (sym (tracks due) ∙ there))
+
+  pub first_leaves : (dues' : BTreeSet (Due K)) (held' : BTreeMap K V)
+      → ((due : Due K) → contains (due_cmp R) dues' due ≡ cond (is_due_of R first.key (Some first.at) due) false (contains (due_cmp R) dues due))
+      → ((q : K) → tree.get R held' q ≡ cond (eq_by_cmp R first.key q) None (tree.get R held q)) → Tracks R moment dues' held'
+  first_leaves dues' held' popped removed = λ due. popped due ∙ at due (eq_by_cmp R first.key due.key) refl ∙ ap (λ v. is_awaited due.at (option_and_then moment v)) (sym (removed due.key))
+    where
+      taken : (e : Bool) → cond (e && true) false e ≡ false
+      taken true = refl
+      taken false = refl
+
+      other : (e c : Bool) → cond (e && false) false c ≡ c
+      other true c = refl
+      other false c = refl
+
+      waits : (due : Due K) → first.key ≡ due.key → option_and_then moment (tree.get R held due.key) ≡ Some first.at
+      waits due same = ap (λ k. option_and_then moment (tree.get R held k)) (sym same) ∙ ap (option_and_then moment) (sym (get-map_of o held.entries first.key)) ∙ is.0
+
+      at : (due : Due K) (b : Bool) → eq_by_cmp R first.key due.key ≡ b
+          → cond (is_awaited due.at (Some first.at) && eq_by_cmp R first.key due.key) false (contains (due_cmp R) dues due)
+          ≡ is_awaited due.at (option_and_then moment (cond (eq_by_cmp R first.key due.key) None (tree.get R held due.key)))
+      at due true tie =
+          rw tie
+          (ap (λ c. cond (is_awaited due.at (Some first.at) && true) false c) (tracks due ∙ ap (is_awaited due.at) (waits due (same_by_test exact first.key due.key tie)))
+          ∙ taken (is_awaited due.at (Some first.at)))
+      at due false tie = rw tie (other (is_awaited due.at (Some first.at)) (contains (due_cmp R) dues due) ∙ tracks due)
 
 -- nothing in order comes before the first
 pub not_before : {K : Type 0} (R : K → K → Ordering) (first due : Due K) → is_le (due_cmp R first due) ≡ true → first.at ≤ due.at

@@ -1,5 +1,5 @@
 //! A map whose values wait for a moment each, or for none, with the first of them at hand.
-ghost use Rattle.std.specs.Prelude.{◌≡◌, OnOk, OnErr, None, Bool};
+ghost use Rattle.std.specs.Prelude.{◌≡◌, OnOk, OnErr, None, Some, Bool};
 ghost use Rattle.std.specs.Option.{option_copied};
 ghost use Rattle.std.specs.FinMap as finite;
 ghost use Rattle.someip_tables.specs.Retained.{retain};
@@ -7,7 +7,7 @@ ghost use Rattle.someip_tables.specs.Tables.{map_of, AnswersPairAs};
 ghost use Rattle.audit_tables.specs.Dues.{IsFirstDue, WantsMemory};
 
 use crate::due::Due;
-use crate::tracked::{first_due, put, retain, take_out};
+use crate::tracked::{first_due, put, retain, take_out, take_out_first};
 use someip_tables::{Key, Waits};
 use std::alloc::{AllocError, Global};
 use std::collections::{BTreeMap, BTreeSet};
@@ -75,6 +75,14 @@ impl<K: Key, V: Waits> DueTable<K, V> {
         ensures { map_of K.cmp self.new ≡ finite.remove (map_of K.cmp self.old) key.now }
     {
         take_out(&mut self.held, &mut self.dues, key);
+    }
+
+    /// Takes out the key that is due first, at a smaller cost than any other. It takes no memory.
+    pub fn remove_first(&mut self, first: &Due<K>)
+        requires { IsFirstDue V.moment (map_of K.cmp self.old) (Some first.now) }
+        ensures { map_of K.cmp self.new ≡ finite.remove (map_of K.cmp self.old) first.now.key }
+    {
+        take_out_first(&mut self.held, &mut self.dues, first);
     }
 
     /// Keeps the entries that pass a test of key and value, which is asked once for each entry. It takes

@@ -4,10 +4,10 @@ ghost use Rattle.std.specs.Prelude.{Bool, filter, IsTrue, IfSome, IfNone, IfOk, 
 ghost use Rattle.std.specs.Option.{option_and_then};
 ghost use Rattle.std.specs.BTreeMap.{get, btree_map_len, IsOrdered, IsUnchanged};
 ghost use Rattle.std.specs.BTreeSet.{contains};
-ghost use Rattle.std.specs.Ordering.{eq_by_cmp, is_gt};
+ghost use Rattle.std.specs.Ordering.{eq_by_cmp, is_gt, is_le};
 ghost use Rattle.someip_tables.specs.Retained.{retain};
 ghost use Rattle.someip_tables.specs.Tables.{map_of, AnswersPairAs};
-ghost use Rattle.audit_tables.specs.Dues.{Tracks, WantsMemory, due_cmp, is_due_of};
+ghost use Rattle.audit_tables.specs.Dues.{IsFirstDue, Tracks, WantsMemory, due_cmp, is_due_of};
 ghost use Rattle.audit_tables.specs.declared.due.Due.{Due};
 
 use crate::due::Due;
@@ -60,6 +60,34 @@ pub(crate) fn take_out<K: Key, V: Waits>(
     if let Some(earlier) = held.remove(key) {
         take_due(dues, *key, earlier.waits_for());
     }
+}
+
+/// Takes out the key with the first moment. No search is needed for this moment.
+pub(crate) fn take_out_first<K: Key, V: Waits>(
+    held: &mut BTreeMap<K, V>,
+    dues: &mut BTreeSet<Due<K>>,
+    first: &Due<K>,
+)
+    requires tracks { Tracks K.cmp V.moment dues.old held.old }
+    requires first { IsFirstDue V.moment (map_of K.cmp held.old.entries) (Some first.now) }
+    ensures held { (q : K) → get K.cmp held.new q
+        ≡ (if eq_by_cmp K.cmp first.now.key q then None else get K.cmp held.old q) }
+    ensures tracks { Tracks K.cmp V.moment dues.new held.new }
+{
+    pop_due(dues, first);
+    held.remove(&first.key);
+}
+
+/// Takes out the first moment.
+fn pop_due<K: Key>(dues: &mut BTreeSet<Due<K>>, first: &Due<K>)
+    requires member { contains (due_cmp K.cmp) dues.old first.now ≡ true }
+    requires least { (due : Due K) → contains (due_cmp K.cmp) dues.old due ≡ true
+        → is_le (due_cmp K.cmp first.now due) ≡ true }
+    ensures { (due : Due K) → contains (due_cmp K.cmp) dues.new due
+        ≡ (if is_due_of K.cmp first.now.key (Some first.now.at) due then false
+        else contains (due_cmp K.cmp) dues.old due) }
+{
+    dues.pop_first();
 }
 
 /// The first moment, with its key.
