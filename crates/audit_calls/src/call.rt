@@ -6,6 +6,7 @@ ghost use Rattle.audit_calls.specs.CallNumbers.{IsEndpoint, IsIds, endpoint_numb
 
 use someip_wire::Header;
 use std::cmp::Ordering;
+use std::hash::{Hash, Hasher};
 use std::net::SocketAddrV4;
 
 /// What tells the calls of a recording apart: who asks whom, the Message ID, the Request ID and the
@@ -102,6 +103,25 @@ impl Ord for AuditedCall {
             Ordering::Equal => self.interface.cmp(&other.interface),
             different => different,
         }
+    }
+}
+
+/// By all but the Interface Version, which tells hardly any calls apart.
+impl Hash for AuditedCall {
+    ghost use Rattle.std.specs.Prelude.{◌++◌};
+    ghost use Rattle.std.specs.Hash as fed;
+    ghost use Rattle.std.specs.Cmp.Rules.{comparing, hashing};
+    ghost use Rattle.std.proofs.Common.{rules};
+    ghost use Rattle.audit_calls.specs.CallNumbers.{endpoint_number, ids_number};
+
+    ghost hash_input = { λ c. fed.u64 (ids_number c) ++ fed.u64 (endpoint_number c.from) ++ fed.u64 (endpoint_number c.to) };
+
+    ghost respects_eq = { Prim.search (hashing, comparing, rules) };
+
+    fn hash<H: Hasher>(&self, state: &mut H) {
+        state.write_u64(number_of_ids(self));
+        state.write_u64(number_of(&self.from));
+        state.write_u64(number_of(&self.to));
     }
 }
 
