@@ -179,9 +179,9 @@ class Audit:
         for seen in self.all_seen("message"):
             header, ends = seen.value[0], (seen.datagram.source, seen.datagram.destination)
             if header.kind == wire.REQUEST:
-                calls[ends + header[:5]].append(seen)
+                calls[header[:4] + ends + header[4:5]].append(seen)
             elif header.kind in (wire.RESPONSE, wire.ERROR):
-                calls[ends[::-1] + header[:5]].append(seen)
+                calls[header[:4] + ends[::-1] + header[4:5]].append(seen)
         for key, timeline in calls.items():
             self.find_call(key, timeline)
 

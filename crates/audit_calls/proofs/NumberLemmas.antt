@@ -11,7 +11,7 @@ use Rattle.std.specs.Net.Socket.{v4_ip, v4_port}
 use Rattle.std.specs.Net.Addr.{ipv4_octets}
 use Rattle.someip_tables.specs.Endpoints.{endpoint_cmp}
 use Rattle.audit_calls.specs.declared.call.AuditedCall.{AuditedCall}
-use Rattle.audit_calls.specs.AuditedCalls.{call_cmp}
+use Rattle.audit_calls.specs.AuditedCalls.{ids_cmp}
 use Rattle.audit_calls.specs.CallNumbers.{IsEndpoint, IsIds, endpoint_number, ids_number, spelled}
 
 less : (x y : ℕ) → x < y → nat_cmp x y ≡ Less
@@ -119,37 +119,10 @@ endpoints_compared a b va vb =
     decides_65536 (spelled 0 (ipv4_octets (v4_ip a))) (spelled 0 (ipv4_octets (v4_ip b))) (v4_port a) (v4_port b) va.2 vb.2
     ∙ ap (λ o. ordering_then o (nat_cmp (v4_port a) (v4_port b))) (spelled_decide (ipv4_octets (v4_ip a)) (ipv4_octets (v4_ip b)) va.0 vb.0 va.1 vb.1)
 
-pub ids_compared : (a b : AuditedCall) → IsIds a → IsIds b
-    → nat_cmp (ids_number a) (ids_number b)
-    ≡ ordering_then (nat_cmp a.service b.service) (ordering_then (nat_cmp a.method b.method) (ordering_then (nat_cmp a.client b.client) (nat_cmp a.session b.session)))
+pub ids_compared : (a b : AuditedCall) → IsIds a → IsIds b → nat_cmp (ids_number a) (ids_number b) ≡ ids_cmp a b
 ids_compared a b va vb =
     decides_65536 ((a.service * 65536 + a.method) * 65536 + a.client) ((b.service * 65536 + b.method) * 65536 + b.client) a.session b.session va.3 vb.3
     ∙ ap (λ o. ordering_then o (nat_cmp a.session b.session)) (decides_65536 (a.service * 65536 + a.method) (b.service * 65536 + b.method) a.client b.client va.2 vb.2)
     ∙ ap (λ o. ordering_then (ordering_then o (nat_cmp a.client b.client)) (nat_cmp a.session b.session)) (decides_65536 a.service b.service a.method b.method va.1 vb.1)
     ∙ then_assoc (ordering_then (nat_cmp a.service b.service) (nat_cmp a.method b.method)) (nat_cmp a.client b.client) (nat_cmp a.session b.session)
     ∙ then_assoc (nat_cmp a.service b.service) (nat_cmp a.method b.method) (ordering_then (nat_cmp a.client b.client) (nat_cmp a.session b.session))
-
--- all of two calls
-pub calls_compared : (a b : AuditedCall) (from to ids interface : Ordering) → from ≡ endpoint_cmp a.from b.from → to ≡ endpoint_cmp a.to b.to
-    → ids ≡ ordering_then (nat_cmp a.service b.service) (ordering_then (nat_cmp a.method b.method) (ordering_then (nat_cmp a.client b.client) (nat_cmp a.session b.session)))
-    → interface ≡ nat_cmp a.interface b.interface → ordering_then (ordering_then (ordering_then from to) ids) interface ≡ call_cmp a b
-calls_compared a b from to ids interface f t i n =
-    then_assoc (ordering_then from to) ids interface ∙ then_assoc from to (ordering_then ids interface)
-    ∙ rw (f, t, i, n)
-    (ap (λ o. ordering_then (endpoint_cmp a.from b.from) (ordering_then (endpoint_cmp a.to b.to) o))
-    (then_assoc s (ordering_then m (ordering_then c e)) v ∙ ap (ordering_then s) (then_assoc m (ordering_then c e) v ∙ ap (ordering_then m) (then_assoc c e v))))
-  where
-    s : Ordering
-    s = nat_cmp a.service b.service
-
-    m : Ordering
-    m = nat_cmp a.method b.method
-
-    c : Ordering
-    c = nat_cmp a.client b.client
-
-    e : Ordering
-    e = nat_cmp a.session b.session
-
-    v : Ordering
-    v = nat_cmp a.interface b.interface

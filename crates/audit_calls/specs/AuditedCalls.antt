@@ -22,9 +22,11 @@ asked_call from to header = record {
 abbrev pub answered_call : SocketAddrV4 → SocketAddrV4 → Header → AuditedCall
 answered_call from to header = asked_call to from header
 
--- by source, destination, Message ID, Request ID and Interface Version
+-- by Message ID and Request ID
+abbrev pub ids_cmp : AuditedCall → AuditedCall → Ordering
+ids_cmp a b =
+    ordering_then (nat_cmp a.service b.service) (ordering_then (nat_cmp a.method b.method) (ordering_then (nat_cmp a.client b.client) (nat_cmp a.session b.session)))
+
+-- by these, source, destination and Interface Version
 abbrev pub call_cmp : AuditedCall → AuditedCall → Ordering
-call_cmp a b =
-    ordering_then (endpoint_cmp a.from b.from) (ordering_then (endpoint_cmp a.to b.to)
-    (ordering_then (nat_cmp a.service b.service) (ordering_then (nat_cmp a.method b.method)
-    (ordering_then (nat_cmp a.client b.client) (ordering_then (nat_cmp a.session b.session) (nat_cmp a.interface b.interface))))))
+call_cmp a b = ordering_then (ids_cmp a b) (ordering_then (endpoint_cmp a.from b.from) (ordering_then (endpoint_cmp a.to b.to) (nat_cmp a.interface b.interface)))

@@ -174,7 +174,7 @@ pub(crate) fn next_overdue(calls: &mut Calls, now: Moment) -> Option<Unanswered>
                     until: call.until,
                 });
             }
-            None => calls.remove(&due.key),
+            None => calls.remove_first(&due),
         }
     }
     None

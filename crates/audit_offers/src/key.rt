@@ -4,7 +4,7 @@ ghost use Rattle.audit_offers.specs.OfferOrder.{exact_offers};
 use someip_tables::Key;
 
 /// What tells offers apart: by rising service, then instance, then major version.
-#[derive(Clone, Copy, Debug, PartialEq, Eq, PartialOrd, Ord)]
+#[derive(Clone, Copy, Debug, PartialEq, Eq, PartialOrd, Ord, Hash)]
 pub struct OfferKey {
     /// Service ID.
     pub service: u16,

@@ -1,5 +1,8 @@
 -- The order of reassembly keys, as keys of tables.
-use Rattle.std.proofs.Common.{ap}
+use Rattle.std.proofs.Common.{ap, ℕ, List, [], ◌∷◌, ◌++◌}
+use Rattle.std.specs.Hash as fed
+use Rattle.std.specs.Net.Socket.{v4_ip, v4_port}
+use Rattle.std.specs.Net.Addr.{ipv4_octets}
 use Rattle.std.specs.declared.cmp.Ordering.{Ordering}
 use Rattle.std.specs.Cmp.{IsTotalOrder}
 use Rattle.std.proofs.lemmas.Cmp.{on_total}
@@ -20,3 +23,9 @@ messages_total = on_total (λ k. k.0) keys_total
 
 pub exact_messages : CmpEqualImpliesEq message_cmp
 exact_messages a b h = ap message_key (exact_keys a.0 b.0 h)
+
+-- what is hashed of a key: its endpoints and its IDs
+abbrev pub message_fed : MessageKey → List (List ℕ)
+message_fed k =
+    (ipv4_octets (v4_ip k.0.source) ∷ ipv4_octets (v4_ip k.0.destination) ∷ [])
+    ++ fed.u16 (v4_port k.0.source) ++ fed.u16 (v4_port k.0.destination) ++ fed.u16 k.0.service ++ fed.u16 k.0.method ++ fed.u16 k.0.client ++ fed.u16 k.0.session

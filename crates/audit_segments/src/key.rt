@@ -6,6 +6,7 @@ ghost use Rattle.audit_segments.specs.MessageKeys.{message_cmp, messages_total, 
 use someip_reassembly::ReassemblyKey;
 use someip_tables::Key;
 use std::cmp::Ordering;
+use std::hash::{Hash, Hasher};
 
 /// A reassembly key, with its order: by source, destination, Message ID, Request ID, Interface Version,
 /// type and Return Code.
@@ -63,6 +64,29 @@ impl Ord for MessageKey {
             .cmp(&other.0.source)
             .then(self.0.destination.cmp(&other.0.destination));
         ends.then(numbers(&self.0).cmp(&numbers(&other.0)))
+    }
+}
+
+/// By the endpoints and the IDs.
+impl Hash for MessageKey {
+    ghost use Rattle.std.proofs.Common.{ap};
+    ghost use Rattle.someip_tables.proofs.DueLemmas.{test_is_true};
+    ghost use Rattle.someip_tables.proofs.Entries.{same_by_test};
+    ghost use Rattle.audit_segments.specs.MessageKeys.{message_fed};
+
+    ghost hash_input = { message_fed };
+
+    ghost respects_eq = { λ x y same. ap message_fed (same_by_test exact_messages x y (test_is_true same)) };
+
+    fn hash<H: Hasher>(&self, state: &mut H) {
+        state.write(&self.0.source.ip().octets());
+        state.write(&self.0.destination.ip().octets());
+        state.write_u16(self.0.source.port());
+        state.write_u16(self.0.destination.port());
+        state.write_u16(self.0.service);
+        state.write_u16(self.0.method);
+        state.write_u16(self.0.client);
+        state.write_u16(self.0.session);
     }
 }
 

@@ -6,7 +6,7 @@ use std::net::Ipv4Addr;
 
 /// What tells subscriptions apart: by rising address of the client, then of the server, and then by the
 /// numbers.
-#[derive(Clone, Copy, Debug, PartialEq, Eq, PartialOrd, Ord)]
+#[derive(Clone, Copy, Debug, PartialEq, Eq, PartialOrd, Ord, Hash)]
 pub struct SubscriptionKey {
     /// The address that subscribes.
     pub client: Ipv4Addr,

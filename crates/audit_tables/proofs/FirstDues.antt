@@ -1,12 +1,10 @@
 -- The key whose moment comes first, by the set of moments.
-use Rattle.std.proofs.Common.{◌≡◌, ◌≢◌, ℕ, ◌==◌, ◌≤◌, nat_le, nat_lt, Bool, true, false, cond, IsTrue, Option, None, Some, IfSome, IfNone, refl, ap, sym, ◌∙◌, arith}
+use Rattle.std.proofs.Common.{◌≡◌, ◌≢◌, ℕ, ◌==◌, ◌≤◌, nat_le, nat_lt, Bool, true, false, cond, ◌&&◌, IsTrue, List, Option, None, Some, IfSome, IfNone, refl, ap, sym, ◌∙◌, arith}
 use Rattle.std.specs.Option.{option_and_then}
 use Rattle.std.specs.declared.cmp.Ordering.{Ordering}
 use Rattle.std.specs.declared.cmp.Ordering.TheVariants.{Less, Equal, Greater}
-use Rattle.std.specs.Ordering.{is_le, is_gt, ordering_reverse, ordering_then}
+use Rattle.std.specs.Ordering.{is_le, is_gt, eq_by_cmp, ordering_reverse, ordering_then}
 use Rattle.std.specs.Cmp.{IsTotalOrder}
-use Rattle.std.specs.BTreeMap as tree
-use Rattle.std.specs.BTreeMap.{BTreeMap}
 use Rattle.std.specs.BTreeSet.{BTreeSet, contains}
 use Rattle.std.specs.FinMap.{FinMap, IsAntisymmetric, get, empty, get-empty}
 use Rattle.std.proofs.lemmas.Bool.{eqb-true, eq-eqb}
@@ -19,12 +17,12 @@ use Rattle.someip_tables.specs.Agendas.{is_awaited}
 use Rattle.someip_tables.specs.Retained.{kept_if}
 use Rattle.someip_tables.specs.Tables.{map_of}
 use Rattle.someip_tables.specs.Waits.{HoldsFrom, due_by, is_due_by}
-use Rattle.someip_tables.proofs.Entries.{get-retain, own_test}
+use Rattle.someip_tables.proofs.Entries.{get-retain, own_test, same_by_test}
 use Rattle.someip_tables.proofs.MapLaws.{retain_none}
 use Rattle.someip_tables.proofs.Trees.{get-map_of}
 use Rattle.someip_tables.proofs.DueLemmas.{test_is_true, true_is_test}
 use Rattle.audit_tables.specs.declared.due.Due.{Due}
-use Rattle.audit_tables.specs.Dues.{IsFirstDue, Tracks, WantsMemory, due_cmp, is_due_of}
+use Rattle.audit_tables.specs.Dues.{IsFirstDue, Tracks, WantsMemory, at_key, due_cmp, is_due_of}
 
 not_above : (o : Ordering) → is_gt o ≡ false → is_le o ≡ true
 not_above Less h = refl
@@ -56,23 +54,23 @@ exact_dues {K} {R} exact a b h =
 
 module _ {K V : Type 0} {R : K → K → Ordering} (o : IsTotalOrder R) where
   -- what the map waits for stands in the set, and nothing else
-  pub waits_tracked : (moment : V → Option ℕ) (dues : BTreeSet (Due K)) (held : BTreeMap K V) (due : Due K) → Tracks R moment dues held
-      → option_and_then moment (get (map_of R held.entries) due.key) ≡ Some due.at → IsTrue (contains (due_cmp R) dues due)
+  pub waits_tracked : (moment : V → Option ℕ) (dues : BTreeSet (Due K)) (held : List (K × V)) (due : Due K) → Tracks R moment dues held
+      → option_and_then moment (get (map_of R held) due.key) ≡ Some due.at → IsTrue (contains (due_cmp R) dues due)
   waits_tracked moment dues held due tracks is =
-      true_is_test (tracks due ∙ is_awaited_own due.at _ (ap (option_and_then moment) (sym (get-map_of o held.entries due.key)) ∙ is))
+      true_is_test (tracks due ∙ is_awaited_own due.at _ (ap (option_and_then moment) (sym (get-map_of o held due.key)) ∙ is))
 
-  pub first_is : (moment : V → Option ℕ) (dues : BTreeSet (Due K)) (held : BTreeMap K V) (r : Option (Due K)) → Tracks R moment dues held
+  pub first_is : (moment : V → Option ℕ) (dues : BTreeSet (Due K)) (held : List (K × V)) (r : Option (Due K)) → Tracks R moment dues held
       → IfSome r (λ due. IsTrue (contains (due_cmp R) dues due))
       → IfSome r (λ first. (due : Due K) → IsTrue (contains (due_cmp R) dues due) → is_gt (due_cmp R first due) ≡ false)
       → IfNone r ((due : Due K) → IsTrue (contains (due_cmp R) dues due) → ⊥)
-      → IsFirstDue moment (map_of R held.entries) r
-  first_is moment dues held None tracks found first none = λ k. at k (option_and_then moment (get (map_of R held.entries) k)) refl
+      → IsFirstDue moment (map_of R held) r
+  first_is moment dues held None tracks found first none = λ k. at k (option_and_then moment (get (map_of R held) k)) refl
     where
-      at : (k : K) (v : Option ℕ) → option_and_then moment (get (map_of R held.entries) k) ≡ v → v ≡ None
+      at : (k : K) (v : Option ℕ) → option_and_then moment (get (map_of R held) k) ≡ v → v ≡ None
       at k None is = refl
       at k (Some moment_of) is = absurd (none (record { at = moment_of; key = k }) (waits_tracked moment dues held (record { at = moment_of; key = k }) tracks is))
   first_is moment dues held (Some due) tracks found first none = (
-    ap (option_and_then moment) (get-map_of o held.entries due.key) ∙ awaited_is due.at _ (sym (tracks due) ∙ test_is_true found),
+    ap (option_and_then moment) (get-map_of o held due.key) ∙ awaited_is due.at _ (sym (tracks due) ∙ test_is_true found),
     λ other is. not_above _ (first other (waits_tracked moment dues held other tracks is)),
   )
 
@@ -86,6 +84,40 @@ module _ {K V : Type 0} {R : K → K → Ordering} (o : IsTotalOrder R) where
     one_first moment m (Some due) None a b = absurd (never_none moment m due b a.0)
     one_first moment m (Some one) (Some other) a b =
         ap Some (exact_dues exact one other (tied (due_cmp R one other) (due_cmp R other one) ((dues_total o).antisymm one other) (a.1 other b.0) (b.1 one a.0)))
+
+-- what the first one leaves, once it was taken out
+module _ {K V : Type 0} {R : K → K → Ordering} (o : IsTotalOrder R) (exact : IsAntisymmetric R) (moment : V → Option ℕ) (dues : BTreeSet (Due K)) (held : List (K × V)) (first : Due K)
+    (tracks : Tracks R moment dues held) (is : IsFirstDue moment (map_of R held) (Some first)) where
+  pub first_member : contains (due_cmp R) dues first ≡ true
+  first_member = test_is_true (waits_tracked o moment dues held first tracks is.0)
+
+  pub first_least : (due : Due K) → contains (due_cmp R) dues due ≡ true → is_le (due_cmp R first due) ≡ true
+  first_least due there = is.1 due (ap (option_and_then moment) (get-map_of o held due.key) ∙ awaited_is due.at _ (sym (tracks due) ∙ there))
+
+  pub first_leaves : (dues' : BTreeSet (Due K)) (held' : List (K × V))
+      → ((due : Due K) → contains (due_cmp R) dues' due ≡ cond (is_due_of R first.key (Some first.at) due) false (contains (due_cmp R) dues due))
+      → ((q : K) → at_key R held' q ≡ cond (eq_by_cmp R first.key q) None (at_key R held q)) → Tracks R moment dues' held'
+  first_leaves dues' held' popped removed = λ due. popped due ∙ at due (eq_by_cmp R first.key due.key) refl ∙ ap (λ v. is_awaited due.at (option_and_then moment v)) (sym (removed due.key))
+    where
+      taken : (e : Bool) → cond (e && true) false e ≡ false
+      taken true = refl
+      taken false = refl
+
+      other : (e c : Bool) → cond (e && false) false c ≡ c
+      other true c = refl
+      other false c = refl
+
+      waits : (due : Due K) → first.key ≡ due.key → option_and_then moment (at_key R held due.key) ≡ Some first.at
+      waits due same = ap (λ k. option_and_then moment (at_key R held k)) (sym same) ∙ ap (option_and_then moment) (sym (get-map_of o held first.key)) ∙ is.0
+
+      at : (due : Due K) (b : Bool) → eq_by_cmp R first.key due.key ≡ b
+          → cond (is_awaited due.at (Some first.at) && eq_by_cmp R first.key due.key) false (contains (due_cmp R) dues due)
+          ≡ is_awaited due.at (option_and_then moment (cond (eq_by_cmp R first.key due.key) None (at_key R held due.key)))
+      at due true tie =
+          rw tie
+          (ap (λ c. cond (is_awaited due.at (Some first.at) && true) false c) (tracks due ∙ ap (is_awaited due.at) (waits due (same_by_test exact first.key due.key tie)))
+          ∙ taken (is_awaited due.at (Some first.at)))
+      at due false tie = rw tie (other (is_awaited due.at (Some first.at)) (contains (due_cmp R) dues due) ∙ tracks due)
 
 -- nothing in order comes before the first
 pub not_before : {K : Type 0} (R : K → K → Ordering) (first due : Due K) → is_le (due_cmp R first due) ≡ true → first.at ≤ due.at
@@ -148,10 +180,10 @@ module _ {K V : Type 0} {R : K → K → Ordering} (o : IsTotalOrder R) (exact :
           cc
 
 -- a moment that is not in the set is new to its key
-pub wants_new : {K V : Type 0} {R : K → K → Ordering} (o : IsTotalOrder R) (moment : V → Option ℕ) (dues : BTreeSet (Due K)) (held : BTreeMap K V) (key : K) (at : Option ℕ) → Tracks R moment dues held → at ≢ None
-    → ((due : Due K) → is_due_of R key at due ≡ true → contains (due_cmp R) dues due ≡ false) → WantsMemory moment (tree.get R held key) at
+pub wants_new : {K V : Type 0} {R : K → K → Ordering} (o : IsTotalOrder R) (moment : V → Option ℕ) (dues : BTreeSet (Due K)) (held : List (K × V)) (key : K) (at : Option ℕ) → Tracks R moment dues held → at ≢ None
+    → ((due : Due K) → is_due_of R key at due ≡ true → contains (due_cmp R) dues due ≡ false) → WantsMemory moment (at_key R held key) at
 wants_new {K} {V} {R} o moment dues held key None tracks some absent = absurd (some refl)
-wants_new {K} {V} {R} o moment dues held key (Some at) tracks some absent = cases (tree.get R held key) refl
+wants_new {K} {V} {R} o moment dues held key (Some at) tracks some absent = cases (at_key R held key) refl
   where
     due : Due K
     due = record { at = at; key = key }
@@ -159,12 +191,12 @@ wants_new {K} {V} {R} o moment dues held key (Some at) tracks some absent = case
     asked : is_due_of R key (Some at) due ≡ true
     asked = rw (eq-eqb at at refl) (own_test o key)
 
-    known : (v : Option V) → tree.get R held key ≡ v → option_and_then moment v ≡ Some at → ⊥
+    known : (v : Option V) → at_key R held key ≡ v → option_and_then moment v ≡ Some at → ⊥
     known v is waits =
         let there : contains (due_cmp R) dues due ≡ true = tracks due ∙ ap (is_awaited at) (ap (option_and_then moment) is ∙ waits) ∙ eq-eqb at at refl in
         let not_there = absent due asked in
         cc
 
-    cases : (v : Option V) → tree.get R held key ≡ v → WantsMemory moment v (Some at)
+    cases : (v : Option V) → at_key R held key ≡ v → WantsMemory moment v (Some at)
     cases None is = tt
     cases (Some value) is = (λ same. known (Some value) is same, some)

@@ -1,2 +1,3 @@
+pub mod Hashed
 pub mod FirstDues
 pub mod RetainedDues

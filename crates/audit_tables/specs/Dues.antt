@@ -1,10 +1,10 @@
 -- The moments that the values of a map wait for, by moment and then by key.
-use Rattle.std.specs.Prelude.{◌≡◌, ◌≢◌, ⊤, ℕ, Bool, true, ◌&&◌, Option, None, Some}
+use Rattle.std.specs.Prelude.{◌≡◌, ◌≢◌, ⊤, ℕ, Bool, true, ◌&&◌, List, Option, None, Some}
 use Rattle.std.specs.Option.{option_and_then}
 use Rattle.std.specs.declared.cmp.Ordering.{Ordering}
 use Rattle.std.specs.Ordering.{nat_cmp, ordering_then, eq_by_cmp, is_le}
-use Rattle.std.specs.BTreeMap as tree
-use Rattle.std.specs.BTreeMap.{BTreeMap}
+use Rattle.std.specs.BTreeMap.{is_at}
+use Rattle.std.specs.Map.{lookup}
 use Rattle.std.specs.BTreeSet as sorted
 use Rattle.std.specs.BTreeSet.{BTreeSet}
 use Rattle.std.specs.FinMap.{FinMap, get}
@@ -28,9 +28,13 @@ abbrev pub WantsMemory : {V : Type 0} → (V → Option ℕ) → Option V → Op
 WantsMemory moment None at = ⊤
 WantsMemory moment (Some value) at = (moment value ≢ at) × (at ≢ None)
 
--- the set holds exactly the moments of the map
-abbrev pub Tracks : {K V : Type 0} → (K → K → Ordering) → (V → Option ℕ) → BTreeSet (Due K) → BTreeMap K V → Type 0
-Tracks {K} R moment dues held = (due : Due K) → sorted.contains (due_cmp R) dues due ≡ is_awaited due.at (option_and_then moment (tree.get R held due.key))
+-- the value of a key, of entries in whatever order
+abbrev pub at_key : {K V : Type 0} → (K → K → Ordering) → List (K × V) → K → Option V
+at_key R entries key = lookup (is_at (R key)) entries
+
+-- the set holds exactly the moments of these entries
+abbrev pub Tracks : {K V : Type 0} → (K → K → Ordering) → (V → Option ℕ) → BTreeSet (Due K) → List (K × V) → Type 0
+Tracks {K} R moment dues entries = (due : Due K) → sorted.contains (due_cmp R) dues due ≡ is_awaited due.at (option_and_then moment (at_key R entries due.key))
 
 -- this is the key, at this moment
 abbrev pub is_due_of : {K : Type 0} → (K → K → Ordering) → K → Option ℕ → Due K → Bool

@@ -1,5 +1,5 @@
 //! A map whose values wait for a moment each, or for none, with the first of them at hand.
-ghost use Rattle.std.specs.Prelude.{◌≡◌, OnOk, OnErr, None, Bool};
+ghost use Rattle.std.specs.Prelude.{◌≡◌, OnOk, OnErr, None, Some, Bool};
 ghost use Rattle.std.specs.Option.{option_copied};
 ghost use Rattle.std.specs.FinMap as finite;
 ghost use Rattle.someip_tables.specs.Retained.{retain};
@@ -7,21 +7,25 @@ ghost use Rattle.someip_tables.specs.Tables.{map_of, AnswersPairAs};
 ghost use Rattle.audit_tables.specs.Dues.{IsFirstDue, WantsMemory};
 
 use crate::due::Due;
-use crate::tracked::{first_due, put, retain, take_out};
+use crate::tracked::{first_due, look, put, retain, take_out, take_out_first};
 use someip_tables::{Key, Waits};
 use std::alloc::{AllocError, Global};
-use std::collections::{BTreeMap, BTreeSet};
+use std::collections::{BTreeSet, HashMap};
+use std::hash::Hash;
 use std::marker::Model;
 
-/// A map whose values wait for a moment each, or for none. The moments stand in order beside it, so
-/// each change and the first of them take as many steps as the map is deep.
+/// A map whose values wait for a moment each, or for none. A key is found by its hash. The moments stand
+/// in order beside the map, so the first of them is at hand, and a change of one takes as many steps as
+/// their set is deep.
+///
+/// The seed of the hashes is fixed: of keys that were made to have one hash, each look goes over all.
 #[derive(Drop)]
-pub struct DueTable<K: Key, V: Waits> {
-    held: BTreeMap<K, V>,
+pub struct DueTable<K: Key + Hash, V: Waits> {
+    held: HashMap<K, V>,
     dues: BTreeSet<Due<K>>,
 }
 
-impl<K: Key, V: Waits> Model for DueTable<K, V> {
+impl<K: Key + Hash, V: Waits> Model for DueTable<K, V> {
     ghost use Rattle.std.specs.Prelude.{List};
     ghost use Rattle.audit_tables.specs.Dues.{Tracks};
 
@@ -29,16 +33,16 @@ impl<K: Key, V: Waits> Model for DueTable<K, V> {
 
     ghost view = { λ m. m.held.entries };
 
-    ghost invariant = { λ m. Tracks K.cmp V.moment m.dues m.held };
+    ghost invariant = { λ m. Tracks K.cmp V.moment m.dues m.held.entries };
 }
 
-impl<K: Key, V: Waits> DueTable<K, V> {
+impl<K: Key + Hash, V: Waits> DueTable<K, V> {
     /// An empty table. It takes no memory.
     pub fn new(alloc: Global) -> DueTable<K, V>
         ensures { map_of K.cmp result ≡ finite.empty }
     {
         DueTable {
-            held: BTreeMap::new(alloc),
+            held: HashMap::new(alloc),
             dues: BTreeSet::new(alloc),
         }
     }
@@ -54,7 +58,7 @@ impl<K: Key, V: Waits> DueTable<K, V> {
     pub fn get(&self, key: &K) -> Option<V>
         ensures { result ≡ finite.get (map_of K.cmp self.now) key.now }
     {
-        self.held.get(key).copied()
+        look(&self.held, key)
     }
 
     /// Puts a value under a key, in place of an earlier one. What is refused because memory ran out
@@ -75,6 +79,14 @@ impl<K: Key, V: Waits> DueTable<K, V> {
         ensures { map_of K.cmp self.new ≡ finite.remove (map_of K.cmp self.old) key.now }
     {
         take_out(&mut self.held, &mut self.dues, key);
+    }
+
+    /// Takes out the key that is due first, at a smaller cost than any other. It takes no memory.
+    pub fn remove_first(&mut self, first: &Due<K>)
+        requires { IsFirstDue V.moment (map_of K.cmp self.old) (Some first.now) }
+        ensures { map_of K.cmp self.new ≡ finite.remove (map_of K.cmp self.old) first.now.key }
+    {
+        take_out_first(&mut self.held, &mut self.dues, first);
     }
 
     /// Keeps the entries that pass a test of key and value, which is asked once for each entry. It takes

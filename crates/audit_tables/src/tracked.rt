@@ -1,34 +1,35 @@
-//! An ordered map, and beside it the moments of its values in order: the set holds exactly these.
+//! A map, and beside it the moments of its values in order: the set holds exactly these.
 ghost use Rattle.std.specs.Prelude.{◌≡◌, ◌≢◌, ◌+◌, true, false, if◌then◌else◌, Some, None, is_some};
 ghost use Rattle.std.specs.Prelude.{Bool, filter, IsTrue, IfSome, IfNone, IfOk, OnOk, OnErr};
 ghost use Rattle.std.specs.Option.{option_and_then};
-ghost use Rattle.std.specs.BTreeMap.{get, btree_map_len, IsOrdered, IsUnchanged};
+ghost use Rattle.std.specs.HashMap.{IsUnchanged, IsUnique};
 ghost use Rattle.std.specs.BTreeSet.{contains};
-ghost use Rattle.std.specs.Ordering.{eq_by_cmp, is_gt};
+ghost use Rattle.std.specs.Ordering.{eq_by_cmp, is_gt, is_le};
 ghost use Rattle.someip_tables.specs.Retained.{retain};
 ghost use Rattle.someip_tables.specs.Tables.{map_of, AnswersPairAs};
-ghost use Rattle.audit_tables.specs.Dues.{Tracks, WantsMemory, due_cmp, is_due_of};
+ghost use Rattle.audit_tables.specs.Dues.{IsFirstDue, Tracks, WantsMemory, at_key, due_cmp, is_due_of};
 ghost use Rattle.audit_tables.specs.declared.due.Due.{Due};
 
 use crate::due::Due;
 use someip_tables::{Key, Waits};
 use std::alloc::AllocError;
-use std::collections::{BTreeMap, BTreeSet};
+use std::collections::{BTreeSet, HashMap};
+use std::hash::Hash;
 
 /// Puts a value in, in place of an earlier one. A new moment is added before the old one is taken out,
 /// and where the value is refused then, the new one is taken out again.
-pub(crate) fn put<K: Key, V: Waits>(
-    held: &mut BTreeMap<K, V>,
+pub(crate) fn put<K: Key + Hash, V: Waits>(
+    held: &mut HashMap<K, V>,
     dues: &mut BTreeSet<Due<K>>,
     key: K,
     value: V,
 ) -> Result<(), AllocError>
-    requires { Tracks K.cmp V.moment dues.old held.old }
-    ensures ok { OnOk result ((q : K) → get K.cmp held.new q
-        ≡ (if eq_by_cmp K.cmp key q then Some value else get K.cmp held.old q)) }
+    requires { Tracks K.cmp V.moment dues.old held.old.entries }
+    ensures ok { OnOk result ((q : K) → at_key K.cmp held.new.entries q
+        ≡ (if eq_by_cmp K.cmp key q then Some value else at_key K.cmp held.old.entries q)) }
     ensures err { OnErr result (IsUnchanged held.old held.new) }
-    ensures grows { OnErr result (WantsMemory V.moment (get K.cmp held.old key) (V.moment value)) }
-    ensures tracks { Tracks K.cmp V.moment dues.new held.new }
+    ensures grows { OnErr result (WantsMemory V.moment (at_key K.cmp held.old.entries key) (V.moment value)) }
+    ensures tracks { Tracks K.cmp V.moment dues.new held.new.entries }
 {
     let moment = value.waits_for();
     add_due(dues, key, moment)?;
@@ -47,19 +48,63 @@ pub(crate) fn put<K: Key, V: Waits>(
 }
 
 /// Takes a key out, with its moment.
-pub(crate) fn take_out<K: Key, V: Waits>(
-    held: &mut BTreeMap<K, V>,
+pub(crate) fn take_out<K: Key + Hash, V: Waits>(
+    held: &mut HashMap<K, V>,
     dues: &mut BTreeSet<Due<K>>,
     key: &K,
 )
-    requires { Tracks K.cmp V.moment dues.old held.old }
-    ensures held { (q : K) → get K.cmp held.new q
-        ≡ (if eq_by_cmp K.cmp key.now q then None else get K.cmp held.old q) }
-    ensures tracks { Tracks K.cmp V.moment dues.new held.new }
+    requires { Tracks K.cmp V.moment dues.old held.old.entries }
+    ensures held { (q : K) → at_key K.cmp held.new.entries q
+        ≡ (if eq_by_cmp K.cmp key.now q then None else at_key K.cmp held.old.entries q) }
+    ensures tracks { Tracks K.cmp V.moment dues.new held.new.entries }
 {
-    if let Some(earlier) = held.remove(key) {
+    if let Some(earlier) = drop_key(held, key) {
         take_due(dues, *key, earlier.waits_for());
     }
+}
+
+/// Takes out the key with the first moment. No search is needed for this moment.
+pub(crate) fn take_out_first<K: Key + Hash, V: Waits>(
+    held: &mut HashMap<K, V>,
+    dues: &mut BTreeSet<Due<K>>,
+    first: &Due<K>,
+)
+    requires tracks { Tracks K.cmp V.moment dues.old held.old.entries }
+    requires first { IsFirstDue V.moment (map_of K.cmp held.old.entries) (Some first.now) }
+    ensures held { (q : K) → at_key K.cmp held.new.entries q
+        ≡ (if eq_by_cmp K.cmp first.now.key q then None else at_key K.cmp held.old.entries q) }
+    ensures tracks { Tracks K.cmp V.moment dues.new held.new.entries }
+{
+    pop_due(dues, first);
+    drop_key(held, &first.key);
+}
+
+/// Takes a key out, and leaves the moments as they are. Tells the value that it had.
+fn drop_key<K: Key + Hash, V: Waits>(held: &mut HashMap<K, V>, key: &K) -> Option<V>
+    ensures had { result ≡ at_key K.cmp held.old.entries key.now }
+    ensures left { (q : K) → at_key K.cmp held.new.entries q
+        ≡ (if eq_by_cmp K.cmp key.now q then None else at_key K.cmp held.old.entries q) }
+{
+    held.remove(key)
+}
+
+/// The value of a key.
+pub(crate) fn look<K: Key + Hash, V: Waits>(held: &HashMap<K, V>, key: &K) -> Option<V>
+    ensures { result ≡ at_key K.cmp held.now.entries key.now }
+{
+    held.get(key).copied()
+}
+
+/// Takes out the first moment.
+fn pop_due<K: Key>(dues: &mut BTreeSet<Due<K>>, first: &Due<K>)
+    requires member { contains (due_cmp K.cmp) dues.old first.now ≡ true }
+    requires least { (due : Due K) → contains (due_cmp K.cmp) dues.old due ≡ true
+        → is_le (due_cmp K.cmp first.now due) ≡ true }
+    ensures { (due : Due K) → contains (due_cmp K.cmp) dues.new due
+        ≡ (if is_due_of K.cmp first.now.key (Some first.now.at) due then false
+        else contains (due_cmp K.cmp) dues.old due) }
+{
+    dues.pop_first();
 }
 
 /// The first moment, with its key.
@@ -77,17 +122,17 @@ pub(crate) fn first_due<K: Key>(dues: &BTreeSet<Due<K>>) -> Option<Due<K>>
 
 /// Puts a value under its key, in place of an earlier one, and leaves the moments as they are. Tells the
 /// moment that the earlier one waited for.
-fn hold<K: Key, V: Waits>(
-    held: &mut BTreeMap<K, V>,
+fn hold<K: Key + Hash, V: Waits>(
+    held: &mut HashMap<K, V>,
     key: K,
     value: V,
 ) -> Result<Option<u64>, AllocError>
     ensures earlier { IfOk result (λ earlier. earlier
-        ≡ option_and_then V.moment (get K.cmp held.old key)) }
-    ensures ok { OnOk result ((q : K) → get K.cmp held.new q
-        ≡ (if eq_by_cmp K.cmp key q then Some value else get K.cmp held.old q)) }
+        ≡ option_and_then V.moment (at_key K.cmp held.old.entries key)) }
+    ensures ok { OnOk result ((q : K) → at_key K.cmp held.new.entries q
+        ≡ (if eq_by_cmp K.cmp key q then Some value else at_key K.cmp held.old.entries q)) }
     ensures err { OnErr result (IsUnchanged held.old held.new) }
-    ensures absent { OnErr result (get K.cmp held.old key ≡ None) }
+    ensures absent { OnErr result (at_key K.cmp held.old.entries key ≡ None) }
 {
     match held.insert(key, value)? {
         Some(earlier) => Ok(earlier.waits_for()),
@@ -126,39 +171,39 @@ fn take_due<K: Key>(dues: &mut BTreeSet<Due<K>>, key: K, moment: Option<u64>)
 }
 
 /// Drops each entry that a test refuses. The test is asked once for each entry.
-pub(crate) fn retain<K: Key, V: Waits, F: Fn(&K, &V) -> bool + Drop>(
-    held: &mut BTreeMap<K, V>,
+pub(crate) fn retain<K: Key + Hash, V: Waits, F: Fn(&K, &V) -> bool + Drop>(
+    held: &mut HashMap<K, V>,
     dues: &mut BTreeSet<Due<K>>,
     keep: F,
 )
-    requires tracks { Tracks K.cmp V.moment dues.old held.old }
+    requires tracks { Tracks K.cmp V.moment dues.old held.old.entries }
     requires callable { F.IsAlwaysCallable keep }
     ensures left { (p : K → V → Bool) → AnswersPairAs F.Fn keep p
         → map_of K.cmp held.new.entries ≡ retain (map_of K.cmp held.old.entries) p }
-    ensures tracks { Tracks K.cmp V.moment dues.new held.new }
+    ensures tracks { Tracks K.cmp V.moment dues.new held.new.entries }
 {
     retain_entries(held, keep);
     retain_dues(held, dues);
 }
 
 /// Keeps the entries that a test keeps.
-fn retain_entries<K: Key, V: Waits, F: Fn(&K, &V) -> bool + Drop>(
-    held: &mut BTreeMap<K, V>,
+fn retain_entries<K: Key + Hash, V: Waits, F: Fn(&K, &V) -> bool + Drop>(
+    held: &mut HashMap<K, V>,
     keep: F,
 )
     requires { F.IsAlwaysCallable keep }
     ensures left { (p : K → V → Bool) → AnswersPairAs F.Fn keep p
         → held.new.entries ≡ filter (λ e. p e.0 e.1) held.old.entries }
-    ensures no_other { (q : K) → is_some (get K.cmp held.new q) ≡ true
-        → get K.cmp held.new q ≡ get K.cmp held.old q }
-    ensures ordered { IsOrdered K.cmp held.old }
+    ensures no_other { (q : K) → is_some (at_key K.cmp held.new.entries q) ≡ true
+        → at_key K.cmp held.new.entries q ≡ at_key K.cmp held.old.entries q }
+    ensures distinct { IsUnique K.eq held.old }
 {
     held.retain(|key, value| keep(key, value));
 }
 
 /// Keeps the moments of the keys that the map has.
-fn retain_dues<K: Key, V: Waits>(held: &BTreeMap<K, V>, dues: &mut BTreeSet<Due<K>>)
-    ensures { dues.new.keys ≡ filter (λ due. is_some (get K.cmp held.now due.key)) dues.old.keys }
+fn retain_dues<K: Key + Hash, V: Waits>(held: &HashMap<K, V>, dues: &mut BTreeSet<Due<K>>)
+    ensures { dues.new.keys ≡ filter (λ due. is_some (at_key K.cmp held.now.entries due.key)) dues.old.keys }
 {
-    dues.retain(|due| held.contains_key(&due.key));
+    dues.retain(|due| look(held, &due.key).is_some());
 }

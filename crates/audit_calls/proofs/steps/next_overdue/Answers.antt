@@ -28,19 +28,19 @@ returns-in-Some-open_call-clause-no_more c =
 
 pub loop-due-smaller : goal.loop-due-smaller
 loop-due-smaller c =
-    one_fewer (map_of call_cmp c.loop-due.calls) (map_of call_cmp c.remove.new.self) c.in-Some.due
-    (first_answered (map_of call_cmp c.loop-due.calls) c.in-Some.due c.in-Some.ensures.first c.in-None.ensures.none) c.remove.ensures
+    one_fewer (map_of call_cmp c.loop-due.calls) (map_of call_cmp c.remove_first.new.self) c.in-Some.due
+    (first_answered (map_of call_cmp c.loop-due.calls) c.in-Some.due c.in-Some.ensures.first c.in-None.ensures.none) c.remove_first.ensures
 
 pub loop-due-preserved : goal.loop-due-preserved
 loop-due-preserved c =
     let there = first_answered (map_of call_cmp c.loop-due.calls) c.in-Some.due c.in-Some.ensures.first c.in-None.ensures.none in
-    let fewer : finite.len (map_of call_cmp c.remove.new.self) < finite.len (map_of call_cmp c.loop-due.calls) =
-    one_fewer (map_of call_cmp c.loop-due.calls) (map_of call_cmp c.remove.new.self) c.in-Some.due there c.remove.ensures in
+    let fewer : finite.len (map_of call_cmp c.remove_first.new.self) < finite.len (map_of call_cmp c.loop-due.calls) =
+    one_fewer (map_of call_cmp c.loop-due.calls) (map_of call_cmp c.remove_first.new.self) c.in-Some.due there c.remove_first.ensures in
     let few : finite.len (map_of call_cmp c.loop-due.calls) ≤ finite.len (map_of call_cmp c.args.calls.now) = c.loop-due.invariant.few in
     record {
       go =
-          lets_one_go c.args.now (map_of call_cmp c.args.calls.now) (map_of call_cmp c.loop-due.calls) (map_of call_cmp c.remove.new.self) c.in-Some.due c.loop-due.invariant.go
-          c.in-Some.ensures.first c.in-Some.ensures.come there c.remove.ensures;
+          lets_one_go c.args.now (map_of call_cmp c.args.calls.now) (map_of call_cmp c.loop-due.calls) (map_of call_cmp c.remove_first.new.self) c.in-Some.due c.loop-due.invariant.go
+          c.in-Some.ensures.first c.in-Some.ensures.come there c.remove_first.ensures;
       few = omega (arith, fewer, few);
     }
 

@@ -1,8 +1,9 @@
 use Rattle.std.proofs.Common.{ap, ◌∙◌, ◌&&◌}
 use Rattle.std.specs.Option.{is_some}
-use Rattle.std.specs.BTreeMap.{get}
+use Rattle.std.specs.Map.{keys_of}
+use Rattle.audit_tables.specs.Dues.{at_key}
+use Rattle.audit_tables.proofs.Hashed.{distinct_by_order, entries_distinct}
 use Rattle.someip_tables.specs.Tables.{map_of}
-use Rattle.someip_tables.proofs.Trees.{rising_distinct}
 use Rattle.someip_tables.proofs.Entries.{from_entries-filter}
 use Rattle.audit_tables.proofs.RetainedDues.{moment_left, moments-filter}
 use Rattle.audit_tables.proofs.tracked.retain.Goals as goal
@@ -10,10 +11,10 @@ use Rattle.audit_tables.proofs.tracked.retain.Goals as goal
 pub returns-clause-left : goal.returns-clause-left
 returns-clause-left g c = λ p answers.
     ap (map_of g.K.Ord.cmp) (c.retain_entries.ensures.left p answers)
-    ∙ from_entries-filter g.met.K.Ord.total g.met.K.Key.exact (λ e. p e.0 e.1) c.args.held.now.entries (rising_distinct g.met.K.Ord.total g.met.K.Key.exact c.args.held.now.entries c.retain_entries.ensures.ordered)
+    ∙ from_entries-filter g.met.K.Ord.total g.met.K.Key.exact (λ e. p e.0 e.1) c.args.held.now.entries (entries_distinct g.met.K.Ord.total c.args.held.now.entries (distinct_by_order g.K.Ord.cmp g.met.K.Ord.matches_eq (keys_of c.args.held.now.entries) c.retain_entries.ensures.distinct))
 
 pub returns-clause-tracks : goal.returns-clause-tracks
 returns-clause-tracks g c = λ due.
-    moments-filter g.met.K.Ord.total g.met.K.Key.exact (λ key. is_some (get g.K.Ord.cmp c.retain_entries.new.held key)) due c.args.dues.now c.retain_dues.new.dues c.retain_dues.ensures
-    ∙ ap (λ b. b && is_some (get g.K.Ord.cmp c.retain_entries.new.held due.key)) (c.requires.tracks due)
-    ∙ moment_left g.V.Waits.moment due.at (get g.K.Ord.cmp c.args.held.now due.key) (get g.K.Ord.cmp c.retain_entries.new.held due.key) (c.retain_entries.ensures.no_other due.key)
+    moments-filter g.met.K.Ord.total g.met.K.Key.exact (λ key. is_some (at_key g.K.Ord.cmp c.retain_entries.new.held.entries key)) due c.args.dues.now c.retain_dues.new.dues c.retain_dues.ensures
+    ∙ ap (λ b. b && is_some (at_key g.K.Ord.cmp c.retain_entries.new.held.entries due.key)) (c.requires.tracks due)
+    ∙ moment_left g.V.Waits.moment due.at (at_key g.K.Ord.cmp c.args.held.now.entries due.key) (at_key g.K.Ord.cmp c.retain_entries.new.held.entries due.key) (c.retain_entries.ensures.no_other due.key)

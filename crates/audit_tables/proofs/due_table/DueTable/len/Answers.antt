@@ -1,6 +1,11 @@
 use Rattle.std.proofs.Common.{sym, ◌∙◌}
-use Rattle.someip_tables.proofs.Trees.{len-map_of}
+use Rattle.std.specs.Map.{keys_of}
+use Rattle.audit_tables.proofs.Hashed.{distinct_by_order, entries_distinct, len_distinct}
 use Rattle.audit_tables.proofs.due_table.DueTable.len.Goals as goal
 
 pub returns : goal.returns
-returns g c = rw (← c.self.view_is) (c.len.ensures.len ∙ sym (len-map_of g.met.K.Ord.total g.met.K.Key.exact c.self.inside.held.entries c.len.ensures.ordered))
+returns g c =
+    rw (← c.self.view_is)
+    (c.len.ensures.len
+    ∙ sym (len_distinct g.met.K.Ord.total c.self.inside.held.entries
+    (entries_distinct g.met.K.Ord.total c.self.inside.held.entries (distinct_by_order g.K.Ord.cmp g.met.K.Ord.matches_eq (keys_of c.self.inside.held.entries) c.len.ensures.unique))))
