@@ -1,6 +1,6 @@
 //! Memory that is refused: the calls of one kind, three times in one process.
 //!
-//! The script `sweeps` at the top of the repository refuses one growth of memory in each run: the first pass is for
+//! The script `sweeps/run` refuses one growth of memory in each run: the first pass is for
 //! the answers that are expected, the second one is judged, and the third one shows that nothing was left. The act
 //! that was refused memory is done again, or it is left out. In a bare sweep the acts at the end are left out, which
 //! take no memory, and so as many growths are seen.

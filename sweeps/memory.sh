@@ -109,7 +109,7 @@ sweep_memory() {
     begin_part memory
     growths=0
     judged=0
-    cc -O1 -shared -fPIC -o "$scratch/refused_growths.so" "$here/sweep_parts/refused_growths.c" || return 1
+    cc -O1 -shared -fPIC -o "$scratch/refused_growths.so" "$here/sweeps/refused_growths.c" || return 1
     for kind in $kinds; do
         sweep_kind "$kind" again
         sweep_kind "$kind" left-out

@@ -1,6 +1,6 @@
 /* Loaded before a program, this refuses growths of its memory: number REFUSED_GROWTH of them, counted from 1, or as
    many from there on as REFUSED_GROWTHS says. At the end it writes how many growths it saw to the file at the path
-   GROWTHS_SEEN. `./sweeps memory` builds it. It stands on glibc, which keeps its own functions under other names. */
+   GROWTHS_SEEN. `sweeps/run memory` builds it. It stands on glibc, which keeps its own functions under other names. */
 #include <errno.h>
 #include <fcntl.h>
 #include <stdio.h>
