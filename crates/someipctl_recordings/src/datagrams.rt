@@ -205,11 +205,13 @@ fn put_recorded_item<S: Reassembly + Drop, W: Write>(
         item,
         &mut telling.bytes,
     )?;
+    let found = found.as_ref();
+    let item = *item;
     let found_item = FoundItem {
         k: shown.k,
         place,
-        item,
-        found: found.as_ref(),
+        item: &item,
+        found,
     };
     let is_item_faulty = put_valued_item(buffer, writer, &found_item, &mut telling.values)?;
     let is_whole_faulty = put_told(
