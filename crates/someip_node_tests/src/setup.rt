@@ -1,4 +1,4 @@
-//! What is read of the worked setup. Those that are not quite right are rows of the sweep `setups`.
+//! What is read of the worked setup. Those that are not quite right are rows of the sweep `texts`.
 use sd_core::{InstanceId, Phases};
 use someip_node::{Common, OfferedService, WantedService};
 use someip_world_setup::{Setup, SetupNode};
