@@ -23,7 +23,7 @@ loop-init g c = (
 
 pub returns-in_err-coming-clause-begun : goal.returns-in_err-coming-clause-begun
 returns-in_err-coming-clause-begun g c =
-    OnErr-any c.from_residual-in_err-coming.result (stops_before (view_asked c.args.asked.now) c.loop.recording _ _ _ _ _ c.loop.buffer c.loop.recorder.shown _ c.loop.invariant.0 c.in_err-coming.ensures.stops)
+    OnErr-any c.from_residual.result (stops_before (view_asked c.args.asked.now) c.loop.recording _ _ _ _ _ c.loop.buffer c.loop.recorder.shown _ c.loop.invariant.0 c.in_err-coming.ensures.stops)
 
 pub returns-in-Fault-clause-puts : goal.returns-in-Fault-clause-puts
 returns-in-Fault-clause-puts g c =
