@@ -1,5 +1,5 @@
 -- The calls that fall due, one after the other.
-use Rattle.std.proofs.Common.{◌≡◌, ℕ, zero, suc, ◌-◌, ◌<◌, ◌≤◌, nat_le, Bool, true, false, cond, not, ◌⊎◌, inl, inr, Option, None, Some, refl, sym, ap, ◌∙◌, arith}
+use Rattle.std.proofs.Common.{◌≡◌, ℕ, zero, suc, ◌-◌, ◌<◌, ◌≤◌, nat_le, Bool, true, false, cond, not, ◌⊎◌, inl, inr, Option, None, Some, IfSome, refl, sym, ap, ◌∙◌, arith}
 use Rattle.std.specs.Option.{is_some, option_and_then}
 use Rattle.std.specs.declared.cmp.Ordering.{Ordering}
 use Rattle.std.specs.declared.cmp.Ordering.TheVariants.{Less, Equal, Greater}
@@ -12,7 +12,7 @@ use Rattle.someip_tables.proofs.Entries.{get-retain, same_by_test, own_test}
 use Rattle.someip_tables.proofs.MapLaws.{len-insert_known}
 use Rattle.audit_tables.specs.declared.due.Due.{Due}
 use Rattle.audit_tables.specs.Dues.{IsFirstDue, WantsMemory, due_cmp}
-use Rattle.audit_tables.proofs.FirstDues.{dues_total, exact_dues, not_before}
+use Rattle.audit_tables.proofs.FirstDues.{dues_total, exact_dues, not_before, one_first}
 use Rattle.audit_calls.specs.declared.call.AuditedCall.{AuditedCall}
 use Rattle.audit_calls.specs.declared.finding.Unanswered.{Unanswered}
 use Rattle.audit_calls.specs.declared.known.Known.{Known}
@@ -40,6 +40,11 @@ LetsGo now old calls = (call : AuditedCall) → (get calls call ≡ get old call
 
 pub lets_none_go : (now : ℕ) (old : Calls) → LetsGo now old old
 lets_none_go now old = λ call. inl refl
+
+-- what was taken out is what was due first
+pub first_taken : (calls next : Calls) (due : Due AuditedCall) (r : Option (Due AuditedCall)) → IsFirstDue waits_of calls (Some due) → IsFirstDue waits_of calls r
+    → IfSome r (λ first. next ≡ remove calls first.key) → next ≡ remove calls due.key
+first_taken calls next due r is first taken = let same : r ≡ Some due = one_first calls_total exact_calls waits_of calls r (Some due) first is in rw same at taken
 
 -- what waits after a removal waited before
 module _ (calls next : Calls) (gone : AuditedCall) (is : next ≡ remove calls gone) where

@@ -174,7 +174,9 @@ pub(crate) fn next_overdue(calls: &mut Calls, now: Moment) -> Option<Unanswered>
                     until: call.until,
                 });
             }
-            None => calls.remove_first(&due),
+            None => {
+                calls.remove_first();
+            }
         }
     }
     None

@@ -5,7 +5,6 @@ use Rattle.std.specs.declared.cmp.Ordering.{Ordering}
 use Rattle.std.specs.declared.cmp.Ordering.TheVariants.{Less, Equal, Greater}
 use Rattle.std.specs.Ordering.{is_le, is_gt, eq_by_cmp, ordering_reverse, ordering_then}
 use Rattle.std.specs.Cmp.{IsTotalOrder}
-use Rattle.std.specs.BTreeSet.{BTreeSet, contains}
 use Rattle.std.specs.FinMap.{FinMap, IsAntisymmetric, get, empty, get-empty}
 use Rattle.std.proofs.lemmas.Bool.{eqb-true, eq-eqb}
 use Rattle.std.proofs.lemmas.Bool.Decides.{nat_tests}
@@ -22,7 +21,7 @@ use Rattle.someip_tables.proofs.MapLaws.{retain_none}
 use Rattle.someip_tables.proofs.Trees.{get-map_of}
 use Rattle.someip_tables.proofs.DueLemmas.{test_is_true, true_is_test}
 use Rattle.audit_tables.specs.declared.due.Due.{Due}
-use Rattle.audit_tables.specs.Dues.{IsFirstDue, Tracks, WantsMemory, at_key, due_cmp, is_due_of}
+use Rattle.audit_tables.specs.Dues.{Dues, IsFirstDue, Tracks, WantsMemory, at_key, due_cmp, has_due, is_due_of}
 
 not_above : (o : Ordering) → is_gt o ≡ false → is_le o ≡ true
 not_above Less h = refl
@@ -54,15 +53,15 @@ exact_dues {K} {R} exact a b h =
 
 module _ {K V : Type 0} {R : K → K → Ordering} (o : IsTotalOrder R) where
   -- what the map waits for stands in the set, and nothing else
-  pub waits_tracked : (moment : V → Option ℕ) (dues : BTreeSet (Due K)) (held : List (K × V)) (due : Due K) → Tracks R moment dues held
-      → option_and_then moment (get (map_of R held) due.key) ≡ Some due.at → IsTrue (contains (due_cmp R) dues due)
+  pub waits_tracked : (moment : V → Option ℕ) (dues : Dues K) (held : List (K × V)) (due : Due K) → Tracks R moment dues held
+      → option_and_then moment (get (map_of R held) due.key) ≡ Some due.at → IsTrue (has_due R dues due)
   waits_tracked moment dues held due tracks is =
       true_is_test (tracks due ∙ is_awaited_own due.at _ (ap (option_and_then moment) (sym (get-map_of o held due.key)) ∙ is))
 
-  pub first_is : (moment : V → Option ℕ) (dues : BTreeSet (Due K)) (held : List (K × V)) (r : Option (Due K)) → Tracks R moment dues held
-      → IfSome r (λ due. IsTrue (contains (due_cmp R) dues due))
-      → IfSome r (λ first. (due : Due K) → IsTrue (contains (due_cmp R) dues due) → is_gt (due_cmp R first due) ≡ false)
-      → IfNone r ((due : Due K) → IsTrue (contains (due_cmp R) dues due) → ⊥)
+  pub first_is : (moment : V → Option ℕ) (dues : Dues K) (held : List (K × V)) (r : Option (Due K)) → Tracks R moment dues held
+      → IfSome r (λ due. IsTrue (has_due R dues due))
+      → IfSome r (λ first. (due : Due K) → IsTrue (has_due R dues due) → is_gt (due_cmp R first due) ≡ false)
+      → IfNone r ((due : Due K) → IsTrue (has_due R dues due) → ⊥)
       → IsFirstDue moment (map_of R held) r
   first_is moment dues held None tracks found first none = λ k. at k (option_and_then moment (get (map_of R held) k)) refl
     where
@@ -86,16 +85,10 @@ module _ {K V : Type 0} {R : K → K → Ordering} (o : IsTotalOrder R) where
         ap Some (exact_dues exact one other (tied (due_cmp R one other) (due_cmp R other one) ((dues_total o).antisymm one other) (a.1 other b.0) (b.1 one a.0)))
 
 -- what the first one leaves, once it was taken out
-module _ {K V : Type 0} {R : K → K → Ordering} (o : IsTotalOrder R) (exact : IsAntisymmetric R) (moment : V → Option ℕ) (dues : BTreeSet (Due K)) (held : List (K × V)) (first : Due K)
+module _ {K V : Type 0} {R : K → K → Ordering} (o : IsTotalOrder R) (exact : IsAntisymmetric R) (moment : V → Option ℕ) (dues : Dues K) (held : List (K × V)) (first : Due K)
     (tracks : Tracks R moment dues held) (is : IsFirstDue moment (map_of R held) (Some first)) where
-  pub first_member : contains (due_cmp R) dues first ≡ true
-  first_member = test_is_true (waits_tracked o moment dues held first tracks is.0)
-
-  pub first_least : (due : Due K) → contains (due_cmp R) dues due ≡ true → is_le (due_cmp R first due) ≡ true
-  first_least due there = is.1 due (ap (option_and_then moment) (get-map_of o held due.key) ∙ awaited_is due.at _ (sym (tracks due) ∙ there))
-
-  pub first_leaves : (dues' : BTreeSet (Due K)) (held' : List (K × V))
-      → ((due : Due K) → contains (due_cmp R) dues' due ≡ cond (is_due_of R first.key (Some first.at) due) false (contains (due_cmp R) dues due))
+  pub first_leaves : (dues' : Dues K) (held' : List (K × V))
+      → ((due : Due K) → has_due R dues' due ≡ cond (is_due_of R first.key (Some first.at) due) false (has_due R dues due))
       → ((q : K) → at_key R held' q ≡ cond (eq_by_cmp R first.key q) None (at_key R held q)) → Tracks R moment dues' held'
   first_leaves dues' held' popped removed = λ due. popped due ∙ at due (eq_by_cmp R first.key due.key) refl ∙ ap (λ v. is_awaited due.at (option_and_then moment v)) (sym (removed due.key))
     where
@@ -111,13 +104,13 @@ module _ {K V : Type 0} {R : K → K → Ordering} (o : IsTotalOrder R) (exact :
       waits due same = ap (λ k. option_and_then moment (at_key R held k)) (sym same) ∙ ap (option_and_then moment) (sym (get-map_of o held first.key)) ∙ is.0
 
       at : (due : Due K) (b : Bool) → eq_by_cmp R first.key due.key ≡ b
-          → cond (is_awaited due.at (Some first.at) && eq_by_cmp R first.key due.key) false (contains (due_cmp R) dues due)
+          → cond (is_awaited due.at (Some first.at) && eq_by_cmp R first.key due.key) false (has_due R dues due)
           ≡ is_awaited due.at (option_and_then moment (cond (eq_by_cmp R first.key due.key) None (at_key R held due.key)))
       at due true tie =
           rw tie
           (ap (λ c. cond (is_awaited due.at (Some first.at) && true) false c) (tracks due ∙ ap (is_awaited due.at) (waits due (same_by_test exact first.key due.key tie)))
           ∙ taken (is_awaited due.at (Some first.at)))
-      at due false tie = rw tie (other (is_awaited due.at (Some first.at)) (contains (due_cmp R) dues due) ∙ tracks due)
+      at due false tie = rw tie (other (is_awaited due.at (Some first.at)) (has_due R dues due) ∙ tracks due)
 
 -- nothing in order comes before the first
 pub not_before : {K : Type 0} (R : K → K → Ordering) (first due : Due K) → is_le (due_cmp R first due) ≡ true → first.at ≤ due.at
@@ -180,8 +173,8 @@ module _ {K V : Type 0} {R : K → K → Ordering} (o : IsTotalOrder R) (exact :
           cc
 
 -- a moment that is not in the set is new to its key
-pub wants_new : {K V : Type 0} {R : K → K → Ordering} (o : IsTotalOrder R) (moment : V → Option ℕ) (dues : BTreeSet (Due K)) (held : List (K × V)) (key : K) (at : Option ℕ) → Tracks R moment dues held → at ≢ None
-    → ((due : Due K) → is_due_of R key at due ≡ true → contains (due_cmp R) dues due ≡ false) → WantsMemory moment (at_key R held key) at
+pub wants_new : {K V : Type 0} {R : K → K → Ordering} (o : IsTotalOrder R) (moment : V → Option ℕ) (dues : Dues K) (held : List (K × V)) (key : K) (at : Option ℕ) → Tracks R moment dues held → at ≢ None
+    → ((due : Due K) → is_due_of R key at due ≡ true → has_due R dues due ≡ false) → WantsMemory moment (at_key R held key) at
 wants_new {K} {V} {R} o moment dues held key None tracks some absent = absurd (some refl)
 wants_new {K} {V} {R} o moment dues held key (Some at) tracks some absent = cases (at_key R held key) refl
   where
@@ -193,10 +186,15 @@ wants_new {K} {V} {R} o moment dues held key (Some at) tracks some absent = case
 
     known : (v : Option V) → at_key R held key ≡ v → option_and_then moment v ≡ Some at → ⊥
     known v is waits =
-        let there : contains (due_cmp R) dues due ≡ true = tracks due ∙ ap (is_awaited at) (ap (option_and_then moment) is ∙ waits) ∙ eq-eqb at at refl in
+        let there : has_due R dues due ≡ true = tracks due ∙ ap (is_awaited at) (ap (option_and_then moment) is ∙ waits) ∙ eq-eqb at at refl in
         let not_there = absent due asked in
         cc
 
     cases : (v : Option V) → at_key R held key ≡ v → WantsMemory moment v (Some at)
     cases None is = tt
     cases (Some value) is = (λ same. known (Some value) is same, some)
+
+-- what follows of each that is found
+pub if_some_map : {A : Type 0} {P Q : A → Type 0} (r : Option A) → ((x : A) → P x → Q x) → IfSome r P → IfSome r Q
+if_some_map None f h = h
+if_some_map (Some x) f h = f x h

@@ -1,3 +1,4 @@
 pub mod Hashed
 pub mod FirstDues
+pub mod BackDues
 pub mod RetainedDues

@@ -3,7 +3,6 @@ use Rattle.std.proofs.Common.{◌≡◌, ℕ, Bool, true, false, ◌&&◌, filte
 use Rattle.std.specs.Option.{is_some, option_and_then}
 use Rattle.std.specs.List.{list_any}
 use Rattle.std.specs.BTreeMap.{is_at}
-use Rattle.std.specs.BTreeSet.{BTreeSet, contains}
 use Rattle.std.specs.Cmp.{IsTotalOrder, eq_by_cmp_equiv}
 use Rattle.std.specs.declared.cmp.Ordering.{Ordering}
 use Rattle.std.specs.FinMap.{IsAntisymmetric}
@@ -11,8 +10,8 @@ use Rattle.std.proofs.lemmas.Map.Made.{is_member-filter}
 use Rattle.someip_tables.specs.Agendas.{is_awaited}
 use Rattle.someip_tables.proofs.Entries.{same_by_test}
 use Rattle.audit_tables.specs.declared.due.Due.{Due}
-use Rattle.audit_tables.specs.Dues.{due_cmp}
-use Rattle.audit_tables.proofs.FirstDues.{dues_total, exact_dues}
+use Rattle.audit_tables.specs.Dues.{Dues, back_cmp, due_cmp, has_due}
+use Rattle.audit_tables.proofs.BackDues.{back_dues_total, exact_back_dues}
 
 -- a moment stays where its key does
 pub moment_left : {V : Type 0} (moment : V → Option ℕ) (at : ℕ) (old new : Option V) → (is_some new ≡ true → new ≡ old)
@@ -30,7 +29,9 @@ moment_left moment at old (Some value) same = ap (λ v. is_awaited at (option_an
 
 module _ {K : Type 0} {R : K → K → Ordering} (o : IsTotalOrder R) (exact : IsAntisymmetric R) where
   -- the moments of the keys that pass a test
-  pub moments-filter : (p : K → Bool) (due : Due K) (old new : BTreeSet (Due K)) → new.keys ≡ filter (λ d. p d.key) old.keys → contains (due_cmp R) new due ≡ (contains (due_cmp R) old due && p due.key)
+  pub moments-filter : (p : K → Bool) (due : Due K) (old new : Dues K) → new.keys ≡ filter (λ d. p d.0.key) old.keys → has_due R new due ≡ (has_due R old due && p due.key)
+  unfolding has_due
   moments-filter p due old new is =
-      ap (list_any (is_at (due_cmp R due))) is
-      ∙ is_member-filter (eq_by_cmp_equiv (dues_total o)) (λ d. p d.key) due (λ d tie. ap (λ x. p x.key) (same_by_test (exact_dues exact) due d tie)) old.keys
+      ap (list_any (is_at (back_cmp (due_cmp R) (record { 0 = due })))) is
+      ∙ is_member-filter (eq_by_cmp_equiv (back_dues_total o)) (λ d. p d.0.key) (record { 0 = due })
+          (λ d tie. ap (λ x. p x.0.key) (same_by_test (exact_back_dues exact) (record { 0 = due }) d tie)) old.keys

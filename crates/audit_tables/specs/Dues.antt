@@ -2,6 +2,7 @@
 use Rattle.std.specs.Prelude.{◌≡◌, ◌≢◌, ⊤, ℕ, Bool, true, ◌&&◌, List, Option, None, Some}
 use Rattle.std.specs.Option.{option_and_then}
 use Rattle.std.specs.declared.cmp.Ordering.{Ordering}
+use Rattle.std.specs.declared.cmp.Reverse.{Reverse}
 use Rattle.std.specs.Ordering.{nat_cmp, ordering_then, eq_by_cmp, is_le}
 use Rattle.std.specs.BTreeMap.{is_at}
 use Rattle.std.specs.Map.{lookup}
@@ -32,9 +33,21 @@ WantsMemory moment (Some value) at = (moment value ≢ at) × (at ≢ None)
 abbrev pub at_key : {K V : Type 0} → (K → K → Ordering) → List (K × V) → K → Option V
 at_key R entries key = lookup (is_at (R key)) entries
 
+-- the other way round
+abbrev pub back_cmp : {A : Type 0} → (A → A → Ordering) → Reverse A → Reverse A → Ordering
+back_cmp R a b = R b.0 a.0
+
+-- a set of moments, which stand from the last to the first
+abbrev pub Dues : Type 0 → Type 0
+Dues K = BTreeSet (Reverse (Due K))
+
+-- the set holds this key at this moment
+unfoldable pub has_due : {K : Type 0} → (K → K → Ordering) → Dues K → Due K → Bool
+has_due R dues due = sorted.contains (back_cmp (due_cmp R)) dues (record { 0 = due })
+
 -- the set holds exactly the moments of these entries
-abbrev pub Tracks : {K V : Type 0} → (K → K → Ordering) → (V → Option ℕ) → BTreeSet (Due K) → List (K × V) → Type 0
-Tracks {K} R moment dues entries = (due : Due K) → sorted.contains (due_cmp R) dues due ≡ is_awaited due.at (option_and_then moment (at_key R entries due.key))
+abbrev pub Tracks : {K V : Type 0} → (K → K → Ordering) → (V → Option ℕ) → Dues K → List (K × V) → Type 0
+Tracks {K} R moment dues entries = (due : Due K) → has_due R dues due ≡ is_awaited due.at (option_and_then moment (at_key R entries due.key))
 
 -- this is the key, at this moment
 abbrev pub is_due_of : {K : Type 0} → (K → K → Ordering) → K → Option ℕ → Due K → Bool

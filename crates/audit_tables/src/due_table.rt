@@ -1,5 +1,5 @@
 //! A map whose values wait for a moment each, or for none, with the first of them at hand.
-ghost use Rattle.std.specs.Prelude.{◌≡◌, OnOk, OnErr, None, Some, Bool};
+ghost use Rattle.std.specs.Prelude.{◌≡◌, IfNone, IfSome, OnOk, OnErr, Bool};
 ghost use Rattle.std.specs.Option.{option_copied};
 ghost use Rattle.std.specs.FinMap as finite;
 ghost use Rattle.someip_tables.specs.Retained.{retain};
@@ -7,7 +7,7 @@ ghost use Rattle.someip_tables.specs.Tables.{map_of, AnswersPairAs};
 ghost use Rattle.audit_tables.specs.Dues.{IsFirstDue, WantsMemory};
 
 use crate::due::Due;
-use crate::tracked::{first_due, look, put, retain, take_out, take_out_first};
+use crate::tracked::{Dues, first_due, look, put, retain, take_out, take_out_first};
 use someip_tables::{Key, Waits};
 use std::alloc::{AllocError, Global};
 use std::collections::{BTreeSet, HashMap};
@@ -22,7 +22,7 @@ use std::marker::Model;
 #[derive(Drop)]
 pub struct DueTable<K: Key + Hash, V: Waits> {
     held: HashMap<K, V>,
-    dues: BTreeSet<Due<K>>,
+    dues: Dues<K>,
 }
 
 impl<K: Key + Hash, V: Waits> Model for DueTable<K, V> {
@@ -38,6 +38,7 @@ impl<K: Key + Hash, V: Waits> Model for DueTable<K, V> {
 
 impl<K: Key + Hash, V: Waits> DueTable<K, V> {
     /// An empty table. It takes no memory.
+    #[tactic(auto, unfolding(crate::specs::Dues::has_due))]
     pub fn new(alloc: Global) -> DueTable<K, V>
         ensures { map_of K.cmp result ≡ finite.empty }
     {
@@ -81,12 +82,15 @@ impl<K: Key + Hash, V: Waits> DueTable<K, V> {
         take_out(&mut self.held, &mut self.dues, key);
     }
 
-    /// Takes out the key that is due first, at a smaller cost than any other. It takes no memory.
-    pub fn remove_first(&mut self, first: &Due<K>)
-        requires { IsFirstDue V.moment (map_of K.cmp self.old) (Some first.now) }
-        ensures { map_of K.cmp self.new ≡ finite.remove (map_of K.cmp self.old) first.now.key }
+    /// Takes out the key that is due first, and tells it. This takes fewer steps than to take out any
+    /// other, and no memory.
+    pub fn remove_first(&mut self) -> Option<Due<K>>
+        ensures first { IsFirstDue V.moment (map_of K.cmp self.old) result }
+        ensures taken { IfSome result (λ first. map_of K.cmp self.new
+            ≡ finite.remove (map_of K.cmp self.old) first.key) }
+        ensures none { IfNone result (map_of K.cmp self.new ≡ map_of K.cmp self.old) }
     {
-        take_out_first(&mut self.held, &mut self.dues, first);
+        take_out_first(&mut self.held, &mut self.dues)
     }
 
     /// Keeps the entries that pass a test of key and value, which is asked once for each entry. It takes

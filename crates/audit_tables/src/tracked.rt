@@ -3,24 +3,28 @@ ghost use Rattle.std.specs.Prelude.{◌≡◌, ◌≢◌, ◌+◌, true, false, 
 ghost use Rattle.std.specs.Prelude.{Bool, filter, IsTrue, IfSome, IfNone, IfOk, OnOk, OnErr};
 ghost use Rattle.std.specs.Option.{option_and_then};
 ghost use Rattle.std.specs.HashMap.{IsUnchanged, IsUnique};
-ghost use Rattle.std.specs.BTreeSet.{contains};
-ghost use Rattle.std.specs.Ordering.{eq_by_cmp, is_gt, is_le};
+ghost use Rattle.std.specs.Ordering.{eq_by_cmp, is_gt};
 ghost use Rattle.someip_tables.specs.Retained.{retain};
 ghost use Rattle.someip_tables.specs.Tables.{map_of, AnswersPairAs};
-ghost use Rattle.audit_tables.specs.Dues.{IsFirstDue, Tracks, WantsMemory, at_key, due_cmp, is_due_of};
+ghost use Rattle.audit_tables.specs.Dues.{IsFirstDue, Tracks, WantsMemory, at_key, due_cmp, has_due, is_due_of};
 ghost use Rattle.audit_tables.specs.declared.due.Due.{Due};
 
 use crate::due::Due;
 use someip_tables::{Key, Waits};
 use std::alloc::AllocError;
+use std::cmp::Reverse;
 use std::collections::{BTreeSet, HashMap};
 use std::hash::Hash;
+
+/// The moments, from the last to the first: a new one is the last of all but a few, so that it is put in near the
+/// front, where a search begins.
+pub(crate) type Dues<K> = BTreeSet<Reverse<Due<K>>>;
 
 /// Puts a value in, in place of an earlier one. A new moment is added before the old one is taken out,
 /// and where the value is refused then, the new one is taken out again.
 pub(crate) fn put<K: Key + Hash, V: Waits>(
     held: &mut HashMap<K, V>,
-    dues: &mut BTreeSet<Due<K>>,
+    dues: &mut Dues<K>,
     key: K,
     value: V,
 ) -> Result<(), AllocError>
@@ -50,7 +54,7 @@ pub(crate) fn put<K: Key + Hash, V: Waits>(
 /// Takes a key out, with its moment.
 pub(crate) fn take_out<K: Key + Hash, V: Waits>(
     held: &mut HashMap<K, V>,
-    dues: &mut BTreeSet<Due<K>>,
+    dues: &mut Dues<K>,
     key: &K,
 )
     requires { Tracks K.cmp V.moment dues.old held.old.entries }
@@ -63,20 +67,21 @@ pub(crate) fn take_out<K: Key + Hash, V: Waits>(
     }
 }
 
-/// Takes out the key with the first moment. No search is needed for this moment.
+/// Takes out the key with the first moment, and tells it. No search is needed for this moment.
 pub(crate) fn take_out_first<K: Key + Hash, V: Waits>(
     held: &mut HashMap<K, V>,
-    dues: &mut BTreeSet<Due<K>>,
-    first: &Due<K>,
-)
-    requires tracks { Tracks K.cmp V.moment dues.old held.old.entries }
-    requires first { IsFirstDue V.moment (map_of K.cmp held.old.entries) (Some first.now) }
-    ensures held { (q : K) → at_key K.cmp held.new.entries q
-        ≡ (if eq_by_cmp K.cmp first.now.key q then None else at_key K.cmp held.old.entries q) }
+    dues: &mut Dues<K>,
+) -> Option<Due<K>>
+    requires { Tracks K.cmp V.moment dues.old held.old.entries }
+    ensures first { IsFirstDue V.moment (map_of K.cmp held.old.entries) result }
+    ensures taken { IfSome result (λ first. (q : K) → at_key K.cmp held.new.entries q
+        ≡ (if eq_by_cmp K.cmp first.key q then None else at_key K.cmp held.old.entries q)) }
+    ensures none { IfNone result (held.new.entries ≡ held.old.entries) }
     ensures tracks { Tracks K.cmp V.moment dues.new held.new.entries }
 {
-    pop_due(dues, first);
+    let first = pop_due(dues)?;
     drop_key(held, &first.key);
+    Some(first)
 }
 
 /// Takes a key out, and leaves the moments as they are. Tells the value that it had.
@@ -95,29 +100,36 @@ pub(crate) fn look<K: Key + Hash, V: Waits>(held: &HashMap<K, V>, key: &K) -> Op
     held.get(key).copied()
 }
 
-/// Takes out the first moment.
-fn pop_due<K: Key>(dues: &mut BTreeSet<Due<K>>, first: &Due<K>)
-    requires member { contains (due_cmp K.cmp) dues.old first.now ≡ true }
-    requires least { (due : Due K) → contains (due_cmp K.cmp) dues.old due ≡ true
-        → is_le (due_cmp K.cmp first.now due) ≡ true }
-    ensures { (due : Due K) → contains (due_cmp K.cmp) dues.new due
-        ≡ (if is_due_of K.cmp first.now.key (Some first.now.at) due then false
-        else contains (due_cmp K.cmp) dues.old due) }
+/// Takes out the first moment, with its key.
+#[tactic(auto, unfolding(crate::specs::Dues::has_due))]
+fn pop_due<K: Key>(dues: &mut Dues<K>) -> Option<Due<K>>
+    ensures found { IfSome result (λ due. IsTrue (has_due K.cmp dues.old due)) }
+    ensures first { IfSome result (λ first. (due : Due K)
+        → IsTrue (has_due K.cmp dues.old due)
+        → is_gt (due_cmp K.cmp first due) ≡ false) }
+    ensures none { IfNone result ((due : Due K)
+        → IsTrue (has_due K.cmp dues.old due) → ⊥) }
+    ensures taken { IfSome result (λ first. (due : Due K) → has_due K.cmp dues.new due
+        ≡ (if is_due_of K.cmp first.key (Some first.at) due then false
+        else has_due K.cmp dues.old due)) }
+    ensures left { IfNone result (dues.new.keys ≡ dues.old.keys) }
 {
-    dues.pop_first();
+    let last = dues.pop_last()?;
+    Some(last.0)
 }
 
 /// The first moment, with its key.
-pub(crate) fn first_due<K: Key>(dues: &BTreeSet<Due<K>>) -> Option<Due<K>>
-    ensures found { IfSome result (λ due. IsTrue (contains (due_cmp K.cmp) dues.now due)) }
+#[tactic(auto, unfolding(crate::specs::Dues::has_due))]
+pub(crate) fn first_due<K: Key>(dues: &Dues<K>) -> Option<Due<K>>
+    ensures found { IfSome result (λ due. IsTrue (has_due K.cmp dues.now due)) }
     ensures first { IfSome result (λ first. (due : Due K)
-        → IsTrue (contains (due_cmp K.cmp) dues.now due)
+        → IsTrue (has_due K.cmp dues.now due)
         → is_gt (due_cmp K.cmp first due) ≡ false) }
     ensures none { IfNone result ((due : Due K)
-        → IsTrue (contains (due_cmp K.cmp) dues.now due) → ⊥) }
+        → IsTrue (has_due K.cmp dues.now due) → ⊥) }
 {
-    let first = dues.first()?;
-    Some(*first)
+    let first = dues.last()?;
+    Some(first.0)
 }
 
 /// Puts a value under its key, in place of an earlier one, and leaves the moments as they are. Tells the
@@ -141,39 +153,39 @@ fn hold<K: Key + Hash, V: Waits>(
 }
 
 fn add_due<K: Key>(
-    dues: &mut BTreeSet<Due<K>>,
+    dues: &mut Dues<K>,
     key: K,
     moment: Option<u64>,
 ) -> Result<(), AllocError>
-    ensures ok { OnOk result ((due : Due K) → contains (due_cmp K.cmp) dues.new due
+    ensures ok { OnOk result ((due : Due K) → has_due K.cmp dues.new due
         ≡ (if is_due_of K.cmp key moment due then true
-        else contains (due_cmp K.cmp) dues.old due)) }
-    ensures err { OnErr result ((due : Due K) → contains (due_cmp K.cmp) dues.new due
-        ≡ contains (due_cmp K.cmp) dues.old due) }
+        else has_due K.cmp dues.old due)) }
+    ensures err { OnErr result ((due : Due K) → has_due K.cmp dues.new due
+        ≡ has_due K.cmp dues.old due) }
     ensures waits { OnErr result (moment ≢ None) }
     ensures absent { OnErr result ((due : Due K) → is_due_of K.cmp key moment due ≡ true
-        → contains (due_cmp K.cmp) dues.old due ≡ false) }
+        → has_due K.cmp dues.old due ≡ false) }
 {
     if let Some(at) = moment {
-        dues.insert(Due { at, key })?;
+        dues.insert(Reverse(Due { at, key }))?;
     }
     Ok(())
 }
 
-fn take_due<K: Key>(dues: &mut BTreeSet<Due<K>>, key: K, moment: Option<u64>)
-    ensures { (due : Due K) → contains (due_cmp K.cmp) dues.new due
+fn take_due<K: Key>(dues: &mut Dues<K>, key: K, moment: Option<u64>)
+    ensures { (due : Due K) → has_due K.cmp dues.new due
         ≡ (if is_due_of K.cmp key moment due then false
-        else contains (due_cmp K.cmp) dues.old due) }
+        else has_due K.cmp dues.old due) }
 {
     if let Some(at) = moment {
-        dues.remove(&Due { at, key });
+        dues.remove(&Reverse(Due { at, key }));
     }
 }
 
 /// Drops each entry that a test refuses. The test is asked once for each entry.
 pub(crate) fn retain<K: Key + Hash, V: Waits, F: Fn(&K, &V) -> bool + Drop>(
     held: &mut HashMap<K, V>,
-    dues: &mut BTreeSet<Due<K>>,
+    dues: &mut Dues<K>,
     keep: F,
 )
     requires tracks { Tracks K.cmp V.moment dues.old held.old.entries }
@@ -202,8 +214,8 @@ fn retain_entries<K: Key + Hash, V: Waits, F: Fn(&K, &V) -> bool + Drop>(
 }
 
 /// Keeps the moments of the keys that the map has.
-fn retain_dues<K: Key + Hash, V: Waits>(held: &HashMap<K, V>, dues: &mut BTreeSet<Due<K>>)
-    ensures { dues.new.keys ≡ filter (λ due. is_some (at_key K.cmp held.now.entries due.key)) dues.old.keys }
+fn retain_dues<K: Key + Hash, V: Waits>(held: &HashMap<K, V>, dues: &mut Dues<K>)
+    ensures { dues.new.keys ≡ filter (λ due. is_some (at_key K.cmp held.now.entries due.0.key)) dues.old.keys }
 {
-    dues.retain(|due| look(held, &due.key).is_some());
+    dues.retain(|due| look(held, &due.0.key).is_some());
 }

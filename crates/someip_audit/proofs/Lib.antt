@@ -1,7 +1,6 @@
 pub mod MomentLemmas
 pub mod FirstOfAll
 pub mod FrontLemmas
-pub mod WatchLemmas
 pub mod ItemLemmas
 pub mod ExpiryLemmas
 pub mod NextLemmas

@@ -143,7 +143,7 @@ next_is_one now state a b x y = one_next state a b x.due.0 y.due.0 (x.first b y.
 
 -- ---- what is told
 
-drains_one : (now : ℕ) (told others : List FellDue) (state after other : AuditState) → Drains now state told after → Drains now state others other
+pub drains_one : (now : ℕ) (told others : List FellDue) (state after other : AuditState) → Drains now state told after → Drains now state others other
     → (told ≡ others) × (after ≡ other)
 drains_one now [] [] state after other x y = (refl, x.1 ∙ sym y.1)
 drains_one now [] (b ∷ others) state after other x y = absurd (x.0 b y.0.due)
@@ -155,7 +155,7 @@ drains_one now (a ∷ told) (b ∷ others) state after other x y =
     (let P : FellDue → Type 0 = λ z. Drains now (after_due now (Some z) state) others other in subst P same y.1) in
     (ap (λ z. z ∷ told) (sym same) ∙ ap (λ zs. b ∷ zs) rest.0, rest.1)
 
-hears_one : (state : AuditState) (seen : Seen) (reports others : List Report) (after other : AuditState) → Hears state seen reports after → Hears state seen others other
+pub hears_one : (state : AuditState) (seen : Seen) (reports others : List Report) (after other : AuditState) → Hears state seen reports after → Hears state seen others other
     → (reports ≡ others) × (after ≡ other)
 hears_one state seen reports others after other x y =
     let one = drains_one seen.now x.told y.told state x.between y.between x.drains y.drains in (

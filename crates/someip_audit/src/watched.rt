@@ -8,9 +8,8 @@ ghost use Rattle.someip_audit.specs.WatchedEndpoints.{is_passed_over, once_named
 ghost use Rattle.someip_audit.specs.WatchedEndpoints.{told_when_full};
 
 use crate::finding::Finding;
-use audit_tables::Origin;
+use audit_tables::{KeySet, Origin};
 use std::alloc::{AllocError, Global};
-use std::collections::BTreeMap;
 use std::marker::Model;
 use std::net::SocketAddrV4;
 
@@ -18,7 +17,7 @@ use std::net::SocketAddrV4;
 const DISCOVERY_PORT: u16 = 30490;
 
 /// The endpoints that were learnt.
-type Learnt = BTreeMap<SocketAddrV4, ()>;
+type Learnt = KeySet<SocketAddrV4>;
 
 /// At which ports and endpoints datagrams are looked at beside the port of Service Discovery: at these
 /// ports, where they are named, and else at the endpoints that were learnt.
@@ -43,7 +42,7 @@ impl Model for Watched {
     ghost view = { λ w. record {
       ports = option_map (λ ports. ports.items) w.ports;
       limit = w.limit;
-      learnt = map_of endpoint_cmp w.learnt.entries;
+      learnt = map_of endpoint_cmp w.learnt;
       told_full = w.told_full;
     } };
 }
@@ -69,7 +68,7 @@ impl Watched {
         Ok(Watched {
             ports,
             limit,
-            learnt: BTreeMap::new(alloc),
+            learnt: KeySet::new(alloc),
             told_full: false,
         })
     }
@@ -89,7 +88,7 @@ impl Watched {
             Some(ports) => {
                 ports.contains(&origin.from.port()) || ports.contains(&origin.to.port())
             }
-            None => knows(&self.learnt, &origin.from) || knows(&self.learnt, &origin.to),
+            None => self.learnt.contains(&origin.from) || self.learnt.contains(&origin.to),
         }
     }
 
@@ -105,7 +104,7 @@ impl Watched {
         if !has_room(&self.learnt, self.limit) {
             return Ok(self.tell_full());
         }
-        put(&mut self.learnt, endpoint)?;
+        self.learnt.insert(endpoint)?;
         Ok(None)
     }
 
@@ -113,7 +112,7 @@ impl Watched {
     fn passes_over(&self, endpoint: &SocketAddrV4) -> bool
         ensures { result ≡ is_passed_over endpoint.now self.now }
     {
-        self.ports.is_some() || knows(&self.learnt, endpoint)
+        self.ports.is_some() || self.learnt.contains(endpoint)
     }
 
     /// Says that no more may be learnt, once.
@@ -129,31 +128,11 @@ impl Watched {
     }
 }
 
-/// Whether an endpoint was learnt.
-fn knows(learnt: &Learnt, endpoint: &SocketAddrV4) -> bool
-    ensures { result ≡ is_some (finite.get (map_of endpoint_cmp learnt.now.entries) endpoint.now) }
-{
-    learnt.contains_key(endpoint)
-}
-
 /// Whether there is room for one more.
 fn has_room(learnt: &Learnt, limit: usize) -> bool
-    ensures { result ≡ nat_lt (finite.len (map_of endpoint_cmp learnt.now.entries)) limit }
+    ensures { result ≡ nat_lt (finite.len (map_of endpoint_cmp learnt.now)) limit }
 {
     learnt.len() < limit
-}
-
-/// Puts an endpoint to those that were learnt.
-fn put(learnt: &mut Learnt, endpoint: SocketAddrV4) -> Result<(), AllocError>
-    ensures after { IfOk result (λ _. map_of endpoint_cmp learnt.new.entries
-        ≡ finite.insert (map_of endpoint_cmp learnt.old.entries) endpoint tt) }
-    ensures err { OnErr result
-        (map_of endpoint_cmp learnt.new.entries ≡ map_of endpoint_cmp learnt.old.entries) }
-{
-    match learnt.insert(endpoint, ()) {
-        Ok(_) => Ok(()),
-        Err(_) => Err(AllocError),
-    }
 }
 
 /// Whether a datagram comes from or goes to the port of Service Discovery.

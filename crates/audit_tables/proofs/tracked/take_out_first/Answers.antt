@@ -1,13 +1,20 @@
-use Rattle.audit_tables.proofs.FirstDues.{first_member, first_least, first_leaves}
+use Rattle.std.proofs.Common.{None, Some}
+use Rattle.audit_tables.proofs.FirstDues.{first_is, first_leaves}
 use Rattle.audit_tables.proofs.tracked.take_out_first.Goals as goal
 
-pub pop_due-requires-clause-member : goal.pop_due-requires-clause-member
-pop_due-requires-clause-member g c = first_member g.met.K.Ord.total g.met.K.Key.exact g.V.Waits.moment c.args.dues.now c.args.held.now.entries c.args.first.now c.requires.tracks c.requires.first
+pub returns-in_err-first-clause-first : goal.returns-in_err-first-clause-first
+returns-in_err-first-clause-first g c =
+    rw c.from_residual.ensures
+    (first_is g.met.K.Ord.total g.V.Waits.moment c.args.dues.now c.args.held.now.entries None c.requires c.in_err-first.ensures.found c.in_err-first.ensures.first
+    c.in_err-first.ensures.none)
 
-pub pop_due-requires-clause-least : goal.pop_due-requires-clause-least
-pop_due-requires-clause-least g c = first_least g.met.K.Ord.total g.met.K.Key.exact g.V.Waits.moment c.args.dues.now c.args.held.now.entries c.args.first.now c.requires.tracks c.requires.first
+pub returns-clause-first : goal.returns-clause-first
+returns-clause-first g c =
+    first_is g.met.K.Ord.total g.V.Waits.moment c.args.dues.now c.args.held.now.entries (Some c.in_ok-first.first) c.requires c.in_ok-first.ensures.found
+    c.in_ok-first.ensures.first c.in_ok-first.ensures.none
 
 pub returns-clause-tracks : goal.returns-clause-tracks
 returns-clause-tracks g c =
-    first_leaves g.met.K.Ord.total g.met.K.Key.exact g.V.Waits.moment c.args.dues.now c.args.held.now.entries c.args.first.now c.requires.tracks c.requires.first
-    c.pop_due.new.dues c.drop_key.new.held.entries c.pop_due.ensures c.drop_key.ensures.left
+    first_leaves g.met.K.Ord.total g.met.K.Key.exact g.V.Waits.moment c.args.dues.now c.args.held.now.entries c.in_ok-first.first c.requires
+    (first_is g.met.K.Ord.total g.V.Waits.moment c.args.dues.now c.args.held.now.entries (Some c.in_ok-first.first) c.requires c.in_ok-first.ensures.found c.in_ok-first.ensures.first c.in_ok-first.ensures.none)
+    c.pop_due.new.dues c.drop_key.new.held.entries c.in_ok-first.ensures.taken c.drop_key.ensures.left
