@@ -17,11 +17,14 @@ needed_crates() {
         }' "$here/crates.txt"
 }
 
-# Whether the file $1 is there, and no source of the crate $2, of which it was made, is newer.
+# Whether the file $1 is there, and nothing is newer of the sources, definitions and proofs of the crate $2, of which it was
+# made, and of those that this stands on.
 is_built() {
     [ -f "$1" ] || return 1
     for crate in $(needed_crates "$2"); do
-        [ -z "$(find "$here/crates/$crate/src" -newer "$1" -print -quit)" ] || return 1
+        for part in src specs proofs; do
+            [ ! -d "$here/crates/$crate/$part" ] || [ -z "$(find "$here/crates/$crate/$part" -newer "$1" -print -quit)" ] || return 1
+        done
     done
 }
 

@@ -100,12 +100,14 @@ onto_short_file() { (trap '' XFSZ && ulimit -f 1 && exec "$@"); }
 
 # ---- files: what cannot be read, what cannot be written, long words and little memory
 
-# Calls the command that reads an input, $2, in the circumstances $1 on the file $3: `setup` and `schedule` are the two
-# inputs of `run`, and `types` is the types file of `show`.
+# Calls the command that reads an input, $2, in the circumstances $1 on the file $3: `setup`, `schedule` and `trace` are the
+# inputs of `run`, `picture` is the schedule of `chart`, and `types` is the types file of `show`.
 read_by() {
     case $2 in
     setup) call "$1" run "$3" "$examples/runs/two.txt" ;;
     schedule) call "$1" run "$examples/runs/two.toml" "$3" ;;
+    trace) call "$1" run --expect "$3" "$examples/runs/two.toml" "$examples/runs/two.txt" ;;
+    picture) call "$1" chart "$examples/runs/two.toml" "$3" ;;
     types) call "$1" show --types "$3" "$examples/speed.txt" ;;
     *) call "$1" "$2" "$3" ;;
     esac
@@ -113,7 +115,7 @@ read_by() {
 
 # Each command refuses, in the circumstances $1, a file that cannot be read, at the path $3. $2 says what it is.
 expect_unread() {
-    for command in show vectors setup schedule types; do
+    for command in show vectors setup schedule trace picture types recording audit; do
         read_by "$1" "$command" "$3"
         expect "$command of $2" 4 "cannot read $3" /dev/null
     done
@@ -152,13 +154,16 @@ print_by() {
     vectors) call "$1" vectors "$examples/vectors/two.txt" ;;
     payload) call "$1" payload u8 07 ;;
     run) call "$1" run "$examples/runs/two.toml" "$examples/runs/two.txt" ;;
+    chart) call "$1" chart "$examples/runs/two.toml" "$examples/runs/two.txt" ;;
+    recording) call "$1" recording "$examples/one.pcap" ;;
+    audit) call "$1" audit "$examples/one.pcap" ;;
     help) call "$1" help ;;
     esac
 }
 
 # Each command that prints, in the circumstances $1, cannot write.
 expect_unwritten() {
-    for command in show vectors payload run help; do
+    for command in show vectors payload run chart recording audit help; do
         print_by "$1" "$command"
         expect "$command $1" 4 "cannot write" /dev/null
     done
