@@ -4,18 +4,20 @@ use Rattle.std.specs.Prelude.{◌⊎◌, Result, Ok, Err, IfOk}
 use Rattle.std.specs.Fmt.{decimal}
 use Rattle.std.specs.declared.boxed.Box.{Box}
 use Rattle.std.proofs.lemmas.List.{length-append, get_or-drop}
-use Rattle.someip_payload_values.specs.declared.shape.Shape.{Shape, Array, Struct, Union, Tagged}
+use Rattle.someip_payload_values.specs.declared.shape.Shape.{Shape, Text, Array, Struct, Union, Tagged}
 use Rattle.someip_payload_values.specs.declared.shape.Member.{Member}
 use Rattle.someip_payload_values.specs.declared.shape.Encoding.{Encoding}
+use Rattle.someip_payload_values.specs.declared.shape.Encoding.TheVariants.{Utf8, Utf16}
 use Rattle.someip_payload_values.specs.declared.shape.Width.{Width}
 use Rattle.someip_payload.specs.declared.shape_text_error.ShapeTextError.{ShapeTextError}
 use Rattle.someip_payload_values.specs.Check.{depth, deepest, deepest_variant}
 use Rattle.someip_payload_values.specs.Data.{Form, bool, unsigned, signed, string, array, fixed, «struct», union, tagged, Forms, no_forms, form_then, Variants, no_variants, variant, Members}
-use Rattle.someip_payload.specs.ShapeText.{IsTextOf, IsTextOfMembers, last_member, next_member, IsTextOfVariants, last_variant, next_variant, IsDigit, HasNoWidth, or_32, repeated_text}
+use Rattle.someip_payload.specs.ShapeText.{IsTextOf, IsTextOfMembers, last_member, next_member, IsTextOfVariants, last_variant, next_variant, IsDigit, HasNoWidth, width_text, or_32, repeated_text}
 use Rattle.someip_payload_values.specs.View.{form, forms, all_variants, all_members}
+use Rattle.someip_payload.specs.Words.{word_of, Behind}
 use Rattle.someip_payload.proofs.Members.{before, before-more, before-none, before_variants, before_variants-more, before_variants-none}
 use Rattle.someip_payload.proofs.Converse.{behind_piece}
-use Rattle.someip_payload.proofs.ShapePieces.{form-Array, form-Struct, form-Union, form-Tagged}
+use Rattle.someip_payload.proofs.ShapePieces.{form-Text, form-Array, form-Struct, form-Union, form-Tagged}
 
 -- two pieces in front of the rest
 pub split_front : (bytes back rest a b : List ℕ) → bytes ≡ back ++ rest → back ≡ a ++ b → bytes ≡ a ++ (b ++ rest)
@@ -36,6 +38,14 @@ some_depth (tagged width ms) = omega arith
 
 pub array_is : (w v : Option Width) (meant : Width) (n m : ℕ) (b : Box Shape Global) (f g : Form) → meant ≡ or_32 w → w ≡ v → n ≡ m → form b.value ≡ g → f ≡ array (or_32 v) m g → form (Array meant n b) ≡ f
 array_is w v meant n m b f g is same number element what = let own = form-Array meant n b in let width = ap or_32 same in cc
+
+-- what stands after the word of a text
+pub behind_string : (e : Encoding) (f : Form) (back : List ℕ) → Behind (word_of e) f back → (w : Option Width) × (f ≡ string e (or_32 w)) × (back ≡ width_text w)
+behind_string Utf8 f back behind = behind
+behind_string Utf16 f back behind = behind
+
+pub string_is : (e : Encoding) (w v : Option Width) (meant : Width) (f : Form) → meant ≡ or_32 w → w ≡ v → f ≡ string e (or_32 v) → form (Text e meant) ≡ f
+string_is e w v meant f is same what = let own = form-Text e meant in let width = ap or_32 same in cc
 
 pub struct_is : (w v : Option Width) (ss : Vec Shape Global) (f : Form) (fs : Forms) → w ≡ v → forms ss.items ≡ fs → f ≡ «struct» v fs → form (Struct w ss) ≡ f
 struct_is w v ss f fs same members what = let own = form-Struct w ss in cc

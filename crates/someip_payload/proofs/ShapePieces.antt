@@ -12,6 +12,7 @@ use Rattle.someip_payload_values.specs.declared.shape.Width.{Width}
 use Rattle.someip_payload_values.specs.Data.{bool, u8, u16, u32, u64, i8, i16, i32, i64, string, array, fixed, «struct», union, tagged}
 use Rattle.someip_payload_values.specs.View.{form, forms, all_variants, all_members, one_member}
 use Rattle.someip_payload.specs.ShapeText.{IsTextOf, IsTextOfMembers, IsTextOfVariants, IsTextOfTaggedMembers, bool_text, u8_text, u16_text, u32_text, u64_text, i8_text, i16_text, i32_text, i64_text, utf8_text, utf16_text, array_text, fixed_text, struct_text, union_text, tagged_text, width_text, or_32, repeated_text}
+use Rattle.someip_payload.specs.Words.{word_text, word_of}
 use Rattle.someip_payload.proofs.Pieces.{slice_range-append}
 
 pub form-U8 : form U8 ≡ u8
@@ -89,11 +90,9 @@ i32_shape piece is = let e : form I32 ≡ i32 = search (rules, the_lemmas) in rw
 pub i64_shape : (piece : List ℕ) → piece ≡ codes "i64" → IsTextOf (form I64) piece
 i64_shape piece is = let e : form I64 ≡ i64 = search (rules, the_lemmas) in rw (e, is) i64_text
 
-pub utf8_shape : (w : Option Width) (meant : Width) (piece : List ℕ) → meant ≡ or_32 w → piece ≡ width_text w → IsTextOf (form (Text Utf8 meant)) (codes "utf8" ++ piece)
-utf8_shape w meant piece is is_piece = rw (form-Text Utf8 meant, is, is_piece) (utf8_text w)
-
-pub utf16_shape : (w : Option Width) (meant : Width) (piece : List ℕ) → meant ≡ or_32 w → piece ≡ width_text w → IsTextOf (form (Text Utf16 meant)) (codes "utf16" ++ piece)
-utf16_shape w meant piece is is_piece = rw (form-Text Utf16 meant, is, is_piece) (utf16_text w)
+pub string_shape : (e : Encoding) (w : Option Width) (meant : Width) (piece : List ℕ) → meant ≡ or_32 w → piece ≡ width_text w → IsTextOf (form (Text e meant)) (word_text (word_of e) ++ piece)
+string_shape Utf8 w meant piece is is_piece = rw (form-Text Utf8 meant, is, is_piece) (utf8_text w)
+string_shape Utf16 w meant piece is is_piece = rw (form-Text Utf16 meant, is, is_piece) (utf16_text w)
 
 pub array_shape : (w : Option Width) (meant : Width) (n : ℕ) (b : Box Shape Global) (text element : List ℕ) (at from end : ℕ) → at ≤ from → from ≤ end
     → meant ≡ or_32 w → slice_range text at from ≡ width_text w → IsTextOf (form b.value) element → slice_range text from end ≡ repeated_text n element → n < 2 ^ 32

@@ -1,6 +1,7 @@
 -- The words that a shape's text begins with.
 use Rattle.std.specs.Prelude.{◌≡◌, ℕ, ◌<◌, ◌^◌, List, [], ◌++◌, Option, codes}
 use Rattle.someip_payload_values.specs.Data.{Form, bool, u8, u16, u32, u64, i8, i16, i32, i64, string, array, fixed, «struct», union, tagged, Forms, Variants, Members}
+use Rattle.someip_payload_values.specs.declared.shape.Encoding.{Encoding}
 use Rattle.someip_payload_values.specs.declared.shape.Encoding.TheVariants.{Utf8, Utf16}
 use Rattle.someip_payload_values.specs.declared.shape.Width.{Width}
 use Rattle.someip_payload.specs.ShapeText.{IsTextOf, IsTextOfMembers, IsTextOfVariants, IsTextOfTaggedMembers, width_text, or_32, repeated_text}
@@ -24,6 +25,11 @@ word_text word.Fixed = codes "fixed"
 word_text word.Struct = codes "struct"
 word_text word.Union = codes "union"
 word_text word.Tagged = codes "tagged"
+
+-- the word of a text in the encoding
+abbrev pub word_of : Encoding → Word
+word_of Utf8 = word.Utf8
+word_of Utf16 = word.Utf16
 
 -- what stands after the word in a text of the form
 abbrev pub Behind : Word → Form → List ℕ → Type 0

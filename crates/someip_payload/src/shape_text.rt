@@ -7,7 +7,7 @@ ghost use Rattle.someip_payload_values.specs.Data.{Form, Forms, Variants, Member
 ghost use Rattle.someip_payload_values.specs.Check.{depth, deepest, deepest_variant, deepest_member};
 ghost use Rattle.someip_payload.specs.ShapeText.{IsTextOf, IsTextOfMembers, IsTextOfVariants, IsTextOfTaggedMembers, IsTextOfTaggedMember, IsFaultWithin, HasNoWidth, IsReadAs, IsReadTo, IsRepeatedTo, width_text, or_32, mark_text, repeated_text};
 ghost use Rattle.someip_payload_values.specs.View.{form, forms, all_variants, all_members, OneMember, one_member};
-ghost use Rattle.someip_payload.specs.Words.{word_text, Behind};
+ghost use Rattle.someip_payload.specs.Words.{word_text, word_of, Behind};
 
 use crate::shape_text_error::ShapeTextError;
 use crate::text_parts::{byte_at, decimal_at, has_comma, word_at};
@@ -116,8 +116,8 @@ fn shape_at(
         Word::I16 => Ok((Shape::I16, end)),
         Word::I32 => Ok((Shape::I32, end)),
         Word::I64 => Ok((Shape::I64, end)),
-        Word::Utf8 => utf8_at(text, end),
-        Word::Utf16 => utf16_at(text, end),
+        Word::Utf8 => string_at(Encoding::Utf8, text, end),
+        Word::Utf16 => string_at(Encoding::Utf16, text, end),
         Word::Array => array_at(alloc, text, end, left - 1),
         Word::Fixed => fixed_at(alloc, text, end, left - 1),
         Word::Struct => struct_at(alloc, text, end, left - 1),
@@ -126,32 +126,18 @@ fn shape_at(
     }
 }
 
-/// The rest of a shape after the word `utf8`.
-fn utf8_at(text: &[u8], at: usize) -> Result<(Shape, usize), ShapeTextError>
+/// The rest of a shape after the word of an encoding.
+fn string_at(encoding: Encoding, text: &[u8], at: usize) -> Result<(Shape, usize), ShapeTextError>
     requires { at ≤ length text.now }
-    ensures found { IfOk result (λ x. IsTextOf (form x.0) (codes "utf8" ++ slice_range text.now at x.1)) }
+    ensures found { IfOk result (λ x. IsTextOf (form x.0) (word_text (word_of encoding) ++ slice_range text.now at x.1)) }
     ensures only { (f : Form) (back rest : List ℕ) → drop at text.now ≡ back ++ rest
-        → Behind Word.Utf8 f back → HasNoWidth rest → IsReadTo form f (at + length back) result }
+        → Behind (word_of encoding) f back → HasNoWidth rest → IsReadTo form f (at + length back) result }
     ensures within { IfOk result (λ x. depth (form x.0) ≤ 1) }
     ensures end { IfOk result (λ x. (at ≤ x.1) × (x.1 ≤ length text.now)) }
     ensures fault { IfErr result (IsFaultWithin at (length text.now)) }
 {
     let (width, end) = width_at(text, at)?;
-    Ok((Shape::Text(Encoding::Utf8, or_32(width)), end))
-}
-
-/// The rest of a shape after the word `utf16`.
-fn utf16_at(text: &[u8], at: usize) -> Result<(Shape, usize), ShapeTextError>
-    requires { at ≤ length text.now }
-    ensures found { IfOk result (λ x. IsTextOf (form x.0) (codes "utf16" ++ slice_range text.now at x.1)) }
-    ensures only { (f : Form) (back rest : List ℕ) → drop at text.now ≡ back ++ rest
-        → Behind Word.Utf16 f back → HasNoWidth rest → IsReadTo form f (at + length back) result }
-    ensures within { IfOk result (λ x. depth (form x.0) ≤ 1) }
-    ensures end { IfOk result (λ x. (at ≤ x.1) × (x.1 ≤ length text.now)) }
-    ensures fault { IfErr result (IsFaultWithin at (length text.now)) }
-{
-    let (width, end) = width_at(text, at)?;
-    Ok((Shape::Text(Encoding::Utf16, or_32(width)), end))
+    Ok((Shape::Text(encoding, or_32(width)), end))
 }
 
 /// The rest of a shape after the word `array`.

@@ -80,11 +80,11 @@ shape_at-returns-in-I64-clause-found t c = i64_shape _ (c.in_ok-word.ensures.fou
 
 pub shape_at-returns-in-Utf8-clause-found : goal.shape_at-returns-in-Utf8-clause-found
 shape_at-returns-in-Utf8-clause-found t c =
-    behind_word _ _ (codes "utf8") _ _ c.in_ok-word.ensures.end.0 (c.in_ok-word.ensures.found ∙ ap word_text c.in-Utf8.is) c.utf8_at.ensures.end c.utf8_at.ensures.found
+    behind_word _ _ (codes "utf8") _ _ c.in_ok-word.ensures.end.0 (c.in_ok-word.ensures.found ∙ ap word_text c.in-Utf8.is) c.string_at.ensures.end c.string_at.ensures.found
 
 pub shape_at-returns-in-Utf16-clause-found : goal.shape_at-returns-in-Utf16-clause-found
 shape_at-returns-in-Utf16-clause-found t c =
-    behind_word _ _ (codes "utf16") _ _ c.in_ok-word.ensures.end.0 (c.in_ok-word.ensures.found ∙ ap word_text c.in-Utf16.is) c.utf16_at.ensures.end c.utf16_at.ensures.found
+    behind_word _ _ (codes "utf16") _ _ c.in_ok-word.ensures.end.0 (c.in_ok-word.ensures.found ∙ ap word_text c.in-Utf16.is) c.string_at-in-Utf16.ensures.end c.string_at-in-Utf16.ensures.found
 
 pub shape_at-returns-in-Array-clause-found : goal.shape_at-returns-in-Array-clause-found
 shape_at-returns-in-Array-clause-found t c =
@@ -218,13 +218,13 @@ shape_at-returns-in-I64-clause-only t c = λ f front rest is is_text deep stops.
 
 pub shape_at-returns-in-Utf8-clause-only : goal.shape_at-returns-in-Utf8-clause-only
 shape_at-returns-in-Utf8-clause-only t c = λ f front rest is is_text deep stops.
-    by_word c.args.text.now front rest c.args.at c.in_ok-word.end f c.in_ok-word.word c.utf8_at.result is is_text c.in_ok-word.ensures.only
-    (λ back there behind. c.utf8_at.ensures.only f back rest there (rw c.in-Utf8.is at behind) stops)
+    by_word c.args.text.now front rest c.args.at c.in_ok-word.end f c.in_ok-word.word c.string_at.result is is_text c.in_ok-word.ensures.only
+    (λ back there behind. c.string_at.ensures.only f back rest there (rw c.in-Utf8.is at behind) stops)
 
 pub shape_at-returns-in-Utf16-clause-only : goal.shape_at-returns-in-Utf16-clause-only
 shape_at-returns-in-Utf16-clause-only t c = λ f front rest is is_text deep stops.
-    by_word c.args.text.now front rest c.args.at c.in_ok-word.end f c.in_ok-word.word c.utf16_at.result is is_text c.in_ok-word.ensures.only
-    (λ back there behind. c.utf16_at.ensures.only f back rest there (rw c.in-Utf16.is at behind) stops)
+    by_word c.args.text.now front rest c.args.at c.in_ok-word.end f c.in_ok-word.word c.string_at-in-Utf16.result is is_text c.in_ok-word.ensures.only
+    (λ back there behind. c.string_at-in-Utf16.ensures.only f back rest there (rw c.in-Utf16.is at behind) stops)
 
 pub shape_at-returns-in-Array-clause-only : goal.shape_at-returns-in-Array-clause-only
 shape_at-returns-in-Array-clause-only t c = λ f front rest is is_text deep stops.
@@ -490,10 +490,10 @@ pub shape_at-returns-in-I64-clause-within : goal.shape_at-returns-in-I64-clause-
 shape_at-returns-in-I64-clause-within t c = rw form-I64 (omega (arith, c.if-left-eq0.false))
 
 pub shape_at-returns-in-Utf8-clause-within : goal.shape_at-returns-in-Utf8-clause-within
-shape_at-returns-in-Utf8-clause-within t c = within_more c.utf8_at.result 1 c.args.left (omega (arith, c.if-left-eq0.false)) c.utf8_at.ensures.within
+shape_at-returns-in-Utf8-clause-within t c = within_more c.string_at.result 1 c.args.left (omega (arith, c.if-left-eq0.false)) c.string_at.ensures.within
 
 pub shape_at-returns-in-Utf16-clause-within : goal.shape_at-returns-in-Utf16-clause-within
-shape_at-returns-in-Utf16-clause-within t c = within_more c.utf16_at.result 1 c.args.left (omega (arith, c.if-left-eq0.false)) c.utf16_at.ensures.within
+shape_at-returns-in-Utf16-clause-within t c = within_more c.string_at-in-Utf16.result 1 c.args.left (omega (arith, c.if-left-eq0.false)) c.string_at-in-Utf16.ensures.within
 
 pub shape_at-returns-in-Array-clause-within : goal.shape_at-returns-in-Array-clause-within
 shape_at-returns-in-Array-clause-within t c = within_more c.array_at.result (c.args.left - 1 + 1) c.args.left (omega (arith, c.if-left-eq0.false)) c.array_at.ensures.within
