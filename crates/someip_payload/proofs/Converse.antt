@@ -1,7 +1,9 @@
 -- Each text of a shape is read as it: what stands in a text, part by part.
-use Rattle.std.proofs.Common.{◌≡◌, ℕ, ◌+◌, ◌-◌, ◌≤◌, cond, eqb, List, [], ◌∷◌, ◌++◌, length, get_or, drop, slice_range, Option, Some, None, refl, sym, ap, subst, ◌∙◌, append_assoc, arith}
+use Rattle.std.proofs.Common.{◌≡◌, ℕ, ◌+◌, ◌-◌, ◌<◌, ◌≤◌, IsErrAnd, cond, eqb, List, [], ◌∷◌, ◌++◌, length, get_or, drop, slice_range, Option, Some, None, refl, sym, ap, subst, ◌∙◌, append_assoc, arith}
 use Rattle.std.specs.Prelude.{Result, Ok, Err, IfOk, IfErr}
+use Rattle.std.specs.Fmt.{decimal}
 use Rattle.std.specs.List.{AllByRecursion}
+use Rattle.std.proofs.lemmas.Result.{err_from_is_err_and}
 use Rattle.std.proofs.lemmas.List.{length-append, length-take, length-drop, drop-drop, drop_at, take-append-drop}
 use Rattle.someip_payload_values.specs.declared.shape.Shape.{Shape}
 use Rattle.someip_payload_values.specs.declared.shape.Width.{Width}
@@ -10,7 +12,7 @@ use Rattle.someip_payload.specs.declared.shape_text.Word.{Word}
 use Rattle.someip_payload.specs.declared.shape_text.Word.TheVariants as word
 use Rattle.someip_payload.specs.declared.shape_text_error.ShapeTextError.{ShapeTextError}
 use Rattle.someip_payload_values.specs.Data.{Form}
-use Rattle.someip_payload.specs.ShapeText.{IsTextOf, bool_text, u8_text, u16_text, u32_text, u64_text, i8_text, i16_text, i32_text, i64_text, utf8_text, utf16_text, array_text, fixed_text, struct_text, union_text, tagged_text, width_text, HasNoWidth, IsNoFront, IsReadTo}
+use Rattle.someip_payload.specs.ShapeText.{IsTextOf, bool_text, u8_text, u16_text, u32_text, u64_text, i8_text, i16_text, i32_text, i64_text, utf8_text, utf16_text, array_text, fixed_text, struct_text, union_text, tagged_text, width_text, IsDigit, HasNoWidth, IsNoFront, IsReadTo}
 use Rattle.someip_payload_values.specs.View.{form}
 use Rattle.someip_payload.specs.Words.{word_text, Behind}
 
@@ -45,6 +47,10 @@ fault_of e = Err e
 pub not_read : {A : Type 0} (e : ShapeTextError) (x : A) → fault_of {A = A} e ≡ read_of x → ⊥
 unfolding is_read
 not_read e x is = subst is_read (sym is) tt
+
+-- a fault that is passed on as it is
+pub passed_on : {A : Type 0} (r : Result A ShapeTextError) (e : ShapeTextError) → IsErrAnd r (λ y. y ≡ e) → r ≡ Err e
+passed_on r e is = let p = err_from_is_err_and r is in p.1 ∙ ap fault_of p.2
 
 -- ---- no word begins another
 
@@ -104,6 +110,10 @@ piece_end text piece at end le within is = omega (arith, le, within, ap length i
 pub behind_piece : (text piece rest : List ℕ) (at end : ℕ) → drop at text ≡ piece ++ rest → end ≡ at + length piece → drop end text ≡ rest
 behind_piece text piece rest at end is place =
     ap (λ n. drop n text) place ∙ sym (drop-drop (length piece) at text) ∙ ap (drop (length piece)) is ∙ drop_at piece rest (length piece) refl
+
+-- what is read at a place, where a number stands there and no digit after it
+abbrev pub NumberOnly : List ℕ → ℕ → ℕ → Result (ℕ × ℕ) ShapeTextError → Type 0
+NumberOnly text at limit r = (n b : ℕ) (rest : List ℕ) → drop at text ≡ decimal n ++ b ∷ rest → n < limit → (IsDigit b → ⊥) → r ≡ Ok (n, at + length (decimal n))
 
 -- ---- the word
 

@@ -1,6 +1,7 @@
 mod Pieces
 mod Numbers
 mod Members
+mod OneAfterOther
 mod ShapePieces
 mod Beginnings
 pub mod Decimals

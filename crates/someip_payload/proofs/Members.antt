@@ -1,97 +1,108 @@
--- The members of a structure and the variants of a union, one after the other.
-use Rattle.std.proofs.Common.{◌≡◌, ℕ, ◌+◌, ◌<◌, ◌≤◌, ◌^◌, List, [], ◌∷◌, ◌++◌, length, get_or, slice_range, codes, refl, ap, arith, append_assoc}
+-- The members of a structure, the variants of a union and the members of a tagged structure, as items one after the other.
+use Rattle.std.proofs.Common.{ℕ, List, ◌++◌, codes, refl, sym, subst}
 use Rattle.std.specs.Fmt.{decimal}
 use Rattle.someip_payload_values.specs.declared.shape.Shape.{Shape}
-use Rattle.someip_payload_values.specs.Data.{Forms, no_forms, form_then, Variants, no_variants, variant}
-use Rattle.someip_payload_values.specs.View.{form, forms, all_variants}
-use Rattle.someip_payload.specs.ShapeText.{IsTextOf, IsTextOfMembers, last_member, next_member, IsTextOfVariants, last_variant, next_variant}
-use Rattle.someip_payload.proofs.Pieces.{slice_range-byte, slice_range-append}
+use Rattle.someip_payload_values.specs.declared.shape.Member.{Member}
+use Rattle.someip_payload_values.specs.Check.{depth, deepest, deepest_variant, deepest_member}
+use Rattle.someip_payload_values.specs.Data.{Form, Forms, no_forms, form_then, Variants, no_variants, variant, Members, no_members, member_then}
+use Rattle.someip_payload_values.specs.View.{form, forms, all_variants, OneMember, one_member, all_members}
+use Rattle.someip_payload.specs.ShapeText.{IsTextOf, IsTextOfMembers, last_member, next_member, IsTextOfVariants, last_variant, next_variant, OneVariant, one_variant, IsTextOfVariant, IsTextOfTaggedMembers, last_tagged, next_tagged, IsTextOfTaggedMember, tagged_member_text}
+use Rattle.someip_payload.proofs.OneAfterOther.{ByFirst, Listing}
 
--- forms behind those of shapes
-abbrev pub before : List Shape → Forms → Forms
-before [] fs = fs
-before (s ∷ ss) fs = form_then (form s) (before ss fs)
+-- ---- members
 
-pub before-more : (ss : List Shape) (s : Shape) (fs : Forms) → before (ss ++ s ∷ []) fs ≡ before ss (form_then (form s) fs)
-before-more [] s fs = refl
-before-more (z ∷ ss) s fs = ap (form_then (form z)) (before-more ss s fs)
+pub first_member : ByFirst Form Forms form_then no_forms IsTextOf IsTextOfMembers
+first_member P last next fs text (last_member f own is) = last f own is
+first_member P last next fs text (next_member f gs own others is are) = next f gs own others is are
 
-pub before-none : (ss : List Shape) → before ss no_forms ≡ forms ss
-before-none [] = refl
-before-none (s ∷ ss) = ap (form_then (form s)) (before-none ss)
+abbrev pub members : Listing
+members = record {
+  Item = Shape;
+  One = Form;
+  All = Forms;
+  one = form;
+  all = forms;
+  in_front = form_then;
+  all-in_front = λ s ss. refl;
+  IsText = IsTextOf;
+  AreText = IsTextOfMembers;
+  last_text = last_member;
+  next_text = next_member;
+  by_first = first_member;
+  depth_of = depth;
+  deepest_of = deepest;
+  deepest-none = refl;
+  deepest-in_front = λ f fs. refl;
+}
 
--- the text of members, up to the comma after the last of them
-abbrev pub MembersSoFar : List Shape → List ℕ → Type 0
-MembersSoFar ss text = (fs : Forms) (others : List ℕ) → IsTextOfMembers fs others → IsTextOfMembers (before ss fs) (text ++ others)
+-- ---- variants
 
-members_so_far-more : (ss : List Shape) (s : Shape) (text t : List ℕ) → MembersSoFar ss text → IsTextOf (form s) t → MembersSoFar (ss ++ s ∷ []) (text ++ (t ++ codes ","))
-members_so_far-more ss s text t so_far is fs others are =
-    rw (before-more ss s fs, append_assoc text (t ++ codes ",") others, append_assoc t (codes ",") others)
-    (so_far (form_then (form s) fs) (t ++ (codes "," ++ others)) (next_member (form s) fs t others is are))
+abbrev pub then_variant : OneVariant → Variants → Variants
+then_variant v vs = variant v.number v.form vs
 
-members_so_far-last : (ss : List Shape) (s : Shape) (text t : List ℕ) → MembersSoFar ss text → IsTextOf (form s) t → IsTextOfMembers (forms (ss ++ s ∷ [])) (text ++ t)
-members_so_far-last ss s text t so_far is =
-    rw (← before-none (ss ++ s ∷ []), before-more ss s no_forms) (so_far (form_then (form s) no_forms) t (last_member (form s) t is))
+pub variant_last : (v : OneVariant) (text : List ℕ) → IsTextOfVariant v text → IsTextOfVariants (then_variant v no_variants) text
+variant_last v text (shape, small, is, same) = subst (IsTextOfVariants (then_variant v no_variants)) (sym same) (last_variant v.number v.form shape small is)
 
-pub next_member_at : (ss : List Shape) (s : Shape) (text : List ℕ) (at next end : ℕ) → at ≤ next → next ≤ end → end < length text → get_or text end 0 ≡ 44
-    → MembersSoFar ss (slice_range text at next) → IsTextOf (form s) (slice_range text next end) → MembersSoFar (ss ++ s ∷ []) (slice_range text at (end + 1))
-next_member_at ss s text at next end le le2 lt comma so_far is =
-    let piece : slice_range text at (end + 1) ≡ slice_range text at next ++ (slice_range text next end ++ codes ",") =
-    rw (← slice_range-append text at next (end + 1) le (omega arith), ← slice_range-append text next end (end + 1) le2 (omega arith), slice_range-byte text end lt, comma) in
-    rw piece (members_so_far-more ss s (slice_range text at next) (slice_range text next end) so_far is)
+pub variant_next : (v : OneVariant) (vs : Variants) (text others : List ℕ) → IsTextOfVariant v text → IsTextOfVariants vs others → IsTextOfVariants (then_variant v vs) (text ++ (codes "," ++ others))
+variant_next v vs text others (shape, small, is, same) are =
+    subst (λ (t : List ℕ). IsTextOfVariants (then_variant v vs) (t ++ (codes "," ++ others))) (sym same) (next_variant v.number v.form vs shape others small is are)
 
-pub last_member_at : (ss : List Shape) (s : Shape) (text : List ℕ) (at next end : ℕ) → at ≤ next → next ≤ end
-    → MembersSoFar ss (slice_range text at next) → IsTextOf (form s) (slice_range text next end) → IsTextOfMembers (forms (ss ++ s ∷ [])) (slice_range text at end)
-last_member_at ss s text at next end le le2 so_far is =
-    rw (← slice_range-append text at next end le le2) (members_so_far-last ss s (slice_range text at next) (slice_range text next end) so_far is)
+pub first_variant : ByFirst OneVariant Variants then_variant no_variants IsTextOfVariant IsTextOfVariants
+first_variant P last next vs text (last_variant n f shape small is) = last (record { number = n; form = f }) (decimal n ++ (codes ":" ++ shape)) (shape, small, is, refl)
+first_variant P last next vs text (next_variant n f ws shape others small is are) = next (record { number = n; form = f }) ws (decimal n ++ (codes ":" ++ shape)) others (shape, small, is, refl) are
 
--- variants behind those of shapes
-abbrev pub before_variants : List (ℕ × Shape) → Variants → Variants
-before_variants [] vs = vs
-before_variants (s ∷ ss) vs = variant s.0 (form s.1) (before_variants ss vs)
+abbrev pub variants : Listing
+variants = record {
+  Item = ℕ × Shape;
+  One = OneVariant;
+  All = Variants;
+  one = one_variant;
+  all = all_variants;
+  in_front = then_variant;
+  all-in_front = λ s ss. refl;
+  IsText = IsTextOfVariant;
+  AreText = IsTextOfVariants;
+  last_text = variant_last;
+  next_text = variant_next;
+  by_first = first_variant;
+  depth_of = λ v. depth v.form;
+  deepest_of = deepest_variant;
+  deepest-none = refl;
+  deepest-in_front = λ v vs. refl;
+}
 
-pub before_variants-more : (ss : List (ℕ × Shape)) (s : ℕ × Shape) (vs : Variants) → before_variants (ss ++ s ∷ []) vs ≡ before_variants ss (variant s.0 (form s.1) vs)
-before_variants-more [] s vs = refl
-before_variants-more (z ∷ ss) s vs = ap (variant z.0 (form z.1)) (before_variants-more ss s vs)
+-- ---- members of a tagged structure
 
-pub before_variants-none : (ss : List (ℕ × Shape)) → before_variants ss no_variants ≡ all_variants ss
-before_variants-none [] = refl
-before_variants-none (s ∷ ss) = ap (variant s.0 (form s.1)) (before_variants-none ss)
+abbrev pub then_tagged : OneMember → Members → Members
+then_tagged m ms = member_then m.id m.optional m.form ms
 
--- the text of variants, up to the comma after the last of them
-abbrev pub VariantsSoFar : List (ℕ × Shape) → List ℕ → Type 0
-VariantsSoFar ss text = (vs : Variants) (others : List ℕ) → IsTextOfVariants vs others → IsTextOfVariants (before_variants ss vs) (text ++ others)
+pub tagged_last : (m : OneMember) (text : List ℕ) → IsTextOfTaggedMember m text → IsTextOfTaggedMembers (then_tagged m no_members) text
+tagged_last m text (shape, small, is, same) = subst (IsTextOfTaggedMembers (then_tagged m no_members)) (sym same) (last_tagged m.id m.optional m.form shape small is)
 
-variants_so_far-more : (ss : List (ℕ × Shape)) (n : ℕ) (s : Shape) (text t : List ℕ) → VariantsSoFar ss text → n < 2 ^ 32 → IsTextOf (form s) t
-    → VariantsSoFar (ss ++ (n, s) ∷ []) (text ++ ((decimal n ++ (codes ":" ++ t)) ++ codes ","))
-variants_so_far-more ss n s text t so_far small is vs others are =
-    let own : List ℕ = decimal n ++ (codes ":" ++ t) in
-    rw (before_variants-more ss (n, s) vs, append_assoc text (own ++ codes ",") others, append_assoc own (codes ",") others)
-    (so_far (variant n (form s) vs) (own ++ (codes "," ++ others)) (next_variant n (form s) vs t others small is are))
+pub tagged_next : (m : OneMember) (ms : Members) (text others : List ℕ) → IsTextOfTaggedMember m text → IsTextOfTaggedMembers ms others → IsTextOfTaggedMembers (then_tagged m ms) (text ++ (codes "," ++ others))
+tagged_next m ms text others (shape, small, is, same) are =
+    subst (λ (t : List ℕ). IsTextOfTaggedMembers (then_tagged m ms) (t ++ (codes "," ++ others))) (sym same) (next_tagged m.id m.optional m.form ms shape others small is are)
 
-variants_so_far-last : (ss : List (ℕ × Shape)) (n : ℕ) (s : Shape) (text t : List ℕ) → VariantsSoFar ss text → n < 2 ^ 32 → IsTextOf (form s) t
-    → IsTextOfVariants (all_variants (ss ++ (n, s) ∷ [])) (text ++ (decimal n ++ (codes ":" ++ t)))
-variants_so_far-last ss n s text t so_far small is =
-    rw (← before_variants-none (ss ++ (n, s) ∷ []), before_variants-more ss (n, s) no_variants)
-    (so_far (variant n (form s) no_variants) (decimal n ++ (codes ":" ++ t)) (last_variant n (form s) t small is))
+pub first_tagged : ByFirst OneMember Members then_tagged no_members IsTextOfTaggedMember IsTextOfTaggedMembers
+first_tagged P last next ms text (last_tagged id optional f shape small is) = last (record { id = id; optional = optional; form = f }) (tagged_member_text id optional shape) (shape, small, is, refl)
+first_tagged P last next ms text (next_tagged id optional f ns shape others small is are) = next (record { id = id; optional = optional; form = f }) ns (tagged_member_text id optional shape) others (shape, small, is, refl) are
 
--- a number, a colon and the text of a shape
-pub variant_piece : (text : List ℕ) (n next colon first end : ℕ) → next ≤ colon → colon ≤ first → first ≤ end
-    → slice_range text next colon ≡ decimal n → slice_range text colon first ≡ codes ":"
-    → slice_range text next end ≡ decimal n ++ (codes ":" ++ slice_range text first end)
-variant_piece text n next colon first end le le2 le3 number is =
-    rw (← slice_range-append text next colon end le (omega arith), ← slice_range-append text colon first end le2 le3, number, is)
-
-pub next_variant_at : (ss : List (ℕ × Shape)) (n : ℕ) (s : Shape) (text t : List ℕ) (at next end : ℕ) → at ≤ next → next ≤ end → end < length text → get_or text end 0 ≡ 44
-    → VariantsSoFar ss (slice_range text at next) → slice_range text next end ≡ decimal n ++ (codes ":" ++ t) → n < 2 ^ 32 → IsTextOf (form s) t
-    → VariantsSoFar (ss ++ (n, s) ∷ []) (slice_range text at (end + 1))
-next_variant_at ss n s text t at next end le le2 lt comma so_far own small is =
-    let piece : slice_range text at (end + 1) ≡ slice_range text at next ++ ((decimal n ++ (codes ":" ++ t)) ++ codes ",") =
-    rw (← slice_range-append text at next (end + 1) le (omega arith), ← slice_range-append text next end (end + 1) le2 (omega arith), slice_range-byte text end lt, comma, own) in
-    rw piece (variants_so_far-more ss n s (slice_range text at next) t so_far small is)
-
-pub last_variant_at : (ss : List (ℕ × Shape)) (n : ℕ) (s : Shape) (text t : List ℕ) (at next end : ℕ) → at ≤ next → next ≤ end
-    → VariantsSoFar ss (slice_range text at next) → slice_range text next end ≡ decimal n ++ (codes ":" ++ t) → n < 2 ^ 32 → IsTextOf (form s) t
-    → IsTextOfVariants (all_variants (ss ++ (n, s) ∷ [])) (slice_range text at end)
-last_variant_at ss n s text t at next end le le2 so_far own small is =
-    rw (← slice_range-append text at next end le le2, own) (variants_so_far-last ss n s (slice_range text at next) t so_far small is)
+abbrev pub tagged_members : Listing
+tagged_members = record {
+  Item = Member;
+  One = OneMember;
+  All = Members;
+  one = one_member;
+  all = all_members;
+  in_front = then_tagged;
+  all-in_front = λ s ss. refl;
+  IsText = IsTextOfTaggedMember;
+  AreText = IsTextOfTaggedMembers;
+  last_text = tagged_last;
+  next_text = tagged_next;
+  by_first = first_tagged;
+  depth_of = λ m. depth m.form;
+  deepest_of = deepest_member;
+  deepest-none = refl;
+  deepest-in_front = λ m ms. refl;
+}

@@ -2,7 +2,8 @@
 use Rattle.std.specs.Prelude.{◌≡◌, ℕ, ◌<◌, ◌≤◌, ◌^◌, ⊤, Bool, true, false, List, [], ◌∷◌, ◌++◌, Option, Some, None, Result, Ok, Err, codes}
 use Rattle.std.specs.Fmt.{decimal}
 use Rattle.someip_payload_values.specs.Data.{Form, bool, u8, u16, u32, u64, i8, i16, i32, i64, string, array, fixed, «struct», union, tagged, Forms, no_forms, form_then, Variants, no_variants, variant, Members, no_members, member_then}
-use Rattle.someip_payload_values.specs.View.{OneMember}
+use Rattle.someip_payload_values.specs.View.{OneMember, form}
+use Rattle.someip_payload_values.specs.declared.shape.Shape.{Shape}
 use Rattle.someip_payload_values.specs.declared.shape.Encoding.TheVariants.{Utf8, Utf16}
 use Rattle.someip_payload_values.specs.declared.shape.Width.{Width}
 use Rattle.someip_payload_values.specs.declared.shape.Width.TheVariants.{W8, W16, W32}
@@ -75,6 +76,18 @@ mutual
         → IsTextOfTaggedMembers (member_then id optional f no_members) (tagged_member_text id optional text)
     next_tagged : (id : ℕ) (optional : Bool) (f : Form) (ms : Members) (text others : List ℕ) → id < 2 ^ 12 → IsTextOf f text → IsTextOfTaggedMembers ms others
         → IsTextOfTaggedMembers (member_then id optional f ms) (tagged_member_text id optional text ++ (codes "," ++ others))
+
+-- a variant of a union: its type number and its form
+pub record OneVariant : Type 0 where
+  pub number : ℕ
+  pub form : Form
+
+abbrev pub one_variant : ℕ × Shape → OneVariant
+one_variant v = record { number = v.0; form = form v.1 }
+
+-- the text of one variant of a union
+abbrev pub IsTextOfVariant : OneVariant → List ℕ → Type 0
+IsTextOfVariant v text = (shape : List ℕ) × (v.number < 2 ^ 32) × IsTextOf v.form shape × (text ≡ decimal v.number ++ (codes ":" ++ shape))
 
 -- the text of one member of a tagged structure
 abbrev pub IsTextOfTaggedMember : OneMember → List ℕ → Type 0

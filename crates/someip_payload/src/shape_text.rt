@@ -5,12 +5,12 @@ ghost use Rattle.someip_payload_values.specs.declared.shape.Width.{Width};
 ghost use Rattle.someip_payload.specs.declared.shape_text.Word.{Word};
 ghost use Rattle.someip_payload_values.specs.Data.{Form, Forms, Variants, Members};
 ghost use Rattle.someip_payload_values.specs.Check.{depth, deepest, deepest_variant, deepest_member};
-ghost use Rattle.someip_payload.specs.ShapeText.{IsTextOf, IsTextOfMembers, IsTextOfVariants, IsTextOfTaggedMembers, IsTextOfTaggedMember, IsFaultWithin, HasNoWidth, IsReadAs, IsReadTo, IsRepeatedTo, width_text, or_32, mark_text, repeated_text};
+ghost use Rattle.someip_payload.specs.ShapeText.{IsTextOf, IsTextOfMembers, IsTextOfVariants, OneVariant, one_variant, IsTextOfVariant, IsTextOfTaggedMembers, IsTextOfTaggedMember, IsFaultWithin, HasNoWidth, IsReadAs, IsReadTo, IsRepeatedTo, width_text, or_32, mark_text, repeated_text};
 ghost use Rattle.someip_payload_values.specs.View.{form, forms, all_variants, all_members, OneMember, one_member};
 ghost use Rattle.someip_payload.specs.Words.{word_text, word_of, Behind};
 
 use crate::shape_text_error::ShapeTextError;
-use crate::text_parts::{byte_at, decimal_at, has_comma, word_at};
+use crate::text_parts::{ReadTo, byte_at, decimal_at, has_comma, word_at};
 use someip_payload_codec::{Encoding, Member, Shape, Width};
 use std::alloc::Global;
 
@@ -65,6 +65,27 @@ const WORDS: [(&str, Word); 16] = [
 
 const WIDTHS: [(&str, Width); 3] = [("/8", Width::W8), ("/16", Width::W16), ("/32", Width::W32)];
 
+/// Reads items with commas between them, up to the bracket after the last: returns them and the
+/// place after it, or the first fault. `$item` reads the item at the place `$next`. It is a macro
+/// and no function that is passed what reads an item, so that the clauses of each caller speak of
+/// its own items, and the cycle of calls that reads shapes has no more functions.
+macro_rules! one_after_other {
+    ($alloc:ident, $text:ident, $at:ident, |$next:ident| $item:expr) => {{
+        let mut items = Vec::new($alloc);
+        let mut $next = $at;
+        loop {
+            let (item, end) = $item?;
+            items.push(item)?;
+            if has_comma($text, end) {
+                $next = end + 1;
+            } else {
+                let end = byte_at(b')', $text, end)?;
+                return Ok((items, end));
+            }
+        }
+    }};
+}
+
 /// The shape of this text, as `array<8,struct(u8,utf16/8)>` or `tagged(1:u8,2?:utf8)`: each text of
 /// a shape is read as it, unless memory runs out or more than 64 shapes lie inside each other. A
 /// fault's place is that of the first byte at which no text of a shape goes on, which is the length
@@ -87,12 +108,7 @@ pub fn read_shape(alloc: Global, text: &str) -> Result<Shape, ShapeTextError>
 
 /// The shape at a place, inside which so many others may lie, and the place after it.
 #[cycle(shape)]
-fn shape_at(
-    alloc: Global,
-    text: &[u8],
-    at: usize,
-    left: u32,
-) -> Result<(Shape, usize), ShapeTextError>
+fn shape_at(alloc: Global, text: &[u8], at: usize, left: u32) -> ReadTo<Shape>
     requires { at ≤ length text.now }
     ensures found { IfOk result (λ x. IsTextOf (form x.0) (slice_range text.now at x.1)) }
     ensures only { (f : Form) (front rest : List ℕ) → drop at text.now ≡ front ++ rest
@@ -127,7 +143,7 @@ fn shape_at(
 }
 
 /// The rest of a shape after the word of an encoding.
-fn string_at(encoding: Encoding, text: &[u8], at: usize) -> Result<(Shape, usize), ShapeTextError>
+fn string_at(encoding: Encoding, text: &[u8], at: usize) -> ReadTo<Shape>
     requires { at ≤ length text.now }
     ensures found { IfOk result (λ x. IsTextOf (form x.0) (word_text (word_of encoding) ++ slice_range text.now at x.1)) }
     ensures only { (f : Form) (back rest : List ℕ) → drop at text.now ≡ back ++ rest
@@ -142,12 +158,7 @@ fn string_at(encoding: Encoding, text: &[u8], at: usize) -> Result<(Shape, usize
 
 /// The rest of a shape after the word `array`.
 #[cycle(shape)]
-fn array_at(
-    alloc: Global,
-    text: &[u8],
-    at: usize,
-    left: u32,
-) -> Result<(Shape, usize), ShapeTextError>
+fn array_at(alloc: Global, text: &[u8], at: usize, left: u32) -> ReadTo<Shape>
     requires { at ≤ length text.now }
     ensures found { IfOk result (λ x. IsTextOf (form x.0) (codes "array" ++ slice_range text.now at x.1)) }
     ensures only { (f : Form) (back rest : List ℕ) → drop at text.now ≡ back ++ rest
@@ -164,12 +175,7 @@ fn array_at(
 
 /// The rest of a shape after the word `fixed`.
 #[cycle(shape)]
-fn fixed_at(
-    alloc: Global,
-    text: &[u8],
-    at: usize,
-    left: u32,
-) -> Result<(Shape, usize), ShapeTextError>
+fn fixed_at(alloc: Global, text: &[u8], at: usize, left: u32) -> ReadTo<Shape>
     requires { at ≤ length text.now }
     ensures found { IfOk result (λ x. IsTextOf (form x.0) (codes "fixed" ++ slice_range text.now at x.1)) }
     ensures only { (f : Form) (back rest : List ℕ) → drop at text.now ≡ back ++ rest
@@ -211,12 +217,7 @@ fn repeated_at(
 
 /// The rest of a shape after the word `struct`.
 #[cycle(shape)]
-fn struct_at(
-    alloc: Global,
-    text: &[u8],
-    at: usize,
-    left: u32,
-) -> Result<(Shape, usize), ShapeTextError>
+fn struct_at(alloc: Global, text: &[u8], at: usize, left: u32) -> ReadTo<Shape>
     requires { at ≤ length text.now }
     ensures found { IfOk result (λ x. IsTextOf (form x.0) (codes "struct" ++ slice_range text.now at x.1)) }
     ensures only { (f : Form) (back rest : List ℕ) → drop at text.now ≡ back ++ rest
@@ -234,12 +235,7 @@ fn struct_at(
 
 /// Members with commas between them, and a bracket after the last.
 #[cycle(shape)]
-fn members_at(
-    alloc: Global,
-    text: &[u8],
-    at: usize,
-    left: u32,
-) -> Result<(Vec<Shape>, usize), ShapeTextError>
+fn members_at(alloc: Global, text: &[u8], at: usize, left: u32) -> ReadTo<Vec<Shape>>
     requires { at ≤ length text.now }
     ensures found { IfOk result (λ x. (members : List ℕ) × IsTextOfMembers (forms x.0.items) members
         × (slice_range text.now at x.1 ≡ members ++ codes ")")) }
@@ -251,28 +247,12 @@ fn members_at(
     ensures end { IfOk result (λ x. (at ≤ x.1) × (x.1 ≤ length text.now)) }
     ensures fault { IfErr result (IsFaultWithin at (length text.now)) }
 {
-    let mut members = Vec::new(alloc);
-    let mut next = at;
-    loop {
-        let (member, end) = shape_at(alloc, text, next, left)?;
-        members.push(member)?;
-        if has_comma(text, end) {
-            next = end + 1;
-        } else {
-            let end = byte_at(b')', text, end)?;
-            return Ok((members, end));
-        }
-    }
+    one_after_other!(alloc, text, at, |next| shape_at(alloc, text, next, left))
 }
 
 /// The rest of a shape after the word `union`.
 #[cycle(shape)]
-fn union_at(
-    alloc: Global,
-    text: &[u8],
-    at: usize,
-    left: u32,
-) -> Result<(Shape, usize), ShapeTextError>
+fn union_at(alloc: Global, text: &[u8], at: usize, left: u32) -> ReadTo<Shape>
     requires { at ≤ length text.now }
     ensures found { IfOk result (λ x. IsTextOf (form x.0) (codes "union" ++ slice_range text.now at x.1)) }
     ensures only { (f : Form) (back rest : List ℕ) → drop at text.now ≡ back ++ rest
@@ -289,12 +269,7 @@ fn union_at(
 
 /// Variants with commas between them, and a bracket after the last.
 #[cycle(shape)]
-fn variants_at(
-    alloc: Global,
-    text: &[u8],
-    at: usize,
-    left: u32,
-) -> Result<(Vec<(u32, Shape)>, usize), ShapeTextError>
+fn variants_at(alloc: Global, text: &[u8], at: usize, left: u32) -> ReadTo<Vec<(u32, Shape)>>
     requires { at ≤ length text.now }
     ensures found { IfOk result (λ x. (variants : List ℕ) × IsTextOfVariants (all_variants x.0.items) variants
         × (slice_range text.now at x.1 ≡ variants ++ codes ")")) }
@@ -306,30 +281,30 @@ fn variants_at(
     ensures end { IfOk result (λ x. (at ≤ x.1) × (x.1 ≤ length text.now)) }
     ensures fault { IfErr result (IsFaultWithin at (length text.now)) }
 {
-    let mut variants = Vec::new(alloc);
-    let mut next = at;
-    loop {
-        let (number, colon) = decimal_at(text, next, NUMBERS)?;
-        let first = byte_at(b':', text, colon)?;
-        let (shape, end) = shape_at(alloc, text, first, left)?;
-        variants.push((number, shape))?;
-        if has_comma(text, end) {
-            next = end + 1;
-        } else {
-            let end = byte_at(b')', text, end)?;
-            return Ok((variants, end));
-        }
-    }
+    one_after_other!(alloc, text, at, |next| variant_at(alloc, text, next, left))
+}
+
+/// A variant of a union: its type number and its shape.
+#[cycle(shape)]
+fn variant_at(alloc: Global, text: &[u8], at: usize, left: u32) -> ReadTo<(u32, Shape)>
+    requires { at ≤ length text.now }
+    ensures found { IfOk result (λ x. IsTextOfVariant (one_variant x.0) (slice_range text.now at x.1)) }
+    ensures only { (v : OneVariant) (front rest : List ℕ) → drop at text.now ≡ front ++ rest
+        → IsTextOfVariant v front → depth v.form ≤ left → HasNoWidth rest
+        → IsReadTo one_variant v (at + length front) result }
+    ensures within { IfOk result (λ x. depth (one_variant x.0).form ≤ left) }
+    ensures end { IfOk result (λ x. (at < x.1) × (x.1 ≤ length text.now)) }
+    ensures fault { IfErr result (IsFaultWithin at (length text.now)) }
+{
+    let (number, colon) = decimal_at(text, at, NUMBERS)?;
+    let first = byte_at(b':', text, colon)?;
+    let (shape, end) = shape_at(alloc, text, first, left)?;
+    Ok(((number, shape), end))
 }
 
 /// The rest of a shape after the word `tagged`.
 #[cycle(shape)]
-fn tagged_at(
-    alloc: Global,
-    text: &[u8],
-    at: usize,
-    left: u32,
-) -> Result<(Shape, usize), ShapeTextError>
+fn tagged_at(alloc: Global, text: &[u8], at: usize, left: u32) -> ReadTo<Shape>
     requires { at ≤ length text.now }
     ensures found { IfOk result (λ x. IsTextOf (form x.0) (codes "tagged" ++ slice_range text.now at x.1)) }
     ensures only { (f : Form) (back rest : List ℕ) → drop at text.now ≡ back ++ rest
@@ -347,12 +322,7 @@ fn tagged_at(
 
 /// Members of a tagged structure with commas between them, and a bracket after the last.
 #[cycle(shape)]
-fn tagged_members_at(
-    alloc: Global,
-    text: &[u8],
-    at: usize,
-    left: u32,
-) -> Result<(Vec<Member>, usize), ShapeTextError>
+fn tagged_members_at(alloc: Global, text: &[u8], at: usize, left: u32) -> ReadTo<Vec<Member>>
     requires { at ≤ length text.now }
     ensures found { IfOk result (λ x. (members : List ℕ) × IsTextOfTaggedMembers (all_members x.0.items) members
         × (slice_range text.now at x.1 ≡ members ++ codes ")")) }
@@ -364,28 +334,17 @@ fn tagged_members_at(
     ensures end { IfOk result (λ x. (at ≤ x.1) × (x.1 ≤ length text.now)) }
     ensures fault { IfErr result (IsFaultWithin at (length text.now)) }
 {
-    let mut members = Vec::new(alloc);
-    let mut next = at;
-    loop {
-        let (member, end) = tagged_member_at(alloc, text, next, left)?;
-        members.push(member)?;
-        if has_comma(text, end) {
-            next = end + 1;
-        } else {
-            let end = byte_at(b')', text, end)?;
-            return Ok((members, end));
-        }
-    }
+    one_after_other!(
+        alloc,
+        text,
+        at,
+        |next| tagged_member_at(alloc, text, next, left)
+    )
 }
 
 /// A member of a tagged structure: its Data ID, perhaps a question mark, and its shape.
 #[cycle(shape)]
-fn tagged_member_at(
-    alloc: Global,
-    text: &[u8],
-    at: usize,
-    left: u32,
-) -> Result<(Member, usize), ShapeTextError>
+fn tagged_member_at(alloc: Global, text: &[u8], at: usize, left: u32) -> ReadTo<Member>
     requires { at ≤ length text.now }
     ensures found { IfOk result (λ x. IsTextOfTaggedMember (one_member x.0) (slice_range text.now at x.1)) }
     ensures only { (m : OneMember) (front rest : List ℕ) → drop at text.now ≡ front ++ rest
@@ -426,7 +385,7 @@ fn mark_at(text: &[u8], at: usize) -> (bool, usize)
 }
 
 /// The width of a length field, where one is written.
-fn width_at(text: &[u8], at: usize) -> Result<(Option<Width>, usize), ShapeTextError>
+fn width_at(text: &[u8], at: usize) -> ReadTo<Option<Width>>
     requires { at ≤ length text.now }
     ensures found { IfOk result (λ x. slice_range text.now at x.1 ≡ width_text x.0) }
     ensures only { (w : Option Width) (rest : List ℕ) → drop at text.now ≡ width_text w ++ rest
@@ -448,7 +407,7 @@ fn or_32(width: Option<Width>) -> Width
 }
 
 /// The word that a shape's text begins with, and the place after it.
-fn first_word(text: &[u8], at: usize) -> Result<(Word, usize), ShapeTextError>
+fn first_word(text: &[u8], at: usize) -> ReadTo<Word>
     requires { at ≤ length text.now }
     ensures found { IfOk result (λ x. slice_range text.now at x.1 ≡ word_text x.0) }
     ensures only { (w : Word) (rest : List ℕ) → drop at text.now ≡ word_text w ++ rest

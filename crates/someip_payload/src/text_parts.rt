@@ -7,13 +7,12 @@ ghost use Rattle.someip_payload.specs.ShapeText.{IsFaultWithin, IsDigit, IsNoFro
 
 use crate::shape_text_error::ShapeTextError;
 
+/// What was read and the place after it, or the fault.
+pub(crate) type ReadTo<T> = Result<(T, usize), ShapeTextError>;
+
 /// The word at a place, and the place after it. The fault is at the first byte at which none of
 /// the words goes on.
-pub(crate) fn word_at<T: Copy>(
-    words: &[(&str, T)],
-    text: &[u8],
-    at: usize,
-) -> Result<(T, usize), ShapeTextError>
+pub(crate) fn word_at<T: Copy>(words: &[(&str, T)], text: &[u8], at: usize) -> ReadTo<T>
     requires { at ≤ length text.now }
     ensures found { (name : T → List ℕ) → AllByRecursion (λ word. word.0.now ≡ name word.1) words.now
         → IfOk result (λ x. slice_range text.now at x.1 ≡ name x.0) }
@@ -79,7 +78,7 @@ pub(crate) fn byte_at(byte: u8, text: &[u8], at: usize) -> Result<usize, ShapeTe
 
 /// A decimal number below the limit, without leading zeros. The fault is at the first digit that is
 /// one too many.
-pub(crate) fn decimal_at(text: &[u8], at: usize, limit: u64) -> Result<(u32, usize), ShapeTextError>
+pub(crate) fn decimal_at(text: &[u8], at: usize, limit: u64) -> ReadTo<u32>
     requires place { at ≤ length text.now }
     requires limit { (10 ≤ limit) × (limit ≤ 2 ^ 32) }
     ensures found { IfOk result (λ x. slice_range text.now at x.1 ≡ decimal x.0) }

@@ -1,19 +1,18 @@
-use Rattle.std.proofs.Common.{rules, ◌≡◌, ℕ, ◌+◌, ◌-◌, ◌<◌, ◌≤◌, List, ◌++◌, [], ◌∷◌, length, slice_range, codes, Ok, refl, ap, ◌∙◌, arith}
+use Rattle.std.proofs.Common.{rules, ◌≡◌, ℕ, ◌+◌, ◌-◌, ◌<◌, ◌≤◌, List, ◌++◌, ◌∷◌, length, slice_range, codes, Ok, refl, ap, ◌∙◌, arith, ◌^◌, false}
 use Rattle.std.specs.Fmt.{decimal}
-use Rattle.std.proofs.lemmas.Bool.{false≢true}
 use Rattle.std.proofs.lemmas.Result.{err_from_is_err_and}
 use Rattle.std.proofs.lemmas.List.{length-append}
 use Rattle.someip_payload_values.specs.declared.shape.Shape.{U8, U16, U32, U64, I8, I16, I32, I64}
 use Rattle.someip_payload_values.specs.Data.{u8, u16, u32, u64, i8, i16, i32, i64}
 use Rattle.someip_payload_values.specs.Check.{depth, deepest, deepest_variant, deepest_member}
-use Rattle.someip_payload.specs.ShapeText.{repeated_text, width_text, mark_text}
-use Rattle.someip_payload.proofs.Converse.{by_word, plain, word_there, behind_piece, same_first, same_second, not_read}
-use Rattle.someip_payload.proofs.ConverseParts.{split_front, some_depth, array_is, struct_is, union_is, tagged_is, stops_repeated, stops_bracket, stops_end, no_digit_comma, no_digit_colon, after_open, after_comma, length-repeated, after_bracket, members_none, next_member_of, member_more, member_last, within_more, deepest-push, deepest_variant-push, variants_none, next_variant_of, variant_more, variant_last}
+use Rattle.someip_payload.specs.ShapeText.{repeated_text, width_text}
+use Rattle.someip_payload.proofs.Converse.{by_word, plain, word_there, behind_piece, same_first, same_second, not_read, passed_on}
+use Rattle.someip_payload.proofs.ConverseParts.{split_front, some_depth, array_is, struct_is, union_is, tagged_is, stops_repeated, stops_bracket, stops_end, no_digit_comma, after_open, after_comma, length-repeated, after_bracket, within_more}
 use Rattle.someip_payload.specs.Words.{word_text}
-use Rattle.someip_payload.proofs.Pieces.{slice_range-append, slice_range-empty}
 use Rattle.someip_payload.proofs.ShapePieces.{bool_shape, u8_shape, u16_shape, u32_shape, u64_shape, i8_shape, i16_shape, i32_shape, i64_shape, form-Array, form-Fixed, form-Struct, form-Union, form-Tagged, one_member-made, form-U8, form-U16, form-U32, form-U64, form-I8, form-I16, form-I32, form-I64, behind_word, array_shape, fixed_shape, struct_shape, union_shape, tagged_shape, repeated_piece}
-use Rattle.someip_payload.proofs.Members.{next_member_at, last_member_at, next_variant_at, last_variant_at, variant_piece}
-use Rattle.someip_payload.proofs.TaggedMembers.{next_tagged_at, last_tagged_at, tagged_none, next_tagged_of, tagged_more, tagged_last, deepest_member-push, member_there, mark_first, member_piece, same_member}
+use Rattle.someip_payload.proofs.Members.{members, variants, tagged_members}
+use Rattle.someip_payload.proofs.TaggedMembers.{member_piece, number_read, after_number, after_mark, variant_piece}
+use Rattle.someip_payload.proofs.OneAfterOther.{none_read, not_one, one_more, all_found, all_within, all_only, no_bracket}
 use Rattle.someip_payload.proofs.shape_text.+shape.Goals as goal
 
 pub array_at-returns-clause-found : goal.array_at-returns-clause-found
@@ -101,72 +100,6 @@ shape_at-returns-in-Struct-clause-found t c =
 pub shape_at-returns-in-Union-clause-found : goal.shape_at-returns-in-Union-clause-found
 shape_at-returns-in-Union-clause-found t c =
     behind_word _ _ (codes "union") _ _ c.in_ok-word.ensures.end.0 (c.in_ok-word.ensures.found ∙ ap word_text c.in-Union.is) c.union_at.ensures.end c.union_at.ensures.found
-
-pub members_at-loop-members-preserved : goal.members_at-loop-members-preserved
-members_at-loop-members-preserved t c =
-    let here : c.args.at ≤ c.loop-members.next = c.loop-members.invariant.0 in
-    let behind : c.loop-members.next < c.in_ok-member.end = c.in_ok-member.ensures.end.0 in
-    let inside : c.in_ok-member.end < length c.args.text.now = (c.if-has_comma.ensures.comma refl).0 in
-    let pushed : c.push.new.self.items ≡ c.loop-members.members.items ++ c.in_ok-member.member ∷ [] = search rules in (
-      omega arith,
-      omega arith,
-      rw pushed (next_member_at _ _ _ _ _ _ here (omega arith) inside (c.if-has_comma.ensures.comma refl).1 c.loop-members.invariant.2 c.in_ok-member.ensures.found),
-      λ fs all rest is are deep.
-          let n = next_member_of c.args.text.now c.args.at c.args.left fs all rest c.loop-members.members.items c.loop-members.next (c.loop-members.invariant.3 fs all rest is are deep) in
-          let read = c.in_ok-member.ensures.only n.f n.front n.tail n.there n.is_text n.deep n.stops in
-          rw pushed (member_more c.args.text.now c.args.at c.args.left fs all rest c.loop-members.members.items c.loop-members.next c.in_ok-member.member c.in_ok-member.end n read (c.if-has_comma.ensures.comma refl).1),
-      rw pushed (deepest-push c.loop-members.members.items c.in_ok-member.member c.args.left c.loop-members.invariant.4 c.in_ok-member.ensures.within),
-    )
-
-pub members_at-returns-else-has_comma-clause-found : goal.members_at-returns-else-has_comma-clause-found
-members_at-returns-else-has_comma-clause-found t c =
-    let here : c.args.at ≤ c.loop-members.next = c.loop-members.invariant.0 in
-    let behind : c.loop-members.next < c.in_ok-member.end = c.in_ok-member.ensures.end.0 in
-    let end : c.in_ok-end.end ≡ c.in_ok-member.end + 1 = c.in_ok-end.ensures.end.0 in
-    let pushed : c.push.new.self.items ≡ c.loop-members.members.items ++ c.in_ok-member.member ∷ [] = search rules in (
-      slice_range c.args.text.now c.args.at c.in_ok-member.end,
-      rw pushed (last_member_at _ _ _ _ _ _ here (omega arith) c.loop-members.invariant.2 c.in_ok-member.ensures.found),
-      rw (← slice_range-append c.args.text.now c.args.at c.in_ok-member.end c.in_ok-end.end (omega arith) (omega arith), c.in_ok-end.ensures.found),
-    )
-
-pub variants_at-loop-variants-preserved : goal.variants_at-loop-variants-preserved
-variants_at-loop-variants-preserved t c =
-    let here : c.args.at ≤ c.loop-variants.next = c.loop-variants.invariant.0 in
-    let colon : c.loop-variants.next < c.in_ok-number.colon = c.in_ok-number.ensures.end.0 in
-    let first : c.in_ok-first.first ≡ c.in_ok-number.colon + 1 = c.in_ok-first.ensures.end.0 in
-    let behind : c.in_ok-first.first ≤ c.in_ok-shape.end = omega (arith, c.in_ok-shape.ensures.end.0) in
-    let inside : c.in_ok-shape.end < length c.args.text.now = (c.if-has_comma.ensures.comma refl).0 in
-    let pushed : c.push.new.self.items ≡ c.loop-variants.variants.items ++ (c.in_ok-number.number, c.in_ok-shape.shape) ∷ [] = search rules in (
-      omega arith,
-      omega arith,
-      rw pushed (next_variant_at _ _ _ _ _ _ _ _ here (omega arith) inside (c.if-has_comma.ensures.comma refl).1 c.loop-variants.invariant.2
-          (variant_piece _ _ _ _ _ _ (omega arith) (omega arith) behind c.in_ok-number.ensures.found c.in_ok-first.ensures.found) c.in_ok-number.ensures.fits c.in_ok-shape.ensures.found),
-      λ vs all rest is are deep.
-          let n = next_variant_of c.args.text.now c.args.at c.args.left vs all rest c.loop-variants.variants.items c.loop-variants.next (c.loop-variants.invariant.3 vs all rest is are deep) in
-          let both = c.in_ok-number.ensures.only n.number 58 (n.front ++ n.tail) n.there n.small no_digit_colon in
-          let number : c.in_ok-number.number ≡ n.number = same_first _ _ _ _ both in
-          let point : c.in_ok-number.colon ≡ c.loop-variants.next + length (decimal n.number) = same_second _ _ _ _ both in
-          let there = behind_piece c.args.text.now (decimal n.number) _ c.loop-variants.next c.in_ok-number.colon n.there point in
-          let inside_it = behind_piece c.args.text.now (codes ":") (n.front ++ n.tail) c.in_ok-number.colon c.in_ok-first.first there first in
-          let read = c.in_ok-shape.ensures.only n.f n.front n.tail inside_it n.is_text n.deep n.stops in
-          let begins : c.in_ok-first.first ≡ c.loop-variants.next + length (decimal n.number) + 1 = omega (arith, point, first) in
-          rw pushed (variant_more c.args.text.now c.args.at c.args.left vs all rest c.loop-variants.variants.items c.loop-variants.next c.in_ok-number.number c.in_ok-shape.shape c.in_ok-first.first c.in_ok-shape.end n number begins inside_it read (c.if-has_comma.ensures.comma refl).1),
-      rw pushed (deepest_variant-push c.loop-variants.variants.items (c.in_ok-number.number, c.in_ok-shape.shape) c.args.left c.loop-variants.invariant.4 c.in_ok-shape.ensures.within),
-    )
-
-pub variants_at-returns-else-has_comma-clause-found : goal.variants_at-returns-else-has_comma-clause-found
-variants_at-returns-else-has_comma-clause-found t c =
-    let here : c.args.at ≤ c.loop-variants.next = c.loop-variants.invariant.0 in
-    let colon : c.loop-variants.next < c.in_ok-number.colon = c.in_ok-number.ensures.end.0 in
-    let first : c.in_ok-first.first ≡ c.in_ok-number.colon + 1 = c.in_ok-first.ensures.end.0 in
-    let behind : c.in_ok-first.first ≤ c.in_ok-shape.end = omega (arith, c.in_ok-shape.ensures.end.0) in
-    let end : c.in_ok-end.end ≡ c.in_ok-shape.end + 1 = c.in_ok-end.ensures.end.0 in
-    let pushed : c.push.new.self.items ≡ c.loop-variants.variants.items ++ (c.in_ok-number.number, c.in_ok-shape.shape) ∷ [] = search rules in (
-      slice_range c.args.text.now c.args.at c.in_ok-shape.end,
-      rw pushed (last_variant_at _ _ _ _ _ _ _ _ here (omega arith) c.loop-variants.invariant.2
-          (variant_piece _ _ _ _ _ _ (omega arith) (omega arith) behind c.in_ok-number.ensures.found c.in_ok-first.ensures.found) c.in_ok-number.ensures.fits c.in_ok-shape.ensures.found),
-      rw (← slice_range-append c.args.text.now c.args.at c.in_ok-shape.end c.in_ok-end.end (omega arith) (omega arith), c.in_ok-end.ensures.found),
-    )
 
 -- ---- each text of a shape is read
 
@@ -369,100 +302,6 @@ union_at-returns-clause-only t c = λ f back rest is behind deep.
       omega (arith, read.1, c.in_ok-first.ensures.end.0, ap length behind.4, length-append behind.1 (codes ")")),
     )
 
-pub members_at-loop-members-init : goal.members_at-loop-members-init
-members_at-loop-members-init t c = (
-  omega arith,
-  omega (arith, c.requires),
-  λ fs others are. rw (slice_range-empty c.args.text.now c.args.at, c.new-members.ensures.items) are,
-  members_none c.args.text.now c.args.at c.args.left c.new-members.result.items c.new-members.ensures.items,
-  rw c.new-members.ensures.items (omega arith),
-)
-
-pub members_at-returns-in_err-member-clause-only : goal.members_at-returns-in_err-member-clause-only
-members_at-returns-in_err-member-clause-only t c = λ fs all rest is are deep.
-    let p = err_from_is_err_and c.from_residual.result c.from_residual.ensures.1 in
-    let n = next_member_of c.args.text.now c.args.at c.args.left fs all rest c.loop-members.members.items c.loop-members.next (c.loop-members.invariant.3 fs all rest is are deep) in
-    rw (p.1, p.2) (c.in_err-member.ensures.only n.f n.front n.tail n.there n.is_text n.deep n.stops)
-
-pub members_at-returns-in_err-end-clause-only : goal.members_at-returns-in_err-end-clause-only
-members_at-returns-in_err-end-clause-only t c = λ fs all rest is are deep.
-    let n = next_member_of c.args.text.now c.args.at c.args.left fs all rest c.loop-members.members.items c.loop-members.next (c.loop-members.invariant.3 fs all rest is are deep) in
-    let read = c.in_ok-member.ensures.only n.f n.front n.tail n.there n.is_text n.deep n.stops in
-    let last = member_last c.args.text.now c.args.at c.args.left fs all rest c.loop-members.members.items c.loop-members.next c.in_ok-member.member c.in_ok-member.end n read (λ others here. false≢true (c.if-has_comma.ensures.only others here)) in
-    let bad = c.in_err-end.ensures.only rest last.bracket in
-    absurd (not_read _ _ bad)
-
-pub members_at-returns-else-has_comma-clause-only : goal.members_at-returns-else-has_comma-clause-only
-members_at-returns-else-has_comma-clause-only t c = λ fs all rest is are deep.
-    let n = next_member_of c.args.text.now c.args.at c.args.left fs all rest c.loop-members.members.items c.loop-members.next (c.loop-members.invariant.3 fs all rest is are deep) in
-    let read = c.in_ok-member.ensures.only n.f n.front n.tail n.there n.is_text n.deep n.stops in
-    let last = member_last c.args.text.now c.args.at c.args.left fs all rest c.loop-members.members.items c.loop-members.next c.in_ok-member.member c.in_ok-member.end n read (λ others here. false≢true (c.if-has_comma.ensures.only others here)) in
-    let pushed : c.push.new.self.items ≡ c.loop-members.members.items ++ c.in_ok-member.member ∷ [] = search rules in
-    (rw pushed last.is, omega (arith, last.place, c.in_ok-end.ensures.end.0))
-
-pub variants_at-loop-variants-init : goal.variants_at-loop-variants-init
-variants_at-loop-variants-init t c = (
-  omega arith,
-  omega (arith, c.requires),
-  λ vs others are. rw (slice_range-empty c.args.text.now c.args.at, c.new-variants.ensures.items) are,
-  variants_none c.args.text.now c.args.at c.args.left c.new-variants.result.items c.new-variants.ensures.items,
-  rw c.new-variants.ensures.items (omega arith),
-)
-
-pub variants_at-returns-in_err-number-clause-only : goal.variants_at-returns-in_err-number-clause-only
-variants_at-returns-in_err-number-clause-only t c = λ vs all rest is are deep.
-    let n = next_variant_of c.args.text.now c.args.at c.args.left vs all rest c.loop-variants.variants.items c.loop-variants.next (c.loop-variants.invariant.3 vs all rest is are deep) in
-    let bad = c.in_err-number.ensures.only n.number 58 (n.front ++ n.tail) n.there n.small no_digit_colon in
-    absurd (not_read _ _ bad)
-
-pub variants_at-returns-in_err-first-clause-only : goal.variants_at-returns-in_err-first-clause-only
-variants_at-returns-in_err-first-clause-only t c = λ vs all rest is are deep.
-    let n = next_variant_of c.args.text.now c.args.at c.args.left vs all rest c.loop-variants.variants.items c.loop-variants.next (c.loop-variants.invariant.3 vs all rest is are deep) in
-    let both = c.in_ok-number.ensures.only n.number 58 (n.front ++ n.tail) n.there n.small no_digit_colon in
-    let colon : c.in_ok-number.colon ≡ c.loop-variants.next + length (decimal n.number) = same_second _ _ _ _ both in
-    let bad = c.in_err-first.ensures.only (n.front ++ n.tail) (behind_piece c.args.text.now (decimal n.number) _ c.loop-variants.next c.in_ok-number.colon n.there colon) in
-    absurd (not_read _ _ bad)
-
-pub variants_at-returns-in_err-shape-clause-only : goal.variants_at-returns-in_err-shape-clause-only
-variants_at-returns-in_err-shape-clause-only t c = λ vs all rest is are deep.
-    let p = err_from_is_err_and c.from_residual-in_err-shape.result c.from_residual-in_err-shape.ensures.1 in
-    let n = next_variant_of c.args.text.now c.args.at c.args.left vs all rest c.loop-variants.variants.items c.loop-variants.next (c.loop-variants.invariant.3 vs all rest is are deep) in
-    let both = c.in_ok-number.ensures.only n.number 58 (n.front ++ n.tail) n.there n.small no_digit_colon in
-    let colon : c.in_ok-number.colon ≡ c.loop-variants.next + length (decimal n.number) = same_second _ _ _ _ both in
-    let there = behind_piece c.args.text.now (decimal n.number) _ c.loop-variants.next c.in_ok-number.colon n.there colon in
-    let inside = behind_piece c.args.text.now (codes ":") (n.front ++ n.tail) c.in_ok-number.colon c.in_ok-first.first there c.in_ok-first.ensures.end.0 in
-    rw (p.1, p.2) (c.in_err-shape.ensures.only n.f n.front n.tail inside n.is_text n.deep n.stops)
-
-pub variants_at-returns-in_err-end-clause-only : goal.variants_at-returns-in_err-end-clause-only
-variants_at-returns-in_err-end-clause-only t c = λ vs all rest is are deep.
-    let n = next_variant_of c.args.text.now c.args.at c.args.left vs all rest c.loop-variants.variants.items c.loop-variants.next (c.loop-variants.invariant.3 vs all rest is are deep) in
-    let both = c.in_ok-number.ensures.only n.number 58 (n.front ++ n.tail) n.there n.small no_digit_colon in
-    let number : c.in_ok-number.number ≡ n.number = same_first _ _ _ _ both in
-    let colon : c.in_ok-number.colon ≡ c.loop-variants.next + length (decimal n.number) = same_second _ _ _ _ both in
-    let there = behind_piece c.args.text.now (decimal n.number) _ c.loop-variants.next c.in_ok-number.colon n.there colon in
-    let inside = behind_piece c.args.text.now (codes ":") (n.front ++ n.tail) c.in_ok-number.colon c.in_ok-first.first there c.in_ok-first.ensures.end.0 in
-    let read = c.in_ok-shape.ensures.only n.f n.front n.tail inside n.is_text n.deep n.stops in
-    let begins : c.in_ok-first.first ≡ c.loop-variants.next + length (decimal n.number) + 1 = omega (arith, colon, c.in_ok-first.ensures.end.0) in
-    let last = variant_last c.args.text.now c.args.at c.args.left vs all rest c.loop-variants.variants.items c.loop-variants.next c.in_ok-number.number c.in_ok-shape.shape c.in_ok-first.first c.in_ok-shape.end n number begins inside read
-    (λ others here. false≢true (c.if-has_comma.ensures.only others here)) in
-    let bad = c.in_err-end.ensures.only rest last.bracket in
-    absurd (not_read _ _ bad)
-
-pub variants_at-returns-else-has_comma-clause-only : goal.variants_at-returns-else-has_comma-clause-only
-variants_at-returns-else-has_comma-clause-only t c = λ vs all rest is are deep.
-    let n = next_variant_of c.args.text.now c.args.at c.args.left vs all rest c.loop-variants.variants.items c.loop-variants.next (c.loop-variants.invariant.3 vs all rest is are deep) in
-    let both = c.in_ok-number.ensures.only n.number 58 (n.front ++ n.tail) n.there n.small no_digit_colon in
-    let number : c.in_ok-number.number ≡ n.number = same_first _ _ _ _ both in
-    let colon : c.in_ok-number.colon ≡ c.loop-variants.next + length (decimal n.number) = same_second _ _ _ _ both in
-    let there = behind_piece c.args.text.now (decimal n.number) _ c.loop-variants.next c.in_ok-number.colon n.there colon in
-    let inside = behind_piece c.args.text.now (codes ":") (n.front ++ n.tail) c.in_ok-number.colon c.in_ok-first.first there c.in_ok-first.ensures.end.0 in
-    let read = c.in_ok-shape.ensures.only n.f n.front n.tail inside n.is_text n.deep n.stops in
-    let begins : c.in_ok-first.first ≡ c.loop-variants.next + length (decimal n.number) + 1 = omega (arith, colon, c.in_ok-first.ensures.end.0) in
-    let last = variant_last c.args.text.now c.args.at c.args.left vs all rest c.loop-variants.variants.items c.loop-variants.next c.in_ok-number.number c.in_ok-shape.shape c.in_ok-first.first c.in_ok-shape.end n number begins inside read
-    (λ others here. false≢true (c.if-has_comma.ensures.only others here)) in
-    let pushed : c.push.new.self.items ≡ c.loop-variants.variants.items ++ (c.in_ok-number.number, c.in_ok-shape.shape) ∷ [] = search rules in
-    (rw pushed last.is, omega (arith, last.place, c.in_ok-end.ensures.end.0))
-
 -- ---- how deep they lie
 
 pub shape_at-returns-in-U8-clause-within : goal.shape_at-returns-in-U8-clause-within
@@ -522,80 +361,7 @@ union_at-returns-clause-within t c = rw (form-Union c.in_ok-variants.variants) (
 pub repeated_at-returns-clause-within : goal.repeated_at-returns-clause-within
 repeated_at-returns-clause-within t c = rw c.in_ok-new.ensures.ok c.in_ok-element.ensures.within
 
-pub members_at-returns-else-has_comma-clause-within : goal.members_at-returns-else-has_comma-clause-within
-members_at-returns-else-has_comma-clause-within t c =
-    let pushed : c.push.new.self.items ≡ c.loop-members.members.items ++ c.in_ok-member.member ∷ [] = search rules in
-    rw pushed (deepest-push c.loop-members.members.items c.in_ok-member.member c.args.left c.loop-members.invariant.4 c.in_ok-member.ensures.within)
-
-pub variants_at-returns-else-has_comma-clause-within : goal.variants_at-returns-else-has_comma-clause-within
-variants_at-returns-else-has_comma-clause-within t c =
-    let pushed : c.push.new.self.items ≡ c.loop-variants.variants.items ++ (c.in_ok-number.number, c.in_ok-shape.shape) ∷ [] = search rules in
-    rw pushed (deepest_variant-push c.loop-variants.variants.items (c.in_ok-number.number, c.in_ok-shape.shape) c.args.left c.loop-variants.invariant.4 c.in_ok-shape.ensures.within)
-
 -- ---- tagged structures
-
-pub tagged_members_at-loop-members-preserved : goal.tagged_members_at-loop-members-preserved
-tagged_members_at-loop-members-preserved t c =
-    let here : c.args.at ≤ c.loop-members.next = c.loop-members.invariant.0 in
-    let behind : c.loop-members.next < c.in_ok-member.end = c.in_ok-member.ensures.end.0 in
-    let inside : c.in_ok-member.end < length c.args.text.now = (c.if-has_comma.ensures.comma refl).0 in
-    let pushed : c.push.new.self.items ≡ c.loop-members.members.items ++ c.in_ok-member.member ∷ [] = search rules in (
-      omega arith,
-      omega arith,
-      rw pushed (next_tagged_at _ _ _ _ _ _ here (omega arith) inside (c.if-has_comma.ensures.comma refl).1 c.loop-members.invariant.2 c.in_ok-member.ensures.found),
-      λ fs all rest is are deep.
-          let n = next_tagged_of c.args.text.now c.args.at c.args.left fs all rest c.loop-members.members.items c.loop-members.next (c.loop-members.invariant.3 fs all rest is are deep) in
-          let read = c.in_ok-member.ensures.only n.f n.front n.tail n.there n.is_text n.deep n.stops in
-          rw pushed (tagged_more c.args.text.now c.args.at c.args.left fs all rest c.loop-members.members.items c.loop-members.next c.in_ok-member.member c.in_ok-member.end n read (c.if-has_comma.ensures.comma refl).1),
-      rw pushed (deepest_member-push c.loop-members.members.items c.in_ok-member.member c.args.left c.loop-members.invariant.4 c.in_ok-member.ensures.within),
-    )
-
-pub tagged_members_at-returns-else-has_comma-clause-found : goal.tagged_members_at-returns-else-has_comma-clause-found
-tagged_members_at-returns-else-has_comma-clause-found t c =
-    let here : c.args.at ≤ c.loop-members.next = c.loop-members.invariant.0 in
-    let behind : c.loop-members.next < c.in_ok-member.end = c.in_ok-member.ensures.end.0 in
-    let end : c.in_ok-end.end ≡ c.in_ok-member.end + 1 = c.in_ok-end.ensures.end.0 in
-    let pushed : c.push.new.self.items ≡ c.loop-members.members.items ++ c.in_ok-member.member ∷ [] = search rules in (
-      slice_range c.args.text.now c.args.at c.in_ok-member.end,
-      rw pushed (last_tagged_at _ _ _ _ _ _ here (omega arith) c.loop-members.invariant.2 c.in_ok-member.ensures.found),
-      rw (← slice_range-append c.args.text.now c.args.at c.in_ok-member.end c.in_ok-end.end (omega arith) (omega arith), c.in_ok-end.ensures.found),
-    )
-
-pub tagged_members_at-loop-members-init : goal.tagged_members_at-loop-members-init
-tagged_members_at-loop-members-init t c = (
-  omega arith,
-  omega (arith, c.requires),
-  λ fs others are. rw (slice_range-empty c.args.text.now c.args.at, c.new-members.ensures.items) are,
-  tagged_none c.args.text.now c.args.at c.args.left c.new-members.result.items c.new-members.ensures.items,
-  rw c.new-members.ensures.items (omega arith),
-)
-
-pub tagged_members_at-returns-in_err-member-clause-only : goal.tagged_members_at-returns-in_err-member-clause-only
-tagged_members_at-returns-in_err-member-clause-only t c = λ fs all rest is are deep.
-    let p = err_from_is_err_and c.from_residual.result c.from_residual.ensures.1 in
-    let n = next_tagged_of c.args.text.now c.args.at c.args.left fs all rest c.loop-members.members.items c.loop-members.next (c.loop-members.invariant.3 fs all rest is are deep) in
-    rw (p.1, p.2) (c.in_err-member.ensures.only n.f n.front n.tail n.there n.is_text n.deep n.stops)
-
-pub tagged_members_at-returns-in_err-end-clause-only : goal.tagged_members_at-returns-in_err-end-clause-only
-tagged_members_at-returns-in_err-end-clause-only t c = λ fs all rest is are deep.
-    let n = next_tagged_of c.args.text.now c.args.at c.args.left fs all rest c.loop-members.members.items c.loop-members.next (c.loop-members.invariant.3 fs all rest is are deep) in
-    let read = c.in_ok-member.ensures.only n.f n.front n.tail n.there n.is_text n.deep n.stops in
-    let last = tagged_last c.args.text.now c.args.at c.args.left fs all rest c.loop-members.members.items c.loop-members.next c.in_ok-member.member c.in_ok-member.end n read (λ others here. false≢true (c.if-has_comma.ensures.only others here)) in
-    let bad = c.in_err-end.ensures.only rest last.bracket in
-    absurd (not_read _ _ bad)
-
-pub tagged_members_at-returns-else-has_comma-clause-only : goal.tagged_members_at-returns-else-has_comma-clause-only
-tagged_members_at-returns-else-has_comma-clause-only t c = λ fs all rest is are deep.
-    let n = next_tagged_of c.args.text.now c.args.at c.args.left fs all rest c.loop-members.members.items c.loop-members.next (c.loop-members.invariant.3 fs all rest is are deep) in
-    let read = c.in_ok-member.ensures.only n.f n.front n.tail n.there n.is_text n.deep n.stops in
-    let last = tagged_last c.args.text.now c.args.at c.args.left fs all rest c.loop-members.members.items c.loop-members.next c.in_ok-member.member c.in_ok-member.end n read (λ others here. false≢true (c.if-has_comma.ensures.only others here)) in
-    let pushed : c.push.new.self.items ≡ c.loop-members.members.items ++ c.in_ok-member.member ∷ [] = search rules in
-    (rw pushed last.is, omega (arith, last.place, c.in_ok-end.ensures.end.0))
-
-pub tagged_members_at-returns-else-has_comma-clause-within : goal.tagged_members_at-returns-else-has_comma-clause-within
-tagged_members_at-returns-else-has_comma-clause-within t c =
-    let pushed : c.push.new.self.items ≡ c.loop-members.members.items ++ c.in_ok-member.member ∷ [] = search rules in
-    rw pushed (deepest_member-push c.loop-members.members.items c.in_ok-member.member c.args.left c.loop-members.invariant.4 c.in_ok-member.ensures.within)
 
 pub tagged_at-returns-clause-found : goal.tagged_at-returns-clause-found
 tagged_at-returns-clause-found t c =
@@ -653,30 +419,15 @@ shape_at-returns-in-Tagged-clause-only t c = λ f front rest is is_text deep sto
 pub shape_at-returns-in-Tagged-clause-within : goal.shape_at-returns-in-Tagged-clause-within
 shape_at-returns-in-Tagged-clause-within t c = within_more c.tagged_at.result (c.args.left - 1 + 1) c.args.left (omega (arith, c.if-left-eq0.false)) c.tagged_at.ensures.within
 
-pub tagged_member_at-returns-in_err-first-clause-only : goal.tagged_member_at-returns-in_err-first-clause-only
-tagged_member_at-returns-in_err-first-clause-only t c = λ m front rest is is_text deep stops.
-    let here = member_there c.args.text.now c.args.at m front rest is is_text in
-    let next = mark_first m.optional (here.shape ++ rest) in
-    let both = c.in_ok-number.ensures.only m.id next.first next.others (here.there ∙ ap (λ (x : List ℕ). decimal m.id ++ x) next.is) here.small next.stop in
-    let behind : c.in_ok-number.behind ≡ c.args.at + length (decimal m.id) = same_second _ _ _ _ both in
-    let marked = behind_piece c.args.text.now (decimal m.id) _ c.args.at c.in_ok-number.behind here.there behind in
-    let mark = c.mark_at-is_optional.ensures.only m.optional (here.shape ++ rest) marked in
-    let colon = behind_piece c.args.text.now (mark_text m.optional) _ c.in_ok-number.behind c.mark_at-is_optional.result.1 marked (ap (λ x. x.1) mark) in
-    let bad = c.in_err-first.ensures.only (here.shape ++ rest) colon in
-    absurd (not_read _ _ bad)
+-- ---- one variant, one member of a tagged structure, and items one after the other
 
-pub tagged_member_at-returns-in_err-shape-clause-only : goal.tagged_member_at-returns-in_err-shape-clause-only
-tagged_member_at-returns-in_err-shape-clause-only t c = λ m front rest is is_text deep stops.
-    let p = err_from_is_err_and c.from_residual-in_err-shape.result c.from_residual-in_err-shape.ensures.1 in
-    let here = member_there c.args.text.now c.args.at m front rest is is_text in
-    let next = mark_first m.optional (here.shape ++ rest) in
-    let both = c.in_ok-number.ensures.only m.id next.first next.others (here.there ∙ ap (λ (x : List ℕ). decimal m.id ++ x) next.is) here.small next.stop in
-    let behind : c.in_ok-number.behind ≡ c.args.at + length (decimal m.id) = same_second _ _ _ _ both in
-    let marked = behind_piece c.args.text.now (decimal m.id) _ c.args.at c.in_ok-number.behind here.there behind in
-    let mark = c.mark_at-is_optional.ensures.only m.optional (here.shape ++ rest) marked in
-    let colon = behind_piece c.args.text.now (mark_text m.optional) _ c.in_ok-number.behind c.mark_at-is_optional.result.1 marked (ap (λ x. x.1) mark) in
-    let inside = behind_piece c.args.text.now (codes ":") (here.shape ++ rest) c.mark_at-is_optional.result.1 c.in_ok-first.first colon c.in_ok-first.ensures.end.0 in
-    rw (p.1, p.2) (c.in_err-shape.ensures.only m.form here.shape rest inside here.is_text deep stops)
+pub variant_at-returns-clause-found : goal.variant_at-returns-clause-found
+variant_at-returns-clause-found t c =
+    let first : c.in_ok-first.first ≡ c.in_ok-number.colon + 1 = c.in_ok-first.ensures.end.0 in
+    let number : c.args.at < c.in_ok-number.colon = c.in_ok-number.ensures.end.0 in
+    let behind : c.in_ok-first.first ≤ c.in_ok-shape.end = omega (arith, c.in_ok-shape.ensures.end.0) in
+    let piece = variant_piece c.args.text.now c.in_ok-number.number c.args.at c.in_ok-number.colon c.in_ok-first.first c.in_ok-shape.end (omega arith) (omega arith) behind c.in_ok-number.ensures.found c.in_ok-first.ensures.found in
+    (slice_range c.args.text.now c.in_ok-first.first c.in_ok-shape.end, c.in_ok-number.ensures.fits, c.in_ok-shape.ensures.found, piece)
 
 pub tagged_member_at-returns-clause-found : goal.tagged_member_at-returns-clause-found
 tagged_member_at-returns-clause-found t c =
@@ -689,18 +440,125 @@ tagged_member_at-returns-clause-found t c =
     (omega arith) mark (omega arith) behind c.in_ok-number.ensures.found c.mark_at-is_optional.ensures.found c.in_ok-first.ensures.found in
     rw made (slice_range c.args.text.now c.in_ok-first.first c.in_ok-shape.end, c.in_ok-number.ensures.fits, c.in_ok-shape.ensures.found, piece)
 
+pub members_at-returns-else-has_comma-clause-found : goal.members_at-returns-else-has_comma-clause-found
+members_at-returns-else-has_comma-clause-found t c =
+    all_found members c.loop-items.invariant c.in_ok-item.item c.in_ok-item.end _ (search rules) c.in_ok-end.end c.in_ok-item.ensures.end.0 c.in_ok-item.ensures.found c.in_ok-end.ensures.end.0 c.in_ok-end.ensures.found
+
+pub variants_at-returns-else-has_comma-clause-found : goal.variants_at-returns-else-has_comma-clause-found
+variants_at-returns-else-has_comma-clause-found t c =
+    all_found variants c.loop-items.invariant c.in_ok-item.item c.in_ok-item.end _ (search rules) c.in_ok-end.end c.in_ok-item.ensures.end.0 c.in_ok-item.ensures.found c.in_ok-end.ensures.end.0 c.in_ok-end.ensures.found
+
+pub tagged_members_at-returns-else-has_comma-clause-found : goal.tagged_members_at-returns-else-has_comma-clause-found
+tagged_members_at-returns-else-has_comma-clause-found t c =
+    all_found tagged_members c.loop-items.invariant c.in_ok-item.item c.in_ok-item.end _ (search rules) c.in_ok-end.end c.in_ok-item.ensures.end.0 c.in_ok-item.ensures.found c.in_ok-end.ensures.end.0 c.in_ok-end.ensures.found
+
+pub members_at-returns-else-has_comma-clause-within : goal.members_at-returns-else-has_comma-clause-within
+members_at-returns-else-has_comma-clause-within t c = all_within members c.loop-items.invariant c.in_ok-item.item c.in_ok-item.end _ (search rules) c.in_ok-item.ensures.within
+
+pub variants_at-returns-else-has_comma-clause-within : goal.variants_at-returns-else-has_comma-clause-within
+variants_at-returns-else-has_comma-clause-within t c = all_within variants c.loop-items.invariant c.in_ok-item.item c.in_ok-item.end _ (search rules) c.in_ok-item.ensures.within
+
+pub tagged_members_at-returns-else-has_comma-clause-within : goal.tagged_members_at-returns-else-has_comma-clause-within
+tagged_members_at-returns-else-has_comma-clause-within t c = all_within tagged_members c.loop-items.invariant c.in_ok-item.item c.in_ok-item.end _ (search rules) c.in_ok-item.ensures.within
+
+pub variant_at-returns-in_err-number-clause-only : goal.variant_at-returns-in_err-number-clause-only
+variant_at-returns-in_err-number-clause-only t c = λ v front rest is own deep stops.
+    absurd (not_read _ _ (number_read c.args.text.now front rest own.0 c.args.at v.number (2 ^ 32) false is own.3 own.1 _ c.in_err-number.ensures.only))
+
+pub variant_at-returns-in_err-first-clause-only : goal.variant_at-returns-in_err-first-clause-only
+variant_at-returns-in_err-first-clause-only t c = λ v front rest is own deep stops.
+    let here = after_number c.args.text.now front rest own.0 c.args.at v.number (2 ^ 32) false is own.3 own.1 _ c.in_ok-number.colon c.in_ok-number.ensures.only in
+    absurd (not_read _ _ (c.in_err-first.ensures.only _ here.1))
+
+pub variant_at-returns-in_err-shape-clause-only : goal.variant_at-returns-in_err-shape-clause-only
+variant_at-returns-in_err-shape-clause-only t c = λ v front rest is own deep stops.
+    let here = after_number c.args.text.now front rest own.0 c.args.at v.number (2 ^ 32) false is own.3 own.1 _ c.in_ok-number.colon c.in_ok-number.ensures.only in
+    let inside = behind_piece c.args.text.now (codes ":") (own.0 ++ rest) c.in_ok-number.colon c.in_ok-first.first here.1 c.in_ok-first.ensures.end.0 in
+    rw (passed_on _ _ c.from_residual-in_err-shape.ensures.1) (c.in_err-shape.ensures.only v.form own.0 rest inside own.2 deep stops)
+
+pub variant_at-returns-clause-only : goal.variant_at-returns-clause-only
+variant_at-returns-clause-only t c = λ v front rest is own deep stops.
+    let here = after_number c.args.text.now front rest own.0 c.args.at v.number (2 ^ 32) false is own.3 own.1 _ c.in_ok-number.colon c.in_ok-number.ensures.only in
+    let inside = behind_piece c.args.text.now (codes ":") (own.0 ++ rest) c.in_ok-number.colon c.in_ok-first.first here.1 c.in_ok-first.ensures.end.0 in
+    let read = c.in_ok-shape.ensures.only v.form own.0 rest inside own.2 deep stops in
+    (λ i. record { number = here.0 i; form = read.0 i }, omega (arith, read.1, c.in_ok-first.ensures.end.0, here.2))
+
+pub tagged_member_at-returns-in_err-first-clause-only : goal.tagged_member_at-returns-in_err-first-clause-only
+tagged_member_at-returns-in_err-first-clause-only t c = λ m front rest is own deep stops.
+    let here = after_number c.args.text.now front rest own.0 c.args.at m.id (2 ^ 12) m.optional is own.3 own.1 _ c.in_ok-number.behind c.in_ok-number.ensures.only in
+    let mark = after_mark c.args.text.now (own.0 ++ rest) c.in_ok-number.behind c.mark_at-is_optional.result m.optional here.1 c.mark_at-is_optional.ensures.only in
+    absurd (not_read _ _ (c.in_err-first.ensures.only _ mark.2))
+
+pub tagged_member_at-returns-in_err-shape-clause-only : goal.tagged_member_at-returns-in_err-shape-clause-only
+tagged_member_at-returns-in_err-shape-clause-only t c = λ m front rest is own deep stops.
+    let here = after_number c.args.text.now front rest own.0 c.args.at m.id (2 ^ 12) m.optional is own.3 own.1 _ c.in_ok-number.behind c.in_ok-number.ensures.only in
+    let mark = after_mark c.args.text.now (own.0 ++ rest) c.in_ok-number.behind c.mark_at-is_optional.result m.optional here.1 c.mark_at-is_optional.ensures.only in
+    let inside = behind_piece c.args.text.now (codes ":") (own.0 ++ rest) c.mark_at-is_optional.result.1 c.in_ok-first.first mark.2 c.in_ok-first.ensures.end.0 in
+    rw (passed_on _ _ c.from_residual-in_err-shape.ensures.1) (c.in_err-shape.ensures.only m.form own.0 rest inside own.2 deep stops)
+
 pub tagged_member_at-returns-clause-only : goal.tagged_member_at-returns-clause-only
-tagged_member_at-returns-clause-only t c = λ m front rest is is_text deep stops.
-    let here = member_there c.args.text.now c.args.at m front rest is is_text in
-    let next = mark_first m.optional (here.shape ++ rest) in
-    let both = c.in_ok-number.ensures.only m.id next.first next.others (here.there ∙ ap (λ (x : List ℕ). decimal m.id ++ x) next.is) here.small next.stop in
-    let id : c.in_ok-number.number ≡ m.id = same_first _ _ _ _ both in
-    let behind : c.in_ok-number.behind ≡ c.args.at + length (decimal m.id) = same_second _ _ _ _ both in
-    let marked = behind_piece c.args.text.now (decimal m.id) _ c.args.at c.in_ok-number.behind here.there behind in
-    let mark = c.mark_at-is_optional.ensures.only m.optional (here.shape ++ rest) marked in
-    let colon = behind_piece c.args.text.now (mark_text m.optional) _ c.in_ok-number.behind c.mark_at-is_optional.result.1 marked (ap (λ x. x.1) mark) in
-    let inside = behind_piece c.args.text.now (codes ":") (here.shape ++ rest) c.mark_at-is_optional.result.1 c.in_ok-first.first colon c.in_ok-first.ensures.end.0 in
-    let read = c.in_ok-shape.ensures.only m.form here.shape rest inside here.is_text deep stops in (
-      one_member-made c.in_ok-number.number c.mark_at-is_optional.result.0 c.in_ok-shape.shape ∙ same_member _ _ _ m id (ap (λ x. x.0) mark) read.0,
-      omega (arith, read.1, behind, ap (λ x. x.1) mark, c.in_ok-first.ensures.end.0, here.len),
+tagged_member_at-returns-clause-only t c = λ m front rest is own deep stops.
+    let here = after_number c.args.text.now front rest own.0 c.args.at m.id (2 ^ 12) m.optional is own.3 own.1 _ c.in_ok-number.behind c.in_ok-number.ensures.only in
+    let mark = after_mark c.args.text.now (own.0 ++ rest) c.in_ok-number.behind c.mark_at-is_optional.result m.optional here.1 c.mark_at-is_optional.ensures.only in
+    let inside = behind_piece c.args.text.now (codes ":") (own.0 ++ rest) c.mark_at-is_optional.result.1 c.in_ok-first.first mark.2 c.in_ok-first.ensures.end.0 in
+    let read = c.in_ok-shape.ensures.only m.form own.0 rest inside own.2 deep stops in (
+      one_member-made c.in_ok-number.number c.mark_at-is_optional.result.0 c.in_ok-shape.shape ∙ (λ i. record { id = here.0 i; optional = mark.0 i; form = read.0 i }),
+      omega (arith, read.1, mark.1, c.in_ok-first.ensures.end.0, here.2),
     )
+
+pub members_at-loop-items-init : goal.members_at-loop-items-init
+members_at-loop-items-init t c = none_read members c.args.text.now c.args.at c.args.left c.new-items.result.items c.requires c.new-items.ensures.items
+
+pub variants_at-loop-items-init : goal.variants_at-loop-items-init
+variants_at-loop-items-init t c = none_read variants c.args.text.now c.args.at c.args.left c.new-items.result.items c.requires c.new-items.ensures.items
+
+pub tagged_members_at-loop-items-init : goal.tagged_members_at-loop-items-init
+tagged_members_at-loop-items-init t c = none_read tagged_members c.args.text.now c.args.at c.args.left c.new-items.result.items c.requires c.new-items.ensures.items
+
+pub members_at-loop-items-preserved : goal.members_at-loop-items-preserved
+members_at-loop-items-preserved t c =
+    one_more members c.loop-items.invariant c.in_ok-item.item c.in_ok-item.end _ (search rules)
+    c.in_ok-item.ensures.end.0 (c.if-has_comma.ensures.comma refl) c.in_ok-item.ensures.found c.in_ok-item.ensures.only c.in_ok-item.ensures.within
+
+pub variants_at-loop-items-preserved : goal.variants_at-loop-items-preserved
+variants_at-loop-items-preserved t c =
+    one_more variants c.loop-items.invariant c.in_ok-item.item c.in_ok-item.end _ (search rules)
+    c.in_ok-item.ensures.end.0 (c.if-has_comma.ensures.comma refl) c.in_ok-item.ensures.found c.in_ok-item.ensures.only c.in_ok-item.ensures.within
+
+pub tagged_members_at-loop-items-preserved : goal.tagged_members_at-loop-items-preserved
+tagged_members_at-loop-items-preserved t c =
+    one_more tagged_members c.loop-items.invariant c.in_ok-item.item c.in_ok-item.end _ (search rules)
+    c.in_ok-item.ensures.end.0 (c.if-has_comma.ensures.comma refl) c.in_ok-item.ensures.found c.in_ok-item.ensures.only c.in_ok-item.ensures.within
+
+pub members_at-returns-in_err-item-clause-only : goal.members_at-returns-in_err-item-clause-only
+members_at-returns-in_err-item-clause-only t c = not_one members c.loop-items.invariant _ _ (passed_on _ _ c.from_residual.ensures.1) c.in_err-item.ensures.only
+
+pub variants_at-returns-in_err-item-clause-only : goal.variants_at-returns-in_err-item-clause-only
+variants_at-returns-in_err-item-clause-only t c = not_one variants c.loop-items.invariant _ _ (passed_on _ _ c.from_residual.ensures.1) c.in_err-item.ensures.only
+
+pub tagged_members_at-returns-in_err-item-clause-only : goal.tagged_members_at-returns-in_err-item-clause-only
+tagged_members_at-returns-in_err-item-clause-only t c = not_one tagged_members c.loop-items.invariant _ _ (passed_on _ _ c.from_residual.ensures.1) c.in_err-item.ensures.only
+
+pub members_at-returns-in_err-end-clause-only : goal.members_at-returns-in_err-end-clause-only
+members_at-returns-in_err-end-clause-only t c =
+    no_bracket members c.loop-items.invariant c.in_ok-item.item c.in_ok-item.end _ refl c.in_ok-item.ensures.only c.if-has_comma.ensures.only _ _ c.in_err-end.ensures.only
+
+pub variants_at-returns-in_err-end-clause-only : goal.variants_at-returns-in_err-end-clause-only
+variants_at-returns-in_err-end-clause-only t c =
+    no_bracket variants c.loop-items.invariant c.in_ok-item.item c.in_ok-item.end _ refl c.in_ok-item.ensures.only c.if-has_comma.ensures.only _ _ c.in_err-end.ensures.only
+
+pub tagged_members_at-returns-in_err-end-clause-only : goal.tagged_members_at-returns-in_err-end-clause-only
+tagged_members_at-returns-in_err-end-clause-only t c =
+    no_bracket tagged_members c.loop-items.invariant c.in_ok-item.item c.in_ok-item.end _ refl c.in_ok-item.ensures.only c.if-has_comma.ensures.only _ _ c.in_err-end.ensures.only
+
+pub members_at-returns-else-has_comma-clause-only : goal.members_at-returns-else-has_comma-clause-only
+members_at-returns-else-has_comma-clause-only t c =
+    all_only members c.loop-items.invariant c.in_ok-item.item c.in_ok-item.end _ (search rules) c.in_ok-item.ensures.only c.if-has_comma.ensures.only c.push.new.self c.in_ok-end.end refl c.in_ok-end.ensures.end.0
+
+pub variants_at-returns-else-has_comma-clause-only : goal.variants_at-returns-else-has_comma-clause-only
+variants_at-returns-else-has_comma-clause-only t c =
+    all_only variants c.loop-items.invariant c.in_ok-item.item c.in_ok-item.end _ (search rules) c.in_ok-item.ensures.only c.if-has_comma.ensures.only c.push.new.self c.in_ok-end.end refl c.in_ok-end.ensures.end.0
+
+pub tagged_members_at-returns-else-has_comma-clause-only : goal.tagged_members_at-returns-else-has_comma-clause-only
+tagged_members_at-returns-else-has_comma-clause-only t c =
+    all_only tagged_members c.loop-items.invariant c.in_ok-item.item c.in_ok-item.end _ (search rules) c.in_ok-item.ensures.only c.if-has_comma.ensures.only c.push.new.self c.in_ok-end.end refl c.in_ok-end.ensures.end.0
