@@ -11,6 +11,7 @@ use Rattle.someip_payload_values.specs.declared.shape.Width.TheVariants.{W8, W16
 use Rattle.someip_payload.specs.declared.shape_text.Word.{Word}
 use Rattle.someip_payload.specs.declared.shape_text.Word.TheVariants as word
 use Rattle.someip_payload.specs.declared.shape_text_error.ShapeTextError.{ShapeTextError}
+use Rattle.someip_payload_values.specs.Check.{depth}
 use Rattle.someip_payload_values.specs.Data.{Form}
 use Rattle.someip_payload.specs.ShapeText.{IsTextOf, bool_text, u8_text, u16_text, u32_text, u64_text, i8_text, i16_text, i32_text, i64_text, utf8_text, utf16_text, array_text, fixed_text, struct_text, union_text, tagged_text, width_text, IsDigit, HasNoWidth, IsNoFront, IsReadTo}
 use Rattle.someip_payload_values.specs.View.{form}
@@ -214,23 +215,34 @@ split f text (tagged_text w ms members are) = record { first = word.Tagged; back
 abbrev pub word_read : Word → ℕ → Result (Word × ℕ) ShapeTextError
 word_read w end = Ok (w, end)
 
+-- the word that stands at a place is the one that was read there
+abbrev pub WordOnly : List ℕ → ℕ → Word → ℕ → Type 0
+WordOnly text at w end = (v : Word) (others : List ℕ) → drop at text ≡ word_text v ++ others → word_read w end ≡ Ok (v, at + length (word_text v))
+
+-- what is read at a place, where a shape stands there
+abbrev pub ShapeOnly : List ℕ → ℕ → ℕ → Result (Shape × ℕ) ShapeTextError → Type 0
+ShapeOnly text at most r = (f : Form) (front rest : List ℕ) → drop at text ≡ front ++ rest → IsTextOf f front → depth f ≤ most → HasNoWidth rest → IsReadTo form f (at + length front) r
+
 -- a shape, read by its word
-pub by_word : (text front rest : List ℕ) (at end : ℕ) (f : Form) (w : Word) (r : Result (Shape × ℕ) ShapeTextError) → drop at text ≡ front ++ rest → IsTextOf f front
-    → ((v : Word) (others : List ℕ) → drop at text ≡ word_text v ++ others → word_read w end ≡ Ok (v, at + length (word_text v)))
-    → ((back : List ℕ) → drop end text ≡ back ++ rest → Behind w f back → IsReadTo form f (end + length back) r) → IsReadTo form f (at + length front) r
-by_word text front rest at end f w r is is_text only read =
+pub by_word : (text : List ℕ) (at end most : ℕ) (w v : Word) (r : Result (Shape × ℕ) ShapeTextError) → w ≡ v → WordOnly text at w end
+    → ((f : Form) (back rest : List ℕ) → drop end text ≡ back ++ rest → Behind v f back → depth f ≤ most → HasNoWidth rest → IsReadTo form f (end + length back) r) → ShapeOnly text at most r
+by_word text at end most w v r word only read f front rest is is_text deep stops =
     let s = split f front is_text in
     let here : drop at text ≡ word_text s.first ++ (s.back ++ rest) = is ∙ ap (λ (t : List ℕ). t ++ rest) s.is ∙ append_assoc (word_text s.first) s.back rest in
     let both = only s.first (s.back ++ rest) here in
     let first : w ≡ s.first = same_first w s.first end (at + length (word_text s.first)) both in
     let place : end ≡ at + length (word_text s.first) = same_second w s.first end (at + length (word_text s.first)) both in
-    let behind : Behind w f s.back = subst (λ v. Behind v f s.back) (sym first) s.behind in
+    let behind : Behind v f s.back = subst (λ u. Behind u f s.back) (sym first ∙ word) s.behind in
     let len : end + length s.back ≡ at + length front = omega (arith, place, ap length s.is, length-append (word_text s.first) s.back) in
-    subst (λ n. IsReadTo form f n r) len (read s.back (behind_piece text (word_text s.first) (s.back ++ rest) at end here place) behind)
+    subst (λ n. IsReadTo form f n r) len (read f s.back rest (behind_piece text (word_text s.first) (s.back ++ rest) at end here place) behind deep stops)
 
 -- a shape that is its word
-pub plain : (s : Shape) (f g : Form) (back : List ℕ) (end : ℕ) → form s ≡ g → (f ≡ g) × (back ≡ []) → IsReadTo form f (end + length back) (Ok (s, end))
-plain s f g back end is behind = (is ∙ sym behind.0, omega (arith, ap length behind.1))
+pub plain : (text : List ℕ) (at end most : ℕ) (w v : Word) (s : Shape) (g : Form) → w ≡ v → form s ≡ g → ((f : Form) (back : List ℕ) → Behind v f back → (f ≡ g) × (back ≡ [])) → WordOnly text at w end
+    → ShapeOnly text at most (Ok (s, end))
+plain text at end most w v s g word is own only =
+    by_word text at end most w v (Ok (s, end)) word only (λ f back rest there behind deep stops.
+    let whole = own f back behind in
+    (is ∙ sym whole.0, omega (arith, ap length whole.1)))
 
 -- a text begins with a word
 pub word_there : (text front rest : List ℕ) (at : ℕ) (f : Form) → drop at text ≡ front ++ rest → IsTextOf f front → (w : Word) × (others : List ℕ) × (drop at text ≡ word_text w ++ others)

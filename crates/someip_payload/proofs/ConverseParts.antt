@@ -1,6 +1,5 @@
 -- Each text of a shape is read as it: what its parts are read as.
-use Rattle.std.proofs.Common.{◌≡◌, ℕ, ◌+◌, ◌≤◌, Vec, Global, List, ◌∷◌, ◌++◌, length, drop, codes, Option, ap, ◌∙◌, append_assoc, arith}
-use Rattle.std.specs.Prelude.{Result, Ok, Err, IfOk}
+use Rattle.std.proofs.Common.{◌≡◌, ℕ, ◌+◌, ◌-◌, ◌<◌, ◌≤◌, ◌^◌, Vec, Global, Result, Ok, Err, IfOk, List, ◌∷◌, ◌++◌, length, drop, codes, Option, ap, ◌∙◌, append_assoc, arith}
 use Rattle.std.specs.Fmt.{decimal}
 use Rattle.std.specs.declared.boxed.Box.{Box}
 use Rattle.std.proofs.lemmas.List.{length-append}
@@ -9,29 +8,30 @@ use Rattle.someip_payload_values.specs.declared.shape.Member.{Member}
 use Rattle.someip_payload_values.specs.declared.shape.Encoding.{Encoding}
 use Rattle.someip_payload_values.specs.declared.shape.Encoding.TheVariants.{Utf8, Utf16}
 use Rattle.someip_payload_values.specs.declared.shape.Width.{Width}
+use Rattle.someip_payload.specs.declared.shape_text.Word.{Word}
 use Rattle.someip_payload.specs.declared.shape_text_error.ShapeTextError.{ShapeTextError}
 use Rattle.someip_payload_values.specs.Check.{depth}
-use Rattle.someip_payload_values.specs.Data.{Form, bool, unsigned, signed, string, array, fixed, «struct», union, tagged, Forms, Variants, Members}
-use Rattle.someip_payload.specs.ShapeText.{IsDigit, HasNoWidth, width_text, or_32, repeated_text}
+use Rattle.someip_payload_values.specs.Data.{Form, bool, string, array, «struct», union, tagged, Forms, Variants, Members}
+use Rattle.someip_payload.specs.ShapeText.{IsDigit, HasNoWidth, IsReadTo, width_text, or_32, repeated_text}
 use Rattle.someip_payload_values.specs.View.{form, forms, all_variants, all_members}
 use Rattle.someip_payload.specs.Words.{word_of, Behind}
-use Rattle.someip_payload.proofs.Converse.{behind_piece}
-use Rattle.someip_payload.proofs.ShapePieces.{form-Text, form-Array, form-Struct, form-Union, form-Tagged}
+use Rattle.someip_payload.proofs.Converse.{read_of, same_first, same_second, behind_piece, NumberOnly, WordOnly, ShapeOnly, by_word}
+use Rattle.someip_payload_values.proofs.Shapes.{form-Text, form-Array, form-Struct, form-Union, form-Tagged}
 
 -- two pieces in front of the rest
-pub split_front : (bytes back rest a b : List ℕ) → bytes ≡ back ++ rest → back ≡ a ++ b → bytes ≡ a ++ (b ++ rest)
+split_front : (bytes back rest a b : List ℕ) → bytes ≡ back ++ rest → back ≡ a ++ b → bytes ≡ a ++ (b ++ rest)
 split_front bytes back rest a b is parts = is ∙ ap (λ (t : List ℕ). t ++ rest) parts ∙ append_assoc a b rest
 
-pub some_depth : (f : Form) → 1 ≤ depth f
+-- the depth of a form counts the form itself
+some_depth : (f : Form) → 1 ≤ depth f
 some_depth bool = omega arith
-some_depth (unsigned size) = omega arith
-some_depth (signed size) = omega arith
-some_depth (string encoding width) = omega arith
-some_depth (array width most element) = omega arith
-some_depth (fixed n element) = omega arith
-some_depth («struct» width fs) = omega arith
-some_depth (union vs) = omega arith
-some_depth (tagged width ms) = omega arith
+some_depth _ = omega arith
+
+-- a shape with shapes inside it, read by its word
+pub inner : (text : List ℕ) (at end most : ℕ) (w v : Word) (r : Result (Shape × ℕ) ShapeTextError) → w ≡ v → WordOnly text at w end
+    → ((f : Form) (back rest : List ℕ) → drop end text ≡ back ++ rest → Behind v f back → depth f ≤ (most - 1) + 1 → IsReadTo form f (end + length back) r) → ShapeOnly text at most r
+inner text at end most w v r word only read =
+    by_word text at end most w v r word only (λ f back rest there behind deep stops. read f back rest there behind (omega (arith, deep, some_depth f)))
 
 -- ---- shapes of their parts
 
@@ -75,11 +75,32 @@ no_digit_mark d = omega (arith, d.1)
 pub no_digit_colon : IsDigit 58 → ⊥
 no_digit_colon d = omega (arith, d.1)
 
+-- ---- a width, and what stands after it
+
+-- the width that was read, the place after it, and what stands there
+pub after_width : (text back rest tail : List ℕ) (at from : ℕ) (width w : Option Width) → drop at text ≡ back ++ rest → back ≡ width_text w ++ tail → HasNoWidth (tail ++ rest)
+    → ((v : Option Width) (others : List ℕ) → drop at text ≡ width_text v ++ others → HasNoWidth others → read_of {A = Option Width × ℕ} (width, from) ≡ Ok (v, at + length (width_text v)))
+    → (width ≡ w) × (from ≡ at + length (width_text w)) × (drop from text ≡ tail ++ rest)
+after_width text back rest tail at from width w is parts stops only =
+    let here = split_front (drop at text) back rest (width_text w) tail is parts in
+    let read = only w (tail ++ rest) here stops in
+    let place = same_second _ _ _ _ read in
+    (same_first _ _ _ _ read, place, behind_piece text (width_text w) (tail ++ rest) at from here place)
+
 -- ---- a number of repetitions and what is repeated
 
 pub after_open : (text element rest : List ℕ) (n at from : ℕ) → drop at text ≡ repeated_text n element ++ rest → from ≡ at + 1 → drop from text ≡ decimal n ++ 44 ∷ ((element ++ codes ">") ++ rest)
 after_open text element rest n at from is place =
     behind_piece text (codes "<") ((decimal n ++ (codes "," ++ (element ++ codes ">"))) ++ rest) at from is place ∙ append_assoc (decimal n) (codes "," ++ (element ++ codes ">")) rest
+
+-- the number that was read, the place after it, and what stands there
+pub after_count : (text element rest : List ℕ) (n at from number comma : ℕ) → drop at text ≡ repeated_text n element ++ rest → from ≡ at + 1 → n < 2 ^ 32 → NumberOnly text from (2 ^ 32) (Ok (number, comma))
+    → (number ≡ n) × (comma ≡ from + length (decimal n)) × (drop comma text ≡ 44 ∷ ((element ++ codes ">") ++ rest))
+after_count text element rest n at from number comma is opened small only =
+    let here = after_open text element rest n at from is opened in
+    let read = only n 44 ((element ++ codes ">") ++ rest) here small no_digit_comma in
+    let place = same_second _ _ _ _ read in
+    (same_first _ _ _ _ read, place, behind_piece text (decimal n) _ from comma here place)
 
 pub after_comma : (text element rest : List ℕ) (comma first : ℕ) → drop comma text ≡ 44 ∷ ((element ++ codes ">") ++ rest) → first ≡ comma + 1 → drop first text ≡ element ++ (codes ">" ++ rest)
 after_comma text element rest comma first is place = behind_piece text (codes ",") ((element ++ codes ">") ++ rest) comma first is place ∙ append_assoc element (codes ">") rest
@@ -90,7 +111,7 @@ length-repeated n element =
     let b : length (element ++ codes ">") ≡ length element + 1 = length-append element (codes ">") in
     omega (arith, a, b)
 
--- ---- a structure's brackets
+-- ---- brackets
 
 pub after_bracket : (text inside rest : List ℕ) (at first : ℕ) → drop at text ≡ (codes "(" ++ (inside ++ codes ")")) ++ rest → first ≡ at + 1 → drop first text ≡ inside ++ (codes ")" ++ rest)
 after_bracket text inside rest at first is place = behind_piece text (codes "(") ((inside ++ codes ")") ++ rest) at first is place ∙ append_assoc inside (codes ")") rest

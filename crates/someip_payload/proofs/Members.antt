@@ -11,6 +11,7 @@ use Rattle.someip_payload.proofs.OneAfterOther.{ByFirst, Listing}
 
 -- ---- members
 
+-- the text of members is that of the last one, or of one in front of others
 pub first_member : ByFirst Form Forms form_then no_forms IsTextOf IsTextOfMembers
 first_member P last next fs text (last_member f own is) = last f own is
 first_member P last next fs text (next_member f gs own others is are) = next f gs own others is are
@@ -37,16 +38,20 @@ members = record {
 
 -- ---- variants
 
+-- a variant in front of others
 abbrev pub then_variant : OneVariant → Variants → Variants
 then_variant v vs = variant v.number v.form vs
 
+-- the text of the last variant
 pub variant_last : (v : OneVariant) (text : List ℕ) → IsTextOfVariant v text → IsTextOfVariants (then_variant v no_variants) text
 variant_last v text (shape, small, is, same) = subst (IsTextOfVariants (then_variant v no_variants)) (sym same) (last_variant v.number v.form shape small is)
 
+-- the text of a variant in front of others
 pub variant_next : (v : OneVariant) (vs : Variants) (text others : List ℕ) → IsTextOfVariant v text → IsTextOfVariants vs others → IsTextOfVariants (then_variant v vs) (text ++ (codes "," ++ others))
 variant_next v vs text others (shape, small, is, same) are =
     subst (λ (t : List ℕ). IsTextOfVariants (then_variant v vs) (t ++ (codes "," ++ others))) (sym same) (next_variant v.number v.form vs shape others small is are)
 
+-- the text of variants is one of these two
 pub first_variant : ByFirst OneVariant Variants then_variant no_variants IsTextOfVariant IsTextOfVariants
 first_variant P last next vs text (last_variant n f shape small is) = last (record { number = n; form = f }) (decimal n ++ (codes ":" ++ shape)) (shape, small, is, refl)
 first_variant P last next vs text (next_variant n f ws shape others small is are) = next (record { number = n; form = f }) ws (decimal n ++ (codes ":" ++ shape)) others (shape, small, is, refl) are
@@ -73,16 +78,20 @@ variants = record {
 
 -- ---- members of a tagged structure
 
+-- a member in front of others
 abbrev pub then_tagged : OneMember → Members → Members
 then_tagged m ms = member_then m.id m.optional m.form ms
 
+-- the text of the last member
 pub tagged_last : (m : OneMember) (text : List ℕ) → IsTextOfTaggedMember m text → IsTextOfTaggedMembers (then_tagged m no_members) text
 tagged_last m text (shape, small, is, same) = subst (IsTextOfTaggedMembers (then_tagged m no_members)) (sym same) (last_tagged m.id m.optional m.form shape small is)
 
+-- the text of a member in front of others
 pub tagged_next : (m : OneMember) (ms : Members) (text others : List ℕ) → IsTextOfTaggedMember m text → IsTextOfTaggedMembers ms others → IsTextOfTaggedMembers (then_tagged m ms) (text ++ (codes "," ++ others))
 tagged_next m ms text others (shape, small, is, same) are =
     subst (λ (t : List ℕ). IsTextOfTaggedMembers (then_tagged m ms) (t ++ (codes "," ++ others))) (sym same) (next_tagged m.id m.optional m.form ms shape others small is are)
 
+-- the text of members is one of these two
 pub first_tagged : ByFirst OneMember Members then_tagged no_members IsTextOfTaggedMember IsTextOfTaggedMembers
 first_tagged P last next ms text (last_tagged id optional f shape small is) = last (record { id = id; optional = optional; form = f }) (tagged_member_text id optional shape) (shape, small, is, refl)
 first_tagged P last next ms text (next_tagged id optional f ns shape others small is are) = next (record { id = id; optional = optional; form = f }) ns (tagged_member_text id optional shape) others (shape, small, is, refl) are

@@ -48,14 +48,17 @@ module _ (k : Listing) where
   before [] xs = xs
   before (s ∷ ss) xs = in_front (one s) (before ss xs)
 
+  -- one more item in front of the others
   before-more : (ss : List Item) (s : Item) (xs : All) → before (ss ++ s ∷ []) xs ≡ before ss (in_front (one s) xs)
   before-more [] s xs = refl
   before-more (z ∷ ss) s xs = ap (in_front (one z)) (before-more ss s xs)
 
+  -- no others
   before-none : (ss : List Item) → before ss (all []) ≡ all ss
   before-none [] = refl
   before-none (s ∷ ss) = ap (in_front (one s)) (before-none ss) ∙ sym (all-in_front s ss)
 
+  -- one more item lies no deeper than is allowed
   deepest-push : (ss : List Item) (s : Item) (most : ℕ) → deepest_of (all ss) ≤ most → depth_of (one s) ≤ most → deepest_of (all (ss ++ s ∷ [])) ≤ most
   deepest-push [] s most inside within = rw (all-in_front s [], deepest-in_front (one s) (all [])) (omega (arith, inside, within))
   deepest-push (z ∷ ss) s most inside within =
@@ -69,16 +72,22 @@ module _ (k : Listing) where
   abbrev pub SoFar : List Item → List ℕ → Type 0
   SoFar ss text = (xs : All) (others : List ℕ) → AreText xs others → AreText (before ss xs) (text ++ others)
 
+  -- the text goes on by the next item and a comma
   so_far-more : (ss : List Item) (s : Item) (text own : List ℕ) → SoFar ss text → IsText (one s) own → SoFar (ss ++ s ∷ []) (text ++ (own ++ codes ","))
   so_far-more ss s text own so_far is xs others are =
       rw (before-more ss s xs, append_assoc text (own ++ codes ",") others, append_assoc own (codes ",") others)
       (so_far (in_front (one s) xs) (own ++ (codes "," ++ others)) (next_text (one s) xs own others is are))
 
+  -- the text ends with the last item
   so_far-last : (ss : List Item) (s : Item) (text own : List ℕ) → SoFar ss text → IsText (one s) own → AreText (all (ss ++ s ∷ [])) (text ++ own)
   so_far-last ss s text own so_far is =
       rw (← before-none (ss ++ s ∷ []), before-more ss s (all [])) (so_far (in_front (one s) (all [])) own (last_text (one s) own is))
 
   -- ---- the items that are left, which stand in the text with a bracket after them
+
+  -- what is read at a place, where an item stands there
+  abbrev pub ItemOnly : List ℕ → ℕ → ℕ → Result (Item × ℕ) ShapeTextError → Type 0
+  ItemOnly text most next r = (x : One) (front tail : List ℕ) → drop next text ≡ front ++ tail → IsText x front → depth_of x ≤ most → HasNoWidth tail → IsReadTo one x (next + length front) r
 
   module _ (text : List ℕ) (most stop : ℕ) (xs : All) (rest : List ℕ) where
     -- others at a place, where these were read
@@ -88,6 +97,7 @@ module _ (k : Listing) where
       pub deep : deepest_of ys ≤ most
       pub place : next + length others ≡ stop
 
+    -- the others that are left
     pub record Left (ss : List Item) (next : ℕ) : Type 0 where
       pub ys : All
       pub others : List ℕ
@@ -106,113 +116,87 @@ module _ (k : Listing) where
       comma : drop end text ≡ 44 ∷ tail
       left : Left ss (end + 1)
 
-    -- the next item, and what follows once it was read
-    record Next (ss : List Item) (next : ℕ) : Type 0 where
-      x : One
-      front : List ℕ
-      tail : List ℕ
-      there : drop next text ≡ front ++ tail
-      is_text : IsText x front
-      deep : depth_of x ≤ most
-      stops : HasNoWidth tail
-      follows : (s : Item) (end : ℕ) → (one s ≡ x) × (end ≡ next + length front) → Ended (ss ++ s ∷ []) end ⊎ GoesOn (ss ++ s ∷ []) end
+    -- what follows the next item, unless memory ran out as it was read
+    abbrev After : List Item → Result (Item × ℕ) ShapeTextError → Type 0
+    After ss (Ok r) = Ended (ss ++ r.0 ∷ []) r.1 ⊎ GoesOn (ss ++ r.0 ∷ []) r.1
+    After ss (Err e) = IsReadTo (λ (v : Vec Item Global). all v.items) xs stop (Err e)
 
-    only_one : (ss : List Item) (next : ℕ) (x : One) (own : List ℕ) → IsText x own → Others ss next (in_front x (all [])) own → Next ss next
-    only_one ss next x own is_text h = record {
-      x = x;
-      front = own;
-      tail = 41 ∷ rest;
-      there = h.there;
-      is_text = is_text;
-      deep = omega (arith, h.deep, deepest-in_front x (all []));
-      stops = λ e. omega (arith, e);
-      follows = λ s end read. inl (record {
-        is = sym (before-none (ss ++ s ∷ [])) ∙ before-more ss s (all []) ∙ ap (λ (o : One). before ss (in_front o (all []))) read.0 ∙ sym h.is;
-        bracket = behind_piece text own (41 ∷ rest) next end h.there read.1;
-        place = omega (arith, read.1, h.place);
-      });
-    }
+    -- what was read is an item up to a place, or memory ran out
+    after : (ss : List Item) (x : One) (place : ℕ) (r : Result (Item × ℕ) ShapeTextError) → IsReadTo one x place r → ((s : Item) (end : ℕ) → one s ≡ x → end ≡ place → After ss (Ok (s, end))) → After ss r
+    after ss x place (Ok r) read follows = follows r.0 r.1 read.0 read.1
+    after ss x place (Err e) read follows = read
 
-    and_others : (ss : List Item) (next : ℕ) (x : One) (ys : All) (own others : List ℕ) → IsText x own → AreText ys others → Others ss next (in_front x ys) (own ++ (codes "," ++ others)) → Next ss next
-    and_others ss next x ys own others is_text are h =
+    -- the next item is the last
+    only_one : (ss : List Item) (next : ℕ) (r : Result (Item × ℕ) ShapeTextError) → ItemOnly text most next r → (x : One) (own : List ℕ) → IsText x own → Others ss next (in_front x (all [])) own → After ss r
+    only_one ss next r only x own is h =
+        let deep : depth_of x ≤ most = omega (arith, h.deep, deepest-in_front x (all [])) in
+        after ss x (next + length own) r (only x own (41 ∷ rest) h.there is deep (λ e. omega (arith, e))) (λ s end same place. inl (record {
+          is = sym (before-none (ss ++ s ∷ [])) ∙ before-more ss s (all []) ∙ ap (λ (o : One). before ss (in_front o (all []))) same ∙ sym h.is;
+          bracket = behind_piece text own (41 ∷ rest) next end h.there place;
+          place = omega (arith, place, h.place);
+        }))
+
+    -- others stand after the next item
+    and_others : (ss : List Item) (next : ℕ) (r : Result (Item × ℕ) ShapeTextError) → ItemOnly text most next r
+        → (x : One) (ys : All) (own others : List ℕ) → IsText x own → AreText ys others → Others ss next (in_front x ys) (own ++ (codes "," ++ others)) → After ss r
+    and_others ss next r only x ys own others is are h =
         let tail : List ℕ = others ++ (codes ")" ++ rest) in
         let there : drop next text ≡ own ++ (44 ∷ tail) = h.there ∙ append_assoc own (codes "," ++ others) (codes ")" ++ rest) in
         let deep : (depth_of x ≤ most) × (deepest_of ys ≤ most) = (omega (arith, h.deep, deepest-in_front x ys), omega (arith, h.deep, deepest-in_front x ys)) in
-        record {
-          x = x;
-          front = own;
-          tail = 44 ∷ tail;
-          there = there;
-          is_text = is_text;
-          deep = deep.0;
-          stops = λ e. omega (arith, e);
-          follows = λ s end read.
-              let comma = behind_piece text own (44 ∷ tail) next end there read.1 in
-              let left : Left (ss ++ s ∷ []) (end + 1) = record {
-                ys = ys;
-                others = others;
-                are = are;
-                here = record {
-                  is = h.is ∙ ap (λ (o : One). before ss (in_front o ys)) (sym read.0) ∙ sym (before-more ss s ys);
-                  there = behind_piece text (44 ∷ []) tail end (end + 1) comma refl;
-                  deep = deep.1;
-                  place = omega (arith, h.place, read.1, length-append own (44 ∷ others));
-                };
-              } in
-              inr (record { tail = tail; comma = comma; left = left });
-        }
+        after ss x (next + length own) r (only x own (44 ∷ tail) there is deep.0 (λ e. omega (arith, e))) (λ s end same place.
+        let comma = behind_piece text own (44 ∷ tail) next end there place in
+        let here : Others (ss ++ s ∷ []) (end + 1) ys others = record {
+          is = h.is ∙ ap (λ (o : One). before ss (in_front o ys)) (sym same) ∙ sym (before-more ss s ys);
+          there = behind_piece text (44 ∷ []) tail end (end + 1) comma refl;
+          deep = deep.1;
+          place = omega (arith, h.place, place, length-append own (44 ∷ others));
+        } in
+        inr (record { tail = tail; comma = comma; left = record { ys = ys; others = others; are = are; here = here } }))
 
-    next_of : (ss : List Item) (next : ℕ) → Left ss next → Next ss next
-    next_of ss next l = by_first (λ ys others. Others ss next ys others → Next ss next) (only_one ss next) (and_others ss next) l.ys l.others l.are l.here
-
-    at_comma : (ss : List Item) (s : Item) (next end : ℕ) (n : Next ss next) → (one s ≡ n.x) × (end ≡ next + length n.front) → get_or text end 0 ≡ 44 → Left (ss ++ s ∷ []) (end + 1)
-    at_comma ss s next end n read comma =
-        ⊎_elim (λ (h : Ended (ss ++ s ∷ []) end). absurd (omega (arith, comma, byte_there text rest 41 end h.bracket))) (λ (h : GoesOn (ss ++ s ∷ []) end). h.left) (n.follows s end read)
-
-    at_end : (ss : List Item) (s : Item) (next end : ℕ) (n : Next ss next) → (one s ≡ n.x) × (end ≡ next + length n.front) → ((others : List ℕ) → drop end text ≡ 44 ∷ others → IsTrue false) → Ended (ss ++ s ∷ []) end
-    at_end ss s next end n read none =
-        ⊎_elim (λ (h : Ended (ss ++ s ∷ []) end). h) (λ (h : GoesOn (ss ++ s ∷ []) end). absurd (false≢true (none h.tail h.comma))) (n.follows s end read)
+    -- the next item, whichever it is
+    step : (ss : List Item) (next : ℕ) (r : Result (Item × ℕ) ShapeTextError) → ItemOnly text most next r → Left ss next → After ss r
+    step ss next r only l = by_first (λ ys others. Others ss next ys others → After ss r) (only_one ss next r only) (and_others ss next r only) l.ys l.others l.are l.here
 
   -- ---- a loop that reads them
 
-  -- what is read at a place, where an item stands there
-  abbrev pub ItemOnly : List ℕ → ℕ → ℕ → Result (Item × ℕ) ShapeTextError → Type 0
-  ItemOnly text most next r = (x : One) (front tail : List ℕ) → drop next text ≡ front ++ tail → IsText x front → depth_of x ≤ most → HasNoWidth tail → IsReadTo one x (next + length front) r
+  -- what holds of all items, where their text and a bracket stand at a place
+  abbrev pub WhereAll : List ℕ → ℕ → ℕ → (All → ℕ → List ℕ → Type 0) → Type 0
+  WhereAll text at most P = (xs : All) (whole rest : List ℕ) → drop at text ≡ whole ++ (codes ")" ++ rest) → AreText xs whole → deepest_of xs ≤ most → P xs (length whole) rest
 
-  -- what is read from a place on, where items and a bracket stand there
+  -- what is read there
   abbrev pub AllOnly : List ℕ → ℕ → ℕ → Result (Vec Item Global × ℕ) ShapeTextError → Type 0
-  AllOnly text most at r =
-      (xs : All) (whole rest : List ℕ) → drop at text ≡ whole ++ (codes ")" ++ rest) → AreText xs whole → deepest_of xs ≤ most → IsReadTo (λ v. all v.items) xs (at + (length whole + 1)) r
+  AllOnly text at most r = WhereAll text at most (λ xs len rest. IsReadTo (λ v. all v.items) xs (at + (len + 1)) r)
 
   -- these items were read, up to this place
   pub record Reading (text : List ℕ) (at most : ℕ) (ss : List Item) (next : ℕ) : Type 0 where
     pub from : at ≤ next
     pub inside : next ≤ length text
     pub so_far : SoFar ss (slice_range text at next)
-    pub others : (xs : All) (whole rest : List ℕ) → drop at text ≡ whole ++ (codes ")" ++ rest) → AreText xs whole → deepest_of xs ≤ most → Left text most (at + length whole) xs rest ss next
+    pub left : WhereAll text at most (λ xs len rest. Left text most (at + len) xs rest ss next)
     pub within : deepest_of (all ss) ≤ most
 
+  -- at the beginning no item was read
   pub none_read : (text : List ℕ) (at most : ℕ) (ss : List Item) → at ≤ length text → ss ≡ [] → Reading text at most ss at
   none_read text at most ss inside none = rw none (record {
     from = omega arith;
     inside = inside;
     so_far = λ xs others are. rw (slice_range-empty text at) are;
-    others = λ xs whole rest is are deep. record { ys = xs; others = whole; are = are; here = record { is = refl; there = is; deep = deep; place = refl } };
+    left = λ xs whole rest is are deep. record { ys = xs; others = whole; are = are; here = record { is = refl; there = is; deep = deep; place = refl } };
     within = rw deepest-none (omega arith);
   })
 
   module _ {text : List ℕ} {at most : ℕ} {ss : List Item} {next : ℕ} (h : Reading text at most ss next) where
-    next_there : (xs : All) (whole rest : List ℕ) → drop at text ≡ whole ++ (codes ")" ++ rest) → AreText xs whole → deepest_of xs ≤ most → Next text most (at + length whole) xs rest ss next
-    next_there xs whole rest is are deep = next_of text most (at + length whole) xs rest ss next (h.others xs whole rest is are deep)
+    -- what follows the next item, of whatever they are
+    next_step : (r : Result (Item × ℕ) ShapeTextError) → ItemOnly text most next r → WhereAll text at most (λ xs len rest. After text most (at + len) xs rest ss r)
+    next_step r only xs whole rest there are deep = step text most (at + length whole) xs rest ss next r only (h.left xs whole rest there are deep)
 
     -- no item could be read
-    pub not_one : (e : ShapeTextError) (r : Result (Vec Item Global × ℕ) ShapeTextError) → r ≡ Err e → ItemOnly text most next (Err e) → AllOnly text most at r
-    not_one e r is only = subst (AllOnly text most at) (sym is) (λ xs whole rest there are deep.
-        let n = next_there xs whole rest there are deep in
-        only n.x n.front n.tail n.there n.is_text n.deep n.stops)
+    pub not_one : (e : ShapeTextError) (r : Result (Vec Item Global × ℕ) ShapeTextError) → r ≡ Err e → ItemOnly text most next (Err e) → AllOnly text at most r
+    not_one e r is only = subst (AllOnly text at most) (sym is) (next_step (Err e) only)
 
     -- an item was read after them, up to this place
     module _ (s : Item) (end : ℕ) (ts : List Item) (pushed : ts ≡ ss ++ s ∷ []) where
+      -- they lie no deeper than is allowed
       pub all_within : depth_of (one s) ≤ most → deepest_of (all ts) ≤ most
       all_within within = rw pushed (deepest-push ss s most h.within within)
 
@@ -226,9 +210,9 @@ module _ (k : Listing) where
             from = omega (arith, h.from, past);
             inside = omega (arith, comma.0);
             so_far = rw piece (so_far-more ss s (slice_range text at next) (slice_range text next end) h.so_far is);
-            others = λ xs whole rest there are deep.
-                let n = next_there xs whole rest there are deep in
-                at_comma text most (at + length whole) xs rest ss s next end n (only n.x n.front n.tail n.there n.is_text n.deep n.stops) comma.1;
+            left = λ xs whole rest there are deep.
+                ⊎_elim (λ (d : Ended text most (at + length whole) xs rest (ss ++ s ∷ []) end). absurd (omega (arith, comma.1, byte_there text rest 41 end d.bracket))) (λ (g : GoesOn text most (at + length whole) xs rest (ss ++ s ∷ []) end). g.left)
+                (next_step (Ok (s, end)) only xs whole rest there are deep);
             within = deepest-push ss s most h.within within;
           })
 
@@ -244,16 +228,18 @@ module _ (k : Listing) where
 
       -- no comma stands after it
       module _ (only : ItemOnly text most next (Ok (s, end))) (none : (others : List ℕ) → drop end text ≡ 44 ∷ others → IsTrue false) where
-        ended : (xs : All) (whole rest : List ℕ) → drop at text ≡ whole ++ (codes ")" ++ rest) → AreText xs whole → deepest_of xs ≤ most → Ended text most (at + length whole) xs rest (ss ++ s ∷ []) end
+        -- they are all
+        ended : WhereAll text at most (λ xs len rest. Ended text most (at + len) xs rest (ss ++ s ∷ []) end)
         ended xs whole rest there are deep =
-            let n = next_there xs whole rest there are deep in
-            at_end text most (at + length whole) xs rest ss s next end n (only n.x n.front n.tail n.there n.is_text n.deep n.stops) none
+            ⊎_elim (λ (d : Ended text most (at + length whole) xs rest (ss ++ s ∷ []) end). d) (λ (g : GoesOn text most (at + length whole) xs rest (ss ++ s ∷ []) end). absurd (false≢true (none g.tail g.comma)))
+            (next_step (Ok (s, end)) only xs whole rest there are deep)
 
-        pub all_only : (v : Vec Item Global) (last : ℕ) → v.items ≡ ts → last ≡ end + 1 → AllOnly text most at (Ok (v, last))
+        -- the bracket was read
+        pub all_only : (v : Vec Item Global) (last : ℕ) → v.items ≡ ts → last ≡ end + 1 → AllOnly text at most (Ok (v, last))
         all_only v last own place xs whole rest there are deep =
-            let e = ended xs whole rest there are deep in
-            (ap all (own ∙ pushed) ∙ e.is, omega (arith, e.place, place))
+            let d = ended xs whole rest there are deep in
+            (ap all (own ∙ pushed) ∙ d.is, omega (arith, d.place, place))
 
         -- a fault at the bracket
-        pub no_bracket : (e : ShapeTextError) (r : Result (Vec Item Global × ℕ) ShapeTextError) → ((others : List ℕ) → drop end text ≡ 41 ∷ others → fault_of {A = ℕ} e ≡ Ok (end + 1)) → AllOnly text most at r
+        pub no_bracket : (e : ShapeTextError) (r : Result (Vec Item Global × ℕ) ShapeTextError) → ((others : List ℕ) → drop end text ≡ 41 ∷ others → fault_of {A = ℕ} e ≡ Ok (end + 1)) → AllOnly text at most r
         no_bracket e r bad xs whole rest there are deep = absurd (not_read e (end + 1) (bad rest (ended xs whole rest there are deep).bracket))

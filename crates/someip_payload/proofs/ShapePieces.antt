@@ -4,58 +4,18 @@ use Rattle.std.specs.Prelude.{Bool as Bit, Result, Ok, Err, IfOk}
 use Rattle.std.specs.Fmt.{decimal}
 use Rattle.std.specs.declared.boxed.Box.{Box}
 use Rattle.someip_payload.specs.declared.shape_text_error.ShapeTextError.{ShapeTextError}
-use Rattle.someip_payload_values.specs.declared.shape.Shape.{Shape, Bool, U8, U16, U32, U64, I8, I16, I32, I64, Text, Array, Fixed, Struct, Union, Tagged, the_lemmas}
+use Rattle.someip_payload_values.specs.declared.shape.Shape.{Shape, Text, Array, Fixed, Struct, Union, Tagged, the_lemmas}
 use Rattle.someip_payload_values.specs.declared.shape.Member.{Member, roll-Member}
 use Rattle.someip_payload_values.specs.declared.shape.Encoding.{Encoding}
 use Rattle.someip_payload_values.specs.declared.shape.Encoding.TheVariants.{Utf8, Utf16}
 use Rattle.someip_payload_values.specs.declared.shape.Width.{Width}
-use Rattle.someip_payload_values.specs.Data.{bool, u8, u16, u32, u64, i8, i16, i32, i64, string, array, fixed, «struct», union, tagged}
+use Rattle.someip_payload_values.specs.Data.{Form}
+use Rattle.someip_payload_values.proofs.Shapes.{form-Text, form-Array, form-Fixed, form-Struct, form-Union, form-Tagged}
 use Rattle.someip_payload_values.specs.View.{form, forms, all_variants, all_members, one_member}
-use Rattle.someip_payload.specs.ShapeText.{IsTextOf, IsTextOfMembers, IsTextOfVariants, IsTextOfTaggedMembers, bool_text, u8_text, u16_text, u32_text, u64_text, i8_text, i16_text, i32_text, i64_text, utf8_text, utf16_text, array_text, fixed_text, struct_text, union_text, tagged_text, width_text, or_32, repeated_text}
+use Rattle.someip_payload.specs.ShapeText.{IsTextOf, IsTextOfMembers, IsTextOfVariants, IsTextOfTaggedMembers, utf8_text, utf16_text, array_text, fixed_text, struct_text, union_text, tagged_text, width_text, or_32, repeated_text}
+use Rattle.someip_payload.specs.declared.shape_text.Word.{Word}
 use Rattle.someip_payload.specs.Words.{word_text, word_of}
 use Rattle.someip_payload.proofs.Pieces.{slice_range-append}
-
-pub form-U8 : form U8 ≡ u8
-form-U8 = search (rules, the_lemmas)
-
-pub form-U16 : form U16 ≡ u16
-form-U16 = search (rules, the_lemmas)
-
-pub form-U32 : form U32 ≡ u32
-form-U32 = search (rules, the_lemmas)
-
-pub form-U64 : form U64 ≡ u64
-form-U64 = search (rules, the_lemmas)
-
-pub form-I8 : form I8 ≡ i8
-form-I8 = search (rules, the_lemmas)
-
-pub form-I16 : form I16 ≡ i16
-form-I16 = search (rules, the_lemmas)
-
-pub form-I32 : form I32 ≡ i32
-form-I32 = search (rules, the_lemmas)
-
-pub form-I64 : form I64 ≡ i64
-form-I64 = search (rules, the_lemmas)
-
-pub form-Text : (e : Encoding) (w : Width) → form (Text e w) ≡ string e w
-form-Text e w = search (rules, the_lemmas)
-
-pub form-Array : (w : Width) (n : ℕ) (b : Box Shape Global) → form (Array w n b) ≡ array w n (form b.value)
-form-Array w n b = search (rules, the_lemmas)
-
-pub form-Fixed : (n : ℕ) (b : Box Shape Global) → form (Fixed n b) ≡ fixed n (form b.value)
-form-Fixed n b = search (rules, the_lemmas)
-
-pub form-Struct : (w : Option Width) (ss : Vec Shape Global) → form (Struct w ss) ≡ «struct» w (forms ss.items)
-form-Struct w ss = search (rules, the_lemmas)
-
-pub form-Union : (vs : Vec (ℕ × Shape) Global) → form (Union vs) ≡ union (all_variants vs.items)
-form-Union vs = search (rules, the_lemmas)
-
-pub form-Tagged : (width : Width) (ms : Vec Member Global) → form (Tagged width ms) ≡ tagged width (all_members ms.items)
-form-Tagged width ms = search (rules, the_lemmas)
 
 abbrev pub made_member : ℕ → Bit → Shape → Member
 made_member id optional s = roll-Member (record { id = id; is_optional = optional; shape = s })
@@ -63,32 +23,9 @@ made_member id optional s = roll-Member (record { id = id; is_optional = optiona
 pub one_member-made : (id : ℕ) (optional : Bit) (s : Shape) → one_member (made_member id optional s) ≡ record { id = id; optional = optional; form = form s }
 one_member-made id optional s = search (rules, the_lemmas)
 
-pub bool_shape : (piece : List ℕ) → piece ≡ codes "bool" → IsTextOf (form Bool) piece
-bool_shape piece is = let e : form Bool ≡ bool = search (rules, the_lemmas) in rw (e, is) bool_text
-
-pub u8_shape : (piece : List ℕ) → piece ≡ codes "u8" → IsTextOf (form U8) piece
-u8_shape piece is = let e : form U8 ≡ u8 = search (rules, the_lemmas) in rw (e, is) u8_text
-
-pub u16_shape : (piece : List ℕ) → piece ≡ codes "u16" → IsTextOf (form U16) piece
-u16_shape piece is = let e : form U16 ≡ u16 = search (rules, the_lemmas) in rw (e, is) u16_text
-
-pub u32_shape : (piece : List ℕ) → piece ≡ codes "u32" → IsTextOf (form U32) piece
-u32_shape piece is = let e : form U32 ≡ u32 = search (rules, the_lemmas) in rw (e, is) u32_text
-
-pub u64_shape : (piece : List ℕ) → piece ≡ codes "u64" → IsTextOf (form U64) piece
-u64_shape piece is = let e : form U64 ≡ u64 = search (rules, the_lemmas) in rw (e, is) u64_text
-
-pub i8_shape : (piece : List ℕ) → piece ≡ codes "i8" → IsTextOf (form I8) piece
-i8_shape piece is = let e : form I8 ≡ i8 = search (rules, the_lemmas) in rw (e, is) i8_text
-
-pub i16_shape : (piece : List ℕ) → piece ≡ codes "i16" → IsTextOf (form I16) piece
-i16_shape piece is = let e : form I16 ≡ i16 = search (rules, the_lemmas) in rw (e, is) i16_text
-
-pub i32_shape : (piece : List ℕ) → piece ≡ codes "i32" → IsTextOf (form I32) piece
-i32_shape piece is = let e : form I32 ≡ i32 = search (rules, the_lemmas) in rw (e, is) i32_text
-
-pub i64_shape : (piece : List ℕ) → piece ≡ codes "i64" → IsTextOf (form I64) piece
-i64_shape piece is = let e : form I64 ≡ i64 = search (rules, the_lemmas) in rw (e, is) i64_text
+-- a shape that is its word
+pub plain_shape : (s : Shape) (f : Form) (word piece : List ℕ) → form s ≡ f → IsTextOf f word → piece ≡ word → IsTextOf (form s) piece
+plain_shape s f word piece own is same = rw (own, same) is
 
 pub string_shape : (e : Encoding) (w : Option Width) (meant : Width) (piece : List ℕ) → meant ≡ or_32 w → piece ≡ width_text w → IsTextOf (form (Text e meant)) (word_text (word_of e) ++ piece)
 string_shape Utf8 w meant piece is is_piece = rw (form-Text Utf8 meant, is, is_piece) (utf8_text w)
@@ -138,8 +75,8 @@ repeated_piece text n at from comma first last end le le2 le3 le4 le5 before num
     )
 
 -- a word and what was read after it
-pub behind_word : (r : Result (Shape × ℕ) ShapeTextError) (text word : List ℕ) (at end : ℕ) → at < end → slice_range text at end ≡ word
-    → IfOk r (λ x. (end ≤ x.1) × (x.1 ≤ length text)) → IfOk r (λ x. IsTextOf (form x.0) (word ++ slice_range text end x.1))
+pub behind_word : (r : Result (Shape × ℕ) ShapeTextError) (text : List ℕ) (w v : Word) (at end : ℕ) → w ≡ v → at < end → slice_range text at end ≡ word_text w
+    → IfOk r (λ x. (end ≤ x.1) × (x.1 ≤ length text)) → IfOk r (λ x. IsTextOf (form x.0) (word_text v ++ slice_range text end x.1))
     → IfOk r (λ x. IsTextOf (form x.0) (slice_range text at x.1))
-behind_word (Ok x) text word at end lt is bounds found = rw (← slice_range-append text at end x.1 (omega arith) bounds.0, is) found
-behind_word (Err e) text word at end lt is bounds found = tt
+behind_word (Ok x) text w v at end same lt is bounds found = rw (← slice_range-append text at end x.1 (omega arith) bounds.0, is, same) found
+behind_word (Err e) text w v at end same lt is bounds found = tt

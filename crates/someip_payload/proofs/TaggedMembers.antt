@@ -15,16 +15,19 @@ record MarkFirst (optional : Bool) (tail : List ℕ) : Type 0 where
   is : mark_text optional ++ (58 ∷ tail) ≡ first ∷ others
   stop : IsDigit first → ⊥
 
+-- a question mark or a colon
 mark_first : (optional : Bool) (tail : List ℕ) → MarkFirst optional tail
 mark_first true tail = record { first = 63; others = 58 ∷ tail; is = refl; stop = no_digit_mark }
 mark_first false tail = record { first = 58; others = tail; is = refl; stop = no_digit_colon }
 
 module _ (text front rest shape : List ℕ) (at n limit : ℕ) (optional : Bool) (is : drop at text ≡ front ++ rest) (same : front ≡ tagged_member_text n optional shape) (small : n < limit) where
+  -- its parts, one after the other
   there : drop at text ≡ decimal n ++ (mark_text optional ++ (58 ∷ (shape ++ rest)))
   there =
       is ∙ ap (λ (t : List ℕ). t ++ rest) same ∙ append_assoc (decimal n) (mark_text optional ++ (58 ∷ shape)) rest
       ∙ ap (λ (t : List ℕ). decimal n ++ t) (append_assoc (mark_text optional) (58 ∷ shape) rest)
 
+  -- what is read as a number is its number
   pub number_read : (r : Result (ℕ × ℕ) ShapeTextError) → NumberOnly text at limit r → r ≡ Ok (n, at + length (decimal n))
   number_read r only =
       let next = mark_first optional (shape ++ rest) in
@@ -50,12 +53,14 @@ after_mark text tail behind marked optional is only =
     let place : marked.1 ≡ behind + length (mark_text optional) = ap (λ (x : Bool × ℕ). x.1) read in
     (ap (λ (x : Bool × ℕ). x.0) read, place, behind_piece text (mark_text optional) (58 ∷ tail) behind marked.1 is place)
 
+-- the piece of a text between the first and the last place of its parts
 pub member_piece : (text : List ℕ) (id : ℕ) (optional : Bool) (at behind colon first end : ℕ) → at ≤ behind → behind ≤ colon → colon ≤ first → first ≤ end
     → slice_range text at behind ≡ decimal id → slice_range text behind colon ≡ mark_text optional → slice_range text colon first ≡ codes ":"
     → slice_range text at end ≡ tagged_member_text id optional (slice_range text first end)
 member_piece text id optional at behind colon first end le le2 le3 le4 number mark is =
     rw (← slice_range-append text at behind end le (omega arith), ← slice_range-append text behind colon end le2 (omega arith), ← slice_range-append text colon first end le3 le4, number, mark, is)
 
+-- the same without a mark
 pub variant_piece : (text : List ℕ) (n at colon first end : ℕ) → at ≤ colon → colon ≤ first → first ≤ end → slice_range text at colon ≡ decimal n → slice_range text colon first ≡ codes ":"
     → slice_range text at end ≡ decimal n ++ (codes ":" ++ slice_range text first end)
 variant_piece text n at colon first end le le2 le3 number is = member_piece text n false at colon colon first end le (omega arith) le2 le3 number (slice_range-empty text colon) is

@@ -1,19 +1,68 @@
-use Rattle.std.proofs.Common.{rules, ◌≡◌, ℕ, ◌+◌, ◌-◌, ◌<◌, ◌≤◌, List, ◌++◌, ◌∷◌, length, slice_range, codes, Ok, refl, ap, ◌∙◌, arith, ◌^◌, false}
-use Rattle.std.specs.Fmt.{decimal}
-use Rattle.std.proofs.lemmas.Result.{err_from_is_err_and}
+use Rattle.std.proofs.Common.{rules, ◌≡◌, ℕ, ◌+◌, ◌-◌, ◌<◌, ◌≤◌, ◌^◌, false, List, ◌++◌, ◌∷◌, length, slice_range, codes, refl, ap, ◌∙◌, arith}
 use Rattle.std.proofs.lemmas.List.{length-append}
-use Rattle.someip_payload_values.specs.declared.shape.Shape.{U8, U16, U32, U64, I8, I16, I32, I64}
-use Rattle.someip_payload_values.specs.Data.{u8, u16, u32, u64, i8, i16, i32, i64}
-use Rattle.someip_payload_values.specs.Check.{depth, deepest, deepest_variant, deepest_member}
-use Rattle.someip_payload.specs.ShapeText.{repeated_text, width_text}
-use Rattle.someip_payload.proofs.Converse.{by_word, plain, word_there, behind_piece, same_first, same_second, not_read, passed_on}
-use Rattle.someip_payload.proofs.ConverseParts.{split_front, some_depth, array_is, struct_is, union_is, tagged_is, stops_repeated, stops_bracket, stops_end, no_digit_comma, after_open, after_comma, length-repeated, after_bracket, within_more}
+use Rattle.someip_payload_values.specs.declared.shape.Shape.{Bool, U8, U16, U32, U64, I8, I16, I32, I64}
+use Rattle.someip_payload_values.specs.Data.{bool, u8, u16, u32, u64, i8, i16, i32, i64}
+use Rattle.someip_payload_values.specs.Check.{depth}
+use Rattle.someip_payload.specs.ShapeText.{repeated_text, width_text, bool_text, u8_text, u16_text, u32_text, u64_text, i8_text, i16_text, i32_text, i64_text}
 use Rattle.someip_payload.specs.Words.{word_text}
-use Rattle.someip_payload.proofs.ShapePieces.{bool_shape, u8_shape, u16_shape, u32_shape, u64_shape, i8_shape, i16_shape, i32_shape, i64_shape, form-Array, form-Fixed, form-Struct, form-Union, form-Tagged, one_member-made, form-U8, form-U16, form-U32, form-U64, form-I8, form-I16, form-I32, form-I64, behind_word, array_shape, fixed_shape, struct_shape, union_shape, tagged_shape, repeated_piece}
+use Rattle.someip_payload.proofs.Converse.{by_word, plain, word_there, behind_piece, not_read, passed_on}
+use Rattle.someip_payload.proofs.ConverseParts.{inner, array_is, struct_is, union_is, tagged_is, stops_repeated, stops_bracket, stops_end, no_digit_comma, after_width, after_open, after_count, after_comma, length-repeated, after_bracket, within_more}
+use Rattle.someip_payload_values.proofs.Shapes.{form-Bool, form-U8, form-U16, form-U32, form-U64, form-I8, form-I16, form-I32, form-I64, form-Array, form-Fixed, form-Struct, form-Union, form-Tagged}
+use Rattle.someip_payload.proofs.ShapePieces.{plain_shape, behind_word, array_shape, fixed_shape, struct_shape, union_shape, tagged_shape, repeated_piece, one_member-made}
+use Rattle.someip_payload.proofs.TaggedMembers.{number_read, after_number, after_mark, member_piece, variant_piece}
 use Rattle.someip_payload.proofs.Members.{members, variants, tagged_members}
-use Rattle.someip_payload.proofs.TaggedMembers.{member_piece, number_read, after_number, after_mark, variant_piece}
 use Rattle.someip_payload.proofs.OneAfterOther.{none_read, not_one, one_more, all_found, all_within, all_only, no_bracket}
 use Rattle.someip_payload.proofs.shape_text.+shape.Goals as goal
+
+-- ---- what was read is the text of a shape
+
+pub shape_at-returns-in-Bool-clause-found : goal.shape_at-returns-in-Bool-clause-found
+shape_at-returns-in-Bool-clause-found t c = plain_shape Bool bool _ _ form-Bool bool_text (c.in_ok-word.ensures.found ∙ ap word_text c.in-Bool.is)
+
+pub shape_at-returns-in-U8-clause-found : goal.shape_at-returns-in-U8-clause-found
+shape_at-returns-in-U8-clause-found t c = plain_shape U8 u8 _ _ form-U8 u8_text (c.in_ok-word.ensures.found ∙ ap word_text c.in-U8.is)
+
+pub shape_at-returns-in-U16-clause-found : goal.shape_at-returns-in-U16-clause-found
+shape_at-returns-in-U16-clause-found t c = plain_shape U16 u16 _ _ form-U16 u16_text (c.in_ok-word.ensures.found ∙ ap word_text c.in-U16.is)
+
+pub shape_at-returns-in-U32-clause-found : goal.shape_at-returns-in-U32-clause-found
+shape_at-returns-in-U32-clause-found t c = plain_shape U32 u32 _ _ form-U32 u32_text (c.in_ok-word.ensures.found ∙ ap word_text c.in-U32.is)
+
+pub shape_at-returns-in-U64-clause-found : goal.shape_at-returns-in-U64-clause-found
+shape_at-returns-in-U64-clause-found t c = plain_shape U64 u64 _ _ form-U64 u64_text (c.in_ok-word.ensures.found ∙ ap word_text c.in-U64.is)
+
+pub shape_at-returns-in-I8-clause-found : goal.shape_at-returns-in-I8-clause-found
+shape_at-returns-in-I8-clause-found t c = plain_shape I8 i8 _ _ form-I8 i8_text (c.in_ok-word.ensures.found ∙ ap word_text c.in-I8.is)
+
+pub shape_at-returns-in-I16-clause-found : goal.shape_at-returns-in-I16-clause-found
+shape_at-returns-in-I16-clause-found t c = plain_shape I16 i16 _ _ form-I16 i16_text (c.in_ok-word.ensures.found ∙ ap word_text c.in-I16.is)
+
+pub shape_at-returns-in-I32-clause-found : goal.shape_at-returns-in-I32-clause-found
+shape_at-returns-in-I32-clause-found t c = plain_shape I32 i32 _ _ form-I32 i32_text (c.in_ok-word.ensures.found ∙ ap word_text c.in-I32.is)
+
+pub shape_at-returns-in-I64-clause-found : goal.shape_at-returns-in-I64-clause-found
+shape_at-returns-in-I64-clause-found t c = plain_shape I64 i64 _ _ form-I64 i64_text (c.in_ok-word.ensures.found ∙ ap word_text c.in-I64.is)
+
+pub shape_at-returns-in-Utf8-clause-found : goal.shape_at-returns-in-Utf8-clause-found
+shape_at-returns-in-Utf8-clause-found t c = behind_word c.string_at.result _ _ _ _ _ c.in-Utf8.is c.in_ok-word.ensures.end.0 c.in_ok-word.ensures.found c.string_at.ensures.end c.string_at.ensures.found
+
+pub shape_at-returns-in-Utf16-clause-found : goal.shape_at-returns-in-Utf16-clause-found
+shape_at-returns-in-Utf16-clause-found t c = behind_word c.string_at-in-Utf16.result _ _ _ _ _ c.in-Utf16.is c.in_ok-word.ensures.end.0 c.in_ok-word.ensures.found c.string_at-in-Utf16.ensures.end c.string_at-in-Utf16.ensures.found
+
+pub shape_at-returns-in-Array-clause-found : goal.shape_at-returns-in-Array-clause-found
+shape_at-returns-in-Array-clause-found t c = behind_word c.array_at.result _ _ _ _ _ c.in-Array.is c.in_ok-word.ensures.end.0 c.in_ok-word.ensures.found c.array_at.ensures.end c.array_at.ensures.found
+
+pub shape_at-returns-in-Fixed-clause-found : goal.shape_at-returns-in-Fixed-clause-found
+shape_at-returns-in-Fixed-clause-found t c = behind_word c.fixed_at.result _ _ _ _ _ c.in-Fixed.is c.in_ok-word.ensures.end.0 c.in_ok-word.ensures.found c.fixed_at.ensures.end c.fixed_at.ensures.found
+
+pub shape_at-returns-in-Struct-clause-found : goal.shape_at-returns-in-Struct-clause-found
+shape_at-returns-in-Struct-clause-found t c = behind_word c.struct_at.result _ _ _ _ _ c.in-Struct.is c.in_ok-word.ensures.end.0 c.in_ok-word.ensures.found c.struct_at.ensures.end c.struct_at.ensures.found
+
+pub shape_at-returns-in-Union-clause-found : goal.shape_at-returns-in-Union-clause-found
+shape_at-returns-in-Union-clause-found t c = behind_word c.union_at.result _ _ _ _ _ c.in-Union.is c.in_ok-word.ensures.end.0 c.in_ok-word.ensures.found c.union_at.ensures.end c.union_at.ensures.found
+
+pub shape_at-returns-in-Tagged-clause-found : goal.shape_at-returns-in-Tagged-clause-found
+shape_at-returns-in-Tagged-clause-found t c = behind_word c.tagged_at.result _ _ _ _ _ c.in-Tagged.is c.in_ok-word.ensures.end.0 c.in_ok-word.ensures.found c.tagged_at.ensures.end c.tagged_at.ensures.found
 
 pub array_at-returns-clause-found : goal.array_at-returns-clause-found
 array_at-returns-clause-found t c =
@@ -22,19 +71,6 @@ array_at-returns-clause-found t c =
 
 pub fixed_at-returns-clause-found : goal.fixed_at-returns-clause-found
 fixed_at-returns-clause-found t c = let whole = c.in_ok-count.ensures.found in fixed_shape _ _ _ whole.0 whole.1 whole.2 whole.3
-
-pub struct_at-returns-clause-found : goal.struct_at-returns-clause-found
-struct_at-returns-clause-found t c =
-    let whole = c.in_ok-members.ensures.found in
-    let first : c.in_ok-first.first ≡ c.in_ok-width.from + 1 = c.in_ok-first.ensures.end.0 in
-    struct_shape c.in_ok-width.width _ _ whole.0 _ _ _ _ c.in_ok-width.ensures.end.0 (omega arith) c.in_ok-members.ensures.end.0
-    c.in_ok-width.ensures.found c.in_ok-first.ensures.found whole.1 whole.2
-
-pub union_at-returns-clause-found : goal.union_at-returns-clause-found
-union_at-returns-clause-found t c =
-    let whole = c.in_ok-variants.ensures.found in
-    let first : c.in_ok-first.first ≡ c.args.at + 1 = c.in_ok-first.ensures.end.0 in
-    union_shape _ _ whole.0 _ _ _ (omega arith) c.in_ok-variants.ensures.end.0 c.in_ok-first.ensures.found whole.1 whole.2
 
 pub repeated_at-returns-clause-found : goal.repeated_at-returns-clause-found
 repeated_at-returns-clause-found t c =
@@ -50,259 +86,58 @@ repeated_at-returns-clause-found t c =
       c.in_ok-number.ensures.fits,
     )
 
-pub shape_at-returns-in-Bool-clause-found : goal.shape_at-returns-in-Bool-clause-found
-shape_at-returns-in-Bool-clause-found t c = bool_shape _ (c.in_ok-word.ensures.found ∙ ap word_text c.in-Bool.is)
+pub struct_at-returns-clause-found : goal.struct_at-returns-clause-found
+struct_at-returns-clause-found t c =
+    let whole = c.in_ok-members.ensures.found in
+    let first : c.in_ok-first.first ≡ c.in_ok-width.from + 1 = c.in_ok-first.ensures.end.0 in
+    struct_shape c.in_ok-width.width _ _ whole.0 _ _ _ _ c.in_ok-width.ensures.end.0 (omega arith) c.in_ok-members.ensures.end.0
+    c.in_ok-width.ensures.found c.in_ok-first.ensures.found whole.1 whole.2
 
-pub shape_at-returns-in-U8-clause-found : goal.shape_at-returns-in-U8-clause-found
-shape_at-returns-in-U8-clause-found t c = u8_shape _ (c.in_ok-word.ensures.found ∙ ap word_text c.in-U8.is)
+pub union_at-returns-clause-found : goal.union_at-returns-clause-found
+union_at-returns-clause-found t c =
+    let whole = c.in_ok-variants.ensures.found in
+    let first : c.in_ok-first.first ≡ c.args.at + 1 = c.in_ok-first.ensures.end.0 in
+    union_shape _ _ whole.0 _ _ _ (omega arith) c.in_ok-variants.ensures.end.0 c.in_ok-first.ensures.found whole.1 whole.2
 
-pub shape_at-returns-in-U16-clause-found : goal.shape_at-returns-in-U16-clause-found
-shape_at-returns-in-U16-clause-found t c = u16_shape _ (c.in_ok-word.ensures.found ∙ ap word_text c.in-U16.is)
+pub tagged_at-returns-clause-found : goal.tagged_at-returns-clause-found
+tagged_at-returns-clause-found t c =
+    let whole = c.in_ok-members.ensures.found in
+    let first : c.in_ok-first.first ≡ c.in_ok-width.from + 1 = c.in_ok-first.ensures.end.0 in
+    tagged_shape c.in_ok-width.width _ _ _ whole.0 _ _ _ _ c.in_ok-width.ensures.end.0 (omega arith) c.in_ok-members.ensures.end.0 c.or_32.ensures
+    c.in_ok-width.ensures.found c.in_ok-first.ensures.found whole.1 whole.2
 
-pub shape_at-returns-in-U32-clause-found : goal.shape_at-returns-in-U32-clause-found
-shape_at-returns-in-U32-clause-found t c = u32_shape _ (c.in_ok-word.ensures.found ∙ ap word_text c.in-U32.is)
+pub variant_at-returns-clause-found : goal.variant_at-returns-clause-found
+variant_at-returns-clause-found t c =
+    let first : c.in_ok-first.first ≡ c.in_ok-number.colon + 1 = c.in_ok-first.ensures.end.0 in
+    let number : c.args.at < c.in_ok-number.colon = c.in_ok-number.ensures.end.0 in
+    let behind : c.in_ok-first.first ≤ c.in_ok-shape.end = omega (arith, c.in_ok-shape.ensures.end.0) in
+    let piece = variant_piece c.args.text.now c.in_ok-number.number c.args.at c.in_ok-number.colon c.in_ok-first.first c.in_ok-shape.end (omega arith) (omega arith) behind c.in_ok-number.ensures.found c.in_ok-first.ensures.found in
+    (slice_range c.args.text.now c.in_ok-first.first c.in_ok-shape.end, c.in_ok-number.ensures.fits, c.in_ok-shape.ensures.found, piece)
 
-pub shape_at-returns-in-U64-clause-found : goal.shape_at-returns-in-U64-clause-found
-shape_at-returns-in-U64-clause-found t c = u64_shape _ (c.in_ok-word.ensures.found ∙ ap word_text c.in-U64.is)
+pub tagged_member_at-returns-clause-found : goal.tagged_member_at-returns-clause-found
+tagged_member_at-returns-clause-found t c =
+    let first : c.in_ok-first.first ≡ c.mark_at-is_optional.result.1 + 1 = c.in_ok-first.ensures.end.0 in
+    let number : c.args.at < c.in_ok-number.behind = c.in_ok-number.ensures.end.0 in
+    let mark : c.in_ok-number.behind ≤ c.mark_at-is_optional.result.1 = c.mark_at-is_optional.ensures.end.0 in
+    let behind : c.in_ok-first.first ≤ c.in_ok-shape.end = omega (arith, c.in_ok-shape.ensures.end.0) in
+    let made = one_member-made c.in_ok-number.number c.mark_at-is_optional.result.0 c.in_ok-shape.shape in
+    let piece = member_piece c.args.text.now c.in_ok-number.number c.mark_at-is_optional.result.0 c.args.at c.in_ok-number.behind c.mark_at-is_optional.result.1 c.in_ok-first.first c.in_ok-shape.end
+    (omega arith) mark (omega arith) behind c.in_ok-number.ensures.found c.mark_at-is_optional.ensures.found c.in_ok-first.ensures.found in
+    rw made (slice_range c.args.text.now c.in_ok-first.first c.in_ok-shape.end, c.in_ok-number.ensures.fits, c.in_ok-shape.ensures.found, piece)
 
-pub shape_at-returns-in-I8-clause-found : goal.shape_at-returns-in-I8-clause-found
-shape_at-returns-in-I8-clause-found t c = i8_shape _ (c.in_ok-word.ensures.found ∙ ap word_text c.in-I8.is)
+pub members_at-returns-else-has_comma-clause-found : goal.members_at-returns-else-has_comma-clause-found
+members_at-returns-else-has_comma-clause-found t c =
+    all_found members c.loop-items.invariant c.in_ok-item.item c.in_ok-item.end _ (search rules) c.in_ok-end.end c.in_ok-item.ensures.end.0 c.in_ok-item.ensures.found c.in_ok-end.ensures.end.0 c.in_ok-end.ensures.found
 
-pub shape_at-returns-in-I16-clause-found : goal.shape_at-returns-in-I16-clause-found
-shape_at-returns-in-I16-clause-found t c = i16_shape _ (c.in_ok-word.ensures.found ∙ ap word_text c.in-I16.is)
+pub variants_at-returns-else-has_comma-clause-found : goal.variants_at-returns-else-has_comma-clause-found
+variants_at-returns-else-has_comma-clause-found t c =
+    all_found variants c.loop-items.invariant c.in_ok-item.item c.in_ok-item.end _ (search rules) c.in_ok-end.end c.in_ok-item.ensures.end.0 c.in_ok-item.ensures.found c.in_ok-end.ensures.end.0 c.in_ok-end.ensures.found
 
-pub shape_at-returns-in-I32-clause-found : goal.shape_at-returns-in-I32-clause-found
-shape_at-returns-in-I32-clause-found t c = i32_shape _ (c.in_ok-word.ensures.found ∙ ap word_text c.in-I32.is)
+pub tagged_members_at-returns-else-has_comma-clause-found : goal.tagged_members_at-returns-else-has_comma-clause-found
+tagged_members_at-returns-else-has_comma-clause-found t c =
+    all_found tagged_members c.loop-items.invariant c.in_ok-item.item c.in_ok-item.end _ (search rules) c.in_ok-end.end c.in_ok-item.ensures.end.0 c.in_ok-item.ensures.found c.in_ok-end.ensures.end.0 c.in_ok-end.ensures.found
 
-pub shape_at-returns-in-I64-clause-found : goal.shape_at-returns-in-I64-clause-found
-shape_at-returns-in-I64-clause-found t c = i64_shape _ (c.in_ok-word.ensures.found ∙ ap word_text c.in-I64.is)
-
-pub shape_at-returns-in-Utf8-clause-found : goal.shape_at-returns-in-Utf8-clause-found
-shape_at-returns-in-Utf8-clause-found t c =
-    behind_word _ _ (codes "utf8") _ _ c.in_ok-word.ensures.end.0 (c.in_ok-word.ensures.found ∙ ap word_text c.in-Utf8.is) c.string_at.ensures.end c.string_at.ensures.found
-
-pub shape_at-returns-in-Utf16-clause-found : goal.shape_at-returns-in-Utf16-clause-found
-shape_at-returns-in-Utf16-clause-found t c =
-    behind_word _ _ (codes "utf16") _ _ c.in_ok-word.ensures.end.0 (c.in_ok-word.ensures.found ∙ ap word_text c.in-Utf16.is) c.string_at-in-Utf16.ensures.end c.string_at-in-Utf16.ensures.found
-
-pub shape_at-returns-in-Array-clause-found : goal.shape_at-returns-in-Array-clause-found
-shape_at-returns-in-Array-clause-found t c =
-    behind_word _ _ (codes "array") _ _ c.in_ok-word.ensures.end.0 (c.in_ok-word.ensures.found ∙ ap word_text c.in-Array.is) c.array_at.ensures.end c.array_at.ensures.found
-
-pub shape_at-returns-in-Fixed-clause-found : goal.shape_at-returns-in-Fixed-clause-found
-shape_at-returns-in-Fixed-clause-found t c =
-    behind_word _ _ (codes "fixed") _ _ c.in_ok-word.ensures.end.0 (c.in_ok-word.ensures.found ∙ ap word_text c.in-Fixed.is) c.fixed_at.ensures.end c.fixed_at.ensures.found
-
-pub shape_at-returns-in-Struct-clause-found : goal.shape_at-returns-in-Struct-clause-found
-shape_at-returns-in-Struct-clause-found t c =
-    behind_word _ _ (codes "struct") _ _ c.in_ok-word.ensures.end.0 (c.in_ok-word.ensures.found ∙ ap word_text c.in-Struct.is) c.struct_at.ensures.end c.struct_at.ensures.found
-
-pub shape_at-returns-in-Union-clause-found : goal.shape_at-returns-in-Union-clause-found
-shape_at-returns-in-Union-clause-found t c =
-    behind_word _ _ (codes "union") _ _ c.in_ok-word.ensures.end.0 (c.in_ok-word.ensures.found ∙ ap word_text c.in-Union.is) c.union_at.ensures.end c.union_at.ensures.found
-
--- ---- each text of a shape is read
-
-pub shape_at-returns-in_err-word-clause-only : goal.shape_at-returns-in_err-word-clause-only
-shape_at-returns-in_err-word-clause-only t c = λ f front rest is is_text deep stops.
-    let there = word_there c.args.text.now front rest c.args.at f is is_text in
-    let bad = c.in_err-word.ensures.only there.0 there.1 there.2 in
-    absurd (not_read _ _ bad)
-
-pub shape_at-returns-in-U8-clause-only : goal.shape_at-returns-in-U8-clause-only
-shape_at-returns-in-U8-clause-only t c = λ f front rest is is_text deep stops.
-    by_word c.args.text.now front rest c.args.at c.in_ok-word.end f c.in_ok-word.word (Ok (U8, c.in_ok-word.end)) is is_text c.in_ok-word.ensures.only
-    (λ back there behind. plain U8 f u8 back c.in_ok-word.end form-U8 (rw c.in-U8.is at behind))
-
-pub shape_at-returns-in-U16-clause-only : goal.shape_at-returns-in-U16-clause-only
-shape_at-returns-in-U16-clause-only t c = λ f front rest is is_text deep stops.
-    by_word c.args.text.now front rest c.args.at c.in_ok-word.end f c.in_ok-word.word (Ok (U16, c.in_ok-word.end)) is is_text c.in_ok-word.ensures.only
-    (λ back there behind. plain U16 f u16 back c.in_ok-word.end form-U16 (rw c.in-U16.is at behind))
-
-pub shape_at-returns-in-U32-clause-only : goal.shape_at-returns-in-U32-clause-only
-shape_at-returns-in-U32-clause-only t c = λ f front rest is is_text deep stops.
-    by_word c.args.text.now front rest c.args.at c.in_ok-word.end f c.in_ok-word.word (Ok (U32, c.in_ok-word.end)) is is_text c.in_ok-word.ensures.only
-    (λ back there behind. plain U32 f u32 back c.in_ok-word.end form-U32 (rw c.in-U32.is at behind))
-
-pub shape_at-returns-in-U64-clause-only : goal.shape_at-returns-in-U64-clause-only
-shape_at-returns-in-U64-clause-only t c = λ f front rest is is_text deep stops.
-    by_word c.args.text.now front rest c.args.at c.in_ok-word.end f c.in_ok-word.word (Ok (U64, c.in_ok-word.end)) is is_text c.in_ok-word.ensures.only
-    (λ back there behind. plain U64 f u64 back c.in_ok-word.end form-U64 (rw c.in-U64.is at behind))
-
-pub shape_at-returns-in-I8-clause-only : goal.shape_at-returns-in-I8-clause-only
-shape_at-returns-in-I8-clause-only t c = λ f front rest is is_text deep stops.
-    by_word c.args.text.now front rest c.args.at c.in_ok-word.end f c.in_ok-word.word (Ok (I8, c.in_ok-word.end)) is is_text c.in_ok-word.ensures.only
-    (λ back there behind. plain I8 f i8 back c.in_ok-word.end form-I8 (rw c.in-I8.is at behind))
-
-pub shape_at-returns-in-I16-clause-only : goal.shape_at-returns-in-I16-clause-only
-shape_at-returns-in-I16-clause-only t c = λ f front rest is is_text deep stops.
-    by_word c.args.text.now front rest c.args.at c.in_ok-word.end f c.in_ok-word.word (Ok (I16, c.in_ok-word.end)) is is_text c.in_ok-word.ensures.only
-    (λ back there behind. plain I16 f i16 back c.in_ok-word.end form-I16 (rw c.in-I16.is at behind))
-
-pub shape_at-returns-in-I32-clause-only : goal.shape_at-returns-in-I32-clause-only
-shape_at-returns-in-I32-clause-only t c = λ f front rest is is_text deep stops.
-    by_word c.args.text.now front rest c.args.at c.in_ok-word.end f c.in_ok-word.word (Ok (I32, c.in_ok-word.end)) is is_text c.in_ok-word.ensures.only
-    (λ back there behind. plain I32 f i32 back c.in_ok-word.end form-I32 (rw c.in-I32.is at behind))
-
-pub shape_at-returns-in-I64-clause-only : goal.shape_at-returns-in-I64-clause-only
-shape_at-returns-in-I64-clause-only t c = λ f front rest is is_text deep stops.
-    by_word c.args.text.now front rest c.args.at c.in_ok-word.end f c.in_ok-word.word (Ok (I64, c.in_ok-word.end)) is is_text c.in_ok-word.ensures.only
-    (λ back there behind. plain I64 f i64 back c.in_ok-word.end form-I64 (rw c.in-I64.is at behind))
-
-pub shape_at-returns-in-Utf8-clause-only : goal.shape_at-returns-in-Utf8-clause-only
-shape_at-returns-in-Utf8-clause-only t c = λ f front rest is is_text deep stops.
-    by_word c.args.text.now front rest c.args.at c.in_ok-word.end f c.in_ok-word.word c.string_at.result is is_text c.in_ok-word.ensures.only
-    (λ back there behind. c.string_at.ensures.only f back rest there (rw c.in-Utf8.is at behind) stops)
-
-pub shape_at-returns-in-Utf16-clause-only : goal.shape_at-returns-in-Utf16-clause-only
-shape_at-returns-in-Utf16-clause-only t c = λ f front rest is is_text deep stops.
-    by_word c.args.text.now front rest c.args.at c.in_ok-word.end f c.in_ok-word.word c.string_at-in-Utf16.result is is_text c.in_ok-word.ensures.only
-    (λ back there behind. c.string_at-in-Utf16.ensures.only f back rest there (rw c.in-Utf16.is at behind) stops)
-
-pub shape_at-returns-in-Array-clause-only : goal.shape_at-returns-in-Array-clause-only
-shape_at-returns-in-Array-clause-only t c = λ f front rest is is_text deep stops.
-    let inner : depth f ≤ (c.args.left - 1) + 1 = omega (arith, deep, some_depth f) in
-    by_word c.args.text.now front rest c.args.at c.in_ok-word.end f c.in_ok-word.word c.array_at.result is is_text c.in_ok-word.ensures.only
-    (λ back there behind. c.array_at.ensures.only f back rest there (rw c.in-Array.is at behind) inner)
-
-pub shape_at-returns-in-Fixed-clause-only : goal.shape_at-returns-in-Fixed-clause-only
-shape_at-returns-in-Fixed-clause-only t c = λ f front rest is is_text deep stops.
-    let inner : depth f ≤ (c.args.left - 1) + 1 = omega (arith, deep, some_depth f) in
-    by_word c.args.text.now front rest c.args.at c.in_ok-word.end f c.in_ok-word.word c.fixed_at.result is is_text c.in_ok-word.ensures.only
-    (λ back there behind. c.fixed_at.ensures.only f back rest there (rw c.in-Fixed.is at behind) inner)
-
-pub shape_at-returns-in-Struct-clause-only : goal.shape_at-returns-in-Struct-clause-only
-shape_at-returns-in-Struct-clause-only t c = λ f front rest is is_text deep stops.
-    let inner : depth f ≤ (c.args.left - 1) + 1 = omega (arith, deep, some_depth f) in
-    by_word c.args.text.now front rest c.args.at c.in_ok-word.end f c.in_ok-word.word c.struct_at.result is is_text c.in_ok-word.ensures.only
-    (λ back there behind. c.struct_at.ensures.only f back rest there (rw c.in-Struct.is at behind) inner)
-
-pub shape_at-returns-in-Union-clause-only : goal.shape_at-returns-in-Union-clause-only
-shape_at-returns-in-Union-clause-only t c = λ f front rest is is_text deep stops.
-    let inner : depth f ≤ (c.args.left - 1) + 1 = omega (arith, deep, some_depth f) in
-    by_word c.args.text.now front rest c.args.at c.in_ok-word.end f c.in_ok-word.word c.union_at.result is is_text c.in_ok-word.ensures.only
-    (λ back there behind. c.union_at.ensures.only f back rest there (rw c.in-Union.is at behind) inner)
-
-pub array_at-returns-in_err-max-clause-only : goal.array_at-returns-in_err-max-clause-only
-array_at-returns-in_err-max-clause-only t c = λ f back rest is behind deep.
-    let p = err_from_is_err_and c.from_residual-in_err-max.result c.from_residual-in_err-max.ensures.1 in
-    let here = split_front _ back rest _ _ is behind.7 in
-    let width = c.in_ok-width.ensures.only behind.0 (repeated_text behind.1 behind.3 ++ rest) here (stops_repeated behind.1 behind.3 rest) in
-    let from : c.in_ok-width.from ≡ c.args.at + length (width_text behind.0) = same_second _ _ _ _ width in
-    let inner : depth behind.2 ≤ c.args.left = omega (arith, deep, ap depth behind.6) in
-    rw (p.1, p.2) (c.in_err-max.ensures.only behind.1 behind.2 behind.3 rest (behind_piece c.args.text.now (width_text behind.0) _ c.args.at c.in_ok-width.from here from) behind.4 behind.5 inner)
-
-pub array_at-returns-clause-only : goal.array_at-returns-clause-only
-array_at-returns-clause-only t c = λ f back rest is behind deep.
-    let here = split_front _ back rest _ _ is behind.7 in
-    let both = c.in_ok-width.ensures.only behind.0 (repeated_text behind.1 behind.3 ++ rest) here (stops_repeated behind.1 behind.3 rest) in
-    let width : c.in_ok-width.width ≡ behind.0 = same_first _ _ _ _ both in
-    let from : c.in_ok-width.from ≡ c.args.at + length (width_text behind.0) = same_second _ _ _ _ both in
-    let inner : depth behind.2 ≤ c.args.left = omega (arith, deep, ap depth behind.6) in
-    let repeated = c.in_ok-max.ensures.only behind.1 behind.2 behind.3 rest (behind_piece c.args.text.now (width_text behind.0) _ c.args.at c.in_ok-width.from here from) behind.4 behind.5 inner in (
-      array_is c.in_ok-width.width behind.0 _ _ behind.1 c.in_ok-max.element f behind.2 c.or_32.ensures width repeated.0 repeated.1 behind.6,
-      omega (arith, repeated.2, from, ap length behind.7, length-append (width_text behind.0) (repeated_text behind.1 behind.3)),
-    )
-
-pub repeated_at-returns-in_err-number-clause-only : goal.repeated_at-returns-in_err-number-clause-only
-repeated_at-returns-in_err-number-clause-only t c = λ n f element rest is small is_text deep.
-    let opened = after_open c.args.text.now element rest n c.args.at c.in_ok-from.from is c.in_ok-from.ensures.end.0 in
-    let bad = c.in_err-number.ensures.only n 44 ((element ++ codes ">") ++ rest) opened small no_digit_comma in
-    absurd (not_read _ _ bad)
-
-pub repeated_at-returns-in_err-first-clause-only : goal.repeated_at-returns-in_err-first-clause-only
-repeated_at-returns-in_err-first-clause-only t c = λ n f element rest is small is_text deep.
-    let opened = after_open c.args.text.now element rest n c.args.at c.in_ok-from.from is c.in_ok-from.ensures.end.0 in
-    let number = c.in_ok-number.ensures.only n 44 ((element ++ codes ">") ++ rest) opened small no_digit_comma in
-    let comma : c.in_ok-number.comma ≡ c.in_ok-from.from + length (decimal n) = same_second _ _ _ _ number in
-    let bad = c.in_err-first.ensures.only ((element ++ codes ">") ++ rest) (behind_piece c.args.text.now (decimal n) _ c.in_ok-from.from c.in_ok-number.comma opened comma) in
-    absurd (not_read _ _ bad)
-
-pub repeated_at-returns-in_err-element-clause-only : goal.repeated_at-returns-in_err-element-clause-only
-repeated_at-returns-in_err-element-clause-only t c = λ n f element rest is small is_text deep.
-    let p = err_from_is_err_and c.from_residual-in_err-element.result c.from_residual-in_err-element.ensures.1 in
-    let opened = after_open c.args.text.now element rest n c.args.at c.in_ok-from.from is c.in_ok-from.ensures.end.0 in
-    let number = c.in_ok-number.ensures.only n 44 ((element ++ codes ">") ++ rest) opened small no_digit_comma in
-    let comma : c.in_ok-number.comma ≡ c.in_ok-from.from + length (decimal n) = same_second _ _ _ _ number in
-    let there = behind_piece c.args.text.now (decimal n) _ c.in_ok-from.from c.in_ok-number.comma opened comma in
-    let inside = after_comma c.args.text.now element rest c.in_ok-number.comma c.in_ok-first.first there c.in_ok-first.ensures.end.0 in
-    rw (p.1, p.2) (c.in_err-element.ensures.only f element (codes ">" ++ rest) inside is_text deep (stops_end rest))
-
-pub repeated_at-returns-in_err-end-clause-only : goal.repeated_at-returns-in_err-end-clause-only
-repeated_at-returns-in_err-end-clause-only t c = λ n f element rest is small is_text deep.
-    let opened = after_open c.args.text.now element rest n c.args.at c.in_ok-from.from is c.in_ok-from.ensures.end.0 in
-    let number = c.in_ok-number.ensures.only n 44 ((element ++ codes ">") ++ rest) opened small no_digit_comma in
-    let comma : c.in_ok-number.comma ≡ c.in_ok-from.from + length (decimal n) = same_second _ _ _ _ number in
-    let there = behind_piece c.args.text.now (decimal n) _ c.in_ok-from.from c.in_ok-number.comma opened comma in
-    let inside = after_comma c.args.text.now element rest c.in_ok-number.comma c.in_ok-first.first there c.in_ok-first.ensures.end.0 in
-    let read = c.in_ok-element.ensures.only f element (codes ">" ++ rest) inside is_text deep (stops_end rest) in
-    let bad = c.in_err-end.ensures.only rest (behind_piece c.args.text.now element _ c.in_ok-first.first c.in_ok-element.last inside read.1) in
-    absurd (not_read _ _ bad)
-
-pub repeated_at-returns-clause-only : goal.repeated_at-returns-clause-only
-repeated_at-returns-clause-only t c = λ n f element rest is small is_text deep.
-    let opened = after_open c.args.text.now element rest n c.args.at c.in_ok-from.from is c.in_ok-from.ensures.end.0 in
-    let both = c.in_ok-number.ensures.only n 44 ((element ++ codes ">") ++ rest) opened small no_digit_comma in
-    let number : c.in_ok-number.number ≡ n = same_first _ _ _ _ both in
-    let comma : c.in_ok-number.comma ≡ c.in_ok-from.from + length (decimal n) = same_second _ _ _ _ both in
-    let there = behind_piece c.args.text.now (decimal n) _ c.in_ok-from.from c.in_ok-number.comma opened comma in
-    let inside = after_comma c.args.text.now element rest c.in_ok-number.comma c.in_ok-first.first there c.in_ok-first.ensures.end.0 in
-    let read = c.in_ok-element.ensures.only f element (codes ">" ++ rest) inside is_text deep (stops_end rest) in (
-      number,
-      rw c.in_ok-new.ensures.ok read.0,
-      omega (arith, c.in_ok-from.ensures.end.0, comma, c.in_ok-first.ensures.end.0, read.1, c.in_ok-end.ensures.end.0, length-repeated n element),
-    )
-
-pub struct_at-returns-in_err-first-clause-only : goal.struct_at-returns-in_err-first-clause-only
-struct_at-returns-in_err-first-clause-only t c = λ f back rest is behind deep.
-    let here = split_front _ back rest _ _ is behind.5 in
-    let width = c.in_ok-width.ensures.only behind.0 ((codes "(" ++ (behind.2 ++ codes ")")) ++ rest) here (stops_bracket (behind.2 ++ codes ")") rest) in
-    let from : c.in_ok-width.from ≡ c.args.at + length (width_text behind.0) = same_second _ _ _ _ width in
-    let bad = c.in_err-first.ensures.only ((behind.2 ++ codes ")") ++ rest) (behind_piece c.args.text.now (width_text behind.0) _ c.args.at c.in_ok-width.from here from) in
-    absurd (not_read _ _ bad)
-
-pub struct_at-returns-in_err-members-clause-only : goal.struct_at-returns-in_err-members-clause-only
-struct_at-returns-in_err-members-clause-only t c = λ f back rest is behind deep.
-    let p = err_from_is_err_and c.from_residual-in_err-members.result c.from_residual-in_err-members.ensures.1 in
-    let here = split_front _ back rest _ _ is behind.5 in
-    let width = c.in_ok-width.ensures.only behind.0 ((codes "(" ++ (behind.2 ++ codes ")")) ++ rest) here (stops_bracket (behind.2 ++ codes ")") rest) in
-    let from : c.in_ok-width.from ≡ c.args.at + length (width_text behind.0) = same_second _ _ _ _ width in
-    let bracket = behind_piece c.args.text.now (width_text behind.0) _ c.args.at c.in_ok-width.from here from in
-    let inside = after_bracket c.args.text.now behind.2 rest c.in_ok-width.from c.in_ok-first.first bracket c.in_ok-first.ensures.end.0 in
-    let inner : deepest behind.1 ≤ c.args.left = omega (arith, deep, ap depth behind.4) in
-    rw (p.1, p.2) (c.in_err-members.ensures.only behind.1 behind.2 rest inside behind.3 inner)
-
-pub struct_at-returns-clause-only : goal.struct_at-returns-clause-only
-struct_at-returns-clause-only t c = λ f back rest is behind deep.
-    let here = split_front _ back rest _ _ is behind.5 in
-    let both = c.in_ok-width.ensures.only behind.0 ((codes "(" ++ (behind.2 ++ codes ")")) ++ rest) here (stops_bracket (behind.2 ++ codes ")") rest) in
-    let width : c.in_ok-width.width ≡ behind.0 = same_first _ _ _ _ both in
-    let from : c.in_ok-width.from ≡ c.args.at + length (width_text behind.0) = same_second _ _ _ _ both in
-    let bracket = behind_piece c.args.text.now (width_text behind.0) _ c.args.at c.in_ok-width.from here from in
-    let inside = after_bracket c.args.text.now behind.2 rest c.in_ok-width.from c.in_ok-first.first bracket c.in_ok-first.ensures.end.0 in
-    let inner : deepest behind.1 ≤ c.args.left = omega (arith, deep, ap depth behind.4) in
-    let read = c.in_ok-members.ensures.only behind.1 behind.2 rest inside behind.3 inner in (
-      struct_is _ _ c.in_ok-members.members f behind.1 width read.0 behind.4,
-      omega (arith, read.1, from, c.in_ok-first.ensures.end.0, ap length behind.5, length-append (width_text behind.0) (40 ∷ (behind.2 ++ codes ")")), length-append behind.2 (codes ")")),
-    )
-
-pub union_at-returns-in_err-variants-clause-only : goal.union_at-returns-in_err-variants-clause-only
-union_at-returns-in_err-variants-clause-only t c = λ f back rest is behind deep.
-    let p = err_from_is_err_and c.from_residual-in_err-variants.result c.from_residual-in_err-variants.ensures.1 in
-    let inside = after_bracket c.args.text.now behind.1 rest c.args.at c.in_ok-first.first (is ∙ ap (λ (x : List ℕ). x ++ rest) behind.4) c.in_ok-first.ensures.end.0 in
-    let inner : deepest_variant behind.0 ≤ c.args.left = omega (arith, deep, ap depth behind.3) in
-    rw (p.1, p.2) (c.in_err-variants.ensures.only behind.0 behind.1 rest inside behind.2 inner)
-
-pub union_at-returns-clause-only : goal.union_at-returns-clause-only
-union_at-returns-clause-only t c = λ f back rest is behind deep.
-    let inside = after_bracket c.args.text.now behind.1 rest c.args.at c.in_ok-first.first (is ∙ ap (λ (x : List ℕ). x ++ rest) behind.4) c.in_ok-first.ensures.end.0 in
-    let inner : deepest_variant behind.0 ≤ c.args.left = omega (arith, deep, ap depth behind.3) in
-    let read = c.in_ok-variants.ensures.only behind.0 behind.1 rest inside behind.2 inner in (
-      union_is c.in_ok-variants.variants f behind.0 read.0 behind.3,
-      omega (arith, read.1, c.in_ok-first.ensures.end.0, ap length behind.4, length-append behind.1 (codes ")")),
-    )
-
--- ---- how deep they lie
+-- ---- how deep it lies
 
 pub shape_at-returns-in-U8-clause-within : goal.shape_at-returns-in-U8-clause-within
 shape_at-returns-in-U8-clause-within t c = rw form-U8 (omega (arith, c.if-left-eq0.false))
@@ -346,6 +181,9 @@ shape_at-returns-in-Struct-clause-within t c = within_more c.struct_at.result (c
 pub shape_at-returns-in-Union-clause-within : goal.shape_at-returns-in-Union-clause-within
 shape_at-returns-in-Union-clause-within t c = within_more c.union_at.result (c.args.left - 1 + 1) c.args.left (omega (arith, c.if-left-eq0.false)) c.union_at.ensures.within
 
+pub shape_at-returns-in-Tagged-clause-within : goal.shape_at-returns-in-Tagged-clause-within
+shape_at-returns-in-Tagged-clause-within t c = within_more c.tagged_at.result (c.args.left - 1 + 1) c.args.left (omega (arith, c.if-left-eq0.false)) c.tagged_at.ensures.within
+
 pub array_at-returns-clause-within : goal.array_at-returns-clause-within
 array_at-returns-clause-within t c = rw (form-Array c.or_32.result c.in_ok-max.max c.in_ok-max.element) (omega (arith, c.in_ok-max.ensures.within))
 
@@ -358,99 +196,11 @@ struct_at-returns-clause-within t c = rw (form-Struct c.in_ok-width.width c.in_o
 pub union_at-returns-clause-within : goal.union_at-returns-clause-within
 union_at-returns-clause-within t c = rw (form-Union c.in_ok-variants.variants) (omega (arith, c.in_ok-variants.ensures.within))
 
-pub repeated_at-returns-clause-within : goal.repeated_at-returns-clause-within
-repeated_at-returns-clause-within t c = rw c.in_ok-new.ensures.ok c.in_ok-element.ensures.within
-
--- ---- tagged structures
-
-pub tagged_at-returns-clause-found : goal.tagged_at-returns-clause-found
-tagged_at-returns-clause-found t c =
-    let whole = c.in_ok-members.ensures.found in
-    let first : c.in_ok-first.first ≡ c.in_ok-width.from + 1 = c.in_ok-first.ensures.end.0 in
-    tagged_shape c.in_ok-width.width _ _ _ whole.0 _ _ _ _ c.in_ok-width.ensures.end.0 (omega arith) c.in_ok-members.ensures.end.0 c.or_32.ensures
-    c.in_ok-width.ensures.found c.in_ok-first.ensures.found whole.1 whole.2
-
-pub tagged_at-returns-in_err-first-clause-only : goal.tagged_at-returns-in_err-first-clause-only
-tagged_at-returns-in_err-first-clause-only t c = λ f back rest is behind deep.
-    let here = split_front _ back rest _ _ is behind.5 in
-    let width = c.in_ok-width.ensures.only behind.0 ((codes "(" ++ (behind.2 ++ codes ")")) ++ rest) here (stops_bracket (behind.2 ++ codes ")") rest) in
-    let from : c.in_ok-width.from ≡ c.args.at + length (width_text behind.0) = same_second _ _ _ _ width in
-    let bad = c.in_err-first.ensures.only ((behind.2 ++ codes ")") ++ rest) (behind_piece c.args.text.now (width_text behind.0) _ c.args.at c.in_ok-width.from here from) in
-    absurd (not_read _ _ bad)
-
-pub tagged_at-returns-in_err-members-clause-only : goal.tagged_at-returns-in_err-members-clause-only
-tagged_at-returns-in_err-members-clause-only t c = λ f back rest is behind deep.
-    let p = err_from_is_err_and c.from_residual-in_err-members.result c.from_residual-in_err-members.ensures.1 in
-    let here = split_front _ back rest _ _ is behind.5 in
-    let width = c.in_ok-width.ensures.only behind.0 ((codes "(" ++ (behind.2 ++ codes ")")) ++ rest) here (stops_bracket (behind.2 ++ codes ")") rest) in
-    let from : c.in_ok-width.from ≡ c.args.at + length (width_text behind.0) = same_second _ _ _ _ width in
-    let bracket = behind_piece c.args.text.now (width_text behind.0) _ c.args.at c.in_ok-width.from here from in
-    let inside = after_bracket c.args.text.now behind.2 rest c.in_ok-width.from c.in_ok-first.first bracket c.in_ok-first.ensures.end.0 in
-    let inner : deepest_member behind.1 ≤ c.args.left = omega (arith, deep, ap depth behind.4) in
-    rw (p.1, p.2) (c.in_err-members.ensures.only behind.1 behind.2 rest inside behind.3 inner)
-
-pub tagged_at-returns-clause-only : goal.tagged_at-returns-clause-only
-tagged_at-returns-clause-only t c = λ f back rest is behind deep.
-    let here = split_front _ back rest _ _ is behind.5 in
-    let both = c.in_ok-width.ensures.only behind.0 ((codes "(" ++ (behind.2 ++ codes ")")) ++ rest) here (stops_bracket (behind.2 ++ codes ")") rest) in
-    let width : c.in_ok-width.width ≡ behind.0 = same_first _ _ _ _ both in
-    let from : c.in_ok-width.from ≡ c.args.at + length (width_text behind.0) = same_second _ _ _ _ both in
-    let bracket = behind_piece c.args.text.now (width_text behind.0) _ c.args.at c.in_ok-width.from here from in
-    let inside = after_bracket c.args.text.now behind.2 rest c.in_ok-width.from c.in_ok-first.first bracket c.in_ok-first.ensures.end.0 in
-    let inner : deepest_member behind.1 ≤ c.args.left = omega (arith, deep, ap depth behind.4) in
-    let read = c.in_ok-members.ensures.only behind.1 behind.2 rest inside behind.3 inner in (
-      tagged_is _ _ _ c.in_ok-members.members f behind.1 c.or_32.ensures width read.0 behind.4,
-      omega (arith, read.1, from, c.in_ok-first.ensures.end.0, ap length behind.5, length-append (width_text behind.0) (40 ∷ (behind.2 ++ codes ")")), length-append behind.2 (codes ")")),
-    )
-
 pub tagged_at-returns-clause-within : goal.tagged_at-returns-clause-within
 tagged_at-returns-clause-within t c = rw (form-Tagged c.or_32.result c.in_ok-members.members) (omega (arith, c.in_ok-members.ensures.within))
 
-pub shape_at-returns-in-Tagged-clause-found : goal.shape_at-returns-in-Tagged-clause-found
-shape_at-returns-in-Tagged-clause-found t c =
-    behind_word _ _ (codes "tagged") _ _ c.in_ok-word.ensures.end.0 (c.in_ok-word.ensures.found ∙ ap word_text c.in-Tagged.is) c.tagged_at.ensures.end c.tagged_at.ensures.found
-
-pub shape_at-returns-in-Tagged-clause-only : goal.shape_at-returns-in-Tagged-clause-only
-shape_at-returns-in-Tagged-clause-only t c = λ f front rest is is_text deep stops.
-    let inner : depth f ≤ (c.args.left - 1) + 1 = omega (arith, deep, some_depth f) in
-    by_word c.args.text.now front rest c.args.at c.in_ok-word.end f c.in_ok-word.word c.tagged_at.result is is_text c.in_ok-word.ensures.only
-    (λ back there behind. c.tagged_at.ensures.only f back rest there (rw c.in-Tagged.is at behind) inner)
-
-pub shape_at-returns-in-Tagged-clause-within : goal.shape_at-returns-in-Tagged-clause-within
-shape_at-returns-in-Tagged-clause-within t c = within_more c.tagged_at.result (c.args.left - 1 + 1) c.args.left (omega (arith, c.if-left-eq0.false)) c.tagged_at.ensures.within
-
--- ---- one variant, one member of a tagged structure, and items one after the other
-
-pub variant_at-returns-clause-found : goal.variant_at-returns-clause-found
-variant_at-returns-clause-found t c =
-    let first : c.in_ok-first.first ≡ c.in_ok-number.colon + 1 = c.in_ok-first.ensures.end.0 in
-    let number : c.args.at < c.in_ok-number.colon = c.in_ok-number.ensures.end.0 in
-    let behind : c.in_ok-first.first ≤ c.in_ok-shape.end = omega (arith, c.in_ok-shape.ensures.end.0) in
-    let piece = variant_piece c.args.text.now c.in_ok-number.number c.args.at c.in_ok-number.colon c.in_ok-first.first c.in_ok-shape.end (omega arith) (omega arith) behind c.in_ok-number.ensures.found c.in_ok-first.ensures.found in
-    (slice_range c.args.text.now c.in_ok-first.first c.in_ok-shape.end, c.in_ok-number.ensures.fits, c.in_ok-shape.ensures.found, piece)
-
-pub tagged_member_at-returns-clause-found : goal.tagged_member_at-returns-clause-found
-tagged_member_at-returns-clause-found t c =
-    let first : c.in_ok-first.first ≡ c.mark_at-is_optional.result.1 + 1 = c.in_ok-first.ensures.end.0 in
-    let number : c.args.at < c.in_ok-number.behind = c.in_ok-number.ensures.end.0 in
-    let mark : c.in_ok-number.behind ≤ c.mark_at-is_optional.result.1 = c.mark_at-is_optional.ensures.end.0 in
-    let behind : c.in_ok-first.first ≤ c.in_ok-shape.end = omega (arith, c.in_ok-shape.ensures.end.0) in
-    let made = one_member-made c.in_ok-number.number c.mark_at-is_optional.result.0 c.in_ok-shape.shape in
-    let piece = member_piece c.args.text.now c.in_ok-number.number c.mark_at-is_optional.result.0 c.args.at c.in_ok-number.behind c.mark_at-is_optional.result.1 c.in_ok-first.first c.in_ok-shape.end
-    (omega arith) mark (omega arith) behind c.in_ok-number.ensures.found c.mark_at-is_optional.ensures.found c.in_ok-first.ensures.found in
-    rw made (slice_range c.args.text.now c.in_ok-first.first c.in_ok-shape.end, c.in_ok-number.ensures.fits, c.in_ok-shape.ensures.found, piece)
-
-pub members_at-returns-else-has_comma-clause-found : goal.members_at-returns-else-has_comma-clause-found
-members_at-returns-else-has_comma-clause-found t c =
-    all_found members c.loop-items.invariant c.in_ok-item.item c.in_ok-item.end _ (search rules) c.in_ok-end.end c.in_ok-item.ensures.end.0 c.in_ok-item.ensures.found c.in_ok-end.ensures.end.0 c.in_ok-end.ensures.found
-
-pub variants_at-returns-else-has_comma-clause-found : goal.variants_at-returns-else-has_comma-clause-found
-variants_at-returns-else-has_comma-clause-found t c =
-    all_found variants c.loop-items.invariant c.in_ok-item.item c.in_ok-item.end _ (search rules) c.in_ok-end.end c.in_ok-item.ensures.end.0 c.in_ok-item.ensures.found c.in_ok-end.ensures.end.0 c.in_ok-end.ensures.found
-
-pub tagged_members_at-returns-else-has_comma-clause-found : goal.tagged_members_at-returns-else-has_comma-clause-found
-tagged_members_at-returns-else-has_comma-clause-found t c =
-    all_found tagged_members c.loop-items.invariant c.in_ok-item.item c.in_ok-item.end _ (search rules) c.in_ok-end.end c.in_ok-item.ensures.end.0 c.in_ok-item.ensures.found c.in_ok-end.ensures.end.0 c.in_ok-end.ensures.found
+pub repeated_at-returns-clause-within : goal.repeated_at-returns-clause-within
+repeated_at-returns-clause-within t c = rw c.in_ok-new.ensures.ok c.in_ok-element.ensures.within
 
 pub members_at-returns-else-has_comma-clause-within : goal.members_at-returns-else-has_comma-clause-within
 members_at-returns-else-has_comma-clause-within t c = all_within members c.loop-items.invariant c.in_ok-item.item c.in_ok-item.end _ (search rules) c.in_ok-item.ensures.within
@@ -460,6 +210,160 @@ variants_at-returns-else-has_comma-clause-within t c = all_within variants c.loo
 
 pub tagged_members_at-returns-else-has_comma-clause-within : goal.tagged_members_at-returns-else-has_comma-clause-within
 tagged_members_at-returns-else-has_comma-clause-within t c = all_within tagged_members c.loop-items.invariant c.in_ok-item.item c.in_ok-item.end _ (search rules) c.in_ok-item.ensures.within
+
+-- ---- each text of a shape is read
+
+pub shape_at-returns-in_err-word-clause-only : goal.shape_at-returns-in_err-word-clause-only
+shape_at-returns-in_err-word-clause-only t c = λ f front rest is is_text deep stops.
+    let there = word_there c.args.text.now front rest c.args.at f is is_text in
+    let bad = c.in_err-word.ensures.only there.0 there.1 there.2 in
+    absurd (not_read _ _ bad)
+
+pub shape_at-returns-in-U8-clause-only : goal.shape_at-returns-in-U8-clause-only
+shape_at-returns-in-U8-clause-only t c = plain _ _ _ _ _ _ U8 u8 c.in-U8.is form-U8 (λ f back behind. behind) c.in_ok-word.ensures.only
+
+pub shape_at-returns-in-U16-clause-only : goal.shape_at-returns-in-U16-clause-only
+shape_at-returns-in-U16-clause-only t c = plain _ _ _ _ _ _ U16 u16 c.in-U16.is form-U16 (λ f back behind. behind) c.in_ok-word.ensures.only
+
+pub shape_at-returns-in-U32-clause-only : goal.shape_at-returns-in-U32-clause-only
+shape_at-returns-in-U32-clause-only t c = plain _ _ _ _ _ _ U32 u32 c.in-U32.is form-U32 (λ f back behind. behind) c.in_ok-word.ensures.only
+
+pub shape_at-returns-in-U64-clause-only : goal.shape_at-returns-in-U64-clause-only
+shape_at-returns-in-U64-clause-only t c = plain _ _ _ _ _ _ U64 u64 c.in-U64.is form-U64 (λ f back behind. behind) c.in_ok-word.ensures.only
+
+pub shape_at-returns-in-I8-clause-only : goal.shape_at-returns-in-I8-clause-only
+shape_at-returns-in-I8-clause-only t c = plain _ _ _ _ _ _ I8 i8 c.in-I8.is form-I8 (λ f back behind. behind) c.in_ok-word.ensures.only
+
+pub shape_at-returns-in-I16-clause-only : goal.shape_at-returns-in-I16-clause-only
+shape_at-returns-in-I16-clause-only t c = plain _ _ _ _ _ _ I16 i16 c.in-I16.is form-I16 (λ f back behind. behind) c.in_ok-word.ensures.only
+
+pub shape_at-returns-in-I32-clause-only : goal.shape_at-returns-in-I32-clause-only
+shape_at-returns-in-I32-clause-only t c = plain _ _ _ _ _ _ I32 i32 c.in-I32.is form-I32 (λ f back behind. behind) c.in_ok-word.ensures.only
+
+pub shape_at-returns-in-I64-clause-only : goal.shape_at-returns-in-I64-clause-only
+shape_at-returns-in-I64-clause-only t c = plain _ _ _ _ _ _ I64 i64 c.in-I64.is form-I64 (λ f back behind. behind) c.in_ok-word.ensures.only
+
+pub shape_at-returns-in-Utf8-clause-only : goal.shape_at-returns-in-Utf8-clause-only
+shape_at-returns-in-Utf8-clause-only t c = by_word _ _ _ _ _ _ _ c.in-Utf8.is c.in_ok-word.ensures.only (λ f back rest there behind deep stops. c.string_at.ensures.only f back rest there behind stops)
+
+pub shape_at-returns-in-Utf16-clause-only : goal.shape_at-returns-in-Utf16-clause-only
+shape_at-returns-in-Utf16-clause-only t c = by_word _ _ _ _ _ _ _ c.in-Utf16.is c.in_ok-word.ensures.only (λ f back rest there behind deep stops. c.string_at-in-Utf16.ensures.only f back rest there behind stops)
+
+pub shape_at-returns-in-Array-clause-only : goal.shape_at-returns-in-Array-clause-only
+shape_at-returns-in-Array-clause-only t c = inner _ _ _ _ _ _ c.array_at.result c.in-Array.is c.in_ok-word.ensures.only c.array_at.ensures.only
+
+pub shape_at-returns-in-Fixed-clause-only : goal.shape_at-returns-in-Fixed-clause-only
+shape_at-returns-in-Fixed-clause-only t c = inner _ _ _ _ _ _ c.fixed_at.result c.in-Fixed.is c.in_ok-word.ensures.only c.fixed_at.ensures.only
+
+pub shape_at-returns-in-Struct-clause-only : goal.shape_at-returns-in-Struct-clause-only
+shape_at-returns-in-Struct-clause-only t c = inner _ _ _ _ _ _ c.struct_at.result c.in-Struct.is c.in_ok-word.ensures.only c.struct_at.ensures.only
+
+pub shape_at-returns-in-Union-clause-only : goal.shape_at-returns-in-Union-clause-only
+shape_at-returns-in-Union-clause-only t c = inner _ _ _ _ _ _ c.union_at.result c.in-Union.is c.in_ok-word.ensures.only c.union_at.ensures.only
+
+pub shape_at-returns-in-Tagged-clause-only : goal.shape_at-returns-in-Tagged-clause-only
+shape_at-returns-in-Tagged-clause-only t c = inner _ _ _ _ _ _ c.tagged_at.result c.in-Tagged.is c.in_ok-word.ensures.only c.tagged_at.ensures.only
+
+pub array_at-returns-in_err-max-clause-only : goal.array_at-returns-in_err-max-clause-only
+array_at-returns-in_err-max-clause-only t c = λ f back rest is behind deep.
+    let here = after_width c.args.text.now back rest _ _ _ _ behind.0 is behind.7 (stops_repeated behind.1 behind.3 rest) c.in_ok-width.ensures.only in
+    let inner : depth behind.2 ≤ c.args.left = omega (arith, deep, ap depth behind.6) in
+    rw (passed_on _ _ c.from_residual-in_err-max.ensures.1) (c.in_err-max.ensures.only behind.1 behind.2 behind.3 rest here.2 behind.4 behind.5 inner)
+
+pub array_at-returns-clause-only : goal.array_at-returns-clause-only
+array_at-returns-clause-only t c = λ f back rest is behind deep.
+    let here = after_width c.args.text.now back rest _ _ _ _ behind.0 is behind.7 (stops_repeated behind.1 behind.3 rest) c.in_ok-width.ensures.only in
+    let inner : depth behind.2 ≤ c.args.left = omega (arith, deep, ap depth behind.6) in
+    let repeated = c.in_ok-max.ensures.only behind.1 behind.2 behind.3 rest here.2 behind.4 behind.5 inner in (
+      array_is c.in_ok-width.width behind.0 _ _ behind.1 c.in_ok-max.element f behind.2 c.or_32.ensures here.0 repeated.0 repeated.1 behind.6,
+      omega (arith, repeated.2, here.1, ap length behind.7, length-append (width_text behind.0) (repeated_text behind.1 behind.3)),
+    )
+
+pub repeated_at-returns-in_err-number-clause-only : goal.repeated_at-returns-in_err-number-clause-only
+repeated_at-returns-in_err-number-clause-only t c = λ n f element rest is small is_text deep.
+    let here = after_open c.args.text.now element rest n c.args.at c.in_ok-from.from is c.in_ok-from.ensures.end.0 in
+    absurd (not_read _ _ (c.in_err-number.ensures.only n 44 _ here small no_digit_comma))
+
+pub repeated_at-returns-in_err-first-clause-only : goal.repeated_at-returns-in_err-first-clause-only
+repeated_at-returns-in_err-first-clause-only t c = λ n f element rest is small is_text deep.
+    let here = after_count c.args.text.now element rest n c.args.at c.in_ok-from.from _ c.in_ok-number.comma is c.in_ok-from.ensures.end.0 small c.in_ok-number.ensures.only in
+    absurd (not_read _ _ (c.in_err-first.ensures.only _ here.2))
+
+pub repeated_at-returns-in_err-element-clause-only : goal.repeated_at-returns-in_err-element-clause-only
+repeated_at-returns-in_err-element-clause-only t c = λ n f element rest is small is_text deep.
+    let here = after_count c.args.text.now element rest n c.args.at c.in_ok-from.from _ c.in_ok-number.comma is c.in_ok-from.ensures.end.0 small c.in_ok-number.ensures.only in
+    let inside = after_comma c.args.text.now element rest c.in_ok-number.comma c.in_ok-first.first here.2 c.in_ok-first.ensures.end.0 in
+    rw (passed_on _ _ c.from_residual-in_err-element.ensures.1) (c.in_err-element.ensures.only f element (codes ">" ++ rest) inside is_text deep (stops_end rest))
+
+pub repeated_at-returns-in_err-end-clause-only : goal.repeated_at-returns-in_err-end-clause-only
+repeated_at-returns-in_err-end-clause-only t c = λ n f element rest is small is_text deep.
+    let here = after_count c.args.text.now element rest n c.args.at c.in_ok-from.from _ c.in_ok-number.comma is c.in_ok-from.ensures.end.0 small c.in_ok-number.ensures.only in
+    let inside = after_comma c.args.text.now element rest c.in_ok-number.comma c.in_ok-first.first here.2 c.in_ok-first.ensures.end.0 in
+    let read = c.in_ok-element.ensures.only f element (codes ">" ++ rest) inside is_text deep (stops_end rest) in
+    absurd (not_read _ _ (c.in_err-end.ensures.only rest (behind_piece c.args.text.now element _ c.in_ok-first.first c.in_ok-element.last inside read.1)))
+
+pub repeated_at-returns-clause-only : goal.repeated_at-returns-clause-only
+repeated_at-returns-clause-only t c = λ n f element rest is small is_text deep.
+    let here = after_count c.args.text.now element rest n c.args.at c.in_ok-from.from _ c.in_ok-number.comma is c.in_ok-from.ensures.end.0 small c.in_ok-number.ensures.only in
+    let inside = after_comma c.args.text.now element rest c.in_ok-number.comma c.in_ok-first.first here.2 c.in_ok-first.ensures.end.0 in
+    let read = c.in_ok-element.ensures.only f element (codes ">" ++ rest) inside is_text deep (stops_end rest) in (
+      here.0,
+      rw c.in_ok-new.ensures.ok read.0,
+      omega (arith, c.in_ok-from.ensures.end.0, here.1, c.in_ok-first.ensures.end.0, read.1, c.in_ok-end.ensures.end.0, length-repeated n element),
+    )
+
+pub struct_at-returns-in_err-first-clause-only : goal.struct_at-returns-in_err-first-clause-only
+struct_at-returns-in_err-first-clause-only t c = λ f back rest is behind deep.
+    let here = after_width c.args.text.now back rest _ _ _ _ behind.0 is behind.5 (stops_bracket (behind.2 ++ codes ")") rest) c.in_ok-width.ensures.only in
+    absurd (not_read _ _ (c.in_err-first.ensures.only _ here.2))
+
+pub tagged_at-returns-in_err-first-clause-only : goal.tagged_at-returns-in_err-first-clause-only
+tagged_at-returns-in_err-first-clause-only t c = λ f back rest is behind deep.
+    let here = after_width c.args.text.now back rest _ _ _ _ behind.0 is behind.5 (stops_bracket (behind.2 ++ codes ")") rest) c.in_ok-width.ensures.only in
+    absurd (not_read _ _ (c.in_err-first.ensures.only _ here.2))
+
+pub struct_at-returns-in_err-members-clause-only : goal.struct_at-returns-in_err-members-clause-only
+struct_at-returns-in_err-members-clause-only t c = λ f back rest is behind deep.
+    let here = after_width c.args.text.now back rest _ _ _ _ behind.0 is behind.5 (stops_bracket (behind.2 ++ codes ")") rest) c.in_ok-width.ensures.only in
+    let inside = after_bracket c.args.text.now behind.2 rest c.in_ok-width.from c.in_ok-first.first here.2 c.in_ok-first.ensures.end.0 in
+    rw (passed_on _ _ c.from_residual-in_err-members.ensures.1) (c.in_err-members.ensures.only behind.1 behind.2 rest inside behind.3 (omega (arith, deep, ap depth behind.4)))
+
+pub tagged_at-returns-in_err-members-clause-only : goal.tagged_at-returns-in_err-members-clause-only
+tagged_at-returns-in_err-members-clause-only t c = λ f back rest is behind deep.
+    let here = after_width c.args.text.now back rest _ _ _ _ behind.0 is behind.5 (stops_bracket (behind.2 ++ codes ")") rest) c.in_ok-width.ensures.only in
+    let inside = after_bracket c.args.text.now behind.2 rest c.in_ok-width.from c.in_ok-first.first here.2 c.in_ok-first.ensures.end.0 in
+    rw (passed_on _ _ c.from_residual-in_err-members.ensures.1) (c.in_err-members.ensures.only behind.1 behind.2 rest inside behind.3 (omega (arith, deep, ap depth behind.4)))
+
+pub union_at-returns-in_err-variants-clause-only : goal.union_at-returns-in_err-variants-clause-only
+union_at-returns-in_err-variants-clause-only t c = λ f back rest is behind deep.
+    let inside = after_bracket c.args.text.now behind.1 rest c.args.at c.in_ok-first.first (is ∙ ap (λ (x : List ℕ). x ++ rest) behind.4) c.in_ok-first.ensures.end.0 in
+    rw (passed_on _ _ c.from_residual-in_err-variants.ensures.1) (c.in_err-variants.ensures.only behind.0 behind.1 rest inside behind.2 (omega (arith, deep, ap depth behind.3)))
+
+pub struct_at-returns-clause-only : goal.struct_at-returns-clause-only
+struct_at-returns-clause-only t c = λ f back rest is behind deep.
+    let here = after_width c.args.text.now back rest _ _ _ _ behind.0 is behind.5 (stops_bracket (behind.2 ++ codes ")") rest) c.in_ok-width.ensures.only in
+    let inside = after_bracket c.args.text.now behind.2 rest c.in_ok-width.from c.in_ok-first.first here.2 c.in_ok-first.ensures.end.0 in
+    let read = c.in_ok-members.ensures.only behind.1 behind.2 rest inside behind.3 (omega (arith, deep, ap depth behind.4)) in (
+      struct_is c.in_ok-width.width behind.0 c.in_ok-members.members f behind.1 here.0 read.0 behind.4,
+      omega (arith, read.1, here.1, c.in_ok-first.ensures.end.0, ap length behind.5, length-append (width_text behind.0) (40 ∷ (behind.2 ++ codes ")")), length-append behind.2 (codes ")")),
+    )
+
+pub tagged_at-returns-clause-only : goal.tagged_at-returns-clause-only
+tagged_at-returns-clause-only t c = λ f back rest is behind deep.
+    let here = after_width c.args.text.now back rest _ _ _ _ behind.0 is behind.5 (stops_bracket (behind.2 ++ codes ")") rest) c.in_ok-width.ensures.only in
+    let inside = after_bracket c.args.text.now behind.2 rest c.in_ok-width.from c.in_ok-first.first here.2 c.in_ok-first.ensures.end.0 in
+    let read = c.in_ok-members.ensures.only behind.1 behind.2 rest inside behind.3 (omega (arith, deep, ap depth behind.4)) in (
+      tagged_is c.in_ok-width.width behind.0 _ c.in_ok-members.members f behind.1 c.or_32.ensures here.0 read.0 behind.4,
+      omega (arith, read.1, here.1, c.in_ok-first.ensures.end.0, ap length behind.5, length-append (width_text behind.0) (40 ∷ (behind.2 ++ codes ")")), length-append behind.2 (codes ")")),
+    )
+
+pub union_at-returns-clause-only : goal.union_at-returns-clause-only
+union_at-returns-clause-only t c = λ f back rest is behind deep.
+    let inside = after_bracket c.args.text.now behind.1 rest c.args.at c.in_ok-first.first (is ∙ ap (λ (x : List ℕ). x ++ rest) behind.4) c.in_ok-first.ensures.end.0 in
+    let read = c.in_ok-variants.ensures.only behind.0 behind.1 rest inside behind.2 (omega (arith, deep, ap depth behind.3)) in (
+      union_is c.in_ok-variants.variants f behind.0 read.0 behind.3,
+      omega (arith, read.1, c.in_ok-first.ensures.end.0, ap length behind.4, length-append behind.1 (codes ")")),
+    )
 
 pub variant_at-returns-in_err-number-clause-only : goal.variant_at-returns-in_err-number-clause-only
 variant_at-returns-in_err-number-clause-only t c = λ v front rest is own deep stops.
@@ -505,6 +409,8 @@ tagged_member_at-returns-clause-only t c = λ m front rest is own deep stops.
       one_member-made c.in_ok-number.number c.mark_at-is_optional.result.0 c.in_ok-shape.shape ∙ (λ i. record { id = here.0 i; optional = mark.0 i; form = read.0 i }),
       omega (arith, read.1, mark.1, c.in_ok-first.ensures.end.0, here.2),
     )
+
+-- ---- items, one after the other
 
 pub members_at-loop-items-init : goal.members_at-loop-items-init
 members_at-loop-items-init t c = none_read members c.args.text.now c.args.at c.args.left c.new-items.result.items c.requires c.new-items.ensures.items
