@@ -12,8 +12,8 @@
  *     someip_close(&node);
  *
  * What the library keeps, and is proved: each function does what its comment says, for any bytes and
- * numbers (which of MISSING, WRONG_KIND and OUT_OF_RANGE a setup is refused as is tested alone); it reads and writes no memory but what it is given and what it asks the allocator for; it
- * always returns.
+ * numbers; it reads and writes no memory but what it is given and what it asks the allocator for; it
+ * always returns. Tested alone is as which of MISSING, WRONG_KIND and OUT_OF_RANGE a setup is refused.
  *
  * What the caller keeps, which nothing can check:
  *   - A pointer points to a value of its type, and a pointer with a length to so many bytes. All of it

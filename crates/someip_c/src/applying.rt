@@ -6,6 +6,7 @@ ghost use Rattle.someip_c_node.specs.Records.{socket_of};
 ghost use Rattle.someip_c.specs.Handles.{OnNode, call_kind, group_of, instance_of, reply_of};
 
 use crate::handle::Handle;
+use crate::on_node::on_node;
 use sd_core::{Eventgroup, InstanceId};
 use someip_c_node::{Endpoint, Outcome};
 use someip_rpc::{CallKind, Reply};
@@ -26,19 +27,12 @@ pub extern "C" fn someip_call(
     ensures done { OnNode handle.old.place.value
         (Calls (input.Call (call_kind waits) (instance_of service instance) method payload.now)) result handle.new.place.value }
 {
-    match handle.open(alloc) {
-        Some(mut node) => {
-            let outcome = node.call(
-                kind_of(waits),
-                InstanceId { service, instance },
-                method,
-                payload,
-            );
-            handle.hold(node);
-            outcome.number()
-        }
-        None => Outcome::Closed.number(),
-    }
+    on_node!(handle, alloc, |node| node.call(
+        kind_of(waits),
+        InstanceId { service, instance },
+        method,
+        payload,
+    ))
 }
 
 /// Answers the request of a token, by a RESPONSE or, with `is_error`, by an ERROR.
@@ -54,14 +48,7 @@ pub extern "C" fn someip_answer(
     ensures done { OnNode handle.old.place.value
         (Calls (input.Answer token (reply_of is_error code) payload.now)) result handle.new.place.value }
 {
-    match handle.open(alloc) {
-        Some(mut node) => {
-            let outcome = node.answer(token, reply(is_error, code), payload);
-            handle.hold(node);
-            outcome.number()
-        }
-        None => Outcome::Closed.number(),
-    }
+    on_node!(handle, alloc, |node| node.answer(token, reply(is_error, code), payload))
 }
 
 /// Publishes an event of an instance that the node offers.
@@ -77,14 +64,7 @@ pub extern "C" fn someip_publish(
     ensures done { OnNode handle.old.place.value
         (Calls (input.Publish (instance_of service instance) event payload.now)) result handle.new.place.value }
 {
-    match handle.open(alloc) {
-        Some(mut node) => {
-            let outcome = node.publish(InstanceId { service, instance }, event, payload);
-            handle.hold(node);
-            outcome.number()
-        }
-        None => Outcome::Closed.number(),
-    }
+    on_node!(handle, alloc, |node| node.publish(InstanceId { service, instance }, event, payload))
 }
 
 /// Publishes an event to one endpoint that is subscribed to an eventgroup.
@@ -103,19 +83,12 @@ pub extern "C" fn someip_publish_to(
         (Calls (input.PublishTo (instance_of service instance) eventgroup (socket_of endpoint.now) event
         payload.now)) result handle.new.place.value }
 {
-    match handle.open(alloc) {
-        Some(mut node) => {
-            let outcome = node.publish_to(
-                group(service, instance, eventgroup),
-                endpoint.socket(),
-                event,
-                payload,
-            );
-            handle.hold(node);
-            outcome.number()
-        }
-        None => Outcome::Closed.number(),
-    }
+    on_node!(handle, alloc, |node| node.publish_to(
+        group(service, instance, eventgroup),
+        endpoint.socket(),
+        event,
+        payload,
+    ))
 }
 
 /// Wishes an eventgroup of an instance that the node wants.
@@ -130,14 +103,7 @@ pub extern "C" fn someip_subscribe(
     ensures done { OnNode handle.old.place.value
         (Calls (input.Subscribe (group_of service instance eventgroup))) result handle.new.place.value }
 {
-    match handle.open(alloc) {
-        Some(mut node) => {
-            let outcome = node.subscribe(group(service, instance, eventgroup));
-            handle.hold(node);
-            outcome.number()
-        }
-        None => Outcome::Closed.number(),
-    }
+    on_node!(handle, alloc, |node| node.subscribe(group(service, instance, eventgroup)))
 }
 
 /// Takes the wish of an eventgroup back.
@@ -152,14 +118,7 @@ pub extern "C" fn someip_unsubscribe(
     ensures done { OnNode handle.old.place.value
         (Calls (input.Unsubscribe (group_of service instance eventgroup))) result handle.new.place.value }
 {
-    match handle.open(alloc) {
-        Some(mut node) => {
-            let outcome = node.unsubscribe(group(service, instance, eventgroup));
-            handle.hold(node);
-            outcome.number()
-        }
-        None => Outcome::Closed.number(),
-    }
+    on_node!(handle, alloc, |node| node.unsubscribe(group(service, instance, eventgroup)))
 }
 
 /// Stops the offer of an instance until the next restart.
@@ -173,14 +132,7 @@ pub extern "C" fn someip_stop_offer(
     ensures done { OnNode handle.old.place.value
         (Calls (input.StopOffer (instance_of service instance))) result handle.new.place.value }
 {
-    match handle.open(alloc) {
-        Some(mut node) => {
-            let outcome = node.stop_offer(InstanceId { service, instance });
-            handle.hold(node);
-            outcome.number()
-        }
-        None => Outcome::Closed.number(),
-    }
+    on_node!(handle, alloc, |node| node.stop_offer(InstanceId { service, instance }))
 }
 
 /// Whether a call waits.

@@ -8,6 +8,7 @@ mod applying;
 mod handle;
 pub mod laws;
 mod lives;
+mod on_node;
 mod place;
 mod receiving;
 mod version;

@@ -5,6 +5,7 @@ ghost use Rattle.someip_c_node.specs.Calls.{Restarts};
 ghost use Rattle.someip_c.specs.Handles.{Closes, OnNode, Starts};
 
 use crate::handle::Handle;
+use crate::on_node::on_node;
 use someip_c_node::{CNode, Outcome, started};
 use std::alloc::Global;
 
@@ -57,14 +58,7 @@ fn started_in_box(
 pub extern "C" fn someip_restart(alloc: Global, handle: &mut Handle, delay_ms: u32) -> u32
     ensures { OnNode handle.old.place.value (Restarts delay_ms) result handle.new.place.value }
 {
-    match handle.open(alloc) {
-        Some(mut node) => {
-            let outcome = node.restart(delay_ms);
-            handle.hold(node);
-            outcome.number()
-        }
-        None => Outcome::Closed.number(),
-    }
+    on_node!(handle, alloc, |node| node.restart(delay_ms))
 }
 
 /// Ends the node, with what it gave and was not taken. The handle has none then.

@@ -6,6 +6,7 @@ ghost use Rattle.someip_c_node.specs.Records.{socket_of};
 ghost use Rattle.someip_c.specs.Handles.{Asks, OnNode};
 
 use crate::handle::Handle;
+use crate::on_node::on_node;
 use someip_c_node::{Endpoint, Outcome, OutputRecord};
 use std::alloc::Global;
 
@@ -21,14 +22,7 @@ pub extern "C" fn someip_on_datagram(
     ensures done { OnNode handle.old.place.value
         (Calls (input.Datagram (socket_of from.now) (socket_of to.now) bytes.now)) result handle.new.place.value }
 {
-    match handle.open(alloc) {
-        Some(mut node) => {
-            let outcome = node.on_datagram(from.socket(), to.socket(), bytes);
-            handle.hold(node);
-            outcome.number()
-        }
-        None => Outcome::Closed.number(),
-    }
+    on_node!(handle, alloc, |node| node.on_datagram(from.socket(), to.socket(), bytes))
 }
 
 /// Lets the node's clock go on by so many milliseconds.
@@ -39,14 +33,7 @@ pub extern "C" fn someip_tick(alloc: Global, handle: &mut Handle, ms: u64) -> u3
     ensures quiet { OnNode handle.old.place.value
         (λ old outcome _. NeedsNoMemory (input.Tick ms) old outcome) result handle.new.place.value }
 {
-    match handle.open(alloc) {
-        Some(mut node) => {
-            let outcome = node.tick(ms);
-            handle.hold(node);
-            outcome.number()
-        }
-        None => Outcome::Closed.number(),
-    }
+    on_node!(handle, alloc, |node| node.tick(ms))
 }
 
 /// After how many milliseconds a tick next gives something.
@@ -86,12 +73,5 @@ pub extern "C" fn someip_take(
     ensures closed { handle.old.place.value ≡ None
         → (output.new ≡ output.old) × (buffer.new ≡ buffer.old) }
 {
-    match handle.open(alloc) {
-        Some(mut node) => {
-            let outcome = node.take(output, buffer);
-            handle.hold(node);
-            outcome.number()
-        }
-        None => Outcome::Closed.number(),
-    }
+    on_node!(handle, alloc, |node| node.take(output, buffer))
 }
