@@ -222,11 +222,11 @@ fn discovery_header(session: u16) -> Header
     ensures { result ≡ discovery_header session }
 {
     Header {
-        service: 0xffff,
-        method: 0x8100,
+        service: Header::DISCOVERY_SERVICE,
+        method: Header::DISCOVERY_METHOD,
         client: 0,
         session,
-        interface: 1,
+        interface: Header::DISCOVERY_INTERFACE,
         kind: MessageType::Notification,
         code: ReturnCode::E_OK,
     }

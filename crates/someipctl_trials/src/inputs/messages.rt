@@ -3,7 +3,7 @@
 use crate::inputs::discovery::judge_discovery;
 use crate::inputs::wrong::{InputWrong, judge_place};
 use someip_wire::{
-    Message, MessageType, Messages, WireError, read_message, write_message, written_len,
+    Message, Messages, WireError, read_message, write_message, written_len,
 };
 use std::alloc::Global;
 
@@ -67,7 +67,7 @@ fn judge_message(alloc: Global, message: &Message<'_>) -> Result<(), InputWrong>
         Ok((again, size)) if again == *message && size == bytes.len() => {}
         _ => return Err(InputWrong::NotReadAgain),
     }
-    if is_discovery(message) {
+    if message.header.is_discovery() {
         judge_discovery(alloc, message.payload)?;
     }
     Ok(())
@@ -84,11 +84,4 @@ fn written(alloc: Global, message: &Message<'_>) -> Result<Vec<u8>, InputWrong> 
         return Err(InputWrong::NotWritten);
     }
     Ok(bytes)
-}
-
-/// Whether a message is one of Service Discovery.
-fn is_discovery(message: &Message<'_>) -> bool {
-    let header = &message.header;
-    let is_named = header.service == 0xffff && header.method == 0x8100;
-    is_named && header.interface == 1 && header.kind == MessageType::Notification
 }
