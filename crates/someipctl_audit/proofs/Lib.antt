@@ -2,3 +2,4 @@ pub mod PutsLemmas
 pub mod TallyLemmas
 pub mod StepLemmas
 pub mod RunLemmas
+pub mod OneAudit

@@ -218,7 +218,10 @@ fn put_next<S: Reassembly + Drop, W: Write>(
     }
 }
 
-/// Begins an audit with a datagram, and prints what is told of it.
+/// Begins an audit with a datagram, and prints what is told of it. This happens once, so it stands apart from
+/// the way of all other datagrams.
+#[cold]
+#[inline(never)]
 fn begun_with<S: Reassembly + Drop, W: Write>(
     buffer: &mut Buffer,
     writer: &mut W,

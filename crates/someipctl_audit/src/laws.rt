@@ -1,6 +1,6 @@
-//! Laws of the definitions behind the contracts, by example: the texts of an audit. Each is the contract of a
-//! function that does nothing.
-ghost use Rattle.std.specs.Prelude.{◌≡◌, ◌∷◌, [], Some, None, codes, true};
+//! Laws of the definitions behind the contracts: the texts of an audit, by example, and that a recording has one. Each
+//! is the contract of a function that does nothing.
+ghost use Rattle.std.specs.Prelude.{◌≡◌, ◌∷◌, [], List, Some, None, codes, true};
 ghost use Rattle.sd_wire.specs.declared.SdError.TheVariants as sd;
 ghost use Rattle.someip_wire.specs.declared.WireError.TheVariants as wire;
 ghost use Rattle.someip_segments.specs.declared.TpError.TheVariants as segments;
@@ -11,9 +11,10 @@ ghost use Rattle.audit_receivers.specs.declared.Finding.TheVariants as receivers
 ghost use Rattle.audit_sessions.specs.declared.Finding.TheVariants as sessions;
 ghost use Rattle.audit_subscriptions.specs.declared.Finding.TheVariants as subscriptions;
 ghost use Rattle.someip_audit.specs.declared.Finding.TheVariants as findings;
-ghost use Rattle.someip_audit.specs.Audits.{found};
+ghost use Rattle.someip_audit.specs.Audits.{Report, Seen, found};
 ghost use Rattle.someipctl_audit.specs.AuditText.{found_line, summary_text};
 ghost use Rattle.someipctl_audit.specs.Said.{said, said_text};
+ghost use Rattle.someipctl_audit.specs.SeenIn.{AskedAudit, Tells, looked_of};
 ghost use Rattle.someipctl_audit.specs.TextScenes.{event_1, flow_1, header_1, key_1, offer_1, origin_1};
 
 /// What the lines of findings say, by example.
@@ -67,4 +68,14 @@ pub fn a_summary_counts_by_kind()
         ≡ codes "audited 3 datagrams, 4 messages, 3 findings\nreboot 1\nfull 2\n" }
     ensures none { summary_text (record { datagrams = 3; messages = 4 }) []
         ≡ codes "audited 3 datagrams, 4 messages, 0 findings\n" }
+{}
+
+/// A recording has one audit: what is told of its datagrams, and how many of them and of their messages are
+/// looked at, are determined by them.
+pub fn a_recording_has_one_audit()
+    ensures told { (asked : AskedAudit) (datagrams : List Seen) (reports others : List Report)
+        → Tells asked 0 None datagrams reports → Tells asked 0 None datagrams others → reports ≡ others }
+    ensures looked { (asked : AskedAudit) (datagrams : List Seen) (reports others : List Report)
+        (one : Tells asked 0 None datagrams reports) (other : Tells asked 0 None datagrams others)
+        → looked_of asked 0 None datagrams reports one ≡ looked_of asked 0 None datagrams others other }
 {}
