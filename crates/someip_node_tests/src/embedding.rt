@@ -1,11 +1,59 @@
 //! Two nodes in one process, whose datagrams are carried by hand. docs/EMBEDDING.md shows this text.
 use crate::acts::is_told;
-use crate::nodes::{INSTANCE, OFFERS, WANTS, started};
-use someip_node::{Node, NodeError, Output};
+use crate::nodes::{INSTANCE, OFFERS, started};
+use sd_core::Phases;
+use sd_wire::Ttl;
+use someip_node::{Common, Config, Node, NodeError, Output, WantedService};
 use someip_rpc::{CallKind, Reply};
 use someip_tp::IntervalPool;
 use someip_wire::ReturnCode;
-use std::alloc::Global;
+use std::alloc::{AllocError, Global};
+use std::collections::BTreeMap;
+use std::net::Ipv4Addr;
+
+/// What the nodes of the network share.
+fn common() -> Common {
+    Common {
+        group: Ipv4Addr::new(239, 0, 0, 1),
+        initial_min_ms: 10,
+        initial_max_ms: 100,
+        phases: Phases {
+            base: 100,
+            repetitions: 3,
+            cyclic: 1000,
+        },
+        message_limit: 65536,
+        slots: 16,
+        peers: 64,
+        reassembly_timeout_ms: 5000,
+        call_timeout_ms: 2000,
+    }
+}
+
+/// A node at 192.168.0.2 that wants the instance, in major version 1, and none of its eventgroups.
+fn config(alloc: Global) -> Result<Config, AllocError> {
+    let mut wants = BTreeMap::new(alloc);
+    let wanted = WantedService {
+        major: 1,
+        ttl: Ttl::UNTIL_REBOOT,
+        groups: BTreeMap::new(alloc),
+    };
+    wants.insert(INSTANCE, wanted)?;
+    Ok(Config {
+        common: common(),
+        address: Ipv4Addr::new(192, 168, 0, 2),
+        client_id: 0x0102,
+        client_port: 40001,
+        offers: BTreeMap::new(alloc),
+        wants,
+    })
+}
+
+/// That node, 10 ms before its first Find.
+fn client(alloc: Global) -> Result<Node<IntervalPool>, NodeError> {
+    let config = config(alloc)?;
+    Node::<IntervalPool>::start(alloc, config, 10)
+}
 
 /// Carries the datagrams among some outputs to a node, and answers what that gives.
 fn carry(
@@ -88,9 +136,9 @@ fn last_is(alloc: Global, lines: &str) -> bool {
 
 /// The same with this server.
 fn last_with_is(alloc: Global, server: &mut Node<IntervalPool>, lines: &str) -> bool {
-    match started(alloc, WANTS) {
-        Some(mut client) => is_told(alloc, &run(alloc, server, &mut client), lines),
-        None => false,
+    match client(alloc) {
+        Ok(mut client) => is_told(alloc, &run(alloc, server, &mut client), lines),
+        Err(_) => false,
     }
 }
 
