@@ -40,7 +40,7 @@ module _ {K : Type 0} {R : K → K → Ordering} (o : IsTotalOrder R) where
   -- what a change at one of them makes of the set
   pub changed_due : (old new : Dues K) (key : K) (at : ℕ) (w : Bool)
       → ((q : Reverse (Due K)) → contains (back_cmp (due_cmp R)) new q
-          ≡ cond (eq_by_cmp (back_cmp (due_cmp R)) (record { 0 = record { at = at; key = key } }) q) w (contains (back_cmp (due_cmp R)) old q))
+      ≡ cond (eq_by_cmp (back_cmp (due_cmp R)) (record { 0 = record { at = at; key = key } }) q) w (contains (back_cmp (due_cmp R)) old q))
       → (due : Due K) → has_due R new due ≡ cond ((at == due.at) && eq_by_cmp R key due.key) w (has_due R old due)
   unfolding has_due
   changed_due old new key at w is due = is (record { 0 = due }) ∙ ap (λ b. cond b w (contains (back_cmp (due_cmp R)) old (record { 0 = due }))) (back_ties key at due)

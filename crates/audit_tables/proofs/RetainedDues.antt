@@ -34,4 +34,4 @@ module _ {K : Type 0} {R : K → K → Ordering} (o : IsTotalOrder R) (exact : I
   moments-filter p due old new is =
       ap (list_any (is_at (back_cmp (due_cmp R) (record { 0 = due })))) is
       ∙ is_member-filter (eq_by_cmp_equiv (back_dues_total o)) (λ d. p d.0.key) (record { 0 = due })
-          (λ d tie. ap (λ x. p x.0.key) (same_by_test (exact_back_dues exact) (record { 0 = due }) d tie)) old.keys
+      (λ d tie. ap (λ x. p x.0.key) (same_by_test (exact_back_dues exact) (record { 0 = due }) d tie)) old.keys

@@ -152,11 +152,7 @@ fn hold<K: Key + Hash, V: Waits>(
     }
 }
 
-fn add_due<K: Key>(
-    dues: &mut Dues<K>,
-    key: K,
-    moment: Option<u64>,
-) -> Result<(), AllocError>
+fn add_due<K: Key>(dues: &mut Dues<K>, key: K, moment: Option<u64>) -> Result<(), AllocError>
     ensures ok { OnOk result ((due : Due K) → has_due K.cmp dues.new due
         ≡ (if is_due_of K.cmp key moment due then true
         else has_due K.cmp dues.old due)) }

@@ -27,12 +27,16 @@ pub extern "C" fn someip_call(
     ensures done { OnNode handle.old.place.value
         (Calls (input.Call (call_kind waits) (instance_of service instance) method payload.now)) result handle.new.place.value }
 {
-    on_node!(handle, alloc, |node| node.call(
-        kind_of(waits),
-        InstanceId { service, instance },
-        method,
-        payload,
-    ))
+    on_node!(
+        handle,
+        alloc,
+        |node| node.call(
+            kind_of(waits),
+            InstanceId { service, instance },
+            method,
+            payload,
+        )
+    )
 }
 
 /// Answers the request of a token, by a RESPONSE or, with `is_error`, by an ERROR.
@@ -48,7 +52,11 @@ pub extern "C" fn someip_answer(
     ensures done { OnNode handle.old.place.value
         (Calls (input.Answer token (reply_of is_error code) payload.now)) result handle.new.place.value }
 {
-    on_node!(handle, alloc, |node| node.answer(token, reply(is_error, code), payload))
+    on_node!(
+        handle,
+        alloc,
+        |node| node.answer(token, reply(is_error, code), payload)
+    )
 }
 
 /// Publishes an event of an instance that the node offers.
@@ -64,7 +72,11 @@ pub extern "C" fn someip_publish(
     ensures done { OnNode handle.old.place.value
         (Calls (input.Publish (instance_of service instance) event payload.now)) result handle.new.place.value }
 {
-    on_node!(handle, alloc, |node| node.publish(InstanceId { service, instance }, event, payload))
+    on_node!(
+        handle,
+        alloc,
+        |node| node.publish(InstanceId { service, instance }, event, payload)
+    )
 }
 
 /// Publishes an event to one endpoint that is subscribed to an eventgroup.
@@ -83,12 +95,16 @@ pub extern "C" fn someip_publish_to(
         (Calls (input.PublishTo (instance_of service instance) eventgroup (socket_of endpoint.now) event
         payload.now)) result handle.new.place.value }
 {
-    on_node!(handle, alloc, |node| node.publish_to(
-        group(service, instance, eventgroup),
-        endpoint.socket(),
-        event,
-        payload,
-    ))
+    on_node!(
+        handle,
+        alloc,
+        |node| node.publish_to(
+            group(service, instance, eventgroup),
+            endpoint.socket(),
+            event,
+            payload,
+        )
+    )
 }
 
 /// Wishes an eventgroup of an instance that the node wants.
@@ -103,7 +119,11 @@ pub extern "C" fn someip_subscribe(
     ensures done { OnNode handle.old.place.value
         (Calls (input.Subscribe (group_of service instance eventgroup))) result handle.new.place.value }
 {
-    on_node!(handle, alloc, |node| node.subscribe(group(service, instance, eventgroup)))
+    on_node!(
+        handle,
+        alloc,
+        |node| node.subscribe(group(service, instance, eventgroup))
+    )
 }
 
 /// Takes the wish of an eventgroup back.
@@ -118,7 +138,11 @@ pub extern "C" fn someip_unsubscribe(
     ensures done { OnNode handle.old.place.value
         (Calls (input.Unsubscribe (group_of service instance eventgroup))) result handle.new.place.value }
 {
-    on_node!(handle, alloc, |node| node.unsubscribe(group(service, instance, eventgroup)))
+    on_node!(
+        handle,
+        alloc,
+        |node| node.unsubscribe(group(service, instance, eventgroup))
+    )
 }
 
 /// Stops the offer of an instance until the next restart.
@@ -132,7 +156,11 @@ pub extern "C" fn someip_stop_offer(
     ensures done { OnNode handle.old.place.value
         (Calls (input.StopOffer (instance_of service instance))) result handle.new.place.value }
 {
-    on_node!(handle, alloc, |node| node.stop_offer(InstanceId { service, instance }))
+    on_node!(
+        handle,
+        alloc,
+        |node| node.stop_offer(InstanceId { service, instance })
+    )
 }
 
 /// Whether a call waits.

@@ -22,7 +22,11 @@ pub extern "C" fn someip_on_datagram(
     ensures done { OnNode handle.old.place.value
         (Calls (input.Datagram (socket_of from.now) (socket_of to.now) bytes.now)) result handle.new.place.value }
 {
-    on_node!(handle, alloc, |node| node.on_datagram(from.socket(), to.socket(), bytes))
+    on_node!(
+        handle,
+        alloc,
+        |node| node.on_datagram(from.socket(), to.socket(), bytes)
+    )
 }
 
 /// Lets the node's clock go on by so many milliseconds.

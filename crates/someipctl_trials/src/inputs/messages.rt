@@ -2,9 +2,7 @@
 
 use crate::inputs::discovery::judge_discovery;
 use crate::inputs::wrong::{InputWrong, judge_place};
-use someip_wire::{
-    Message, Messages, WireError, read_message, write_message, written_len,
-};
+use someip_wire::{Message, Messages, WireError, read_message, write_message, written_len};
 use std::alloc::Global;
 
 /// The longest payload that is written here.
