@@ -1,19 +1,11 @@
 //! What the definitions behind the contracts of schedules promise. Each law is the contract of a
 //! function that does nothing.
-ghost use Rattle.std.specs.Prelude.{◌≡◌, ◌<◌, ◌≤◌, ◌^◌, [], ◌∷◌, ℕ, List, Some, decimal};
+ghost use Rattle.std.specs.Prelude.{◌≡◌, ◌<◌, ◌^◌, [], ◌∷◌, ℕ, List, Some};
 ghost use Rattle.std.specs.List.{AllByRecursion};
 ghost use Rattle.std.specs.Net.Text.{socket_v4_text};
 ghost use Rattle.std.specs.declared.net.socket_addr.SocketAddrV4.{SocketAddrV4};
-ghost use Rattle.someip_world_steps.specs.StepWords.{endpoint_in, endpoint_of, number_in};
+ghost use Rattle.someip_world_steps.specs.StepWords.{endpoint_in, endpoint_of};
 ghost use Rattle.someip_world_steps.specs.Steps.{IsUnparted, joined_by_blanks, words_in};
-
-/// Digits stand for a number exactly where they are its decimal text.
-pub fn what_numbers_say()
-    ensures spelled { (limit n : ℕ) → n < limit → limit ≤ 2 ^ 64
-        → number_in limit (decimal n) ≡ Some n }
-    ensures only { (limit n : ℕ) (word : List ℕ) → limit ≤ 2 ^ 64 → number_in limit word ≡ Some n
-        → (word ≡ decimal n) × (n < limit) }
-{}
 
 /// The words of a line are those that single spaces join to it, and no others.
 pub fn what_words_are()

@@ -7,8 +7,9 @@ use Rattle.std.proofs.lemmas.Grind.{common_steps}
 use Rattle.std.proofs.lemmas.List.Sums.{split_at_first, passes_at_first}
 use Rattle.std.proofs.lemmas.Bool.{and_parts}
 use Rattle.std.proofs.lemmas.List.Folds.{list_any-append}
-use Rattle.someip_world_steps.specs.StepWords.{is_digit, ◌>>=◌, cut_in, number_in, address_in, endpoint_in}
-use Rattle.someip_world_steps.proofs.WordLemmas.{only_decimal, each_decimal, decimal_digits}
+use Rattle.someip_texts.specs.Numbers.{is_digit, number_in}
+use Rattle.someip_texts.proofs.NumberLemmas.{only_decimal, each_decimal, decimal_digits}
+use Rattle.someip_world_steps.specs.StepWords.{◌>>=◌, cut_in, address_in, endpoint_in}
 
 bind_some : {A B : Type 0} (o : Option A) (f : A → Option B) (b : B) → (o >>= f) ≡ Some b → (a : A) × (o ≡ Some a) × (f a ≡ Some b)
 bind_some (Some a) f b h = (a, refl, h)

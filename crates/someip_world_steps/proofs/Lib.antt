@@ -1,6 +1,5 @@
 pub mod ReadLemmas
 pub mod StepLemmas
-pub mod WordLemmas
 pub mod LineLemmas
 pub mod EndpointLemmas
 pub mod PayloadLemmas

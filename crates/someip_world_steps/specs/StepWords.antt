@@ -1,14 +1,14 @@
 -- What the words of a schedule's line stand for.
-use Rattle.std.specs.Prelude.{ℕ, ◌≡◌, ◌^◌, ◌==◌, ◌&&◌, ◌||◌, not, nat_lt, nat_le, Bool, true, false, if◌then◌else◌, List, [], ◌∷◌, length, codes, replicate, bytes_eq, Option, Some, None, Result, Ok, Err}
+use Rattle.std.specs.Prelude.{ℕ, ◌≡◌, ◌^◌, ◌==◌, ◌&&◌, ◌||◌, nat_lt, nat_le, Bool, if◌then◌else◌, List, [], ◌∷◌, length, codes, replicate, bytes_eq, Option, Some, None, Result, Ok, Err}
 use Rattle.std.specs.List.{list_all, position_or_len, before_first, after_first}
 use Rattle.std.specs.Int.{w16, from_be_bytes}
 use Rattle.std.specs.Result.{result_ok}
 use Rattle.std.specs.Option.{option_map}
-use Rattle.std.specs.Str.Parse.{digits_value}
 use Rattle.hex.specs.Hex.{decode_of, decode_sized}
 use Rattle.std.specs.declared.net.socket_addr.SocketAddrV4.{SocketAddrV4}
 use Rattle.sd_instances.specs.declared.keys.InstanceId.{InstanceId}
 use Rattle.sd_instances.specs.declared.eventgroup.Eventgroup.{Eventgroup}
+use Rattle.someip_texts.specs.Numbers.{is_digit, number_in, positive_in}
 use Rattle.someip_wire.specs.declared.header.ReturnCode.{ReturnCode}
 use Rattle.someip_world_steps.specs.declared.step_words.WordFault.{WordFault}
 use Rattle.someip_world_steps.specs.declared.step_words.WordFault.TheVariants.{Bad, OutOfMemory}
@@ -33,30 +33,9 @@ cut_in c word =
 
 -- ---- numbers
 
--- a digit from 0 to 9
-abbrev pub is_digit : ℕ → Bool
-is_digit b = nat_le 0x30 b && nat_le b 0x39
-
--- something stands first, and it is no zero that others follow
-abbrev pub begins_plain : List ℕ → Bool
-begins_plain [] = false
-begins_plain (first ∷ []) = true
-begins_plain (first ∷ second ∷ others) = not (first == 0x30)
-
--- digits, at least one, without leading zeros
-abbrev pub is_plain : List ℕ → Bool
-is_plain word = begins_plain word && list_all is_digit word
-
--- the number below this limit that digits write
-abbrev pub number_in : ℕ → List ℕ → Option ℕ
-number_in limit word =
-    if is_plain word && nat_lt (digits_value 10 word) limit then Some (digits_value 10 word) else None
-
 -- a port that a datagram is sent from: from 1 to 65535
 abbrev pub source_port_in : List ℕ → Option ℕ
-source_port_in word = do
-  port ← number_in (2 ^ 16) word
-  if port == 0 then None else Some port
+source_port_in word = positive_in (2 ^ 16) word
 
 -- the number of four hex digits
 abbrev pub id_in : List ℕ → Option ℕ

@@ -7,6 +7,7 @@ use Rattle.someip_rpc.specs.declared.call.CallKind.{CallKind}
 use Rattle.someip_rpc.specs.declared.call.CallKind.TheVariants as kinds
 use Rattle.someip_rpc.specs.declared.request.Reply.{Reply}
 use Rattle.someip_rpc.specs.declared.request.Reply.TheVariants as replies
+use Rattle.someip_texts.specs.Numbers.{number_in}
 use Rattle.someip_wire.specs.declared.header.ReturnCode.{ReturnCode}
 use Rattle.someip_world_steps.specs.declared.step.Step.{Step}
 use Rattle.someip_world_steps.specs.declared.step.Step.TheVariants.{Tick, Deliver, Call, Answer, Publish, PublishTo, Subscribe, Unsubscribe, StopOffer, Restart, Inject}
@@ -16,7 +17,7 @@ use Rattle.someip_world_steps.specs.declared.step_reading.SubscriptionKind.{Subs
 use Rattle.someip_world_steps.specs.declared.step_reading.SubscriptionKind.TheVariants as subscriptions
 use Rattle.someip_world_steps.specs.declared.step_kind.StepKind.{StepKind}
 use Rattle.someip_world_steps.specs.declared.step_kind.StepKind.TheVariants as steps
-use Rattle.someip_world_steps.specs.StepWords.{◌>>=◌, number_in, source_port_in, id_in, method_in, code_in, name_in, instance_in, eventgroup_in, endpoint_in, payload_in}
+use Rattle.someip_world_steps.specs.StepWords.{◌>>=◌, source_port_in, id_in, method_in, code_in, name_in, instance_in, eventgroup_in, endpoint_in, payload_in}
 
 -- the words of a line: what stands between spaces. Between two spaces, and at an end with a space, stands an empty word,
 -- which no step takes

@@ -1,11 +1,13 @@
 //! The payloads of steps.
 ghost use Rattle.std.specs.Prelude.{◌≡◌, ◌↔◌, IfOk, IsTrue, length};
 ghost use Rattle.someip_wire.specs.Spelling.{IsBytes};
-ghost use Rattle.someip_world_steps.specs.StepWords.{IsReadOf, number_in, hex_in, repeated_in, payload_in};
+ghost use Rattle.someip_texts.specs.Numbers.{number_in};
+ghost use Rattle.someip_world_steps.specs.StepWords.{IsReadOf, hex_in, repeated_in, payload_in};
 
-use crate::step_words::{WordFault, byte, cut, number};
+use crate::step_words::{WordFault, byte, cut};
 use hex::FromHexError;
 use someip_node_rules::Payload;
+use someip_texts::plain_u64;
 use std::alloc::{AllocError, Global};
 use std::marker::Model;
 
@@ -118,7 +120,7 @@ fn repeated(alloc: Global, digits: &str, count: &str) -> Option<StepPayload>
 fn repetitions(word: &str) -> Option<usize>
     ensures { result ≡ number_in 1048577 word.now }
 {
-    let count = number(word)?;
+    let count = plain_u64(word)?;
     if count <= REPEATED_LIMIT {
         Some(count as usize)
     } else {

@@ -2,7 +2,7 @@
 ghost use Rattle.std.specs.Prelude.{◌≡◌, ◌==◌, if◌then◌else◌, Some, None};
 ghost use Rattle.someip_world_steps.specs.StepWords.{source_port_in};
 
-use crate::step_words::port;
+use someip_texts::plain_u16;
 use std::marker::Model;
 
 /// The port that a datagram is sent from: from 1 to 65535 (RFC 768, "Fields": port 0 says that there is
@@ -46,5 +46,5 @@ impl SourcePort {
 pub fn source_port(word: &str) -> Option<SourcePort>
     ensures { result ≡ source_port_in word.now }
 {
-    SourcePort::new(port(word)?)
+    SourcePort::new(plain_u16(word)?)
 }

@@ -10,8 +10,9 @@ use crate::step_kind::{StepKind, step_kind_of};
 use crate::step_name::name;
 use crate::step_payload::payload;
 use crate::step_port::source_port;
-use crate::step_words::{WordFault, code, endpoint, eventgroup, id, instance, method, number};
+use crate::step_words::{WordFault, code, endpoint, eventgroup, id, instance, method};
 use someip_rpc::{CallKind, Reply};
+use someip_texts::plain_u64;
 use someip_wire::ReturnCode;
 use std::alloc::{AllocError, Global};
 
@@ -98,7 +99,7 @@ fn tick(alloc: Global, words: &[&str]) -> Result<Step, WordFault>
         return Err(WordFault::Bad);
     };
     let node = name(alloc, node)?;
-    let ms = number(ms).ok_or(WordFault::Bad)?;
+    let ms = plain_u64(ms).ok_or(WordFault::Bad)?;
     Ok(Step::Tick { node, ms })
 }
 
@@ -109,7 +110,7 @@ fn deliver(alloc: Global, words: &[&str]) -> Result<Step, WordFault>
     let [first, node] = words else {
         return Err(WordFault::Bad);
     };
-    let number = number(first).ok_or(WordFault::Bad)?;
+    let number = plain_u64(first).ok_or(WordFault::Bad)?;
     let node = name(alloc, node)?;
     Ok(Step::Deliver { number, node })
 }
@@ -142,7 +143,7 @@ fn answer(alloc: Global, kind: AnswerKind, words: &[&str]) -> Result<Step, WordF
         return Err(WordFault::Bad);
     };
     let node = name(alloc, node)?;
-    let token = number(token).ok_or(WordFault::Bad)?;
+    let token = plain_u64(token).ok_or(WordFault::Bad)?;
     let code = code(code_word).ok_or(WordFault::Bad)?;
     let payload = payload(alloc, bytes)?;
     Ok(Step::Answer {
@@ -228,7 +229,7 @@ fn restart(alloc: Global, words: &[&str]) -> Result<Step, WordFault>
         return Err(WordFault::Bad);
     };
     let node = name(alloc, node)?;
-    let delay = number(delay).ok_or(WordFault::Bad)?;
+    let delay = plain_u64(delay).ok_or(WordFault::Bad)?;
     Ok(Step::Restart { node, delay })
 }
 

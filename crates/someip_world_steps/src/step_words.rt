@@ -1,14 +1,13 @@
-//! The words of a line that are numbers, IDs and endpoints.
-ghost use Rattle.std.specs.Prelude.{◌≡◌, ◌<◌, ◌^◌, Some, None, MatchOption};
-ghost use Rattle.std.specs.List.{list_all};
-ghost use Rattle.someip_world_steps.specs.StepWords.{IsReadOf, cut_in, is_digit, begins_plain};
-ghost use Rattle.someip_world_steps.specs.StepWords.{is_plain, number_in, id_in, method_in};
+//! The words of a line that are IDs and endpoints.
+ghost use Rattle.std.specs.Prelude.{◌≡◌, ◌<◌, Some, None, MatchOption};
+ghost use Rattle.someip_world_steps.specs.StepWords.{IsReadOf, cut_in, id_in, method_in};
 ghost use Rattle.someip_world_steps.specs.StepWords.{byte_in, code_in, instance_in, eventgroup_in, address_in};
 ghost use Rattle.someip_world_steps.specs.StepWords.{endpoint_in};
 ghost use Rattle.someip_world_steps.specs.declared.step_words.WordFault.TheVariants.{OutOfMemory};
 
 use crate::step_method::MethodId;
 use sd_core::{Eventgroup, InstanceId};
+use someip_texts::{plain_u8, plain_u16};
 use someip_wire::ReturnCode;
 use std::alloc::AllocError;
 use std::net::{Ipv4Addr, SocketAddrV4};
@@ -37,63 +36,6 @@ pub fn cut<'t>(word: &'t str, separator: char) -> Option<(&'t str, &'t str)>
         (λ parts. cut_in separator word.now ≡ Some (parts.0.now, parts.1.now)) }
 {
     word.split_once(separator)
-}
-
-/// Whether a word is digits without leading zeros.
-fn is_plain(word: &[u8]) -> bool
-    ensures { result ≡ is_plain word.now }
-{
-    begins_plain(word) && are_digits(word)
-}
-
-/// Whether something stands first, and it is no zero that others follow.
-fn begins_plain(word: &[u8]) -> bool
-    ensures { result ≡ begins_plain word.now }
-{
-    match word {
-        [] => false,
-        [_] => true,
-        [first, ..] => *first != b'0',
-    }
-}
-
-fn are_digits(word: &[u8]) -> bool
-    ensures { result ≡ list_all is_digit word.now }
-{
-    word.iter().all(|b| b'0' <= *b && *b <= b'9')
-}
-
-/// A decimal number of 64 bits.
-pub fn number(word: &str) -> Option<u64>
-    ensures { result ≡ number_in (2 ^ 64) word.now }
-{
-    if is_plain(word.as_bytes()) {
-        word.parse::<u64>().ok()
-    } else {
-        None
-    }
-}
-
-/// A port.
-pub fn port(word: &str) -> Option<u16>
-    ensures { result ≡ number_in (2 ^ 16) word.now }
-{
-    if is_plain(word.as_bytes()) {
-        word.parse::<u16>().ok()
-    } else {
-        None
-    }
-}
-
-/// A number of an IPv4 address.
-fn octet(word: &str) -> Option<u8>
-    ensures { result ≡ number_in (2 ^ 8) word.now }
-{
-    if is_plain(word.as_bytes()) {
-        word.parse::<u8>().ok()
-    } else {
-        None
-    }
 }
 
 /// An ID: four hex digits.
@@ -161,7 +103,7 @@ fn address(word: &str) -> Option<Ipv4Addr>
     let (a, word) = cut(word, '.')?;
     let (b, word) = cut(word, '.')?;
     let (c, d) = cut(word, '.')?;
-    Some(Ipv4Addr::new(octet(a)?, octet(b)?, octet(c)?, octet(d)?))
+    Some(Ipv4Addr::new(plain_u8(a)?, plain_u8(b)?, plain_u8(c)?, plain_u8(d)?))
 }
 
 /// The endpoint A.B.C.D:PORT.
@@ -169,5 +111,5 @@ pub fn endpoint(word: &str) -> Option<SocketAddrV4>
     ensures { result ≡ endpoint_in word.now }
 {
     let (ip, digits) = cut(word, ':')?;
-    Some(SocketAddrV4::new(address(ip)?, port(digits)?))
+    Some(SocketAddrV4::new(address(ip)?, plain_u16(digits)?))
 }

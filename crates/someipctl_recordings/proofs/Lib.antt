@@ -1,4 +1,3 @@
-pub mod PortLemmas
 pub mod HeadLemmas
 pub mod GatheredLemmas
 pub mod RecordedLemmas

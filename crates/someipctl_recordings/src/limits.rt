@@ -1,9 +1,9 @@
 //! The limits of messages that are put together, as texts.
 ghost use Rattle.std.specs.Prelude.{◌≡◌, IfErr, IfOk, None, Some};
-ghost use Rattle.someipctl_recordings.specs.WholeLimits.{IsRefusedLimit, SaysLimits, number_or, number_within, plain_number, view_text};
+ghost use Rattle.someipctl_recordings.specs.WholeLimits.{IsRefusedLimit, SaysLimits, number_or, number_within, view_text};
 
 use crate::asked::WholeLimits;
-use crate::ports::is_plain;
+use someip_texts::plain_u64;
 use thiserror::Error;
 
 /// Which of the texts says no limit.
@@ -46,8 +46,8 @@ pub fn limits_in(
     })
 }
 
-/// The number that a text writes, in decimal digits without leading zeros and from `low` to `high`, or
-/// `default` where there is no text.
+/// The number that a text writes, in decimal digits without leading zeros, if it is not 0 and lies from `low`
+/// to `high`, or `default` where there is no text.
 pub fn number_or(text: Option<&str>, default: u64, low: u64, high: u64) -> Option<u64>
     ensures { result ≡ number_or default low high (view_text text.entry) }
 {
@@ -57,24 +57,13 @@ pub fn number_or(text: Option<&str>, default: u64, low: u64, high: u64) -> Optio
     }
 }
 
-/// The number that a text writes, if it lies between two others or is one of them.
+/// The number that a text writes, if it is not 0, and lies between two others or is one of them.
 fn number_within(text: &str, low: u64, high: u64) -> Option<u64>
     ensures { result ≡ number_within low high text.now }
 {
-    let number = plain_number(text)?;
-    if low <= number && number <= high {
+    let number = plain_u64(text)?;
+    if number != 0 && low <= number && number <= high {
         Some(number)
-    } else {
-        None
-    }
-}
-
-/// The number of 64 bits that digits without leading zeros write.
-fn plain_number(text: &str) -> Option<u64>
-    ensures { result ≡ plain_number text.now }
-{
-    if is_plain(text.as_bytes()) {
-        text.parse::<u64>().ok()
     } else {
         None
     }

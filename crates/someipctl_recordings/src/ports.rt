@@ -1,10 +1,11 @@
 //! The ports that a text names.
 ghost use Rattle.std.specs.Prelude.{◌≡◌, IfOk, Some, None, Err, map, is_none, true};
-ghost use Rattle.std.specs.List.{list_any, list_all};
-ghost use Rattle.someipctl_recordings.specs.Ports.{begins_plain, is_digit, is_plain, port_in};
+ghost use Rattle.std.specs.List.{list_any};
+ghost use Rattle.someipctl_recordings.specs.Ports.{port_in};
 ghost use Rattle.someipctl_show.specs.Words.{comma_words};
 ghost use Rattle.someipctl_recordings.specs.declared.ports.PortsError.TheVariants.{OutOfMemory};
 
+use someip_texts::plain_u16;
 use someipctl_show::comma_words;
 use std::alloc::{AllocError, AllocFailed, Global};
 use thiserror::Error;
@@ -67,32 +68,6 @@ fn read_ports(alloc: Global, words: &[&str]) -> Result<Vec<u16>, PortsError>
 fn port_of(word: &str) -> Option<u16>
     ensures { result ≡ port_in word.now }
 {
-    if is_plain(word.as_bytes()) {
-        word.parse::<u16>().ok()
-    } else {
-        None
-    }
-}
-
-/// Whether a word is digits, the first of which is no zero.
-pub(crate) fn is_plain(word: &[u8]) -> bool
-    ensures { result ≡ is_plain word.now }
-{
-    begins_plain(word) && are_digits(word)
-}
-
-/// Whether something stands first, and it is no zero.
-fn begins_plain(word: &[u8]) -> bool
-    ensures { result ≡ begins_plain word.now }
-{
-    match word {
-        [] => false,
-        [first, ..] => *first != b'0',
-    }
-}
-
-fn are_digits(word: &[u8]) -> bool
-    ensures { result ≡ list_all is_digit word.now }
-{
-    word.iter().all(|b| b'0' <= *b && *b <= b'9')
+    let port = plain_u16(word)?;
+    if port == 0 { None } else { Some(port) }
 }

@@ -20,22 +20,22 @@ pub returns-in_err-token : goal.returns-in_err-token
 returns-in_err-token c =
     let is = four c.args.words.now (omega (arith, c.in-len4.len_at_least, c.in-len4.len_below)) in
     let p = err_from_is_err_and c.from_residual-in_err-token.result c.from_residual-in_err-token.ensures.1 in
-    rw (p.1, p.2) (refused (answer_step (answered c.args.kind) (texts c.args.words.now)) _ (ap (answer_step (answered c.args.kind)) is ∙ (same_then _ (c.in_ok-node.ensures) ∙ (none_then _ (sym c.number.ensures ∙ c.in_err-token.ensures.ok_part)))))
+    rw (p.1, p.2) (refused (answer_step (answered c.args.kind) (texts c.args.words.now)) _ (ap (answer_step (answered c.args.kind)) is ∙ (same_then _ (c.in_ok-node.ensures) ∙ (none_then _ (sym c.plain_u64.ensures ∙ c.in_err-token.ensures.ok_part)))))
 
 pub returns-in_err-code : goal.returns-in_err-code
 returns-in_err-code c =
     let is = four c.args.words.now (omega (arith, c.in-len4.len_at_least, c.in-len4.len_below)) in
     let p = err_from_is_err_and c.from_residual-in_err-code.result c.from_residual-in_err-code.ensures.1 in
-    rw (p.1, p.2) (refused (answer_step (answered c.args.kind) (texts c.args.words.now)) _ (ap (answer_step (answered c.args.kind)) is ∙ (same_then _ (c.in_ok-node.ensures) ∙ (same_then _ (sym c.number.ensures ∙ c.in_ok-token.ensures.ok_part) ∙ (none_then _ (sym c.code.ensures ∙ c.in_err-code.ensures.ok_part))))))
+    rw (p.1, p.2) (refused (answer_step (answered c.args.kind) (texts c.args.words.now)) _ (ap (answer_step (answered c.args.kind)) is ∙ (same_then _ (c.in_ok-node.ensures) ∙ (same_then _ (sym c.plain_u64.ensures ∙ c.in_ok-token.ensures.ok_part) ∙ (none_then _ (sym c.code.ensures ∙ c.in_err-code.ensures.ok_part))))))
 
 pub returns-in_err-payload : goal.returns-in_err-payload
 returns-in_err-payload c =
     let is = four c.args.words.now (omega (arith, c.in-len4.len_at_least, c.in-len4.len_below)) in
     let p = err_from_is_err_and c.from_residual-in_err-payload.result c.from_residual-in_err-payload.ensures.1 in
-    rw (p.1, p.2) (refused_too _ (answer_step (answered c.args.kind) (texts c.args.words.now)) _ (λ none. ap (answer_step (answered c.args.kind)) is ∙ (same_then _ (c.in_ok-node.ensures) ∙ (same_then _ (sym c.number.ensures ∙ c.in_ok-token.ensures.ok_part) ∙ (same_then _ (sym c.code.ensures ∙ c.in_ok-code.ensures.ok_part) ∙ none_then _ none)))) c.in_err-payload.ensures)
+    rw (p.1, p.2) (refused_too _ (answer_step (answered c.args.kind) (texts c.args.words.now)) _ (λ none. ap (answer_step (answered c.args.kind)) is ∙ (same_then _ (c.in_ok-node.ensures) ∙ (same_then _ (sym c.plain_u64.ensures ∙ c.in_ok-token.ensures.ok_part) ∙ (same_then _ (sym c.code.ensures ∙ c.in_ok-code.ensures.ok_part) ∙ none_then _ none)))) c.in_err-payload.ensures)
 
 pub returns : goal.returns
 returns c =
     let is = four c.args.words.now (omega (arith, c.in-len4.len_at_least, c.in-len4.len_below)) in
-    ap (answer_step (answered c.args.kind)) is ∙ (same_then _ (c.in_ok-node.ensures) ∙ (same_then _ (sym c.number.ensures ∙ c.in_ok-token.ensures.ok_part) ∙ (same_then _ (sym c.code.ensures ∙ c.in_ok-code.ensures.ok_part) ∙ same_then _ (c.in_ok-payload.ensures))))
+    ap (answer_step (answered c.args.kind)) is ∙ (same_then _ (c.in_ok-node.ensures) ∙ (same_then _ (sym c.plain_u64.ensures ∙ c.in_ok-token.ensures.ok_part) ∙ (same_then _ (sym c.code.ensures ∙ c.in_ok-code.ensures.ok_part) ∙ same_then _ (c.in_ok-payload.ensures))))
     ∙ ap (λ (r : Reply). Some (Answer c.in_ok-node.node c.in_ok-token.token r c.in_ok-payload.payload)) (sym c.reply.ensures)

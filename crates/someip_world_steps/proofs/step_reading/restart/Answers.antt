@@ -15,9 +15,9 @@ pub returns-in_err-delay : goal.returns-in_err-delay
 returns-in_err-delay c =
     let is = two c.args.words.now (omega (arith, c.in-len2.len_at_least, c.in-len2.len_below)) in
     let p = err_from_is_err_and c.from_residual-in_err-delay.result c.from_residual-in_err-delay.ensures.1 in
-    rw (p.1, p.2) (refused (restart_step (texts c.args.words.now)) _ (ap (restart_step) is ∙ (same_then _ (c.in_ok-node.ensures) ∙ (none_then _ (sym c.number.ensures ∙ c.in_err-delay.ensures.ok_part)))))
+    rw (p.1, p.2) (refused (restart_step (texts c.args.words.now)) _ (ap (restart_step) is ∙ (same_then _ (c.in_ok-node.ensures) ∙ (none_then _ (sym c.plain_u64.ensures ∙ c.in_err-delay.ensures.ok_part)))))
 
 pub returns : goal.returns
 returns c =
     let is = two c.args.words.now (omega (arith, c.in-len2.len_at_least, c.in-len2.len_below)) in
-    ap (restart_step) is ∙ (same_then _ (c.in_ok-node.ensures) ∙ (same_then _ (sym c.number.ensures ∙ c.in_ok-delay.ensures.ok_part)))
+    ap (restart_step) is ∙ (same_then _ (c.in_ok-node.ensures) ∙ (same_then _ (sym c.plain_u64.ensures ∙ c.in_ok-delay.ensures.ok_part)))

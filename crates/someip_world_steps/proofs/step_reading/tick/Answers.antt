@@ -15,9 +15,9 @@ pub returns-in_err-ms : goal.returns-in_err-ms
 returns-in_err-ms c =
     let is = two c.args.words.now (omega (arith, c.in-len2.len_at_least, c.in-len2.len_below)) in
     let p = err_from_is_err_and c.from_residual-in_err-ms.result c.from_residual-in_err-ms.ensures.1 in
-    rw (p.1, p.2) (refused (tick_step (texts c.args.words.now)) _ (ap (tick_step) is ∙ (same_then _ (c.in_ok-node.ensures) ∙ (none_then _ (sym c.number.ensures ∙ c.in_err-ms.ensures.ok_part)))))
+    rw (p.1, p.2) (refused (tick_step (texts c.args.words.now)) _ (ap (tick_step) is ∙ (same_then _ (c.in_ok-node.ensures) ∙ (none_then _ (sym c.plain_u64.ensures ∙ c.in_err-ms.ensures.ok_part)))))
 
 pub returns : goal.returns
 returns c =
     let is = two c.args.words.now (omega (arith, c.in-len2.len_at_least, c.in-len2.len_below)) in
-    ap (tick_step) is ∙ (same_then _ (c.in_ok-node.ensures) ∙ (same_then _ (sym c.number.ensures ∙ c.in_ok-ms.ensures.ok_part)))
+    ap (tick_step) is ∙ (same_then _ (c.in_ok-node.ensures) ∙ (same_then _ (sym c.plain_u64.ensures ∙ c.in_ok-ms.ensures.ok_part)))

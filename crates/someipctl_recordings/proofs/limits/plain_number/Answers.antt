@@ -1,8 +1,0 @@
-use Rattle.std.proofs.Common.{sym, ◌∙◌}
-use Rattle.someipctl_recordings.proofs.PortLemmas.{parsed}
-use Rattle.someipctl_recordings.proofs.limits.plain_number.Goals as goal
-
-pub returns-then-is_plain : goal.returns-then-is_plain
-returns-then-is_plain c =
-    let plain = rw c.as_bytes.ensures.value at (sym c.is_plain.ensures ∙ c.if-is_plain.true) in
-    c.ok.ensures.value ∙ parsed 64 c.args.text.now c.parse.result c.parse.ensures.value.0 plain
