@@ -2,7 +2,6 @@
 use Rattle.std.proofs.Common.{◌≡◌, ℕ, Bool, true, false, List, [], ◌∷◌, ◌++◌, Option, Some, None, Ok, refl, sym, ap, subst, ◌∙◌, append_assoc}
 use Rattle.std.specs.Io.KnownBytes.{Consumes, IsAtEnd}
 use Rattle.std.proofs.lemmas.List.{append-nil}
-use Rattle.recording.specs.declared.RecordingError.{RecordingError}
 use Rattle.recording.specs.declared.Next.TheVariants as next
 use Rattle.recording.specs.declared.stage.Stage.TheVariants.{Head}
 use Rattle.recording.specs.Packets.{RecordValue}

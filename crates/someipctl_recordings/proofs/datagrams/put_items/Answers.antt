@@ -3,7 +3,7 @@ use Rattle.recording.specs.View.{view_datagram}
 use Rattle.someip_wire.specs.Reading.{items_of}
 use Rattle.someip_wire.specs.View.{view_item}
 use Rattle.someipctl_io.specs.Items.{item_len}
-use Rattle.someipctl_io.proofs.SendingLemmas.{OnErr-any, IsSending-start, IsSending-end, IsSending-more, IsSending-stop}
+use Rattle.someipctl_io.proofs.SendingLemmas.{OnErr-any, IsSending-start, IsSending-more, IsSending-stop}
 use Rattle.someipctl_show.proofs.ShownTextLemmas.{items_len, items_within_datagram}
 use Rattle.someipctl_recordings.specs.Gathered.{store_after, view_store}
 use Rattle.someipctl_recordings.specs.RecordedText.{lines_with, recorded_lines, store_after_all}

@@ -1,7 +1,5 @@
-use Rattle.std.proofs.Common.{◌≡◌, subst, string_bytes}
 use Rattle.someip_wire.specs.View.{view}
 use Rattle.someipctl_io.specs.Lines.{whole_line}
-use Rattle.someipctl_io.specs.Sending.{Sends, Stops}
 use Rattle.someipctl_io.proofs.SendingLemmas.{OnErr-any, Sends-trans, Stops-after, Stops-before}
 use Rattle.someipctl_show.proofs.ShowResultLemmas.{Stops-none}
 use Rattle.someipctl_types.specs.ValueLine.{value_line}

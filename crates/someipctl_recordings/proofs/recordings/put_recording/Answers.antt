@@ -1,4 +1,4 @@
-use Rattle.std.proofs.Common.{◌+◌, ◌∙◌, [], ◌∷◌, Some, None, Err, refl, sym, ap, arith}
+use Rattle.std.proofs.Common.{◌∙◌, [], ◌∷◌, Some, None, Err, refl, sym, ap, arith}
 use Rattle.std.specs.Prelude.{option_map}
 use Rattle.recording.specs.View.{view_record}
 use Rattle.someipctl_show.proofs.ShowResultLemmas.{Stops-none}
@@ -6,7 +6,7 @@ use Rattle.someipctl_io.proofs.SendingLemmas.{OnErr-any}
 use Rattle.someipctl_recordings.specs.Gathered.{view_store}
 use Rattle.someipctl_recordings.specs.RecordingResult.{view_asked}
 use Rattle.someipctl_recordings.proofs.ComingLemmas.{comes_taken, comes_empty}
-use Rattle.someipctl_recordings.proofs.ShowingLemmas.{shown_begin, begins_nothing, stops_before, stops_within, shown_more, shown_none, count_more, puts_all}
+use Rattle.someipctl_recordings.proofs.ShowingLemmas.{shown_begin, stops_before, stops_within, shown_more, shown_none, count_more, puts_all}
 use Rattle.someipctl_recordings.proofs.recordings.put_recording.Goals as goal
 use Rattle.someipctl_recordings.proofs.recordings.put_recording.Goals.{in-Some+in_ok-put_record, in_default}
 
