@@ -1,22 +1,14 @@
 -- What the lines of a schedule say.
-use Rattle.std.specs.Prelude.{ℕ, ◌≡◌, ◌+◌, Bool, if◌then◌else◌, not, ◌&&◌, ◌==◌, true, false, List, [], ◌∷◌, filter, map, Option, Some, None, is_none, Result, Ok, Err}
-use Rattle.std.specs.List.{slice_split, position_from}
+use Rattle.std.specs.Prelude.{ℕ, ◌≡◌, ◌+◌, Bool, if◌then◌else◌, not, ◌&&◌, true, false, List, [], ◌∷◌, filter, map, Option, Some, None, is_none, Result, Ok, Err}
+use Rattle.std.specs.List.{position_from}
 use Rattle.std.specs.Str.{is_utf8}
+use Rattle.someip_texts.specs.Lines.{is_left_out, lines_of}
 use Rattle.someip_world_schedule.specs.declared.error.ScheduleError.{ScheduleError}
 use Rattle.someip_world_schedule.specs.declared.error.ScheduleError.TheVariants.{BadLine, OutOfMemory}
 use Rattle.someip_world_steps.specs.declared.step.Step.{Step}
 use Rattle.someip_world_steps.specs.declared.step_words.WordFault.{WordFault}
 use Rattle.someip_world_steps.specs.declared.step_words.WordFault.TheVariants as faults
 use Rattle.someip_world_steps.specs.Steps.{step_in}
-
--- the lines of a text: the parts between bytes 0a
-abbrev pub lines_of : List ℕ → List (List ℕ)
-lines_of text = slice_split (λ b. b == 0x0a) text
-
--- an empty line, or one that begins with `#`
-abbrev pub is_left_out : List ℕ → Bool
-is_left_out [] = true
-is_left_out (b ∷ line) = b == 0x23
 
 -- a line is skipped if it is empty, or UTF-8 that begins with `#`
 abbrev pub is_skipped : List ℕ → Bool

@@ -17,13 +17,14 @@
 //! - numbers are decimal, below 2^64, without a sign or leading zeros;
 //! - EP is `A.B.C.D:PORT`; a PORT of its own is from 1 to 65535;
 //! - PAYLOAD is pairs of hex digits, `-` for none, or `HH*N` for N times one byte, N at most 1048576.
-ghost use Rattle.std.specs.Prelude.{◌≡◌, ◌==◌, Some, None, IfErr, IfOk, OnOk, MatchOption};
+ghost use Rattle.std.specs.Prelude.{◌≡◌, Some, None, IfErr, IfOk, OnOk, MatchOption};
 ghost use Rattle.std.specs.Prelude.{IsOk, [], map, true, false};
 ghost use Rattle.std.specs.Str.{is_utf8};
-ghost use Rattle.someip_world_schedule.specs.Schedule.{IsFoundOf, RefusesSchedule, first_bad, is_left_out};
+ghost use Rattle.someip_world_schedule.specs.Schedule.{IsFoundOf, RefusesSchedule, first_bad};
 ghost use Rattle.someip_world_schedule.specs.Schedule.{lines_of_steps, steps_of};
 
 use crate::error::ScheduleError;
+use someip_texts::is_left_out;
 use someip_world_steps::{Step, WordFault, step_of_line};
 use std::alloc::Global;
 use std::str;
@@ -100,14 +101,4 @@ fn text_of(line: &[u8]) -> Option<&str>
         (λ text. (text.now ≡ line.now) × (is_utf8 line.now ≡ true)) }
 {
     str::from_utf8(line).ok()
-}
-
-/// Whether a line is empty, or begins with `#`.
-fn is_left_out(line: &[u8]) -> bool
-    ensures { result ≡ is_left_out line.now }
-{
-    match line {
-        [] => true,
-        [first, ..] => *first == b'#',
-    }
 }

@@ -5,7 +5,7 @@ use Rattle.std.specs.Ordering.{eq_by_cmp}
 use Rattle.std.specs.BTreeSet.{BTreeSet, contains}
 use Rattle.std.proofs.lemmas.List.{drop_all, drop_more}
 use Rattle.someip_world_setup_parts.specs.Clashes.{has_repeat}
-use Rattle.someip_world_setup_parts.proofs.FoundLemmas.{list_any-map}
+use Rattle.someip_texts.proofs.FoundLemmas.{list_any-map}
 
 module _ {K : Type 0} (cmp : K → K → Ordering) where
   -- one of the keys was met, or stands twice

@@ -3,7 +3,8 @@ use Rattle.std.specs.Prelude.{ℕ, ◌≡◌, ◌-◌, List, [], ◌++◌, codes
 use Rattle.std.specs.List.{flat_map}
 use Rattle.someip_world_rules.specs.declared.line.Line.{Line}
 use Rattle.someip_world_rules.specs.declared.reuse.Reuse.{Reuse}
-use Rattle.someip_world_schedule.specs.Schedule.{lines_of, lines_of_steps, steps_of}
+use Rattle.someip_texts.specs.Lines.{lines_of}
+use Rattle.someip_world_schedule.specs.Schedule.{lines_of_steps, steps_of}
 use Rattle.someip_world_steps.specs.Steps.{step_in}
 use Rattle.someip_world_setup_parts.specs.declared.error.SetupError.TheVariants as errors
 use Rattle.someip_world_setup.specs.declared.setup_node.SetupNode.{SetupNode}

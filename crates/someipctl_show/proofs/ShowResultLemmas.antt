@@ -1,9 +1,6 @@
 -- From what was read and written to what `show` promises.
 use Rattle.std.proofs.Common.{◌≡◌, ℕ, List, [], ◌∷◌, ◌++◌, map, Option, Some, Vec, Global, refl, ap, ◌∙◌, inr}
 use Rattle.std.proofs.KnownBytes.{Appends-nil}
-use Rattle.someipctl_io.specs.declared.outcome.Outcome.{Outcome}
-use Rattle.someipctl_show.specs.declared.show.ShowError.{ShowError}
-use Rattle.someipctl_show.specs.declared.show.ShowError.TheVariants.{CannotWrite, OutOfMemory}
 use Rattle.someipctl_show.specs.Capture.{captured_datagrams}
 use Rattle.someipctl_io.specs.Sending.{Stops}
 use Rattle.someipctl_show.specs.ShownText.{ComesWith, shown_text}

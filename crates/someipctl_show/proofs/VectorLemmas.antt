@@ -8,10 +8,11 @@ use Rattle.std.proofs.lemmas.List.Elements.{filter-append}
 use Rattle.std.proofs.lemmas.List.FromFn.{length-enumerate_from}
 use Rattle.someip_payload_values.specs.Check.{depth}
 use Rattle.someip_payload_values.specs.Data.{Form}
+use Rattle.someip_texts.specs.Lines.{is_left_out}
 use Rattle.someipctl_show.specs.declared.vector_lines.LineFault.{LineFault}
 use Rattle.someipctl_show.specs.declared.vector_lines.LineFault.TheVariants.{Bad, OutOfMemory}
 use Rattle.someipctl_show.specs.Payload.{argument_bytes}
-use Rattle.someipctl_show.specs.VectorLines.{AreArguments, of_datagram, of_payload, Said, asks, expects, Says, AsksNothing, IsBadBehind, IsFoundOf, is_left_out, is_counted, EachSays, begins_with_vector, has_vector, AreSaid, IsFirstBadLine}
+use Rattle.someipctl_show.specs.VectorLines.{AreArguments, of_datagram, of_payload, Said, asks, expects, Says, AsksNothing, IsBadBehind, IsFoundOf, is_counted, EachSays, begins_with_vector, has_vector, AreSaid, IsFirstBadLine}
 
 -- ---- one line
 

@@ -2,7 +2,6 @@
 use Rattle.std.proofs.Common.{◌≡◌, ◌<◌, ◌≤◌, ℕ, zero, suc, ◌+◌, Bool, List, [], ◌∷◌, ◌++◌, length, get_or, drop, map, Option, Some, refl, sym, ap, ◌∙◌, subst, append_assoc, arith, add-one, drop-cons}
 use Rattle.std.specs.Prelude.{IfSome}
 use Rattle.std.proofs.lemmas.List.{append-nil, drop_all}
-use Rattle.someipctl_io.specs.declared.outcome.Outcome.{Outcome}
 use Rattle.someipctl_show.specs.declared.vector_lines.Question.{Question}
 use Rattle.someipctl_show.specs.declared.vector_lines.VectorLine.{VectorLine}
 use Rattle.someipctl_show.specs.declared.vector_lines.VectorLine.TheVariants.{Asks}

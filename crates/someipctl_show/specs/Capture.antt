@@ -1,14 +1,11 @@
 -- What the lines of a capture say.
 use Rattle.std.specs.Prelude.{ℕ, ◌≡◌, Bool, not, ◌&&◌, ◌||◌, ◌==◌, nat_eq, if◌then◌else◌, List, [], ◌∷◌, filter, map, length, slice_index, Option, Some, is_none}
-use Rattle.std.specs.List.{slice_split, starts_with, position_from}
+use Rattle.std.specs.List.{starts_with, position_from}
 use Rattle.std.specs.Result.{result_ok}
 use Rattle.hex.specs.Hex.{decode_of}
+use Rattle.someip_texts.specs.Lines.{lines_of}
 use Rattle.someipctl_show.specs.declared.capture.CaptureError.{CaptureError}
 use Rattle.someipctl_show.specs.declared.capture.CaptureError.TheVariants.{BadHex, OutOfMemory}
-
--- the lines of a text: the parts between bytes 0a
-abbrev pub lines_of : List ℕ → List (List ℕ)
-lines_of text = slice_split (λ b. b == 0x0a) text
 
 -- a line without its spaces, the bytes 20
 abbrev pub without_blanks : List ℕ → List ℕ

@@ -1,11 +1,12 @@
 -- What the lines of a file of vectors say.
-use Rattle.std.specs.Prelude.{ℕ, suc, ◌≡◌, ◌≤◌, ◌==◌, Bool, true, false, not, List, [], ◌∷◌, ◌++◌, length, filter, codes, Option, Some, None, Result, Ok, Err}
+use Rattle.std.specs.Prelude.{ℕ, suc, ◌≡◌, ◌≤◌, Bool, true, false, not, List, [], ◌∷◌, ◌++◌, length, filter, codes, Option, Some, None, Result, Ok, Err}
 use Rattle.std.specs.List.{AllByRecursion}
 use Rattle.std.specs.Str.{IsUtf8}
 use Rattle.someip_payload_values.specs.Data.{Form}
 use Rattle.someip_payload_values.specs.Check.{depth}
 use Rattle.someip_payload_values.specs.View.{form}
 use Rattle.someip_payload.specs.ShapeText.{IsTextOf}
+use Rattle.someip_texts.specs.Lines.{is_left_out}
 use Rattle.someipctl_show.specs.declared.vector_lines.Question.{Question}
 use Rattle.someipctl_show.specs.declared.vector_lines.Question.TheVariants.{Datagram, Payload}
 use Rattle.someipctl_show.specs.declared.vector_lines.VectorLine.{VectorLine}
@@ -37,12 +38,7 @@ abbrev pub said_by : VectorLine → Said
 said_by (Asks question) = asks (asked_by question)
 said_by (Expects text) = expects text.now
 
--- a line is left out if it is empty, or a comment: it begins with `#`
-abbrev pub is_left_out : List ℕ → Bool
-is_left_out [] = true
-is_left_out (b ∷ line) = b == 0x23
-
--- each other line is counted: it has to say something
+-- each line that is not left out is counted: it has to say something
 abbrev pub is_counted : List ℕ → Bool
 is_counted line = not (is_left_out line)
 

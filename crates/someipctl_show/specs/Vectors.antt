@@ -8,7 +8,7 @@ use Rattle.someipctl_io.specs.declared.input.ReadFault.{ReadFault}
 use Rattle.someipctl_io.specs.declared.input.ReadFault.TheVariants as inputs
 use Rattle.someipctl_show.specs.declared.vectors.VectorsError.{VectorsError}
 use Rattle.someipctl_show.specs.declared.vectors.VectorsError.TheVariants.{BadVector, CannotRead, CannotWrite, OutOfMemory}
-use Rattle.someipctl_show.specs.Capture.{lines_of}
+use Rattle.someip_texts.specs.Lines.{lines_of}
 use Rattle.someipctl_io.specs.Lines.{joined}
 use Rattle.someipctl_io.specs.Outcomes.{fault_outcome}
 use Rattle.someipctl_show.specs.Payload.{Told}

@@ -8,7 +8,7 @@
 //! > value [1,2]
 //! > used 8 of 8
 //! ```
-ghost use Rattle.std.specs.Prelude.{◌≡◌, ◌==◌, ◌++◌, ◌≤◌, List, ℕ, Err, IfOk, Some, None, MatchOption, ◌≢◌};
+ghost use Rattle.std.specs.Prelude.{◌≡◌, ◌++◌, ◌≤◌, List, ℕ, Err, IfOk, Some, None, MatchOption, ◌≢◌};
 ghost use Rattle.someipctl_show.specs.declared.vector_lines.LineFault.TheVariants.{Bad, OutOfMemory};
 ghost use Rattle.someip_payload_values.specs.Check.{depth};
 ghost use Rattle.someip_payload_values.specs.Data.{Form};
@@ -16,10 +16,10 @@ ghost use Rattle.someip_payload_values.specs.View.{form};
 ghost use Rattle.someipctl_show.specs.Payload.{argument_bytes};
 ghost use Rattle.someipctl_show.specs.VectorLines.{AreArguments, AsksNothing, IsFoundOf, Says};
 ghost use Rattle.someipctl_show.specs.VectorLines.{asked_by, asks, fault_of_shape};
-ghost use Rattle.someipctl_show.specs.VectorLines.{is_left_out};
 
 use crate::payload::bytes_of_argument;
 use someip_payload::{Shape, ShapeTextError, read_shape};
+use someip_texts::is_left_out;
 use std::alloc::{AllocError, Global};
 use std::str;
 use thiserror::Error;
@@ -68,15 +68,6 @@ pub fn line_of<'t>(alloc: Global, line: &'t [u8]) -> Result<Option<VectorLine<'t
     }
     let question = question_of(alloc, text)?;
     Ok(Some(VectorLine::Asks(question)))
-}
-
-fn is_left_out(line: &[u8]) -> bool
-    ensures { result ≡ is_left_out line.now }
-{
-    match line {
-        [] => true,
-        [first, ..] => *first == b'#',
-    }
 }
 
 /// The text after a word, where a line begins with that.

@@ -1,17 +1,12 @@
 -- The keys of a table that are unknown.
-use Rattle.std.proofs.Common.{String, Global, ◌≡◌, ℕ, ◌+◌, ◌<◌, ◌≤◌, Bool, true, false, cond, ◌||◌, List, [], ◌∷◌, length, map, get_or, drop, Option, Some, refl, sym, ap, ◌∙◌, string_bytes}
+use Rattle.std.proofs.Common.{String, Global, ◌≡◌, ℕ, Bool, true, false, cond, ◌||◌, List, [], ◌∷◌, map, Option, Some, refl, sym, ap, ◌∙◌, string_bytes}
 use Rattle.std.specs.List.{list_any, find}
 use Rattle.std.specs.Option.{is_some}
 use Rattle.std.specs.BTreeMap.{BTreeMap, keys}
-use Rattle.std.proofs.lemmas.List.{drop_all, drop_more}
 use Rattle.toml.specs.Data.{Data, Members, as_table}
 use Rattle.toml.specs.View.{members_view, table_view}
 use Rattle.toml.specs.declared.value.Value.{Value}
 use Rattle.someipctl_types.specs.Tables.{is_unknown, keys_in, keys_of_members, has_unknown}
-
-pub list_any-map : {A B : Type 0} (p : B → Bool) (f : A → B) (xs : List A) → list_any p (map f xs) ≡ list_any (λ x. p (f x)) xs
-list_any-map p f [] = refl
-list_any-map p f (x ∷ xs) = ap (λ b. p (f x) || b) (list_any-map p f xs)
 
 any-find : {A : Type 0} (p : A → Bool) (xs : List A) → is_some (find p xs) ≡ list_any p xs
 any-find p [] = refl
@@ -33,29 +28,3 @@ first_decides known d m first is found =
     ∙ any-find (λ k. is_unknown known (string_bytes k)) (keys m)
     ∙ sym (any-keys (is_unknown known) m.entries)
     ∙ ap (λ (o : Option Members). list_any (is_unknown known) (keys_in o)) is
-
--- ---- asked of one after the other
-
-module _ {A B : Type 0} (p : B → Bool) (f : A → B) where
-  -- what was found, or is found in the rest, is found in all
-  abbrev pub HasFound : Bool → ℕ → List A → Type 0
-  HasFound found i xs = (found || list_any p (map f (drop i xs))) ≡ list_any p (map f xs)
-
-  pub one_asked : (found now : Bool) (i : ℕ) (xs : List A) (d : A) → i < length xs → now ≡ (found || p (f (get_or xs i d))) → HasFound found i xs → HasFound now (i + 1) xs
-  one_asked found now i xs d lt is h =
-      let same : (found || list_any p (map f (drop i xs))) ≡ (now || list_any p (map f (drop (i + 1) xs))) =
-      rw (drop_more xs i d lt, is) (regroup found (p (f (get_or xs i d))) (list_any p (map f (drop (i + 1) xs)))) in
-      sym same ∙ h
-    where
-      regroup : (a b c : Bool) → (a || (b || c)) ≡ ((a || b) || c)
-      regroup true b c = refl
-      regroup false b c = refl
-
-  pub all_asked : (found : Bool) (i : ℕ) (xs : List A) → length xs ≤ i → HasFound found i xs → found ≡ list_any p (map f xs)
-  all_asked found i xs le h =
-      let same : (found || list_any p (map f (drop i xs))) ≡ found = rw (drop_all i xs le) (last found) in
-      sym same ∙ h
-    where
-      last : (a : Bool) → (a || false) ≡ a
-      last true = refl
-      last false = refl

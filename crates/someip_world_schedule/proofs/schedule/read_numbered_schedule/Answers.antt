@@ -1,8 +1,11 @@
 use Rattle.std.proofs.Common.{◌≡◌, true, false, not, ap, Some, rules, tests}
 use Rattle.std.proofs.lemmas.Iterator.Consumers.{YieldsList-turn, YieldsList-end}
 use Rattle.std.proofs.lemmas.List.{map_push, length_push}
-use Rattle.someip_world_schedule.specs.Schedule.{is_read, lines_of}
-use Rattle.someip_world_schedule.proofs.ScheduleLemmas.{YieldsList-lines, next_line, HasRead-skipped, HasRead-more, HasRead-bad, HasRead-some, HasRead-all, HasNumbered-skipped, HasNumbered-read, HasNumbered-all}
+use Rattle.someip_texts.specs.Lines.{lines_of}
+use Rattle.someip_texts.proofs.LineLemmas.{YieldsList-lines, next_line, HasRead-skipped, HasRead-more, HasRead-bad, HasRead-some, HasRead-all}
+use Rattle.someip_world_steps.specs.Steps.{step_in}
+use Rattle.someip_world_schedule.specs.Schedule.{is_read, is_skipped}
+use Rattle.someip_world_schedule.proofs.ScheduleLemmas.{HasNumbered-skipped, HasNumbered-read, HasNumbered-all}
 use Rattle.someip_world_schedule.proofs.schedule.read_numbered_schedule.Goals as goal
 
 pub loop-i-preserved : goal.loop-i-preserved
@@ -15,7 +18,7 @@ loop-i-preserved c =
     let told = rw c.in-Ok-Some.field-0-is at c.in-Ok-Some.ensures in
     let more = map_push (λ s. Some s) c.loop-i.steps.items c.in-Ok-Some.step in
     let read : is_read c.in-Some.line.now ≡ true = ap not told.0 in (
-      rw (c.in_ok-push.ensures.items, more, length_push c.loop-i.yielded (c.in-Some.i, c.in-Some.line)) (HasRead-more _ _ _ _ _ next.1 told.0 told.1 c.loop-i.invariant.0),
+      rw (c.in_ok-push.ensures.items, more, length_push c.loop-i.yielded (c.in-Some.i, c.in-Some.line)) (HasRead-more is_skipped step_in _ _ _ _ _ next.1 told.0 told.1 c.loop-i.invariant.0),
       rw (c.in_ok-push-2.ensures.items, length_push c.loop-i.yielded (c.in-Some.i, c.in-Some.line), next.0) (HasNumbered-read _ _ _ _ next.1 read c.loop-i.invariant.1),
     )
 
@@ -29,7 +32,7 @@ loop-i-preserved-in-Ok-None c =
     let told = rw c.in-Ok-None.field-0-is at c.in-Ok-None.ensures in
     let unread : is_read c.in-Some.line.now ≡ false = ap not told in
     rw (length_push c.loop-i.yielded (c.in-Some.i, c.in-Some.line)) (
-      HasRead-skipped _ _ _ _ next.1 told c.loop-i.invariant.0,
+      HasRead-skipped is_skipped step_in _ _ _ _ next.1 told c.loop-i.invariant.0,
       HasNumbered-skipped _ _ _ _ next.1 unread c.loop-i.invariant.1,
     )
 
@@ -41,7 +44,7 @@ returns-in-Err-Bad-clause-fault c =
     c.into_iter-i-iterator.ensures.into_iter_gives)
     c.loop-i.yielded _ c.loop-i.yielded_by _ _ (c.in-Some.i, c.in-Some.line) c.in-Some.is c.next.ensures.steps) in
     let told = rw c.in-Err-Bad.field-0-is at c.in-Err-Bad.ensures in
-    rw next.0 (HasRead-bad _ _ _ _ next.1 told.0 told.1 c.loop-i.invariant.0)
+    rw next.0 (HasRead-bad is_skipped step_in _ _ _ _ next.1 told.0 told.1 c.loop-i.invariant.0)
 
 pub returns-clause-found : goal.returns-clause-found
 returns-clause-found c =
@@ -50,7 +53,7 @@ returns-clause-found c =
     (λ x b q k. search (rules, tests)) c.enumerate-i-items.ensures.source c.enumerate-i-items.ensures.count
     c.into_iter-i-iterator.ensures.into_iter_gives)
     c.loop-i.yielded _ c.loop-i.yielded_by _ _ c.in-None.is c.next.ensures.steps in
-    (HasRead-all _ _ _ end.1 c.loop-i.invariant.0).0
+    (HasRead-all is_skipped step_in _ _ _ end.1 c.loop-i.invariant.0).0
 
 pub returns-clause-lines : goal.returns-clause-lines
 returns-clause-lines c =
@@ -68,7 +71,7 @@ returns-clause-only c =
     (λ x b q k. search (rules, tests)) c.enumerate-i-items.ensures.source c.enumerate-i-items.ensures.count
     c.into_iter-i-iterator.ensures.into_iter_gives)
     c.loop-i.yielded _ c.loop-i.yielded_by _ _ c.in-None.is c.next.ensures.steps in
-    (HasRead-all _ _ _ end.1 c.loop-i.invariant.0).1
+    (HasRead-all is_skipped step_in _ _ _ end.1 c.loop-i.invariant.0).1
 
 pub returns-in-Err-Bad-clause-idle : goal.returns-in-Err-Bad-clause-idle
 returns-in-Err-Bad-clause-idle c =
@@ -78,7 +81,7 @@ returns-in-Err-Bad-clause-idle c =
     c.into_iter-i-iterator.ensures.into_iter_gives)
     c.loop-i.yielded _ c.loop-i.yielded_by _ _ (c.in-Some.i, c.in-Some.line) c.in-Some.is c.next.ensures.steps) in
     let told = rw c.in-Err-Bad.field-0-is at c.in-Err-Bad.ensures in
-    λ none. absurd (HasRead-some _ _ _ _ next.1 told.0 c.loop-i.invariant.0 none)
+    λ none. absurd (HasRead-some is_skipped step_in _ _ _ _ next.1 told.0 c.loop-i.invariant.0 none)
 
 pub returns-in-Err-OutOfMemory-clause-idle : goal.returns-in-Err-OutOfMemory-clause-idle
 returns-in-Err-OutOfMemory-clause-idle c =
@@ -88,7 +91,7 @@ returns-in-Err-OutOfMemory-clause-idle c =
     c.into_iter-i-iterator.ensures.into_iter_gives)
     c.loop-i.yielded _ c.loop-i.yielded_by _ _ (c.in-Some.i, c.in-Some.line) c.in-Some.is c.next.ensures.steps) in
     let told = rw c.in-Err-OutOfMemory.field-0-is at c.in-Err-OutOfMemory.ensures in
-    λ none. absurd (HasRead-some _ _ _ _ next.1 told c.loop-i.invariant.0 none)
+    λ none. absurd (HasRead-some is_skipped step_in _ _ _ _ next.1 told c.loop-i.invariant.0 none)
 
 pub returns-in_err-push-clause-idle : goal.returns-in_err-push-clause-idle
 returns-in_err-push-clause-idle c =
@@ -98,7 +101,7 @@ returns-in_err-push-clause-idle c =
     c.into_iter-i-iterator.ensures.into_iter_gives)
     c.loop-i.yielded _ c.loop-i.yielded_by _ _ (c.in-Some.i, c.in-Some.line) c.in-Some.is c.next.ensures.steps) in
     let told = rw c.in-Ok-Some.field-0-is at c.in-Ok-Some.ensures in
-    λ none. absurd (HasRead-some _ _ _ _ next.1 told.0 c.loop-i.invariant.0 none)
+    λ none. absurd (HasRead-some is_skipped step_in _ _ _ _ next.1 told.0 c.loop-i.invariant.0 none)
 
 pub returns-in_err-push-2-clause-idle : goal.returns-in_err-push-2-clause-idle
 returns-in_err-push-2-clause-idle c =
@@ -108,4 +111,4 @@ returns-in_err-push-2-clause-idle c =
     c.into_iter-i-iterator.ensures.into_iter_gives)
     c.loop-i.yielded _ c.loop-i.yielded_by _ _ (c.in-Some.i, c.in-Some.line) c.in-Some.is c.next.ensures.steps) in
     let told = rw c.in-Ok-Some.field-0-is at c.in-Ok-Some.ensures in
-    λ none. absurd (HasRead-some _ _ _ _ next.1 told.0 c.loop-i.invariant.0 none)
+    λ none. absurd (HasRead-some is_skipped step_in _ _ _ _ next.1 told.0 c.loop-i.invariant.0 none)

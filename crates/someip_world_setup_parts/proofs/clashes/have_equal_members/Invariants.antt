@@ -1,7 +1,7 @@
 use Rattle.std.proofs.Common.{false}
 use Rattle.someip_world_setup_parts.specs.Clashes.{has_equal_members}
 use Rattle.someip_world_setup_parts.specs.Values.{listed_view}
-use Rattle.someip_world_setup_parts.proofs.FoundLemmas.{HasFound}
+use Rattle.someip_texts.proofs.FoundLemmas.{HasFound}
 use Rattle.someip_world_setup_parts.proofs.clashes.have_equal_members.Given as goal
 
 abbrev pub invariant-loop-list : goal.invariant-loop-list

@@ -1,7 +1,7 @@
 use Rattle.std.proofs.Common.{false}
 use Rattle.someip_world_setup_parts.specs.Clashes.{has_liar_tables}
 use Rattle.someip_world_setup_parts.specs.Values.{node_view}
-use Rattle.someip_world_setup_parts.proofs.FoundLemmas.{HasFound}
+use Rattle.someip_texts.proofs.FoundLemmas.{HasFound}
 use Rattle.someip_world_setup_parts.proofs.clashes.liar_table.Given as goal
 
 abbrev pub invariant-loop-node : goal.invariant-loop-node

@@ -1,6 +1,6 @@
 use Rattle.std.proofs.Common.{sym, ap, ◌∙◌, bytes_eq}
 use Rattle.std.specs.List.{list_any}
-use Rattle.someip_world_setup_parts.proofs.FoundLemmas.{list_any-map}
+use Rattle.someip_texts.proofs.FoundLemmas.{list_any-map}
 use Rattle.someip_world_setup_parts.proofs.unknown.is_known_key.Goals as goal
 
 pub returns : goal.returns

@@ -2,7 +2,7 @@ use Rattle.std.specs.Option.{is_some}
 use Rattle.std.specs.List.{list_any}
 use Rattle.toml.specs.View.{view}
 use Rattle.someip_world_setup_parts.specs.KnownKeys.{has_unknown, listed_at}
-use Rattle.someip_world_setup_parts.proofs.FoundLemmas.{HasFound}
+use Rattle.someip_texts.proofs.FoundLemmas.{HasFound}
 use Rattle.someip_world_setup_parts.proofs.unknown.unknown_at.Given as goal
 
 abbrev pub invariant-loop-table : goal.invariant-loop-table

@@ -3,7 +3,8 @@ use Rattle.std.specs.List.{list_any}
 use Rattle.std.specs.Option.{is_some}
 use Rattle.toml.specs.View.{view}
 use Rattle.someip_world_setup_parts.specs.KnownKeys.{has_unknown, listed_at, listed_in}
-use Rattle.someip_world_setup_parts.proofs.FoundLemmas.{all_asked, list_any-below}
+use Rattle.someip_texts.proofs.FoundLemmas.{all_asked}
+use Rattle.someip_world_setup_parts.proofs.FoundLemmas.{list_any-below}
 use Rattle.someip_world_setup_parts.proofs.unknown.unknown_below.Goals as goal
 
 pub returns : goal.returns

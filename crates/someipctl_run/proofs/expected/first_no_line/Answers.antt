@@ -1,8 +1,8 @@
 use Rattle.std.proofs.Common.{rules, tests, sym, ◌∙◌}
 use Rattle.std.proofs.lemmas.Iterator.Consumers.{YieldsList-turn, YieldsList-end}
 use Rattle.std.proofs.lemmas.List.{length_push}
-use Rattle.someip_world_schedule.specs.Schedule.{lines_of}
-use Rattle.someip_world_schedule.proofs.ScheduleLemmas.{YieldsList-lines, next_line}
+use Rattle.someip_texts.specs.Lines.{lines_of}
+use Rattle.someip_texts.proofs.LineLemmas.{YieldsList-lines, next_line}
 use Rattle.someipctl_run.proofs.ExpectedLemmas.{AreLines-more, AreLines-bad, AreLines-all}
 use Rattle.someipctl_run.proofs.expected.first_no_line.Goals as goal
 

@@ -1,5 +1,5 @@
 use Rattle.std.proofs.Common.{length}
-use Rattle.someip_world_schedule.specs.Schedule.{lines_of}
+use Rattle.someip_texts.specs.Lines.{lines_of}
 use Rattle.someipctl_run.proofs.ExpectedLemmas.{AreLines}
 use Rattle.someipctl_run.proofs.expected.first_no_line.Given as goal
 

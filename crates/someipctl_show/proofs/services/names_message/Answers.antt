@@ -1,4 +1,4 @@
-use Rattle.std.proofs.Common.{◌≡◌, true, sym, ap, ◌∙◌, rules, refl}
+use Rattle.std.proofs.Common.{◌≡◌, sym, ap, ◌∙◌, rules, refl}
 use Rattle.std.specs.List.{list_any}
 use Rattle.someip_wire.specs.Reading.{items_of}
 use Rattle.someipctl_show.specs.Services.{asks_item}

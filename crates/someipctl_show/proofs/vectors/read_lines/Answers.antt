@@ -1,9 +1,9 @@
 use Rattle.std.proofs.Common.{rules, tests, sym, ◌∙◌, map}
 use Rattle.std.proofs.lemmas.Iterator.Consumers.{YieldsList-turn, YieldsList-end}
 use Rattle.std.proofs.lemmas.List.{map_push, length_push}
-use Rattle.someipctl_show.specs.Capture.{lines_of}
+use Rattle.someip_texts.specs.Lines.{lines_of}
+use Rattle.someip_texts.proofs.LineLemmas.{YieldsList-lines, next_line}
 use Rattle.someipctl_show.specs.VectorLines.{said_by}
-use Rattle.someipctl_show.proofs.CaptureLemmas.{YieldsList-lines, next_line}
 use Rattle.someipctl_show.proofs.VectorLemmas.{bad_behind, up_to_nothing, up_to_more, up_to_bad, up_to_end}
 use Rattle.someipctl_show.proofs.vectors.read_lines.Goals as goal
 

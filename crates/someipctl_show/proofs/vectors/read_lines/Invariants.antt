@@ -1,5 +1,5 @@
 use Rattle.std.proofs.Common.{length, map, take}
-use Rattle.someipctl_show.specs.Capture.{lines_of}
+use Rattle.someip_texts.specs.Lines.{lines_of}
 use Rattle.someipctl_show.specs.VectorLines.{AreSaid, said_by}
 use Rattle.someipctl_show.proofs.vectors.read_lines.Given as goal
 

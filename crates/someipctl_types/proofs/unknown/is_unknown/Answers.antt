@@ -1,5 +1,5 @@
 use Rattle.std.proofs.Common.{bytes_eq, not, Bool, sym, ap, ◌∙◌}
-use Rattle.someipctl_types.proofs.UnknownLemmas.{list_any-map}
+use Rattle.someip_texts.proofs.FoundLemmas.{list_any-map}
 use Rattle.someipctl_types.proofs.unknown.is_unknown.Goals as goal
 
 pub returns : goal.returns

@@ -1,7 +1,7 @@
 use Rattle.std.specs.Option.{is_some}
 use Rattle.toml.specs.View.{view}
 use Rattle.someipctl_types.specs.Tables.{table_keys, has_unknown}
-use Rattle.someipctl_types.proofs.UnknownLemmas.{HasFound}
+use Rattle.someip_texts.proofs.FoundLemmas.{HasFound}
 use Rattle.someipctl_types.proofs.unknown.unknown_of.Given as goal
 
 abbrev pub invariant-loop-table : goal.invariant-loop-table
