@@ -20,7 +20,7 @@ back_dues_total o = on_total (λ r. r.0) (back_total (dues_total o))
 pub exact_back_dues : {K : Type 0} {R : K → K → Ordering} → IsAntisymmetric R → IsAntisymmetric (back_cmp (due_cmp R))
 exact_back_dues exact a b h = ap (λ due. record { 0 = due }) (sym (exact_dues exact b.0 a.0 h))
 
--- a due that comes after this one is this one, or does not tie
+-- two dues tie where they have one moment and one key
 due_ties : {K : Type 0} (R : K → K → Ordering) (key : K) (at : ℕ) (due : Due K) → eq_by_cmp (due_cmp R) (record { at = at; key = key }) due ≡ ((at == due.at) && eq_by_cmp R key due.key)
 due_ties R key at due = cases (nat_lt at due.at) (at == due.at) refl refl
   where
@@ -32,12 +32,12 @@ due_ties R key at due = cases (nat_lt at due.at) (at == due.at) refl refl
     cases false false l e = refl
 
 module _ {K : Type 0} {R : K → K → Ordering} (o : IsTotalOrder R) where
-  -- two of them tie where they are one key at one moment
+  -- so do they where the last comes first
   pub back_ties : (key : K) (at : ℕ) (due : Due K)
       → eq_by_cmp (back_cmp (due_cmp R)) (record { 0 = record { at = at; key = key } }) (record { 0 = due }) ≡ ((at == due.at) && eq_by_cmp R key due.key)
   back_ties key at due = (eq_by_cmp_equiv (dues_total o)).symm due (record { at = at; key = key }) ∙ due_ties R key at due
 
-  -- what a change at one of them makes of the set
+  -- what a change at one due makes of the set
   pub changed_due : (old new : Dues K) (key : K) (at : ℕ) (w : Bool)
       → ((q : Reverse (Due K)) → contains (back_cmp (due_cmp R)) new q
       ≡ cond (eq_by_cmp (back_cmp (due_cmp R)) (record { 0 = record { at = at; key = key } }) q) w (contains (back_cmp (due_cmp R)) old q))
@@ -45,7 +45,7 @@ module _ {K : Type 0} {R : K → K → Ordering} (o : IsTotalOrder R) where
   unfolding has_due
   changed_due old new key at w is due = is (record { 0 = due }) ∙ ap (λ b. cond b w (contains (back_cmp (due_cmp R)) old (record { 0 = due }))) (back_ties key at due)
 
-  -- a due that is this one is in the set no more than this one
+  -- where one due is not in the set, none that ties with it is
   pub absent_due : (exact : IsAntisymmetric R) (dues : Dues K) (key : K) (at : ℕ) → contains (back_cmp (due_cmp R)) dues (record { 0 = record { at = at; key = key } }) ≡ false
       → (due : Due K) → ((at == due.at) && eq_by_cmp R key due.key) ≡ true → has_due R dues due ≡ false
   unfolding has_due
