@@ -1,9 +1,9 @@
 //! What tells the calls of a recording apart.
-ghost use Rattle.std.specs.Prelude.{◌≡◌, ◌<◌, ◌^◌, ℕ, length, slice_index};
-ghost use Rattle.someip_tables.specs.Endpoints.{endpoint_cmp};
+ghost use Rattle.std.specs.Prelude.{◌≡◌};
 ghost use Rattle.audit_calls.specs.AuditedCalls.{asked_call, answered_call, ids_cmp};
-ghost use Rattle.audit_calls.specs.CallNumbers.{IsEndpoint, IsIds, endpoint_number, ids_number, spelled};
+ghost use Rattle.audit_calls.specs.CallNumbers.{IsIds, ids_number};
 
+use audit_tables::{compare_endpoints, number_of_endpoint};
 use someip_wire::Header;
 use std::cmp::Ordering;
 use std::hash::{Hash, Hasher};
@@ -112,7 +112,8 @@ impl Hash for AuditedCall {
     ghost use Rattle.std.specs.Hash as fed;
     ghost use Rattle.std.specs.Cmp.Rules.{comparing, hashing};
     ghost use Rattle.std.proofs.Common.{rules};
-    ghost use Rattle.audit_calls.specs.CallNumbers.{endpoint_number, ids_number};
+    ghost use Rattle.audit_tables.specs.EndpointNumbers.{endpoint_number};
+    ghost use Rattle.audit_calls.specs.CallNumbers.{ids_number};
 
     ghost hash_input = { λ c. fed.u64 (ids_number c) ++ fed.u64 (endpoint_number c.from) ++ fed.u64 (endpoint_number c.to) };
 
@@ -120,8 +121,8 @@ impl Hash for AuditedCall {
 
     fn hash<H: Hasher>(&self, state: &mut H) {
         state.write_u64(number_of_ids(self));
-        state.write_u64(number_of(&self.from));
-        state.write_u64(number_of(&self.to));
+        state.write_u64(number_of_endpoint(&self.from));
+        state.write_u64(number_of_endpoint(&self.to));
     }
 }
 
@@ -130,32 +131,6 @@ fn compare_ids(call: &AuditedCall, other: &AuditedCall) -> Ordering
     ensures { result ≡ ids_cmp call.now other.now }
 {
     number_of_ids(call).cmp(&number_of_ids(other))
-}
-
-/// Two endpoints, in order: as numbers, since octet by octet takes longer.
-fn compare_endpoints(endpoint: &SocketAddrV4, other: &SocketAddrV4) -> Ordering
-    ensures { result ≡ endpoint_cmp endpoint.now other.now }
-{
-    number_of(endpoint).cmp(&number_of(other))
-}
-
-/// An endpoint as a number: its octets, and then its port.
-fn number_of(endpoint: &SocketAddrV4) -> u64
-    ensures number { result ≡ endpoint_number endpoint.now }
-    ensures valid { IsEndpoint endpoint.now }
-{
-    number_of_octets(endpoint.ip().octets()) * 65536 + u64::from(endpoint.port())
-}
-
-/// An address as a number.
-fn number_of_octets(octets: [u8; 4]) -> u64
-    ensures number { result ≡ spelled 0 octets }
-    ensures four { length octets ≡ 4 }
-    ensures bytes { (i : ℕ) → slice_index octets i < 256 }
-    ensures fits { result < 2 ^ 32 }
-{
-    let [a, b, c, d] = octets;
-    ((u64::from(a) * 256 + u64::from(b)) * 256 + u64::from(c)) * 256 + u64::from(d)
 }
 
 /// Message ID and Request ID as a number.

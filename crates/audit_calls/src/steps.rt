@@ -1,5 +1,5 @@
 //! What a message makes of the calls that are known, and which of them are due.
-ghost use Rattle.std.specs.Prelude.{◌≡◌, ◌≢◌, ◌≤◌, ◌<◌, ◌+◌, true, false, nat_lt, ◌||◌, is_some};
+ghost use Rattle.std.specs.Prelude.{◌≡◌, ◌≢◌, ◌≤◌, ◌<◌, ◌+◌, true, nat_lt, ◌||◌, is_some};
 ghost use Rattle.std.specs.Prelude.{if◌then◌else◌, Some, None, IfOk, IfSome, IfNone, OnErr, OnOk, ℕ};
 ghost use Rattle.std.specs.FinMap as finite;
 ghost use Rattle.std.specs.Option.{option_and_then};
@@ -9,7 +9,7 @@ ghost use Rattle.audit_tables.specs.Dues.{IsFirstDue};
 ghost use Rattle.audit_calls.specs.AuditedCalls.{call_cmp};
 ghost use Rattle.audit_calls.specs.KnownCalls.{waits_of, told_of_request, known_by_request};
 ghost use Rattle.audit_calls.specs.KnownCalls.{told_of_answer, known_by_answer};
-ghost use Rattle.audit_calls.specs.CallBooks.{Book, has_room, known, may_be_asked, with_known};
+ghost use Rattle.audit_calls.specs.CallBooks.{has_room, known, may_be_asked, with_known};
 ghost use Rattle.audit_calls.specs.Overdue.{IsOpenCall, told_cmp, calls_after_due};
 ghost use Rattle.audit_calls.specs.declared.call.AuditedCall.{AuditedCall};
 ghost use Rattle.audit_calls.specs.declared.finding.Unanswered.{Unanswered};

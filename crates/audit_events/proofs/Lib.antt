@@ -1,7 +1,11 @@
 pub mod FlowLemmas
 mod NearestLemmas
 mod HistoryLemmas
-pub mod OrderLemmas
-pub mod WalkLemmas
+pub mod GroupLemmas
+pub mod SourceLemmas
+pub mod ChangedGroups
+pub mod AddedFlows
+pub mod CameLemmas
+pub mod SawLemmas
 mod SinceLemmas
 mod ReasonLemmas

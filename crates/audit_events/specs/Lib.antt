@@ -2,7 +2,8 @@ pub mod FlowKeys
 pub mod FlowOrder
 pub mod EventRules
 pub mod EventTables
+pub mod FlowGroups
+pub mod SourceEquality
 pub mod EventHistories
 pub mod EventExamples
-pub mod Neighbours
 pub mod EventReasons

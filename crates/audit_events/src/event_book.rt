@@ -1,17 +1,14 @@
 //! The last event of each flow.
-ghost use Rattle.std.specs.Prelude.{◌≡◌, ◌≤◌, IfOk, OnErr, true, false};
+ghost use Rattle.std.specs.Prelude.{◌≡◌, IfOk, OnErr, true, false};
 ghost use Rattle.std.specs.FinMap as finite;
 ghost use Rattle.audit_events.specs.EventTables.{after_change, after_event, after_withdrawal};
 ghost use Rattle.audit_events.specs.EventTables.{needs_memory, told_by, without};
 
 use crate::finding::Finding;
+use crate::flow_table::FlowTable;
 use crate::notification::Notification;
-use crate::steps::{
-    Flows, disturb, forget, has_room, judge, last_of, pass_others, put, renewed, tell_full,
-    withdraw,
-};
+use crate::steps::{judge, renewed, tell_full};
 use std::alloc::{AllocError, Global};
-use std::collections::BTreeMap;
 use std::marker::Model;
 use std::net::Ipv4Addr;
 
@@ -19,7 +16,7 @@ use std::net::Ipv4Addr;
 #[derive(Drop)]
 pub struct EventBook {
     limit: usize,
-    flows: Flows,
+    flows: FlowTable,
     told_full: bool,
 }
 
@@ -34,7 +31,7 @@ impl Model for EventBook {
 
     ghost view = { λ b. record {
       limit = b.limit;
-      flows = map_of flow_cmp b.flows.entries;
+      flows = map_of flow_cmp b.flows;
       told_full = b.told_full;
     } };
 }
@@ -46,7 +43,7 @@ impl EventBook {
     {
         EventBook {
             limit,
-            flows: BTreeMap::new(alloc),
+            flows: FlowTable::new(alloc),
             told_full: false,
         }
     }
@@ -67,30 +64,32 @@ impl EventBook {
         if event.session == 0 {
             return Ok(None);
         }
-        let last = last_of(&self.flows, &event.flow);
-        if last.is_none() && !has_room(&self.flows, self.limit) {
+        if let Some(last) = self.flows.came(&event) {
+            return Ok(judge(!self.told_full, Some(last), event.session));
+        }
+        if self.limit <= self.flows.len() {
             return Ok(tell_full(&mut self.told_full));
         }
-        put(&mut self.flows, event.flow, renewed(event.session, last))?;
-        pass_others(&mut self.flows, &event);
-        Ok(judge(!self.told_full, last, event.session))
+        self.flows.add(&event.flow, renewed(event.session, None))?;
+        self.flows.came(&event);
+        Ok(None)
     }
 
     /// Takes note that a subscription of a client at a server changed: by a Subscribe, a StopSubscribe,
     /// an Ack or a Nack, or because it expired. No gap is told of the next event from the server to that
-    /// client, or to a multicast group. It looks at every flow, and takes no memory.
+    /// client, or to a multicast group. It looks at the source of every flow, and takes no memory.
     pub fn disturb(&mut self, client: Ipv4Addr, server: Ipv4Addr)
         ensures { self.new ≡ after_change client server self.old }
     {
-        disturb(&mut self.flows, client, server);
+        self.flows.disturb(client, server);
     }
 
     /// Takes note that a server withdrew an offer of a service by a StopOffer: no gap is told of the next
-    /// event of each flow of that service. It looks at every flow, and takes no memory.
+    /// event of each flow of that service. It looks at the source of every flow, and takes no memory.
     pub fn withdraw(&mut self, server: Ipv4Addr, service: u16)
         ensures { self.new ≡ after_withdrawal server service self.old }
     {
-        withdraw(&mut self.flows, server, service);
+        self.flows.withdraw(server, service);
     }
 
     /// Forgets the flows from an address that began again, and those to it: the next event of each is
@@ -98,7 +97,7 @@ impl EventBook {
     pub fn forget(&mut self, address: Ipv4Addr)
         ensures { self.new ≡ without address self.old }
     {
-        forget(&mut self.flows, address);
+        self.flows.forget(address);
     }
 
     /// How many flows there are.

@@ -11,9 +11,14 @@
 mod event_book;
 mod finding;
 mod flow;
+mod flow_table;
+mod groups;
 mod last_event;
 pub mod laws;
 mod notification;
+mod receiver;
+mod receivers;
+mod source;
 mod steps;
 
 pub use event_book::EventBook;

@@ -5,8 +5,6 @@ use Rattle.std.specs.Result.{OnErr, OnOk}
 use Rattle.std.proofs.lemmas.Bool.{lt-ltb, ltb-true}
 use Rattle.std.specs.List.{list_any}
 use Rattle.std.specs.Ordering.{eq_by_cmp}
-use Rattle.std.specs.BTreeMap as tree
-use Rattle.std.specs.BTreeMap.{BTreeMap, btree_map_len, IsOrdered, IsUnchanged, Updates}
 use Rattle.std.specs.FinMap as finite
 use Rattle.std.specs.declared.net.socket_addr.SocketAddrV4.{SocketAddrV4}
 use Rattle.someip_tables.specs.declared.lasting.Lasting.{Lasting}
@@ -19,7 +17,6 @@ use Rattle.someip_tables.proofs.Entries.{get-retain, same_by_test}
 use Rattle.someip_tables.proofs.Expiry.{get-expired, unexpired-all}
 use Rattle.someip_tables.proofs.MapLaws.{remove_absent, retain-insert_dropped, retain-insert_kept}
 use Rattle.someip_tables.proofs.SortedEntries.{entries-retain}
-use Rattle.someip_tables.proofs.Trees.{get-map_of, len-map_of, map_of-insert, map_of-none}
 use Rattle.audit_subscriptions.specs.declared.key.SubscriptionKey.{SubscriptionKey}
 use Rattle.audit_subscriptions.specs.SubscriptionKeys.{subscription_cmp}
 use Rattle.audit_subscriptions.specs.SubscriptionOrder.{subscriptions_total, exact_subscriptions}
@@ -32,9 +29,9 @@ use Rattle.audit_receivers.specs.ReceiverTables.{Subscriptions, Told, is_subscri
 
 -- ---- nothing was found
 
-pub none_found : (fine : BTreeMap Delivery (Unit {0})) (standing : Subscriptions) → btree_map_len fine ≡ 0 → AreSubscribed (map_of delivery_cmp fine.entries) standing
+pub none_found : (fine : Told) (standing : Subscriptions) → fine ≡ finite.empty → AreSubscribed fine standing
 none_found fine standing none delivery found =
-    let empty : finite.get (map_of delivery_cmp fine.entries) delivery ≡ None = ap (λ m. finite.get m delivery) (map_of-none deliveries_total exact_deliveries fine.entries none) ∙ finite.get-empty delivery_cmp delivery in
+    let empty : finite.get fine delivery ≡ None = ap (λ m. finite.get m delivery) none ∙ finite.get-empty delivery_cmp delivery in
     absurd (cc)
 
 -- ---- nothing has expired
@@ -133,16 +130,10 @@ any_is delivery standing =
     ∙ ap (λ es. nat_lt 0 (length es)) (sym (entries-retain subscriptions_total exact_subscriptions standing (λ k l. goes_by delivery k l.value)))
     ∙ ap (nat_lt 0) (sym (finite.len-entries (retain standing (λ k l. goes_by delivery k l.value))))
 
--- ---- what is told
-
-pub told_is : (told : BTreeMap Delivery (Unit {0})) (delivery : Delivery) → is_some (tree.get delivery_cmp told delivery) ≡ is_some (finite.get (map_of delivery_cmp told.entries) delivery)
-told_is told delivery = ap (λ v. is_some v) (sym (get-map_of deliveries_total told.entries delivery))
-
-pub len_is : (told : BTreeMap Delivery (Unit {0})) (n : ℕ) → n ≡ btree_map_len told → IsOrdered delivery_cmp told → n ≡ finite.len (map_of delivery_cmp told.entries)
-len_is told n is ordered = is ∙ sym (len-map_of deliveries_total exact_deliveries told.entries ordered)
+-- ---- what was found
 
 -- what is found subscribed is put to the others
-pub one_more : (fine : Told) (standing : Subscriptions) (delivery : Delivery) → is_subscribed delivery standing ≡ true → AreSubscribed fine standing → AreSubscribed (finite.insert fine delivery tt) standing
+one_more : (fine : Told) (standing : Subscriptions) (delivery : Delivery) → is_subscribed delivery standing ≡ true → AreSubscribed fine standing → AreSubscribed (finite.insert fine delivery tt) standing
 one_more fine standing delivery is all other found = cases (eq_by_cmp delivery_cmp other delivery) refl (ap (λ v. is_some v) (sym (finite.get-insert deliveries_total fine delivery tt other)) ∙ found)
   where
     cases : (b : Bool) → eq_by_cmp delivery_cmp other delivery ≡ b → is_some (cond b (Some tt) (finite.get fine other)) ≡ true → is_subscribed other standing ≡ true
@@ -150,8 +141,7 @@ one_more fine standing delivery is all other found = cases (eq_by_cmp delivery_c
     cases false tie has = all other has
 
 -- whether or not there was memory for it
-pub found_more : {T E : Type 0} (fine new : BTreeMap Delivery (Unit {0})) (standing : Subscriptions) (delivery : Delivery) (result : Result T E) → OnOk result (Updates delivery_cmp fine new delivery (Some tt))
-    → OnErr result (IsUnchanged fine new) → is_subscribed delivery standing ≡ true → AreSubscribed (map_of delivery_cmp fine.entries) standing → AreSubscribed (map_of delivery_cmp new.entries) standing
-found_more fine new standing delivery (Ok x) ok err is all =
-    rw (map_of-insert deliveries_total exact_deliveries fine.entries new.entries delivery tt ok.0) (one_more (map_of delivery_cmp fine.entries) standing delivery is all)
+pub found_more : {T E : Type 0} (fine new : Told) (standing : Subscriptions) (delivery : Delivery) (result : Result T E) → OnOk result (new ≡ finite.insert fine delivery tt)
+    → OnErr result (new ≡ fine) → is_subscribed delivery standing ≡ true → AreSubscribed fine standing → AreSubscribed new standing
+found_more fine new standing delivery (Ok x) ok err is all = rw ok (one_more fine standing delivery is all)
 found_more fine new standing delivery (Err e) ok err is all = rw err all

@@ -1,7 +1,9 @@
 //! An event that went to one endpoint.
 ghost use Rattle.audit_receivers.specs.DeliveryOrder.{exact_deliveries};
 
+use audit_tables::{number_of_address, number_of_endpoint};
 use someip_tables::Key;
+use std::hash::{Hash, Hasher};
 use std::net::{Ipv4Addr, SocketAddrV4};
 
 /// An event that a server sent to one endpoint: by rising server, then by the numbers, and then by the
@@ -20,4 +22,23 @@ pub struct Delivery {
 
 impl Key for Delivery {
     ghost exact = { exact_deliveries };
+}
+
+impl Hash for Delivery {
+    ghost use Rattle.std.specs.Prelude.{◌++◌, ◌+◌, ◌*◌};
+    ghost use Rattle.std.specs.Hash as fed;
+    ghost use Rattle.std.specs.Cmp.Rules.{comparing, hashing};
+    ghost use Rattle.std.proofs.Common.{rules};
+    ghost use Rattle.audit_tables.specs.EndpointNumbers.{address_number, endpoint_number};
+
+    ghost hash_input = { λ d. fed.u64 ((address_number d.server * 65536 + d.service) * 65536 + d.event)
+        ++ fed.u64 (endpoint_number d.endpoint) };
+
+    ghost respects_eq = { Prim.search (hashing, comparing, rules) };
+
+    fn hash<H: Hasher>(&self, state: &mut H) {
+        let source = number_of_address(&self.server) * 65536 + u64::from(self.service);
+        state.write_u64(source * 65536 + u64::from(self.event));
+        state.write_u64(number_of_endpoint(&self.endpoint));
+    }
 }

@@ -15,9 +15,10 @@ use crate::steps::{
     is_silent, is_told, may_hold, note, subscribe, tell_full, untell, withdraw,
 };
 use audit_subscriptions::{EntryKind, SubscriptionKey};
+use audit_tables::KeySet;
 use someip_tables::{DeadlineMap, Moment};
 use std::alloc::{AllocError, Global};
-use std::collections::{BTreeMap, BTreeSet};
+use std::collections::BTreeSet;
 use std::marker::Model;
 use std::net::Ipv4Addr;
 
@@ -49,11 +50,11 @@ impl Model for ReceiverBook {
       limit = b.limit;
       settled = b.settled;
       standing = map_of subscription_cmp b.standing;
-      told = map_of delivery_cmp b.told.entries;
+      told = map_of delivery_cmp b.told;
       told_full = b.told_full;
     } };
 
-    ghost invariant = { λ b. AreSubscribed (map_of delivery_cmp b.fine.entries)
+    ghost invariant = { λ b. AreSubscribed (map_of delivery_cmp b.fine)
         (map_of subscription_cmp b.standing) };
 }
 
@@ -73,8 +74,8 @@ impl ReceiverBook {
             limit,
             settled,
             standing: DeadlineMap::new(alloc),
-            told: BTreeMap::new(alloc),
-            fine: BTreeMap::new(alloc),
+            told: KeySet::new(alloc),
+            fine: KeySet::new(alloc),
             told_full: false,
         }
     }

@@ -15,19 +15,20 @@ use crate::delivery::Delivery;
 use crate::entry::{ReceiverEntry, WithdrawnOffer};
 use crate::finding::Finding;
 use audit_subscriptions::SubscriptionKey;
+use audit_tables::KeySet;
 use someip_tables::{Deadline, DeadlineMap, Moment, is_same_key};
 use std::alloc::{AllocError, Global};
-use std::collections::{BTreeMap, BTreeSet};
+use std::collections::BTreeSet;
 use std::net::{Ipv4Addr, SocketAddrV4};
 
 /// The subscriptions that stand, each with the endpoint that its events go to.
 pub(crate) type Standing = DeadlineMap<SubscriptionKey, SocketAddrV4>;
 
 /// The events that were told.
-pub(crate) type Told = BTreeMap<Delivery, ()>;
+pub(crate) type Told = KeySet<Delivery>;
 
 /// The events of which it was found that their endpoint is subscribed.
-pub(crate) type Fine = BTreeMap<Delivery, ()>;
+pub(crate) type Fine = KeySet<Delivery>;
 
 /// Drops the subscriptions that have expired, and tells them.
 pub(crate) fn drop_expired(
@@ -36,7 +37,7 @@ pub(crate) fn drop_expired(
     alloc: Global,
     now: Moment,
 ) -> Result<BTreeSet<SubscriptionKey>, AllocError>
-    requires { AreSubscribed (map_of delivery_cmp fine.old.entries)
+    requires { AreSubscribed (map_of delivery_cmp fine.old)
         (map_of subscription_cmp standing.old) }
     ensures told { IfOk result (λ ended. ended.keys
         ≡ finite.keys (expired now (map_of subscription_cmp standing.old))) }
@@ -45,7 +46,7 @@ pub(crate) fn drop_expired(
     ensures grows { OnErr result
         (expired now (map_of subscription_cmp standing.old) ≢ finite.empty) }
     ensures err { OnErr result (standing.new ≡ standing.old) }
-    ensures fine { AreSubscribed (map_of delivery_cmp fine.new.entries)
+    ensures fine { AreSubscribed (map_of delivery_cmp fine.new)
         (map_of subscription_cmp standing.new) }
 {
     if !standing.has_expired(now) {
@@ -61,7 +62,7 @@ pub(crate) fn drop_expired(
 pub(crate) fn end(standing: &mut Standing, fine: &mut Fine, entry: &ReceiverEntry)
     ensures left { map_of subscription_cmp standing.new
         ≡ finite.remove (map_of subscription_cmp standing.old) entry.now.key }
-    ensures fine { AreSubscribed (map_of delivery_cmp fine.new.entries)
+    ensures fine { AreSubscribed (map_of delivery_cmp fine.new)
         (map_of subscription_cmp standing.new) }
 {
     standing.remove(&entry.key);
@@ -72,7 +73,7 @@ pub(crate) fn end(standing: &mut Standing, fine: &mut Fine, entry: &ReceiverEntr
 pub(crate) fn forget(standing: &mut Standing, fine: &mut Fine, address: Ipv4Addr)
     ensures left { map_of subscription_cmp standing.new ≡ finite.retain_keys
         (map_of subscription_cmp standing.old) (λ key. not (is_of address key)) }
-    ensures fine { AreSubscribed (map_of delivery_cmp fine.new.entries)
+    ensures fine { AreSubscribed (map_of delivery_cmp fine.new)
         (map_of subscription_cmp standing.new) }
 {
     standing.retain_keys(|key| !is_of(key, address));
@@ -83,7 +84,7 @@ pub(crate) fn forget(standing: &mut Standing, fine: &mut Fine, address: Ipv4Addr
 pub(crate) fn withdraw(standing: &mut Standing, fine: &mut Fine, offer: WithdrawnOffer)
     ensures left { map_of subscription_cmp standing.new ≡ finite.retain_keys
         (map_of subscription_cmp standing.old) (λ key. not (is_to offer key)) }
-    ensures fine { AreSubscribed (map_of delivery_cmp fine.new.entries)
+    ensures fine { AreSubscribed (map_of delivery_cmp fine.new)
         (map_of subscription_cmp standing.new) }
 {
     standing.retain_keys(|key| !is_to(key, offer));
@@ -116,7 +117,7 @@ pub(crate) fn acknowledge(
     now: Moment,
     entry: &ReceiverEntry,
 ) -> Result<(), AllocError>
-    requires { AreSubscribed (map_of delivery_cmp fine.now.entries) (map_of subscription_cmp standing.old) }
+    requires { AreSubscribed (map_of delivery_cmp fine.now) (map_of subscription_cmp standing.old) }
     ensures after { IfOk result (λ _. map_of subscription_cmp standing.new ≡ acked now entry.now
         (finite.get (map_of subscription_cmp standing.old) entry.now.key)
         (map_of subscription_cmp standing.old)) }
@@ -126,7 +127,7 @@ pub(crate) fn acknowledge(
     ensures grows { OnErr result (NeedsMemory
         (finite.get (map_of subscription_cmp standing.old) entry.now.key)
         (deadline_after now entry.now.ttl)) }
-    ensures fine { AreSubscribed (map_of delivery_cmp fine.now.entries)
+    ensures fine { AreSubscribed (map_of delivery_cmp fine.now)
         (map_of subscription_cmp standing.new) }
 {
     let _ = fine;
@@ -147,14 +148,14 @@ pub(crate) fn subscribe(
     entry: &ReceiverEntry,
     endpoint: SocketAddrV4,
 ) -> Result<(), AllocError>
-    requires { AreSubscribed (map_of delivery_cmp fine.old.entries) (map_of subscription_cmp standing.old) }
+    requires { AreSubscribed (map_of delivery_cmp fine.old) (map_of subscription_cmp standing.old) }
     ensures after { IfOk result (λ _. map_of subscription_cmp standing.new ≡ finite.insert
         (map_of subscription_cmp standing.old) entry.now.key (standing_from now entry.now.ttl endpoint)) }
     ensures err { OnErr result (standing.new ≡ standing.old) }
     ensures grows { OnErr result (NeedsMemory
         (finite.get (map_of subscription_cmp standing.old) entry.now.key)
         (deadline_after now entry.now.ttl)) }
-    ensures fine { AreSubscribed (map_of delivery_cmp fine.new.entries)
+    ensures fine { AreSubscribed (map_of delivery_cmp fine.new)
         (map_of subscription_cmp standing.new) }
 {
     if !is_new_or_same(endpoint_of(standing, entry), endpoint) {
@@ -185,11 +186,11 @@ fn is_new_or_same(earlier: Option<SocketAddrV4>, endpoint: SocketAddrV4) -> bool
 
 /// What was told of events that may go by a subscription is told again, should it end.
 pub(crate) fn untell(told: &mut Told, entry: &ReceiverEntry, endpoint: SocketAddrV4)
-    ensures { map_of delivery_cmp told.new.entries
-        ≡ untold entry.now.key endpoint (map_of delivery_cmp told.old.entries) }
+    ensures { map_of delivery_cmp told.new
+        ≡ untold entry.now.key endpoint (map_of delivery_cmp told.old) }
 {
     let key = entry.key;
-    told.retain(|delivery, _| !goes_by(delivery, &key, endpoint));
+    told.retain(|delivery| !goes_by(delivery, &key, endpoint));
 }
 
 /// Whether the endpoint of an event is subscribed. It looks for the subscription where this was not found
@@ -200,17 +201,17 @@ pub(crate) fn has_receiver(
     limit: usize,
     delivery: Delivery,
 ) -> bool
-    requires { AreSubscribed (map_of delivery_cmp fine.old.entries) (map_of subscription_cmp standing.now) }
+    requires { AreSubscribed (map_of delivery_cmp fine.old) (map_of subscription_cmp standing.now) }
     ensures found { result ≡ is_subscribed delivery (map_of subscription_cmp standing.now) }
-    ensures fine { AreSubscribed (map_of delivery_cmp fine.new.entries)
+    ensures fine { AreSubscribed (map_of delivery_cmp fine.new)
         (map_of subscription_cmp standing.now) }
 {
-    if fine.contains_key(&delivery) {
+    if fine.contains(&delivery) {
         return true;
     }
     let found = is_subscribed(standing, &delivery);
     if found && fine.len() < limit {
-        let _ = fine.insert(delivery, ());
+        let _ = fine.insert(delivery);
     }
     found
 }
@@ -237,29 +238,26 @@ pub(crate) fn is_silent(told_full: bool, now: Moment, settled: Moment) -> bool
 
 /// Whether an event was told.
 pub(crate) fn is_told(told: &Told, delivery: &Delivery) -> bool
-    ensures { result ≡ is_some (finite.get (map_of delivery_cmp told.now.entries) delivery.now) }
+    ensures { result ≡ is_some (finite.get (map_of delivery_cmp told.now) delivery.now) }
 {
-    told.contains_key(delivery)
+    told.contains(delivery)
 }
 
 /// Whether there is room for one more event that is told.
 pub(crate) fn has_room(told: &Told, limit: usize) -> bool
-    ensures { result ≡ nat_lt (finite.len (map_of delivery_cmp told.now.entries)) limit }
+    ensures { result ≡ nat_lt (finite.len (map_of delivery_cmp told.now)) limit }
 {
     told.len() < limit
 }
 
 /// Takes note that an event was told.
 pub(crate) fn note(told: &mut Told, delivery: Delivery) -> Result<(), AllocError>
-    ensures after { IfOk result (λ _. map_of delivery_cmp told.new.entries
-        ≡ finite.insert (map_of delivery_cmp told.old.entries) delivery tt) }
+    ensures after { IfOk result (λ _. map_of delivery_cmp told.new
+        ≡ finite.insert (map_of delivery_cmp told.old) delivery tt) }
     ensures err { OnErr result
-        (map_of delivery_cmp told.new.entries ≡ map_of delivery_cmp told.old.entries) }
+        (map_of delivery_cmp told.new ≡ map_of delivery_cmp told.old) }
 {
-    match told.insert(delivery, ()) {
-        Ok(_) => Ok(()),
-        Err(_) => Err(AllocError),
-    }
+    told.insert(delivery)
 }
 
 /// Whether an event may go by a subscription with this endpoint.

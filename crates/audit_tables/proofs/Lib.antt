@@ -2,3 +2,4 @@ pub mod Hashed
 pub mod FirstDues
 pub mod BackDues
 pub mod RetainedDues
+pub mod NumberLemmas

@@ -1,6 +1,5 @@
 //! A map whose values wait for a moment each, or for none, with the first of them at hand.
 ghost use Rattle.std.specs.Prelude.{◌≡◌, IfNone, IfSome, OnOk, OnErr, Bool};
-ghost use Rattle.std.specs.Option.{option_copied};
 ghost use Rattle.std.specs.FinMap as finite;
 ghost use Rattle.someip_tables.specs.Retained.{retain};
 ghost use Rattle.someip_tables.specs.Tables.{map_of, AnswersPairAs};

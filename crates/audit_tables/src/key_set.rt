@@ -1,7 +1,7 @@
 //! A set of keys that are found by their hash.
-ghost use Rattle.std.specs.Prelude.{◌≡◌, None, OnErr, OnOk, is_some};
+ghost use Rattle.std.specs.Prelude.{◌≡◌, Bool, None, OnErr, OnOk, is_some};
 ghost use Rattle.std.specs.FinMap as finite;
-ghost use Rattle.someip_tables.specs.Tables.{map_of};
+ghost use Rattle.someip_tables.specs.Tables.{AnswersAs, map_of};
 
 use someip_tables::Key;
 use std::alloc::{AllocError, Global};
@@ -57,5 +57,21 @@ impl<K: Key + Hash> KeySet<K> {
     {
         self.held.insert(key, ())?;
         Ok(())
+    }
+
+    /// Keeps the keys that pass a test, which is asked once for each. It takes no memory.
+    pub fn retain<F: Fn(&K) -> bool + Drop>(&mut self, keep: F)
+        requires { F.IsAlwaysCallable keep }
+        ensures { (test : K → Bool) → AnswersAs F.Fn keep test
+            → map_of K.cmp self.new ≡ finite.retain_keys (map_of K.cmp self.old) test }
+    {
+        self.held.retain(|key, _| keep(key));
+    }
+
+    /// Takes all keys out. It takes no memory.
+    pub fn clear(&mut self)
+        ensures { map_of K.cmp self.new ≡ finite.empty }
+    {
+        self.held.clear();
     }
 }

@@ -2,6 +2,7 @@ use Rattle.std.proofs.Common.{◌≡◌, false, rules}
 use Rattle.someip_tables.specs.Tables.{map_of}
 use Rattle.someip_tables.proofs.DueLemmas.{test_is_true}
 use Rattle.audit_subscriptions.specs.SubscriptionKeys.{subscription_cmp}
+use Rattle.audit_receivers.specs.DeliveryKeys.{delivery_cmp}
 use Rattle.audit_receivers.proofs.FineLemmas.{no_expired_keys, none_found, nothing_expired}
 use Rattle.audit_receivers.proofs.steps.drop_expired.Goals as goal
 
@@ -18,4 +19,4 @@ returns-then-not-has_expired-clause-left c =
     (λ some. let is = test_is_true (c.has_expired.ensures.1 some) in absurd (cc))
 
 pub returns-clause-fine : goal.returns-clause-fine
-returns-clause-fine c = none_found c.clear.new.self _ c.clear.ensures.len
+returns-clause-fine c = none_found (map_of delivery_cmp c.clear.new.self) _ c.clear.ensures

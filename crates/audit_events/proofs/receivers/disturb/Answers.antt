@@ -1,0 +1,11 @@
+use Rattle.std.proofs.Common.{◌≡◌, ap, sym, ◌∙◌}
+use Rattle.audit_events.specs.declared.receiver.Receiver.{Receiver}
+use Rattle.audit_events.specs.EventRules.{disturbed, may_reach}
+use Rattle.audit_events.specs.FlowGroups.{changed_by, once_changed}
+use Rattle.audit_events.proofs.GroupLemmas.{left_alone, not_changed}
+use Rattle.audit_events.proofs.receivers.disturb.Goals as goal
+
+pub returns-else-is_from : goal.returns-else-is_from
+returns-else-is_from c =
+    left_alone (changed_by (once_changed c.args.client c.args.server) c.args.source.now) c.args.receivers.now
+    (λ r. ap (λ l. record r { last = l }) (not_changed _ (may_reach c.args.client r.endpoint.ip) (disturbed r.last) r.last (sym c.is_from.ensures ∙ c.if-is_from.false)))
