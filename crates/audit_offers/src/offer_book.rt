@@ -1,7 +1,6 @@
 //! The offers of a recording that stand.
 ghost use Rattle.std.specs.Prelude.{◌≡◌, ◌≢◌, ◌≤◌, IfOk, OnErr, not, true, false};
 ghost use Rattle.std.specs.FinMap as finite;
-ghost use Rattle.std.specs.Net.Socket.{v4_ip};
 ghost use Rattle.someip_tables.specs.Deadlines.{deadline_after, millis_of};
 ghost use Rattle.someip_tables.specs.Retained.{retain};
 ghost use Rattle.someip_tables.specs.Tables.{map_of};

@@ -1,6 +1,6 @@
 //! Laws of the definitions behind the contracts. Each is the contract of a function that does
 //! nothing: it says what holds of segments and timeouts, whatever code keeps them.
-ghost use Rattle.std.specs.Prelude.{◌≡◌, ◌<◌, ℕ, List, [], ◌∷◌, length, true, false, Option, Some, None, Ok, Err};
+ghost use Rattle.std.specs.Prelude.{◌≡◌, ◌<◌, ℕ, List, length, false, Option, Some, None, Ok, Err};
 ghost use Rattle.std.specs.declared.net.socket_addr.SocketAddrV4.{SocketAddrV4};
 ghost use Rattle.someip_wire.specs.declared.header.Header.{Header};
 ghost use Rattle.someip_wire.specs.Spelling.{MessageValue};

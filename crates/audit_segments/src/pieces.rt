@@ -1,10 +1,10 @@
 //! What a segment makes of the messages that have come in part, and of their timeouts.
-ghost use Rattle.std.specs.Prelude.{◌≡◌, ◌≢◌, ◌≤◌, ◌<◌, ◌+◌, ◌%◌, ◌^◌, ℕ, true, is_ok, IfOk, OnErr, OnOk, IfSome, IfNone, Some};
+ghost use Rattle.std.specs.Prelude.{◌≡◌, ◌≤◌, ◌<◌, ◌+◌, ◌%◌, true, is_ok, IfOk, OnErr, OnOk, IfSome, IfNone, Some};
 ghost use Rattle.std.specs.FinMap as finite;
 ghost use Rattle.someip_tables.specs.Tables.{map_of};
 ghost use Rattle.someip_reassembly.specs.Parts.{NoneAfter};
 ghost use Rattle.someip_reassembly.specs.SegmentOffers.{judgement, message_at, parts_after, parts_less};
-ghost use Rattle.audit_segments.specs.MessageKeys.{message_cmp, message_key};
+ghost use Rattle.audit_segments.specs.MessageKeys.{message_cmp};
 ghost use Rattle.audit_segments.specs.SegmentBooks.{told_by, view_told, parts_by, waiting_by, first_of};
 ghost use Rattle.audit_segments.specs.SegmentBooks.{IsWaiting, missing_cmp, waiting_after_due};
 ghost use Rattle.audit_segments.specs.declared.told.Missing.{Missing};

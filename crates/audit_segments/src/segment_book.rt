@@ -1,5 +1,5 @@
 //! The messages of a recording that have come in part.
-ghost use Rattle.std.specs.Prelude.{◌≡◌, ◌≢◌, ◌≤◌, ◌<◌, ◌+◌, ℕ, true, max, IfOk, IfSome, IfNone, OnErr, OnOk, Some};
+ghost use Rattle.std.specs.Prelude.{◌≡◌, ◌≢◌, ◌≤◌, ◌<◌, ◌+◌, true, max, IfOk, IfSome, IfNone, OnErr, OnOk, Some};
 ghost use Rattle.std.specs.FinMap as finite;
 ghost use Rattle.std.specs.Ordering.{is_le};
 ghost use Rattle.someip_tables.specs.Tables.{map_of};

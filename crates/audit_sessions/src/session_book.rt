@@ -1,5 +1,5 @@
 //! The last stamp of each sender to each destination.
-ghost use Rattle.std.specs.Prelude.{◌≡◌, ◌≤◌, ◌||◌, None, is_some, nat_lt, IfOk, OnErr, true, false};
+ghost use Rattle.std.specs.Prelude.{◌≡◌, ◌≤◌, ◌||◌, None, IfOk, OnErr, true, false};
 ghost use Rattle.std.specs.FinMap as finite;
 ghost use Rattle.someip_tables.specs.Tables.{map_of};
 ghost use Rattle.sd_session.specs.Sessions.{following, is_reboot};

@@ -1,5 +1,5 @@
 -- What a message that is none of Service Discovery shows over all books.
-use Rattle.std.specs.Prelude.{ℕ, nat_lt, max, Bool, true, false, ◌&&◌, if◌then◌else◌, List, slice_index, length, Option, None, Some, option_map, Result, Ok, Err}
+use Rattle.std.specs.Prelude.{ℕ, nat_lt, max, Bool, ◌&&◌, if◌then◌else◌, List, slice_index, length, Option, None, Some, option_map, Result, Ok, Err}
 use Rattle.std.specs.Net.Addr.{ipv4_octets}
 use Rattle.std.specs.Net.Socket.{v4_ip}
 use Rattle.std.specs.declared.net.socket_addr.SocketAddrV4.{SocketAddrV4}

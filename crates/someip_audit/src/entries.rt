@@ -1,7 +1,7 @@
 //! Entries of Service Discovery as the books take them.
 ghost use Rattle.std.specs.Prelude.{◌≡◌};
-ghost use Rattle.someip_audit.specs.SdEntries.{named_endpoint, names_endpoint, offer_entry, offer_key, receiver_entry};
-ghost use Rattle.someip_audit.specs.SdEntries.{sd_message, subscribe_entry, subscription_key, withdrawn_offer};
+ghost use Rattle.someip_audit.specs.SdEntries.{named_endpoint, names_endpoint, offer_entry, receiver_entry};
+ghost use Rattle.someip_audit.specs.SdEntries.{sd_message, subscribe_entry, withdrawn_offer};
 
 use audit_offers::{OfferEntry, OfferKey};
 use audit_receivers::{ReceiverEntry, WithdrawnOffer};

@@ -1,12 +1,10 @@
 -- From what a call of a node comes to, to what its number tells.
 use Rattle.std.proofs.Common.{◌≡◌, refl, sym, subst, ℕ}
 use Rattle.std.specs.Prelude.{List, Option, None, Some, IsSomeAnd}
-use Rattle.someip_world_setup.specs.Readings.{tree_of}
 use Rattle.someip_c_node.specs.declared.outcome.Outcome.{Outcome}
 use Rattle.someip_c_node.specs.declared.outcome.Outcome.TheVariants.{Done, Closed, Held, OutputsWait, NothingLeft, BufferTooSmall, NothingDue, NotText, NotToml, Missing, WrongKind, OutOfRange, UnknownKey, Clash, NoSuchNode, BadDelay, ClockPast, NotWanted, Failed, OutOfMemory, NotOffered, Busy, TooLong, UnknownToken, BadErrorCode, UnknownEvent, NotSubscribed}
 use Rattle.someip_c_node.specs.Calls.{CNodeView}
 use Rattle.someip_c_node.specs.Outcomes.{number_of, outcome_of}
-use Rattle.someip_c_node.specs.Starts.{IsNotStarted}
 use Rattle.someip_node_rules.specs.histories.History.{History}
 use Rattle.someip_node_rules.specs.steps.Steps.{StandsFor}
 use Rattle.someip_node_rules.specs.steps.Waking.{IsNextDue}

@@ -1,5 +1,5 @@
 //! What the application does.
-ghost use Rattle.std.specs.Prelude.{◌≡◌, None};
+ghost use Rattle.std.specs.Prelude.{◌≡◌};
 ghost use Rattle.someip_node_rules.specs.rules.Inputs as input;
 ghost use Rattle.someip_c_node.specs.Calls.{Calls};
 ghost use Rattle.someip_c_node.specs.Records.{socket_of};

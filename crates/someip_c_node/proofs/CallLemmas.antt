@@ -9,10 +9,10 @@ use Rattle.someip_node_rules.specs.declared.output.Output.{Output}
 use Rattle.someip_node_rules.specs.histories.History.{History}
 use Rattle.someip_node_rules.specs.rules.Inputs.{Input}
 use Rattle.someip_node_rules.specs.rules.Plans.{Work}
-use Rattle.someip_node_rules.specs.steps.Steps.{GivesStep, NodeView, Reacts, StaysFailed, TakesNoMemory, step}
+use Rattle.someip_node_rules.specs.steps.Steps.{GivesStep, NodeView, Reacts, StaysFailed, step}
 use Rattle.someip_c_node.specs.declared.outcome.Outcome.{Outcome}
 use Rattle.someip_c_node.specs.declared.outcome.Outcome.TheVariants.{Done, Failed, OutOfMemory, OutputsWait}
-use Rattle.someip_c_node.specs.Calls.{CNodeView, Calls, ComesTo, Keeps, NeedsNoMemory}
+use Rattle.someip_c_node.specs.Calls.{CNodeView, Calls, ComesTo, Keeps}
 use Rattle.someip_c_node.specs.Outcomes.{refusal_outcome}
 
 abbrev at : NodeView → List Output → CNodeView

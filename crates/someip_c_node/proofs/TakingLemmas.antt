@@ -5,7 +5,7 @@ use Rattle.std.specs.Prelude.{◌≢◌, ◌++◌, drop}
 use Rattle.someip_node_rules.specs.declared.output.Output.{Output}
 use Rattle.someip_node_rules.specs.steps.Steps.{NodeView}
 use Rattle.someip_c_node.specs.declared.outcome.Outcome.{Outcome}
-use Rattle.someip_c_node.specs.declared.outcome.Outcome.TheVariants.{BufferTooSmall, Done, NothingLeft}
+use Rattle.someip_c_node.specs.declared.outcome.Outcome.TheVariants.{Done, NothingLeft}
 use Rattle.someip_c_node.specs.declared.record.OutputRecord.{OutputRecord}
 use Rattle.someip_c_node.specs.Calls.{CNodeView, Takes, TakesFirst, TakesOf}
 use Rattle.someip_c_node.specs.Records.{payload_of, record_of}

@@ -1,5 +1,5 @@
 //! What the numbers tell.
-ghost use Rattle.std.specs.Prelude.{◌≡◌, ◌≢◌, ℕ, None, Some};
+ghost use Rattle.std.specs.Prelude.{◌≡◌, ◌≢◌, None, Some};
 ghost use Rattle.someip_rpc.specs.declared.error.RpcError.TheVariants as rpc;
 ghost use Rattle.someip_node_rules.specs.declared.error.NodeError.TheVariants as refusal;
 ghost use Rattle.someip_c_node.specs.Outcomes.{number_of, outcome_of, refusal_outcome};

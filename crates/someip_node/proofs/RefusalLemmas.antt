@@ -1,5 +1,5 @@
 -- No call of a node is refused as what its starts alone can be refused as, nor as what no core answers.
-use Rattle.std.proofs.Common.{◌≡◌, Bool, true, false, if◌then◌else◌, Option, None, Some, Result, Ok, Err, refl, ap, ◌∙◌, ℕ, List, length}
+use Rattle.std.proofs.Common.{◌≡◌, Bool, true, false, if◌then◌else◌, Option, None, Some, Result, Ok, Err, refl, ap, ◌∙◌, ℕ, length}
 use Rattle.std.specs.Prelude.{IfErr}
 use Rattle.std.specs.Global.{Vec}
 use Rattle.std.specs.Option.{option_map_or}
@@ -10,7 +10,6 @@ use Rattle.someip_rpc.specs.declared.call.CallKind.{CallKind}
 use Rattle.someip_rpc.specs.declared.call.ClientRules.{ClientRules}
 use Rattle.someip_rpc.specs.declared.request.Asked.{Asked}
 use Rattle.someip_rpc.specs.declared.request.Reply.{Reply}
-use Rattle.someip_rpc.specs.Events.{publish_refusal, publish_to_refusal}
 use Rattle.someip_rpc.specs.Servers.{answer_refusal}
 use Rattle.someip_rpc.specs.declared.error.RpcError.{RpcError}
 use Rattle.someip_rpc.specs.declared.error.RpcError.TheVariants.{BadErrorCode, Busy, NotOffered, NotSubscribed, TooLong, UnknownEvent}

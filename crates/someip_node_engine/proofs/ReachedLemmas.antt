@@ -1,15 +1,14 @@
 -- What a datagram reaches is what the rules say is at its destination.
-use Rattle.std.proofs.Common.{◌≡◌, ℕ, List, [], ◌∷◌, Option, Some, None, Result, Ok, Err, refl, subst, ap, sym, ◌∙◌}
+use Rattle.std.proofs.Common.{◌≡◌, ℕ, List, [], ◌∷◌, Some, Result, Ok, Err, refl, subst, ap, sym, ◌∙◌}
 use Rattle.std.specs.declared.net.socket_addr.SocketAddrV4.{SocketAddrV4}
 use Rattle.std.specs.Net.Socket.{v4_ip}
 use Rattle.someip_wire.specs.declared.error.WireError.{WireError}
 use Rattle.someip_wire.specs.Reading.{items_of}
 use Rattle.someip_wire.specs.Spelling.{MessageValue}
-use Rattle.someip_node_rules.specs.declared.drops.DropReason.TheVariants.{NoPort}
 use Rattle.someip_node_rules.specs.declared.target.Target.{Target}
 use Rattle.someip_node_rules.specs.declared.target.Target.TheVariants as target
 use Rattle.someip_node_rules.specs.rules.Handling.{item_plan, message_at_plan, target_plan}
-use Rattle.someip_node_rules.specs.rules.Plans.{Plan, act, both, each, Drops}
+use Rattle.someip_node_rules.specs.rules.Plans.{Plan, both, each}
 use Rattle.someip_node_engine.specs.declared.arrival.Addressee.TheVariants.{Client, Instance}
 use Rattle.someip_node_engine.specs.declared.arrival.Reached.{Reached}
 use Rattle.someip_node_engine.specs.declared.arrival.Reached.TheVariants.{Application, Discovery}

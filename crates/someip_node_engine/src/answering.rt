@@ -1,12 +1,12 @@
 //! The answers of the application to requests.
-ghost use Rattle.std.specs.Prelude.{◌≡◌, ◌≤◌, ◌++◌, ◌∷◌, [], length, IfOk, IfErr, OnOk, OnErr, None};
+ghost use Rattle.std.specs.Prelude.{◌≡◌, ◌≤◌, ◌∷◌, [], length, IfOk, IfErr, OnOk, OnErr, None};
 ghost use Rattle.someip_wire.specs.View.{view};
 ghost use Rattle.someip_node_rules.specs.rules.Answering.{answering_refusal, answers};
 ghost use Rattle.someip_node_engine.specs.Handled.{Handled, or_no_memory};
 ghost use Rattle.someip_node_rules.specs.rules.Inputs as input;
 ghost use Rattle.someip_node_rules.specs.histories.Items as item;
 ghost use Rattle.someip_node_rules.specs.histories.Items.{changed};
-ghost use Rattle.someip_node_rules.specs.forms.Outputs.{datagrams_of, Sends};
+ghost use Rattle.someip_node_rules.specs.forms.Outputs.{Sends};
 ghost use Rattle.someip_node_rules.specs.forms.GoodConfigs.{greatest_message_limit};
 
 use crate::engine::Engine;

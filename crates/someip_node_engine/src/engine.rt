@@ -1,5 +1,5 @@
 //! The tables of a node.
-ghost use Rattle.std.specs.Prelude.{◌≡◌, IfOk};
+ghost use Rattle.std.specs.Prelude.{◌≡◌};
 ghost use Rattle.someip_node_rules.specs.steps.Limits.{HoldsWithinLimits};
 
 use sd_core::{InstanceId, Offers, Seeker, Subscribers, Subscriptions};

@@ -1,5 +1,5 @@
 //! The events that the application publishes.
-ghost use Rattle.std.specs.Prelude.{◌≡◌, ◌≤◌, ◌++◌, length, map, IfOk, OnOk};
+ghost use Rattle.std.specs.Prelude.{◌≡◌, ◌≤◌, ◌++◌, length, IfOk, OnOk};
 ghost use Rattle.std.specs.List.{flat_map};
 ghost use Rattle.someip_wire.specs.View.{view};
 ghost use Rattle.someip_tables.specs.Lastings.{unexpired};

@@ -1,6 +1,5 @@
 //! Segments that come.
 ghost use Rattle.std.specs.Prelude.{◌≡◌, ◌++◌, ◌%◌, true, is_ok, IfOk, OnOk, OnErr};
-ghost use Rattle.someip_reassembly.specs.Keys.{segment_key};
 ghost use Rattle.someip_reassembly.specs.SegmentOffers.{judgement, message_at, parts_after, parts_less};
 ghost use Rattle.someip_reassembly.specs.Parts.{NoneAfter};
 ghost use Rattle.someip_segments.specs.TpHeader.{segment_in};

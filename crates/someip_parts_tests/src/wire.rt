@@ -1,5 +1,5 @@
 //! The worked rows of messages and datagrams, and what callers of `Messages` know.
-ghost use Rattle.std.specs.Prelude.{◌≡◌, List, Option, map, IfOk};
+ghost use Rattle.std.specs.Prelude.{◌≡◌, Option, map, IfOk};
 ghost use Rattle.someip_wire.specs.View.{view_item};
 ghost use Rattle.someip_wire.specs.Reading.{items_of};
 

@@ -1,3 +1,4 @@
 pub mod NumberLemmas
 pub mod LineLemmas
 pub mod FoundLemmas
+pub mod TextLemmas

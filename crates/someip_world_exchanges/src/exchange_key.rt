@@ -1,6 +1,5 @@
 //! What two exchanges share where one is taken for the other.
 
-ghost use Rattle.std.specs.Prelude.{◌≡◌};
 ghost use Rattle.someip_world_exchanges.specs.KeyOrder.{exact_calls, exact_events, exact_subscriptions};
 
 use sd_core::Eventgroup;

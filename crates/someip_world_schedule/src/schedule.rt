@@ -17,17 +17,14 @@
 //! - numbers are decimal, below 2^64, without a sign or leading zeros;
 //! - EP is `A.B.C.D:PORT`; a PORT of its own is from 1 to 65535;
 //! - PAYLOAD is pairs of hex digits, `-` for none, or `HH*N` for N times one byte, N at most 1048576.
-ghost use Rattle.std.specs.Prelude.{◌≡◌, Some, None, IfErr, IfOk, OnOk, MatchOption};
-ghost use Rattle.std.specs.Prelude.{IsOk, [], map, true, false};
-ghost use Rattle.std.specs.Str.{is_utf8};
+ghost use Rattle.std.specs.Prelude.{◌≡◌, Some, None, IfErr, IfOk, OnOk, IsOk, [], map};
 ghost use Rattle.someip_world_schedule.specs.Schedule.{IsFoundOf, RefusesSchedule, first_bad};
 ghost use Rattle.someip_world_schedule.specs.Schedule.{lines_of_steps, steps_of};
 
 use crate::error::ScheduleError;
-use someip_texts::is_left_out;
+use someip_texts::{is_left_out, text_of};
 use someip_world_steps::{Step, WordFault, step_of_line};
 use std::alloc::Global;
-use std::str;
 
 /// The steps of a schedule, and the lines on which they stand.
 #[derive(Drop)]
@@ -93,12 +90,4 @@ fn step_of(alloc: Global, line: &[u8]) -> Result<Option<Step>, WordFault>
         Ok(step) => Ok(Some(step)),
         Err(fault) => Err(fault),
     }
-}
-
-/// The text of a line, if it is UTF-8.
-fn text_of(line: &[u8]) -> Option<&str>
-    ensures { MatchOption result (is_utf8 line.now ≡ false)
-        (λ text. (text.now ≡ line.now) × (is_utf8 line.now ≡ true)) }
-{
-    str::from_utf8(line).ok()
 }

@@ -1,7 +1,7 @@
 //! What may not stand twice, as lists.
 ghost use Rattle.std.specs.Prelude.{◌≡◌, ◌++◌, map, IfOk, OnOk};
 ghost use Rattle.std.specs.List.{flat_map};
-ghost use Rattle.someip_world_setup_parts.specs.Values.{listed_view, offer_view, want_view, node_view};
+ghost use Rattle.someip_world_setup_parts.specs.Values.{listed_view, offer_view, node_view};
 ghost use Rattle.someip_world_setup_parts.specs.Clashes.{taken_addresses, taken_ports, offered_id, offered_by, wanted_by};
 
 use crate::parts::{Listed, NodeParts, OfferParts};

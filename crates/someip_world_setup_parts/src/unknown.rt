@@ -1,5 +1,5 @@
 //! Keys that the format does not have.
-ghost use Rattle.std.specs.Prelude.{◌≡◌, ◌||◌, not, map, bytes_eq, codes, string_bytes};
+ghost use Rattle.std.specs.Prelude.{◌≡◌, ◌||◌, not, map, codes, string_bytes};
 ghost use Rattle.std.specs.List.{list_any, find};
 ghost use Rattle.std.specs.Option.{is_some, option_map};
 ghost use Rattle.std.specs.BTreeMap.{keys};
@@ -9,6 +9,7 @@ ghost use Rattle.someip_world_setup_parts.specs.Refusals.{RefusesKey};
 
 use crate::error::SetupError;
 use crate::tables::listed_at;
+use someip_texts::{is_one_of, lesser};
 use std::alloc::Global;
 use toml::{Table, Value};
 
@@ -76,13 +77,6 @@ fn known_keys(subject: Subject) -> &'static [&'static str]
     }
 }
 
-/// Whether a key is one of some.
-fn is_one_of(key: &str, keys: &[&str]) -> bool
-    ensures { result ≡ list_any (λ known. bytes_eq key.now known.now) keys.now }
-{
-    keys.iter().any(|known| key == *known)
-}
-
 /// Whether a table about a subject may have a key.
 fn is_known_key(subject: Subject, key: &str) -> bool
     ensures { result ≡ is_known_key subject key.now }
@@ -110,17 +104,6 @@ fn first_unknown(table: &Value, subject: Subject) -> Option<&str>
     match unknown_member(members, subject) {
         Some(key) => Some(key.as_str()),
         None => None,
-    }
-}
-
-/// The lesser of two keys by their bytes, if there is one.
-fn lesser<'a>(a: Option<&'a str>, b: Option<&'a str>) -> Option<&'a str>
-    ensures { is_some result ≡ (is_some a.entry || is_some b.entry) }
-{
-    match (a, b) {
-        (Some(a), Some(b)) => Some(if b < a { b } else { a }),
-        (Some(a), None) => Some(a),
-        (None, b) => b,
     }
 }
 

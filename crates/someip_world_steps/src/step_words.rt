@@ -1,6 +1,6 @@
 //! The words of a line that are IDs and endpoints.
 ghost use Rattle.std.specs.Prelude.{◌≡◌, ◌<◌, Some, None, MatchOption};
-ghost use Rattle.someip_world_steps.specs.StepWords.{IsReadOf, cut_in, id_in, method_in};
+ghost use Rattle.someip_world_steps.specs.StepWords.{cut_in, id_in, method_in};
 ghost use Rattle.someip_world_steps.specs.StepWords.{byte_in, code_in, instance_in, eventgroup_in, address_in};
 ghost use Rattle.someip_world_steps.specs.StepWords.{endpoint_in};
 ghost use Rattle.someip_world_steps.specs.declared.step_words.WordFault.TheVariants.{OutOfMemory};

@@ -1,7 +1,6 @@
 //! How a step changes what is kept of a run.
 ghost use Rattle.std.specs.Prelude.{◌≡◌, ◌++◌, ◌∷◌, [], IfOk, OnOk};
 ghost use Rattle.std.specs.Option.{option_map};
-ghost use Rattle.sd_instances.specs.Eventgroups.{eventgroup_cmp};
 ghost use Rattle.std.specs.Ordering.{nat_cmp};
 ghost use Rattle.someip_tables.specs.Tables.{map_of};
 ghost use Rattle.someip_world_rules.specs.Datagrams.{datagrams_in};

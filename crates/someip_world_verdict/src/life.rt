@@ -1,9 +1,8 @@
 //! What is kept of the present life of a node.
 ghost use Rattle.std.specs.Prelude.{◌≡◌, OnOk};
 ghost use Rattle.someip_world_verdict.specs.Books.{arrival_at, new_life};
-ghost use Rattle.someip_world_verdict.specs.Booking.{arrived, clock_after, handed_up};
+ghost use Rattle.someip_world_verdict.specs.Booking.{arrived, clock_after};
 ghost use Rattle.someip_world_verdict.specs.Views.{view_life};
-ghost use Rattle.std.specs.Prelude.{take, List, drop};
 
 use crate::stream::Stream;
 use sd_core::Eventgroup;

@@ -2,7 +2,6 @@
 ghost use Rattle.std.specs.Prelude.{◌≡◌, IfOk, OnOk, Some};
 ghost use Rattle.std.specs.FinMap as finite;
 ghost use Rattle.std.specs.Option.{option_map};
-ghost use Rattle.someip_segments.specs.Sent.{is_long};
 ghost use Rattle.someip_world_verdict.specs.Booking.{long_payload_of, number_of, numbered, payload_of};
 ghost use Rattle.someip_world_verdict.specs.Views.{view_numbers};
 

@@ -1,7 +1,5 @@
 //! Which exchanges a step opens.
 ghost use Rattle.std.specs.Prelude.{◌≡◌, OnOk};
-ghost use Rattle.sd_instances.specs.Eventgroups.{eventgroup_cmp};
-ghost use Rattle.someip_tables.specs.Tables.{map_of};
 ghost use Rattle.someip_world_verdict.specs.Booking.{opened_by, opened_by_all, subscribed};
 ghost use Rattle.someip_world_verdict.specs.Views.{view_openings};
 

@@ -2,7 +2,6 @@
 use Rattle.std.proofs.Common.{◌≡◌, ℕ, List, [], ◌∷◌, None, refl, ap, sym, subst, ◌∙◌}
 use Rattle.someip_audit.specs.Audits.{AuditState, Audits, Report, Seen, seen_messages}
 use Rattle.someip_audit.proofs.NextLemmas.{audits_one, drains_one, hears_one}
-use Rattle.someipctl_audit.specs.AuditText.{Looked}
 use Rattle.someipctl_audit.specs.SeenIn.{AskedAudit, Tells, audit_at, looked_by, looked_more, looked_of}
 
 -- as many datagrams are looked at, and messages, whichever way it is told

@@ -1,8 +1,7 @@
 -- The settings of an audit, as texts.
-use Rattle.std.specs.Prelude.{ℕ, ◌≡◌, if◌then◌else◌, List, Option, Some, None, codes}
-use Rattle.std.specs.Str.{bytes_eq}
+use Rattle.std.specs.Prelude.{ℕ, ◌≡◌, List, Option, Some, None}
 use Rattle.someip_audit.specs.declared.AuditRules.{AuditRules}
-use Rattle.someipctl_recordings.specs.WholeLimits.{number_or, number_within}
+use Rattle.someipctl_recordings.specs.WholeLimits.{number_or}
 use Rattle.someipctl_audit.specs.declared.times.TimesError.{TimesError}
 use Rattle.someipctl_audit.specs.declared.times.TimesError.TheVariants.{BadAnswer, BadSettle}
 
@@ -12,8 +11,7 @@ answer_in = number_or 2000 1 4294967295
 
 -- for how many no event without a subscription is told: from 0 on, 10000 without a text
 abbrev pub settle_in : Option (List ℕ) → Option ℕ
-settle_in None = Some 10000
-settle_in (Some text) = if bytes_eq text (codes "0") then Some 0 else number_within 1 4294967295 text
+settle_in = number_or 10000 0 4294967295
 
 -- the texts say these settings; a book holds 65536 keys, and segments are put together as `recording --whole` does
 pub record SaysRules (answer settle : Option (List ℕ)) (rules : AuditRules) : Type 0 where

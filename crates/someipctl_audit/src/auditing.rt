@@ -1,5 +1,5 @@
 //! What is printed of one datagram, and of what falls due before it.
-ghost use Rattle.std.specs.Prelude.{◌≡◌, OnErr, OnOk, map};
+ghost use Rattle.std.specs.Prelude.{OnErr, OnOk, map};
 ghost use Rattle.std.specs.List.{flat_map};
 ghost use Rattle.someip_audit.specs.Audits.{found};
 ghost use Rattle.someipctl_io.specs.Sending.{Sends, Stops};

@@ -1,5 +1,5 @@
 //! The settings of an audit, as texts.
-ghost use Rattle.std.specs.Prelude.{◌≡◌, IfErr, IfOk, Some};
+ghost use Rattle.std.specs.Prelude.{◌≡◌, IfErr, IfOk};
 ghost use Rattle.someipctl_recordings.specs.WholeLimits.{view_text};
 ghost use Rattle.someipctl_audit.specs.Times.{IsRefusedTime, SaysRules, answer_in, settle_in};
 
@@ -56,18 +56,5 @@ fn answer_in(text: Option<&str>) -> Option<u32>
 fn settle_in(text: Option<&str>) -> Option<u32>
     ensures { result ≡ settle_in (view_text text.entry) }
 {
-    match text {
-        Some(text) => settle_of(text),
-        None => Some(10000),
-    }
-}
-
-/// The same of a text.
-fn settle_of(text: &str) -> Option<u32>
-    ensures { result ≡ settle_in (Some text.now) }
-{
-    if text == "0" {
-        return Some(0);
-    }
-    Some(number_or(Some(text), 10000, 1, 4_294_967_295)? as u32)
+    Some(number_or(text, 10000, 0, 4_294_967_295)? as u32)
 }

@@ -1,16 +1,16 @@
 //! What the arguments ask for: a command, help, or nothing that there is.
-ghost use Rattle.std.specs.Prelude.{◌≡◌, ◌∷◌, IfErr, IfOk, IsSome, List, OnOk, Some, [], codes};
-ghost use Rattle.std.specs.Prelude.{false, map, option_map, ℕ};
+ghost use Rattle.std.specs.Prelude.{◌≡◌, IfErr, IfOk, OnOk, Some, codes};
+ghost use Rattle.std.specs.Prelude.{false, map, option_map};
 ghost use Rattle.clap.specs.Words.{App, Shape, app_of, first_value, found_of, rule_of, shape_of, subcommand_rows_of};
 ghost use Rattle.clap.specs.Words.{Rule, with_rule, with_subcommand};
 ghost use Rattle.clap.specs.declared.builder.Command.TheViews.{out-Command};
 ghost use Rattle.someipctl_cli.specs.declared.command.LineError.TheVariants.{OutOfMemory};
-ghost use Rattle.someipctl_cli.specs.CommandLine.{CallsForHelp, HaveFault, IsLineErrorOf, IsTaken, RefusesWords};
+ghost use Rattle.someipctl_cli.specs.CommandLine.{IsLineErrorOf, IsTaken, RefusesWords};
 ghost use Rattle.someipctl_cli.specs.CommandLine.{asked_by_audit, asked_by_audit_options, audit_options_found};
 ghost use Rattle.someipctl_cli.specs.CommandLine.{audit_usage};
 ghost use Rattle.someipctl_cli.specs.CommandLine.{asked_by_chart, asked_by_command, asked_by_entered};
 ghost use Rattle.someipctl_cli.specs.CommandLine.{asked_by_payload, asked_by_recording, asked_by_run};
-ghost use Rattle.someipctl_cli.specs.CommandLine.{asked_by_show, asked_by_vectors, chart_usage, cli, is_flag};
+ghost use Rattle.someipctl_cli.specs.CommandLine.{asked_by_show, asked_by_vectors, chart_usage, cli};
 ghost use Rattle.someipctl_cli.specs.CommandLine.{is_on, line, payload_usage, program, recording_usage};
 ghost use Rattle.someipctl_cli.specs.CommandLine.{requested, required, run_usage, show_usage, vectors_usage};
 ghost use Rattle.someipctl_cli.specs.CommandLine.{asked_by_options, options_found, with_filters, with_whole};

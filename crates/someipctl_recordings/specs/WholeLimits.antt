@@ -2,7 +2,7 @@
 use Rattle.std.specs.Prelude.{ℕ, ◌≡◌, ◌^◌, ◌&&◌, nat_le, if◌then◌else◌, List, Option, Some, None, option_map}
 use Rattle.std.specs.Borrow.{Bor}
 use Rattle.std.specs.Option.{option_and_then}
-use Rattle.someip_texts.specs.Numbers.{positive_in}
+use Rattle.someip_texts.specs.Numbers.{number_in}
 use Rattle.someipctl_recordings.specs.declared.asked.WholeLimits as declared_limits
 use Rattle.someipctl_recordings.specs.declared.limits.LimitsError.{LimitsError}
 use Rattle.someipctl_recordings.specs.declared.limits.LimitsError.TheVariants.{BadLimit, BadSlots, BadTimeout}
@@ -10,9 +10,9 @@ use Rattle.someipctl_recordings.specs.declared.limits.LimitsError.TheVariants.{B
 abbrev pub checked_within : ℕ → ℕ → ℕ → Option ℕ
 checked_within low high n = if nat_le low n && nat_le n high then Some n else None
 
--- the number that digits without leading zeros write, if it is no zero, and lies between two others or is one of them
+-- the number that digits without leading zeros write, if it lies between two others or is one of them
 abbrev pub number_within : ℕ → ℕ → List ℕ → Option ℕ
-number_within low high text = option_and_then (checked_within low high) (positive_in (2 ^ 64) text)
+number_within low high text = option_and_then (checked_within low high) (number_in (2 ^ 64) text)
 
 -- the number that a text writes, or what stands without one
 abbrev pub number_or : ℕ → ℕ → ℕ → Option (List ℕ) → Option ℕ

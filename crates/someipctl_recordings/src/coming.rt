@@ -1,5 +1,5 @@
 //! What comes next of a recording, as it is read.
-ghost use Rattle.std.specs.Prelude.{◌≡◌, ◌≤◌, ◌<◌, ◌^◌, ℕ, List, [], OnOk, OnErr, IfOk};
+ghost use Rattle.std.specs.Prelude.{◌<◌, [], OnOk, OnErr, IfOk};
 ghost use Rattle.someipctl_io.specs.Sending.{Sends, Stops};
 ghost use Rattle.someipctl_recordings.specs.Coming.{Comes, IsEnded, IsFurther, coming_items};
 

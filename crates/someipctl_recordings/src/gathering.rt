@@ -2,7 +2,6 @@
 ghost use Rattle.std.specs.Prelude.{◌≡◌, ◌%◌, ◌==◌, ◌||◌, true, is_ok, IfOk, OnErr, OnOk};
 ghost use Rattle.recording.specs.View.{view_datagram};
 ghost use Rattle.someip_wire.specs.View.{view, view_item};
-ghost use Rattle.someip_reassembly.specs.Keys.{segment_key};
 ghost use Rattle.someip_reassembly.specs.Parts.{NoneAfter};
 ghost use Rattle.someip_reassembly.specs.SegmentOffers.{judgement, message_at, parts_after, parts_less};
 ghost use Rattle.someipctl_recordings.specs.Gathered.{IsInTime, is_at_discovery, piece_offer, segment_of, socket_of};

@@ -1,6 +1,6 @@
 //! Laws of the definitions behind the contracts: that `recording` prints what `show` does. Each is the
 //! contract of a function that does nothing.
-ghost use Rattle.std.specs.Prelude.{◌≡◌, ◌+◌, List, None, false, map, length};
+ghost use Rattle.std.specs.Prelude.{◌≡◌, ◌+◌, List, None, false, map};
 ghost use Rattle.recording.specs.Packets.{DatagramValue};
 ghost use Rattle.someipctl_show.specs.ShownText.{has_fault, text_from};
 ghost use Rattle.std.specs.List.{list_any};

@@ -46,8 +46,8 @@ pub fn limits_in(
     })
 }
 
-/// The number that a text writes, in decimal digits without leading zeros, if it is not 0 and lies from `low`
-/// to `high`, or `default` where there is no text.
+/// The number that a text writes, in decimal digits without leading zeros, if it lies from `low` to `high`, or
+/// `default` where there is no text.
 pub fn number_or(text: Option<&str>, default: u64, low: u64, high: u64) -> Option<u64>
     ensures { result ≡ number_or default low high (view_text text.entry) }
 {
@@ -57,12 +57,12 @@ pub fn number_or(text: Option<&str>, default: u64, low: u64, high: u64) -> Optio
     }
 }
 
-/// The number that a text writes, if it is not 0, and lies between two others or is one of them.
+/// The number that a text writes, if it lies between two others or is one of them.
 fn number_within(text: &str, low: u64, high: u64) -> Option<u64>
     ensures { result ≡ number_within low high text.now }
 {
     let number = plain_u64(text)?;
-    if number != 0 && low <= number && number <= high {
+    if low <= number && number <= high {
         Some(number)
     } else {
         None

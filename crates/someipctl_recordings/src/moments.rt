@@ -1,6 +1,6 @@
 //! The moments of datagrams.
 ghost use Rattle.std.specs.Prelude.{◌≡◌, ◌≤◌};
-ghost use Rattle.someipctl_recordings.specs.Moments.{last_moment, millis, moment_of};
+ghost use Rattle.someipctl_recordings.specs.Moments.{millis, moment_of};
 
 use recording::Time;
 

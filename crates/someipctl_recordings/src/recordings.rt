@@ -1,9 +1,7 @@
 //! The command `recording`: the datagrams of a recording of network traffic, message by message, as it is
 //! read.
 ghost use Rattle.std.specs.Prelude.{◌≡◌, ◌<◌, ◌+◌, ◌^◌, [], ◌∷◌, Ok, OnOk, OnErr, IfOk, option_map};
-ghost use Rattle.std.specs.List.{list_any};
 ghost use Rattle.recording.specs.View.{view_datagram, view_record};
-ghost use Rattle.someip_reassembly.specs.Parts.{NoneAfter};
 ghost use Rattle.someipctl_io.specs.Sending.{Sends, Stops};
 ghost use Rattle.someipctl_recordings.specs.declared.recordings.RecordingFault.TheVariants as faults;
 ghost use Rattle.someipctl_recordings.specs.Gathered.{IsInTime, view_store};

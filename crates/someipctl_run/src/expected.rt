@@ -5,7 +5,7 @@ ghost use Rattle.someipctl_run.specs.Expected.{Expects, RefusesExpected, first_n
 ghost use Rattle.someipctl_run.specs.Expected.{is_unended};
 
 use crate::error::ExpectedFault;
-use crate::texts::text_of;
+use someip_texts::text_of;
 use someipctl_io::read_all;
 use std::alloc::Global;
 use std::io::Read;

@@ -20,7 +20,6 @@ mod outputs;
 mod running;
 mod setups;
 mod step_lines;
-mod texts;
 mod trace_lines;
 
 pub use comparing::compare_schedule;

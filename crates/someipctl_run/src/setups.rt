@@ -3,7 +3,7 @@ ghost use Rattle.std.specs.Prelude.{IfOk, IfErr};
 ghost use Rattle.someipctl_run.specs.Commands.{IsSetupOf, IsSetupOfInput, RefusesInput, RefusesSetup};
 
 use crate::error::SetupFault;
-use crate::texts::text_of;
+use someip_texts::text_of;
 use someip_world::{Setup, SetupError};
 use someipctl_io::read_all;
 use std::alloc::Global;

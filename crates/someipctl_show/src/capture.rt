@@ -6,15 +6,15 @@
 //! 12 f F
 //! -
 //! ```
-ghost use Rattle.std.specs.Prelude.{◌≡◌, ◌==◌, [], ◌∷◌, codes, true, None, Some, ℕ, List, map};
+ghost use Rattle.std.specs.Prelude.{◌≡◌, ◌==◌, [], None, Some, map};
 ghost use Rattle.std.specs.Prelude.{IfErr, IfOk, IsOk, OnOk};
 ghost use Rattle.std.specs.List.{list_all};
 ghost use Rattle.std.specs.Option.{option_map};
 ghost use Rattle.std.specs.Result.{result_ok};
-ghost use Rattle.hex.specs.Hex.{decode_of, encode_lower, IsBytes};
+ghost use Rattle.hex.specs.Hex.{decode_of};
 ghost use Rattle.someipctl_show.specs.declared.capture.CaptureError.TheVariants.{OutOfMemory};
 ghost use Rattle.someipctl_show.specs.Capture.{bytes_of, captured_datagrams, first_bad, RefusesCapture};
-ghost use Rattle.someipctl_show.specs.Capture.{is_bad, is_skipped, without_blanks};
+ghost use Rattle.someipctl_show.specs.Capture.{is_skipped, without_blanks};
 
 use hex::FromHexError;
 use std::alloc::{AllocError, AllocFailed, Global};

@@ -1,6 +1,6 @@
 //! The services whose datagrams are asked for.
 ghost use Rattle.std.specs.Prelude.{◌≡◌, IfOk, Some, Err, map, is_none, true};
-ghost use Rattle.std.specs.List.{list_any, filter};
+ghost use Rattle.std.specs.List.{list_any};
 ghost use Rattle.std.specs.Option.{option_map};
 ghost use Rattle.someip_wire.specs.Reading.{items_of};
 ghost use Rattle.someip_wire.specs.View.{view_item};

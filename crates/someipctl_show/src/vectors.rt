@@ -1,7 +1,5 @@
 //! The command `vectors`: whether what is printed of datagrams and payloads is what a file says.
-ghost use Rattle.std.specs.Prelude.{◌≡◌, ◌≢◌, ◌++◌, [], Some, Err, OnOk, OnErr, IfOk, IfErr, List, Bool, codes, map, not};
-ghost use Rattle.std.specs.List.{list_any};
-ghost use Rattle.std.specs.Str.{bytes_eq};
+ghost use Rattle.std.specs.Prelude.{◌≡◌, ◌≢◌, ◌++◌, [], Some, Err, OnOk, OnErr, IfOk, IfErr, codes, map};
 ghost use Rattle.std.specs.Io.KnownBytes.{Appends};
 ghost use Rattle.someipctl_show.specs.declared.vectors.VectorsError.TheVariants.{CannotWrite, OutOfMemory};
 ghost use Rattle.someip_texts.specs.Lines.{lines_of};
@@ -9,7 +7,7 @@ ghost use Rattle.someipctl_io.specs.Sending.{Sends, Stops};
 ghost use Rattle.someipctl_show.specs.VectorLines.{AreSaid, asked_by, has_vector, said_by};
 ghost use Rattle.someipctl_show.specs.Vectors.{AreJudged, IsJudged, IsPrintedOf, Judges, RefusesLines, RefusesVectors};
 ghost use Rattle.someipctl_show.specs.Vectors.{count_passed, error_of_file, expected_text, summary_line};
-ghost use Rattle.someipctl_show.specs.Vectors.{vectors_in, verdict_line, verdict_lines, verdicts_outcome};
+ghost use Rattle.someipctl_show.specs.Vectors.{vectors_in, verdict_line, verdict_lines};
 ghost use Rattle.someipctl_show.specs.Vectors.{verdicts_text};
 
 use crate::payload::read_text;

@@ -1,5 +1,5 @@
 -- The map from keys to tables.
-use Rattle.std.proofs.Common.{◌≡◌, ℕ, ◌+◌, ◌==◌, Bool, true, false, ◌&&◌, List, [], ◌∷◌, ◌++◌, length, map, get_or, append_assoc, length-append, Option, Some, None, option_map, refl, sym, ap, ◌∙◌, subst, Bor, nat_lt, ◌<◌, ◌≤◌, ◌||◌, cond, drop}
+use Rattle.std.proofs.Common.{◌≡◌, ℕ, ◌+◌, ◌==◌, Bool, true, false, ◌&&◌, List, [], ◌∷◌, ◌++◌, length, map, get_or, append_assoc, length-append, Option, Some, None, option_map, refl, sym, ap, ◌∙◌, subst, Bor, nat_lt, ◌<◌, ◌||◌, cond, drop}
 use Rattle.std.specs.declared.cmp.Ordering.{Ordering}
 use Rattle.std.specs.declared.cmp.Ordering.TheVariants.{Less, Equal, Greater}
 use Rattle.std.specs.List.{find, list_any, position_from, slice_get}

@@ -4,4 +4,3 @@ pub mod IndexLemmas
 pub mod UnknownLemmas
 pub mod TableLemmas
 pub mod ReadLemmas
-pub mod InputLemmas

@@ -1,6 +1,6 @@
 //! Laws of the definitions behind the contracts. Each is the contract of a function that does
 //! nothing.
-ghost use Rattle.std.specs.Prelude.{◌≡◌, ◌++◌, true, false, codes, [], ◌∷◌, Some, None};
+ghost use Rattle.std.specs.Prelude.{◌≡◌, true, false, codes, [], ◌∷◌, Some, None};
 ghost use Rattle.toml.specs.Data.{Data};
 ghost use Rattle.someip_payload_values.specs.declared.value.Value.{Value};
 ghost use Rattle.someip_payload_values.specs.View.{data_of};

@@ -1,5 +1,5 @@
 //! What a types file says.
-ghost use Rattle.std.specs.Prelude.{◌≡◌, ◌+◌, ◌≤◌, ◌↔◌, ◌++◌, IsTrue, [], length, OnErr, IfErr, IfOk, OnOk, string_bytes, option_map};
+ghost use Rattle.std.specs.Prelude.{◌≡◌, ◌+◌, ◌≤◌, ◌↔◌, IsTrue, [], length, OnErr, IfErr, IfOk, OnOk, string_bytes, option_map};
 ghost use Rattle.someip_wire.specs.Spelling.{spelling};
 ghost use Rattle.someip_wire.specs.View.{view as message_view};
 ghost use Rattle.toml.specs.View.{view};

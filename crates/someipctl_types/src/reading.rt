@@ -1,14 +1,13 @@
 //! Reading a types file.
-ghost use Rattle.std.specs.Prelude.{◌≡◌, true, false, IfOk, IfErr, MatchOption};
-ghost use Rattle.std.specs.Str.{is_utf8};
+ghost use Rattle.std.specs.Prelude.{IfOk, IfErr};
 ghost use Rattle.someipctl_types.specs.TypesInput.{BytesSay, InputSays, RefusesBytes, RefusesInput};
 
 use crate::error::{TypesError, TypesFault};
 use crate::message_types::MessageTypes;
+use someip_texts::text_of;
 use someipctl_io::read_all;
 use std::alloc::Global;
 use std::io::Read;
-use std::str;
 
 /// Reads a types file whole.
 pub fn read_types<R: Read>(alloc: Global, source: &mut R) -> Result<MessageTypes, TypesFault>
@@ -34,12 +33,4 @@ fn types_of(alloc: Global, bytes: &[u8]) -> Result<MessageTypes, TypesFault>
         Err(TypesError::OutOfMemory) => Err(TypesFault::OutOfMemory),
         Err(error) => Err(TypesFault::Refused(error)),
     }
-}
-
-/// The text that bytes are, if they are UTF-8.
-fn text_of(bytes: &[u8]) -> Option<&str>
-    ensures { MatchOption result (is_utf8 bytes.now ≡ false)
-        (λ text. (text.now ≡ bytes.now) × (is_utf8 bytes.now ≡ true)) }
-{
-    str::from_utf8(bytes).ok()
 }

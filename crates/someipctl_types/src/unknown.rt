@@ -1,5 +1,5 @@
 //! Keys that the format does not have.
-ghost use Rattle.std.specs.Prelude.{◌≡◌, ◌||◌, not, map, bytes_eq, string_bytes};
+ghost use Rattle.std.specs.Prelude.{◌≡◌, ◌||◌, map, string_bytes};
 ghost use Rattle.std.specs.List.{list_any, find};
 ghost use Rattle.std.specs.Option.{is_some, option_map};
 ghost use Rattle.std.specs.BTreeMap.{keys};
@@ -8,6 +8,7 @@ ghost use Rattle.someipctl_types.specs.Refusals.{RefusesKey};
 ghost use Rattle.someipctl_types.specs.Tables.{file_keys, table_keys, is_unknown, has_unknown};
 
 use crate::error::TypesError;
+use someip_texts::{is_one_of, lesser};
 use std::alloc::Global;
 use toml::{Table, Value};
 
@@ -22,13 +23,6 @@ fn is_unknown(key: &str, known: &[&str]) -> bool
     ensures { result ≡ is_unknown (map (λ k. k.now) known.now) key.now }
 {
     !is_one_of(key, known)
-}
-
-/// Whether a key is one of some.
-fn is_one_of(key: &str, keys: &[&str]) -> bool
-    ensures { result ≡ list_any (λ known. bytes_eq key.now known.now) keys.now }
-{
-    keys.iter().any(|known| key == *known)
 }
 
 /// The least of the keys that a table may not have.
@@ -49,17 +43,6 @@ fn first_unknown<'a>(table: &'a Value, known: &[&str]) -> Option<&'a str>
     match unknown_member(members, known) {
         Some(key) => Some(key.as_str()),
         None => None,
-    }
-}
-
-/// The lesser of two keys by their bytes, if there is one.
-fn lesser<'a>(a: Option<&'a str>, b: Option<&'a str>) -> Option<&'a str>
-    ensures { is_some result ≡ (is_some a.entry || is_some b.entry) }
-{
-    match (a, b) {
-        (Some(a), Some(b)) => Some(if b < a { b } else { a }),
-        (Some(a), None) => Some(a),
-        (None, b) => b,
     }
 }
 

@@ -1,5 +1,5 @@
 -- The rules of answers (SOME/IP Protocol, "Request/Response Communication").
-use Rattle.std.specs.Prelude.{ℕ, if◌then◌else◌, List, [], ◌∷◌, length, Option}
+use Rattle.std.specs.Prelude.{ℕ, List, [], ◌∷◌, length, Option}
 use Rattle.std.specs.Option.{option_map_or}
 use Rattle.std.specs.FinMap as finite
 use Rattle.someip_rpc.specs.declared.request.Asked.{Asked}

@@ -15,7 +15,6 @@ use Rattle.someip_node_rules.specs.rules.Learning.{subscribe_to}
 use Rattle.someip_node_rules.specs.rules.Outcomes.{Outcome, meets}
 use Rattle.someip_node_rules.specs.forms.Setups.{client_endpoint, is_wanted_eventgroup, wanted_as}
 use Rattle.someip_node_rules.specs.histories.Tables.{Tables, known_peer}
-use Rattle.sd_subscribers.specs.declared.subscribe.Subscribe.{Subscribe}
 
 -- why a wish is refused, or taking it back: the node does not want the eventgroup
 abbrev pub wishing_refusal : Eventgroup → Tables → Option NodeError

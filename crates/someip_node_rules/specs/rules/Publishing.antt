@@ -1,6 +1,6 @@
 -- The rules of events that are published (SOME/IP Protocol, "Notification Events"; SOME/IP Service Discovery Protocol,
 -- "Publish/Subscribe").
-use Rattle.std.specs.Prelude.{ℕ, if◌then◌else◌, List, [], ◌∷◌, length, map, Option, Some}
+use Rattle.std.specs.Prelude.{ℕ, List, [], ◌∷◌, length, map, Option, Some}
 use Rattle.std.specs.List.{list_any}
 use Rattle.std.specs.Option.{option_map_or}
 use Rattle.std.specs.Ordering.{eq_by_cmp, nat_cmp}

@@ -1,6 +1,6 @@
 -- The rules of what a server does with Subscribes and StopSubscribes (SOME/IP Service Discovery Protocol, "Subscribe Eventgroup
 -- entry", "Stop Subscribe Eventgroup entry").
-use Rattle.std.specs.Prelude.{if◌then◌else◌, [], ◌∷◌, Option, None, Some, ◌==◌, Bool, false}
+use Rattle.std.specs.Prelude.{[], ◌∷◌, Option, None, Some, ◌==◌, Bool, false}
 use Rattle.std.specs.Option.{option_map_or}
 use Rattle.std.specs.declared.net.ipv4_addr.Ipv4Addr.{Ipv4Addr}
 use Rattle.std.specs.declared.net.socket_addr.SocketAddrV4.{SocketAddrV4}

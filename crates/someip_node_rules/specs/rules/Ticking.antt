@@ -18,7 +18,6 @@ use Rattle.someip_node_rules.specs.histories.Items.{Ticked}
 use Rattle.someip_node_rules.specs.rules.Outcomes.{Outcome, endings, meets}
 use Rattle.someip_node_rules.specs.forms.Setups.{wanted_as, wanted_instances}
 use Rattle.someip_node_rules.specs.histories.Tables.{Tables, passed_instances}
-use Rattle.someip_node_rules.specs.rules.Calling.{calls}
 use Rattle.someip_node_rules.specs.rules.Offering.{offer_of}
 
 -- the clock would go past its bound

@@ -15,7 +15,7 @@ use Rattle.sd_core.specs.declared.received.ReceivedOffer.{ReceivedOffer}
 use Rattle.someip_node_rules.specs.forms.Entries.{fronts}
 use Rattle.someip_node_rules.specs.histories.History.{History, answers_of, historic}
 use Rattle.someip_node_rules.specs.rules.Plans as plans
-use Rattle.someip_node_rules.specs.rules.Plans.{Plan, Rule, Work, act, asks, both, each, replying, rest, rule, run}
+use Rattle.someip_node_rules.specs.rules.Plans.{Plan, Rule, Work, act, both, each, replying, rest, rule, run}
 use Rattle.someip_node_rules.specs.forms.Receivers.{message_plan_to, messages_plan_to}
 use Rattle.someip_node_rules.specs.forms.Setups.{group_endpoint}
 use Rattle.someip_node_rules.specs.trails.Trails.{Done, given_by, met_by, outcome_of, trail}

@@ -1,5 +1,5 @@
 -- How the items that a node meets change the course of an eventgroup's subscriptions.
-use Rattle.std.proofs.Common.{◌≡◌, ◌⊎◌, inl, inr, ℕ, suc, ◌<◌, ◌≤◌, ◌%◌, Bool, true, false, not, ◌&&◌, if◌then◌else◌, List, [], ◌∷◌, Option, None, Some, arith, refl, ap}
+use Rattle.std.proofs.Common.{◌≡◌, ◌⊎◌, inl, inr, ℕ, suc, ◌≤◌, ◌%◌, Bool, true, false, not, ◌&&◌, if◌then◌else◌, List, [], ◌∷◌, Option, None, Some, arith, refl, ap}
 use Rattle.std.specs.Option.{option_map}
 use Rattle.std.specs.Ordering.{eq_by_cmp}
 use Rattle.std.specs.declared.net.socket_addr.SocketAddrV4.{SocketAddrV4}
@@ -18,7 +18,6 @@ use Rattle.someip_node_rules.specs.histories.Items.{Item}
 use Rattle.someip_node_rules.specs.histories.Questions.{clock_at}
 use Rattle.someip_node_rules.specs.trails.Trails.{after}
 use Rattle.someip_node_rules.specs.histories.WishQuestions.{Course, acked_if, begins_at, course_at, ended_if, goes_on, is_answered_by, is_wished_at, known_peer_at, same_eventgroup, subscribes_at, subscribes_if_known}
-use Rattle.someip_world_exchanges.specs.Openings.{Begins}
 
 -- ---- what an item makes of a course
 

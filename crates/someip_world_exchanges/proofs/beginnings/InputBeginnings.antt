@@ -50,7 +50,7 @@ use Rattle.someip_node_rules.specs.rules.Inputs.{Input, peer_plan, plan_of, refu
 use Rattle.someip_node_rules.specs.rules.Learning.{received_offer}
 use Rattle.someip_node_rules.specs.rules.Messages.{completed}
 use Rattle.someip_node_rules.specs.rules.Plans as plans
-use Rattle.someip_node_rules.specs.rules.Plans.{Plan, Rule, Work, act, asks, both, each, rest, run}
+use Rattle.someip_node_rules.specs.rules.Plans.{Plan, Rule, Work, act, asks, both, each, run}
 use Rattle.someip_node_rules.specs.forms.Receivers.{message_plan_to, messages_plan_to}
 use Rattle.someip_node_rules.specs.trails.Replies.{IsDue}
 use Rattle.someip_node_rules.specs.forms.Setups.{client_endpoint, is_wanted_eventgroup, offered_as, wanted_as}

@@ -16,7 +16,6 @@ use Rattle.someip_node_rules.specs.histories.History.{History, answers_of}
 use Rattle.someip_node_rules.specs.rules.Inputs as inputs
 use Rattle.someip_node_rules.specs.rules.Inputs.{Input}
 use Rattle.someip_node_rules.specs.histories.Items as items
-use Rattle.someip_node_rules.specs.histories.Items.{Item}
 use Rattle.someip_node_rules.specs.rules.Outcomes.{nothing}
 use Rattle.someip_node_rules.specs.forms.Outputs.{Given, Sends}
 use Rattle.someip_node_rules.specs.rules.Plans as plans

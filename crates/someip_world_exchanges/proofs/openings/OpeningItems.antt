@@ -1,5 +1,5 @@
 -- By which rule and item an exchange is opened, and which keys each kind of input opens.
-use Rattle.std.proofs.Common.{◌≡◌, ◌⊎◌, inl, inr, ℕ, Bool, true, false, List, ◌∷◌, Option, None, Some, ap, subst, sym, refl, arith}
+use Rattle.std.proofs.Common.{◌≡◌, ◌⊎◌, inl, inr, ℕ, Bool, true, false, List, ◌∷◌, Option, None, Some, ap, subst, refl, arith}
 use Rattle.std.specs.List.{AllByRecursion}
 use Rattle.std.specs.declared.net.socket_addr.SocketAddrV4.{SocketAddrV4}
 use Rattle.sd_instances.specs.declared.keys.InstanceId.{InstanceId}
@@ -10,13 +10,11 @@ use Rattle.someip_rpc.specs.declared.request.Reply.{Reply}
 use Rattle.std.specs.FinMap as finite
 use Rattle.std.specs.Option.{option_map_or}
 use Rattle.someip_node_rules.specs.declared.config.OfferedService.{OfferedService}
-use Rattle.someip_node_rules.specs.trails.Bringing.{Brings, WasBrought}
+use Rattle.someip_node_rules.specs.trails.Bringing.{WasBrought}
 use Rattle.someip_node_rules.specs.rules.Answering.{answers_request}
-use Rattle.someip_node_rules.specs.rules.Calling.{call_of, calls_at}
+use Rattle.someip_node_rules.specs.rules.Calling.{calls_at}
 use Rattle.someip_node_rules.specs.rules.Publishing.{publishes_by, publishes_to_by}
 use Rattle.someip_node_rules.specs.rules.Outcomes.{nothing}
-use Rattle.someip_node_rules.specs.forms.Setups.{offered_as}
-use Rattle.someip_node_rules.specs.histories.Tables.{known_endpoint}
 use Rattle.someip_node_rules.specs.histories.WishQuestions.{course_at}
 use Rattle.someip_world_exchanges.specs.declared.exchange_key.SubscriptionExchange.{SubscriptionExchange}
 use Rattle.someip_node_rules.specs.histories.History.{History, answers_of}
@@ -26,9 +24,9 @@ use Rattle.someip_node_rules.specs.histories.Items as items
 use Rattle.someip_node_rules.specs.histories.Items.{Item}
 use Rattle.someip_node_rules.specs.trails.Meetings.{IsMet}
 use Rattle.someip_node_rules.specs.rules.Plans as plans
-use Rattle.someip_node_rules.specs.rules.Plans.{Rule, rule}
+use Rattle.someip_node_rules.specs.rules.Plans.{Rule}
 use Rattle.someip_node_rules.specs.histories.Tables.{Tables}
-use Rattle.someip_node_rules.specs.trails.Trails.{Done, trail_of}
+use Rattle.someip_node_rules.specs.trails.Trails.{trail_of}
 use Rattle.someip_node_rules.proofs.trails.MeetingLemmas.{rule_noted}
 use Rattle.someip_node_rules.proofs.lists.MemberLemmas.{at_member}
 use Rattle.someip_node_rules.proofs.rules.StepRules.{all_brought}

@@ -16,7 +16,7 @@ use Rattle.someip_node_rules.specs.rules.Messages.{by_type, oneway_by, request_b
 use Rattle.someip_node_rules.specs.rules.Outcomes.{nothing}
 use Rattle.someip_node_rules.specs.forms.Outputs.{Tells, written}
 use Rattle.someip_node_rules.specs.rules.Plans as plans
-use Rattle.someip_node_rules.specs.rules.Plans.{Rule, Work, rule}
+use Rattle.someip_node_rules.specs.rules.Plans.{Work, rule}
 use Rattle.someip_node_rules.specs.steps.Steps.{step}
 use Rattle.someip_node_rules.specs.histories.Tables.{Tables, is_up}
 use Rattle.someip_node_rules.specs.trails.Trails.{Done, given_by, outcome_of, trail_of}

@@ -30,7 +30,7 @@ use Rattle.someip_node_rules.specs.histories.History.{History, answers_of, histo
 use Rattle.someip_node_rules.specs.rules.Inputs.{Datagram, refusal_of}
 use Rattle.someip_node_rules.specs.rules.Messages.{answer_by, completed_by, event_by, publisher, segment_by}
 use Rattle.someip_node_rules.specs.forms.Outputs.{written}
-use Rattle.someip_node_rules.specs.rules.Plans.{Plan, Work, act, run}
+use Rattle.someip_node_rules.specs.rules.Plans.{Work, act, run}
 use Rattle.someip_node_rules.specs.rules.Plans as plans
 use Rattle.someip_node_rules.specs.forms.Setups.{limits_of}
 use Rattle.someip_node_rules.specs.steps.Steps.{step, work_on}

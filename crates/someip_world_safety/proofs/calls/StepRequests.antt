@@ -15,7 +15,6 @@ use Rattle.someip_node_rules.specs.histories.CallQuestions.{next_token, open_req
 use Rattle.someip_node_rules.specs.histories.History.{History, answers_of, met}
 use Rattle.someip_node_rules.specs.rules.Inputs.{Input, plan_of}
 use Rattle.someip_node_rules.specs.histories.Items as items
-use Rattle.someip_node_rules.specs.histories.Items.{Item}
 use Rattle.someip_node_rules.specs.trails.Meanings.{GivenBy, IsTokenFor}
 use Rattle.someip_node_rules.specs.trails.Meetings.{IsRequestedBy}
 use Rattle.someip_node_rules.specs.forms.Outputs.{Tells}

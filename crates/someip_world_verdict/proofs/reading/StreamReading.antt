@@ -31,7 +31,7 @@ use Rattle.someip_world_verdict.specs.Streams.{stream_of}
 use Rattle.someip_world_verdict.specs.declared.stream.Stream.{Stream}
 use Rattle.someip_world_verdict.proofs.reading.ApplicationLemmas.{given_by_application}
 use Rattle.someip_world_verdict.proofs.reading.ContentLemmas as contents
-use Rattle.someip_world_verdict.proofs.reading.ContentLemmas.{IsMessageRead, message_read, read_back}
+use Rattle.someip_world_verdict.proofs.reading.ContentLemmas.{message_read, read_back}
 
 -- ---- a stream is that of one key
 

@@ -1,8 +1,8 @@
-use Rattle.std.proofs.Common.{rules, ◌≡◌, ◌∙◌, ap, false, Some, sym}
+use Rattle.std.proofs.Common.{rules, ◌≡◌, false, Some}
 use Rattle.std.specs.Net.Socket.{v4_ip}
 use Rattle.someip_wire.specs.Reading.{items_of}
 use Rattle.someip_node_engine.specs.Arrivals.{reached_from, reached_item_plan}
-use Rattle.someip_node_rules.specs.rules.Handling.{same_address, target_of, target_plan}
+use Rattle.someip_node_rules.specs.rules.Handling.{same_address, target_of}
 use Rattle.someip_node_rules.specs.rules.Plans.{each, plain, run}
 use Rattle.someip_node_engine.specs.Working.{working}
 use Rattle.someip_node_engine.proofs.ReachedLemmas.{target_reached}

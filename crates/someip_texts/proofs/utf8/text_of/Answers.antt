@@ -1,5 +1,5 @@
-use Rattle.someipctl_types.proofs.InputLemmas.{decoded}
-use Rattle.someipctl_types.proofs.reading.text_of.Goals as goal
+use Rattle.someip_texts.proofs.TextLemmas.{decoded}
+use Rattle.someip_texts.proofs.utf8.text_of.Goals as goal
 
 pub returns : goal.returns
 returns c =
