@@ -18,7 +18,7 @@ use std::marker::Model;
 use std::net::Ipv4Addr;
 
 /// The last event of each flow. The receivers of one event of one sender stand together, and are found by its
-/// hash, so that an event takes one look and one step a receiver.
+/// hash, so that an event of a known flow takes one look, and two steps at most for each receiver.
 #[derive(Drop)]
 pub(crate) struct FlowTable {
     alloc: Global,

@@ -6,6 +6,9 @@
 //!   whom;
 //! - [`Finding`]: what these show; [`LastEvent`]: what is kept of a flow;
 //! - [`laws`]: what the definitions behind the contracts promise.
+//!
+//! The flows of a book stand in `flow_table`, those of one source of events together in `groups`, each by its
+//! receiver in `receivers`; what sessions show is in `steps`.
 #![tactic(auto)]
 
 mod event_book;

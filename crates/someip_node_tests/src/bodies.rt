@@ -1,38 +1,10 @@
 //! Runs over both bodies of reassembly: they tell the same.
 use crate::printed::is_printed;
+use crate::setup::WORKED;
 use someip_node::Output;
 use someip_tp::{IntervalPool, Reassembly, SegmentList};
 use someip_world::{Line, Reuse, Setup, Told, Trace, read_schedule, run};
 use std::alloc::Global;
-
-/// A node that offers a service with a method and an event, and one that wants it.
-const TWO: &str = "group = \"239.0.0.1\"
-[[node]]
-name = \"a\"
-address = \"192.168.0.1\"
-client_id = 0x0101
-client_port = 40000
-[[node.offer]]
-service = 0x1111
-instance = 1
-major = 1
-ttl = 3
-port = 30509
-methods = [0x0421]
-oneways = [0x0422]
-events = [{ id = 0x8001, groups = [1] }]
-[[node]]
-name = \"b\"
-address = \"192.168.0.2\"
-client_id = 0x0102
-client_port = 40001
-[[node.want]]
-service = 0x1111
-instance = 1
-major = 1
-ttl = 3
-groups = [{ id = 1, events = [0x8001] }]
-";
 
 /// A call, an answer, a subscription and an event.
 const WHOLE_RUN: &str = "tick a 10
@@ -81,7 +53,7 @@ fn trace_of<R: Reassembly>(alloc: Global, setup: &Setup, schedule: &str) -> Opti
 
 /// What a schedule over the two nodes comes to.
 fn ran<R: Reassembly>(alloc: Global, schedule: &str) -> Option<Trace> {
-    let setup = Setup::read(alloc, TWO).ok()?;
+    let setup = Setup::read(alloc, WORKED).ok()?;
     trace_of::<R>(alloc, &setup, schedule)
 }
 

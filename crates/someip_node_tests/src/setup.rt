@@ -5,8 +5,9 @@ use someip_world_setup::{Setup, SetupNode};
 use std::alloc::Global;
 use std::net::Ipv4Addr;
 
-/// The worked setup.
-const WORKED: &str = r#"group = "239.0.0.1"
+/// The worked setup: a node that offers a service with a method, a method without answers, and an event in an
+/// eventgroup, and one that wants it, and may subscribe to the eventgroup.
+pub(crate) const WORKED: &str = r#"group = "239.0.0.1"
 [[node]]
 name = "a"
 address = "192.168.0.1"

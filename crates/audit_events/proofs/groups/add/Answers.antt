@@ -1,10 +1,9 @@
-use Rattle.std.proofs.Common.{◌≡◌, None, Some, [], ◌∷◌, ◌++◌, cond, rules, sym, ap, ◌∙◌}
+use Rattle.std.proofs.Common.{◌≡◌, None, Some, [], ◌∷◌, ◌++◌, sym, ap, ◌∙◌}
 use Rattle.std.specs.FinMap.{find}
 use Rattle.std.specs.Map.{lookup, set_value}
 use Rattle.someip_tables.specs.Endpoints.{endpoint_cmp}
 use Rattle.someip_tables.proofs.Outcomes.{on_err}
 use Rattle.audit_events.specs.FlowGroups.{AreApart, flows_in, is_same_source, lasts_of, source_of}
-use Rattle.audit_events.specs.SourceEquality.{one_source, sources_equal}
 use Rattle.audit_events.proofs.AddedFlows.{joined_apart, kept_flows, kept_groups, known_by_source, one_more, set_updates}
 use Rattle.audit_events.proofs.SourceLemmas.{flows_distinct, items_of}
 use Rattle.audit_events.proofs.groups.add.Goals as goal

@@ -1,6 +1,5 @@
-use Rattle.std.proofs.Common.{◌≡◌, ◌+◌, ◌<◌, length, arith}
+use Rattle.std.proofs.Common.{◌≡◌, ◌+◌, length, arith}
 use Rattle.std.specs.Map.{values_of}
-use Rattle.audit_events.specs.FlowGroups.{flows_in}
 use Rattle.audit_events.proofs.ChangedGroups.{count_is, receivers_in}
 use Rattle.audit_events.proofs.groups.count.Goals as goal
 

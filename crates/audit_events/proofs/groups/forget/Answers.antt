@@ -1,4 +1,4 @@
-use Rattle.std.proofs.Common.{◌≤◌, ap, ◌∙◌, length, filter, not, rules}
+use Rattle.std.proofs.Common.{ap, ◌∙◌, not, rules}
 use Rattle.someip_tables.proofs.Entries.{distinct-filter}
 use Rattle.someip_tables.specs.Tables.{map_of}
 use Rattle.someip_tables.proofs.Trees.{map_of-filter_keys}

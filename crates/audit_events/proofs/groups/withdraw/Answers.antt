@@ -1,4 +1,4 @@
-use Rattle.std.proofs.Common.{true, ap, ◌∙◌, length, rules}
+use Rattle.std.proofs.Common.{ap, ◌∙◌, length, rules}
 use Rattle.std.proofs.lemmas.List.{length-map}
 use Rattle.someip_tables.proofs.ChangedLemmas.{changed-entries}
 use Rattle.audit_events.specs.FlowGroups.{once_withdrawn, flows_in}

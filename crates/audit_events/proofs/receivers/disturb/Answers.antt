@@ -1,5 +1,4 @@
-use Rattle.std.proofs.Common.{◌≡◌, ap, sym, ◌∙◌}
-use Rattle.audit_events.specs.declared.receiver.Receiver.{Receiver}
+use Rattle.std.proofs.Common.{ap, sym, ◌∙◌}
 use Rattle.audit_events.specs.EventRules.{disturbed, may_reach}
 use Rattle.audit_events.specs.FlowGroups.{changed_by, once_changed}
 use Rattle.audit_events.proofs.GroupLemmas.{left_alone, not_changed}

@@ -1,4 +1,4 @@
-use Rattle.std.proofs.Common.{◌≡◌, ◌++◌, if◌then◌else◌, map, take, drop}
+use Rattle.std.proofs.Common.{◌≡◌, ◌++◌, map, take, drop}
 use Rattle.audit_events.specs.FlowGroups.{disturbed_at}
 use Rattle.audit_events.proofs.receivers.disturb_all.Given as goal
 

@@ -1,4 +1,4 @@
-use Rattle.std.proofs.Common.{◌≡◌, ◌++◌, if◌then◌else◌, map, take, drop}
+use Rattle.std.proofs.Common.{◌≡◌, ◌++◌, map, take, drop}
 use Rattle.audit_events.specs.FlowGroups.{noted}
 use Rattle.audit_events.proofs.receivers.note.Given as goal
 

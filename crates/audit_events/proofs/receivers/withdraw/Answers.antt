@@ -1,4 +1,4 @@
-use Rattle.std.proofs.Common.{◌≡◌, sym, ◌∙◌, refl}
+use Rattle.std.proofs.Common.{sym, ◌∙◌, refl}
 use Rattle.audit_events.specs.FlowGroups.{changed_by, once_withdrawn}
 use Rattle.audit_events.proofs.GroupLemmas.{left_alone}
 use Rattle.audit_events.proofs.receivers.withdraw.Goals as goal

@@ -1,7 +1,7 @@
-use Rattle.std.proofs.Common.{◌≡◌, ◌||◌, nat_lt, true, None, is_some, refl, sym, ap, ◌∙◌}
+use Rattle.std.proofs.Common.{◌≡◌, true, None, refl, sym, ap, ◌∙◌}
 use Rattle.std.specs.FinMap as finite
 use Rattle.someip_tables.specs.Tables.{map_of}
-use Rattle.audit_events.specs.EventTables.{flows_after, may_hold}
+use Rattle.audit_events.specs.EventTables.{may_hold}
 use Rattle.audit_events.specs.FlowKeys.{flow_cmp}
 use Rattle.audit_events.proofs.SawLemmas.{came_is, has_room, held_event, known_then}
 use Rattle.audit_events.proofs.event_book.EventBook.saw.Goals as goal
