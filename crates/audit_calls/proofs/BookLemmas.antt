@@ -1,28 +1,46 @@
 -- What a change makes of a book's calls.
-use Rattle.std.proofs.Common.{◌≡◌, ◌≢◌, ℕ, ◌+◌, ◌<◌, ◌≤◌, nat_lt, Bool, true, false, cond, ◌||◌, Option, None, Some, Result, Ok, Err, OnOk, OnErr, refl, sym, ap, ◌∙◌, arith}
+use Rattle.std.proofs.Common.{◌≡◌, ◌≢◌, ℕ, ◌+◌, ◌<◌, ◌≤◌, nat_le, nat_lt, Bool, true, false, cond, ◌||◌, Option, None, Some, Result, Ok, Err, OnOk, OnErr, refl, sym, ap, ◌∙◌, arith}
 use Rattle.std.specs.Option.{is_some}
 use Rattle.std.proofs.lemmas.Bool.{ltb-true}
 use Rattle.std.specs.FinMap.{get, insert, len, contains_key, len-insert}
 use Rattle.someip_tables.proofs.MapLaws.{get-insert_own}
-use Rattle.audit_tables.specs.Dues.{WantsMemory}
 use Rattle.audit_calls.specs.declared.call.AuditedCall.{AuditedCall}
 use Rattle.audit_calls.specs.declared.known.Known.{Known}
+use Rattle.audit_calls.specs.declared.known.Known.TheVariants.{Open, Overdue, Answered}
+use Rattle.audit_calls.specs.declared.known.OpenCall.{OpenCall}
+use Rattle.audit_calls.specs.CallTables.{unless_answered}
 use Rattle.audit_calls.specs.CallOrder.{calls_total, exact_calls}
 use Rattle.audit_calls.specs.CallBooks.{Calls, has_room, known, with_known}
-use Rattle.audit_calls.specs.KnownCalls.{waits_of, known_at, known_by_answer}
+use Rattle.audit_calls.specs.KnownCalls.{known_at, known_by_answer, known_by_request, told_of_request}
 
--- what wants memory changes the calls
-not_there : (v : Option Known) (what : Known) → WantsMemory waits_of v (waits_of what) → v ≡ Some what → ⊥
-not_there None what wants same = cc
-not_there (Some there) what wants same = let e : there ≡ what = cc in wants.0 (ap waits_of e)
+-- what was not known of a call changes the calls
+pub changed : (calls : Calls) (call : AuditedCall) (value what : Known) → value ≡ what → get calls call ≢ Some value → insert calls call what ≢ calls
+changed calls call value what is anew same = anew (sym (ap (λ m. get m call) same) ∙ get-insert_own calls_total exact_calls calls call what ∙ ap Some (sym is))
 
-pub changed : (calls : Calls) (call : AuditedCall) (value what : Known) → value ≡ what → WantsMemory waits_of (get calls call) (waits_of value) → insert calls call what ≢ calls
-changed calls call value what is wants same =
-    not_there (get calls call) value wants (sym (ap (λ m. get m call) same) ∙ get-insert_own calls_total exact_calls calls call what ∙ ap Some (sym is))
+pub changed_some : (calls : Calls) (call : AuditedCall) (value : Known) (v : Option Known) → v ≡ Some value → get calls call ≢ Some value → with_known call v calls ≢ calls
+changed_some calls call value None is anew = cc
+changed_some calls call value (Some what) is anew = let e : value ≡ what = cc in changed calls call value what e anew
 
-pub changed_some : (calls : Calls) (call : AuditedCall) (value : Known) (v : Option Known) → v ≡ Some value → WantsMemory waits_of (get calls call) (waits_of value) → with_known call v calls ≢ calls
-changed_some calls call value None is wants = cc
-changed_some calls call value (Some what) is wants = let e : value ≡ what = cc in changed calls call value what e wants
+-- a REQUEST is judged alike whether an answer before it is known or not
+pub told_alike : (session now : ℕ) (new : OpenCall) (v : Option Known) → told_of_request session new (known_at now (unless_answered v)) ≡ told_of_request session new (known_at now v)
+told_alike session now new None = refl
+told_alike session now new (Some (Open call)) = refl
+told_alike session now new (Some (Overdue since)) = refl
+told_alike session now new (Some (Answered until)) = cases (nat_le until now)
+  where
+    cases : (b : Bool) → None ≡ told_of_request session new (cond b None (Some (Answered until)))
+    cases true = refl
+    cases false = refl
+
+pub known_alike : (now : ℕ) (new : OpenCall) (v : Option Known) → known_by_request new (known_at now (unless_answered v)) ≡ known_by_request new (known_at now v)
+known_alike now new None = refl
+known_alike now new (Some (Open call)) = refl
+known_alike now new (Some (Overdue since)) = refl
+known_alike now new (Some (Answered until)) = cases (nat_le until now)
+  where
+    cases : (b : Bool) → Open new ≡ known_by_request new (cond b None (Some (Answered until)))
+    cases true = refl
+    cases false = refl
 
 -- calls with one more that there is room for are within the limit
 within_put : (limit : ℕ) (calls : Calls) (call : AuditedCall) (what : Known) → has_room limit calls call ≡ true → len calls ≤ limit → len (insert calls call what) ≤ limit

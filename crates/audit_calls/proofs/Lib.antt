@@ -1,4 +1,5 @@
 pub mod ExcerptLemmas
+pub mod TableLemmas
 pub mod BookLemmas
 pub mod OverdueLemmas
 pub mod HistoryLemmas

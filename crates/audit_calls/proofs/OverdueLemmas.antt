@@ -1,5 +1,5 @@
 -- The calls that fall due, one after the other.
-use Rattle.std.proofs.Common.{◌≡◌, ℕ, zero, suc, ◌-◌, ◌<◌, ◌≤◌, nat_le, Bool, true, false, cond, not, ◌⊎◌, inl, inr, Option, None, Some, IfSome, refl, sym, ap, ◌∙◌, arith}
+use Rattle.std.proofs.Common.{◌≡◌, ℕ, zero, suc, ◌-◌, ◌<◌, ◌≤◌, nat_le, Bool, true, false, cond, not, ◌⊎◌, inl, inr, Option, None, Some, refl, sym, ap, ◌∙◌, arith}
 use Rattle.std.specs.Option.{is_some, option_and_then}
 use Rattle.std.specs.declared.cmp.Ordering.{Ordering}
 use Rattle.std.specs.declared.cmp.Ordering.TheVariants.{Less, Equal, Greater}
@@ -11,8 +11,8 @@ use Rattle.someip_tables.specs.Waits.{is_due_by}
 use Rattle.someip_tables.proofs.Entries.{get-retain, same_by_test, own_test}
 use Rattle.someip_tables.proofs.MapLaws.{len-insert_known}
 use Rattle.audit_tables.specs.declared.due.Due.{Due}
-use Rattle.audit_tables.specs.Dues.{IsFirstDue, WantsMemory, due_cmp}
-use Rattle.audit_tables.proofs.FirstDues.{dues_total, exact_dues, not_before, one_first}
+use Rattle.audit_tables.specs.Dues.{IsFirstDue, due_cmp}
+use Rattle.audit_tables.proofs.FirstDues.{dues_total, exact_dues, not_before}
 use Rattle.audit_calls.specs.declared.call.AuditedCall.{AuditedCall}
 use Rattle.audit_calls.specs.declared.finding.Unanswered.{Unanswered}
 use Rattle.audit_calls.specs.declared.known.Known.{Known}
@@ -40,11 +40,6 @@ LetsGo now old calls = (call : AuditedCall) → (get calls call ≡ get old call
 
 pub lets_none_go : (now : ℕ) (old : Calls) → LetsGo now old old
 lets_none_go now old = λ call. inl refl
-
--- what was taken out is what was due first
-pub first_taken : (calls next : Calls) (due : Due AuditedCall) (r : Option (Due AuditedCall)) → IsFirstDue waits_of calls (Some due) → IsFirstDue waits_of calls r
-    → IfSome r (λ first. next ≡ remove calls first.key) → next ≡ remove calls due.key
-first_taken calls next due r is first taken = let same : r ≡ Some due = one_first calls_total exact_calls waits_of calls r (Some due) first is in rw same at taken
 
 -- what waits after a removal waited before
 module _ (calls next : Calls) (gone : AuditedCall) (is : next ≡ remove calls gone) where
@@ -223,17 +218,6 @@ module _ (now : ℕ) (old calls : Calls) (go : LetsGo now old calls) (later : (c
       at call (inl same) = sym (stays call (get calls call) refl) ∙ ap (kept_if (λ what. not (is_due_by now (waits_of what)))) same
       at call (inr gone) = gone.0 ∙ sym (goes call (get old call) gone.1)
 
--- the first that waits and is not open was answered
-pub first_answered : (calls : Calls) (due : Due AuditedCall) → IsFirstDue waits_of calls (Some due) → ((open_call : OpenCall) → get calls due.key ≡ Some (Open open_call) → ⊥)
-    → get calls due.key ≡ Some (Answered due.at)
-first_answered calls due first never = at (get calls due.key) refl first.0
-  where
-    at : (v : Option Known) → get calls due.key ≡ v → option_and_then waits_of v ≡ Some due.at → v ≡ Some (Answered due.at)
-    at None is waits = cc
-    at (Some (Open open_call)) is waits = absurd (never open_call is)
-    at (Some (Overdue since)) is waits = cc
-    at (Some (Answered until)) is waits = let e : until ≡ due.at = cc in ap (λ n. Some (Answered n)) e
-
 empty_has : (calls : Calls) (due : Due AuditedCall) → get calls due.key ≡ Some (Answered due.at) → len calls ≡ 0 → ⊥
 empty_has calls due there none =
     let gone : get calls due.key ≡ None = ap (λ m. get m due.key) (empty_of_len calls none) ∙ get-empty call_cmp due.key in
@@ -262,8 +246,3 @@ all_later now calls first is not call at waits =
 
 pub none_waits : (now : ℕ) (calls : Calls) → ((call : AuditedCall) → wait_of calls call ≡ None) → (call : AuditedCall) (at : ℕ) → wait_of calls call ≡ Some at → now < at
 none_waits now calls none call at waits = let e : wait_of calls call ≡ None = none call in cc
-
--- a call that is told wants no memory
-pub wants_none : (v : Option Known) (open_call : OpenCall) → v ≡ Some (Open open_call) → WantsMemory waits_of v None → ⊥
-wants_none None open_call is wants = cc
-wants_none (Some what) open_call is wants = wants.1 refl

@@ -5,6 +5,7 @@ pub mod Excerpts
 pub mod KnownCalls
 pub mod Tapped
 pub mod CallBooks
+pub mod CallTables
 pub mod CallCodes
 pub mod Overdue
 pub mod CallHistory

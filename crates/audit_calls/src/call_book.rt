@@ -12,11 +12,11 @@ ghost use Rattle.audit_calls.specs.Overdue.{IsOpenCall, told_cmp, calls_after_du
 ghost use Rattle.audit_calls.specs.declared.finding.Unanswered.{Unanswered};
 
 use crate::call::AuditedCall;
+use crate::call_table::CallTable;
 use crate::excerpt::Excerpt;
 use crate::finding::{CallFinding, CallRules, Unanswered};
-use crate::known::{Known, OpenCall};
+use crate::known::OpenCall;
 use crate::steps::{next_overdue, on_answer, on_request};
-use audit_tables::DueTable;
 use someip_tables::Moment;
 use someip_wire::{Message, MessageType};
 use std::alloc::{AllocError, Global};
@@ -34,7 +34,7 @@ use std::net::SocketAddrV4;
 #[derive(Drop)]
 pub struct CallBook {
     rules: CallRules,
-    calls: DueTable<AuditedCall, Known>,
+    calls: CallTable,
     full: bool,
 }
 
@@ -50,9 +50,9 @@ impl Model for CallBook {
 
     ghost coded = { coded_book };
 
-    ghost view = { λ b. record { rules = b.rules; calls = map_of call_cmp b.calls; full = b.full } };
+    ghost view = { λ b. record { rules = b.rules; calls = b.calls; full = b.full } };
 
-    ghost invariant = { λ b. finite.len (map_of call_cmp b.calls) ≤ b.rules.limit };
+    ghost invariant = { λ b. finite.len b.calls ≤ b.rules.limit };
 }
 
 impl CallBook {
@@ -62,7 +62,7 @@ impl CallBook {
     {
         CallBook {
             rules,
-            calls: DueTable::new(alloc),
+            calls: CallTable::new(alloc),
             full: false,
         }
     }
@@ -73,7 +73,7 @@ impl CallBook {
         ensures count { result ≡ finite.len self.now.calls }
         ensures few { result ≤ self.now.rules.limit }
     {
-        self.calls.len()
+        self.calls.len(self.rules.limit)
     }
 
     /// Takes note of a whole message of the datagram with number k, and says what it shows that is not

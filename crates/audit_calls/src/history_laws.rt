@@ -5,7 +5,6 @@
 //! tells then is what the messages say: [`a_book_stands_for_its_messages`]. And what they say, each kind
 //! of finding by itself, is the other laws.
 ghost use Rattle.std.specs.Prelude.{◌≡◌, ◌↔◌, ◌<◌, ◌≤◌, ℕ, List, [], ◌∷◌, true, false, Some, None};
-ghost use Rattle.std.specs.FinMap as finite;
 ghost use Rattle.audit_calls.specs.declared.call.AuditedCall.{AuditedCall};
 ghost use Rattle.audit_calls.specs.declared.finding.CallFinding.TheVariants.{KeyReused, Late, Repeated, Unasked};
 ghost use Rattle.audit_calls.specs.declared.finding.CallRules.{CallRules};

@@ -3,7 +3,6 @@ ghost use Rattle.std.specs.Prelude.{◌≡◌};
 ghost use Rattle.audit_calls.specs.KnownCalls.{known_at};
 
 use crate::excerpt::Excerpt;
-use someip_tables::Waits;
 
 /// A call that waits for its answer.
 #[derive(Clone, Copy, PartialEq, Eq)]
@@ -27,20 +26,6 @@ pub(crate) enum Known {
     Overdue(u64),
     /// It was answered, and is known until this moment, in milliseconds.
     Answered(u64),
-}
-
-impl Waits for Known {
-    ghost use Rattle.audit_calls.specs.KnownCalls.{waits_of};
-
-    ghost moment = { waits_of };
-
-    fn waits_for(&self) -> Option<u64> {
-        match self {
-            Known::Open(call) => Some(call.until),
-            Known::Overdue(_) => None,
-            Known::Answered(until) => Some(*until),
-        }
-    }
 }
 
 /// What is known of a call at a moment: one whose deadline has come is overdue, and one that was

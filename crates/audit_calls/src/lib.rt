@@ -12,6 +12,7 @@
 
 mod call;
 mod call_book;
+mod call_table;
 mod excerpt;
 mod finding;
 pub mod history_laws;

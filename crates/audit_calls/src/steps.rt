@@ -10,6 +10,7 @@ ghost use Rattle.audit_calls.specs.AuditedCalls.{call_cmp};
 ghost use Rattle.audit_calls.specs.KnownCalls.{waits_of, told_of_request, known_by_request};
 ghost use Rattle.audit_calls.specs.KnownCalls.{told_of_answer, known_by_answer};
 ghost use Rattle.audit_calls.specs.CallBooks.{has_room, known, may_be_asked, with_known};
+ghost use Rattle.audit_calls.specs.CallTables.{unless_answered};
 ghost use Rattle.audit_calls.specs.Overdue.{IsOpenCall, told_cmp, calls_after_due};
 ghost use Rattle.audit_calls.specs.declared.call.AuditedCall.{AuditedCall};
 ghost use Rattle.audit_calls.specs.declared.finding.Unanswered.{Unanswered};
@@ -17,57 +18,59 @@ ghost use Rattle.audit_calls.specs.declared.finding.CallFinding.TheVariants.{Ful
 ghost use Rattle.audit_calls.specs.declared.known.OpenCall.{OpenCall};
 
 use crate::call::AuditedCall;
+use crate::call_table::CallTable;
 use crate::finding::{CallFinding, CallRules, Unanswered};
 use crate::known::{Known, OpenCall, known_at};
-use audit_tables::{Due, DueTable};
+use audit_tables::Due;
 use someip_tables::Moment;
 use std::alloc::AllocError;
 
-/// What is known of calls.
-pub(crate) type Calls = DueTable<AuditedCall, Known>;
-
 /// Takes note of a REQUEST that would open its call so, and says what it shows.
 pub(crate) fn on_request(
-    calls: &mut Calls,
+    calls: &mut CallTable,
     rules: &CallRules,
     full: &mut bool,
     call: AuditedCall,
     opened: OpenCall,
 ) -> Result<Option<CallFinding>, AllocError>
+    requires few { finite.len calls.old ≤ rules.now.limit }
     ensures told { IfOk result (λ finding. finding
-        ≡ (if has_room rules.now.limit (map_of call_cmp calls.old) call
-        then told_of_request call.session opened (known opened.since (map_of call_cmp calls.old) call)
+        ≡ (if has_room rules.now.limit calls.old call
+        then told_of_request call.session opened (known opened.since calls.old call)
         else if full.old then None else Some Full)) }
-    ensures after { OnOk result (map_of call_cmp calls.new
-        ≡ (if has_room rules.now.limit (map_of call_cmp calls.old) call
-        then finite.insert (map_of call_cmp calls.old) call
-        (known_by_request opened (known opened.since (map_of call_cmp calls.old) call))
-        else map_of call_cmp calls.old)) }
-    ensures full { full.new ≡ (if has_room rules.now.limit (map_of call_cmp calls.old) call
+    ensures after { OnOk result (calls.new
+        ≡ (if has_room rules.now.limit calls.old call
+        then finite.insert calls.old call
+        (known_by_request opened (known opened.since calls.old call))
+        else calls.old)) }
+    ensures full { full.new ≡ (if has_room rules.now.limit calls.old call
         then full.old else true) }
-    ensures room { OnErr result (has_room rules.now.limit (map_of call_cmp calls.old) call ≡ true) }
-    ensures grows { OnErr result (finite.insert (map_of call_cmp calls.old) call
-        (known_by_request opened (known opened.since (map_of call_cmp calls.old) call))
-        ≢ map_of call_cmp calls.old) }
+    ensures room { OnErr result (has_room rules.now.limit calls.old call ≡ true) }
+    ensures grows { OnErr result (finite.insert calls.old call
+        (known_by_request opened (known opened.since calls.old call))
+        ≢ calls.old) }
     ensures unchanged { OnErr result (calls.new ≡ calls.old) }
 {
-    let held = calls.get(&call);
-    if !has_room(held, calls.len(), rules.limit) {
+    let before = calls.unanswered(&call);
+    if !has_room(calls, &call, before, rules.limit) {
         let told = if *full { None } else { Some(CallFinding::Full) };
         *full = true;
         return Ok(told);
     }
-    let before = known_at(opened.since, held);
+    let before = known_at(opened.since, before);
     let (told, known) = judge_request(before, call.session, opened);
     calls.insert(call, known)?;
     Ok(told)
 }
 
-/// Whether there is room for a call among so many: it is held, or they are fewer than the limit.
-fn has_room(held: Option<Known>, calls: usize, limit: usize) -> bool
-    ensures { result ≡ is_some held || nat_lt calls limit }
+/// Whether there is room for a call, of which this is known if it has no answer: it is held, or fewer are
+/// held than the limit.
+fn has_room(calls: &CallTable, call: &AuditedCall, before: Option<Known>, limit: usize) -> bool
+    requires few { finite.len calls.now ≤ limit }
+    requires before { before ≡ unless_answered (finite.get calls.now call.now) }
+    ensures { result ≡ has_room limit calls.now call.now }
 {
-    held.is_some() || calls < limit
+    before.is_some() || calls.len(limit) < limit || calls.get(call).is_some()
 }
 
 /// What is told of a REQUEST, by what is known of its call, and what is known of it then.
@@ -90,20 +93,20 @@ fn judge_request(
 
 /// Takes note of an answer to a call, and says what it shows.
 pub(crate) fn on_answer(
-    calls: &mut Calls,
+    calls: &mut CallTable,
     rules: &CallRules,
     full: bool,
     call: AuditedCall,
     now: Moment,
 ) -> Result<Option<CallFinding>, AllocError>
     ensures told { IfOk result (λ finding. finding ≡ told_of_answer
-        (may_be_asked rules.now full now) now (known now (map_of call_cmp calls.old) call)) }
-    ensures after { OnOk result (map_of call_cmp calls.new ≡ with_known call
-        (known_by_answer (now + rules.now.answer_ms) (known now (map_of call_cmp calls.old) call))
-        (map_of call_cmp calls.old)) }
+        (may_be_asked rules.now full now) now (known now calls.old call)) }
+    ensures after { OnOk result (calls.new ≡ with_known call
+        (known_by_answer (now + rules.now.answer_ms) (known now calls.old call))
+        calls.old) }
     ensures grows { OnErr result (with_known call
-        (known_by_answer (now + rules.now.answer_ms) (known now (map_of call_cmp calls.old) call))
-        (map_of call_cmp calls.old) ≢ map_of call_cmp calls.old) }
+        (known_by_answer (now + rules.now.answer_ms) (known now calls.old call))
+        calls.old ≢ calls.old) }
     ensures unchanged { OnErr result (calls.new ≡ calls.old) }
 {
     let held = calls.get(&call);
@@ -151,22 +154,22 @@ fn may_be_asked(rules: &CallRules, full: bool, now: Moment) -> bool
 }
 
 /// The open call whose deadline comes first, if it has come.
-pub(crate) fn next_overdue(calls: &mut Calls, now: Moment) -> Option<Unanswered>
-    ensures open { IfSome result (λ told. IsOpenCall (map_of call_cmp calls.old) told) }
+pub(crate) fn next_overdue(calls: &mut CallTable, now: Moment) -> Option<Unanswered>
+    ensures open { IfSome result (λ told. IsOpenCall calls.old told) }
     ensures passed { IfSome result (λ told. told.until ≤ now) }
     ensures first { IfSome result (λ told. (other : Unanswered)
-        → IsOpenCall (map_of call_cmp calls.old) other → is_le (told_cmp told other) ≡ true) }
+        → IsOpenCall calls.old other → is_le (told_cmp told other) ≡ true) }
     ensures none { IfNone result ((other : Unanswered)
-        → IsOpenCall (map_of call_cmp calls.old) other → now < other.until) }
-    ensures after { map_of call_cmp calls.new
-        ≡ calls_after_due now result (map_of call_cmp calls.old) }
-    ensures no_more { finite.len (map_of call_cmp calls.new)
-        ≤ finite.len (map_of call_cmp calls.old) }
+        → IsOpenCall calls.old other → now < other.until) }
+    ensures after { calls.new
+        ≡ calls_after_due now result calls.old }
+    ensures no_more { finite.len calls.new
+        ≤ finite.len calls.old }
 {
     while let Some(due) = first_due_by(calls, now) {
-        match open_call(calls, &due.key) {
+        match calls.open_call(&due) {
             Some(call) => {
-                let _ = calls.insert(due.key, Known::Overdue(call.since));
+                calls.tell(due.key, call.since);
                 return Some(Unanswered {
                     call: due.key,
                     k: call.k,
@@ -175,32 +178,19 @@ pub(crate) fn next_overdue(calls: &mut Calls, now: Moment) -> Option<Unanswered>
                 });
             }
             None => {
-                calls.remove_first();
+                calls.forget_first();
             }
         }
     }
     None
 }
 
-/// A call, if it is open.
-fn open_call(calls: &Calls, call: &AuditedCall) -> Option<OpenCall>
-    ensures open { IfSome result (λ open_call. finite.get (map_of call_cmp calls.now) call.now
-        ≡ Some (Known.Open open_call)) }
-    ensures none { IfNone result ((open_call : OpenCall)
-        → finite.get (map_of call_cmp calls.now) call.now ≡ Some (Known.Open open_call) → ⊥) }
-{
-    match calls.get(call) {
-        Some(Known::Open(call)) => Some(call),
-        _ => None,
-    }
-}
-
 /// The call whose moment comes first, if it has come.
-fn first_due_by(calls: &Calls, now: Moment) -> Option<Due<AuditedCall>>
-    ensures first { IfSome result (λ due. IsFirstDue waits_of (map_of call_cmp calls.now) (Some due)) }
+fn first_due_by(calls: &CallTable, now: Moment) -> Option<Due<AuditedCall>>
+    ensures first { IfSome result (λ due. IsFirstDue waits_of calls.now (Some due)) }
     ensures come { IfSome result (λ due. due.at ≤ now) }
     ensures none { IfNone result ((call : AuditedCall) (at : ℕ)
-        → option_and_then waits_of (finite.get (map_of call_cmp calls.now) call) ≡ Some at → now < at) }
+        → option_and_then waits_of (finite.get calls.now call) ≡ Some at → now < at) }
 {
     match calls.first_due() {
         Some(due) => {

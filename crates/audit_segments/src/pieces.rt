@@ -1,6 +1,5 @@
 //! What a segment makes of the messages that have come in part, and of their timeouts.
 ghost use Rattle.std.specs.Prelude.{◌≡◌, ◌≤◌, ◌<◌, ◌+◌, ◌%◌, true, is_ok, IfOk, OnErr, OnOk, IfSome, IfNone, Some};
-ghost use Rattle.std.specs.FinMap as finite;
 ghost use Rattle.someip_tables.specs.Tables.{map_of};
 ghost use Rattle.someip_reassembly.specs.Parts.{NoneAfter};
 ghost use Rattle.someip_reassembly.specs.SegmentOffers.{judgement, message_at, parts_after, parts_less};

@@ -1,8 +1,8 @@
 //! The datagram in a packet.
-ghost use Rattle.std.specs.Prelude.{◌≡◌, ◌≤◌, ◌<◌, ◌+◌, ◌^◌, Some, None, Ok, Err, Option, length, drop, IfOk, IfErr, OnOk};
+ghost use Rattle.std.specs.Prelude.{◌≡◌, ◌≤◌, ◌<◌, ◌+◌, ◌^◌, Some, None, Ok, Err, Option, length, IfOk, IfErr, OnOk};
 ghost use Rattle.std.specs.Prelude.{IfSome, option_map};
 ghost use Rattle.recording.specs.Packets.{network_place, network_at, ethernet_protocol, after_tag};
-ghost use Rattle.recording.specs.Packets.{is_tag, ipv4_fault, udp_fault, header_len, total_len};
+ghost use Rattle.recording.specs.Packets.{ipv4_fault, udp_fault, header_len};
 ghost use Rattle.recording.specs.Packets.{datagram_in, record_of, carried_in};
 ghost use Rattle.recording.specs.View.{view_datagram, view_record, record_at, packet_behind};
 

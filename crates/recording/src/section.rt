@@ -1,5 +1,5 @@
 //! What the blocks of a pcapng section say.
-ghost use Rattle.std.specs.Prelude.{◌≡◌, ◌≤◌, ◌+◌, List, Some, None, Ok, Err, length, IfOk, IfErr, OnOk};
+ghost use Rattle.std.specs.Prelude.{◌≡◌, ◌≤◌, ◌+◌, Some, None, Ok, Err, length, IfOk, IfErr, OnOk};
 ghost use Rattle.recording.specs.Sections.{meaning_of, interfaces_after, least_body, simple_record};
 ghost use Rattle.recording.specs.Sections.{timed_record, block_time, captured_len};
 ghost use Rattle.recording.specs.View.{view_block, given_in, LiesIn};

@@ -1,6 +1,6 @@
 //! When a packet was recorded.
 ghost use Rattle.std.specs.Prelude.{◌≡◌, ◌≤◌, ◌*◌, ◌/◌};
-ghost use Rattle.recording.specs.Times.{time_of, classic_time, ticks_per_second, told_ticks, shifted, tick_time};
+ghost use Rattle.recording.specs.Times.{classic_time, ticks_per_second, told_ticks, shifted, tick_time};
 
 /// A time since 1970-01-01 00:00:00 UTC, rounded down to a whole nanosecond.
 ///

@@ -10,7 +10,7 @@ ghost use Rattle.sd_instances.specs.declared.eventgroup.Eventgroup.{Eventgroup};
 ghost use Rattle.sd_instances.specs.Eventgroups.{eventgroup_cmp};
 ghost use Rattle.sd_wishes.specs.Wishes.{wish_of};
 ghost use Rattle.sd_core.specs.WishTables.{subscribes};
-ghost use Rattle.sd_core.specs.WishTables.{any_begun, any_wished, begun_of, is_of};
+ghost use Rattle.sd_core.specs.WishTables.{any_begun, begun_of, is_of};
 ghost use Rattle.sd_core.specs.WishTables.{least_of, passing_of, wished_of};
 
 use sd_instances::{Eventgroup, InstanceId};

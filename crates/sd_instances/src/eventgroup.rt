@@ -1,5 +1,4 @@
 //! The eventgroups of instances.
-ghost use Rattle.std.specs.Prelude.{◌≡◌};
 ghost use Rattle.sd_instances.specs.EventgroupOrder.{exact_eventgroups};
 
 use crate::keys::InstanceId;

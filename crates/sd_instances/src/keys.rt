@@ -1,5 +1,4 @@
 //! What tells the entries of the tables apart.
-ghost use Rattle.std.specs.Prelude.{◌≡◌};
 ghost use Rattle.sd_instances.specs.KeyOrder.{exact_instances};
 
 use someip_tables::Key;

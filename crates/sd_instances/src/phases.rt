@@ -19,7 +19,7 @@ pub struct Phases {
 }
 
 impl Phases {
-    ghost use Rattle.std.specs.Prelude.{◌≡◌, nat_lt};
+    ghost use Rattle.std.specs.Prelude.{◌≡◌};
     ghost use Rattle.sd_instances.specs.Sendings.{wait};
 
     /// How long after an Offer the next one goes out, by how many went out before it.

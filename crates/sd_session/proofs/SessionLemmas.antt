@@ -3,7 +3,6 @@ use Rattle.std.proofs.Common.{◌≡◌, ℕ, zero, suc, ◌+◌, ◌%◌, ◌==
 use Rattle.std.proofs.Math.Nat.{suc-mod}
 use Rattle.std.proofs.lemmas.Nat.{mod_below}
 use Rattle.std.proofs.lemmas.Bool.{eqb-true, eqb-false, lt-ltb, le-ltb, ltb-true, ltb-false}
-use Rattle.sd_session.specs.declared.stamp.Stamp.{Stamp}
 use Rattle.sd_session.specs.Sessions.{after_uses, following}
 
 session_step : (n : ℕ) (wraps : Bool) → (n % 65535 + 1 == 0xffff) ≡ wraps → (if wraps then 1 else n % 65535 + 1 + 1) ≡ suc n % 65535 + 1

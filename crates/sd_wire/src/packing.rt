@@ -1,5 +1,5 @@
 //! Entries and the pool of options that their runs are taken from.
-ghost use Rattle.std.specs.Prelude.{◌≡◌, ◌<◌, ◌≤◌, ◌^◌, ◌*◌, length, map, [], IfOk, IfErr};
+ghost use Rattle.std.specs.Prelude.{◌≡◌, ◌<◌, ◌≤◌, ◌*◌, length, map, [], IfOk, IfErr};
 ghost use Rattle.std.specs.List.{AllByRecursion};
 ghost use Rattle.sd_wire.specs.contents.Values.{view_entry};
 ghost use Rattle.sd_wire.specs.layout.Spelling.{OptionFits, HeadFits};

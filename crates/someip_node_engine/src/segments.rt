@@ -18,7 +18,6 @@ use someip_tables::Moment;
 use someip_tp::{Offered, Reassembly, ReassemblyKey, TpError, read_segment};
 use someip_wire::Header;
 use std::alloc::{AllocError, Global};
-use std::net::SocketAddrV4;
 
 /// A segment that is offered to the store.
 #[derive(Clone, Copy)]

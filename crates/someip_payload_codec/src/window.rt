@@ -1,6 +1,6 @@
 //! What is left to read.
 
-ghost use Rattle.std.specs.Prelude.{◌≡◌, ◌+◌, ◌^◌, ◌<◌, length};
+ghost use Rattle.std.specs.Prelude.{◌+◌, ◌^◌, ◌<◌, length};
 
 /// The bytes that are left of the input, or of the body after a length field.
 #[derive(Clone, Copy)]

@@ -9,9 +9,6 @@ use Rattle.std.specs.declared.net.socket_addr.SocketAddrV4.{SocketAddrV4}
 use Rattle.someip_tables.specs.Endpoints.{endpoint_cmp}
 use Rattle.someip_tables.specs.EndpointOrder.{endpoints_total, exact_endpoints}
 use Rattle.someip_reassembly.specs.declared.key.ReassemblyKey.{ReassemblyKey}
-use Rattle.someip_wire.specs.declared.header.MessageType.{MessageType}
-use Rattle.someip_wire.specs.contracts.header.MessageType.{the_type as the_kind}
-use Rattle.someip_wire.specs.contracts.header.MessageTypePartialEq.TheImpl.{ghosts as kind_eq}
 use Rattle.someip_reassembly.specs.Keys.{key_numbers, key_cmp, same_key, key_of, key_back}
 
 pub keys_total : IsTotalOrder key_cmp

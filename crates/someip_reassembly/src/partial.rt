@@ -1,6 +1,6 @@
 //! One message that has come in part.
-ghost use Rattle.std.specs.Prelude.{◌≡◌, ◌+◌, ◌++◌, ◌<◌, if◌then◌else◌, None, ◌↔◌, ◌&&◌, [], false, true, Some, OnOk, OnErr, is_some, unwrap_or, map, length, nat_lt};
-ghost use Rattle.std.specs.FinMap.{get, keys};
+ghost use Rattle.std.specs.Prelude.{◌≡◌, ◌+◌, ◌++◌, ◌<◌, None, [], false, true, Some, OnOk, OnErr, is_some, unwrap_or};
+ghost use Rattle.std.specs.FinMap.{get};
 ghost use Rattle.someip_reassembly.specs.Keys.{same_key};
 ghost use Rattle.someip_reassembly.specs.Parts.{is_gone};
 ghost use Rattle.someip_reassembly.specs.SegmentOffers.{offer, no_part, placed, added, passes, differ, conflicts, with_offer, message_of};

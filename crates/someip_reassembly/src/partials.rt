@@ -1,6 +1,5 @@
 //! The messages that have come in part, one for each key.
-ghost use Rattle.std.specs.Prelude.{ℕ, ◌≡◌, ◌++◌, ◌<◌, [], Some, None, OnOk, OnErr, IfOk, is_some, is_none, unwrap_or, not, true, false, length, filter, IsTrue, vec_len};
-ghost use Rattle.std.specs.List.{slice_index_or};
+ghost use Rattle.std.specs.Prelude.{ℕ, ◌≡◌, ◌++◌, ◌<◌, [], Some, None, OnOk, OnErr, IfOk, is_some, unwrap_or, not, true, false, filter, IsTrue};
 ghost use Rattle.std.specs.FinMap as map;
 ghost use Rattle.someip_tables.specs.Distinct.{are_distinct};
 ghost use Rattle.someip_reassembly.specs.Keys.{key_cmp, same_key};

@@ -1,5 +1,5 @@
 //! The accepted slices of a message, by rising offsets.
-ghost use Rattle.std.specs.Prelude.{◌&&◌, nat_lt, nat_le, ◌≡◌, ◌↔◌, ◌+◌, ◌-◌, ◌≤◌, ◌<◌, ◌++◌, ◌∷◌, [], true, length, slice_get, Some, Option, ℕ, OnOk, OnErr, IfOk, take};
+ghost use Rattle.std.specs.Prelude.{◌&&◌, nat_lt, nat_le, ◌≡◌, ◌↔◌, ◌+◌, ◌-◌, ◌≤◌, ◌<◌, true, length, slice_get, Some, Option, ℕ, OnOk, OnErr, take};
 ghost use Rattle.std.specs.List.{list_any, insert};
 ghost use Rattle.std.specs.FinMap.{get, keys};
 ghost use Rattle.someip_reassembly.specs.SegmentOffers.{differ, passes, placed};

@@ -1,10 +1,10 @@
 //! The events that an instance publishes.
-ghost use Rattle.std.specs.Prelude.{◌≡◌, length, IfOk, IfErr, OnOk, OnErr, Some, None};
+ghost use Rattle.std.specs.Prelude.{◌≡◌, IfOk, IfErr, OnOk, OnErr, Some, None};
 ghost use Rattle.std.specs.FinMap as finite;
 ghost use Rattle.someip_tables.specs.Tables.{map_of};
 ghost use Rattle.someip_rpc.specs.Ids.{event_cmp};
 ghost use Rattle.someip_rpc.specs.Sessions.{next_of};
-ghost use Rattle.someip_rpc.specs.Events.{belongs, event_header, event_of, has_event};
+ghost use Rattle.someip_rpc.specs.Events.{belongs, event_header, event_of};
 ghost use Rattle.someip_rpc.specs.Events.{publish_refusal, publish_to_refusal};
 
 use crate::error::RpcError;

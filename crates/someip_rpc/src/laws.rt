@@ -1,6 +1,6 @@
 //! Laws of the definitions behind the contracts. Each is the contract of a function that does
 //! nothing: it says what holds of calls and requests, whatever code keeps them.
-ghost use Rattle.std.specs.Prelude.{◌≡◌, ◌≢◌, ◌<◌, ◌≤◌, ℕ, true, false, Option, Some, None};
+ghost use Rattle.std.specs.Prelude.{◌≡◌, ◌≢◌, ◌<◌, ◌≤◌, ℕ, true, false, Option, Some};
 ghost use Rattle.someip_wire.specs.declared.header.Header.{Header};
 ghost use Rattle.someip_wire.specs.declared.header.MessageType.{MessageType};
 ghost use Rattle.someip_wire.specs.declared.header.MessageType.TheVariants as kinds;

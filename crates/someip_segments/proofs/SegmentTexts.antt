@@ -9,7 +9,6 @@ use Rattle.std.proofs.Math.Nat.{mul-mod_left}
 use Rattle.someip_wire.specs.Faults.{length_field}
 use Rattle.someip_wire.specs.declared.Header.{Header}
 use Rattle.someip_wire.specs.Spelling.{header_bytes, spelling}
-use Rattle.someip_segments.specs.declared.error.TpError.{TpError}
 use Rattle.someip_segments.specs.TpHeader.{offset_of, more_of, tp_header_in, segment_in}
 use Rattle.someip_segments.specs.Segments.{SegmentValue, tp_header_of, segment_message}
 

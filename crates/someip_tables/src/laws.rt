@@ -10,7 +10,7 @@ ghost use Rattle.someip_tables.specs.declared.deadline.Deadline.{Deadline};
 ghost use Rattle.someip_tables.specs.declared.deadline.Deadline.TheVariants.{At, Never};
 ghost use Rattle.someip_tables.specs.declared.lasting.Lasting.{Lasting};
 ghost use Rattle.someip_tables.specs.Deadlines.{deadline_after, has_passed};
-ghost use Rattle.someip_tables.specs.Lastings.{unless_passed, unexpired, expired, NeedsMemory};
+ghost use Rattle.someip_tables.specs.Lastings.{unless_passed, unexpired, NeedsMemory};
 ghost use Rattle.someip_tables.specs.Endpoints.{endpoint_cmp};
 ghost use Rattle.someip_tables.specs.SortedSet.{sorted_set};
 ghost use Rattle.someip_tables.specs.Examples.{endpoint_at};

@@ -8,7 +8,7 @@ ghost use Rattle.std.specs.BTreeSet as sorted;
 ghost use Rattle.std.specs.BTreeSet.{contains, IsFromIterResult};
 ghost use Rattle.std.specs.Ordering.{eq_by_cmp};
 ghost use Rattle.someip_tables.specs.Dues.{Tracks, due_cmp, is_due_of};
-ghost use Rattle.someip_tables.specs.Lastings.{NeedsMemory, until_of, expired, unexpired};
+ghost use Rattle.someip_tables.specs.Lastings.{NeedsMemory, until_of, unexpired};
 ghost use Rattle.someip_tables.specs.Deadlines.{has_passed};
 ghost use Rattle.someip_tables.specs.Retained.{retain};
 ghost use Rattle.someip_tables.specs.Tables.{map_of, AnswersAs, AnswersPairAs};

@@ -1,2 +1,3 @@
+pub mod Keys
 pub mod Numbers
 pub mod Lines

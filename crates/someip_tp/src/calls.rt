@@ -1,5 +1,5 @@
 //! A list of calls of a store, one after the other.
-ghost use Rattle.std.specs.Prelude.{◌≡◌, ◌≤◌, ◌++◌, ◌∷◌, [], IfOk, IfErr, OnOk, OnErr, length, take};
+ghost use Rattle.std.specs.Prelude.{◌≡◌, ◌++◌, ◌∷◌, [], IfOk, IfErr, OnOk, OnErr, length, take};
 ghost use Rattle.std.specs.FinMap as map;
 ghost use Rattle.someip_tp.specs.Calls.{MayCall, MayCalls, answer_to, answers_to, parts_after_call, parts_through, taken_by, taken_through};
 

@@ -1,6 +1,6 @@
 //! Laws of the definitions behind the contracts. Each is the contract of a function that does
 //! nothing: it says what holds of messages and datagrams, whatever code reads them.
-ghost use Rattle.std.specs.Prelude.{◌≡◌, ◌==◌, ◌↔◌, ◌++◌, ℕ, List, [], ◌∷◌, length, Option, Some, None, take, bit_and, bit_or};
+ghost use Rattle.std.specs.Prelude.{◌≡◌, ◌==◌, ◌↔◌, ◌++◌, ℕ, List, [], ◌∷◌, length, Option, Some, None, bit_and, bit_or};
 ghost use Rattle.someip_wire.specs.declared.header.MessageType.{MessageType};
 ghost use Rattle.someip_wire.specs.declared.error.WireError.{WireError};
 ghost use Rattle.someip_wire.specs.declared.error.WireError.TheVariants.{Truncated};

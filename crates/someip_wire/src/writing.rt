@@ -1,5 +1,5 @@
 //! The bytes of a message (SOME/IP Protocol, "Header" and "Payload").
-ghost use Rattle.std.specs.Prelude.{◌≡◌, ◌≤◌, ◌<◌, ◌+◌, ◌^◌, ◌++◌, [], ◌∷◌, length, drop};
+ghost use Rattle.std.specs.Prelude.{◌≡◌, ◌≤◌, ◌<◌, ◌+◌, ◌^◌, ◌++◌, ◌∷◌, length, drop};
 ghost use Rattle.std.specs.Int.{w16, to_be_bytes};
 ghost use Rattle.someip_wire.specs.Kinds.{kind_byte};
 ghost use Rattle.someip_wire.specs.Spelling.{spelling, header_bytes};

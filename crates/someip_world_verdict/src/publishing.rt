@@ -1,6 +1,5 @@
 //! The events that steps publish.
 ghost use Rattle.std.specs.Prelude.{◌≡◌};
-ghost use Rattle.std.specs.FinMap as finite;
 ghost use Rattle.someip_world_verdict.specs.Booking.{publication_by, publication_in, publication_of};
 ghost use Rattle.someip_world_verdict.specs.Views.{view_life, view_publication};
 ghost use Rattle.std.specs.Option.{option_map};

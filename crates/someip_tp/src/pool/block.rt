@@ -1,5 +1,5 @@
 //! What is noted of 16 places, and the intervals that held ones make.
-ghost use Rattle.std.specs.Prelude.{◌≡◌, ◌<◌, ◌≤◌, ◌&&◌, ◌||◌, ◌==◌, ℕ, true, false, length, nat_lt, nat_le};
+ghost use Rattle.std.specs.Prelude.{◌≡◌, ◌<◌, ◌≤◌, ◌&&◌, ◌||◌, ◌==◌, ℕ, false, length, nat_lt, nat_le};
 ghost use Rattle.someip_tp.specs.Blocks.{is_held, other_end, AreTied, AreUpTo, IsFirstTo, IsLastFrom};
 
 /// What is noted of 16 places of a message: offsets are multiples of 16, so intervals begin between

@@ -1,10 +1,9 @@
 //! A message that has come in part, in the room of its slot.
 ghost use Rattle.std.specs.Prelude.{◌≡◌, ◌+◌, ◌%◌, ◌++◌, ◌≤◌, [], false, true, OnOk, OnErr, is_some, unwrap_or, length, nat_le};
-ghost use Rattle.std.specs.FinMap as map;
 ghost use Rattle.someip_reassembly.specs.Keys.{key_cmp};
 ghost use Rattle.someip_reassembly.specs.Parts.{is_gone};
 ghost use Rattle.someip_reassembly.specs.SegmentOffers.{offer, no_part, conflicts, with_offer, message_of};
-ghost use Rattle.someip_tp.specs.Rooms.{IsConsistent, held_bytes};
+ghost use Rattle.someip_tp.specs.Rooms.{IsConsistent};
 
 use crate::pool::key_order::compare;
 use crate::pool::room::Room;

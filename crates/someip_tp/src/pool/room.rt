@@ -1,5 +1,5 @@
 //! The room of a slot: the bytes of a message at their places, and which of them are held.
-ghost use Rattle.std.specs.Prelude.{◌≡◌, ◌≢◌, ◌↔◌, ◌+◌, ◌≤◌, ◌<◌, ◌%◌, ◌/◌, ◌-◌, ◌++◌, ℕ, true, Some, List, length, replicate, vec_len, vec_capacity, OnOk, OnErr, IfOk, slice_get, nat_le, nat_lt, ◌&&◌, ◌||◌};
+ghost use Rattle.std.specs.Prelude.{◌≡◌, ◌≢◌, ◌↔◌, ◌+◌, ◌≤◌, ◌<◌, ◌%◌, ◌/◌, ◌-◌, ◌++◌, ℕ, true, Some, length, replicate, vec_len, vec_capacity, OnOk, OnErr, IfOk, slice_get, nat_le, nat_lt, ◌&&◌, ◌||◌};
 ghost use Rattle.std.specs.List.{list_any};
 ghost use Rattle.std.specs.FinMap as map;
 ghost use Rattle.std.specs.FinMap.{get, keys};

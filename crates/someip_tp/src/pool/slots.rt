@@ -1,8 +1,6 @@
 //! The slots of a pool: those that a message stands in, and free ones.
-ghost use Rattle.std.specs.Prelude.{ℕ, ◌≡◌, ◌≢◌, ◌+◌, ◌++◌, ◌<◌, ◌≤◌, ◌%◌, ◌^◌, [], true, false, Some, None, Err, OnOk, OnErr, IfOk, is_some, unwrap_or, not, length, filter, take, drop, map, vec_len, vec_capacity};
+ghost use Rattle.std.specs.Prelude.{ℕ, ◌≡◌, ◌≢◌, ◌+◌, ◌++◌, ◌<◌, ◌≤◌, ◌%◌, ◌^◌, [], true, false, Some, Err, OnOk, OnErr, IfOk, is_some, unwrap_or, not, length, filter, take, drop, vec_len, vec_capacity};
 ghost use Rattle.std.specs.List.{All, insert};
-ghost use Rattle.std.specs.FinMap as finite;
-ghost use Rattle.someip_reassembly.specs.Keys.{same_key};
 ghost use Rattle.someip_reassembly.specs.Parts.{is_gone};
 ghost use Rattle.someip_reassembly.specs.SegmentOffers.{conflicts, with_offer, part_or_whole, message_at, parts_less, is_unaligned, is_too_long};
 ghost use Rattle.someip_reassembly.specs.Stores.{StandsAt, Offers, OffersAmong, segment_arrived, parts_of_entries};

@@ -1,7 +1,5 @@
 use Rattle.std.proofs.Common.{◌≡◌, ◌+◌, ap, ◌∙◌, sym, Some, rules}
 use Rattle.someip_tables.proofs.Outcomes.{on_err}
-use Rattle.someip_tables.specs.Tables.{map_of}
-use Rattle.audit_calls.specs.AuditedCalls.{call_cmp}
 use Rattle.audit_calls.specs.CallBooks.{known}
 use Rattle.audit_calls.specs.KnownCalls.{known_at, known_by_answer}
 use Rattle.audit_calls.proofs.BookLemmas.{changed_some}
@@ -9,7 +7,7 @@ use Rattle.audit_calls.proofs.steps.on_answer.Goals as goal
 
 pub returns-in_err-insert-clause-grows : goal.returns-in_err-insert-clause-grows
 returns-in_err-insert-clause-grows c =
-    let calls = map_of call_cmp c.args.calls.now in
+    let calls = c.args.calls.now in
     let now : c.known_at-before.result ≡ known_at c.args.now c.get-held.result = search rules in
     let before : c.known_at-before.result ≡ known c.args.now calls c.args.call = now ∙ ap (known_at c.args.now) c.get-held.ensures in
     let answered : c.known_by_answer.result ≡ Some c.in-Some.known = search rules in

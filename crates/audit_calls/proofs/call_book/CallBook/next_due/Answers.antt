@@ -1,12 +1,10 @@
-use Rattle.someip_tables.specs.Tables.{map_of}
 use Rattle.audit_tables.proofs.FirstDues.{due_from_first, never_due}
-use Rattle.audit_calls.specs.AuditedCalls.{call_cmp}
 use Rattle.audit_calls.specs.CallOrder.{calls_total, exact_calls}
 use Rattle.audit_calls.specs.KnownCalls.{waits_of}
 use Rattle.audit_calls.proofs.call_book.CallBook.next_due.Goals as goal
 
 pub returns-in-Some : goal.returns-in-Some
-returns-in-Some c = rw (← c.self.view_is) (due_from_first calls_total exact_calls waits_of (map_of call_cmp c.self.inside.calls) c.in-Some.due c.in-Some.ensures)
+returns-in-Some c = rw (← c.self.view_is) (due_from_first calls_total exact_calls waits_of c.self.inside.calls c.in-Some.due c.in-Some.ensures)
 
 pub returns-in-None : goal.returns-in-None
-returns-in-None c = rw (← c.self.view_is) (never_due calls_total exact_calls waits_of (map_of call_cmp c.self.inside.calls) c.in-None.ensures)
+returns-in-None c = rw (← c.self.view_is) (never_due calls_total exact_calls waits_of c.self.inside.calls c.in-None.ensures)

@@ -1,0 +1,234 @@
+//! The calls that are known, in two tables: those that have no answer, and those that were answered.
+ghost use Rattle.std.specs.Prelude.{◌≡◌, ◌≢◌, ◌≤◌, ◌↔◌, IsTrue, if◌then◌else◌, true, Some, OnErr, OnOk, IfNone, IfSome};
+ghost use Rattle.std.specs.FinMap as finite;
+ghost use Rattle.std.specs.Ordering.{is_lt};
+ghost use Rattle.audit_tables.specs.Dues.{IsFirstDue, due_cmp};
+ghost use Rattle.audit_tables.specs.declared.due.Due.{Due};
+ghost use Rattle.audit_calls.specs.AuditedCalls.{call_cmp};
+ghost use Rattle.audit_calls.specs.KnownCalls.{waits_of};
+ghost use Rattle.audit_calls.specs.CallTables.{is_open, known_answered, known_asked, unless_answered};
+ghost use Rattle.audit_calls.specs.declared.call.AuditedCall.{AuditedCall};
+ghost use Rattle.audit_calls.specs.declared.known.Known.TheVariants as known;
+ghost use Rattle.audit_calls.specs.declared.known.OpenCall.{OpenCall};
+
+use crate::call::AuditedCall;
+use crate::known::{Known, OpenCall};
+use audit_tables::{Due, DueTable};
+use someip_tables::Waits;
+use std::alloc::{AllocError, Global};
+use std::marker::Model;
+
+/// What is known of a call without an answer.
+#[derive(Clone, Copy, PartialEq, Eq)]
+enum Asked {
+    /// It waits for its answer.
+    Waiting(OpenCall),
+    /// It was told as unanswered, and its REQUEST was at this moment, in milliseconds.
+    Told(u64),
+}
+
+impl Asked {
+    /// What is known of the call.
+    fn known(self) -> Known
+        ensures { result ≡ known_asked self }
+    {
+        match self {
+            Asked::Waiting(call) => Known::Open(call),
+            Asked::Told(since) => Known::Overdue(since),
+        }
+    }
+}
+
+/// What is known of a call with an answer: it is known until this moment, in milliseconds.
+#[derive(Clone, Copy, PartialEq, Eq)]
+struct Answered(u64);
+
+impl Waits for Asked {
+    ghost use Rattle.audit_calls.specs.CallTables.{asked_waits};
+
+    ghost moment = { asked_waits };
+
+    fn waits_for(&self) -> Option<u64> {
+        match self {
+            Asked::Waiting(call) => Some(call.until),
+            Asked::Told(_) => None,
+        }
+    }
+}
+
+impl Waits for Answered {
+    ghost use Rattle.audit_calls.specs.CallTables.{answered_waits};
+
+    ghost moment = { answered_waits };
+
+    fn waits_for(&self) -> Option<u64> {
+        Some(self.0)
+    }
+}
+
+/// The calls that are known. Those that were answered stand apart: they are many, since each is known for
+/// as long as an answer may take, and little is kept of them, while few wait for an answer. So an answer
+/// moves no moment among those of all calls: it takes one out among few, and adds one that comes last.
+#[derive(Drop)]
+pub(crate) struct CallTable {
+    asked: DueTable<AuditedCall, Asked>,
+    answered: DueTable<AuditedCall, Answered>,
+}
+
+impl Model for CallTable {
+    ghost use Rattle.std.specs.FinMap as finite;
+    ghost use Rattle.someip_tables.specs.Tables.{map_of};
+    ghost use Rattle.audit_calls.specs.AuditedCalls.{call_cmp};
+    ghost use Rattle.audit_calls.specs.CallBooks.{Calls};
+    ghost use Rattle.audit_calls.specs.CallCodes.{coded_call, coded_known};
+    ghost use Rattle.audit_calls.specs.CallTables.{AreApart, all_calls};
+
+    ghost Value = { Calls };
+
+    ghost coded = { finite.code coded_call coded_known };
+
+    ghost view = { λ t. all_calls (map_of call_cmp t.asked) (map_of call_cmp t.answered) };
+
+    ghost invariant = { λ t. AreApart (map_of call_cmp t.asked) (map_of call_cmp t.answered) };
+}
+
+impl CallTable {
+    /// A table without a call. It takes no memory.
+    pub(crate) fn new(alloc: Global) -> CallTable
+        ensures { result ≡ finite.empty }
+    {
+        CallTable {
+            asked: DueTable::new(alloc),
+            answered: DueTable::new(alloc),
+        }
+    }
+
+    /// How many calls are known, which are no more than this limit.
+    pub(crate) fn len(&self, limit: usize) -> usize
+        requires { finite.len self.now ≤ limit }
+        ensures { result ≡ finite.len self.now }
+    {
+        self.asked.len() + self.answered.len()
+    }
+
+    /// What is known of a call.
+    pub(crate) fn get(&self, call: &AuditedCall) -> Option<Known>
+        ensures { result ≡ finite.get self.now call.now }
+    {
+        match self.asked.get(call) {
+            Some(asked) => Some(asked.known()),
+            None => match self.answered.get(call) {
+                Some(answered) => Some(Known::Answered(answered.0)),
+                None => None,
+            },
+        }
+    }
+
+    /// What is known of a call, if it has no answer. It looks at these calls alone, which are few.
+    pub(crate) fn unanswered(&self, call: &AuditedCall) -> Option<Known>
+        ensures { result ≡ unless_answered (finite.get self.now call.now) }
+    {
+        match self.asked.get(call) {
+            Some(asked) => Some(asked.known()),
+            None => None,
+        }
+    }
+
+    /// The call whose moment comes first, if it is open: else it was answered.
+    pub(crate) fn open_call(&self, first: &Due<AuditedCall>) -> Option<OpenCall>
+        requires { IsFirstDue waits_of self.now (Some first.now) }
+        ensures open { IfSome result (λ open_call. finite.get self.now first.now.key
+            ≡ Some (known.Open open_call)) }
+        ensures answered { IfNone result
+            (finite.get self.now first.now.key ≡ Some (known.Answered first.now.at)) }
+    {
+        if !is_due(self.asked.first_due(), first) {
+            return None;
+        }
+        match self.asked.get(&first.key) {
+            Some(Asked::Waiting(open_call)) => Some(open_call),
+            _ => None,
+        }
+    }
+
+    /// Takes note of what is known of a call, in place of what was. What is refused because memory ran
+    /// out leaves the table as it was, and memory is taken only where something else was known.
+    pub(crate) fn insert(&mut self, call: AuditedCall, known: Known) -> Result<(), AllocError>
+        ensures ok { OnOk result (self.new ≡ finite.insert self.old call known) }
+        ensures err { OnErr result (self.new ≡ self.old) }
+        ensures grows { OnErr result (finite.get self.old call ≢ Some known) }
+    {
+        match known {
+            Known::Open(open_call) => self.ask(call, Asked::Waiting(open_call)),
+            Known::Overdue(since) => self.ask(call, Asked::Told(since)),
+            Known::Answered(until) => self.answer(call, Answered(until)),
+        }
+    }
+
+    /// Puts a call among those without an answer.
+    fn ask(&mut self, call: AuditedCall, asked: Asked) -> Result<(), AllocError>
+        ensures ok { OnOk result (self.new ≡ finite.insert self.old call (known_asked asked)) }
+        ensures err { OnErr result (self.new ≡ self.old) }
+        ensures grows { OnErr result (finite.get self.old call ≢ Some (known_asked asked)) }
+    {
+        self.asked.insert(call, asked)?;
+        self.answered.remove(&call);
+        Ok(())
+    }
+
+    /// Puts a call among those that were answered.
+    fn answer(&mut self, call: AuditedCall, answered: Answered) -> Result<(), AllocError>
+        ensures ok { OnOk result (self.new ≡ finite.insert self.old call (known_answered answered)) }
+        ensures err { OnErr result (self.new ≡ self.old) }
+        ensures grows { OnErr result (finite.get self.old call ≢ Some (known_answered answered)) }
+    {
+        self.answered.insert(call, answered)?;
+        self.asked.remove(&call);
+        Ok(())
+    }
+
+    /// Takes note that an open call was told. It takes no memory.
+    pub(crate) fn tell(&mut self, call: AuditedCall, since: u64)
+        requires { is_open (finite.get self.old call) ≡ true }
+        ensures { self.new ≡ finite.insert self.old call (known.Overdue since) }
+    {
+        let _ = self.asked.insert(call, Asked::Told(since));
+    }
+
+    /// Takes out the call whose moment comes first, where it was answered. It takes no memory.
+    pub(crate) fn forget_first(&mut self)
+        ensures { (due : Due AuditedCall) → IsFirstDue waits_of self.old (Some due)
+            → finite.get self.old due.key ≡ Some (known.Answered due.at)
+            → self.new ≡ finite.remove self.old due.key }
+    {
+        self.answered.remove_first();
+    }
+
+    /// The call whose moment comes first, by moment and then by call, if one waits for any.
+    pub(crate) fn first_due(&self) -> Option<Due<AuditedCall>>
+        ensures { IsFirstDue waits_of self.now result }
+    {
+        match (self.asked.first_due(), self.answered.first_due()) {
+            (Some(a), Some(b)) => Some(sooner(a, b)),
+            (Some(a), None) => Some(a),
+            (None, b) => b,
+        }
+    }
+}
+
+/// The one of two that comes first.
+fn sooner(a: Due<AuditedCall>, b: Due<AuditedCall>) -> Due<AuditedCall>
+    ensures { result ≡ (if is_lt (due_cmp call_cmp b a) then b else a) }
+{
+    if b < a { b } else { a }
+}
+
+/// Whether the first of some is this one.
+fn is_due(first: Option<Due<AuditedCall>>, due: &Due<AuditedCall>) -> bool
+    ensures { IsTrue result ↔ (first ≡ Some due.now) }
+{
+    match first {
+        Some(first) => first == *due,
+        None => false,
+    }
+}
