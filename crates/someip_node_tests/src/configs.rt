@@ -19,6 +19,8 @@ enum Start {
     SecondPort(u16),
     /// The port of the client.
     ClientPort(u16),
+    /// A method that is declared for REQUEST_NO_RETURN too.
+    Oneway(u16),
     /// The address, which is the multicast group's.
     AddressOfGroup,
     /// The greatest delay; the least is 10.
@@ -62,6 +64,8 @@ const PORTS: &[(Start, Refusal)] = &[
 /// Values at both ends of their ranges, and past them.
 const VALUES: &[(Start, Refusal)] = &[
     (Start::AddressOfGroup, BAD),
+    (Start::Oneway(0x0421), BAD),
+    (Start::Oneway(0x0423), None),
     (Start::InitialMax(9), BAD),
     (Start::InitialMax(10), None),
     (Start::InitialMax(60000), None),
@@ -151,7 +155,7 @@ fn changed_config(alloc: Global, start: Start) -> Option<Config> {
 /// The setup of a start.
 fn setup_of(start: Start) -> &'static str {
     match start {
-        Start::Delay(_) | Start::Port(_) => OFFERS,
+        Start::Delay(_) | Start::Port(_) | Start::Oneway(_) => OFFERS,
         Start::SecondPort(_) => OFFERS_TWO,
         _ => WANTS,
     }
@@ -164,6 +168,7 @@ fn change(config: &mut Config, start: Start) {
         Start::Port(port) => change_port(config, 1, port),
         Start::SecondPort(port) => change_port(config, 2, port),
         Start::ClientPort(port) => config.client_port = port,
+        Start::Oneway(method) => declare(config, method),
         Start::AddressOfGroup => config.address = config.common.group,
         shared => config.common = changed_common(config.common, shared),
     }
@@ -177,6 +182,17 @@ fn change_port(config: &mut Config, instance: u16, port: u16) {
     };
     if let Some(offer) = config.offers.get_mut(&place) {
         offer.rules.endpoint = SocketAddrV4::new(*offer.rules.endpoint.ip(), port);
+    }
+}
+
+/// Declares a method of the first instance for REQUEST_NO_RETURN.
+fn declare(config: &mut Config, method: u16) {
+    let place = InstanceId {
+        service: 0x1111,
+        instance: 1,
+    };
+    if let Some(offer) = config.offers.get_mut(&place) {
+        let _ = offer.rules.oneways.insert(method);
     }
 }
 

@@ -18,7 +18,8 @@ const BAD_RUN: &[Row] = &[(
     "nacked 1111.0001 0001 NoEndpoint\nsent 192.168.0.1:30490 192.168.0.2:30490 ffff8100000000240000000101010200c0000000000000100700000011110001010000000000000100000000\n",
 )];
 
-/// A Find before the first Offer, the next one after it, and one of another port, Client ID and Return Code.
+/// A Find before the first Offer, the next one after it, and one of another port, Client ID and Return Code,
+/// without the Unicast flag.
 const FINDS: &[Row] = &[
     (
         Datagram(
@@ -44,7 +45,7 @@ const FINDS: &[Row] = &[
         Datagram(
             CLIENT,
             SD_OF_ALL,
-            "ffff8100000000240102000301010201c0000000000000100000000011110001ff000003ffffffff00000000",
+            "ffff810000000024010200030101020180000000000000100000000011110001ff000003ffffffff00000000",
         ),
         "sent 192.168.0.1:30490 192.168.0.2:30490 ffff8100000000300000000201010200c000000000000010010000101111000101000003000000000000000c00090400c0a800010011772d\n",
     ),

@@ -1,5 +1,5 @@
 //! Requests and their answers.
-use crate::acts::Act::{Answer, Call, Datagram, Often, Publish, PublishTo, StopOffer};
+use crate::acts::Act::{Answer, Call, Datagram, Often, Publish, PublishTo, StopOffer, Tick};
 use crate::acts::Row;
 use crate::nodes::{CLIENT, EVENTGROUP, INSTANCE, OFFERS, SERVER, gives};
 use someip_rpc::{CallKind, Reply};
@@ -74,7 +74,7 @@ const ANSWERED: &[Row] = &[
     ),
 ];
 
-/// An instance that is down keeps its port, and its open requests.
+/// An instance that is down keeps its port and its open requests, and sends no Offers.
 const DOWN: &[Row] = &[
     (
         Datagram(CLIENT, SERVER, REQUEST),
@@ -94,6 +94,7 @@ const DOWN: &[Row] = &[
         Answer(1, Reply::Response(ReturnCode(0)), ""),
         "sent 192.168.0.1:30509 192.168.0.2:40001 11110421000000080102000101018000\n",
     ),
+    (Tick(60_000), ""),
 ];
 
 /// A request while 1024 are open.
