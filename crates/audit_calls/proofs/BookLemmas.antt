@@ -11,7 +11,7 @@ use Rattle.audit_calls.specs.declared.known.OpenCall.{OpenCall}
 use Rattle.audit_calls.specs.CallTables.{unless_answered}
 use Rattle.audit_calls.specs.CallOrder.{calls_total, exact_calls}
 use Rattle.audit_calls.specs.CallBooks.{Calls, has_room, known, with_known}
-use Rattle.audit_calls.specs.KnownCalls.{known_at, known_by_answer, known_by_request, told_of_request}
+use Rattle.audit_calls.specs.KnownCalls.{known_at, known_by_answer, known_by_request}
 
 -- what was not known of a call changes the calls
 pub changed : (calls : Calls) (call : AuditedCall) (value what : Known) → value ≡ what → get calls call ≢ Some value → insert calls call what ≢ calls
@@ -22,16 +22,6 @@ changed_some calls call value None is anew = cc
 changed_some calls call value (Some what) is anew = let e : value ≡ what = cc in changed calls call value what e anew
 
 -- a REQUEST is judged alike whether an answer before it is known or not
-pub told_alike : (session now : ℕ) (new : OpenCall) (v : Option Known) → told_of_request session new (known_at now (unless_answered v)) ≡ told_of_request session new (known_at now v)
-told_alike session now new None = refl
-told_alike session now new (Some (Open call)) = refl
-told_alike session now new (Some (Overdue since)) = refl
-told_alike session now new (Some (Answered until)) = cases (nat_le until now)
-  where
-    cases : (b : Bool) → None ≡ told_of_request session new (cond b None (Some (Answered until)))
-    cases true = refl
-    cases false = refl
-
 pub known_alike : (now : ℕ) (new : OpenCall) (v : Option Known) → known_by_request new (known_at now (unless_answered v)) ≡ known_by_request new (known_at now v)
 known_alike now new None = refl
 known_alike now new (Some (Open call)) = refl

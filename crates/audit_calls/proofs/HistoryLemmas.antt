@@ -1,17 +1,12 @@
 -- A book by the messages that it saw.
-use Rattle.std.proofs.Common.{◌≡◌, ℕ, ◌+◌, ◌<◌, ◌≤◌, nat_le, Bool, true, false, cond, not, ◌⊎◌, inl, inr, List, [], ◌∷◌, Option, None, Some, refl, sym, ap, subst, ◌∙◌, arith}
-use Rattle.std.specs.declared.cmp.Ordering.{Ordering}
-use Rattle.std.specs.declared.cmp.Ordering.TheVariants.{Less, Equal, Greater}
-use Rattle.std.specs.Ordering.{eq_by_cmp, is_lt, is_le}
-use Rattle.std.specs.FinMap.{get, insert, get-empty, get-insert}
+use Rattle.std.proofs.Common.{◌≡◌, ℕ, ◌+◌, ◌<◌, ◌≤◌, nat_le, nat_lt, Bool, true, false, cond, ◌⊎◌, inl, inr, List, [], ◌∷◌, Option, None, Some, refl, sym, ap, subst, ◌∙◌, arith}
+use Rattle.std.specs.Ordering.{eq_by_cmp}
+use Rattle.std.specs.FinMap.{get, insert, len, get-empty, get-insert}
 use Rattle.std.proofs.lemmas.Bool.Decides.{nat_tests}
 use Rattle.someip_wire.specs.declared.header.MessageType.{MessageType}
 use Rattle.someip_wire.specs.declared.header.MessageType.TheVariants as kinds
-use Rattle.someip_tables.specs.Retained.{kept_if, retain}
-use Rattle.someip_tables.specs.Waits.{is_due_by}
+use Rattle.someip_tables.specs.Retained.{kept_if}
 use Rattle.someip_tables.proofs.Entries.{get-retain, same_by_test}
-use Rattle.audit_tables.specs.Dues.{due_cmp}
-use Rattle.audit_tables.proofs.FirstDues.{not_before}
 use Rattle.audit_calls.specs.declared.call.AuditedCall.{AuditedCall}
 use Rattle.audit_calls.specs.declared.finding.CallRules.{CallRules}
 use Rattle.audit_calls.specs.declared.finding.Unanswered.{Unanswered}
@@ -23,8 +18,8 @@ use Rattle.audit_calls.specs.CallOrder.{calls_total, exact_calls}
 use Rattle.audit_calls.specs.BookHistory.{StandsFor, finds_room, finds_room_by}
 use Rattle.audit_calls.specs.CallBooks.{Book, known, new_book, book_after, book_by, told, told_by, with_known, may_be_asked}
 use Rattle.audit_calls.specs.CallHistory.{known_of, told_after, told_after_by}
-use Rattle.audit_calls.specs.KnownCalls.{known_at, known_by_request, known_by_answer, told_of_request, told_of_answer, waits_of}
-use Rattle.audit_calls.specs.Overdue.{IsOpenCall, calls_after_due, due_of, goes_before, unanswered}
+use Rattle.audit_calls.specs.KnownCalls.{is_known_at, known_at, known_by_request, known_by_answer, told_of_request, told_of_answer}
+use Rattle.audit_calls.specs.Overdue.{IsOpenCall, calls_after_due, most_messages, still_known, with_room}
 use Rattle.audit_calls.specs.Tapped.{Tapped, call_asked, call_answered, opened}
 
 -- ---- moments
@@ -115,16 +110,6 @@ module _ (latest : ℕ) (book : Book) (message : Tapped) (past : List Tapped) (l
   -- what is known of a call at the message's moment
   at_its_moment : (call : AuditedCall) → known_at message.now (get book.calls call) ≡ known_at message.now (known_of book.rules call past)
   at_its_moment call = (stands call).knows message.now le
-
-  -- calls of which one is changed as the messages say
-  put_holds : (call other : AuditedCall) (what : Known) (new : Option Known) → Some what ≡ new → (t : Bool) → eq_by_cmp call_cmp other call ≡ t
-      → Holds message.now (cond t (Some what) (get book.calls other)) (cond t new (known_of book.rules other past))
-  put_holds call other what new is true tie = holds_same message.now _ _ is
-  put_holds call other what new is false apart = holds_later latest message.now _ _ le (stands other)
-
-  insert_holds : (call other : AuditedCall) (what : Known) (new : Option Known) → Some what ≡ new
-      → Holds message.now (get (insert book.calls call what) other) (cond (eq_by_cmp call_cmp other call) new (known_of book.rules other past))
-  insert_holds call other what new is = rw (get-insert calls_total book.calls call what other) (put_holds call other what new is (eq_by_cmp call_cmp other call) refl)
 
   -- a REQUEST
   request_holds : (other : AuditedCall)
@@ -261,61 +246,46 @@ gone_holds latest now until what le past holds = record {
     neither other (inl e) = cc
     neither other (inr e) = cc
 
-goes_past : (unanswered_one : Unanswered) (call : AuditedCall) (until : ℕ) → goes_before unanswered_one call (Answered until) ≡ true → until ≤ unanswered_one.until
-goes_past unanswered_one call until goes =
-    not_before call_cmp (record { at = until; key = call }) (due_of unanswered_one) (lt_le (due_cmp call_cmp (record { at = until; key = call }) (due_of unanswered_one)) goes)
+known_holds : (latest now moment : ℕ) (held what : Option Known) → latest ≤ now → moment ≤ now → Holds latest held what → Holds now (kept_if (is_known_at moment) held) what
+known_holds latest now moment None what le past holds = holds_later latest now None what le holds
+known_holds latest now moment (Some (Open open_call)) what le past holds = holds_later latest now _ what le holds
+known_holds latest now moment (Some (Overdue since)) what le past holds = holds_later latest now _ what le holds
+known_holds latest now moment (Some (Answered until)) what le past holds = cases (nat_lt moment until) refl
   where
-    lt_le : (o : Ordering) → is_lt o ≡ true → is_le o ≡ true
-    lt_le Less lt = refl
-    lt_le Equal lt = cc
-    lt_le Greater lt = cc
+    cases : (b : Bool) → nat_lt moment until ≡ b → Holds now (cond b (Some (Answered until)) None) what
+    cases true lt = holds_later latest now _ what le holds
+    cases false ge =
+        let over : until ≤ moment = grind (arith, nat_tests) in
+        gone_holds latest now until what le (omega (arith, over, past)) holds
 
-kept_holds : (latest now : ℕ) (unanswered_one : Unanswered) (call : AuditedCall) (held what : Option Known) → latest ≤ now → unanswered_one.until ≤ now → Holds latest held what
-    → Holds now (kept_if (λ known. not (goes_before unanswered_one call known)) held) what
-kept_holds latest now one call None what le past holds = holds_later latest now None what le holds
-kept_holds latest now one call (Some (Open open_call)) what le past holds = holds_later latest now _ what le holds
-kept_holds latest now one call (Some (Overdue since)) what le past holds = holds_later latest now _ what le holds
-kept_holds latest now one call (Some (Answered until)) what le past holds = cases (goes_before one call (Answered until)) refl
+-- so it is where there is room, or room is made by a moment that has come
+room_holds : (latest now moment limit : ℕ) (book : Book) (past : List Tapped) → latest ≤ now → moment ≤ now → HoldsAll latest book past → (call : AuditedCall)
+    → Holds now (get (with_room limit moment book.calls) call) (known_of book.rules call past)
+room_holds latest now moment limit book past le come all call = cases (nat_le (len book.calls + most_messages) limit)
   where
-    cases : (b : Bool) → goes_before one call (Answered until) ≡ b → Holds now (cond (not b) (Some (Answered until)) None) what
-    cases true goes = let first = goes_past one call until goes in gone_holds latest now until what le (omega (arith, first, past)) holds
-    cases false goes = holds_later latest now _ what le holds
+    cases : (b : Bool) → Holds now (get (cond b book.calls (still_known moment book.calls)) call) (known_of book.rules call past)
+    cases true = holds_later latest now _ _ le (all call)
+    cases false =
+        rw (get-retain calls_total exact_calls book.calls (λ _ what. is_known_at moment what) call)
+        (known_holds latest now moment (get book.calls call) (known_of book.rules call past) le come (all call))
 
 pub due_stands : (book : Book) (latest now : ℕ) (one : Unanswered) (past : List Tapped) → latest ≤ now → IsOpenCall book.calls one → one.until ≤ now → StandsFor latest book past
-    → StandsFor now (record book { calls = calls_after_due now (Some one) book.calls }) past
+    → StandsFor now (record book { calls = calls_after_due book.rules.limit now (Some one) book.calls }) past
 due_stands book latest now one past le is_open over stands =
-    stands_from now (record book { calls = calls_after_due now (Some one) book.calls }) past (λ call.
-    rw (get-insert calls_total (retain book.calls (λ other known. not (goes_before one other known))) one.call (Overdue one.since) call) (at call (eq_by_cmp call_cmp call one.call) refl))
+    stands_from now (record book { calls = calls_after_due book.rules.limit now (Some one) book.calls }) past (λ call.
+    rw (get-insert calls_total (with_room book.rules.limit one.until book.calls) one.call (Overdue one.since) call) (at call (eq_by_cmp call_cmp call one.call) refl))
   where
     at : (call : AuditedCall) (t : Bool) → eq_by_cmp call_cmp call one.call ≡ t
-        → Holds now (cond t (Some (Overdue one.since)) (get (retain book.calls (λ other known. not (goes_before one other known))) call)) (known_of book.rules call past)
+        → Holds now (cond t (Some (Overdue one.since)) (get (with_room book.rules.limit one.until book.calls) call)) (known_of book.rules call past)
     at call true tie =
         let same : call ≡ one.call = same_by_test exact_calls call one.call tie in
         let held : get book.calls call ≡ Some (Open is_open.0) = ap (get book.calls) same ∙ is_open.1 in
         let until : one.until ≡ is_open.0.until = ap (λ (u : Unanswered). u.until) is_open.2 in
         let since : one.since ≡ is_open.0.since = ap (λ (u : Unanswered). u.since) is_open.2 in
         rw since (told_holds latest now (get book.calls call) _ is_open.0 le (omega (arith, until, over)) held (holds_from latest book past stands call))
-    at call false apart =
-        rw (get-retain calls_total exact_calls book.calls (λ other known. not (goes_before one other known)) call)
-        (kept_holds latest now one call (get book.calls call) (known_of book.rules call past) le over (holds_from latest book past stands call))
-
-due_kept_holds : (latest now : ℕ) (held what : Option Known) → latest ≤ now → ((open_call : OpenCall) → held ≡ Some (Open open_call) → now < open_call.until) → Holds latest held what
-    → Holds now (kept_if (λ known. not (is_due_by now (waits_of known))) held) what
-due_kept_holds latest now None what le none holds = holds_later latest now None what le holds
-due_kept_holds latest now (Some (Open open_call)) what le none holds =
-    let lt : now < open_call.until = none open_call refl in
-    rw (not_come now open_call.until lt) (holds_later latest now _ what le holds)
-due_kept_holds latest now (Some (Overdue since)) what le none holds = holds_later latest now _ what le holds
-due_kept_holds latest now (Some (Answered until)) what le none holds = cases (nat_le until now) refl
-  where
-    cases : (b : Bool) → nat_le until now ≡ b → Holds now (cond (not b) (Some (Answered until)) None) what
-    cases true is = gone_holds latest now until what le (grind (arith, nat_tests)) holds
-    cases false is = holds_later latest now _ what le holds
+    at call false apart = room_holds latest now one.until book.rules.limit book past le over (holds_from latest book past stands) call
 
 pub none_due_stands : (book : Book) (latest now : ℕ) (past : List Tapped) → latest ≤ now → ((other : Unanswered) → IsOpenCall book.calls other → now < other.until) → StandsFor latest book past
-    → StandsFor now (record book { calls = calls_after_due now None book.calls }) past
+    → StandsFor now (record book { calls = calls_after_due book.rules.limit now None book.calls }) past
 none_due_stands book latest now past le none stands =
-    stands_from now (record book { calls = calls_after_due now None book.calls }) past (λ call.
-    rw (get-retain calls_total exact_calls book.calls (λ _ known. not (is_due_by now (waits_of known))) call)
-    (due_kept_holds latest now (get book.calls call) (known_of book.rules call past) le
-    (λ open_call is. none (unanswered call open_call) (open_call, is, refl)) (holds_from latest book past stands call)))
+    stands_from now (record book { calls = calls_after_due book.rules.limit now None book.calls }) past (room_holds latest now now book.rules.limit book past le (omega arith) (holds_from latest book past stands))

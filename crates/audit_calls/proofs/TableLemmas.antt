@@ -1,17 +1,15 @@
 -- The calls of two tables.
-use Rattle.std.proofs.Common.{◌≡◌, ◌≢◌, ℕ, ◌+◌, Bool, true, false, cond, List, [], ◌∷◌, ◌++◌, map, length, Option, None, Some, IfSome, IfNone, refl, sym, ap, ◌∙◌, ◌⊎◌, inl, inr, if◌then◌else◌, arith}
+use Rattle.std.proofs.Common.{◌≡◌, ◌≢◌, ℕ, ◌+◌, ◌<◌, ◌≤◌, nat_lt, Bool, true, false, cond, List, [], ◌∷◌, ◌++◌, map, length, Option, None, Some, refl, sym, ap, subst, ◌∙◌, ◌⊎◌, inl, inr, arith}
 use Rattle.std.specs.Option.{is_none, is_some, option_and_then, option_map}
-use Rattle.std.specs.declared.cmp.Ordering.{Ordering}
-use Rattle.std.specs.declared.cmp.Ordering.TheVariants.{Less, Equal, Greater}
-use Rattle.std.specs.Ordering.{eq_by_cmp, is_gt, is_le, is_lt, ordering_reverse}
-use Rattle.std.specs.Cmp.{upto}
+use Rattle.std.specs.Ordering.{eq_by_cmp}
 use Rattle.std.specs.FinMap.{FinMap, empty, entries, find, get, insert, len, remove, get-empty, get-entries, get-from_entries, get-insert, get-remove, len-entries, same_map}
-use Rattle.std.proofs.lemmas.Bool.{and_from, and_parts}
+use Rattle.std.proofs.lemmas.Bool.{and_from, and_parts, lt-ltb, ltb-true}
+use Rattle.someip_tables.specs.Retained.{kept_if, retain}
+use Rattle.someip_tables.proofs.MapLaws.{retain_all}
 use Rattle.someip_tables.specs.Distinct.{are_distinct}
-use Rattle.someip_tables.proofs.Entries.{entries_distinct, len-from_entries, none_found, own_test, same_by_test}
+use Rattle.someip_tables.proofs.Entries.{entries_distinct, get-retain, len-from_entries, none_found, own_test, same_by_test}
 use Rattle.audit_tables.specs.declared.due.Due.{Due}
-use Rattle.audit_tables.specs.Dues.{IsFirstDue, WantsMemory, due_cmp}
-use Rattle.audit_tables.proofs.FirstDues.{dues_total, one_first}
+use Rattle.audit_tables.specs.Dues.{IsFirstDue, WantsMemory}
 use Rattle.audit_calls.specs.declared.call.AuditedCall.{AuditedCall}
 use Rattle.audit_calls.specs.declared.call_table.Asked.{Asked}
 use Rattle.audit_calls.specs.declared.call_table.Asked.TheVariants.{Waiting, Told}
@@ -20,8 +18,9 @@ use Rattle.audit_calls.specs.declared.known.Known.{Known}
 use Rattle.audit_calls.specs.declared.known.Known.TheVariants as known
 use Rattle.audit_calls.specs.AuditedCalls.{call_cmp}
 use Rattle.audit_calls.specs.CallOrder.{calls_total, exact_calls}
-use Rattle.audit_calls.specs.CallTables.{AreApart, all_calls, answered_waits, asked_waits, is_open, known_answered, known_asked, known_by_both, unless_answered}
-use Rattle.audit_calls.specs.KnownCalls.{waits_of}
+use Rattle.audit_calls.specs.CallTables.{AreApart, AreKnownUntil, all_calls, answered_waits, asked_waits, is_open, known_answered, known_asked, known_by_both, open_of, unless_answered, waiting_of}
+use Rattle.audit_calls.specs.KnownCalls.{is_known_at, waits_of}
+use Rattle.audit_calls.specs.Overdue.{still_known}
 
 -- ---- the entries of both
 
@@ -168,6 +167,15 @@ module _ (asked : FinMap call_cmp Asked) (answered : FinMap call_cmp Answered) (
   pub known_elsewhere : (w : Option Answered) → None ≡ get asked k → w ≡ get answered k → option_map known_answered w ≡ get (all_calls asked answered) k
   known_elsewhere w none is = ap (option_map known_answered) is ∙ ap (λ u. known_by_both u (get answered k)) none ∙ sym (get-all asked answered k)
 
+  pub open_there : (u : Option Asked) → u ≡ get asked k → option_and_then waiting_of u ≡ open_of (get (all_calls asked answered) k)
+  open_there u is = by u (get answered k) ∙ ap (λ v. open_of (known_by_both v (get answered k))) is ∙ ap open_of (sym (get-all asked answered k))
+    where
+      by : (u : Option Asked) (w : Option Answered) → option_and_then waiting_of u ≡ open_of (known_by_both u w)
+      by None None = refl
+      by None (Some w) = refl
+      by (Some (Waiting call)) w = refl
+      by (Some (Told since)) w = refl
+
   pub without_answer : (u : Option Asked) → u ≡ get asked k → option_map known_asked u ≡ unless_answered (get (all_calls asked answered) k)
   without_answer u is = by u (get answered k) ∙ ap (λ v. unless_answered (known_by_both v (get answered k))) is ∙ ap unless_answered (sym (get-all asked answered k))
     where
@@ -182,16 +190,6 @@ open_is_asked None None is = cc
 open_is_asked None (Some w) is = cc
 open_is_asked (Some u) w is = refl
 
--- a call that is known as answered stands among those that were
-answered_at : (u : Option Asked) (w : Option Answered) (until : ℕ) → known_by_both u w ≡ Some (known.Answered until) → (u ≡ None) × (option_and_then answered_waits w ≡ Some until)
-answered_at None None until is = cc
-answered_at None (Some w) until is = (refl, same is)
-  where
-    same : {m n : ℕ} → Some (known.Answered m) ≡ Some (known.Answered n) → Some m ≡ Some n
-    same e = cc
-answered_at (Some (Waiting call)) w until is = cc
-answered_at (Some (Told since)) w until is = cc
-
 module _ (asked : FinMap call_cmp Asked) (answered : FinMap call_cmp Answered) (k : AuditedCall) where
   pub told_is_asked : is_open (get (all_calls asked answered) k) ≡ true → is_some (get asked k) ≡ true
   told_is_asked is = open_is_asked (get asked k) (get answered k) (ap is_open (sym (get-all asked answered k)) ∙ is)
@@ -205,173 +203,100 @@ module _ (asked : FinMap call_cmp Asked) (answered : FinMap call_cmp Answered) (
       at q true tie is = apart q (ap (λ c. is_some (get asked c)) (same_by_test exact_calls q k tie) ∙ there)
       at q false tie is = apart q is
 
-  -- one that was answered is forgotten
-  pub forgotten : (answered' : FinMap call_cmp Answered) (until : ℕ) → get (all_calls asked answered) k ≡ Some (known.Answered until) → answered' ≡ remove answered k
-      → all_calls asked answered' ≡ remove (all_calls asked answered) k
-  forgotten answered' until is left =
-      same_map calls_total exact_calls _ _ (λ q.
-      get-all asked answered' q ∙ ap (λ m. known_by_both (get asked q) (get m q)) left ∙ ap (known_by_both (get asked q)) (get-remove calls_total answered k q)
-      ∙ at q (eq_by_cmp call_cmp q k) refl ∙ ap (cond (eq_by_cmp call_cmp q k) None) (sym (get-all asked answered q)) ∙ sym (get-remove calls_total (all_calls asked answered) k q))
+-- ---- until when those that were answered are known
+
+module _ (answered answered' : FinMap call_cmp Answered) (k : AuditedCall) (moment : ℕ) (until : AreKnownUntil moment answered) where
+  pub until_put : (v : Answered) (earlier : ℕ) → earlier ≤ moment → earlier ≤ v.0 → answered' ≡ insert answered k v → AreKnownUntil earlier answered'
+  until_put v earlier first second put = λ q what is. at q what (eq_by_cmp call_cmp q k) (sym (get-insert calls_total answered k v q) ∙ ap (λ m. get m q) (sym put) ∙ is)
     where
-      none_asked : get asked k ≡ None
-      none_asked = (answered_at (get asked k) (get answered k) until (sym (get-all asked answered k) ∙ is)).0
+      at : (q : AuditedCall) (what : Answered) (b : Bool) → cond b (Some v) (get answered q) ≡ Some what → earlier ≤ what.0
+      at q what true is = let same : v ≡ what = cc in subst (λ (a : Answered). earlier ≤ a.0) same second
+      at q what false is = let le : moment ≤ what.0 = until q what is in omega (arith, first, le)
 
-      at : (q : AuditedCall) (b : Bool) → eq_by_cmp call_cmp q k ≡ b
-          → known_by_both (get asked q) (cond b None (get answered q)) ≡ cond b None (known_by_both (get asked q) (get answered q))
-      at q true tie = ap (λ w. known_by_both w None) (ap (get asked) (same_by_test exact_calls q k tie) ∙ none_asked)
-      at q false tie = refl
+  pub until_removed : answered' ≡ remove answered k → AreKnownUntil moment answered'
+  until_removed left = λ q what is. at q what (eq_by_cmp call_cmp q k) (sym (get-remove calls_total answered k q) ∙ ap (λ m. get m q) (sym left) ∙ is)
+    where
+      at : (q : AuditedCall) (what : Answered) (b : Bool) → cond b None (get answered q) ≡ Some what → moment ≤ what.0
+      at q what true is = cc
+      at q what false is = until q what is
 
--- the first of the answered is taken out, if there is one
-pub apart_forgotten : (asked : FinMap call_cmp Asked) (answered answered' : FinMap call_cmp Answered) (r : Option (Due AuditedCall)) → AreApart asked answered
-    → IfSome r (λ first. answered' ≡ remove answered first.key) → IfNone r (answered' ≡ answered) → AreApart asked answered'
-apart_forgotten asked answered answered' None apart taken none = λ q is. ap (λ m. get m q) none ∙ apart q is
-apart_forgotten asked answered answered' (Some first) apart taken none = λ q is.
-    ap (λ m. get m q) taken ∙ get-remove calls_total answered first.key q ∙ at (eq_by_cmp call_cmp q first.key) (get answered q) (apart q is)
-  where
-    at : (b : Bool) (w : Option Answered) → w ≡ None → cond b None w ≡ None
-    at true w none = refl
-    at false w none = none
+pub until_none : (answered : FinMap call_cmp Answered) → AreKnownUntil 0 answered
+until_none answered = λ q what is. omega arith
+
+-- ---- those of which nothing is known any more
+
+module _ (asked : FinMap call_cmp Asked) (answered : FinMap call_cmp Answered) (now : ℕ) where
+  -- all are let go
+  module _ (answered' : FinMap call_cmp Answered) (left : answered' ≡ retain answered (λ _ a. nat_lt now a.0)) where
+    get_left : (q : AuditedCall) → get answered' q ≡ kept_if (λ a. nat_lt now a.0) (get answered q)
+    get_left q = ap (λ m. get m q) left ∙ get-retain calls_total exact_calls answered (λ _ a. nat_lt now a.0) q
+
+    pub let_go : all_calls asked answered' ≡ still_known now (all_calls asked answered)
+    let_go =
+        same_map calls_total exact_calls _ _ (λ q.
+        get-all asked answered' q ∙ ap (known_by_both (get asked q)) (get_left q) ∙ at (get asked q) (get answered q) ∙ ap (kept_if (is_known_at now)) (sym (get-all asked answered q))
+        ∙ sym (get-retain calls_total exact_calls (all_calls asked answered) (λ _ what. is_known_at now what) q))
+      where
+        at : (u : Option Asked) (w : Option Answered) → known_by_both u (kept_if (λ a. nat_lt now a.0) w) ≡ kept_if (is_known_at now) (known_by_both u w)
+        at (Some (Waiting call)) w = refl
+        at (Some (Told since)) w = refl
+        at None None = refl
+        at None (Some w) = cases (nat_lt now w.0)
+          where
+            cases : (b : Bool) → option_map known_answered (cond b (Some w) None) ≡ cond b (Some (known.Answered w.0)) None
+            cases true = refl
+            cases false = refl
+
+    pub apart_let_go : AreApart asked answered → AreApart asked answered'
+    apart_let_go apart = λ q is. get_left q ∙ ap (kept_if (λ a. nat_lt now a.0)) (apart q is)
+
+    pub until_let_go : (moment : ℕ) → moment ≤ now + 1 → AreKnownUntil moment answered'
+    until_let_go moment le = λ q what is. let later = at (get answered q) what (sym (get_left q) ∙ is) in omega (arith, le, later)
+      where
+        at : (w : Option Answered) (what : Answered) → kept_if (λ a. nat_lt now a.0) w ≡ Some what → now + 1 ≤ what.0
+        at None what is = cc
+        at (Some w) what is = cases (nat_lt now w.0) refl is
+          where
+            cases : (b : Bool) → nat_lt now w.0 ≡ b → cond b (Some w) None ≡ Some what → now + 1 ≤ what.0
+            cases true lt is =
+                let same : w ≡ what = cc in
+                let below : now < w.0 = ltb-true now w.0 lt in
+                let at_least : now + 1 ≤ w.0 = omega (arith, below) in
+                subst (λ (a : Answered). now + 1 ≤ a.0) same at_least
+            cases false ge is = cc
+
+  -- or there is none
+  pub none_to_let_go : (moment : ℕ) → AreKnownUntil moment answered → now < moment → all_calls asked answered ≡ still_known now (all_calls asked answered)
+  none_to_let_go moment until early =
+      sym (retain_all calls_total exact_calls (all_calls asked answered) (λ _ what. is_known_at now what) (λ q what is.
+      at (get asked q) (get answered q) what (until q) (sym (get-all asked answered q) ∙ is)))
+    where
+      at : (u : Option Asked) (w : Option Answered) (what : Known) → ((a : Answered) → w ≡ Some a → moment ≤ a.0) → known_by_both u w ≡ Some what → is_known_at now what ≡ true
+      at (Some (Waiting call)) w what late is = let same : known.Open call ≡ what = cc in ap (is_known_at now) (sym same)
+      at (Some (Told since)) w what late is = let same : known.Overdue since ≡ what = cc in ap (is_known_at now) (sym same)
+      at None None what late is = cc
+      at None (Some w) what late is =
+          let same : known.Answered w.0 ≡ what = cc in
+          let le : moment ≤ w.0 = late w refl in
+          ap (is_known_at now) (sym same) ∙ lt-ltb now w.0 (omega (arith, le, early))
 
 -- ---- which moment comes first
 
-waits_asked : (v : Asked) → waits_of (known_asked v) ≡ asked_waits v
-waits_asked (Waiting call) = refl
-waits_asked (Told since) = refl
+waits_by_both : (u : Option Asked) (w : Option Answered) → option_and_then waits_of (known_by_both u w) ≡ option_and_then asked_waits u
+waits_by_both None None = refl
+waits_by_both None (Some w) = refl
+waits_by_both (Some (Waiting call)) w = refl
+waits_by_both (Some (Told since)) w = refl
 
--- what waits by both waits by one of them
-by_one : (u : Option Asked) (w : Option Answered) (at : ℕ) → option_and_then waits_of (known_by_both u w) ≡ Some at
-    → (option_and_then asked_waits u ≡ Some at) ⊎ (option_and_then answered_waits w ≡ Some at)
-by_one None None at is = cc
-by_one None (Some w) at is = inr is
-by_one (Some u) w at is = inl (sym (waits_asked u) ∙ is)
-
-by_asked : (u : Option Asked) (w : Option Answered) (at : ℕ) → option_and_then asked_waits u ≡ Some at → option_and_then waits_of (known_by_both u w) ≡ Some at
-by_asked None w at is = cc
-by_asked (Some u) w at is = waits_asked u ∙ is
-
-by_answered : (u : Option Asked) (w : Option Answered) (at : ℕ) → (is_some u ≡ true → w ≡ None) → option_and_then answered_waits w ≡ Some at
-    → option_and_then waits_of (known_by_both u w) ≡ Some at
-by_answered None None at apart is = cc
-by_answered None (Some w) at apart is = is
-by_answered (Some u) w at apart is = let none : option_and_then answered_waits w ≡ None = ap (option_and_then answered_waits) (apart refl) in cc
-
-le_gt : (r : Ordering) → is_le r ≡ true → is_gt r ≡ false
-le_gt Less le = refl
-le_gt Equal le = refl
-le_gt Greater le = cc
-
-gt_le : (r : Ordering) → is_gt r ≡ false → is_le r ≡ true
-gt_le Less le = refl
-gt_le Equal le = refl
-gt_le Greater le = cc
-
-abbrev before : Due AuditedCall → Due AuditedCall → Bool
-before x y = is_le (due_cmp call_cmp x y)
-
-before_chain : (x y z : Due AuditedCall) → before x y ≡ true → before y z ≡ true → before x z ≡ true
-before_chain x y z a b = gt_le _ (upto (dues_total calls_total) x y z (le_gt _ a) (le_gt _ b))
-
--- of two, the one that is said to be less comes first, and else the other one
-less_first : (x y : Due AuditedCall) → is_lt (due_cmp call_cmp y x) ≡ true → before y x ≡ true
-less_first x y lt = by (due_cmp call_cmp y x) lt
+-- the first of those without an answer is the first of all
+pub asked_first : (asked : FinMap call_cmp Asked) (answered : FinMap call_cmp Answered) (r : Option (Due AuditedCall)) → IsFirstDue asked_waits asked r
+    → IsFirstDue waits_of (all_calls asked answered) r
+asked_first asked answered None none = λ q. ap (option_and_then waits_of) (get-all asked answered q) ∙ waits_by_both (get asked q) (get answered q) ∙ none q
+asked_first asked answered (Some first) is =
+    (same first.key ∙ is.0, λ other waits. is.1 other (sym (same other.key) ∙ waits))
   where
-    by : (r : Ordering) → is_lt r ≡ true → is_le r ≡ true
-    by Less lt = refl
-    by Equal lt = cc
-    by Greater lt = cc
-
-not_less : (x y : Due AuditedCall) → is_lt (due_cmp call_cmp y x) ≡ false → before x y ≡ true
-not_less x y ge = by (due_cmp call_cmp x y) (due_cmp call_cmp y x) ((dues_total calls_total).antisymm x y) ge
-  where
-    by : (p q : Ordering) → p ≡ ordering_reverse q → is_lt q ≡ false → is_le p ≡ true
-    by p Less turned ge = cc
-    by p Equal turned ge = ap is_le turned
-    by p Greater turned ge = ap is_le turned
-
-module _ (asked : FinMap call_cmp Asked) (answered : FinMap call_cmp Answered) (apart : AreApart asked answered) where
-  abbrev wait_at : AuditedCall → Option ℕ
-  wait_at q = option_and_then waits_of (get (all_calls asked answered) q)
-
-  wait_by_one : (due : Due AuditedCall) → wait_at due.key ≡ Some due.at
-      → (option_and_then asked_waits (get asked due.key) ≡ Some due.at) ⊎ (option_and_then answered_waits (get answered due.key) ≡ Some due.at)
-  wait_by_one due is = by_one (get asked due.key) (get answered due.key) due.at (ap (option_and_then waits_of) (sym (get-all asked answered due.key)) ∙ is)
-
-  wait_asked : (due : Due AuditedCall) → option_and_then asked_waits (get asked due.key) ≡ Some due.at → wait_at due.key ≡ Some due.at
-  wait_asked due is = ap (option_and_then waits_of) (get-all asked answered due.key) ∙ by_asked (get asked due.key) (get answered due.key) due.at is
-
-  wait_answered : (due : Due AuditedCall) → option_and_then answered_waits (get answered due.key) ≡ Some due.at → wait_at due.key ≡ Some due.at
-  wait_answered due is = ap (option_and_then waits_of) (get-all asked answered due.key) ∙ by_answered (get asked due.key) (get answered due.key) due.at (apart due.key) is
-
-  -- the first of the answered calls is the one that is first of all
-  first_answered_is : (due : Due AuditedCall) → IsFirstDue waits_of (all_calls asked answered) (Some due) → get (all_calls asked answered) due.key ≡ Some (known.Answered due.at)
-      → IsFirstDue answered_waits answered (Some due)
-  first_answered_is due first is =
-      ((answered_at (get asked due.key) (get answered due.key) due.at (sym (get-all asked answered due.key) ∙ is)).1, λ other waits. first.1 other (wait_answered other waits))
-
-  pub forgets_first : (answered' : FinMap call_cmp Answered) (r : Option (Due AuditedCall)) (due : Due AuditedCall) → IsFirstDue waits_of (all_calls asked answered) (Some due)
-      → get (all_calls asked answered) due.key ≡ Some (known.Answered due.at) → IsFirstDue answered_waits answered r → IfSome r (λ first. answered' ≡ remove answered first.key)
-      → all_calls asked answered' ≡ remove (all_calls asked answered) due.key
-  forgets_first answered' r due first is first_there taken =
-      let same : r ≡ Some due = one_first calls_total exact_calls answered_waits answered r (Some due) first_there (first_answered_is due first is) in
-      forgotten asked answered due.key answered' due.at is (rw same at taken)
-
-  pub both_first : (x y : Due AuditedCall) → IsFirstDue asked_waits asked (Some x) → IsFirstDue answered_waits answered (Some y)
-      → IsFirstDue waits_of (all_calls asked answered) (Some (if is_lt (due_cmp call_cmp y x) then y else x))
-  both_first x y fx fy = at (is_lt (due_cmp call_cmp y x)) refl
-    where
-      at : (b : Bool) → is_lt (due_cmp call_cmp y x) ≡ b → IsFirstDue waits_of (all_calls asked answered) (Some (if b then y else x))
-      at true lt = (wait_answered y fy.0, λ other waits. by other (wait_by_one other waits))
-        where
-          by : (other : Due AuditedCall) → (option_and_then asked_waits (get asked other.key) ≡ Some other.at) ⊎ (option_and_then answered_waits (get answered other.key) ≡ Some other.at)
-              → before y other ≡ true
-          by other (inl waits) = before_chain y x other (less_first x y lt) (fx.1 other waits)
-          by other (inr waits) = fy.1 other waits
-      at false ge = (wait_asked x fx.0, λ other waits. by other (wait_by_one other waits))
-        where
-          by : (other : Due AuditedCall) → (option_and_then asked_waits (get asked other.key) ≡ Some other.at) ⊎ (option_and_then answered_waits (get answered other.key) ≡ Some other.at)
-              → before x other ≡ true
-          by other (inl waits) = fx.1 other waits
-          by other (inr waits) = before_chain x y other (not_less x y ge) (fy.1 other waits)
-
-  pub asked_first : (x : Due AuditedCall) → IsFirstDue asked_waits asked (Some x) → IsFirstDue answered_waits answered None → IsFirstDue waits_of (all_calls asked answered) (Some x)
-  asked_first x fx none = (wait_asked x fx.0, λ other waits. by other (wait_by_one other waits))
-    where
-      by : (other : Due AuditedCall) → (option_and_then asked_waits (get asked other.key) ≡ Some other.at) ⊎ (option_and_then answered_waits (get answered other.key) ≡ Some other.at)
-          → before x other ≡ true
-      by other (inl waits) = fx.1 other waits
-      by other (inr waits) = let gone : option_and_then answered_waits (get answered other.key) ≡ None = none other.key in cc
-
-  pub answered_first : (r : Option (Due AuditedCall)) → IsFirstDue asked_waits asked None → IsFirstDue answered_waits answered r → IsFirstDue waits_of (all_calls asked answered) r
-  answered_first None none gone = λ k. at k (wait_at k) refl
-    where
-      at : (k : AuditedCall) (v : Option ℕ) → wait_at k ≡ v → v ≡ None
-      at k None is = refl
-      at k (Some n) is = by (wait_by_one (record { at = n; key = k }) is)
-        where
-          by : (option_and_then asked_waits (get asked k) ≡ Some n) ⊎ (option_and_then answered_waits (get answered k) ≡ Some n) → Some n ≡ None
-          by (inl waits) = let e : option_and_then asked_waits (get asked k) ≡ None = none k in cc
-          by (inr waits) = let e : option_and_then answered_waits (get answered k) ≡ None = gone k in cc
-  answered_first (Some y) none fy = (wait_answered y fy.0, λ other waits. by other (wait_by_one other waits))
-    where
-      by : (other : Due AuditedCall) → (option_and_then asked_waits (get asked other.key) ≡ Some other.at) ⊎ (option_and_then answered_waits (get answered other.key) ≡ Some other.at)
-          → before y other ≡ true
-      by other (inl waits) = let gone : option_and_then asked_waits (get asked other.key) ≡ None = none other.key in cc
-      by other (inr waits) = fy.1 other waits
-
-  -- where the first of all is not the first of those without an answer, it was answered
-  pub first_is_answered : (r : Option (Due AuditedCall)) (due : Due AuditedCall) → IsFirstDue asked_waits asked r → IsFirstDue waits_of (all_calls asked answered) (Some due)
-      → (r ≡ Some due → ⊥) → get (all_calls asked answered) due.key ≡ Some (known.Answered due.at)
-  first_is_answered r due of_asked first not = at (wait_by_one due first.0)
-    where
-      by : (u : Option Asked) (w : Option Answered) → (is_some u ≡ true → w ≡ None) → option_and_then answered_waits w ≡ Some due.at → known_by_both u w ≡ Some (known.Answered due.at)
-      by None None apart is = cc
-      by None (Some w) apart is = let e : w.0 ≡ due.at = cc in ap (λ n. Some (known.Answered n)) e
-      by (Some u) w apart is = let none : option_and_then answered_waits w ≡ None = ap (option_and_then answered_waits) (apart refl) in cc
-
-      at : (option_and_then asked_waits (get asked due.key) ≡ Some due.at) ⊎ (option_and_then answered_waits (get answered due.key) ≡ Some due.at)
-          → get (all_calls asked answered) due.key ≡ Some (known.Answered due.at)
-      at (inl waits) = absurd (not (one_first calls_total exact_calls asked_waits asked r (Some due) of_asked (waits, λ other later. first.1 other (wait_asked other later))))
-      at (inr waits) = get-all asked answered due.key ∙ by (get asked due.key) (get answered due.key) (apart due.key) waits
+    same : (q : AuditedCall) → option_and_then waits_of (get (all_calls asked answered) q) ≡ option_and_then asked_waits (get asked q)
+    same q = ap (option_and_then waits_of) (get-all asked answered q) ∙ waits_by_both (get asked q) (get answered q)
 
 -- ---- memory
 
@@ -384,6 +309,10 @@ wants_asked (Some u) w v wants is =
     let same : waits_of (known_asked u) ≡ waits_of (known_asked v) = same_waits (known_asked u) (known_asked v) is in
     wants.0 (sym (waits_asked u) ∙ same ∙ waits_asked v)
   where
+    waits_asked : (v : Asked) → waits_of (known_asked v) ≡ asked_waits v
+    waits_asked (Waiting call) = refl
+    waits_asked (Told since) = refl
+
     same_waits : (a b : Known) → Some a ≡ Some b → waits_of a ≡ waits_of b
     same_waits a b e = let s : a ≡ b = cc in ap waits_of s
 
@@ -392,10 +321,7 @@ wants_answered : (u : Option Asked) (w : Option Answered) (v : Answered) → (is
 wants_answered (Some (Waiting call)) w v apart wants is = cc
 wants_answered (Some (Told since)) w v apart wants is = cc
 wants_answered None None v apart wants is = cc
-wants_answered None (Some w) v apart wants is = wants.0 (same is)
-  where
-    same : {m n : ℕ} → Some (known.Answered m) ≡ Some (known.Answered n) → Some m ≡ Some n
-    same e = cc
+wants_answered None (Some w) v apart wants is = wants.0 refl
 
 module _ (asked : FinMap call_cmp Asked) (answered : FinMap call_cmp Answered) (k : AuditedCall) where
   pub asked_anew : (v : Asked) → WantsMemory asked_waits (get asked k) (asked_waits v) → get (all_calls asked answered) k ≢ Some (known_asked v)

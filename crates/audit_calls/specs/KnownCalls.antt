@@ -1,5 +1,5 @@
 -- What is known of a call, and what its messages make of it (SOME/IP Protocol, "Request/Response Communication").
-use Rattle.std.specs.Prelude.{ℕ, ◌-◌, ◌==◌, nat_le, Bool, ◌||◌, if◌then◌else◌, Option, None, Some}
+use Rattle.std.specs.Prelude.{ℕ, ◌-◌, ◌==◌, nat_le, nat_lt, Bool, true, ◌||◌, if◌then◌else◌, Option, None, Some}
 use Rattle.audit_calls.specs.declared.finding.CallFinding.{CallFinding}
 use Rattle.audit_calls.specs.declared.finding.CallFinding.TheVariants.{KeyReused, Late, Repeated, Unasked}
 use Rattle.audit_calls.specs.declared.known.Known.{Known}
@@ -7,12 +7,11 @@ use Rattle.audit_calls.specs.declared.known.Known.TheVariants.{Open, Overdue, An
 use Rattle.audit_calls.specs.declared.known.OpenCall.{OpenCall}
 use Rattle.audit_calls.specs.Excerpts.{same_excerpt}
 
--- the moment that a call waits for: its deadline while it is open, and once it was answered the moment from which it is no
--- longer known
+-- the moment that a call waits for: its deadline while it is open
 abbrev pub waits_of : Known → Option ℕ
 waits_of (Open call) = Some call.until
 waits_of (Overdue since) = None
-waits_of (Answered until) = Some until
+waits_of (Answered until) = None
 
 -- what is known of a call at a moment: one whose deadline has come is overdue, and one that was answered is known until its
 -- moment alone
@@ -21,6 +20,11 @@ known_at now None = None
 known_at now (Some (Open call)) = if nat_le call.until now then Some (Overdue call.since) else Some (Open call)
 known_at now (Some (Overdue since)) = Some (Overdue since)
 known_at now (Some (Answered until)) = if nat_le until now then None else Some (Answered until)
+
+-- something is known of a call at a moment
+abbrev pub is_known_at : ℕ → Known → Bool
+is_known_at now (Answered until) = nat_lt now until
+is_known_at now _ = true
 
 -- two REQUESTs of a call say the same
 abbrev pub says_the_same : OpenCall → OpenCall → Bool

@@ -1,20 +1,17 @@
 -- The calls whose deadline has come.
-use Rattle.std.specs.Prelude.{◌≡◌, ℕ, Bool, false, not, Option, None, Some}
+use Rattle.std.specs.Prelude.{◌≡◌, ℕ, ◌+◌, nat_le, if◌then◌else◌, Option, None, Some}
 use Rattle.std.specs.declared.cmp.Ordering.{Ordering}
-use Rattle.std.specs.Ordering.{is_lt}
 use Rattle.std.specs.FinMap as finite
 use Rattle.someip_tables.specs.Retained.{retain}
-use Rattle.someip_tables.specs.Waits.{is_due_by}
 use Rattle.audit_tables.specs.declared.due.Due.{Due}
 use Rattle.audit_tables.specs.Dues.{due_cmp}
 use Rattle.audit_calls.specs.declared.call.AuditedCall.{AuditedCall}
 use Rattle.audit_calls.specs.declared.finding.Unanswered.{Unanswered}
-use Rattle.audit_calls.specs.declared.known.Known.{Known}
-use Rattle.audit_calls.specs.declared.known.Known.TheVariants.{Open, Overdue, Answered}
+use Rattle.audit_calls.specs.declared.known.Known.TheVariants.{Open, Overdue}
 use Rattle.audit_calls.specs.declared.known.OpenCall.{OpenCall}
 use Rattle.audit_calls.specs.AuditedCalls.{call_cmp}
 use Rattle.audit_calls.specs.CallBooks.{Calls}
-use Rattle.audit_calls.specs.KnownCalls.{waits_of}
+use Rattle.audit_calls.specs.KnownCalls.{is_known_at}
 
 -- an open call, as it is told
 abbrev pub unanswered : AuditedCall → OpenCall → Unanswered
@@ -32,13 +29,20 @@ due_of told = record { at = told.until; key = told.call }
 abbrev pub told_cmp : Unanswered → Unanswered → Ordering
 told_cmp a b = due_cmp call_cmp (due_of a) (due_of b)
 
--- a call was answered, and is no longer known before another one's deadline
-abbrev pub goes_before : Unanswered → AuditedCall → Known → Bool
-goes_before told call (Answered until) = is_lt (due_cmp call_cmp (record { at = until; key = call }) (due_of told))
-goes_before told call _ = false
+-- the calls of which something is known at a moment
+abbrev pub still_known : ℕ → Calls → Calls
+still_known now calls = retain calls (λ _ what. is_known_at now what)
 
--- the calls once one was told: it is overdue, and those that were no longer known before it are gone. Where none is told, all
--- that were no longer known are gone
-abbrev pub calls_after_due : ℕ → Option Unanswered → Calls → Calls
-calls_after_due now None calls = retain calls (λ _ what. not (is_due_by now (waits_of what)))
-calls_after_due now (Some told) calls = finite.insert (retain calls (λ call what. not (goes_before told call what))) told.call (Overdue told.since)
+-- as many messages as a datagram may have, and some more
+abbrev pub most_messages : ℕ
+most_messages = 4096
+
+-- the calls with room for those of a datagram: where there is not so much, those of which nothing is known any more are let go
+abbrev pub with_room : ℕ → ℕ → Calls → Calls
+with_room limit now calls = if nat_le (finite.len calls + most_messages) limit then calls else still_known now calls
+
+-- the calls once what fell due was asked for: one that was told is overdue, with room from its deadline on, and where none is
+-- told there is room
+abbrev pub calls_after_due : ℕ → ℕ → Option Unanswered → Calls → Calls
+calls_after_due limit now None calls = with_room limit now calls
+calls_after_due limit now (Some told) calls = finite.insert (with_room limit told.until calls) told.call (Overdue told.since)

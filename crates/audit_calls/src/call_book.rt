@@ -68,7 +68,7 @@ impl CallBook {
     }
 
     /// How many calls are held: no more than the limit. Among them may be such as were answered and are
-    /// no longer known, until [`CallBook::due`] lets them go.
+    /// no longer known, until [`CallBook::due`] lets them go, where room is wanted.
     pub fn len(&self) -> usize
         ensures count { result ≡ finite.len self.now.calls }
         ensures few { result ≤ self.now.rules.limit }
@@ -111,8 +111,8 @@ impl CallBook {
     }
 
     /// The call whose deadline comes first, by deadline and then by call, if it has come, and takes note
-    /// that it was told. Lets those go that were answered and are no longer known before it. It takes no
-    /// memory.
+    /// that it was told. Where there is no room for the calls of a datagram, those that were answered and
+    /// are no longer known are let go before. It takes no memory.
     pub fn due(&mut self, now: Moment) -> Option<Unanswered>
         ensures open { IfSome result (λ told. IsOpenCall self.old.calls told) }
         ensures passed { IfSome result (λ told. told.until ≤ now) }
@@ -121,13 +121,13 @@ impl CallBook {
         ensures none { IfNone result ((other : Unanswered) → IsOpenCall self.old.calls other
             → now < other.until) }
         ensures after { self.new
-            ≡ record self.old { calls = calls_after_due now result self.old.calls } }
+            ≡ record self.old { calls = calls_after_due self.old.rules.limit now result self.old.calls } }
     {
-        next_overdue(&mut self.calls, now)
+        next_overdue(&mut self.calls, self.rules.limit, now)
     }
 
     /// When something next falls due, in milliseconds: the first moment at which [`CallBook::due`] tells
-    /// a call or lets one go, if there is one.
+    /// a call, if there is one.
     pub fn next_due(&self) -> Option<u64>
         ensures { HoldsFrom result (λ now. due_by waits_of now self.now.calls ≢ finite.empty) }
     {

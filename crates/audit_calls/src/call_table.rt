@@ -1,15 +1,11 @@
 //! The calls that are known, in two tables: those that have no answer, and those that were answered.
-ghost use Rattle.std.specs.Prelude.{◌≡◌, ◌≢◌, ◌≤◌, ◌↔◌, IsTrue, if◌then◌else◌, true, Some, OnErr, OnOk, IfNone, IfSome};
+ghost use Rattle.std.specs.Prelude.{◌≡◌, ◌≢◌, ◌≤◌, true, Some, OnErr, OnOk, IfNone, IfSome};
 ghost use Rattle.std.specs.FinMap as finite;
-ghost use Rattle.std.specs.Ordering.{is_lt};
-ghost use Rattle.audit_tables.specs.Dues.{IsFirstDue, due_cmp};
-ghost use Rattle.audit_tables.specs.declared.due.Due.{Due};
-ghost use Rattle.audit_calls.specs.AuditedCalls.{call_cmp};
+ghost use Rattle.audit_tables.specs.Dues.{IsFirstDue};
 ghost use Rattle.audit_calls.specs.KnownCalls.{waits_of};
-ghost use Rattle.audit_calls.specs.CallTables.{is_open, known_answered, known_asked, unless_answered};
-ghost use Rattle.audit_calls.specs.declared.call.AuditedCall.{AuditedCall};
+ghost use Rattle.audit_calls.specs.Overdue.{still_known};
+ghost use Rattle.audit_calls.specs.CallTables.{is_open, known_answered, known_asked, open_of, unless_answered, waiting_of};
 ghost use Rattle.audit_calls.specs.declared.known.Known.TheVariants as known;
-ghost use Rattle.audit_calls.specs.declared.known.OpenCall.{OpenCall};
 
 use crate::call::AuditedCall;
 use crate::known::{Known, OpenCall};
@@ -37,6 +33,16 @@ impl Asked {
             Asked::Told(since) => Known::Overdue(since),
         }
     }
+
+    /// The call, if it waits for its answer.
+    fn waiting(self) -> Option<OpenCall>
+        ensures { result ≡ waiting_of self }
+    {
+        match self {
+            Asked::Waiting(call) => Some(call),
+            Asked::Told(_) => None,
+        }
+    }
 }
 
 /// What is known of a call with an answer: it is known until this moment, in milliseconds.
@@ -62,17 +68,18 @@ impl Waits for Answered {
     ghost moment = { answered_waits };
 
     fn waits_for(&self) -> Option<u64> {
-        Some(self.0)
+        None
     }
 }
 
 /// The calls that are known. Those that were answered stand apart: they are many, since each is known for
-/// as long as an answer may take, and little is kept of them, while few wait for an answer. So an answer
-/// moves no moment among those of all calls: it takes one out among few, and adds one that comes last.
+/// as long as an answer may take, and little is kept of them, while few wait for an answer. They wait for
+/// no moment, and are let go, all at once, where room is wanted. Before the moment `stale_from` none is.
 #[derive(Drop)]
 pub(crate) struct CallTable {
     asked: DueTable<AuditedCall, Asked>,
     answered: DueTable<AuditedCall, Answered>,
+    stale_from: u64,
 }
 
 impl Model for CallTable {
@@ -81,7 +88,7 @@ impl Model for CallTable {
     ghost use Rattle.audit_calls.specs.AuditedCalls.{call_cmp};
     ghost use Rattle.audit_calls.specs.CallBooks.{Calls};
     ghost use Rattle.audit_calls.specs.CallCodes.{coded_call, coded_known};
-    ghost use Rattle.audit_calls.specs.CallTables.{AreApart, all_calls};
+    ghost use Rattle.audit_calls.specs.CallTables.{AreApart, AreKnownUntil, all_calls};
 
     ghost Value = { Calls };
 
@@ -89,7 +96,8 @@ impl Model for CallTable {
 
     ghost view = { λ t. all_calls (map_of call_cmp t.asked) (map_of call_cmp t.answered) };
 
-    ghost invariant = { λ t. AreApart (map_of call_cmp t.asked) (map_of call_cmp t.answered) };
+    ghost invariant = { λ t. AreApart (map_of call_cmp t.asked) (map_of call_cmp t.answered)
+        × AreKnownUntil t.stale_from (map_of call_cmp t.answered) };
 }
 
 impl CallTable {
@@ -100,6 +108,7 @@ impl CallTable {
         CallTable {
             asked: DueTable::new(alloc),
             answered: DueTable::new(alloc),
+            stale_from: 0,
         }
     }
 
@@ -134,20 +143,13 @@ impl CallTable {
         }
     }
 
-    /// The call whose moment comes first, if it is open: else it was answered.
-    pub(crate) fn open_call(&self, first: &Due<AuditedCall>) -> Option<OpenCall>
-        requires { IsFirstDue waits_of self.now (Some first.now) }
-        ensures open { IfSome result (λ open_call. finite.get self.now first.now.key
-            ≡ Some (known.Open open_call)) }
-        ensures answered { IfNone result
-            (finite.get self.now first.now.key ≡ Some (known.Answered first.now.at)) }
+    /// A call, if it is open.
+    pub(crate) fn open_call(&self, call: &AuditedCall) -> Option<OpenCall>
+        ensures { result ≡ open_of (finite.get self.now call.now) }
     {
-        if !is_due(self.asked.first_due(), first) {
-            return None;
-        }
-        match self.asked.get(&first.key) {
-            Some(Asked::Waiting(open_call)) => Some(open_call),
-            _ => None,
+        match self.asked.get(call) {
+            Some(asked) => asked.waiting(),
+            None => None,
         }
     }
 
@@ -184,6 +186,9 @@ impl CallTable {
     {
         self.answered.insert(call, answered)?;
         self.asked.remove(&call);
+        if answered.0 < self.stale_from {
+            self.stale_from = answered.0;
+        }
         Ok(())
     }
 
@@ -195,40 +200,22 @@ impl CallTable {
         let _ = self.asked.insert(call, Asked::Told(since));
     }
 
-    /// Takes out the call whose moment comes first, where it was answered. It takes no memory.
-    pub(crate) fn forget_first(&mut self)
-        ensures { (due : Due AuditedCall) → IsFirstDue waits_of self.old (Some due)
-            → finite.get self.old due.key ≡ Some (known.Answered due.at)
-            → self.new ≡ finite.remove self.old due.key }
+    /// Lets those go of which nothing is known any more at a moment. It takes no memory, and goes over all
+    /// that were answered, where any may have to go.
+    pub(crate) fn let_go(&mut self, now: u64)
+        ensures { self.new ≡ still_known now self.old }
     {
-        self.answered.remove_first();
+        if now < self.stale_from {
+            return;
+        }
+        self.answered.retain(|_, answered| now < answered.0);
+        self.stale_from = now.saturating_add(1);
     }
 
     /// The call whose moment comes first, by moment and then by call, if one waits for any.
     pub(crate) fn first_due(&self) -> Option<Due<AuditedCall>>
         ensures { IsFirstDue waits_of self.now result }
     {
-        match (self.asked.first_due(), self.answered.first_due()) {
-            (Some(a), Some(b)) => Some(sooner(a, b)),
-            (Some(a), None) => Some(a),
-            (None, b) => b,
-        }
-    }
-}
-
-/// The one of two that comes first.
-fn sooner(a: Due<AuditedCall>, b: Due<AuditedCall>) -> Due<AuditedCall>
-    ensures { result ≡ (if is_lt (due_cmp call_cmp b a) then b else a) }
-{
-    if b < a { b } else { a }
-}
-
-/// Whether the first of some is this one.
-fn is_due(first: Option<Due<AuditedCall>>, due: &Due<AuditedCall>) -> bool
-    ensures { IsTrue result ↔ (first ≡ Some due.now) }
-{
-    match first {
-        Some(first) => first == *due,
-        None => false,
+        self.asked.first_due()
     }
 }

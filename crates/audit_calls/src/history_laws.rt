@@ -33,12 +33,12 @@ pub fn a_book_stands_for_its_messages()
     ensures due { (book : Book) (latest now : ℕ) (unanswered : Unanswered) (past : List Tapped)
         → latest ≤ now → IsOpenCall book.calls unanswered → unanswered.until ≤ now
         → StandsFor latest book past → StandsFor now (record book {
-          calls = calls_after_due now (Some unanswered) book.calls;
+          calls = calls_after_due book.rules.limit now (Some unanswered) book.calls;
         }) past }
     ensures none_due { (book : Book) (latest now : ℕ) (past : List Tapped) → latest ≤ now
         → ((other : Unanswered) → IsOpenCall book.calls other → now < other.until)
         → StandsFor latest book past → StandsFor now (record book {
-          calls = calls_after_due now None book.calls;
+          calls = calls_after_due book.rules.limit now None book.calls;
         }) past }
 {}
 

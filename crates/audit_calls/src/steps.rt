@@ -11,7 +11,7 @@ ghost use Rattle.audit_calls.specs.KnownCalls.{waits_of, told_of_request, known_
 ghost use Rattle.audit_calls.specs.KnownCalls.{told_of_answer, known_by_answer};
 ghost use Rattle.audit_calls.specs.CallBooks.{has_room, known, may_be_asked, with_known};
 ghost use Rattle.audit_calls.specs.CallTables.{unless_answered};
-ghost use Rattle.audit_calls.specs.Overdue.{IsOpenCall, told_cmp, calls_after_due};
+ghost use Rattle.audit_calls.specs.Overdue.{IsOpenCall, told_cmp, calls_after_due, with_room};
 ghost use Rattle.audit_calls.specs.declared.call.AuditedCall.{AuditedCall};
 ghost use Rattle.audit_calls.specs.declared.finding.Unanswered.{Unanswered};
 ghost use Rattle.audit_calls.specs.declared.finding.CallFinding.TheVariants.{Full};
@@ -153,36 +153,44 @@ fn may_be_asked(rules: &CallRules, full: bool, now: Moment) -> bool
     now.as_millis() < rules.begins.as_millis() + u64::from(rules.answer_ms) || full
 }
 
-/// The open call whose deadline comes first, if it has come.
-pub(crate) fn next_overdue(calls: &mut CallTable, now: Moment) -> Option<Unanswered>
+/// The open call whose deadline comes first, if it has come. Makes room for the calls of a datagram.
+pub(crate) fn next_overdue(calls: &mut CallTable, limit: usize, now: Moment) -> Option<Unanswered>
+    requires few { finite.len calls.old ≤ limit }
     ensures open { IfSome result (λ told. IsOpenCall calls.old told) }
     ensures passed { IfSome result (λ told. told.until ≤ now) }
     ensures first { IfSome result (λ told. (other : Unanswered)
         → IsOpenCall calls.old other → is_le (told_cmp told other) ≡ true) }
     ensures none { IfNone result ((other : Unanswered)
         → IsOpenCall calls.old other → now < other.until) }
-    ensures after { calls.new
-        ≡ calls_after_due now result calls.old }
-    ensures no_more { finite.len calls.new
-        ≤ finite.len calls.old }
+    ensures after { calls.new ≡ calls_after_due limit now result calls.old }
+    ensures no_more { finite.len calls.new ≤ finite.len calls.old }
 {
-    while let Some(due) = first_due_by(calls, now) {
-        match calls.open_call(&due) {
-            Some(call) => {
-                calls.tell(due.key, call.since);
-                return Some(Unanswered {
-                    call: due.key,
-                    k: call.k,
-                    since: call.since,
-                    until: call.until,
-                });
-            }
-            None => {
-                calls.forget_first();
-            }
-        }
+    let Some(due) = first_due_by(calls, now) else {
+        make_room(calls, limit, now.as_millis());
+        return None;
+    };
+    let call = calls.open_call(&due.key)?;
+    make_room(calls, limit, due.at);
+    calls.tell(due.key, call.since);
+    Some(Unanswered {
+        call: due.key,
+        k: call.k,
+        since: call.since,
+        until: call.until,
+    })
+}
+
+/// As many messages as a datagram may have, and some more.
+const MOST_MESSAGES: usize = 4096;
+
+/// Makes room for the calls of a datagram, where there is not so much.
+fn make_room(calls: &mut CallTable, limit: usize, now: u64)
+    requires few { finite.len calls.old ≤ limit }
+    ensures { calls.new ≡ with_room limit now calls.old }
+{
+    if limit - calls.len(limit) < MOST_MESSAGES {
+        calls.let_go(now);
     }
-    None
 }
 
 /// The call whose moment comes first, if it has come.

@@ -96,7 +96,7 @@ module _ (held : Held) (now : ℕ) (seg off sub : Option ℕ)
     none_first not_there (due.Expired other) (is, come) = soonest_some now other.at next (moved not_there) (by_expired other is.0 is.1) come
     none_first not_there (due.SubscribeUnanswered other) (is, come) = soonest_some now other.at next (moved not_there) (by_asked other is) come
 
-    pub none_after : is_awaited at next ≡ false → (book : calls.Book) → book ≡ record held.calls { calls = calls_after_due at None held.calls.calls }
+    pub none_after : is_awaited at next ≡ false → (book : calls.Book) → book ≡ record held.calls { calls = calls_after_due held.calls.rules.limit at None held.calls.calls }
         → record held { calls = book } ≡ after_due now None held
     none_after not_there book is = rw (is, at_eq ∙ soonest_none now next (moved not_there)) refl
 
@@ -145,7 +145,7 @@ module _ (held : Held) (now : ℕ) (seg off sub : Option ℕ)
 
         pub missing_after : (told : Missing) → segments.IsWaiting held.segments.waiting told
             → ((other : Missing) → segments.IsWaiting held.segments.waiting other → is_le (segments.missing_cmp told other) ≡ true)
-            → (book : calls.Book) (new : segments.Book) → book ≡ record held.calls { calls = calls_after_due at None held.calls.calls }
+            → (book : calls.Book) (new : segments.Book) → book ≡ record held.calls { calls = calls_after_due held.calls.rules.limit at None held.calls.calls }
             → new ≡ segments.book_after_due (max held.segments.latest at) (Some told) held.segments
             → record held { calls = book; segments = new } ≡ after_due now (Some (due.Missing told)) held
         missing_after told waiting first book new is_book is_new = rw (is_book, is_new, sym (missing_at told waiting first)) refl
@@ -183,7 +183,7 @@ module _ (held : Held) (now : ℕ) (seg off sub : Option ℕ)
               let le = least other.at at next next_is (by_asked other is) in let e = expired_at told falls in le_by_book told.at other.at (omega (arith, le, e))
 
           pub expired_after : (told : Expired) → offers.FallsDue at held.offers.standing (Some told)
-              → (book : calls.Book) (new : offers.OfferTable) → book ≡ record held.calls { calls = calls_after_due at None held.calls.calls }
+              → (book : calls.Book) (new : offers.OfferTable) → book ≡ record held.calls { calls = calls_after_due held.calls.rules.limit at None held.calls.calls }
               → new ≡ offers.after_due (Some told) held.offers
               → record held { calls = book; offers = new } ≡ after_due now (Some (due.Expired told)) held
           expired_after told falls book new is_book is_new = rw (is_book, is_new, sym (expired_at told falls)) refl
@@ -216,7 +216,7 @@ module _ (held : Held) (now : ℕ) (seg off sub : Option ℕ)
           asked_first told falls (due.SubscribeUnanswered other) (is, come) = falls.0.1 (record { at = other.at; key = other.key }) (ap (option_and_then waits_until) is)
 
           pub asked_after : (told : no_answer.Unanswered) → subscriptions.FallsDue at held.subscriptions.waiting (Some told)
-              → (book : calls.Book) (new : subscriptions.SubscribeTable) → book ≡ record held.calls { calls = calls_after_due at None held.calls.calls }
+              → (book : calls.Book) (new : subscriptions.SubscribeTable) → book ≡ record held.calls { calls = calls_after_due held.calls.rules.limit at None held.calls.calls }
               → new ≡ subscriptions.after_due (Some told) held.subscriptions
               → record held { calls = book; subscriptions = new } ≡ after_due now (Some (due.SubscribeUnanswered told)) held
           asked_after told falls book new is_book is_new = rw (is_book, is_new, sym (asked_at told falls)) refl

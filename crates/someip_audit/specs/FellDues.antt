@@ -71,7 +71,7 @@ call_of None = None
 call_of (Some told) = call_told told
 
 abbrev pub calls_then : ℕ → Option FellDue → calls.Book → calls.Book
-calls_then now told book = record book { calls = calls_after_due (asked_until now told) (call_of told) book.calls }
+calls_then now told book = record book { calls = calls_after_due book.rules.limit (asked_until now told) (call_of told) book.calls }
 
 -- the other books once it was told: its own takes note of it
 abbrev pub others_after : FellDue → Held → Held

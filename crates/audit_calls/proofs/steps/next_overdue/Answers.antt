@@ -1,50 +1,34 @@
-use Rattle.std.proofs.Common.{◌≡◌, ◌<◌, ◌≤◌, ap, ◌∙◌, arith}
-use Rattle.std.specs.FinMap as finite
-use Rattle.audit_calls.proofs.OverdueLemmas.{told_is_first, told_leaves, told_adds_none, none_is_open, none_leaves, one_fewer, lets_one_go}
+use Rattle.std.proofs.Common.{ap, sym, ◌∙◌, arith}
+use Rattle.std.specs.FinMap.{get, insert, len}
+use Rattle.audit_calls.specs.CallTables.{is_open}
+use Rattle.audit_calls.specs.declared.known.Known.TheVariants.{Overdue}
+use Rattle.audit_calls.proofs.OverdueLemmas.{no_more, none_is_open, open_is, told_adds_none, told_is_first, told_stays}
 use Rattle.audit_calls.proofs.steps.next_overdue.Goals as goal
 
-pub returns-in-Some-open_call-clause-first : goal.returns-in-Some-open_call-clause-first
-returns-in-Some-open_call-clause-first c =
-    told_is_first c.args.now c.args.calls.now c.loop-due.calls c.in-Some.due c.in-Some-open_call.call c.loop-due.invariant.go
-    c.in-Some.ensures.first c.in-Some-open_call.ensures.open
+pub returns-in_default-clause-none : goal.returns-in_default-clause-none
+returns-in_default-clause-none c = none_is_open c.args.now c.args.calls.now c.in_default.ensures.none
 
-pub returns-in-Some-open_call-clause-after : goal.returns-in-Some-open_call-clause-after
-returns-in-Some-open_call-clause-after c =
-    c.tell.ensures
-    ∙ told_leaves c.args.now c.args.calls.now c.loop-due.calls c.in-Some.due c.in-Some-open_call.call c.loop-due.invariant.go
-    c.in-Some.ensures.first c.in-Some-open_call.ensures.open
-
-pub returns-in-Some-open_call-clause-no_more : goal.returns-in-Some-open_call-clause-no_more
-returns-in-Some-open_call-clause-no_more c =
-    let same : finite.len c.tell.new.self ≡ finite.len c.loop-due.calls =
-    ap finite.len c.tell.ensures ∙ told_adds_none c.args.now c.args.calls.now c.loop-due.calls c.in-Some.due c.in-Some-open_call.call c.loop-due.invariant.go
-    c.in-Some.ensures.first c.in-Some-open_call.ensures.open in
-    let few : finite.len c.loop-due.calls ≤ finite.len c.args.calls.now = c.loop-due.invariant.few in
+pub returns-in_default-clause-no_more : goal.returns-in_default-clause-no_more
+returns-in_default-clause-no_more c =
+    let same = ap len c.make_room.ensures in
+    let few = no_more c.args.limit c.as_millis.result c.args.calls.now in
     omega (arith, same, few)
 
-pub loop-due-smaller : goal.loop-due-smaller
-loop-due-smaller c =
-    let there = c.in-None.ensures.answered in
-    one_fewer c.loop-due.calls c.forget_first.new.self c.in-Some.due there (c.forget_first.ensures c.in-Some.due c.in-Some.ensures.first there)
+pub tell-requires : goal.tell-requires
+tell-requires c =
+    ap (λ m. is_open (get m c.in-Some.due.key)) c.make_room-2.ensures
+    ∙ told_stays c.args.limit c.args.calls.now c.in-Some.due c.in_ok-call.call c.in-Some.ensures.first
+    (open_is (get c.args.calls.now c.in-Some.due.key) c.in_ok-call.call (sym c.open_call.ensures ∙ c.in_ok-call.was))
 
-pub loop-due-preserved : goal.loop-due-preserved
-loop-due-preserved c =
-    let there = c.in-None.ensures.answered in
-    let taken = c.forget_first.ensures c.in-Some.due c.in-Some.ensures.first there in
-    let fewer : finite.len c.forget_first.new.self < finite.len c.loop-due.calls =
-    one_fewer c.loop-due.calls c.forget_first.new.self c.in-Some.due there taken in
-    let few : finite.len c.loop-due.calls ≤ finite.len c.args.calls.now = c.loop-due.invariant.few in
-    record {
-      go =
-          lets_one_go c.args.now c.args.calls.now c.loop-due.calls c.forget_first.new.self c.in-Some.due c.loop-due.invariant.go
-          c.in-Some.ensures.first c.in-Some.ensures.come there taken;
-      few = omega (arith, fewer, few);
-    }
+pub returns-clause-first : goal.returns-clause-first
+returns-clause-first c =
+    told_is_first c.args.limit c.args.calls.now c.in-Some.due c.in_ok-call.call c.in-Some.ensures.first
+    (open_is (get c.args.calls.now c.in-Some.due.key) c.in_ok-call.call (sym c.open_call.ensures ∙ c.in_ok-call.was))
 
-pub returns-clause-none : goal.returns-clause-none
-returns-clause-none c =
-    none_is_open c.args.now c.args.calls.now c.loop-due.calls c.loop-due.invariant.go c.in_default.ensures.none
-
-pub returns-clause-after : goal.returns-clause-after
-returns-clause-after c =
-    none_leaves c.args.now c.args.calls.now c.loop-due.calls c.loop-due.invariant.go c.in_default.ensures.none
+pub returns-clause-no_more : goal.returns-clause-no_more
+returns-clause-no_more c =
+    let same = ap len (c.tell.ensures ∙ ap (λ m. insert m c.in-Some.due.key (Overdue c.in_ok-call.call.since)) c.make_room-2.ensures) in
+    let few =
+    told_adds_none c.args.limit c.args.calls.now c.in-Some.due c.in_ok-call.call c.in-Some.ensures.first
+    (open_is (get c.args.calls.now c.in-Some.due.key) c.in_ok-call.call (sym c.open_call.ensures ∙ c.in_ok-call.was)) in
+    omega (arith, same, few)
