@@ -99,9 +99,9 @@ class Sweep:
             self.judge("rough", number, data, words, audit_model.audited(data, audit_model.rules_of(words)[0]))
 
     def crowds(self, _):
-        for name, make in audit_crowds.CROWDS.items():
+        for name, (table, make, number) in audit_crowds.CROWDS.items():
             records = make()
-            self.judge("crowds", name, wire.pcap(records), [], audit_crowds.told(name, records))
+            self.judge("crowds", name, wire.pcap(records), [], audit_crowds.told(table, records, number))
 
     def example(self):
         """The example, which stands as its script writes it, with what is told of it."""

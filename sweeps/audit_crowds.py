@@ -1,10 +1,11 @@
-"""Recordings in which each table of an audit comes to its limit of 65,536 keys, one for each. What has to be told of
-them is known without any book: `full NAME` of the first message that finds no room, and nothing else."""
+"""Recordings in which each table of an audit comes to its limit of 65,536 keys, one for each, and two in which answered
+calls fill theirs. What has to be told of them is known without any book: `full NAME` of the first message that finds no
+room, and nothing else."""
 import struct
 
 import audit_bytes as wire
 
-LIMIT = 65536
+LIMIT, SECOND = 65536, 10**9
 SERVER, CLIENT = (wire.address("192.168.0.1"), 30509), (wire.address("192.168.0.2"), 40001)
 A, B, GROUP = ((wire.address(host), wire.DISCOVERY_PORT) for host in ("192.168.0.1", "192.168.0.2", "239.0.0.1"))
 
@@ -29,21 +30,51 @@ def batches(things, size):
     return [things[at:at + size] for at in range(0, len(things), size)]
 
 
-def of_messages(source, destination, headers):
+def of_messages(source, destination, headers, time=0):
     """Datagrams of as many messages as they hold."""
-    offer = discovery(A, GROUP, 1, [entry(1, 0, SERVER)])
     texts = [wire.message(header, b"") for header in headers]
-    return [offer] + [wire.Record(0, source, destination, b"".join(some)) for some in batches(texts, 4000)]
+    return [wire.Record(time, source, destination, b"".join(some)) for some in batches(texts, 4000)]
+
+
+def offered():
+    return [discovery(A, GROUP, 1, [entry(1, 0, SERVER)])]
+
+
+def header_of(kind, number):
+    """The header of a call, or of its answer: a session for each number of all clients."""
+    return wire.Header(1, 1, number % LIMIT, 1 + number // LIMIT, 1, kind, 0)
+
+
+def asked(numbers, time=0):
+    return of_messages(CLIENT, SERVER, [header_of(wire.REQUEST, number) for number in numbers], time)
 
 
 def calls():
-    return of_messages(CLIENT, SERVER, [wire.Header(1, 1, number % LIMIT, 1 + number // LIMIT, 1, wire.REQUEST, 0)
-                                        for number in range(LIMIT + 2)])
+    return offered() + asked(range(LIMIT + 2))
+
+
+def answered(time):
+    """As many calls as may be known, each of which is answered at once, and at a time as many others and two more."""
+    found = offered()
+    for numbers in batches(range(LIMIT), 4000):
+        found += asked(numbers)
+        found += of_messages(SERVER, CLIENT, [header_of(wire.RESPONSE, number) for number in numbers])
+    return found + asked(range(LIMIT, 2 * LIMIT + 2), time)
+
+
+def answered_and_known():
+    """An answered call is known for two seconds, so the first one after it finds no room."""
+    return answered(2 * SECOND - 10**6)
+
+
+def answered_and_gone():
+    return answered(2 * SECOND)
 
 
 def events():
-    return of_messages(SERVER, CLIENT, [wire.Header(1 + number // LIMIT, number % LIMIT, 0, 1, 1, wire.NOTIFICATION, 0)
-                                        for number in range(LIMIT + 2)])
+    headers = [wire.Header(1 + number // LIMIT, number % LIMIT, 0, 1, 1, wire.NOTIFICATION, 0)
+               for number in range(LIMIT + 2)]
+    return offered() + of_messages(SERVER, CLIENT, headers)
 
 
 def sessions():
@@ -79,16 +110,19 @@ def endpoints():
     return of_entries(A, GROUP, found, 400)
 
 
-CROWDS = {"calls": calls, "sessions": sessions, "offers": offers, "subscriptions": subscriptions,
-          "receivers": receivers, "events": events, "endpoints": endpoints}
+# The table that each fills, what makes the recording, and the number of the datagram that finds no room, counted by hand.
+FULL = LIMIT // 4000 + 1
+CROWDS = {"calls": ("calls", calls, 1 + FULL), "answered calls": ("calls", answered_and_known, 1 + 2 * FULL + 1),
+          "calls after answered ones": ("calls", answered_and_gone, 1 + 2 * FULL + FULL),
+          "sessions": ("sessions", sessions, LIMIT + 1), "offers": ("offers", offers, FULL),
+          "subscriptions": ("subscriptions", subscriptions, FULL), "receivers": ("receivers", receivers, 2 * FULL - 1),
+          "events": ("events", events, 1 + FULL), "endpoints": ("endpoints", endpoints, 2 * LIMIT // 400 + 1)}
 
 
-def told(name, records):
-    """What is printed of a crowd: the place of the first thing that found no room is counted by hand."""
-    number = {"calls": 1 + LIMIT // 4000 + 1, "events": 1 + LIMIT // 4000 + 1, "sessions": LIMIT + 1,
-              "offers": LIMIT // 4000 + 1, "subscriptions": LIMIT // 4000 + 1, "receivers": 2 * (LIMIT // 4000) + 1,
-              "endpoints": 2 * LIMIT // 400 + 1}[name]
+def told(table, records, number):
+    """What is printed of a crowd in which the datagram with this number finds the table full."""
     messages = sum(len(wire.messages_of(record.payload)[0]) for record in records)
-    ends = " ".join(map(wire.endpoint_text, records[number - 1][1:3]))
-    return (f"0.000000000 {number} {ends} full {name}\n"
+    found = records[number - 1]
+    ends = " ".join(map(wire.endpoint_text, found[1:3]))
+    return (f"{found.time // SECOND}.{found.time % SECOND:09} {number} {ends} full {table}\n"
             f"audited {len(records)} datagrams, {messages} messages, 1 findings\nfull 1\n")

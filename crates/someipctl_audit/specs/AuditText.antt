@@ -32,7 +32,7 @@ line_of time origin s = head_text time origin ++ said_text s
 abbrev pub time_at : ℕ → Time
 time_at millis = record { seconds = millis / 1000; nanoseconds = millis % 1000 * 1000000 }
 
--- the datagram of what fell due: the one that opened it; of a call from where it is asked to where
+-- the datagram of what fell due: with the request, the first segment, the newest Offer or the Subscribe
 abbrev pub origin_of_due : FellDue → Origin
 origin_of_due (due.Unanswered told) = record { datagram = told.k; from = told.call.from; to = told.call.to }
 origin_of_due (due.Missing told) = record { datagram = told.k; from = told.key.source; to = told.key.destination }

@@ -3,11 +3,18 @@ use Rattle.std.specs.Prelude.{ℕ, [], ◌∷◌}
 use Rattle.std.specs.declared.net.socket_addr.SocketAddrV4.{SocketAddrV4}
 use Rattle.someip_wire.specs.declared.Header.{Header}
 use Rattle.someip_wire.specs.declared.MessageType.TheVariants.{Request}
+use Rattle.someip_reassembly.specs.declared.ReassemblyKey.{ReassemblyKey}
+use Rattle.someip_tables.specs.declared.Deadline.TheVariants.{At}
 use Rattle.audit_tables.specs.declared.Origin.{Origin}
+use Rattle.audit_calls.specs.declared.AuditedCall.{AuditedCall}
+use Rattle.audit_calls.specs.declared.Unanswered.{Unanswered as UnansweredCall}
 use Rattle.audit_events.specs.declared.EventFlow.{EventFlow}
+use Rattle.audit_offers.specs.declared.Expired.{Expired}
 use Rattle.audit_offers.specs.declared.OfferKey.{OfferKey}
 use Rattle.audit_receivers.specs.declared.Delivery.{Delivery}
+use Rattle.audit_segments.specs.declared.Missing.{Missing}
 use Rattle.audit_subscriptions.specs.declared.SubscriptionKey.{SubscriptionKey}
+use Rattle.audit_subscriptions.specs.declared.Unanswered.{Unanswered as UnansweredSubscribe}
 
 -- an endpoint of node n
 abbrev pub socket : ℕ → ℕ → SocketAddrV4
@@ -39,3 +46,35 @@ key_1 = record {
   eventgroup = 5;
   counter = 3;
 }
+
+-- what fell due: a call, a message in part, an offer and a Subscribe
+abbrev pub unanswered_1 : UnansweredCall
+unanswered_1 = record {
+  call = record { session = 2; client = 0x0101; method = 0x0421; service = 0x1234; from = socket 2 40001; to = socket 1 30509; interface = 1 };
+  k = 8;
+  since = 2500;
+  until = 4500;
+}
+
+abbrev pub missing_1 : Missing
+missing_1 = record {
+  key = record {
+    source = socket 1 30509;
+    destination = socket 2 40001;
+    service = 0x1234;
+    method = 0x0421;
+    client = 0x0101;
+    session = 2;
+    interface = 1;
+    kind = Request;
+    code = record { 0 = 0 };
+  };
+  k = 9;
+  until = 7000;
+}
+
+abbrev pub expired_1 : Expired
+expired_1 = record { at = 8003; key = offer_1; offer = record { endpoint = socket 1 30509; origin = origin_1; until = At 8003 } }
+
+abbrev pub subscribe_1 : UnansweredSubscribe
+subscribe_1 = record { at = 9000; key = key_1; origin = origin_1 }

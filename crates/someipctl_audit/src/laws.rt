@@ -10,12 +10,14 @@ ghost use Rattle.audit_offers.specs.declared.Finding.TheVariants as offers;
 ghost use Rattle.audit_receivers.specs.declared.Finding.TheVariants as receivers;
 ghost use Rattle.audit_sessions.specs.declared.Finding.TheVariants as sessions;
 ghost use Rattle.audit_subscriptions.specs.declared.Finding.TheVariants as subscriptions;
+ghost use Rattle.someip_audit.specs.declared.FellDue.TheVariants as due;
 ghost use Rattle.someip_audit.specs.declared.Finding.TheVariants as findings;
 ghost use Rattle.someip_audit.specs.Audits.{Report, Seen, found};
-ghost use Rattle.someipctl_audit.specs.AuditText.{found_line, summary_text};
+ghost use Rattle.someipctl_audit.specs.AuditText.{fell_line, found_line, summary_text};
 ghost use Rattle.someipctl_audit.specs.Said.{said, said_text};
 ghost use Rattle.someipctl_audit.specs.SeenIn.{AskedAudit, Tells, looked_of};
 ghost use Rattle.someipctl_audit.specs.TextScenes.{event_1, flow_1, header_1, key_1, offer_1, origin_1};
+ghost use Rattle.someipctl_audit.specs.TextScenes.{expired_1, missing_1, subscribe_1, unanswered_1};
 
 /// What the lines of findings say, by example.
 pub fn findings_have_texts()
@@ -52,12 +54,20 @@ pub fn findings_have_texts()
 {}
 
 /// Whole lines, by example: that of a finding has the time of its datagram, and that of what fell due its
-/// deadline, with the datagram that opened it.
+/// deadline, with the datagram of the request, the first segment, the newest Offer or the Subscribe.
 pub fn lines_have_a_time_and_a_datagram()
     ensures found { found_line (Some (record { seconds = 5; nanoseconds = 7 })) origin_1
         (findings.Session sessions.Reboot) ≡ codes "5.000000007 12 192.168.0.1:40000 192.168.0.2:30490 reboot\n" }
     ensures without_time { found_line None origin_1 (findings.Session sessions.Reboot)
         ≡ codes "- 12 192.168.0.1:40000 192.168.0.2:30490 reboot\n" }
+    ensures unanswered { fell_line (due.Unanswered unanswered_1)
+        ≡ codes "4.500000000 8 192.168.0.2:40001 192.168.0.1:30509 unanswered 1234.0421 client 0101 session 0002\n" }
+    ensures missing { fell_line (due.Missing missing_1)
+        ≡ codes "7.000000000 9 192.168.0.1:30509 192.168.0.2:40001 segments missing 1234.0421 client 0101 session 0002\n" }
+    ensures expired { fell_line (due.Expired expired_1)
+        ≡ codes "8.003000000 12 192.168.0.1:40000 192.168.0.2:30490 offer expired 1234.0001 major 02\n" }
+    ensures subscribe { fell_line (due.SubscribeUnanswered subscribe_1)
+        ≡ codes "9.000000000 12 192.168.0.1:40000 192.168.0.2:30490 subscribe unanswered 1234.0001 major 02 group 0005 counter 3\n" }
 {}
 
 /// The summary, by example: kinds that did not come are not named.

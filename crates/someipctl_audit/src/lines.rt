@@ -95,7 +95,7 @@ fn deadline_of(told: &FellDue) -> u64
     }
 }
 
-/// The datagram that opened what fell due.
+/// The datagram of what fell due: with the request, the first segment, the newest Offer or the Subscribe.
 fn origin_of_due(told: &FellDue) -> Origin
     ensures { result ≡ origin_of_due told.now }
 {

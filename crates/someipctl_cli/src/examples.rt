@@ -118,7 +118,7 @@ is printed for each thing that is not as it should be, as it is read, and at las
   TIME K FROM TO FINDING
 where TIME is in seconds since 1970, - where the recording has none, and K is the number of the datagram
 in the recording, counted from 1. Of what had no answer or did not come in time, TIME is when it was due,
-and K, FROM and TO are of the datagram that opened it. So the call
+and K, FROM and TO are of the request, the first segment, the newest Offer or the Subscribe. So the call
   someipctl audit examples/audit.pcap
 prints first
   1700000004.500000000 8 192.168.0.2:40001 192.168.0.1:30509 unanswered 1111.0421 client 0102 session 0002

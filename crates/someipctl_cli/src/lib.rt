@@ -1,7 +1,8 @@
 //! The command line of `someipctl`: what its words ask for, and how the program ends.
 //!
 //! What a command reads, does and prints stands in `someipctl_show`, of `recording` in
-//! `someipctl_recordings`, of `audit` in `someipctl_audit`, and of `run` in `someipctl_run`.
+//! `someipctl_recordings`, of `audit` in `someipctl_audit`, of `run` in `someipctl_run`, and of `chart` in
+//! `someipctl_chart`.
 //!
 //! - `command`, `help`: what the words ask for, and the answer to others;
 //! - `examples`: the text below each help;

@@ -5,4 +5,11 @@ use Rattle.someipctl_audit.proofs.laws.lines_have_a_time_and_a_datagram.Goals as
 
 pub returns : goal.returns
 unfolding digits encode_with
-returns c = record { found = refl; without_time = refl }
+returns c = record {
+  found = refl;
+  without_time = refl;
+  unanswered = refl;
+  missing = refl;
+  expired = refl;
+  subscribe = refl;
+}
