@@ -21,7 +21,7 @@ pub changed_some : (calls : Calls) (call : AuditedCall) (value : Known) (v : Opt
 changed_some calls call value None is anew = cc
 changed_some calls call value (Some what) is anew = let e : value ≡ what = cc in changed calls call value what e anew
 
--- a REQUEST is judged alike whether an answer before it is known or not
+-- a REQUEST leaves the same known of a call, whether an answer before it was known or not
 pub known_alike : (now : ℕ) (new : OpenCall) (v : Option Known) → known_by_request new (known_at now (unless_answered v)) ≡ known_by_request new (known_at now v)
 known_alike now new None = refl
 known_alike now new (Some (Open call)) = refl

@@ -167,8 +167,13 @@ module _ (asked : FinMap call_cmp Asked) (answered : FinMap call_cmp Answered) (
   pub known_elsewhere : (w : Option Answered) → None ≡ get asked k → w ≡ get answered k → option_map known_answered w ≡ get (all_calls asked answered) k
   known_elsewhere w none is = ap (option_map known_answered) is ∙ ap (λ u. known_by_both u (get answered k)) none ∙ sym (get-all asked answered k)
 
+  -- what is said of the table of those asked alone, and of what a call is known as
+  by_known : {X : Type 0} (says : Option Asked → X) (said : Option Known → X) → ((u : Option Asked) (w : Option Answered) → says u ≡ said (known_by_both u w))
+      → (u : Option Asked) → u ≡ get asked k → says u ≡ said (get (all_calls asked answered) k)
+  by_known says said by u is = by u (get answered k) ∙ ap (λ v. said (known_by_both v (get answered k))) is ∙ ap said (sym (get-all asked answered k))
+
   pub open_there : (u : Option Asked) → u ≡ get asked k → option_and_then waiting_of u ≡ open_of (get (all_calls asked answered) k)
-  open_there u is = by u (get answered k) ∙ ap (λ v. open_of (known_by_both v (get answered k))) is ∙ ap open_of (sym (get-all asked answered k))
+  open_there = by_known (option_and_then waiting_of) open_of by
     where
       by : (u : Option Asked) (w : Option Answered) → option_and_then waiting_of u ≡ open_of (known_by_both u w)
       by None None = refl
@@ -177,7 +182,7 @@ module _ (asked : FinMap call_cmp Asked) (answered : FinMap call_cmp Answered) (
       by (Some (Told since)) w = refl
 
   pub without_answer : (u : Option Asked) → u ≡ get asked k → option_map known_asked u ≡ unless_answered (get (all_calls asked answered) k)
-  without_answer u is = by u (get answered k) ∙ ap (λ v. unless_answered (known_by_both v (get answered k))) is ∙ ap unless_answered (sym (get-all asked answered k))
+  without_answer = by_known (option_map known_asked) unless_answered by
     where
       by : (u : Option Asked) (w : Option Answered) → option_map known_asked u ≡ unless_answered (known_by_both u w)
       by None None = refl

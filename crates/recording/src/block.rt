@@ -13,7 +13,7 @@ use crate::number::{ByteOrder, u32_at};
 pub(crate) const SECTION: u32 = 0x0a0d0d0a;
 
 /// What a block is.
-#[derive(Clone, Copy, Debug, PartialEq, Eq)]
+#[derive(Clone, Copy)]
 pub(crate) enum BlockKind {
     /// The head of a section.
     Section,
@@ -30,7 +30,7 @@ pub(crate) enum BlockKind {
 }
 
 /// A block.
-#[derive(Clone, Copy, Debug, PartialEq, Eq)]
+#[derive(Clone, Copy)]
 pub(crate) struct Block<'a> {
     /// What it is.
     pub(crate) kind: BlockKind,

@@ -11,7 +11,7 @@ use crate::packet::Packet;
 use crate::time::{Time, classic_time};
 
 /// The header of a file, but for what is not looked at.
-#[derive(Clone, Copy, Debug, PartialEq, Eq)]
+#[derive(Clone, Copy)]
 pub(crate) struct Classic {
     /// The order of all numbers.
     pub(crate) order: ByteOrder,

@@ -4,7 +4,7 @@ use crate::classic::Classic;
 use crate::number::ByteOrder;
 
 /// The format of a file, and what is known where a packet or a block begins.
-#[derive(Clone, Copy, Debug, PartialEq, Eq)]
+#[derive(Clone, Copy)]
 pub(crate) enum Format {
     /// Classic pcap, by its header.
     Classic(Classic),

@@ -23,7 +23,7 @@ pub(crate) const HELD_LEN: usize = 16_777_216;
 const INTERFACES: usize = 65_536;
 
 /// What held bytes tell from a place of a recording on.
-#[derive(Clone, Copy, Debug, PartialEq, Eq)]
+#[derive(Clone, Copy)]
 pub(crate) struct Told {
     /// The next packet, by where it lies in the held bytes, if they tell one.
     pub(crate) packet: Option<Packet>,

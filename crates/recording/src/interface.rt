@@ -5,7 +5,7 @@ ghost use Rattle.recording.specs.Interfaces.{interface_in, option_in, resolution
 use crate::number::{ByteOrder, u16_at, u32_at, u64_in};
 
 /// An interface.
-#[derive(Clone, Copy, Debug, PartialEq, Eq)]
+#[derive(Clone, Copy)]
 pub(crate) struct Interface {
     /// The link type of its packets.
     pub(crate) link: u16,

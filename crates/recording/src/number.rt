@@ -3,7 +3,7 @@ ghost use Rattle.std.specs.Prelude.{◌≡◌, ◌≤◌, ◌+◌, length};
 ghost use Rattle.recording.specs.Numbers.{network16, number16, number32, number64};
 
 /// In which order the bytes of a number stand.
-#[derive(Clone, Copy, Debug, PartialEq, Eq)]
+#[derive(Clone, Copy)]
 pub(crate) enum ByteOrder {
     /// The highest byte first.
     Big,

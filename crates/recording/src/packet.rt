@@ -21,7 +21,7 @@ const IPV4: u16 = 228;
 const COOKED_2: u16 = 276;
 
 /// A packet as it was captured, by where its bytes lie.
-#[derive(Clone, Copy, Debug, PartialEq, Eq)]
+#[derive(Clone, Copy)]
 pub(crate) struct Packet {
     /// When it was recorded, where that is said.
     pub(crate) time: Option<Time>,

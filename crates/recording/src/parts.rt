@@ -16,7 +16,7 @@ use crate::record::Record;
 use crate::section::take_block;
 
 /// A packet or a block at the front of bytes.
-#[derive(Clone, Copy, Debug, PartialEq, Eq)]
+#[derive(Clone, Copy)]
 pub(crate) struct Part {
     /// The packet that it is, or that is in it, if there is one.
     pub(crate) packet: Option<Packet>,
@@ -27,7 +27,7 @@ pub(crate) struct Part {
 }
 
 /// A record, and where its packet or block ends.
-#[derive(Clone, Copy, Debug, PartialEq, Eq)]
+#[derive(Clone, Copy)]
 pub(crate) struct Found<'a> {
     /// The record.
     pub(crate) record: Record<'a>,

@@ -3,7 +3,7 @@
 use crate::format::Format;
 
 /// How far a reader is in a recording.
-#[derive(Clone, Copy, Debug, PartialEq, Eq)]
+#[derive(Clone, Copy)]
 pub(crate) enum Stage {
     /// Before its first byte.
     Head,

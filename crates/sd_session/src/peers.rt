@@ -23,7 +23,7 @@ pub enum Seen {
 }
 
 /// The last stamp that a peer sent on each channel, if there is one.
-#[derive(Clone, Copy, Debug, PartialEq, Eq)]
+#[derive(Clone, Copy)]
 struct Stamps {
     multicast: Option<Stamp>,
     unicast: Option<Stamp>,

@@ -3,7 +3,7 @@
 use someip_world_exchanges::Naming;
 
 /// What a message or an entry says of an exchange.
-#[derive(Clone, Copy, Debug, PartialEq, Eq)]
+#[derive(Clone, Copy)]
 pub(crate) struct Said {
     /// The key that it names, and whose word it is.
     pub(crate) naming: Naming,

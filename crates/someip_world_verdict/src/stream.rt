@@ -10,7 +10,7 @@ use std::net::SocketAddrV4;
 
 /// A reassembly key, with its numbers in an order: by source and destination, and then by the fields of
 /// the header.
-#[derive(Clone, Copy, Debug, PartialEq, Eq, PartialOrd, Ord)]
+#[derive(Clone, Copy, PartialEq, Eq, PartialOrd, Ord)]
 pub(crate) struct Stream {
     /// The endpoint that sent the segments.
     pub(crate) source: SocketAddrV4,

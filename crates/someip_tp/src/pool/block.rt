@@ -4,7 +4,7 @@ ghost use Rattle.someip_tp.specs.Blocks.{is_held, other_end, AreTied, AreUpTo, I
 
 /// What is noted of 16 places of a message: offsets are multiples of 16, so intervals begin between
 /// two blocks.
-#[derive(Clone, Copy, Debug, PartialEq, Eq)]
+#[derive(Clone, Copy)]
 pub(crate) struct Block {
     /// The number of the message that the block is held for.
     pub(crate) message: u32,
