@@ -15,7 +15,7 @@ use std::alloc::{AllocError, Global};
 use std::marker::Model;
 
 /// What is known of a call without an answer.
-#[derive(Clone, Copy, PartialEq, Eq)]
+#[derive(Clone, Copy)]
 enum Asked {
     /// It waits for its answer.
     Waiting(OpenCall),
@@ -46,7 +46,7 @@ impl Asked {
 }
 
 /// What is known of a call with an answer: it is known until this moment, in milliseconds.
-#[derive(Clone, Copy, PartialEq, Eq)]
+#[derive(Clone, Copy)]
 struct Answered(u64);
 
 impl Waits for Asked {

@@ -5,7 +5,7 @@ ghost use Rattle.audit_calls.specs.KnownCalls.{known_at};
 use crate::excerpt::Excerpt;
 
 /// A call that waits for its answer.
-#[derive(Clone, Copy, PartialEq, Eq)]
+#[derive(Clone, Copy)]
 pub(crate) struct OpenCall {
     /// The number of the datagram with its REQUEST.
     pub(crate) k: u64,
@@ -18,7 +18,7 @@ pub(crate) struct OpenCall {
 }
 
 /// What is known of a call.
-#[derive(Clone, Copy, PartialEq, Eq)]
+#[derive(Clone, Copy)]
 pub(crate) enum Known {
     /// It waits for its answer.
     Open(OpenCall),

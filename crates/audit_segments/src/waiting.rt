@@ -2,7 +2,7 @@
 use someip_tables::Waits;
 
 /// A message that has come in part.
-#[derive(Clone, Copy, PartialEq, Eq)]
+#[derive(Clone, Copy)]
 pub(crate) struct Waiting {
     /// The number of the datagram with its first segment.
     pub(crate) k: u64,

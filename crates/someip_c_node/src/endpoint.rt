@@ -10,7 +10,7 @@ use std::net::{Ipv4Addr, SocketAddrV4};
 /// 10.0.0.2:40000    address = { 10, 0, 0, 2 }, port = 40000
 /// ```
 #[repr(C)]
-#[derive(Clone, Copy, Debug, PartialEq, Eq)]
+#[derive(Clone, Copy, PartialEq, Eq)]
 pub struct Endpoint {
     /// The four bytes of the address, as they are written.
     pub address: [u8; 4],

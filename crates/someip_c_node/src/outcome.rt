@@ -9,7 +9,7 @@ use someip_rpc::RpcError;
 
 /// How a call ended. All but `Done` are refusals; unless its doc says otherwise, a refused call
 /// changes nothing.
-#[derive(Clone, Copy, Debug, PartialEq, Eq)]
+#[derive(Clone, Copy, PartialEq, Eq)]
 pub enum Outcome {
     /// It was done.
     Done,

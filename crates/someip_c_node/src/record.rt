@@ -28,7 +28,7 @@ use std::net::{Ipv4Addr, SocketAddrV4};
 /// | 13 | `Rebooted` | `from` (the peer's address; its port is 0) |
 /// | 14 | `Dropped` | `reason`, `detail` |
 #[repr(C)]
-#[derive(Clone, Copy, Debug, PartialEq, Eq)]
+#[derive(Clone, Copy, PartialEq, Eq)]
 pub struct OutputRecord {
     /// Which output it is, from 1 to 14.
     pub kind: u32,

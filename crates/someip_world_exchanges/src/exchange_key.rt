@@ -9,7 +9,7 @@ use std::net::{Ipv4Addr, SocketAddrV4};
 
 /// The key of a call: its two endpoints, its Message ID and its Request ID (SOME/IP Protocol, "Request
 /// ID"). A request and what answers it agree in it.
-#[derive(Clone, Copy, Debug, PartialEq, Eq, PartialOrd, Ord)]
+#[derive(Clone, Copy, PartialEq, Eq, PartialOrd, Ord)]
 pub struct CallExchange {
     /// The endpoint of the client.
     pub client: SocketAddrV4,
@@ -28,7 +28,7 @@ impl Key for CallExchange {
 }
 
 /// The key of a publication: the endpoint that its event is sent from, its Message ID and its Request ID.
-#[derive(Clone, Copy, Debug, PartialEq, Eq, PartialOrd, Ord)]
+#[derive(Clone, Copy, PartialEq, Eq, PartialOrd, Ord)]
 pub struct EventExchange {
     /// The endpoint of the server.
     pub server: SocketAddrV4,
@@ -46,7 +46,7 @@ impl Key for EventExchange {
 
 /// The key of a subscription: the addresses of its client and its server, its eventgroup and its counter
 /// (SOME/IP Service Discovery, "Eventgroup Entry").
-#[derive(Clone, Copy, Debug, PartialEq, Eq, PartialOrd, Ord)]
+#[derive(Clone, Copy, PartialEq, Eq, PartialOrd, Ord)]
 pub struct SubscriptionExchange {
     /// The address of the client.
     pub client: Ipv4Addr,
@@ -63,7 +63,7 @@ impl Key for SubscriptionExchange {
 }
 
 /// The key of an exchange: two exchanges with the same key can be taken for each other.
-#[derive(Clone, Copy, Debug, PartialEq, Eq)]
+#[derive(Clone, Copy)]
 pub enum ExchangeKey {
     /// That of a call.
     Call(CallExchange),

@@ -3,7 +3,7 @@
 use crate::exchange_key::ExchangeKey;
 
 /// Which end of an exchange speaks.
-#[derive(Clone, Copy, Debug, PartialEq, Eq)]
+#[derive(Clone, Copy)]
 pub enum Side {
     /// The one that opened the exchange: who calls, publishes or subscribes.
     Opener,
@@ -12,7 +12,7 @@ pub enum Side {
 }
 
 /// A message or an entry names the key of an exchange, in the word of one of its ends.
-#[derive(Clone, Copy, Debug, PartialEq, Eq)]
+#[derive(Clone, Copy)]
 pub struct Naming {
     /// The key.
     pub key: ExchangeKey,

@@ -3,7 +3,7 @@ ghost use Rattle.std.specs.Prelude.{◌≡◌, ◌<◌};
 ghost use Rattle.someipctl_audit.specs.Kinds.{all_kinds, kind_number, kind_words};
 
 /// A kind of findings, as the summary of an audit names it.
-#[derive(Clone, Copy, Debug)]
+#[derive(Clone, Copy)]
 pub enum Kind {
     /// A message, a payload of Service Discovery or a segment that cannot be read.
     Malformed,

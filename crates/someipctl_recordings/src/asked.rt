@@ -19,7 +19,7 @@ pub struct Asked<'a> {
 }
 
 /// What bounds the messages that are put together from their segments.
-#[derive(Clone, Copy, Debug, PartialEq, Eq)]
+#[derive(Clone, Copy, PartialEq, Eq)]
 pub struct WholeLimits {
     /// How many messages may have come in part at once.
     pub slots: usize,

@@ -7,7 +7,7 @@ use std::fmt;
 
 /// How many packets of a recording give no datagram, by kind. Printed, it names the kinds that came, in
 /// this order, as in `left out 3 fragmented, 2 cut short`.
-#[derive(Clone, Copy, Debug, PartialEq, Eq)]
+#[derive(Clone, Copy, PartialEq, Eq)]
 pub struct LeftOut {
     /// Packets of a link type that is not read.
     pub link_type: usize,

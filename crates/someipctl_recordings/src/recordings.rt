@@ -43,7 +43,7 @@ pub enum RecordingFault {
 }
 
 /// How showing a recording ended.
-#[derive(Clone, Copy, Debug, PartialEq, Eq)]
+#[derive(Clone, Copy, PartialEq, Eq)]
 pub struct ShownRecording {
     /// Whether a fault of a message was shown.
     pub outcome: Outcome,

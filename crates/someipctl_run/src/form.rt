@@ -5,7 +5,7 @@ ghost use Rattle.someipctl_run.specs.Traces.{pointed, shown_lines};
 use someip_world::{Line, Reuse, SetupNode};
 
 /// What stands before the lines of a trace.
-#[derive(Clone, Copy, Debug, PartialEq, Eq)]
+#[derive(Clone, Copy, PartialEq, Eq)]
 pub enum TraceForm {
     /// Nothing.
     Plain,

@@ -6,7 +6,7 @@ use someipctl_io::CannotWrite;
 use std::alloc::AllocError;
 
 /// Why a text was not printed whole.
-#[derive(Clone, Copy, Debug, PartialEq, Eq)]
+#[derive(Clone, Copy)]
 pub enum PrintFault {
     /// Writing failed, or took nothing.
     CannotWrite,
