@@ -1,5 +1,6 @@
 //! Which row of a picture is whose.
 
+use someip_texts::is_left_out;
 use someip_world::Line;
 use std::alloc::{AllocError, Global};
 
@@ -101,7 +102,7 @@ fn rows_of_lines(
 pub(crate) fn step_texts(alloc: Global, text: &[u8]) -> Result<Vec<&[u8]>, AllocError> {
     let mut texts = Vec::new(alloc);
     for line in text.split(|b| *b == b'\n') {
-        if !matches!(line, [] | [b'#', ..]) {
+        if !is_left_out(line) {
             texts.push(line)?;
         }
     }

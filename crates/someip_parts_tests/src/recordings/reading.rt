@@ -119,7 +119,7 @@ pub(super) const READERS: &[Reading] = &[
         back: BIG_SECTION,
         wanted: &[],
     },
-    // Packets that pass what is read at once.
+    // Three small packets, and a byte of one more.
     Reading {
         front: CLASSIC,
         block: &[
