@@ -152,6 +152,22 @@ const DROPPED: &[At] = &[
     At(0, Answered(30509, ANSWER, Ok(KEY))),
 ];
 
+/// A RESPONSE with a code that has no name answers too.
+const OTHER_CODE: &[At] = &[
+    At(0, Call(CallKind::Request, &[], true, Ok(1))),
+    At(
+        0,
+        Answered(
+            30509,
+            Header {
+                code: ReturnCode(0x20),
+                ..ANSWER
+            },
+            Ok(KEY),
+        ),
+    ),
+];
+
 /// A call that waits for 2000 milliseconds, and its answer then.
 const WAITING: &[At] = &[
     At(0, Call(CallKind::Request, &[], true, Ok(1))),
@@ -331,6 +347,7 @@ fn clears(core: &mut ClientCore) -> bool {
 const TABLES: &[(&str, &[At])] = &[
     ("ONE_CALL", ONE_CALL),
     ("DROPPED", DROPPED),
+    ("OTHER_CODE", OTHER_CODE),
     ("WAITING", WAITING),
     ("ROUND", ROUND),
     ("CROWDED", CROWDED),
