@@ -9,7 +9,7 @@ ghost use Rattle.someipctl_audit.specs.AuditText.{Looked};
 ghost use Rattle.someipctl_audit.specs.Runs.{PutsAudit, PutsDatagram, PutsEnd, PutsLast, PutsNext, PutsRecord};
 ghost use Rattle.someipctl_audit.specs.Runs.{StopsDatagram, StopsEnd, StopsLast, StopsNext, StopsRecord};
 ghost use Rattle.someipctl_audit.specs.Scenes.{view_seen};
-ghost use Rattle.someipctl_audit.specs.SeenIn.{none_looked, seen_next};
+ghost use Rattle.someipctl_audit.specs.SeenIn.{audit_at, none_looked, seen_next};
 ghost use Rattle.someipctl_audit.specs.Tallies.{Counts};
 
 use crate::asked::AuditAsked;
@@ -26,7 +26,7 @@ use someipctl_recordings::coming::{Coming, next_coming};
 use someipctl_recordings::gathering::socket_of;
 use someipctl_recordings::moments::moment_of;
 use someipctl_recordings::{LeftOut, RecordingFault, ShownRecording};
-use std::alloc::Global;
+use std::alloc::{AllocError, Global};
 use std::io::{Read, Write};
 
 /// What is kept from datagram to datagram.
@@ -72,14 +72,31 @@ pub fn show_audit<S: Reassembly + Drop, R: Read, W: Write>(
         (W.contents writer.old) (W.contents writer.new)) }
 {
     let mut buffer = Buffer::new(alloc)?;
+    let shown = put_from_start::<S, R, W>(alloc, source, asked, &mut buffer, writer)?;
+    buffer.flush(writer)?;
+    Ok(shown)
+}
+
+/// Prints the audit of a recording, from before its first datagram.
+fn put_from_start<S: Reassembly + Drop, R: Read, W: Write>(
+    alloc: Global,
+    source: &mut R,
+    asked: &AuditAsked<'_>,
+    buffer: &mut Buffer,
+    writer: &mut W,
+) -> Result<ShownRecording, RecordingFault>
+    requires empty { buffer.old ≡ [] }
+    ensures puts { IfOk result (λ shown. PutsAudit (R.remaining source.old) (view_asked asked.now)
+        shown (W.contents writer.old) (W.contents writer.new) buffer.new) }
+    ensures begun { OnErr result (BeginsAudit (R.remaining source.old) (view_asked asked.now)
+        (W.contents writer.old) (W.contents writer.new)) }
+{
     let mut auditing = Auditing::<S> {
         alloc,
         audit: None,
         findings: Vec::new(alloc),
     };
-    let shown = put_audit(source, asked, &mut auditing, &mut buffer, writer)?;
-    buffer.flush(writer)?;
-    Ok(shown)
+    put_audit(source, asked, &mut auditing, buffer, writer)
 }
 
 /// Prints the audit of a recording.
@@ -208,37 +225,31 @@ fn put_next<S: Reassembly + Drop, W: Write>(
         (W.contents writer.old) buffer.old (W.contents writer.new)) }
 {
     let alloc = auditing.alloc;
+    if auditing.audit.is_none() {
+        begin_with(&mut auditing.audit, alloc, asked, seen)?;
+    }
     let findings = &mut auditing.findings;
     match &mut auditing.audit {
         Some(audit) => put_seen(buffer, writer, alloc, audit, seen, findings, tally),
-        audit => {
-            *audit = Some(begun_with(buffer, writer, asked, seen, alloc, findings, tally)?);
-            Ok(())
-        }
+        None => unreachable!(),
     }
 }
 
-/// Begins an audit with a datagram, and prints what is told of it. This happens once, so it stands apart from
-/// the way of all other datagrams.
+/// Begins an audit at the moment of a datagram. This happens once, so it stands apart from the way of all
+/// other datagrams.
 #[cold]
 #[inline(never)]
-fn begun_with<S: Reassembly + Drop, W: Write>(
-    buffer: &mut Buffer,
-    writer: &mut W,
+fn begin_with<S: Reassembly + Drop>(
+    audit: &mut Option<Audit<S>>,
+    alloc: Global,
     asked: &AuditAsked<'_>,
     seen: &SeenDatagram<'_>,
-    alloc: Global,
-    findings: &mut Vec<Finding>,
-    tally: &mut Tally,
-) -> Result<Audit<S>, RecordingFault>
-    ensures puts { IfOk result (λ audit. PutsNext (view_asked asked.now) seen.entry.now None (Some audit)
-        tally.old tally.new (W.contents writer.old) buffer.old (W.contents writer.new) buffer.new) }
-    ensures stops { OnErr result (StopsNext (view_asked asked.now) seen.entry.now None
-        (W.contents writer.old) buffer.old (W.contents writer.new)) }
+) -> Result<(), AllocError>
+    ensures begun { OnOk result (audit.new ≡ Some (audit_at (view_asked asked.now) None (view_seen seen.entry.now))) }
+    ensures same { OnErr result (audit.new ≡ audit.old) }
 {
-    let mut audit = Audit::begin(alloc, &asked.rules, asked.ports, seen.now)?;
-    put_seen(buffer, writer, alloc, &mut audit, seen, findings, tally)?;
-    Ok(audit)
+    *audit = Some(Audit::begin(alloc, &asked.rules, asked.ports, seen.now)?);
+    Ok(())
 }
 
 /// Prints what fell due by the last moment, and the summary.
