@@ -31,6 +31,14 @@ const RECORDING_USAGE: &str = "recording [OPTIONS] <FILE>";
 
 const AUDIT_USAGE: &str = "audit [OPTIONS] <RECORDING>";
 
+/// Which datagrams of a recording are shown, and whether messages are put together.
+#[derive(Clone, Copy)]
+struct Filter<'a> {
+    ports: Option<&'a [u16]>,
+    services: Option<&'a [AskedService]>,
+    whole: Option<WholeLimits>,
+}
+
 /// The program: does what its arguments ask for, tells on standard error what kept it from that, and gives the
 /// exit status.
 pub fn answer<R: Env + Files + Print + Eprint + Input + AllocGlobal>(rt: &R) -> u8 {
@@ -135,14 +143,28 @@ fn show_recorded<'p, R: Files + Print + Eprint + Input + AllocGlobal>(
 ) -> Result<Outcome, Failure<'p>> {
     let ports = ports_of(rt, options.ports, RECORDING_USAGE)?;
     let services = services_of(rt, options.service, RECORDING_USAGE)?;
-    let whole = whole_of(&options)?;
-    let types = types_at(rt, options.types)?;
-    let asked = Asked {
+    let filter = Filter {
         ports: ports.as_deref(),
         services: services.as_deref(),
+        whole: whole_of(&options)?,
+    };
+    show_filtered(rt, path, options, &filter)
+}
+
+/// The same, where the options are right.
+fn show_filtered<'p, R: Files + Print + Eprint + Input + AllocGlobal>(
+    rt: &R,
+    path: &'p str,
+    options: RecordingOptions<'p>,
+    filter: &Filter<'_>,
+) -> Result<Outcome, Failure<'p>> {
+    let types = types_at(rt, options.types)?;
+    let asked = Asked {
+        ports: filter.ports,
+        services: filter.services,
         types: &types,
         endpoints: options.endpoints,
-        whole,
+        whole: filter.whole,
     };
     end_recording(rt, show_recording_at(rt, path, &asked)?)
 }
@@ -303,10 +325,10 @@ fn run_files<'p, R: Files + Print + AllocGlobal>(
         return compare_files(rt, &network, schedule, trace, form);
     }
     let mut file = open_file(rt, schedule)?;
-    run_schedule_in_form(rt.alloc(), &network, form, &mut file, &mut io::writer(rt)).map_err(
-        |fault| Failure::of_run(fault, schedule),
-    )?;
-    Ok(Outcome::Done)
+    match run_schedule_in_form(rt.alloc(), &network, form, &mut file, &mut io::writer(rt)) {
+        Ok(()) => Ok(Outcome::Done),
+        Err(fault) => Err(Failure::of_run(fault, schedule)),
+    }
 }
 
 /// Runs a schedule over a setup, and compares its trace with the one that a file expects.
@@ -341,10 +363,10 @@ fn chart_files<'p, R: Files + Print + AllocGlobal>(
 ) -> Result<Outcome, Failure<'p>> {
     let network = setup_at(rt, setup)?;
     let mut file = open_file(rt, schedule)?;
-    chart_schedule(rt.alloc(), &network, &mut file, &mut io::writer(rt)).map_err(
-        |fault| Failure::of_run(fault, schedule),
-    )?;
-    Ok(Outcome::Done)
+    match chart_schedule(rt.alloc(), &network, &mut file, &mut io::writer(rt)) {
+        Ok(()) => Ok(Outcome::Done),
+        Err(fault) => Err(Failure::of_run(fault, schedule)),
+    }
 }
 
 /// The setup of the file at a path.
