@@ -1,5 +1,6 @@
 pub mod PutsLemmas
 pub mod TallyLemmas
 pub mod StepLemmas
+pub mod SeenLemmas
 pub mod RunLemmas
 pub mod OneAudit

@@ -5,6 +5,7 @@
 //! `someipctl_chart`.
 //!
 //! - `command`, `help`: what the words ask for, and the answer to others;
+//! - `grammar`: the commands with their arguments, as `clap` is told of them;
 //! - `examples`: the text below each help;
 //! - `program`: the words, the files that they name, and the exit status;
 //! - `failure`: why the program failed, with its exit status and its text;
@@ -14,6 +15,7 @@
 mod command;
 mod examples;
 mod failure;
+mod grammar;
 mod help;
 pub mod laws;
 mod program;

@@ -1,4 +1,4 @@
-use Rattle.someipctl_cli.proofs.command.definition.Goals as goal
+use Rattle.someipctl_cli.proofs.grammar.definition.Goals as goal
 
 pub returns : goal.returns
 returns c =

@@ -1,4 +1,4 @@
-use Rattle.someipctl_cli.proofs.command.add_filters.Goals as goal
+use Rattle.someipctl_cli.proofs.grammar.add_filters.Goals as goal
 
 pub returns-clause-app : goal.returns-clause-app
 returns-clause-app c app is =

@@ -3,7 +3,7 @@ use Rattle.std.specs.Prelude.{codes}
 use Rattle.clap.specs.Words.{new_app}
 use Rattle.someipctl_cli.specs.CommandLine.{flag, required, valued}
 use Rattle.someipctl_cli.proofs.CommandLineLemmas.{shape_from_app}
-use Rattle.someipctl_cli.proofs.command.recording_definition.Goals as goal
+use Rattle.someipctl_cli.proofs.grammar.recording_definition.Goals as goal
 
 pub returns-clause-shape : goal.returns-clause-shape
 returns-clause-shape c =
