@@ -5,8 +5,6 @@ use Rattle.std.specs.List.{flat_map}
 use Rattle.someip_wire.specs.declared.error.WireError.{WireError}
 use Rattle.someip_wire.specs.Spelling.{MessageValue, spelling}
 use Rattle.someip_wire.specs.Datagram.{Datagram, items}
-use Rattle.std.proofs.lemmas.List.{append-nil}
-use Rattle.someip_wire.proofs.MessageLemmas.{length_spelled}
 use Rattle.sd_wire.specs.declared.error.SdError.{SdError}
 use Rattle.sd_wire.specs.decoding.Faults.{fault_place}
 use Rattle.sd_wire.specs.decoding.Program.{reading}
@@ -38,10 +36,6 @@ items_within_datagram datagram given found =
 pub count_fits : (item : Result MessageValue WireError) → item_count item ≤ item_len item
 count_fits (Ok message) = omega arith
 count_fits (Err fault) = omega arith
-
--- a message is its header and its payload
-pub message_len : (m : MessageValue) → item_len (Ok m) ≡ 16 + length m.payload
-message_len m = ap length (sym (append-nil (spelling m))) ∙ (length_spelled m [] ∙ (let z : 16 + length m.payload + 0 ≡ 16 + length m.payload = omega arith in z))
 
 -- a fault of a payload lies in its datagram
 pub fault_fits : (place top : ℕ) (payload : List ℕ) (fault : SdError) → reading payload ≡ Err fault → place + length payload ≤ top → place + fault_place fault ≤ top

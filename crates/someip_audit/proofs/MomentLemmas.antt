@@ -73,10 +73,6 @@ after_it d at (Some x) b is apart come = cases (nat_le at x) refl
     cases true h = grind (arith, nat_tests, le, apart_from, come)
     cases false h = grind (arith, nat_tests, le)
 
-pub soonest_come : (now at : ℕ) (next : Option ℕ) → next ≡ Some at → at ≤ now → soonest now next ≡ at
-soonest_come now at None is come = cc
-soonest_come now at (Some x) is come = let e : x ≡ at = cc in let t : nat_le x now ≡ true = grind (arith, nat_tests) in rw t e
-
 pub soonest_le_now : (now : ℕ) (next : Option ℕ) → soonest now next ≤ now
 soonest_le_now now None = omega arith
 soonest_le_now now (Some x) = cases (nat_le x now) refl

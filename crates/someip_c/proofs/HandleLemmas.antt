@@ -8,7 +8,7 @@ use Rattle.someip_c_node.specs.Outcomes.{number_of, outcome_of}
 use Rattle.someip_node_rules.specs.histories.History.{History}
 use Rattle.someip_node_rules.specs.steps.Steps.{StandsFor}
 use Rattle.someip_node_rules.specs.steps.Waking.{IsNextDue}
-use Rattle.someip_c.specs.Handles.{Asks, Closes, OnNode, Starts, StartsTo, Tells}
+use Rattle.someip_c.specs.Handles.{Asks, OnNode, Starts, StartsTo, Tells}
 
 -- the number of an outcome tells it
 pub decodes : (o : Outcome) → outcome_of (number_of o) ≡ Some o
@@ -61,11 +61,6 @@ starts old text name delay number new o was is s =
 pub held : (old : Option CNodeView) (text name : List ℕ) (delay number : ℕ) (new : Option CNodeView) (c : CNodeView)
     → old ≡ Some c → number ≡ number_of Held → new ≡ Some c → Starts old text name delay number new
 held old text name delay number new c was is now = subst (λ v. Starts v text name delay number new) (sym was) (is, now)
-
--- ---- ends
-
-pub closes : (old : Option CNodeView) (number : ℕ) (c : CNodeView) → old ≡ Some c → number ≡ number_of Done → Closes old number
-closes old number c was is = subst (λ v. Closes v number) (sym was) is
 
 -- ---- a node that was lent
 
