@@ -36,6 +36,16 @@ struct Settings {
     limit: usize,
 }
 
+/// An event that is to be published.
+#[derive(Clone, Copy)]
+struct ToPublish<'p> {
+    /// What its publication is bound by.
+    settings: Settings,
+    /// The event's ID.
+    event: u16,
+    payload: &'p [u8],
+}
+
 impl<R: Reassembly> Engine<R> {
     /// Publishes an event to each live endpoint of its eventgroups.
     pub fn publish(
@@ -50,6 +60,11 @@ impl<R: Reassembly> Engine<R> {
         ensures config { self.new.config ≡ self.old.config }
     {
         let settings = self.settings(instance);
+        let asked = ToPublish {
+            settings,
+            event,
+            payload,
+        };
         let Some(service) = self.config.offers.get(&instance) else {
             return Err(NodeError::Rpc(RpcError::NotOffered));
         };
@@ -58,9 +73,7 @@ impl<R: Reassembly> Engine<R> {
             &self.subscribers,
             self.clock,
             service,
-            settings,
-            event,
-            payload,
+            asked,
             &mut giving.outputs,
         )
     }
@@ -80,6 +93,11 @@ impl<R: Reassembly> Engine<R> {
         ensures config { self.new.config ≡ self.old.config }
     {
         let settings = self.settings(instance);
+        let asked = ToPublish {
+            settings,
+            event,
+            payload,
+        };
         let subscriber = self.subscriber_at(instance, eventgroup, endpoint);
         let Some(service) = self.config.offers.get(&instance) else {
             return Err(NodeError::Rpc(RpcError::NotOffered));
@@ -87,10 +105,8 @@ impl<R: Reassembly> Engine<R> {
         publish_to_by(
             &mut self.server,
             service,
-            settings,
+            asked,
             subscriber,
-            event,
-            payload,
             &mut giving.outputs,
         )
     }
@@ -135,32 +151,23 @@ fn publish_by(
     subscribers: &Subscribers,
     now: Moment,
     service: &OfferedService,
-    settings: Settings,
-    event: u16,
-    payload: &[u8],
+    asked: ToPublish<'_>,
     outputs: &mut Vec<Output>,
 ) -> Result<(), NodeError>
-    requires { settings.limit ≤ greatest_message_limit }
-    ensures { Publishes service.now.rules settings.is_up settings.limit event payload.now
-        (endpoints_of settings.instance (eventgroups_of service.now event)
+    requires { asked.settings.limit ≤ greatest_message_limit }
+    ensures { Publishes service.now.rules asked.settings.is_up asked.settings.limit asked.event asked.payload.now
+        (endpoints_of asked.settings.instance (eventgroups_of service.now asked.event)
         (unexpired now subscribers.now)) server.old outputs.old.items result server.new outputs.new.items }
 {
     let publication = server.publish(
         &service.rules,
-        settings.is_up,
-        settings.limit,
-        event,
-        payload,
+        asked.settings.is_up,
+        asked.settings.limit,
+        asked.event,
+        asked.payload,
     )?;
-    let endpoints = live_endpoints(
-        subscribers,
-        settings.alloc,
-        service,
-        settings.instance,
-        event,
-        now,
-    )?;
-    send_all(settings.alloc, &publication, &endpoints, outputs)?;
+    let endpoints = live_endpoints(subscribers, now, service, asked)?;
+    send_all(asked.settings.alloc, &publication, &endpoints, outputs)?;
     Ok(())
 }
 
@@ -168,42 +175,38 @@ fn publish_by(
 fn publish_to_by(
     server: &mut ServerCore,
     service: &OfferedService,
-    settings: Settings,
+    asked: ToPublish<'_>,
     subscriber: Subscriber,
-    event: u16,
-    payload: &[u8],
     outputs: &mut Vec<Output>,
 ) -> Result<(), NodeError>
-    requires { settings.limit ≤ greatest_message_limit }
-    ensures { PublishesTo service.now.rules settings.is_up settings.limit subscriber event
-        payload.now server.old outputs.old.items result server.new outputs.new.items }
+    requires { asked.settings.limit ≤ greatest_message_limit }
+    ensures { PublishesTo service.now.rules asked.settings.is_up asked.settings.limit subscriber asked.event
+        asked.payload.now server.old outputs.old.items result server.new outputs.new.items }
 {
     let sent = server.publish_to(
         &service.rules,
-        settings.is_up,
-        settings.limit,
+        asked.settings.is_up,
+        asked.settings.limit,
         &subscriber,
-        event,
-        payload,
+        asked.event,
+        asked.payload,
     )?;
-    send(settings.alloc, sent.from, sent.to, &sent.message, outputs)?;
+    send(asked.settings.alloc, sent.from, sent.to, &sent.message, outputs)?;
     Ok(())
 }
 
 /// The endpoints that an event of an instance goes to.
 fn live_endpoints(
     subscribers: &Subscribers,
-    alloc: Global,
-    service: &OfferedService,
-    instance: InstanceId,
-    event: u16,
     now: Moment,
+    service: &OfferedService,
+    asked: ToPublish<'_>,
 ) -> Result<BTreeSet<SocketAddrV4>, AllocError>
-    ensures { IfOk result (λ endpoints. endpoints.keys ≡ endpoints_of instance
-        (eventgroups_of service.now event) (unexpired now subscribers.now)) }
+    ensures { IfOk result (λ endpoints. endpoints.keys ≡ endpoints_of asked.settings.instance
+        (eventgroups_of service.now asked.event) (unexpired now subscribers.now)) }
 {
-    let eventgroups = eventgroups_of(alloc, service, event)?;
-    subscribers.live(instance, &eventgroups, now)
+    let eventgroups = eventgroups_of(asked.settings.alloc, service, asked.event)?;
+    subscribers.live(asked.settings.instance, &eventgroups, now)
 }
 
 /// The eventgroups that an event belongs to.

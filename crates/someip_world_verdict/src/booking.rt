@@ -24,6 +24,19 @@ use someip_world_steps::Step;
 use std::alloc::{AllocError, Global};
 use std::collections::BTreeMap;
 
+/// A step of a run, with what it gave.
+#[derive(Clone, Copy)]
+pub(crate) struct DoneStep<'d> {
+    /// The configuration of the node that it names.
+    pub(crate) config: &'d Config,
+    /// Its index: steps count from 0.
+    pub(crate) index: usize,
+    /// The step.
+    pub(crate) step: &'d Step,
+    /// The lines that tell what was given.
+    pub(crate) lines: &'d [Line],
+}
+
 /// What is kept of the datagram of a number: they count from 1.
 pub(crate) fn note_at(notes: &[Note], number: u64) -> Option<&Note>
     ensures { option_map (λ note. view_note note.now) result ≡ note_at (view_notes notes.now) number }
@@ -180,38 +193,36 @@ fn note_of(alloc: Global, sending: Sending, datagram: &Datagram<'_>) -> Result<N
     })
 }
 
-/// A step that was not refused is done at a node.
+/// A step that was not refused is done at a node. The number is that of the payload of the message that its
+/// datagrams may be segments of.
 pub(crate) fn book_at(
     alloc: Global,
-    config: &Config,
-    step: &Step,
-    index: usize,
+    done: DoneStep<'_>,
     payload: Option<usize>,
     taken: &mut Taken,
     notes: &mut Vec<Note>,
     life: &mut Life,
-    lines: &[Line],
 ) -> Result<(), AllocError>
     ensures taken { OnOk result (view_taken taken.new
-        ≡ (openings_after config.now (view_notes notes.old.items) (view_taken taken.old)
-        (view_life life.old) index step.now lines.now).taken) }
+        ≡ (openings_after done.config.now (view_notes notes.old.items) (view_taken taken.old)
+        (view_life life.old) done.index done.step.now done.lines.now).taken) }
     ensures life { OnOk result (view_life life.new
-        ≡ life_after config.now (view_notes notes.old.items) (view_life life.old) step.now lines.now
-        (openings_after config.now (view_notes notes.old.items) (view_taken taken.old)
-        (view_life life.old) index step.now lines.now).counters) }
+        ≡ life_after done.config.now (view_notes notes.old.items) (view_life life.old) done.step.now done.lines.now
+        (openings_after done.config.now (view_notes notes.old.items) (view_taken taken.old)
+        (view_life life.old) done.index done.step.now done.lines.now).counters) }
     ensures notes { OnOk result (view_notes notes.new.items ≡ view_notes notes.old.items
-        ++ notes_of index (answered_in (view_notes notes.old.items) (view_life life.old) step.now)
-        payload (datagrams_in lines.now)) }
+        ++ notes_of done.index (answered_in (view_notes notes.old.items) (view_life life.old) done.step.now)
+        payload (datagrams_in done.lines.now)) }
 {
-    let answers = answered_in(notes, life, step);
-    let publication = publication_in(config, life, step);
-    live_on(alloc, notes, life, step)?;
-    publish(taken, life, index, publication)?;
-    hand_up(&mut life.tokens, answers, lines)?;
+    let answers = answered_in(notes, life, done.step);
+    let publication = publication_in(done.config, life, done.step);
+    live_on(alloc, notes, life, done.step)?;
+    publish(taken, life, done.index, publication)?;
+    hand_up(&mut life.tokens, answers, done.lines)?;
     let sending = Sending {
-        step: index,
+        step: done.index,
         answers,
         payload,
     };
-    note_all(alloc, taken, &mut life.counters, notes, sending, lines)
+    note_all(alloc, taken, &mut life.counters, notes, sending, done.lines)
 }

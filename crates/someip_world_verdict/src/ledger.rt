@@ -6,15 +6,13 @@ ghost use Rattle.someip_world_verdict.specs.Judging.{first_book};
 ghost use Rattle.someip_world_verdict.specs.Views.{view_book, view_life, view_lives};
 ghost use Rattle.someip_world_verdict.specs.declared.life.Life.{Life};
 
-use crate::booking::{book_at, note_at};
+use crate::booking::{DoneStep, book_at, note_at};
 use crate::breach::is_breach;
 use crate::life::Life;
 use crate::note::Note;
 use crate::numbers::number_long;
 use crate::taken::Taken;
 use crate::telling::is_refused;
-use someip_node_rules::Config;
-use someip_world_rules::Line;
 use someip_world_setup::SetupNode;
 use someip_world_steps::Step;
 use std::alloc::{AllocError, Global};
@@ -60,39 +58,33 @@ impl Ledger {
         }
     }
 
-    /// A step of an index is done at the node or the liar of a place, and told by some lines.
+    /// A step is done at the node or the liar of a place.
     pub(crate) fn book(
         &mut self,
         alloc: Global,
-        config: &Config,
-        index: usize,
         place: usize,
-        step: &Step,
-        lines: &[Line],
+        done: DoneStep<'_>,
     ) -> Result<(), AllocError>
         requires { place < length self.old.lives.items }
         ensures { OnOk result ((life : Life) → slice_get self.old.lives.items place ≡ Some life
-            → view_book self.new ≡ booked config.now index place step.now lines.now (view_life life)
-            (view_book self.old)) }
+            → view_book self.new ≡ booked done.config.now done.index place done.step.now done.lines.now
+            (view_life life) (view_book self.old)) }
     {
-        if is_refused(lines) {
+        if is_refused(done.lines) {
             return Ok(());
         }
-        if let Step::Inject { .. } = step {
-            self.notes.push(Note::mute(alloc, index))?;
+        if let Step::Inject { .. } = done.step {
+            self.notes.push(Note::mute(alloc, done.index))?;
             return Ok(());
         }
-        let payload = number_long(alloc, &mut self.payloads, index, step)?;
+        let payload = number_long(alloc, &mut self.payloads, done.index, done.step)?;
         book_at(
             alloc,
-            config,
-            step,
-            index,
+            done,
             payload,
             &mut self.taken,
             &mut self.notes,
             &mut self.lives[place],
-            lines,
         )?;
         Ok(())
     }

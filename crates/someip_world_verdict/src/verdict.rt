@@ -3,6 +3,7 @@ ghost use Rattle.std.specs.Prelude.{◌≡◌, IfOk};
 ghost use Rattle.someip_world_exchanges.specs.CleanReuse.{IsVerdictOn};
 ghost use Rattle.someip_world_verdict.specs.Judging.{judged};
 
+use crate::booking::DoneStep;
 use crate::ledger::Ledger;
 use crate::telling::own_count;
 use someip_world_rules::run_laws::all_that_a_setup_gives_fits;
@@ -56,7 +57,13 @@ fn judge(
         if ledger.breaks(timeout_ms, &ledger.lives[place], step) {
             return Ok(Reuse::Broken(done + 1));
         }
-        ledger.book(alloc, config, done, place, step, own)?;
+        let given = DoneStep {
+            config,
+            index: done,
+            step,
+            lines: own,
+        };
+        ledger.book(alloc, place, given)?;
         rest = others;
     }
     Ok(Reuse::Clean)

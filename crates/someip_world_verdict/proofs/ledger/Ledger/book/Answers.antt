@@ -9,10 +9,10 @@ use Rattle.someip_world_verdict.proofs.ledger.Ledger.book.Goals as goal
 
 pub returns : goal.returns
 returns c = λ life here.
-    let config = c.args.config.now in
-    let n = c.args.index in
-    let step = c.args.step.now in
-    let lines = c.args.lines.now in
+    let config = c.args.done.config.now in
+    let n = c.args.done.index in
+    let step = c.args.done.step.now in
+    let lines = c.args.done.lines.now in
     let book = view_book c.args.self.now in
     let same : c.index_mut.result.now ≡ life = c.index_mut.ensures.value ∙ get_or_from_slice_get c.args.self.now.lives.items c.args.place life _ here in
     booked_so config n c.args.place step lines (view_life life) book _ (sym c.is_refused.ensures ∙ c.if-is_refused.false) (no_injection step c.in_default.not-Inject)
