@@ -155,8 +155,8 @@ fn publish_by(
     outputs: &mut Vec<Output>,
 ) -> Result<(), NodeError>
     requires { asked.settings.limit ≤ greatest_message_limit }
-    ensures { Publishes service.now.rules asked.settings.is_up asked.settings.limit asked.event asked.payload.now
-        (endpoints_of asked.settings.instance (eventgroups_of service.now asked.event)
+    ensures { Publishes service.now.rules asked.entry.settings.is_up asked.entry.settings.limit asked.entry.event asked.entry.payload.now
+        (endpoints_of asked.entry.settings.instance (eventgroups_of service.now asked.entry.event)
         (unexpired now subscribers.now)) server.old outputs.old.items result server.new outputs.new.items }
 {
     let publication = server.publish(
@@ -180,8 +180,8 @@ fn publish_to_by(
     outputs: &mut Vec<Output>,
 ) -> Result<(), NodeError>
     requires { asked.settings.limit ≤ greatest_message_limit }
-    ensures { PublishesTo service.now.rules asked.settings.is_up asked.settings.limit subscriber asked.event
-        asked.payload.now server.old outputs.old.items result server.new outputs.new.items }
+    ensures { PublishesTo service.now.rules asked.entry.settings.is_up asked.entry.settings.limit subscriber asked.entry.event
+        asked.entry.payload.now server.old outputs.old.items result server.new outputs.new.items }
 {
     let sent = server.publish_to(
         &service.rules,
@@ -191,7 +191,13 @@ fn publish_to_by(
         asked.event,
         asked.payload,
     )?;
-    send(asked.settings.alloc, sent.from, sent.to, &sent.message, outputs)?;
+    send(
+        asked.settings.alloc,
+        sent.from,
+        sent.to,
+        &sent.message,
+        outputs,
+    )?;
     Ok(())
 }
 
@@ -202,8 +208,8 @@ fn live_endpoints(
     service: &OfferedService,
     asked: ToPublish<'_>,
 ) -> Result<BTreeSet<SocketAddrV4>, AllocError>
-    ensures { IfOk result (λ endpoints. endpoints.keys ≡ endpoints_of asked.settings.instance
-        (eventgroups_of service.now asked.event) (unexpired now subscribers.now)) }
+    ensures { IfOk result (λ endpoints. endpoints.keys ≡ endpoints_of asked.entry.settings.instance
+        (eventgroups_of service.now asked.entry.event) (unexpired now subscribers.now)) }
 {
     let eventgroups = eventgroups_of(asked.settings.alloc, service, asked.event)?;
     subscribers.live(asked.settings.instance, &eventgroups, now)

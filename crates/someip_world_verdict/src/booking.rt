@@ -204,15 +204,15 @@ pub(crate) fn book_at(
     life: &mut Life,
 ) -> Result<(), AllocError>
     ensures taken { OnOk result (view_taken taken.new
-        ≡ (openings_after done.config.now (view_notes notes.old.items) (view_taken taken.old)
-        (view_life life.old) done.index done.step.now done.lines.now).taken) }
+        ≡ (openings_after done.entry.config.now (view_notes notes.old.items) (view_taken taken.old)
+        (view_life life.old) done.entry.index done.entry.step.now done.entry.lines.now).taken) }
     ensures life { OnOk result (view_life life.new
-        ≡ life_after done.config.now (view_notes notes.old.items) (view_life life.old) done.step.now done.lines.now
-        (openings_after done.config.now (view_notes notes.old.items) (view_taken taken.old)
-        (view_life life.old) done.index done.step.now done.lines.now).counters) }
+        ≡ life_after done.entry.config.now (view_notes notes.old.items) (view_life life.old) done.entry.step.now done.entry.lines.now
+        (openings_after done.entry.config.now (view_notes notes.old.items) (view_taken taken.old)
+        (view_life life.old) done.entry.index done.entry.step.now done.entry.lines.now).counters) }
     ensures notes { OnOk result (view_notes notes.new.items ≡ view_notes notes.old.items
-        ++ notes_of done.index (answered_in (view_notes notes.old.items) (view_life life.old) done.step.now)
-        payload (datagrams_in done.lines.now)) }
+        ++ notes_of done.entry.index (answered_in (view_notes notes.old.items) (view_life life.old) done.entry.step.now)
+        payload (datagrams_in done.entry.lines.now)) }
 {
     let answers = answered_in(notes, life, done.step);
     let publication = publication_in(done.config, life, done.step);

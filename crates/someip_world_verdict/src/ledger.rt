@@ -67,7 +67,7 @@ impl Ledger {
     ) -> Result<(), AllocError>
         requires { place < length self.old.lives.items }
         ensures { OnOk result ((life : Life) → slice_get self.old.lives.items place ≡ Some life
-            → view_book self.new ≡ booked done.config.now done.index place done.step.now done.lines.now
+            → view_book self.new ≡ booked done.entry.config.now done.entry.index place done.entry.step.now done.entry.lines.now
             (view_life life) (view_book self.old)) }
     {
         if is_refused(done.lines) {
