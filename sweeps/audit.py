@@ -3,6 +3,28 @@
     audit.py PROGRAM [--seed SEED] [--count COUNT] [SORT..]
 
 SORT is `calm`, `rough`, `drawn` or `crowds`. A recording of which the two differ is kept, with both texts.
+
+`sweeps/run audit` calls `someipctl audit` on recordings, and compares what it prints, byte for byte, and its exit
+status with what is expected. It needs Python 3, and nothing beside its standard library. What is expected is told by
+a model, `sweeps/audit_model.py`, that was written from AUDIT and PROTOCOL and not from the sources. It has no books:
+it makes the list of all that was seen, and looks back over that for each finding.
+
+Recordings: what they are; what is expected
+  1000 `calm`: of nodes: drawn setups of two or three nodes, with a TTL of offers above twice the cyclic delay, and
+    drawn calls, events, Subscribes, StopSubscribes and StopOffers, some with payloads that go in segments. All clocks
+    are ticked together, each datagram is delivered at once, and each request is answered in time; no finding
+  1000 `rough`: of nodes too, which also begin anew, ask for eventgroups that there are not, offer for a second, and
+    answer late or never. Then datagrams of the recording are lost, repeated, swapped or late; what the model tells
+  1000 `drawn`: of drawn datagrams, which need make no sense: messages of Service Discovery, calls, events, segments,
+    with bytes that are cut or changed, over few addresses and IDs, so that keys meet; with times that go back, stand
+    still or are not there, with packets that are no datagrams, and with drawn options; what the model tells
+  9 `crowds`: a table of an audit comes to its limit of 65,536 keys, one for each table; and calls that were answered
+    fill theirs, in one that goes on while they are known, and in one that goes on when they no longer are; `full
+    NAME` at the first thing that finds no room, and nothing else
+  the example: `examples/audit.pcap`, as `sweeps/audit_story.py` writes it; `examples/audit.txt`
+
+The nodes of a run are parted into twenty *worlds*, each of which hears nothing of the others and gives a recording.
+What nodes do is taken from the trace of `someipctl run`, which is called again for each round of deliveries.
 """
 import argparse
 import collections

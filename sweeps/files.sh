@@ -1,4 +1,21 @@
 # files: the built program against the real system, which has folders, pipes, full devices and little memory.
+#
+# `sweeps/run files` calls the built program and judges the exit status and both texts, as FORMATS has them:
+#
+# - each command over what cannot be read: a folder, a path that is not there, one below a file, an empty one, one of
+#   131,071 bytes (the system takes no longer word), and a file without permission;
+# - each command onto what cannot be written: a full device, a pipe whose reader has ended, and closed standard
+#   output; long texts onto a reader that ends after 1000 bytes and a file that may hold 512;
+# - the other standard streams closed, and input from a pipe;
+# - words of 131,071 bytes as a shape, as hex digits, and as neither;
+# - inputs of 100 MB, inputs without an end and a large payload, within too little memory;
+# - the same of a types file;
+# - recordings: a folder on standard input; from a pipe that stays open, two packets, whose lines have to be there
+#   before more comes, and the head of a packet that is too long, which has to be told then; and 39 MB within 20 MB of
+#   memory.
+#
+# In memory, tests of `someip_node_tests` let each call of a reader and of a writer fail, over `show`, `payload`,
+# `vectors` and `run`.
 
 # ---- Calls of the program, and what is expected of them
 

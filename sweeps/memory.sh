@@ -1,7 +1,46 @@
 # memory: each growth of memory is refused in turn.
 #
-# The program someipctl_trials does the calls of one kind, three times in one process; it ends with status 1 and says
-# which act answered otherwise than it has to. The program someipctl is judged by what it prints.
+# `sweeps/run memory` refuses growths of memory one after the other, by `sweeps/refused_growths.c`, a few lines of C
+# that it builds and loads before a program. It counts calls of the C library's allocator, so the memory of the
+# program's start and of its words counts too.
+#
+# `someipctl_trials memory SWEEP again|left-out|bare` does the calls of one kind, its *acts*, three times in one
+# process, each time with a new subject:
+#
+# 1. for the answers that are expected. A growth that is refused here ends the run, and nothing is judged;
+# 2. to be judged. Each act answers what is expected, up to the one that is refused memory: that one answers
+#    `OutOfMemory`, and nothing else. Then, with `again`, it is done once more, and it and all after it answer what is
+#    expected; with `left-out` all after it answer what another subject answers with which that act was never done. So
+#    a refused act leaves all as it was. A node that was refused memory has failed instead: it gives nothing, answers
+#    `Failed` to every other call, is started again, and then does all from the first act as a new node does;
+# 3. once more, as expected: nothing was left in the process.
+#
+# Answers are compared as texts, which are written to room that is taken before the first act, so that writing them
+# takes none. The script counts upwards until a run meets no refusal. Some calls ask for memory a second time where
+# the first is refused (a list that is collected asks for the room of all that comes, and where that is refused for
+# that of one element), and go on; where a run does not differ although a growth was refused, up to five after it are
+# refused with it.
+#
+#   `wire`: messages read and written, datagrams, segments and pieces: no act takes memory
+#   `segment-list`, `interval-pool`: `make`, `offer`, `take`, `expire`, `clear`
+#   `payloads`: `read_shape`, `check_shape`, `decode`, `encode`
+#   `messages`: `read_sd`, `write_sd`, `split_entries`
+#   `sessions`: `PeerTable::saw`, `Counter::next`
+#   `offers`, `seeker`, `subscribers`, `subscriptions`: every call that changes the tables of Service Discovery
+#   `client`, `server`: every call that changes a `ClientCore` or a `ServerCore`
+#   `server-node`, `client-node`: every call of a node that gives outputs or begins its life, among them the worked
+#     run at both of its nodes
+#   `runs`: `Setup::read`, `read_schedule`, and `run` over both bodies of reassembly
+#
+# The last acts of each sweep are those that take no memory, as their contracts promise or their definitions say: with
+# `bare` they are left out, and else all is as with `again`, and the script finds as many growths without them as with
+# them.
+#
+# The program itself runs `show`, without a types file and with one, `recording --whole --types`, `audit`, `payload`,
+# `vectors` and `run` so. Each refused growth, also of the command line, comes to exit status 3, `out of memory` on
+# standard error, and a beginning of the expected text on standard output.
+#
+# The gate runs each sweep once with nothing refused: `memory all again`, before the words of the other sweeps.
 #
 # Some calls ask for memory a second time where the first is refused, and go on. So where a run does not differ although
 # a growth was refused, the next ones are refused with it, up to this many.

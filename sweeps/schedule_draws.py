@@ -1,5 +1,77 @@
 """The lines of schedules that are drawn, over the setups of `examples/runs/two.toml` and `examples/runs/liars.toml`, and
-what is known of the rounds before."""
+what is known of the rounds before.
+
+A thousand schedules of fifty steps over the setup `examples/runs/two.toml`, in which the node `a` offers and `b`
+wants. Steps are drawn as lines of text, which `someipctl run --lines` runs: so the reader of schedules is tried too.
+`sweeps/schedules.py PROGRAM NUMBER` prints the lines of the schedule of that number, and with `liars-` before the
+number those of the schedule among liars.
+
+Draws. The schedule of the number s, from 1 to 1000, begins with the state s. A draw *below n* makes of the state
+`state * 6364136223846793005 + 1442695040888963407` modulo 2^64, and gives the state's bits from 33 on modulo n, and 0
+where n is 0. *Mostly x, else y* is y where a draw below 16 is 0, and else x. *One of* a list is its element at the
+place of a draw below its length.
+
+Rounds. A schedule has ten rounds of five steps. What a step refers to, datagrams that were sent and requests that
+wait, is known from the lines of the rounds before it, for which these are run.
+
+Steps. For each step first its kind is drawn, below 100, and then its parts in the order of this table, which is that
+of the words of its line. The weights add up to 100, and the draw counts through them from the top.
+
+Kind: weight; parts
+  `tick`: 12; one of `a`, `b`; one of 1, 10, 30, 60, 100, 500, 1000, 3000 milliseconds
+  `deliver`: 48; a datagram and a node, as below
+  `call`: 8; mostly `b`, else `a`; an instance; mostly 0421, else 0423; a payload
+  `oneway`: 3; mostly `b`, else `a`; an instance; mostly 0422, else 0423; a payload
+  `answer`: 7; mostly `a`, else `b`; mostly a token, else 999; one of the codes 00, 01, 0a, 5e; a payload
+  `error`: 2; the same
+  `publish`: 8; mostly `a`, else `b`; an instance; an event; a payload
+  `publish_to`: 2; mostly `a`, else `b`; an instance; an eventgroup; mostly 192.168.0.2:40001, else 192.168.0.2:40002;
+    an event; a payload
+  `subscribe`: 6; mostly `b`, else `a`; an instance; an eventgroup
+  `unsubscribe`: 1; the same
+  `stop_offer`: 1; mostly `a`, else `b`; an instance
+  `restart`: 2; one of `a`, `b`; 10 and a draw below 91, in milliseconds
+
+- An instance is mostly 1111.0001, else 1111.0002; an event mostly 8001, else 8002; an eventgroup mostly 0001, else
+  0002.
+- A payload is one byte so many times: a draw below 256, and one of 0, 1, 2, 3, 4, 5, 6, 7, 100, 1400, 1401, 3000. The
+  last two go in segments.
+- A token is that of the first known request of the node, and 1 where there is none. A request is known no more once a
+  step that names its token, or a restart of the node, is drawn.
+- A datagram is drawn below 4: 0 and 1 stand for the first of the known ones that no step has delivered, 2 for the
+  last of these, and 3 for any. Where there is no undelivered one each stands for any, which is a draw below their
+  number. Where nothing was sent the step is a `tick`, whose parts are drawn then.
+- It goes to the node of the address that it was sent to. One that was sent to the group goes mostly to the node that
+  did not send it, else to the one that did.
+
+So every step can happen. Half of all steps deliver something, and mostly what came first or last, since only a chain
+of deliveries brings a schedule to a subscription, an event or an answer.
+
+Among liars: Four hundred schedules over the setup `examples/runs/liars.toml`, which has a liar `c` at 192.168.0.9
+beside the nodes `a` and `b`. They are drawn and judged as those above, but for what follows.
+
+Injections. For each step first a draw below 4 is made: at 0 it is an `inject`, and else a step as above. Where no
+node has sent anything it is a step as above too. An injection is made of a datagram of the rounds before that a node
+sent:
+
+1. A draw below 4: but at 0, and where a datagram was sent to c, it is a *reply* to the last one of these. At a draw
+   below 2 of 0 it is the event `inject c 30509 192.168.0.2:40001 11118001000000090000000101010200ff`. Else it goes
+   from the port to which that datagram was sent to the endpoint from which it came, with its bytes but for one: of
+   those to port 30490 place 24 has 07, which makes an Ack of a Subscribe, and of others place 14 has 80, which makes
+   a RESPONSE. Places count from 0, and one after the end changes nothing.
+2. Else it is a *copy*. The datagram is drawn: a draw below the number of those that nodes sent is its place among
+   them. Then the port: at a draw below 2 of 0 that from which it was sent, else one of 30490, 30509, 40001, 40002, 1.
+   Then the endpoint: at a draw below 2 of 0 that to which it was sent, else one of 192.168.0.1:30490,
+   192.168.0.1:30509, 192.168.0.1:40000, 192.168.0.2:30490, 192.168.0.2:40001, 239.0.0.1:30490. And last the bytes, by
+   a draw below 8: at 0 all of them as they are; from 1 to 4 each address of a and of b in them (the bytes c0 a8 00,
+   and 01 or 02) as that of c, whose last byte is 09; at 5 one byte changed, the place drawn below their number and
+   then the byte below 256; at 6 the first of them, so many as a draw below their number; at 7 with those of another
+   datagram after them, which is drawn in the same way.
+
+Deliveries. What is sent to neither the address of a nor that of b nor the group is *lost*: it counts as delivered,
+and where the draw comes to it the step is a `tick`, whose parts are drawn then. What c sent to the group goes to one
+of `a`, `b`. In each schedule whose number is a multiple of 4 all that c sends is lost too.
+"""
 from schedule_told import host_of, port_of
 
 FRONT, OWN = b"\xc0\xa8\x00", 9

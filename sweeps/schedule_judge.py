@@ -1,4 +1,47 @@
-"""What is judged of the run of a schedule, by rules that know nothing of how nodes work."""
+"""What is judged of the run of a schedule, by rules that know nothing of how nodes work.
+
+What is judged of each schedule:
+
+- Each line that is drawn is read as one step, and the run has a trace: no bad step, and memory enough.
+- An answer, an error or a timeout is handed up only for a call that the node told in its present life, that asked for
+  an answer, and of which nothing was handed up before. What tells calls apart is Message ID and session.
+- An event is handed up only between a line that tells the node subscribed to an eventgroup of that instance and the
+  one that tells the end of that subscription, in one life of the node.
+- A node hands up a request, an answer or an event, and tells of a known offer, of a subscription, of an accepted or
+  refused Subscribe or of a reboot, only in a step that delivers a datagram, and if in its present life one of another
+  node was delivered to it.
+- All lines of a step are of its node, and each datagram is sent from the address of that.
+- A step that hands up an answer or an error delivers a datagram from the endpoint that the call was sent to, and one
+  that tells of a reboot a datagram from the address that it names.
+- An answer or an error that is handed up where the run is clean up to that step has the code and the payload of an
+  earlier `answer` or `error` of the node that sent the delivered datagram, which was not refused, to a request of
+  that Message ID; or its code is not 00, and it has no payload.
+- An event that is handed up where the run is clean up to that step has the instance, the event and the payload of an
+  earlier `publish` or `publish_to` of the node that sent the delivered datagram, which was not refused.
+- A known offer has the endpoint with which the node that sent the delivered datagram is set up for that instance.
+- A `publish` that is not refused sends one datagram, or one for each 1392 bytes, begun ones too, of a payload of more
+  than 1400, to each endpoint whose subscription surely stands, and to any other just so many or none; and each that
+  it sends to was told accepted for that instance in the present life of the node. A `publish_to` that is not refused
+  sends just so many to the endpoint that it names, and nothing else. A subscription surely stands where the node
+  accepted it in its present life, and since then its ticks make less than 3000 milliseconds, no datagram of the one
+  that subscribed was delivered to it, and it stopped no offer.
+
+And of all together: each kind of step occurs and is not refused; each kind of output occurs; and a payload of more
+than 1400 bytes is handed up.
+
+Among liars. All that is judged above, with these words of liars:
+
+- What is judged of the node that sent the delivered datagram is judged where that was `a` or `b`. Of what c sent
+  nothing is promised but what stands before that: an answer is for a call that was sent to that endpoint of c, and a
+  reboot is that of c.
+- How long a Subscribe of c holds is not known: its subscription never surely stands.
+- Where all that c sends is lost, a run without its steps tells the same: each line of `a` and of `b`, in this order,
+  with the same words but for the numbers of steps and of datagrams, and the same verdict. In the schedule that is run
+  for that, `deliver` names each datagram by the number that it has among those of `a` and `b`.
+
+And of all together, beside what is reached above: c sends; and of datagrams of c a request and an answer are handed
+up, an offer is known, a node is subscribed, a Subscribe is accepted, and a reboot is seen.
+"""
 from schedule_told import host_of, payload_of
 
 # How long a Subscribe of a node holds.

@@ -2,6 +2,12 @@
 schedules, shapes and payloads, and of words that come to no command.
 
     texts.py PROGRAM
+
+Rows of texts that are not quite right, and what the program says of each: setups, types files, schedules, texts of
+shapes, payloads, and words that come to no command. A setup is run over a schedule without steps; most rows change
+one place of the worked setup, and those of `in_order` put fault after fault into a setup with every key (but `liar`,
+which a row adds), so that each is told before all that stand there already. A types file shows a request, whose value
+is told where the file has a table. Each row stands in `sweeps/text_*.py` or in a file of `sweeps/texts`.
 """
 import concurrent.futures
 import os
