@@ -1,4 +1,7 @@
 //! What tells the calls of a recording apart.
+//!
+//! Calls that are due at one moment are told by Message ID and Request ID first, then by their endpoints
+//! and the Interface Version: the IDs tell most calls apart, and are compared as one number.
 ghost use Rattle.std.specs.Prelude.{◌≡◌};
 ghost use Rattle.audit_calls.specs.AuditedCalls.{asked_call, answered_call, ids_cmp};
 ghost use Rattle.audit_calls.specs.CallNumbers.{IsIds, ids_number};

@@ -1,4 +1,10 @@
 //! The receivers of the events of one source.
+//!
+//! The receivers of one event of one sender stand together in the book of events, and are found by the hash
+//! of the event and its sender: an event of a known flow takes one look, and two steps at most for each of
+//! its receivers, which are told that it came; one of a new flow takes a few looks. So one event to 65,536
+//! receivers takes up to twice that many steps each time; an entry of an eventgroup goes over the senders
+//! of all events, and then over the receivers of those at one address.
 ghost use Rattle.std.specs.Prelude.{◌≡◌, ◌==◌, ◌&&◌, IfNone, IfSome, filter, if◌then◌else◌, length, map, nat_lt, not};
 ghost use Rattle.std.specs.FinMap.{find};
 ghost use Rattle.std.specs.Ordering.{eq_by_cmp};

@@ -1,4 +1,7 @@
 //! The interfaces of a pcapng section.
+//!
+//! An option of an interface that has not the length that it should have is as if it were not there, and
+//! one that passes its block ends the options. The first of two counts.
 ghost use Rattle.std.specs.Prelude.{◌≡◌, ◌≤◌, ◌+◌, ◌*◌, Some, None, IfSome, IfNone, length};
 ghost use Rattle.recording.specs.Interfaces.{interface_in, option_in, resolution_in, offset_in};
 

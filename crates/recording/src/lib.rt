@@ -11,6 +11,10 @@
 //! - [`Time`], [`Endpoint`]: when a datagram was recorded, and where it came from and went to;
 //! - [`RecordingError`]: the fault that ends a recording;
 //! - [`laws`]: what the definitions behind the contracts say of examples.
+//!
+//! A recording is said twice: as the bytes that packets and blocks spell, and as the plain program that
+//! reads them; laws join the two, in both directions. So a contract speaks of files and not of a cursor.
+//! What a block says, the faults, and why a packet gives no datagram stand once, as functions.
 #![tactic(auto)]
 
 mod block;

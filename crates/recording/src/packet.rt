@@ -1,4 +1,7 @@
 //! The datagram in a packet.
+//!
+//! Bytes between the UDP Length and the end of the IPv4 packet are dropped, as those that Ethernet pads
+//! are. The reserved flag of IPv4 is not looked at.
 ghost use Rattle.std.specs.Prelude.{◌≡◌, ◌≤◌, ◌<◌, ◌+◌, ◌^◌, Some, None, Ok, Err, Option, length, IfOk, IfErr, OnOk};
 ghost use Rattle.std.specs.Prelude.{IfSome, option_map};
 ghost use Rattle.recording.specs.Packets.{network_place, network_at, ethernet_protocol, after_tag};

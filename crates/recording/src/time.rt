@@ -1,4 +1,7 @@
 //! When a packet was recorded.
+//!
+//! A fraction of classic pcap above a second carries over. Seconds stay between 0 and 2^64 - 1, which only
+//! the offset or the ticks of a pcapng interface can reach.
 ghost use Rattle.std.specs.Prelude.{◌≡◌, ◌≤◌, ◌*◌, ◌/◌};
 ghost use Rattle.recording.specs.Times.{classic_time, ticks_per_second, told_ticks, shifted, tick_time};
 

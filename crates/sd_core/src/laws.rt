@@ -1,5 +1,8 @@
 //! Laws of the definitions that the contracts cite. Each is the contract of a function that does nothing:
 //! it says when Offers and Finds go out, whatever code keeps them.
+//!
+//! The law of moments begins at the delay or before it: ticks before the first due moment change nothing,
+//! so it says the same of ticks from 0 on.
 ghost use Rattle.std.specs.Prelude.{◌≡◌, ◌↔◌, ◌+◌, ◌≤◌, ℕ, IsTrue, IsFalse, None};
 ghost use Rattle.std.specs.Option.{is_some};
 ghost use Rattle.std.specs.FinMap as finite;

@@ -19,6 +19,19 @@
 //! - `sd_subscribers`: [`Subscribers`], the subscriptions that a server accepted; [`Subscription`] is
 //!   what tells them apart, [`Subscribe`] what a client asks for, [`SubscribeRules`] what the server
 //!   knows of that, and [`SubscribeError`] with its [`Cause`] why it is not accepted.
+//!
+//! How it keeps what it keeps. `Offers` and `Seeker` have a `TimedMap` of the configured instances. An
+//! instance is added once and stays, so a start takes no memory, nor does an Offer that comes in. Each waits
+//! for one moment: that of its next Offer, or the first of its next Find and the end of its known offer. So a
+//! tick looks at what is due alone. Contracts see a map for each part: the instances that are up and when
+//! each sends; what is `wanted`, `known` and searched for (`finding`). `want` is one wanted instance, and
+//! judges an Offer.
+//!
+//! `Subscriptions` has each eventgroup that was ever wished in this life, since its counter goes on, in a
+//! `TimedMap`: a wish waits for the end of its Ack's time. The wishes of one instance stand together, so an
+//! Offer and a StopOffer look at these alone. How far a wish is, is one enum (`Stage`), so no subscription is
+//! begun without a wish. `wish_table` is the table, `ending` why subscriptions end. The laws of moments say
+//! when Offers and Finds go out if a tick comes at each millisecond.
 #![tactic(auto)]
 
 mod among;

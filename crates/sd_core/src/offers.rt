@@ -1,4 +1,11 @@
 //! The instances that a node offers, and when each sends its next Offer.
+//!
+//! An instance that is down stays in the table, with its version, so that a start of all instances takes no
+//! memory. A contract sees the map of those that are up.
+//!
+//! A table keeps the allocator that it was made with, and its calls take none.
+//!
+//! The delays are handed to each tick, so that a node keeps its configuration once.
 ghost use Rattle.std.specs.Prelude.{◌≡◌, ◌≢◌, OnOk, OnErr, IfOk, None, false, is_some};
 ghost use Rattle.std.specs.FinMap as finite;
 ghost use Rattle.someip_tables.specs.Tables.{map_of};

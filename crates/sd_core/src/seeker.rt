@@ -1,4 +1,16 @@
 //! The instances that a node wants: what it knows of each, and which it still searches for.
+//!
+//! A seeker keeps one entry of its table for each wanted instance, with the known offer and its deadline in
+//! it, and one moment: the first of its next Find and the end of its offer. The room of that moment is
+//! taken with the entry, so an Offer that comes in never runs out of memory, and a tick looks at what is
+//! due alone. `known` is O(log n).
+//!
+//! Finds that are over leave the table: what stands in `finding` is searched for. So 'no Find once an offer
+//! was known' is the absence of an entry, and an offer that has passed brings none back.
+//!
+//! What has passed is told by the next tick alone: a StopOffer or a reboot ends only offers that have not
+//! passed, so each offer that ended by its time is told once. Only an Offer that counts replaces a passed
+//! one untold; a node never sees this, since its clock moves by ticks.
 ghost use Rattle.std.specs.Prelude.{◌≡◌, ◌≢◌, OnOk, OnErr, IfOk, IfErr, None, Some};
 ghost use Rattle.std.specs.Bool.{OnTrue, OnFalse};
 ghost use Rattle.std.specs.FinMap as finite;

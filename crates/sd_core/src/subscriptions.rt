@@ -1,4 +1,13 @@
 //! A client's half of subscriptions.
+//!
+//! A subscription that was begun at another peer is not renewed but begun anew. A node never sees this,
+//! since a known offer that ends takes its subscriptions along.
+//!
+//! `stop` and `peer_reboot` tell all subscriptions that were begun, also one whose time has passed and that
+//! no tick told yet: each end is told once.
+//!
+//! `Subscriptions::tick` is handed the instances whose known offers passed at the same moment, so what ends
+//! with a moment is one list in order, and memory runs out before anything changed.
 ghost use Rattle.std.specs.Prelude.{◌≡◌, ◌≢◌, OnOk, OnErr, IfOk, None, [], false};
 ghost use Rattle.std.specs.FinMap as finite;
 ghost use Rattle.std.specs.Option.{option_and_then};

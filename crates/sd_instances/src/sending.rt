@@ -1,4 +1,6 @@
 //! When an Offer or a Find goes out next.
+//!
+//! How many Offers went out is counted up to one more than there are repetitions: more decides nothing.
 use crate::phases::Phases;
 use someip_tables::Moment;
 

@@ -1,4 +1,6 @@
 //! Which peers were seen, and which of them began again.
+//!
+//! The table of peers keeps its limit, and its value has it: a caller cannot ask it with another.
 ghost use Rattle.std.specs.Prelude.{◌≡◌, ◌≤◌, ◌||◌, is_some, nat_lt};
 ghost use Rattle.std.specs.FinMap as finite;
 ghost use Rattle.someip_tables.specs.Endpoints.{address_cmp};

@@ -1,4 +1,16 @@
 //! The subscriptions that a server accepted.
+//!
+//! The order of a server's subscriptions begins with instance and eventgroup, so those to one eventgroup
+//! stand together in its table. The least key that there could be comes before them because addresses have
+//! four octets: that is the one thing that the table's invariant says.
+//!
+//! A Subscribe drops what has expired after it was accepted and not before, so that a refusal for memory
+//! leaves all as it was, and a table that nobody ticks does not grow past what is live.
+//!
+//! `stop` says whether a subscription was live, and takes it out in any case: an expired one counts for
+//! nothing.
+//!
+//! One endpoint under two counters cannot be told twice: `live` answers a set.
 ghost use Rattle.std.specs.Prelude.{◌≡◌, ◌≢◌, ◌<◌, ◌≤◌, [], ◌∷◌, not, is_some, None, Some};
 ghost use Rattle.std.specs.Prelude.{IfOk, IfErr, IfSome, OnOk, OnErr};
 ghost use Rattle.std.specs.FinMap as finite;

@@ -1,4 +1,6 @@
 //! Why a Service Discovery message is not read or not written.
+//!
+//! A refused entry is printed by its number, `TooManyOptions in entry 18`: that is no place in bytes.
 ghost use Rattle.std.specs.Prelude.{◌≡◌};
 ghost use Rattle.sd_wire.specs.decoding.Faults.{fault_name, fault_place};
 ghost use Rattle.sd_wire.specs.declared.error.SdError.TheVariants.{OutOfMemory};

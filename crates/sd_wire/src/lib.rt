@@ -8,6 +8,10 @@
 //!   written again;
 //! - [`split_entries`]: entries are split into messages that fit a datagram;
 //! - [`laws`]: what the definitions behind the contracts promise, whatever code reads and writes.
+//!
+//! Each value of the wire has one value in Rust. A TTL and a counter are types over their number that hold
+//! only what fits the field; protocols are numbers with two named ones; a raw option of a type with a
+//! layout cannot be made.
 #![tactic(auto)]
 
 mod endpoint;

@@ -1,5 +1,7 @@
 //! Service Discovery messages (SOME/IP Service Discovery, "SOME/IP-SD Header"): the payload of a
 //! SOME/IP message with the Message ID FFFF8100.
+//!
+//! A message to write lends its entries, so that a front of entries is a message without a copy of them.
 
 use crate::entry::{Entry, EntryHead};
 use crate::flags::SdFlags;

@@ -1,4 +1,11 @@
 //! Options (SOME/IP Service Discovery, "Options Format").
+//!
+//! A raw option shares its bytes with its copies (`Rc`): many runs may name one long option.
+//!
+//! A definition about one kind of option or message names that kind alone, and `_` stands for all others,
+//! so that a new kind changes what is said of it and nothing else. Which option types have a layout, and
+//! how long it is, stands once (`layout_len`); that each message type comes back from its number is proved
+//! once and cited.
 ghost use Rattle.std.specs.Prelude.{◌≡◌, Some, None};
 ghost use Rattle.sd_wire.specs.contents.Raw.{RawValue, IsRaw, layout_len};
 

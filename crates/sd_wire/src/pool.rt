@@ -1,4 +1,7 @@
 //! The pool of options that the runs of entries are written from.
+//!
+//! The pool of options may grow past 256 while a message is written. What is refused is a run that would
+//! stand at an index above 255, wherever it is found.
 ghost use Rattle.std.specs.Prelude.{◌≡◌, ◌<◌, ◌↔◌, IsTrue, length, take, ◌++◌, IfOk, IfSome, IfNone};
 ghost use Rattle.sd_wire.specs.encoding.Writing.{IsLeast, IsNowhere, Stands};
 

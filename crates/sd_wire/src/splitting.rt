@@ -1,4 +1,7 @@
 //! Entries split into messages that fit a datagram.
+//!
+//! `split_entries` takes any number of entries. A datagram holds at most some thousands, but no caller has
+//! to know.
 ghost use Rattle.std.specs.Prelude.{◌≡◌, ◌<◌, ◌≤◌, ◌+◌, ◌*◌, ◌^◌, ℕ, List, length, map, IfOk, IfErr, IfSome};
 ghost use Rattle.sd_wire.specs.declared.error.SdError.TheVariants.{OutOfMemory};
 ghost use Rattle.sd_wire.specs.contents.Values.{view_entry};

@@ -1,4 +1,9 @@
 //! Messages that are none of Service Discovery, over the books.
+//!
+//! A segment without room for its TP header is malformed and no refusal of reassembly, which never sees it;
+//! its place is that of its payload, as `show` tells it.
+//!
+//! Of one event first its subscription and then its session is told.
 ghost use Rattle.std.specs.Prelude.{◌≡◌, OnErr, OnOk, Some};
 ghost use Rattle.someip_wire.specs.View.{view};
 ghost use Rattle.someip_audit.specs.MessageShown.{call_shown, event_flow, event_shown, flow_shown, is_unicast};

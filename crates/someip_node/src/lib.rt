@@ -5,6 +5,11 @@
 //!
 //! What a node is and does is defined in `someip_node_rules`, and `someip_node_engine` carries it out; what
 //! holds of every node, whatever it met, and worked steps stand in `someip_node_laws`.
+//!
+//! A node is driven from outside: datagrams, milliseconds and calls of the application go in, and each call
+//! answers a list of [`Output`]s. It opens no socket, reads no clock and starts no thread. It holds an
+//! `Engine` and a flag that says whether memory ran out. `proofs/HandledLemmas.antt` joins the engine's
+//! contracts, over tables, to the rules, over histories.
 #![tactic(auto)]
 
 mod node;

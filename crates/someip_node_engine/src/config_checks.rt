@@ -1,4 +1,7 @@
 //! Which values a node may be set up with.
+//!
+//! A configuration's clash of ports is judged without memory, by comparing each pair of instances: they are
+//! few, and a refusal takes no memory.
 ghost use Rattle.std.specs.Prelude.{◌≡◌, ◌≤◌, length};
 ghost use Rattle.std.specs.Bool.{OnTrue};
 ghost use Rattle.std.specs.List.{list_all, list_any};

@@ -1,4 +1,8 @@
 //! Datagrams that come.
+//!
+//! That no message of the application reaches Service Discovery, or nothing, is a condition of the
+//! functions of `someip_node_engine` that take one (`is_of_application`), which their callers show; the
+//! definitions of plans keep one type for all targets.
 ghost use Rattle.std.specs.Prelude.{◌≡◌, OnOk};
 ghost use Rattle.someip_wire.specs.View.{view, view_item};
 ghost use Rattle.someip_node_engine.specs.Arrivals.{payload_bytes, reached_item_plan, target_at};

@@ -3,6 +3,20 @@
 //! - [`Engine`]: the tables, from a start to the last input;
 //! - [`Giving`]: what a call gives, while it is gathered;
 //! - [`is_good_delay`]: whether a node may be started with a delay.
+//!
+//! The way of a datagram: `datagram` asks what is at the destination (`Target`): Service
+//! Discovery on one of its two channels, the client, an instance by the index of ports, or nothing; `arrival`
+//! keeps both endpoints. A message with the TP flag goes through `segments` to the store, and a whole one
+//! goes on with the flag cleared. `serving` takes messages to an instance, `client` takes answers and events,
+//! `discovery` messages of Service Discovery: `hearing` enters the peer and ends what a reboot ends,
+//! `entries` takes the entries one by one to `offering`, `server_subscribing` and `learning`. Replies are
+//! gathered in [`Giving`] beside the outputs; after the last entry `announcing` splits them into messages,
+//! each with the next session of its receiver.
+//!
+//! The way out: `answering`, `calling` and `publishing` ask the cores of `someip_rpc` what is to be sent, and
+//! `message_sending` sends it whole or in segments. `config_checks` refuses a configuration at a start, and
+//! `waking` tells when a tick next gives something. What came has a name in `_came`; what the application
+//! asks has the verb.
 #![tactic(auto)]
 
 mod announcing;

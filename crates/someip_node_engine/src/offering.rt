@@ -1,4 +1,7 @@
 //! What a server does with its offers: it answers Finds, and stops an offer where the application asks for it.
+//!
+//! `subscribe`, `unsubscribe` and `stop_offer` of the engine act in another order than their plans where
+//! the tables do not meet: the contract is the plan's.
 ghost use Rattle.std.specs.Prelude.{◌≡◌, ◌++◌, map, IfOk, OnOk, ◌≤◌, length};
 ghost use Rattle.std.specs.List.{flat_map};
 ghost use Rattle.sd_wire.specs.contents.Values.{view_entry};

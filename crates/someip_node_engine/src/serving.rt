@@ -1,4 +1,8 @@
 //! Messages that come to an instance.
+//!
+//! A message that is no Service Discovery is told by its header (Message ID, version, type) and not by its
+//! Service ID alone: a REQUEST that claims the service FFFF at an instance's port is answered by an ERROR
+//! of that service.
 ghost use Rattle.std.specs.Prelude.{◌≡◌, ◌++◌, ◌∷◌, [], IfOk, OnOk};
 ghost use Rattle.std.specs.List.{flat_map};
 ghost use Rattle.someip_rpc.specs.Requests.{BecomesOf, asked, request_fault};

@@ -1,6 +1,10 @@
 //! A run by example: what two nodes give in each of its steps, and have met with it, computed from the
 //! definitions. A node offers an instance; the other finds it, calls it, subscribes to its eventgroup and
 //! takes an event. Each law is the contract of a function that does nothing.
+//!
+//! A step of a worked run says what was met too (`LeadsTo`), so that the steps join to a run. A neighbour
+//! may say only what it gives. A datagram stands once, as a packet: it goes out of one node and comes to
+//! the other.
 ghost use Rattle.std.specs.Prelude.{◌≡◌, ℕ, List, [], ◌∷◌, Some, Ok, Err};
 ghost use Rattle.someip_wire.specs.declared.header.ReturnCode.{ReturnCode};
 ghost use Rattle.sd_session.specs.declared.stamp.Channel.TheVariants.{Multicast};

@@ -1,4 +1,8 @@
 //! What a node is set up with.
+//!
+//! A configuration holds the instances under their IDs in ordered maps, so that no instance stands twice
+//! and each is found without a scan; the port, the address and the IDs that `ServiceRules` repeats have to
+//! agree with it, or it is `BadConfig`. The index from ports to instances is made at the start.
 ghost use Rattle.someip_node_rules.specs.trails.Copies.{IsCopy, IsCopyOfOffer, IsCopyOfWant};
 
 use sd_core::{InstanceId, Phases};

@@ -1,4 +1,7 @@
 //! Why something that came is dropped.
+//!
+//! The names `WrongType` and `NotPending` come from two tables each: a drop holds the reason of the core
+//! that judged (`DropReason::Answer`, `DropReason::Request`), and its text is the name.
 ghost use Rattle.std.specs.Prelude.{◌≡◌};
 ghost use Rattle.someip_node_rules.specs.trails.Names.{drop_name};
 

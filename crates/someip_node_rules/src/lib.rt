@@ -21,6 +21,28 @@
 //!
 //! What the definitions promise, whatever code carries them out, and worked steps stand in
 //! `someip_node_laws`.
+//!
+//! A node's contract has three parts. *What a node met* is a list of items, newest first (`Items`); a
+//! question to it is asked of the list, key by key, and `answers_of` gives the answers to all questions, as
+//! `Tables`. *What it does* are rules, functions of the tables of the moment: which items the node meets,
+//! what it gives, what it replies. A plan (`Plans`) is rules one after the other, and one function `run` does
+//! a plan over the tables of a node or over a history, whose tables are its answers. *What a call promises*
+//! is `Reacts` in `Steps`: for every history that the node stands for, the call gives exactly the step of it,
+//! and the node then stands for the history with it; or memory ran out, and it stands for none.
+//!
+//! The proof is cut in two. The engine promises to run the plan over its tables, and knows no history.
+//! `proofs/histories/Shown.antt` shows once, for every plan, that a plan over a history shows the same as the
+//! plan over its answers.
+//!
+//! Sessions, tokens and counters that a node gives out are counted from the items of its history: a message
+//! of Service Discovery to a receiver, a request that was handed up and a publication are items that a step
+//! itself adds.
+//!
+//! The tick is one item that lets the clock go on. What has passed with it is told by the answers before
+//! it, at the new moment; so at rest the tables hold nothing that has passed.
+//!
+//! A known offer, and a subscription with it, ends at the tick at which its time has passed; so the
+//! question names the tick as what decides it. Between ticks no time goes by.
 #![tactic(auto)]
 
 mod config;

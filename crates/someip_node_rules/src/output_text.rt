@@ -1,4 +1,8 @@
 //! The texts of what a node gives.
+//!
+//! An output has `Display`, and the line of a trace is made without it. A program that embeds a node prints
+//! outputs, and has no trace; a line is written into a buffer without taking memory. Both are proved to
+//! tell the words of one definition, `output_words`.
 ghost use Rattle.std.specs.Prelude.{◌++◌, ◌∷◌, [], codes, decimal, Some};
 ghost use Rattle.std.specs.Fmt.{WritesOnOk};
 ghost use Rattle.std.specs.Net.Text.{socket_v4_text};

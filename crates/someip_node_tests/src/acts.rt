@@ -1,4 +1,10 @@
 //! What is done with a node, as plain data, so that a table can hold it beside the lines that come.
+//!
+//! The tests of a node are tables of plain data: a row is what is done with a node (`Act`) and the lines
+//! that come, and one function applies a row. A test that makes ten calls of a node in a row, each with
+//! `?`, takes the prover longer than ten minutes, and a table a second. Each call of a node stands alone in
+//! a function without a contract, so that what a node promises meets no branch, and one function owns the
+//! node, so that no test has to drop one.
 use sd_core::{Eventgroup, InstanceId};
 use someip_node::{Node, NodeError, Output};
 use someip_rpc::{CallKind, Reply};

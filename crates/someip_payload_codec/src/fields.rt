@@ -1,4 +1,8 @@
 //! Numbers and bodies at the front of a window.
+//!
+//! A skipped item that passes the end of the structure's body is `LengthMismatch` at the first byte after
+//! its tag: its length field, or its value where it has none. Items of a Data ID that no member has may
+//! come any number of times.
 
 ghost use Rattle.std.specs.Prelude.{◌≡◌, ◌+◌, ◌<◌, length, IfOk};
 ghost use Rattle.std.specs.Int.{byte_len, from_be_bytes};

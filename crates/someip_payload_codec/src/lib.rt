@@ -6,6 +6,10 @@
 //! - [`check_shape`]: whether payloads can have a shape; [`MAX_DEPTH`]: how deep it may be;
 //! - [`decode`]: bytes as a value; [`encode`]: a value as bytes; [`PayloadError`]: the first fault;
 //! - [`laws`]: what the definitions behind the contracts promise.
+//!
+//! The width of a length field comes from outside a form (`ReadsBy width f`), since an item of a tagged
+//! structure may have another one than its shape; `Reads f` is with the form's own. A union, too, has its
+//! length field narrowed so, and its type field stays at 32 bits.
 #![tactic(auto)]
 
 mod fields;

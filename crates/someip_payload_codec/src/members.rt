@@ -1,4 +1,9 @@
 //! The members of a tagged structure: where each stands, and whether it was read.
+//!
+//! The member of an item is found in a map of Data IDs, made once for each structure that is read: each
+//! look-up costs the logarithm of their number, and an item that no member has costs no memory. A value has
+//! a slot for each member of its shape, also where it is absent: so one byte of a payload may cost as many
+//! slots as the shape has members.
 
 ghost use Rattle.std.specs.Prelude.{◌≡◌, map, length, None, IfOk};
 ghost use Rattle.someip_payload_values.specs.View.{all_members, slots_of};

@@ -1,4 +1,7 @@
 //! Which shapes can be read and written.
+//!
+//! A Data ID of more than 12 bits is refused by `check_shape`; what would be written of it is never seen,
+//! since `encode` asks `check_shape` first.
 
 ghost use Rattle.std.specs.Prelude.{◌≡◌, ◌&&◌, not, [], nat_le, nat_lt, IfOk, IfErr};
 ghost use Rattle.someip_payload_values.specs.View.{form, forms, all_variants, all_members};

@@ -1,4 +1,7 @@
 //! What a payload may look like.
+//!
+//! `Member` is a struct of its own, and not a tuple as the variants of a union are: it has three parts, one
+//! of them a `bool`.
 
 /// How many bits a length field has.
 #[derive(Clone, Copy, Debug, PartialEq, Eq)]

@@ -1,4 +1,8 @@
 //! Texts as bytes.
+//!
+//! One byte order mark is taken off. A second is a character.
+//!
+//! A text in contracts is its bytes in UTF-8, however it is spelled on the wire.
 
 ghost use Rattle.std.specs.Prelude.{◌≡◌, ◌++◌, true, flat_map, OnOk};
 ghost use Rattle.std.specs.Char.Escape.{encode_utf16};

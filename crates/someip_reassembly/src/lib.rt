@@ -7,6 +7,11 @@
 //! - [`SegmentList`]: its plain body;
 //! - what another body needs as well: [`Arrived`], a segment that arrived; [`totals`], what a segment
 //!   tells of its message's total; [`begin_alike`].
+//!
+//! The trait is the contract of every store: its clauses speak of a map from keys to parts, and of nothing
+//! else, so a body can be replaced. [`SegmentList`] is the plain body: `partials` finds the part of a key in
+//! a list, `partial` holds one message, and `slices` its accepted slices by rising offsets, which tell
+//! whether a slice clashes and how far the message goes without a gap.
 #![tactic(auto)]
 
 mod key;

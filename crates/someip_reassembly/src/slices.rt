@@ -1,4 +1,9 @@
 //! The accepted slices of a message, by rising offsets.
+//!
+//! `SegmentList` keeps the slices by rising offsets. So one pass over them tells how far a message goes
+//! without a gap, and that pass ends at the first gap. A slice is compared with another only where the two
+//! lie over one another. A repeated slice is kept again: the plain list is for trust, and where peers are
+//! not trusted `IntervalPool` is the body to take.
 ghost use Rattle.std.specs.Prelude.{◌&&◌, nat_lt, nat_le, ◌≡◌, ◌↔◌, ◌+◌, ◌-◌, ◌≤◌, ◌<◌, true, length, slice_get, Some, Option, ℕ, OnOk, OnErr, take};
 ghost use Rattle.std.specs.List.{list_any, insert};
 ghost use Rattle.std.specs.FinMap.{get, keys};

@@ -1,4 +1,7 @@
 //! Why a call is refused, and why what came is dropped.
+//!
+//! What comes and is not taken has causes of its own, `DropCause`: they are told of messages, while
+//! `RpcError` is what a caller did wrong or has to wait for.
 ghost use Rattle.std.specs.Prelude.{◌≡◌};
 ghost use Rattle.someip_rpc.specs.Names.{drop_cause_name, rpc_error_name};
 

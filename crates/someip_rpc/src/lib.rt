@@ -12,6 +12,19 @@
 //! - [`MessageId`], [`CallKey`] and [`EventId`]: what tells methods, calls and events apart;
 //! - [`RpcError`]: why a call is refused; [`DropCause`]: why an answer that came is dropped;
 //! - [`laws`]: what the definitions behind the contracts promise, whatever code keeps them.
+//!
+//! How it keeps what it keeps. [`ClientCore`] has two tables: the calls that wait for an answer, in a
+//! `DeadlineMap` under Message ID and session, and the last session of each Message ID, in an ordered map. At
+//! most 1024 calls wait, so the search for a free session ends within 1025 look-ups. `call` is handed the
+//! settings, which its caller keeps once, and the endpoint of the known offer. What it answers, [`Outgoing`],
+//! lends the payload from where it was lent.
+//!
+//! [`ServerCore`] has the requests that wait for their answer (a `slab`, and an ordered index from tokens to
+//! its keys), the number of the next token, and the last session of each event of an instance. Contracts see
+//! two maps and a number. What it needs of other tables is an argument: the instance as it is set up, whether
+//! it is up, and for `publish_to` whether the one endpoint is live. `publish` answers one [`Publication`],
+//! and `Publication::to` what goes to one endpoint, so the payload is lent to all of them. `checks` holds the
+//! checks of an instance, `events` what may be published, `open` the requests that wait.
 #![tactic(auto)]
 
 mod call;

@@ -1,4 +1,7 @@
 //! The calls that wait for an answer.
+//!
+//! A session is looked for one by one, each with a look-up in that map: at most 1024 calls wait, so it ends
+//! within 1025 look-ups.
 ghost use Rattle.std.specs.Prelude.{◌≡◌, ◌≤◌, ◌+◌, OnOk, OnErr};
 ghost use Rattle.std.specs.FinMap as finite;
 ghost use Rattle.someip_tables.specs.Lastings.{unexpired};

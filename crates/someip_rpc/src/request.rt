@@ -1,4 +1,8 @@
 //! What comes to a service instance, and what becomes of it.
+//!
+//! `RequestFault` has the five checks in their order, beside the `DropCause` of answers: a check has a
+//! Return Code where a REQUEST fails it, and a name where a REQUEST_NO_RETURN does. A REQUEST_NO_RETURN
+//! never fails `NotReady`.
 ghost use Rattle.std.specs.Prelude.{◌≡◌};
 ghost use Rattle.someip_rpc.specs.Names.{request_fault_name};
 ghost use Rattle.someip_rpc.specs.Requests.{answer_header, asked, fault_code};

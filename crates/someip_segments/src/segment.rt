@@ -1,4 +1,7 @@
 //! One segment (SOME/IP Protocol, "SOME/IP-TP header").
+//!
+//! A segment's alignment and Length are facts of its type, so writing one has no condition; the append
+//! functions answer `AllocError`, since out of memory is their only error.
 ghost use Rattle.std.specs.Prelude.{◌≡◌, ◌<◌, ◌+◌, ◌%◌, ◌^◌, length, IfOk};
 ghost use Rattle.someip_segments.specs.TpHeader.{reads_segment, segment_in, view_read_segment};
 

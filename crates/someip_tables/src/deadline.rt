@@ -1,4 +1,7 @@
 //! Until when something lasts.
+//!
+//! A deadline is a number and no moment: it may lie past the last moment, and is then never passed by a
+//! clock.
 ghost use Rattle.std.specs.Prelude.{◌≡◌, ◌+◌};
 ghost use Rattle.someip_tables.specs.Deadlines.{deadline_after, has_passed};
 

@@ -1,4 +1,14 @@
 //! A map whose values last until a deadline each.
+//!
+//! `expired_keys` answers a set of keys and not the entries: a caller looks each key up for what it has to
+//! say, and takes memory for nothing else.
+//!
+//! A test is asked once for each entry: the deadlines of a key go because the key went, and not because a
+//! second answer said so. So a test that changes its mind cannot part the two.
+//!
+//! `count_unexpired` goes over all entries, since its test is any test of keys. What stands together in the
+//! order of the keys is gone over by `iter_from`, which begins at a key: so a server looks only at the
+//! subscriptions of one eventgroup.
 ghost use Rattle.std.specs.Prelude.{◌≡◌, ◌≢◌, ◌↔◌, ◌<◌, ◌^◌, OnOk, OnErr, IfOk, IsTrue, Bool, Some};
 ghost use Rattle.std.specs.Prelude.{filter, length};
 ghost use Rattle.std.specs.Option.{option_copied};

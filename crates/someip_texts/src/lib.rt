@@ -5,6 +5,11 @@
 //! - [`is_left_out`]: whether a line is empty or a comment;
 //! - [`is_one_of`]: whether a key is one of those that are known; [`lesser`]: which of two is named first;
 //! - [`laws`]: what the definitions behind the contracts promise.
+//!
+//! `number_in` of `specs/Numbers.antt` says which number digits write, below which limit; `positive_in` says
+//! the same where 0 alone is none, as for ports. `lines_of` of `specs/Lines.antt` parts a text at line feeds.
+//! `proofs/` is open to the crates above: `NumberLemmas`, `LineLemmas` (a text that is read line by line, up
+//! to the first bad line), `FoundLemmas` (whether one of a list passes a test).
 #![tactic(auto)]
 
 mod key;

@@ -1,4 +1,7 @@
 //! A list of calls of a store, one after the other.
+//!
+//! `run_calls` leaves no part where memory runs out, and nothing appended: so what an error leaves is one
+//! sentence.
 ghost use Rattle.std.specs.Prelude.{◌≡◌, ◌++◌, ◌∷◌, [], IfOk, IfErr, OnOk, OnErr, length, take};
 ghost use Rattle.std.specs.FinMap as map;
 ghost use Rattle.someip_tp.specs.Calls.{MayCall, MayCalls, answer_to, answers_to, parts_after_call, parts_through, taken_by, taken_through};

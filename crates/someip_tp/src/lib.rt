@@ -13,6 +13,16 @@
 //! - [`IntervalPool`]: its body in memory that is reserved once, and [`SegmentList`], its plain one;
 //! - [`run_calls`]: a list of calls of any body;
 //! - [`laws`]: what the definitions behind the contracts promise, whatever body keeps them.
+//!
+//! How [`IntervalPool`] is kept (`src/pool`). All that it needs is reserved when it is made. `slots` holds
+//! the parts by rising key, the free rooms, and a moment before which no part had its last segment: it looks
+//! for parts that are gone only where there may be one. A part owns the `room` of its slot. A room has the
+//! bytes at their places, and for each 16 of them a `block`, which tells for which of the room's messages it
+//! is held: nothing is wiped between two messages. Blocks that are held in a row are an interval; its first
+//! and last block tell one another, so a block that comes joins its neighbours without a search.
+//!
+//! A type that holds a store and shows its parts to contracts finds their codes, `coded_parts` and
+//! `coded_limits`, in `specs/Parts.antt` of `someip_reassembly`.
 #![tactic(auto)]
 
 mod calls;

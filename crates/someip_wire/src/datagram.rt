@@ -1,5 +1,11 @@
 //! The messages of a datagram, one after the other (SOME/IP Protocol, "UDP Binding": several
 //! messages in one datagram).
+//!
+//! After a fault the rest of a datagram is dropped. Where a message's Length cannot be trusted, nothing
+//! after it can.
+//!
+//! `Messages` shows itself to contracts as the list of what is left to come, and neither as the datagram
+//! nor as a place in it.
 ghost use Rattle.std.specs.Prelude.{◌≡◌};
 
 use crate::error::WireError;

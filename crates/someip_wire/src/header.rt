@@ -1,4 +1,13 @@
 //! The header of a message (SOME/IP Protocol, "Header").
+//!
+//! A message of Service Discovery is told by Message ID, interface and type alone, whatever its Client ID,
+//! session or return code are.
+//!
+//! A message of Service Discovery is told by one test everywhere, `Header::is_discovery` of `someip_wire`:
+//! Message ID FFFF8100, Interface Version 1, NOTIFICATION. A node asks for a session other than 0 too,
+//! since its peers count theirs; the audit, for port 30490. Where a datagram of a run is read back, the
+//! verdict asks that one test: of what nodes send, it tells exactly the messages of Service Discovery,
+//! since no service of a setup has the ID FFFF.
 ghost use Rattle.std.specs.Prelude.{◌≡◌};
 ghost use Rattle.someip_wire.specs.Kinds.{kind_byte, kind_of, has_tp_flag, with_tp_flag, without_tp_flag};
 ghost use Rattle.someip_wire.specs.Discovery.{is_discovery};

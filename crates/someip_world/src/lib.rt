@@ -7,6 +7,11 @@
 //!   whether it reused the keys of its exchanges cleanly: [`Reuse`].
 //!
 //! What a run is, the laws of every run and the types of a trace are those of `someip_world_rules`.
+//!
+//! `actor` is a node or a liar in its place, `performing` does a step there, `telling` makes lines of what it
+//! gave, and `log` keeps the lines and where those stand that tell of datagrams, so `deliver` finds its
+//! datagram by number. Nodes have copies of the setup's configurations, which have the same values (`IsCopy`
+//! of `someip_node_rules`), so that a setup can be run again.
 #![tactic(auto)]
 
 mod actor;

@@ -1,4 +1,7 @@
 //! The lines of a run, with its datagrams by their numbers.
+//!
+//! A datagram is kept once, in the line that tells of it; beside the lines a run keeps only where these
+//! stand, so that a delivery finds its datagram by its number.
 
 use someip_world_rules::{Datagram, Line};
 use std::alloc::{AllocError, Global};

@@ -1,4 +1,10 @@
 //! What is done at a node in a step.
+//!
+//! A step that can't happen is told even where memory is short, as it takes none to see that. Only what a
+//! node does, and the trace, take memory.
+//!
+//! Delivered to the group is what was sent to its address, whatever the port; each node has the port of
+//! Service Discovery alone there.
 ghost use Rattle.std.specs.Prelude.{◌≡◌, ◌||◌, if◌then◌else◌, None, Some, Ok};
 ghost use Rattle.someip_node_rules.specs.forms.GoodConfigs.{is_good_delay};
 ghost use Rattle.someip_node_rules.specs.rules.Handling.{same_address};

@@ -8,6 +8,12 @@
 //! - [`liar_laws`]: what liars do in it, and what they can't;
 //! - [`number_laws`]: that the numbers of setups and steps fit their fields;
 //! - [`example_laws`]: a worked run.
+//!
+//! A `World` (`specs/Runs.antt`) is the history of each node and the lines so far. `deed_at`
+//! (`specs/Deeds.antt`) is what a step does at a place: at a node it takes an input, it is started again, or
+//! the step is bad; at a liar bytes go out, or the step is bad. Which addresses are liars' is
+//! `specs/Liars.antt`. `run_of` lets the steps happen one after the other. No history is stored: each node
+//! stands for its own.
 #![tactic(auto)]
 
 mod error;

@@ -1,6 +1,9 @@
 //! The numbers that steps and setups hold fit the fields of messages. Each function looks at a value and
 //! does nothing: its contract says what holds of every value that a program has, by the types of its
 //! fields.
+//!
+//! Which numbers fit is said of setups and steps by functions that do nothing (`setup_fits`, `steps_fit`):
+//! the widths come from the Rust types of the fields, which a law over definitions does not see.
 ghost use Rattle.std.specs.Prelude.{◌≡◌, ◌≢◌, ◌<◌, ◌^◌, ℕ, true, length, slice_index};
 ghost use Rattle.std.specs.List.{AllByRecursion};
 ghost use Rattle.std.specs.Net.Addr.{IsIpv4Addr};

@@ -1,5 +1,13 @@
 //! Laws of safety, of every run, or of every one in which keys are reused cleanly. Each is the contract of a
 //! function that does nothing.
+//!
+//! A reply to injected bytes names a key, and belongs to no exchange, since none of that key is ever
+//! opened: an exchange is what was opened. So the definition of what belongs to what stays as it was, and a
+//! law says it.
+//!
+//! Laws of runs ask of configurations what they need, and no more: addresses that differ, none of them the
+//! group's, each offer at its node's address and the only one of its instance. Each setup that was read is
+//! so, by laws of their own, and `run` asks nothing.
 ghost use Rattle.std.specs.Prelude.{◌≡◌, ◌≤◌, ℕ, suc, false, List, length, take, slice_get, Some};
 ghost use Rattle.std.specs.List.{AllByRecursion};
 ghost use Rattle.someip_node_rules.specs.declared.config.Config.{Config};

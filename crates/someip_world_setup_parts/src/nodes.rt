@@ -1,4 +1,7 @@
 //! The nodes.
+//!
+//! A liar with an empty list of offers or wants has no such table, as an empty list is like an absent key
+//! in the whole setup.
 ghost use Rattle.std.specs.Prelude.{◌≡◌, true, codes, map, IfOk};
 ghost use Rattle.someip_node_rules.specs.forms.GoodConfigs.{is_good_common};
 ghost use Rattle.toml.specs.View.{view};

@@ -1,4 +1,7 @@
 //! The command `audit`: what a recording of network traffic shows against the protocol.
+//!
+//! K counts all datagrams of the recording, looked at or not, as `recording FILE` without a selection
+//! counts them, so that a line can be found in both; the summary counts those that were looked at.
 ghost use Rattle.std.specs.Prelude.{◌≡◌, ◌<◌, ◌+◌, ◌^◌, [], IfOk, List, None, OnErr, OnOk, Some};
 ghost use Rattle.recording.specs.View.{view_datagram, view_record};
 ghost use Rattle.someip_audit.specs.Audits.{Report};

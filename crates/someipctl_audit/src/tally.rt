@@ -1,4 +1,7 @@
 //! What an audit counts.
+//!
+//! Where 2^64 things were counted, the audit ends as where memory runs out: no recording has so many
+//! datagrams.
 ghost use Rattle.std.specs.Prelude.{◌≡◌, ◌+◌, [], IfOk, OnOk};
 ghost use Rattle.someipctl_audit.specs.Tallies.{Counts, tally_after, tally_looked};
 

@@ -1,4 +1,9 @@
 //! Why the program did not do its work.
+//!
+//! A text for standard error stands once, at the lowest error that says it: `line L: bad hex` at
+//! `CaptureError`, `line L: bad step` at `ScheduleError`, `bad shape at P` at `ShapeTextError`. An error of
+//! a command, and the `Failure` of the program, prints that one. `out of memory` alone stands at each error
+//! that can say it.
 ghost use Rattle.std.specs.Prelude.{◌≡◌};
 ghost use Rattle.someipctl_cli.specs.Failures.{status_of_failure, failure_of_show, failure_of_payload};
 ghost use Rattle.someipctl_cli.specs.Failures.{failure_of_expected, failure_of_run, failure_of_setup};

@@ -1,4 +1,7 @@
 //! The commands with their arguments and what help says of them, as `clap` is told of them.
+//!
+//! The options of `--whole` without it are a fault of usage: they would change nothing, and whoever gives
+//! them meant to give it.
 ghost use Rattle.std.specs.Prelude.{◌≡◌, IfOk, false};
 ghost use Rattle.clap.specs.Words.{App, Rule, Shape, app_of, rule_of, shape_of, with_rule, with_subcommand};
 ghost use Rattle.clap.specs.declared.builder.Command.TheViews.{out-Command};

@@ -10,6 +10,10 @@
 //! - `program`: the words, the files that they name, and the exit status;
 //! - `failure`: why the program failed, with its exit status and its text;
 //! - `laws`: what the definitions behind the contracts promise.
+//!
+//! A refusal of memory that the standard library can do without is none. One of the some 45 allocations of
+//! a run is such, while the arguments are read; each other one ends the program with exit status 3 before
+//! anything was written.
 #![tactic(auto)]
 
 mod command;

@@ -12,6 +12,12 @@
 //!
 //! The lines of messages and segments stand in `lines`, those of Service Discovery in `discovery`,
 //! its options in `options`, and `items` puts them together.
+//!
+//! A line is a value: an array of parts (text, a number, an ID, bytes in hex) whose one clause says its text,
+//! or an array of words with spaces between. `put_parts` and `put_end` alone print, so a new line needs no
+//! word on writers. The buffer has a fixed size and takes its memory before the first byte is written. What
+//! was printed is at each moment what was written and then what the buffer holds: this sentence (`Sends` of
+//! `specs/Sending.antt`) is the contract of every function that prints.
 #![tactic(auto)]
 
 mod discovery;

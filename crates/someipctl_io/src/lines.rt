@@ -1,4 +1,7 @@
 //! The lines of messages, segments and faults.
+//!
+//! `length N` is the Length field, for a segment too: it counts what follows the first eight bytes. `bytes
+//! N` of a segment is its slice alone.
 ghost use Rattle.std.specs.Prelude.{◌≡◌, ◌&&◌, ◌+◌, ◌∷◌, ◌++◌, [], OnOk, OnErr, IfOk, codes, decimal, length};
 ghost use Rattle.std.specs.List.{flat_map};
 ghost use Rattle.someip_wire.specs.Kinds.{has_tp_flag};

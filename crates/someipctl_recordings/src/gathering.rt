@@ -1,4 +1,7 @@
 //! Messages that are put together from the segments of a recording.
+//!
+//! A datagram at port 30490 is one from or to it, whichever of the two: in neither are segments put
+//! together, since Service Discovery has none, and a node drops those that come to that port.
 ghost use Rattle.std.specs.Prelude.{◌≡◌, ◌%◌, ◌==◌, ◌||◌, true, is_ok, IfOk, OnErr, OnOk};
 ghost use Rattle.recording.specs.View.{view_datagram};
 ghost use Rattle.someip_wire.specs.View.{view, view_item};

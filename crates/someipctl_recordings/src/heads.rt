@@ -1,4 +1,7 @@
 //! Lines with the time and the endpoints of their datagram before each.
+//!
+//! The head of a line is put before the lines of `show` and not into them, so that what is printed is
+//! defined by what `show` prints, and other programs can cut it off: it is the first three words.
 ghost use Rattle.std.specs.Prelude.{◌≡◌, ◌∷◌, [], OnOk, OnErr, drop, map, true};
 ghost use Rattle.recording.specs.View.{view_datagram};
 ghost use Rattle.someipctl_io.specs.Sending.{Sends, Stops};

@@ -10,6 +10,14 @@
 //! - [`coming`], [`moments`], [`heads`], [`gathering`]: what comes next of a recording, its moment, the text of
 //!   its time, and its endpoints, for whatever else goes over a recording;
 //! - [`laws`]: what the definitions behind the contracts promise.
+//!
+//! `coming` asks the reader of a recording what is next; where that needs bytes, it writes out what was
+//! printed, and then reads once. `recordings` counts a record that is no datagram (`left_out`), and skips a
+//! datagram that is not asked for. `datagrams` goes over its messages; `gathering` offers segments to the
+//! store, and takes a message that is whole into a vector that is used again. With endpoints the text of a
+//! datagram goes into a vector first, and `heads` puts time and endpoints before each line. Contracts see
+//! `Progress` (`RecordedText.antt`): how many datagrams were shown, the moment of the last, the parts of the
+//! store, and whether a fault was shown.
 #![tactic(auto)]
 
 mod asked;

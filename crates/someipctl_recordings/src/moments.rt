@@ -1,4 +1,7 @@
 //! The moments of datagrams.
+//!
+//! The clock of a recording never falls, since a store is asked at rising moments: a datagram without a
+//! time, or with an earlier one, has the latest so far, as the packets of several interfaces may come.
 ghost use Rattle.std.specs.Prelude.{◌≡◌, ◌≤◌};
 ghost use Rattle.someipctl_recordings.specs.Moments.{millis, moment_of};
 

@@ -1,4 +1,6 @@
 //! The ports that a text names.
+//!
+//! Port 0 is no port of `--ports`: no datagram is sent to it, and as a sender's it says that there is none.
 ghost use Rattle.std.specs.Prelude.{◌≡◌, IfOk, Some, None, Err, map, is_none, true};
 ghost use Rattle.std.specs.List.{list_any};
 ghost use Rattle.someipctl_recordings.specs.Ports.{port_in};

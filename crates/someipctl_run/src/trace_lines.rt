@@ -1,4 +1,7 @@
 //! The lines of a trace, and the verdict on it.
+//!
+//! What a line of a trace tells is words, each after a space, so its definition names the words as RUNNING
+//! lists them. Addresses and endpoints have the texts that std defines.
 ghost use Rattle.std.specs.Prelude.{◌≡◌, ◌<◌, OnOk, OnErr, is_some};
 ghost use Rattle.someip_world_rules.specs.Datagrams.{datagram_in};
 ghost use Rattle.std.specs.List.{flat_map};

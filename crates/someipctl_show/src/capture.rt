@@ -6,6 +6,11 @@
 //! 12 f F
 //! -
 //! ```
+//!
+//! A comment begins with `#` as the line's first byte, before spaces are left out: ` #` is bad hex. A
+//! comment may hold any bytes.
+//!
+//! Lines count from 1, skipped ones too, so that an editor finds the line.
 ghost use Rattle.std.specs.Prelude.{◌≡◌, ◌==◌, [], None, Some, map};
 ghost use Rattle.std.specs.Prelude.{IfErr, IfOk, IsOk, OnOk};
 ghost use Rattle.std.specs.List.{list_all};

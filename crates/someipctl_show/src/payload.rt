@@ -1,4 +1,6 @@
 //! The command `payload`: the value that bytes have by a shape.
+//!
+//! HEX as an argument has no spaces, and the empty argument is bad hex: no bytes are `-`.
 ghost use Rattle.std.specs.Prelude.{◌≡◌, Some, None, IfErr, IfOk, string_bytes};
 ghost use Rattle.std.specs.Option.{option_map};
 ghost use Rattle.someipctl_show.specs.declared.payload.PayloadRefusal.TheVariants.{CannotWrite, OutOfMemory};

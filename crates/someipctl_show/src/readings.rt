@@ -1,4 +1,7 @@
 //! What the Service Discovery messages of a capture hold, read before anything is written.
+//!
+//! What was read is one list for the whole capture, and the printing takes from its front what the next
+//! message holds. A list for each datagram would need no such order, but costs 40 bytes a datagram.
 ghost use Rattle.std.specs.Prelude.{◌≡◌, ◌++◌, ◌∷◌, [], OnOk, IfOk, is_some, map, option_map};
 ghost use Rattle.std.specs.Option.{option_to_list};
 ghost use Rattle.someip_wire.specs.View.{view_item};

@@ -1,4 +1,8 @@
 //! The command `show`: a capture's datagrams, message by message.
+//!
+//! What `show` promises, it promises of a capture that there is, which is what the reader had left where
+//! that is known. So the text, the outcome and the number of a bad line fit one another for every reader, a
+//! file too.
 ghost use Rattle.std.specs.Prelude.{◌≡◌, ◌≢◌, ◌++◌, [], Some, OnOk, OnErr, IfOk, IfErr, map};
 ghost use Rattle.std.specs.Io.KnownBytes.{Appends};
 ghost use Rattle.someip_wire.specs.Reading.{items_of};

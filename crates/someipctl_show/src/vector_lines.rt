@@ -8,6 +8,12 @@
 //! > value [1,2]
 //! > used 8 of 8
 //! ```
+//!
+//! A line that is left out is as if it were not there, so `> ` lines after an empty line or a comment
+//! belong to the vector before.
+//!
+//! A carriage return is a character like any other. A line that begins with `> ` is expected text with it,
+//! and differs from what is printed, which has none; a vector with one has no HEX, and is bad.
 ghost use Rattle.std.specs.Prelude.{◌≡◌, ◌++◌, ◌≤◌, List, ℕ, Err, IfOk, Some, None, MatchOption, ◌≢◌};
 ghost use Rattle.someipctl_show.specs.declared.vector_lines.LineFault.TheVariants.{Bad, OutOfMemory};
 ghost use Rattle.someip_payload_values.specs.Check.{depth};

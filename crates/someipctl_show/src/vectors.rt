@@ -1,4 +1,12 @@
 //! The command `vectors`: whether what is printed of datagrams and payloads is what a file says.
+//!
+//! A file is judged before anything is written. The list of the results is small, and so nothing is written
+//! where memory runs out, as with `show`.
+//!
+//! The expected text is one text, its lines each with a line feed, and is compared whole: which line
+//! differs is not told.
+//!
+//! A vector that differs is a fault that was shown: the outcome and the exit status are the same.
 ghost use Rattle.std.specs.Prelude.{◌≡◌, ◌≢◌, ◌++◌, [], Some, Err, OnOk, OnErr, IfOk, IfErr, codes, map};
 ghost use Rattle.std.specs.Io.KnownBytes.{Appends};
 ghost use Rattle.someipctl_show.specs.declared.vectors.VectorsError.TheVariants.{CannotWrite, OutOfMemory};

@@ -1,4 +1,8 @@
 //! Commands of `someipctl`, one a line, each run as the program runs it.
+//!
+//! A case shows both streams. The program's own `answer` runs over a runtime whose arguments are the words
+//! of the line, and whose standard error is standard output: so a case shows also what is told beside a
+//! success, and nothing is written twice for it.
 
 mod aloud;
 

@@ -1,4 +1,38 @@
 //! The sweep over vectors that are cut and changed.
+//!
+//! Each vector of `examples/vectors/all.txt` is cut to every length, its own too, and read with each of its
+//! bytes as 00, 7f, 80 and ff in turn. The payload of each message of a vector is cut and changed so by
+//! itself too, and read as Service Discovery. The counts of cuts and of changed bytes have both.
+//!
+//! Messages. The message at the front of the bytes is the first that their datagram gives, or both have the
+//! same fault. Each message is written, and read again as it was. The place of a fault is at most the length
+//! of the bytes. The messages that end before the change are those of the whole vector, and the other way
+//! round.
+//!
+//! Service Discovery, of each message of its kind. What was read is written, and read again as it was, unless
+//! an entry is a bad run, or writing it answers `TooManyOptions`. The place of a fault is at most the length
+//! of the payload.
+//!
+//! Payloads, by the shape of the vector. What was read is written, and what was written is read whole as the
+//! same value. The place of a fault is at most the length of the bytes.
+//!
+//! A node. Each datagram is handed to a node `b` of the setup: from a's endpoint of Service Discovery and
+//! from the endpoint of its instance, to b's endpoint of Service Discovery, to the group and to b's client.
+//! Each of the six goes to a node that has just begun, and to one that went through the first nine steps of
+//! `examples/runs/two.txt`: it knows the offer, had a call answered, and is subscribed. Nodes are started
+//! anew each time. The node takes the datagram without an error, and then answers a call of the wanted
+//! instance as it owes it:
+//!
+//! - Where the node told in answer to the datagram that the instance is known, or is gone, the last such line
+//!   decides; else it is as before, unknown to the new node, and at 192.168.0.1:30509 for the other. A
+//!   datagram may hold an Offer or a StopOffer, or a changed one with another port, and the node's own line
+//!   says what it took of it.
+//! - Where the instance is known the call is told and sent there, byte for byte as by a node that got no
+//!   datagram: with session 1 from the new node and 2 from the other. No datagram that comes moves the
+//!   sessions of calls.
+//! - Where it is not known the call is refused as `NotOffered`.
+//!
+//! Nothing answers `OutOfMemory`.
 
 mod change;
 mod discovery;

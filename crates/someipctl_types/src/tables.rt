@@ -1,4 +1,6 @@
 //! The tables of a types file.
+//!
+//! What clashes is told last, after unknown keys: two tables are compared once each of them is good.
 ghost use Rattle.std.specs.Prelude.{◌≡◌, map, option_map, codes};
 ghost use Rattle.std.specs.List.{list_all};
 ghost use Rattle.toml.specs.View.{view};

@@ -1,4 +1,10 @@
 //! The line of a value.
+//!
+//! A table's name stands before the value and is no part of it, so that without names the text is that of
+//! `payload`.
+//!
+//! A value that leaves bytes is no fault, as in `payload`: how many it takes is told where it does not take
+//! all.
 ghost use Rattle.std.specs.Prelude.{◌≡◌, ◌+◌, ◌≤◌, ◌++◌, length, IfOk, OnOk, decimal, string_bytes};
 ghost use Rattle.std.specs.Option.{option_map};
 ghost use Rattle.someip_payload_values.specs.View.{data_of, form};

@@ -1,4 +1,7 @@
 //! Reassembly in slots that are reserved once.
+//!
+//! `IntervalPool::offer` states its own clauses, which are stronger than those of the trait and imply them:
+//! the judgement and the parts without the case that memory runs out.
 ghost use Rattle.std.specs.Prelude.{◌≡◌, ◌≢◌, ◌≤◌, ◌%◌, ℕ, Err};
 ghost use Rattle.someip_reassembly.specs.Parts.{NoneAfter};
 ghost use Rattle.someip_reassembly.specs.SegmentOffers.{offer, judgement, parts_after};

@@ -1,4 +1,9 @@
 //! The room of a slot: the bytes of a message at their places, and which of them are held.
+//!
+//! A room is not wiped between two messages: its messages are numbered, and a block is held for the message
+//! whose number it has. Only once in 2^32 messages are its blocks forgotten all at once. Nor are its bytes
+//! written before they come: a room is filled up to the furthest place that a slice ever had, once, so the
+//! first far slice costs what that fill does, and later ones do not.
 ghost use Rattle.std.specs.Prelude.{◌≡◌, ◌≢◌, ◌↔◌, ◌+◌, ◌≤◌, ◌<◌, ◌%◌, ◌/◌, ◌-◌, ◌++◌, ℕ, true, Some, length, replicate, vec_len, vec_capacity, OnOk, OnErr, IfOk, slice_get, nat_le, nat_lt, ◌&&◌, ◌||◌};
 ghost use Rattle.std.specs.List.{list_any};
 ghost use Rattle.std.specs.FinMap as map;
