@@ -1,0 +1,143 @@
+"""All that touches a name: a definition, a function, a rule, a test or a wrong body."""
+import re
+from .links import anchors_at
+from .places import CASES, all_files, case_pattern, files, line_of, text
+from .rules import read_rules, short, wrong_bodies
+from .sources import Sources
+
+DECLARED = r"^\s*(?:pub(?:\([^)]*\))? )?(?:unsafe |const |async )*(?:enum|struct|trait|type|const|static|mod) {}\b"
+# Groups in the order in which they are printed.
+GROUPS = [
+    "declared", "definitions that cite it", "functions whose contract cites it",
+    "functions whose contract cites it through one definition", "laws", "proofs that spell it", "rules", "wrong bodies",
+    "tests", "cases", "sweeps", "pages",
+]
+
+
+class Touched:
+    """What was found of a name, by group."""
+
+    def __init__(self, name):
+        self.name, self.sources, self.groups = name, Sources(), {group: [] for group in GROUPS}
+        self.rules = read_rules()[0]
+
+    def add(self, group, path, line, what=""):
+        entry = f"{path}:{line}" + (f": {what}" if what else "")
+        if entry not in self.groups[group]:
+            self.groups[group].append(entry)
+
+    def add_function(self, group, it):
+        self.add("laws" if it.is_law else "tests" if it.crate.endswith(("_tests", "_trials")) else group, it.path, it.line, it.name)
+
+    def look(self):
+        self.look_at_declarations()
+        for key in [key for key in self.sources.definitions if key[1] == self.name]:
+            self.look_at_definition(key)
+        self.look_at_rules()
+        self.look_at_wrong_bodies()
+        self.look_at_texts()
+
+    def look_at_declarations(self):
+        for it in self.sources.definitions.values():
+            if it.name == self.name:
+                self.add("declared", it.path, it.line, "a definition")
+        for it in self.sources.functions:
+            if it.name == self.name:
+                self.add("declared", it.path, it.line, "a law" if it.is_law else "a function")
+        for path in files("crates/*/src/**/*.rt"):
+            line = line_of(path, DECLARED.format(re.escape(self.name))) if self.name in text(path) else 0
+            if line:
+                self.add("declared", path, line)
+
+    def look_at_definition(self, key):
+        for other in self.sources.through.get(key, []):
+            it = self.sources.definitions.get(other)
+            if it:
+                self.add("definitions that cite it", it.path, it.line, it.name)
+            for function in self.sources.citing.get(other, []):
+                if key not in function.cites:
+                    self.add_function("functions whose contract cites it through one definition", function)
+        for function in self.sources.citing.get(key, []):
+            self.add_function("functions whose contract cites it", function)
+
+    def is_named_by(self, rule):
+        cells = rule.definitions + rule.tests + rule.functions
+        return rule.id == self.name or any(self.name in place.names for place in cells)
+
+    def look_at_rules(self):
+        for rule in self.rules:
+            if self.is_named_by(rule):
+                self.add("rules", "docs/rules.tsv", rule.number, f"{rule.id}: {rule.text}")
+            if rule.id == self.name:
+                self.look_at_rule(rule)
+
+    def look_at_rule(self, rule):
+        page, _, place = rule.page.partition("#")
+        self.add("pages", f"docs/{page}", anchors_at(f"docs/{page}").get(place, 0), f"#{place}")
+        for key in rule.names(rule.definitions):
+            it = self.sources.definitions.get(key)
+            if it:
+                self.add("declared", it.path, it.line, it.name)
+        for it in self.sources.found_for(rule):
+            self.add_function("functions whose contract cites it", it)
+        for file, name in rule.names(rule.functions):
+            path = file.replace("/", "/src/", 1)
+            self.add("functions whose contract cites it", f"crates/{path}", line_of(f"crates/{path}", rf"\b{name}\b"), f"{name}, by the sixth column")
+        for place in rule.tests:
+            self.look_at_test(place)
+
+    def look_at_test(self, place):
+        if place.kind == "case":
+            self.add("cases", CASES, line_of(CASES, case_pattern(place.file)), place.file)
+        elif place.kind in ("sweep", "script", "none"):
+            self.add("sweeps", place.file if place.kind != "sweep" else f"sweeps/{place.file}", 1, ", ".join(place.names) or place.kind)
+        else:
+            for name in place.names:
+                path = place.path("src")
+                self.add("laws" if "law" in place.kind else "tests", path, line_of(path, rf"\b(?:fn|const) {name}\b"), name)
+
+    def look_at_wrong_bodies(self):
+        ids = {rule.id for rule in self.rules if self.is_named_by(rule)}
+        functions = [it for it in self.sources.functions if it.name == self.name]
+        for path, named in wrong_bodies().items():
+            rules = [name for name in named if name in ids]
+            if rules or short(path).split("/")[-1] == self.name:
+                self.add("wrong bodies", path, 1, ", ".join(named))
+            elif any(changes(path, it, self.sources) for it in functions):
+                self.add("wrong bodies", path, 1, f"it changes {self.name}")
+
+    def look_at_texts(self):
+        word = re.compile(rf"(?<![\w]){re.escape(self.name)}(?![\w])")
+        kinds = [("proofs that spell it", r"crates/[^/]*/proofs/.*\.antt$"), ("sweeps", r"sweeps/"), ("pages", r".*\.md$")]
+        kinds += [("tests", r"crates/\w*_(?:tests|trials)/src/.*\.rt$")]
+        for path in all_files():
+            for group, pattern in kinds:
+                if re.match(pattern, path) and self.name in text(path):
+                    found = word.search(text(path))
+                    if found:
+                        self.add(group, path, text(path).count("\n", 0, found.start()) + 1)
+
+    def told(self):
+        for group, entries in self.groups.items():
+            if entries:
+                yield f"{group}:"
+                yield from (f"  {entry}" for entry in entries)
+
+
+def changes(path, function, sources):
+    """Whether a wrong body changes a line of a function."""
+    crate = path.split("/")[1]
+    lines = dict(re.findall(r"^(file|old): (.*)$", text(path), re.M))
+    if function.path != f"crates/{crate}/{lines.get('file', '')}":
+        return False
+    at = text(function.path).find(lines.get("old", "\0"))
+    line = text(function.path).count("\n", 0, at) + 1
+    before = [it.line for it in sources.functions if it.path == function.path and it.line <= line]
+    return at >= 0 and before and max(before) == function.line
+
+
+def all_of(name):
+    """The lines that tell all that touches a name."""
+    touched = Touched(name)
+    touched.look()
+    return list(touched.told())
