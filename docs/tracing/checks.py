@@ -83,8 +83,8 @@ def rule_faults(rules, odd):
         page, _, place = rule.page.partition("#")
         if place not in anchors_at(f"docs/{page}"):
             told.append(f"no heading {rule.page}")
-        if len(rule.text.split()) > MOST_WORDS:
-            told.append(f"the rule has {len(rule.text.split())} words")
+        if len(rule.text.replace(" (*own*)", "").split()) > MOST_WORDS:
+            told.append(f"the rule has more than {MOST_WORDS} words")
         if not re.fullmatch(r"[a-z0-9]+(-[a-z0-9]+)*", rule.id):
             told.append("the ID is no words with hyphens")
         if rule.id in seen:
