@@ -5,7 +5,7 @@ from .places import CASES, TOP, case_pattern, line_of, text
 from .rules import read_rules, wrong_bodies
 from .sources import Sources
 
-MOST_WORDS, MOST_UNTRIED = 20, 35
+MOST_WORDS, MOST_UNTRIED = 20, 25
 ITEM = r"\b(?:fn|enum|struct|trait|type|const|static) {}\b"
 
 

@@ -100,11 +100,21 @@ class Touched:
         ids = {rule.id for rule in self.rules if self.is_named_by(rule)}
         functions = [it for it in self.sources.functions if it.name == self.name]
         for path, named in wrong_bodies().items():
-            rules = [name for name in named if name in ids]
-            if rules or short(path).split("/")[-1] == self.name:
+            if short(path).split("/")[-1] == self.name:
+                self.look_at_wrong_body(path, named)
+            elif ids.intersection(named):
                 self.add("wrong bodies", path, 1, ", ".join(named))
             elif any(changes(path, it, self.sources) for it in functions):
                 self.add("wrong bodies", path, 1, f"it changes {self.name}")
+
+    def look_at_wrong_body(self, path, named):
+        self.add("declared", path, 1, "a wrong body")
+        for it in self.sources.functions:
+            if changes(path, it, self.sources):
+                self.add("declared", it.path, it.line, f"{it.name}, which it changes")
+        for rule in self.rules:
+            if rule.id in named:
+                self.add("rules", "docs/rules.tsv", rule.number, f"{rule.id}: {rule.text}")
 
     def look_at_texts(self):
         word = re.compile(rf"(?<![\w]){re.escape(self.name)}(?![\w])")
@@ -126,14 +136,16 @@ class Touched:
 
 def changes(path, function, sources):
     """Whether a wrong body changes a line of a function."""
-    crate = path.split("/")[1]
-    lines = dict(re.findall(r"^(file|old): (.*)$", text(path), re.M))
-    if function.path != f"crates/{crate}/{lines.get('file', '')}":
-        return False
-    at = text(function.path).find(lines.get("old", "\0"))
-    line = text(function.path).count("\n", 0, at) + 1
-    before = [it.line for it in sources.functions if it.path == function.path and it.line <= line]
-    return at >= 0 and before and max(before) == function.line
+    crate, file = path.split("/")[1], ""
+    starts = [it.line for it in sources.functions if it.path == function.path]
+    for word, rest in re.findall(r"^(file|old): (.*)$", text(path), re.M):
+        if word == "file":
+            file = f"crates/{crate}/{rest}"
+        elif file == function.path and rest in text(file):
+            line = text(file).count("\n", 0, text(file).index(rest)) + 1
+            if max((start for start in starts if start <= line), default=0) == function.line:
+                return True
+    return False
 
 
 def all_of(name):

@@ -15,13 +15,23 @@ code { font-size: 12px; overflow-wrap: anywhere; } .id { color: #555; } .at { co
 td { width: 18%; } td:first-child { width: 24%; }
 """
 
-COLUMNS = [
-    ("rule", "its ID, by which wrong bodies name it, and what it says. Each stands under the heading of the page in docs/ that explains it."),
-    ("definitions", "the names in specs/ that say the rule for the prover, with file and line. 'none' says why there is none; of 'tested alone' no contract says the rule."),
-    ("functions", "the functions in src/ whose proved contract cites one of the definitions, or a definition that does; after a line, those that contracts do not lead to, named by hand."),
-    ("wrong bodies", "changes of a function that break the rule, which the prover has to refuse: those of must-fail/ in the gate, those of wrong-bodies/ by ./wrong-bodies. No entry says that none was written; the proof is what holds the rule."),
-    ("tests", "what tries the rule on running code. A plain name is a test function, or a table of rows that one tries. A law is a proved statement of the definitions, for all values; a computed one is a worked example. A case is a call of the program whose output the gate compares. A sweep is a table, a file or a part of sweeps/run, and a script one that ./check runs. 'none' says that nothing tries it but the proof."),
-]
+COLUMNS = {
+    "rule": """its ID, by which wrong bodies name it, and what it says, under the heading of the page in docs/ that
+    explains it. (*own*) marks a rule of this project's profile, which the standard leaves open; all rules of AUDIT, and
+    those of texts and runs, are so without the mark.""",
+    "definitions": """the names in specs/ that say the rule for the prover, with file and line. 'none' says why there is
+    none; of 'tested alone' no contract says the rule.""",
+    "functions": """the functions in src/ whose proved contract cites one of the definitions, or a definition that does;
+    where these are more than eight, those that cite one directly, if these are fewer. Below a line stand those that
+    contracts do not lead to so, or lead to among too many: they are named by hand.""",
+    "wrong bodies": """changes of a function that break the rule, which the prover has to refuse: those of must-fail/ in
+    the gate, those of wrong-bodies/ by ./wrong-bodies. Where none stands the proof alone holds the function to the
+    rule, and no change was written that shows it.""",
+    "tests": """what tries the rule on running code. A plain name is a test function, or a table of rows that one tries.
+    A law is a proved statement of the definitions, for all values; a computed one is a worked example. A case is a call
+    of the program whose output the gate compares. A sweep is a table, a file or a part of sweeps/run, and a script one
+    that ./check runs. 'none' says that nothing but the proof tries it, or what is left to a reader.""",
+}
 
 
 def commit():
@@ -61,7 +71,7 @@ def function_cell(rule, sources):
         line = next((it.line for it in sources.functions if it.file == file and it.name == name), 0)
         by_hand.append(named(name, f"{crate}/src/{path}", line))
     if not by_contract and not by_hand:
-        return "none: the laws among the tests"
+        return "none: laws say it, among the tests"
     return listed(by_contract) + ("<hr>" if by_contract and by_hand else "") + listed(by_hand)
 
 
@@ -92,8 +102,8 @@ def rows(rules, sources):
 def page():
     """The whole page."""
     rules, sources = read_rules()[0], Sources()
-    told = "".join(f"<dt>{name}</dt><dd>{html.escape(what)}</dd>" for name, what in COLUMNS)
-    head = "".join(f"<th>{name}</th>" for name, _ in COLUMNS)
+    told = "".join(f"<dt>{name}</dt><dd>{html.escape(what)}</dd>" for name, what in COLUMNS.items())
+    head = "".join(f"<th>{name}</th>" for name in COLUMNS)
     return f"""<!DOCTYPE html>
 <html lang="en"><head><meta charset="utf-8"><title>Rules and what holds them</title><style>{STYLE}</style></head>
 <body><h1>Rules and what holds them</h1>

@@ -153,9 +153,12 @@ class Sources:
         return [it for other in self.through.get(key, []) for it in self.direct(other)]
 
     def found_for(self, rule, most=8):
-        """The functions of a rule: those whose contract cites one of its definitions, and, where these are few, those
-        that do so through one definition."""
+        """The functions of a rule: those whose contract cites one of its definitions, or a definition that does. Where
+        these are too many to say anything, those that cite one directly; of these, where they are too many, those of
+        the crates of the definitions; and else none."""
         keys = rule.names(rule.definitions)
+        crates = {file.split("/")[0] for file, _ in keys}
         direct = {it: None for key in keys for it in self.direct(key)}
         both = direct | {it: None for key in keys for it in self.one_step(key)}
-        return list(both if len(both) <= most or not direct else direct)
+        near = [it for it in direct if it.crate in crates]
+        return next((list(found) for found in (both, direct, near) if 0 < len(found) <= most), [])
