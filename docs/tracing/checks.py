@@ -10,6 +10,7 @@ ITEM = r"\b(?:fn|enum|struct|trait|type|const|static) {}\b"
 
 
 def definition_faults(rule, sources):
+    """Which definitions of a rule are not where it says."""
     for place in rule.definitions:
         if place.kind or not text(place.path("specs")):
             yield f"no file {place.file} of specs/"
@@ -24,6 +25,7 @@ def definition_faults(rule, sources):
 
 
 def function_faults(rule, sources):
+    """Which functions of the sixth column are not there, or are found without it."""
     if not rule.functions:
         return
     found = {(it.file, it.name) for it in sources.found_for(rule)}
@@ -36,6 +38,7 @@ def function_faults(rule, sources):
 
 
 def parts_of_sweeps():
+    """The parts that `sweeps/run` knows."""
     return re.search(r'^parts="([^"]*)"', text("sweeps/run"), re.M)[1].split()
 
 
@@ -52,6 +55,7 @@ def sweep_faults(place):
 
 
 def test_faults(rule, sources):
+    """Which tests, laws, cases, sweeps and scripts of a rule are not there."""
     laws = {(it.file, it.name) for it in sources.functions if it.is_law}
     for place in rule.tests:
         if place.kind == "case" and not line_of(CASES, case_pattern(place.file)):
@@ -71,6 +75,7 @@ def test_faults(rule, sources):
 
 
 def is_untried(rule):
+    """Whether nothing but the proof tries a rule."""
     return all(place.kind == "none" for place in rule.tests)
 
 

@@ -1,7 +1,7 @@
 """All that touches a name: a definition, a function, a rule, a test or a wrong body."""
 import re
 from .links import anchors_at
-from .places import CASES, all_files, case_pattern, files, line_of, text
+from .places import CASES, all_files, case_pattern, files, is_test_crate, line_of, text
 from .rules import read_rules, short, wrong_bodies
 from .sources import Sources
 
@@ -27,7 +27,8 @@ class Touched:
             self.groups[group].append(entry)
 
     def add_function(self, group, it):
-        self.add("laws" if it.is_law else "tests" if it.crate.endswith(("_tests", "_trials")) else group, it.path, it.line, it.name)
+        """Adds a function to a group, but a law and a test to their own."""
+        self.add("laws" if it.is_law else "tests" if is_test_crate(it.crate) else group, it.path, it.line, it.name)
 
     def look(self):
         self.look_at_declarations()
@@ -61,6 +62,7 @@ class Touched:
             self.add_function("functions whose contract cites it", function)
 
     def is_named_by(self, rule):
+        """Whether a rule has the name for its ID, or in one of its cells."""
         cells = rule.definitions + rule.tests + rule.functions
         return rule.id == self.name or any(self.name in place.names for place in cells)
 
@@ -82,15 +84,22 @@ class Touched:
             self.add_function("functions whose contract cites it", it)
         for file, name in rule.names(rule.functions):
             path = file.replace("/", "/src/", 1)
-            self.add("functions whose contract cites it", f"crates/{path}", line_of(f"crates/{path}", rf"\b{name}\b"), f"{name}, by the sixth column")
+            self.add("functions whose contract cites it", f"crates/{path}", line_of(f"crates/{path}", rf"\b(?:fn|enum|struct|type) {name}\b"), f"{name}, by the sixth column")
         for place in rule.tests:
-            self.look_at_test(place)
+            self.look_at_test(rule, place)
 
-    def look_at_test(self, place):
+    def look_at_test(self, rule, place):
         if place.kind == "case":
             self.add("cases", CASES, line_of(CASES, case_pattern(place.file)), place.file)
-        elif place.kind in ("sweep", "script", "none"):
-            self.add("sweeps", place.file if place.kind != "sweep" else f"sweeps/{place.file}", 1, ", ".join(place.names) or place.kind)
+        elif place.kind == "none":
+            self.add("tests", "docs/rules.tsv", rule.number, f"none: {place.file}")
+        elif place.kind == "script":
+            self.add("sweeps", place.file, 1)
+        elif place.kind == "sweep" and "." not in place.file:
+            self.add("sweeps", "sweeps/run", line_of("sweeps/run", "^parts="), place.file)
+        elif place.kind == "sweep":
+            for name in place.names or [""]:
+                self.add("sweeps", f"sweeps/{place.file}", line_of(f"sweeps/{place.file}", rf"^(?:def )?{name}\b") if name else 1, name)
         else:
             for name in place.names:
                 path = place.path("src")
@@ -117,6 +126,7 @@ class Touched:
                 self.add("rules", "docs/rules.tsv", rule.number, f"{rule.id}: {rule.text}")
 
     def look_at_texts(self):
+        """Finds where proofs, sweeps, pages and tests spell the name."""
         word = re.compile(rf"(?<![\w]){re.escape(self.name)}(?![\w])")
         kinds = [("proofs that spell it", r"crates/[^/]*/proofs/.*\.antt$"), ("sweeps", r"sweeps/"), ("pages", r".*\.md$")]
         kinds += [("tests", r"crates/\w*_(?:tests|trials)/src/.*\.rt$")]
@@ -128,6 +138,7 @@ class Touched:
                         self.add(group, path, text(path).count("\n", 0, found.start()) + 1)
 
     def told(self):
+        """The lines that tell it, each group under its name."""
         for group, entries in self.groups.items():
             if entries:
                 yield f"{group}:"

@@ -48,15 +48,18 @@ def shown(told):
 
 
 def listed(entries):
+    """The entries of a cell."""
     return "<br>".join(entries)
 
 
 def named(name, path, line):
+    """A name with where it stands."""
     where = f"{path}:{line}" if line else path
     return f'<code>{html.escape(name)}</code> <code class="at">{html.escape(where)}</code>'
 
 
 def definition_cell(rule, sources):
+    """The definitions of a rule."""
     if rule.untold:
         return html.escape(rule.untold)
     found = [sources.definitions[key] for key in rule.names(rule.definitions) if key in sources.definitions]
@@ -64,6 +67,7 @@ def definition_cell(rule, sources):
 
 
 def function_cell(rule, sources):
+    """The functions of a rule: those found by their contracts, and below a line those named by hand."""
     by_contract = [named(it.name, it.path.removeprefix("crates/"), it.line) for it in sources.found_for(rule)]
     by_hand = []
     for file, name in rule.names(rule.functions):
@@ -76,6 +80,7 @@ def function_cell(rule, sources):
 
 
 def test_cell(rule):
+    """The tests of a rule."""
     entries = []
     for place in rule.tests:
         kind = f"{place.kind}: " if place.kind == "none" else f"{place.kind} " if place.kind else ""
@@ -86,6 +91,7 @@ def test_cell(rule):
 
 
 def rows(rules, sources):
+    """The rows of the table: for each heading of a page one with it, and one for each rule."""
     bodies, page = {}, None
     for path, ids in wrong_bodies().items():
         for name in ids:

@@ -35,6 +35,11 @@ def line_of(path, pattern):
     return text(path).count("\n", 0, found.start()) + 1 if found else 0
 
 
+def is_test_crate(crate):
+    """Whether a crate only tries others."""
+    return bool(re.search(r"(?:^|_)(?:tests|trials)(?:_|$)", crate))
+
+
 def case_pattern(case):
     """The pattern of the line of `data/cases` that a case is: `..` stands for the setup or schedule of two nodes."""
     return "^" + re.escape(case).replace(re.escape(" .."), r" examples/runs/two\.(?:toml|txt)") + "$"

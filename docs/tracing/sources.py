@@ -1,7 +1,7 @@
 """What the sources of the crates say: the definitions of `specs/`, the functions of `src/` with their contracts, and
 which definitions each of them cites."""
 import re
-from .places import files, text
+from .places import files, is_test_crate, text
 
 DECLARED = re.compile(
     r"^( *)(?:(?:[a-z]+ )*(?:abbrev|unfoldable|record|data) (?:[a-z]+ )*)?pub (?:(?:abbrev|record|data|unfoldable) )?(\w+)(?=[ :({]|$)"
@@ -146,7 +146,7 @@ class Sources:
 
     def direct(self, key):
         """The functions, but for laws and tests, whose contract cites a definition."""
-        return [it for it in self.citing.get(key, []) if not it.is_law and not it.crate.endswith(("_tests", "_trials"))]
+        return [it for it in self.citing.get(key, []) if not it.is_law and not is_test_crate(it.crate)]
 
     def one_step(self, key):
         """Those whose contract cites a definition that cites it."""
