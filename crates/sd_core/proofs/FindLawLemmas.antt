@@ -4,12 +4,12 @@ use Rattle.std.specs.Option.{option_and_then, option_map_or, is_some}
 use Rattle.std.specs.FinMap as finite
 use Rattle.std.specs.declared.net.socket_addr.SocketAddrV4.{SocketAddrV4}
 use Rattle.someip_tables.proofs.MapLaws.{get-remove_own}
-use Rattle.sd_instances.specs.declared.keys.InstanceId.{InstanceId}
-use Rattle.sd_instances.specs.declared.phases.Phases.{Phases}
+use Rattle.sd_core.specs.declared.keys.InstanceId.{InstanceId}
+use Rattle.sd_core.specs.declared.phases.Phases.{Phases}
 use Rattle.sd_core.specs.declared.received.ReceivedOffer.{ReceivedOffer}
-use Rattle.sd_instances.specs.declared.sending.Sending.{Sending}
-use Rattle.sd_instances.specs.KeyOrder.{instances_total, exact_instances}
-use Rattle.sd_instances.specs.Sendings.{first_at, goes_out, after_find, due_at}
+use Rattle.sd_core.specs.declared.sending.Sending.{Sending}
+use Rattle.sd_core.specs.KeyOrder.{instances_total, exact_instances}
+use Rattle.sd_core.specs.Sendings.{first_at, goes_out, after_find, due_at}
 use Rattle.sd_core.specs.SeekTables.{SeekTable, searching, seek_after_tick, learned}
 use Rattle.sd_core.specs.OfferMoments.{offer_moment, seek_after, sends_find}
 use Rattle.sd_core.proofs.ShownLemmas.{get-shown}

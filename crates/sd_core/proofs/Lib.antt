@@ -1,3 +1,7 @@
+pub mod SubscriberLemmas
+pub mod SubscriptionRunLemmas
+pub mod OctetLemmas
+pub mod PeerLemmas
 pub mod ShownLemmas
 pub mod ChangedLemmas
 pub mod ShownChanges

@@ -4,9 +4,9 @@ use Rattle.std.proofs.Math.Nat.{two-pow-succ, mul-add, add-mul, one-mul}
 use Rattle.std.proofs.lemmas.Nat.{pow_pos, mul-le}
 use Rattle.std.proofs.lemmas.Bool.{lt-ltb, le-ltb, ltb-true, ltb-false, le-leb, lt-leb, leb-true, leb-false}
 use Rattle.std.specs.Option.{option_and_then, option_map_or}
-use Rattle.sd_instances.specs.declared.phases.Phases.{Phases}
-use Rattle.sd_instances.specs.declared.sending.Sending.{Sending}
-use Rattle.sd_instances.specs.Sendings.{wait, first_at, goes_out, after_sending, sent_if_due, after_find}
+use Rattle.sd_core.specs.declared.phases.Phases.{Phases}
+use Rattle.sd_core.specs.declared.sending.Sending.{Sending}
+use Rattle.sd_core.specs.Sendings.{wait, first_at, goes_out, after_sending, sent_if_due, after_find}
 use Rattle.sd_core.specs.OfferMoments.{offer_moment}
 
 -- ---- the moments

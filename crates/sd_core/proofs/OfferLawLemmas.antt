@@ -4,13 +4,13 @@ use Rattle.std.specs.Option.{option_and_then, option_map, option_map_or, is_some
 use Rattle.std.specs.FinMap as finite
 use Rattle.someip_tables.specs.Retained.{kept_if}
 use Rattle.someip_tables.proofs.Entries.{get-retain}
-use Rattle.sd_instances.specs.declared.keys.InstanceId.{InstanceId}
+use Rattle.sd_core.specs.declared.keys.InstanceId.{InstanceId}
 use Rattle.sd_core.specs.declared.version.Version.{Version}
-use Rattle.sd_instances.specs.declared.phases.Phases.{Phases}
-use Rattle.sd_instances.specs.declared.sending.Sending.{Sending}
-use Rattle.sd_instances.specs.Keys.{instance_cmp}
-use Rattle.sd_instances.specs.KeyOrder.{instances_total, exact_instances}
-use Rattle.sd_instances.specs.Sendings.{first_at, goes_out, sent_if_due, due_at}
+use Rattle.sd_core.specs.declared.phases.Phases.{Phases}
+use Rattle.sd_core.specs.declared.sending.Sending.{Sending}
+use Rattle.sd_core.specs.Keys.{instance_cmp}
+use Rattle.sd_core.specs.KeyOrder.{instances_total, exact_instances}
+use Rattle.sd_core.specs.Sendings.{first_at, goes_out, sent_if_due, due_at}
 use Rattle.sd_core.specs.OfferTables.{OfferTable, started, after_tick}
 use Rattle.sd_core.specs.OfferMoments.{offer_moment, offers_after, sends_offer}
 use Rattle.sd_core.proofs.ShownLemmas.{get-shown}

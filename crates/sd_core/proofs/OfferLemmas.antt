@@ -8,15 +8,15 @@ use Rattle.someip_tables.specs.Retained.{retain}
 use Rattle.someip_tables.specs.Waits.{is_due_by, due_by}
 use Rattle.someip_tables.proofs.MapLaws.{remove_absent, insert_present}
 use Rattle.someip_tables.proofs.SortedEntries.{keys-empty, no_keys}
-use Rattle.sd_instances.specs.declared.keys.InstanceId.{InstanceId}
+use Rattle.sd_core.specs.declared.keys.InstanceId.{InstanceId}
 use Rattle.sd_core.specs.declared.version.Version.{Version}
 use Rattle.sd_core.specs.declared.version.Sought.{Sought}
-use Rattle.sd_instances.specs.declared.phases.Phases.{Phases}
-use Rattle.sd_instances.specs.declared.sending.Sending.{Sending}
+use Rattle.sd_core.specs.declared.phases.Phases.{Phases}
+use Rattle.sd_core.specs.declared.sending.Sending.{Sending}
 use Rattle.sd_core.specs.declared.offers.Offering.{Offering}
-use Rattle.sd_instances.specs.Keys.{instance_cmp}
-use Rattle.sd_instances.specs.KeyOrder.{instances_total, exact_instances}
-use Rattle.sd_instances.specs.Sendings.{goes_out, has_sent, after_sending, sent_if_due, due_at}
+use Rattle.sd_core.specs.Keys.{instance_cmp}
+use Rattle.sd_core.specs.KeyOrder.{instances_total, exact_instances}
+use Rattle.sd_core.specs.Sendings.{goes_out, has_sent, after_sending, sent_if_due, due_at}
 use Rattle.sd_core.specs.OfferTables.{offers_of, started_at, after_tick, without, answering, is_sought}
 use Rattle.sd_core.specs.Waiting.{offering_moment}
 use Rattle.sd_core.proofs.ShownChanges.{shown-changed, shown-changed_same}

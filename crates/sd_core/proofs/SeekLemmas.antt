@@ -19,17 +19,17 @@ use Rattle.someip_tables.proofs.Entries.{get-retain}
 use Rattle.someip_tables.proofs.Firsts.{earlier_due}
 use Rattle.someip_tables.proofs.MapLaws.{retain_none}
 use Rattle.someip_tables.proofs.SortedEntries.{keys-empty, no_keys}
-use Rattle.sd_instances.specs.declared.keys.InstanceId.{InstanceId}
-use Rattle.sd_instances.specs.declared.phases.Phases.{Phases}
+use Rattle.sd_core.specs.declared.keys.InstanceId.{InstanceId}
+use Rattle.sd_core.specs.declared.phases.Phases.{Phases}
 use Rattle.sd_core.specs.declared.received.ReceivedOffer.{ReceivedOffer}
 use Rattle.sd_core.specs.declared.received.KnownOffer.{KnownOffer}
 use Rattle.sd_core.specs.declared.received.Uncounted.TheVariants.{Unwanted}
-use Rattle.sd_instances.specs.declared.sending.Sending.{Sending}
+use Rattle.sd_core.specs.declared.sending.Sending.{Sending}
 use Rattle.sd_core.specs.declared.want.Want.{Want}
-use Rattle.sd_instances.specs.Keys.{instance_cmp}
-use Rattle.sd_instances.specs.KeyOrder.{instances_total, exact_instances}
+use Rattle.sd_core.specs.Keys.{instance_cmp}
+use Rattle.sd_core.specs.KeyOrder.{instances_total, exact_instances}
 use Rattle.sd_core.specs.Shown.{shown}
-use Rattle.sd_instances.specs.Sendings.{goes_out, after_sending, after_find, due_at}
+use Rattle.sd_core.specs.Sendings.{goes_out, after_sending, after_find, due_at}
 use Rattle.sd_core.specs.SeekTables.{IsQuiet, KnowsWanted, seek_of, searching_from, seek_after_tick, known_at, offer_refusal, uncounted, stands_by, known_of, forgetting, is_wanted, is_stopped}
 use Rattle.sd_core.specs.Waiting.{want_moment}
 use Rattle.sd_core.proofs.AmongLemmas.{keys-among}

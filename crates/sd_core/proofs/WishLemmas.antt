@@ -18,25 +18,25 @@ use Rattle.someip_tables.specs.Waits.{due_by, is_due_by}
 use Rattle.someip_tables.proofs.Entries.{from_entries-entries, get-retain, own_test, same_by_test, true_from}
 use Rattle.someip_tables.proofs.Members.{any_filter, any_same, or_false, or_moved}
 use Rattle.someip_tables.proofs.Sorted.{keys_of_set}
-use Rattle.sd_instances.specs.declared.keys.InstanceId.{InstanceId}
-use Rattle.sd_instances.specs.declared.eventgroup.Eventgroup.{Eventgroup}
-use Rattle.sd_wishes.specs.declared.wish.Beginning.{Beginning}
-use Rattle.sd_wishes.specs.declared.wish.OutgoingSubscribe.{OutgoingSubscribe}
-use Rattle.sd_wishes.specs.declared.wish.Stage.{Stage}
-use Rattle.sd_wishes.specs.declared.wish.Stage.TheVariants.{Unwished, Waiting, Begun}
-use Rattle.sd_wishes.specs.declared.wish.Wish.{Wish}
-use Rattle.sd_instances.specs.Keys.{instance_cmp}
-use Rattle.sd_instances.specs.KeyOrder.{instances_total, exact_instances}
-use Rattle.sd_instances.specs.Eventgroups.{eventgroup_cmp}
-use Rattle.sd_instances.specs.EventgroupOrder.{eventgroups_total, exact_eventgroups}
+use Rattle.sd_core.specs.declared.keys.InstanceId.{InstanceId}
+use Rattle.sd_core.specs.declared.eventgroup.Eventgroup.{Eventgroup}
+use Rattle.sd_core.specs.declared.wish.Beginning.{Beginning}
+use Rattle.sd_core.specs.declared.wish.OutgoingSubscribe.{OutgoingSubscribe}
+use Rattle.sd_core.specs.declared.wish.Stage.{Stage}
+use Rattle.sd_core.specs.declared.wish.Stage.TheVariants.{Unwished, Waiting, Begun}
+use Rattle.sd_core.specs.declared.wish.Wish.{Wish}
+use Rattle.sd_core.specs.Keys.{instance_cmp}
+use Rattle.sd_core.specs.KeyOrder.{instances_total, exact_instances}
+use Rattle.sd_core.specs.Eventgroups.{eventgroup_cmp}
+use Rattle.sd_core.specs.EventgroupOrder.{eventgroups_total, exact_eventgroups}
 use Rattle.sd_core.specs.Endings.{ends_at}
-use Rattle.sd_wishes.specs.Wishes.{begun_at, counter_in, has_begun, has_ended, is_over, is_renewed_by, is_wished, stands_with, subscribe_of, subscribing, moment_in, moment_of}
+use Rattle.sd_core.specs.Wishes.{begun_at, counter_in, has_begun, has_ended, is_over, is_renewed_by, is_wished, stands_with, subscribe_of, subscribing, moment_in, moment_of}
 use Rattle.sd_core.specs.WishTables.{Wishes, begun_where, subscribes, any_begun, any_wished, begun_of, begun_of_any, is_of, is_of_any, least_of, over_at, wished_of}
 use Rattle.sd_core.proofs.ChangedLemmas.{some_found_in}
 use Rattle.someip_tables.proofs.RunLemmas.{filter_twice, run_is}
 use Rattle.someip_tables.proofs.SortedEntries.{entries-retain, keys-empty, none_chosen, same_keys}
-use Rattle.sd_subscribers.proofs.SubscriberLemmas.{some_passes}
-use Rattle.sd_subscribers.proofs.SubscriptionRunLemmas.{any_either, any_none, le_then, tied_le, turned, zero_first}
+use Rattle.sd_core.proofs.SubscriberLemmas.{some_passes}
+use Rattle.sd_core.proofs.SubscriptionRunLemmas.{any_either, any_none, le_then, tied_le, turned, zero_first}
 
 -- ---- of any map
 

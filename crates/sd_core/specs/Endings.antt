@@ -4,11 +4,11 @@ use Rattle.std.specs.List.{list_any}
 use Rattle.std.specs.Ordering.{eq_by_cmp}
 use Rattle.sd_core.specs.declared.ending.Ending.{Ending}
 use Rattle.sd_core.specs.declared.ending.Ending.TheVariants.{Offer, Reboot, Time}
-use Rattle.sd_instances.specs.declared.keys.InstanceId.{InstanceId}
-use Rattle.sd_instances.specs.declared.eventgroup.Eventgroup.{Eventgroup}
-use Rattle.sd_wishes.specs.declared.wish.Beginning.{Beginning}
-use Rattle.sd_instances.specs.Keys.{instance_cmp}
-use Rattle.sd_wishes.specs.Wishes.{is_over, is_with}
+use Rattle.sd_core.specs.declared.keys.InstanceId.{InstanceId}
+use Rattle.sd_core.specs.declared.eventgroup.Eventgroup.{Eventgroup}
+use Rattle.sd_core.specs.declared.wish.Beginning.{Beginning}
+use Rattle.sd_core.specs.Keys.{instance_cmp}
+use Rattle.sd_core.specs.Wishes.{is_over, is_with}
 
 -- a moment ends the subscription of an eventgroup: the time of its Ack has passed, or its instance is one of these, whose
 -- known offers passed

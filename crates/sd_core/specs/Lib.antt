@@ -1,3 +1,14 @@
+pub mod Names
+pub mod SubscriptionKeys
+pub mod SubscriptionOrder
+pub mod SubscriberTables
+pub mod SubscriptionRuns
+pub mod Wishes
+pub mod Keys
+pub mod KeyOrder
+pub mod Eventgroups
+pub mod EventgroupOrder
+pub mod Sendings
 pub mod Shown
 pub mod OfferTables
 pub mod WishTables

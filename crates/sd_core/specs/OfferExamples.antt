@@ -1,7 +1,7 @@
 -- Two ways to send Offers and Finds.
 use Rattle.std.specs.Prelude.{refl}
 use Rattle.std.proofs.lemmas.Bool.{leb-true}
-use Rattle.sd_instances.specs.declared.phases.Phases.{Phases}
+use Rattle.sd_core.specs.declared.phases.Phases.{Phases}
 
 -- a base delay of 30 ms, three repetitions, and a cyclic delay of a second
 abbrev pub three_repetitions : Phases

@@ -1,9 +1,9 @@
 -- The moments of Offers and Finds (SOME/IP Service Discovery Protocol, "Startup behavior").
 use Rattle.std.specs.Prelude.{ℕ, zero, suc, ◌+◌, ◌-◌, ◌*◌, ◌^◌, nat_le, Bool, if◌then◌else◌, is_some}
 use Rattle.std.specs.FinMap as finite
-use Rattle.sd_instances.specs.declared.keys.InstanceId.{InstanceId}
-use Rattle.sd_instances.specs.declared.phases.Phases.{Phases}
-use Rattle.sd_instances.specs.Sendings.{due_at}
+use Rattle.sd_core.specs.declared.keys.InstanceId.{InstanceId}
+use Rattle.sd_core.specs.declared.phases.Phases.{Phases}
+use Rattle.sd_core.specs.Sendings.{due_at}
 use Rattle.sd_core.specs.OfferTables.{OfferTable, after_tick}
 use Rattle.sd_core.specs.SeekTables.{SeekTable, seek_after_tick}
 

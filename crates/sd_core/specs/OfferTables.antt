@@ -5,15 +5,15 @@ use Rattle.std.specs.Coded.{Coded, code_by, coded×, coded_ℕ}
 use Rattle.std.specs.FinMap as finite
 use Rattle.std.specs.FinMap.{FinMap}
 use Rattle.someip_tables.specs.Retained.{retain}
-use Rattle.sd_instances.specs.declared.keys.InstanceId.{InstanceId}
+use Rattle.sd_core.specs.declared.keys.InstanceId.{InstanceId}
 use Rattle.sd_core.specs.declared.version.Version.{Version}
 use Rattle.sd_core.specs.declared.version.Sought.{Sought}
-use Rattle.sd_instances.specs.declared.phases.Phases.{Phases}
-use Rattle.sd_instances.specs.declared.sending.Sending.{Sending}
+use Rattle.sd_core.specs.declared.phases.Phases.{Phases}
+use Rattle.sd_core.specs.declared.sending.Sending.{Sending}
 use Rattle.sd_core.specs.declared.offers.Offering.{Offering}
-use Rattle.sd_instances.specs.Keys.{instance_cmp, coded_instance}
+use Rattle.sd_core.specs.Keys.{instance_cmp, coded_instance}
 use Rattle.sd_core.specs.Shown.{shown, map_values}
-use Rattle.sd_instances.specs.Sendings.{first_at, has_sent, sent_if_due, coded_sending}
+use Rattle.sd_core.specs.Sendings.{first_at, has_sent, sent_if_due, coded_sending}
 
 -- the versions of the instances that a node may offer, and when each that is up sends its next Offer
 pub record OfferTable : Type 0 where

@@ -12,19 +12,19 @@ use Rattle.someip_tables.specs.Deadlines.{deadline_after, has_passed}
 use Rattle.someip_tables.specs.Endpoints.{address_cmp, endpoint_cmp, coded_address, coded_endpoint}
 use Rattle.someip_tables.specs.Lastings.{unless_passed, expired, unexpired, coded_lasting}
 use Rattle.someip_tables.specs.Retained.{retain}
-use Rattle.sd_instances.specs.declared.keys.InstanceId.{InstanceId}
-use Rattle.sd_instances.specs.declared.phases.Phases.{Phases}
+use Rattle.sd_core.specs.declared.keys.InstanceId.{InstanceId}
+use Rattle.sd_core.specs.declared.phases.Phases.{Phases}
 use Rattle.sd_core.specs.declared.received.ReceivedOffer.{ReceivedOffer}
 use Rattle.sd_core.specs.declared.received.KnownOffer.{KnownOffer}
 use Rattle.sd_core.specs.declared.received.Counted.{Counted}
 use Rattle.sd_core.specs.declared.received.Counted.TheVariants.{New, Moved, Renewed}
 use Rattle.sd_core.specs.declared.received.Uncounted.{Uncounted}
 use Rattle.sd_core.specs.declared.received.Uncounted.TheVariants.{Unwanted, NoEndpoint, OtherPeer}
-use Rattle.sd_instances.specs.declared.sending.Sending.{Sending}
+use Rattle.sd_core.specs.declared.sending.Sending.{Sending}
 use Rattle.sd_core.specs.declared.want.Want.{Want}
-use Rattle.sd_instances.specs.Keys.{instance_cmp, coded_instance}
+use Rattle.sd_core.specs.Keys.{instance_cmp, coded_instance}
 use Rattle.sd_core.specs.Shown.{shown, map_values}
-use Rattle.sd_instances.specs.Sendings.{first_at, after_find, due_at, coded_sending}
+use Rattle.sd_core.specs.Sendings.{first_at, after_find, due_at, coded_sending}
 
 -- the major versions in which instances are wanted, the offers that are known of them and until when, and when each
 -- that is still searched for sends its next Find

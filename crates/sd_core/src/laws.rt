@@ -7,15 +7,15 @@ ghost use Rattle.std.specs.Prelude.{◌≡◌, ◌↔◌, ◌+◌, ◌≤◌, �
 ghost use Rattle.std.specs.Option.{is_some};
 ghost use Rattle.std.specs.FinMap as finite;
 ghost use Rattle.std.specs.declared.net.socket_addr.SocketAddrV4.{SocketAddrV4};
-ghost use Rattle.sd_instances.specs.declared.keys.InstanceId.{InstanceId};
-ghost use Rattle.sd_instances.specs.declared.phases.Phases.{Phases};
+ghost use Rattle.sd_core.specs.declared.keys.InstanceId.{InstanceId};
+ghost use Rattle.sd_core.specs.declared.phases.Phases.{Phases};
 ghost use Rattle.sd_core.specs.declared.received.ReceivedOffer.{ReceivedOffer};
-ghost use Rattle.sd_instances.specs.declared.sending.Sending.{Sending};
+ghost use Rattle.sd_core.specs.declared.sending.Sending.{Sending};
 ghost use Rattle.sd_core.specs.OfferExamples.{three_repetitions, no_repetitions};
 ghost use Rattle.sd_core.specs.OfferMoments.{offer_moment, sends_offer, sends_find};
 ghost use Rattle.sd_core.specs.OfferTables.{OfferTable, started, after_tick};
 ghost use Rattle.sd_core.specs.SeekTables.{SeekTable, searching, seek_after_tick, learned};
-ghost use Rattle.sd_instances.specs.Sendings.{wait, first_at, goes_out, due_at, sent_if_due};
+ghost use Rattle.sd_core.specs.Sendings.{wait, first_at, goes_out, due_at, sent_if_due};
 
 /// An instance that was started sends its Offers at exactly these moments, ticked at each millisecond
 /// from the delay on, or from a moment before it: at the delay and base * (2^k - 1) after it for k from

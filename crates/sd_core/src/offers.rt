@@ -10,16 +10,16 @@ ghost use Rattle.std.specs.Prelude.{◌≡◌, ◌≢◌, OnOk, OnErr, IfOk, Non
 ghost use Rattle.std.specs.FinMap as finite;
 ghost use Rattle.someip_tables.specs.Tables.{map_of};
 ghost use Rattle.someip_tables.specs.Waits.{HoldsFrom};
-ghost use Rattle.sd_instances.specs.Keys.{instance_cmp};
+ghost use Rattle.sd_core.specs.Keys.{instance_cmp};
 ghost use Rattle.std.specs.Option.{option_map, option_map_or};
-ghost use Rattle.sd_instances.specs.Sendings.{has_sent, after_sending, due_at};
+ghost use Rattle.sd_core.specs.Sendings.{has_sent, after_sending, due_at};
 ghost use Rattle.sd_core.specs.OfferTables.{offers_of, started, started_at, after_tick};
 ghost use Rattle.sd_core.specs.OfferTables.{answering, without};
 ghost use Rattle.sd_core.specs.Waiting.{offering_moment};
 
 use crate::chosen::keys_where;
 use crate::version::{Sought, Version};
-use sd_instances::{InstanceId, Phases, Sending};
+use crate::{InstanceId, Phases, Sending};
 use someip_tables::{Moment, TimedMap, Waits};
 use std::alloc::{AllocError, Global};
 use std::marker::Model;
@@ -77,7 +77,7 @@ pub struct Offers {
 
 impl Model for Offers {
     ghost use Rattle.someip_tables.specs.Tables.{map_of};
-    ghost use Rattle.sd_instances.specs.Keys.{instance_cmp};
+    ghost use Rattle.sd_core.specs.Keys.{instance_cmp};
     ghost use Rattle.sd_core.specs.OfferTables.{OfferTable, offers_of, coded_offers};
 
     ghost Value = { OfferTable };

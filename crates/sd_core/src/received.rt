@@ -1,5 +1,5 @@
 //! An Offer as it arrives, and what becomes of it.
-use sd_instances::InstanceId;
+use crate::InstanceId;
 use sd_wire::Ttl;
 use std::net::{Ipv4Addr, SocketAddrV4};
 use thiserror::Error;

@@ -17,9 +17,9 @@ ghost use Rattle.std.specs.FinMap as finite;
 ghost use Rattle.std.specs.declared.net.socket_addr.SocketAddrV4.{SocketAddrV4};
 ghost use Rattle.someip_tables.specs.Lastings.{expired};
 ghost use Rattle.someip_tables.specs.Tables.{map_of};
-ghost use Rattle.sd_instances.specs.Keys.{instance_cmp};
+ghost use Rattle.sd_core.specs.Keys.{instance_cmp};
 ghost use Rattle.someip_tables.specs.Waits.{HoldsFrom, due_by};
-ghost use Rattle.sd_instances.specs.Sendings.{due_at};
+ghost use Rattle.sd_core.specs.Sendings.{due_at};
 ghost use Rattle.sd_core.specs.SeekTables.{seek_of, searching, seek_after_tick};
 ghost use Rattle.sd_core.specs.SeekTables.{IsQuiet, KnowsWanted, uncounted, counted_as, known_at, learned};
 ghost use Rattle.sd_core.specs.SeekTables.{is_stopped, known_of, forgetting};
@@ -29,7 +29,7 @@ use crate::among::keys_among;
 use crate::chosen::keys_where;
 use crate::received::{Counted, KnownOffer, ReceivedOffer, Uncounted};
 use crate::want::{Want, admit, counted_as};
-use sd_instances::{InstanceId, Phases, Sending};
+use crate::{InstanceId, Phases, Sending};
 use someip_tables::{Deadline, Lasting, Moment, TimedMap};
 use std::alloc::{AllocError, Global};
 use std::marker::Model;
@@ -61,7 +61,7 @@ pub struct Seeker {
 
 impl Model for Seeker {
     ghost use Rattle.someip_tables.specs.Tables.{map_of};
-    ghost use Rattle.sd_instances.specs.Keys.{instance_cmp};
+    ghost use Rattle.sd_core.specs.Keys.{instance_cmp};
     ghost use Rattle.sd_core.specs.SeekTables.{SeekTable, seek_of, coded_seek};
 
     ghost Value = { SeekTable };

@@ -14,22 +14,21 @@ ghost use Rattle.std.specs.Option.{option_and_then};
 ghost use Rattle.std.specs.Ordering.{eq_by_cmp};
 ghost use Rattle.someip_tables.specs.Tables.{map_of};
 ghost use Rattle.someip_tables.specs.Waits.{HoldsFrom};
-ghost use Rattle.sd_instances.specs.Keys.{instance_cmp};
-ghost use Rattle.sd_instances.specs.Eventgroups.{eventgroup_cmp};
+ghost use Rattle.sd_core.specs.Keys.{instance_cmp};
+ghost use Rattle.sd_core.specs.Eventgroups.{eventgroup_cmp};
 ghost use Rattle.someip_tables.specs.Changed.{changed_at};
-ghost use Rattle.sd_wishes.specs.Wishes.{wish_of, wished_with, sent_at_once, standing, unwished};
-ghost use Rattle.sd_wishes.specs.Wishes.{acked_wish, nacked_wish, told_by_ack};
+ghost use Rattle.sd_core.specs.Wishes.{wish_of, wished_with, sent_at_once, standing, unwished};
+ghost use Rattle.sd_core.specs.Wishes.{acked_wish, nacked_wish, told_by_ack};
 ghost use Rattle.sd_core.specs.WishTables.{offered, subscribes};
-ghost use Rattle.sd_wishes.specs.Wishes.{is_answered, is_over, is_subscribed};
+ghost use Rattle.sd_core.specs.Wishes.{is_answered, is_over, is_subscribed};
 ghost use Rattle.sd_core.specs.WishTables.{begun_where, ended_where};
 ghost use Rattle.sd_core.specs.Endings.{ends_at};
-ghost use Rattle.sd_wishes.specs.Wishes.{is_with};
+ghost use Rattle.sd_core.specs.Wishes.{is_with};
 
 use crate::ending::{Ending, end};
 use crate::wish_table::{WishTable, subscribes, wish_in, wished_of};
-use sd_instances::{Eventgroup, InstanceId};
+use crate::{Acked, Beginning, Eventgroup, InstanceId, OutgoingSubscribe, SubscribeAnswer};
 use sd_wire::{SubscriptionCounter, Ttl};
-use sd_wishes::{Acked, Beginning, OutgoingSubscribe, SubscribeAnswer};
 use someip_tables::{Moment, TimedMap};
 use std::alloc::{AllocError, Global};
 use std::marker::Model;
@@ -57,7 +56,7 @@ pub struct Subscriptions {
 
 impl Model for Subscriptions {
     ghost use Rattle.someip_tables.specs.Tables.{map_of};
-    ghost use Rattle.sd_instances.specs.Eventgroups.{eventgroup_cmp};
+    ghost use Rattle.sd_core.specs.Eventgroups.{eventgroup_cmp};
     ghost use Rattle.sd_core.specs.WishTables.{Wishes, coded_wishes};
 
     ghost Value = { Wishes };

@@ -1,5 +1,5 @@
 //! The version of an instance, and what a Find asks for.
-use sd_instances::InstanceId;
+use crate::InstanceId;
 
 /// The version of an instance's interface.
 #[derive(Clone, Copy, Debug, PartialEq, Eq)]

@@ -4,13 +4,13 @@ ghost use Rattle.std.specs.Option.{option_and_then, option_map_or};
 ghost use Rattle.someip_tables.specs.Deadlines.{has_passed};
 ghost use Rattle.someip_tables.specs.Lastings.{unless_passed};
 ghost use Rattle.someip_tables.specs.Retained.{kept_if};
-ghost use Rattle.sd_instances.specs.Sendings.{goes_out, after_find};
+ghost use Rattle.sd_core.specs.Sendings.{goes_out, after_find};
 ghost use Rattle.sd_core.specs.SeekTables.{known_at, is_wanted, stands_by};
 ghost use Rattle.sd_core.specs.SeekTables.{offer_refusal, counted_as};
 ghost use Rattle.sd_core.specs.Waiting.{want_moment};
 
 use crate::received::{Counted, KnownOffer, ReceivedOffer, Uncounted};
-use sd_instances::{Phases, Sending};
+use crate::{Phases, Sending};
 use someip_tables::{Deadline, Lasting, Moment, Waits, earlier, is_same_key};
 use std::net::{Ipv4Addr, SocketAddrV4};
 

@@ -4,12 +4,12 @@ use Rattle.std.specs.Option.{option_map}
 use Rattle.std.specs.List.{list_any}
 use Rattle.std.specs.FinMap as finite
 use Rattle.someip_tables.proofs.ChangedLemmas.{get-changed}
-use Rattle.audit_subscriptions.specs.declared.key.SubscriptionKey.{SubscriptionKey}
-use Rattle.audit_events.specs.declared.flow.EventFlow.{EventFlow}
-use Rattle.audit_events.specs.declared.last_event.LastEvent.{LastEvent}
-use Rattle.audit_events.specs.EventRules.{disturbed, is_between}
-use Rattle.audit_events.specs.EventTables.{Events, after_change}
-use Rattle.audit_events.specs.FlowOrder.{exact_flows, flows_total}
+use Rattle.audit_sd.specs.declared.subscriptions.key.SubscriptionKey.{SubscriptionKey}
+use Rattle.audit_traffic.specs.declared.events.flow.EventFlow.{EventFlow}
+use Rattle.audit_traffic.specs.declared.events.last_event.LastEvent.{LastEvent}
+use Rattle.audit_traffic.specs.events.EventRules.{disturbed, is_between}
+use Rattle.audit_traffic.specs.events.EventTables.{Events, after_change}
+use Rattle.audit_traffic.specs.events.FlowOrder.{exact_flows, flows_total}
 use Rattle.someip_audit.specs.Audits.{each_disturbed}
 
 twice : (a b : Bool) (v : Option LastEvent)

@@ -9,23 +9,23 @@ use Rattle.someip_tables.specs.declared.deadline.Deadline.TheVariants.{At, Never
 use Rattle.someip_tables.specs.Agendas.{is_awaited}
 use Rattle.someip_tables.specs.Deadlines.{has_passed, millis_of}
 use Rattle.someip_tables.specs.Waits.{HoldsFrom, due_by, earlier, is_due_by}
-use Rattle.audit_tables.proofs.FirstDues.{not_before}
+use Rattle.someip_tables.proofs.about_hashed.FirstDues.{not_before}
 use Rattle.std.specs.Option.{option_and_then}
-use Rattle.audit_calls.specs.declared.finding.Unanswered.{Unanswered}
-use Rattle.audit_calls.specs.CallBooks as calls
-use Rattle.audit_calls.specs.Overdue.{IsOpenCall, told_cmp, calls_after_due}
-use Rattle.audit_segments.specs.declared.told.Missing.{Missing}
-use Rattle.audit_segments.specs.MessageKeys.{message_cmp, message_key, messages_total, exact_messages}
-use Rattle.audit_segments.specs.SegmentBooks as segments
-use Rattle.audit_segments.specs.SegmentWaits as waits
-use Rattle.audit_offers.specs.declared.finding.Expired.{Expired}
-use Rattle.audit_offers.specs.OfferOrder.{offers_total, exact_offers}
-use Rattle.audit_offers.specs.OfferRules.{passes_at}
-use Rattle.audit_offers.specs.OfferTables as offers
-use Rattle.audit_subscriptions.specs.declared.finding.Unanswered as no_answer
-use Rattle.audit_subscriptions.specs.SubscriptionOrder.{subscriptions_total, exact_subscriptions}
-use Rattle.audit_subscriptions.specs.SubscribeRules.{waits_until}
-use Rattle.audit_subscriptions.specs.SubscribeTables as subscriptions
+use Rattle.audit_traffic.specs.declared.calls.finding.Unanswered.{Unanswered}
+use Rattle.audit_traffic.specs.calls.CallBooks as calls
+use Rattle.audit_traffic.specs.calls.Overdue.{IsOpenCall, told_cmp, calls_after_due}
+use Rattle.audit_traffic.specs.declared.segments.told.Missing.{Missing}
+use Rattle.audit_traffic.specs.segments.MessageKeys.{message_cmp, message_key, messages_total, exact_messages}
+use Rattle.audit_traffic.specs.segments.SegmentBooks as segments
+use Rattle.audit_traffic.specs.segments.SegmentWaits as waits
+use Rattle.audit_sd.specs.declared.offers.finding.Expired.{Expired}
+use Rattle.audit_sd.specs.offers.OfferOrder.{offers_total, exact_offers}
+use Rattle.audit_sd.specs.offers.OfferRules.{passes_at}
+use Rattle.audit_sd.specs.offers.OfferTables as offers
+use Rattle.audit_sd.specs.declared.subscriptions.finding.Unanswered as no_answer
+use Rattle.audit_sd.specs.subscriptions.SubscriptionOrder.{subscriptions_total, exact_subscriptions}
+use Rattle.audit_sd.specs.subscriptions.SubscribeRules.{waits_until}
+use Rattle.audit_sd.specs.subscriptions.SubscribeTables as subscriptions
 use Rattle.someip_audit.specs.declared.fell_due.FellDue.{FellDue}
 use Rattle.someip_audit.specs.declared.fell_due.FellDue.TheVariants as due
 use Rattle.someip_audit.specs.BooksHeld.{Held}

@@ -12,7 +12,7 @@ use Rattle.sd_wire.specs.declared.entry.ServiceKind.TheVariants.{Find, Offer}
 use Rattle.sd_wire.specs.contents.Endpoints.{first_udp_endpoint, options_of}
 use Rattle.sd_wire.specs.declared.message.ReadEntry.{ReadEntry}
 use Rattle.sd_wire.specs.contents.Values.{ReadValue, SdValue, good, bad_run, view_read}
-use Rattle.audit_sessions.specs.declared.message.SdMessage.{SdMessage}
+use Rattle.audit_sd.specs.declared.sessions.message.SdMessage.{SdMessage}
 use Rattle.someip_audit.specs.BooksHeld.{Held}
 use Rattle.someip_wire.specs.Discovery.{is_notification}
 use Rattle.someip_wire.specs.declared.header.Header.{Header}
@@ -20,20 +20,20 @@ use Rattle.someip_wire.specs.declared.error.WireError.{WireError}
 use Rattle.someip_wire.specs.Kinds.{has_tp_flag}
 use Rattle.someip_wire.specs.Spelling.{MessageValue}
 use Rattle.sd_wire.specs.decoding.Program.{reading}
-use Rattle.someip_segments.specs.declared.error.TpError.{TpError}
-use Rattle.audit_tables.specs.declared.origin.Origin.{Origin}
-use Rattle.audit_receivers.specs.ReceiverTables as receivers
-use Rattle.audit_segments.specs.SegmentBooks as segments
+use Rattle.someip_reassembly.specs.declared.error.TpError.{TpError}
+use Rattle.someip_tables.specs.declared.hashed.origin.Origin.{Origin}
+use Rattle.audit_sd.specs.receivers.ReceiverTables as receivers
+use Rattle.audit_traffic.specs.segments.SegmentBooks as segments
 use Rattle.someip_audit.specs.declared.finding.Finding.TheVariants as findings
 use Rattle.sd_wire.specs.declared.error.SdError.{SdError}
-use Rattle.audit_events.specs.EventTables as events
+use Rattle.audit_traffic.specs.events.EventTables as events
 use Rattle.someip_wire.specs.Reading.{items_of}
 use Rattle.someip_audit.specs.Audits.{Seen, datagram_shown, seen_work, without_passed}
 use Rattle.someip_audit.specs.WatchedEndpoints.{is_looked_at}
 use Rattle.someip_audit.specs.AnyShown.{any_shown, in_datagram, is_sd, item_len, item_shown, items_shown, payload_shown}
 use Rattle.someip_audit.specs.MessageShown.{call_shown, delivery, event_flow, event_seen, event_shown, flow_shown, has_no_tp_header, is_event, message_shown, piece_shown, segment_held, segment_shown, segment_told, whole_shown}
-use Rattle.audit_subscriptions.specs.declared.entry.SubscribeEntry.{SubscribeEntry}
-use Rattle.audit_receivers.specs.declared.entry.ReceiverEntry.{ReceiverEntry}
+use Rattle.audit_sd.specs.declared.subscriptions.entry.SubscribeEntry.{SubscribeEntry}
+use Rattle.audit_sd.specs.declared.receivers.entry.ReceiverEntry.{ReceiverEntry}
 use Rattle.someip_audit.specs.declared.finding.Finding.{Finding}
 use Rattle.someip_audit.specs.SdEntries.{named_endpoint, offer_entry, receiver_entry, sd_message, subscribe_entry, withdrawn_offer}
 use Rattle.someip_audit.specs.SdShown.{IsBegun, IsFront, Work, changed, endpoint_shown, entries_shown, entry_shown, good_shown, group_shown, head_shown, offer_shown, receiver_shown, sd_shown, service_shown, session_shown, subscribe_shown, with_told, withdrawn, working}

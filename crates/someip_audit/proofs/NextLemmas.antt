@@ -7,22 +7,22 @@ use Rattle.std.specs.Cmp.{IsTotalOrder}
 use Rattle.std.specs.FinMap as finite
 use Rattle.std.specs.FinMap.{IsAntisymmetric}
 use Rattle.std.proofs.lemmas.Bool.Decides.{nat_tests}
-use Rattle.audit_calls.specs.declared.finding.Unanswered.{Unanswered}
-use Rattle.audit_calls.specs.CallOrder.{calls_total, exact_calls}
-use Rattle.audit_calls.specs.Overdue.{IsOpenCall, unanswered}
-use Rattle.audit_segments.specs.declared.told.Missing.{Missing}
-use Rattle.audit_segments.specs.MessageKeys.{exact_messages, message_key, messages_total}
-use Rattle.audit_segments.specs.SegmentBooks.{IsWaiting}
-use Rattle.audit_segments.specs.declared.key.MessageKey.{MessageKey}
-use Rattle.audit_segments.specs.declared.waiting.Waiting.{Waiting}
+use Rattle.audit_traffic.specs.declared.calls.finding.Unanswered.{Unanswered}
+use Rattle.audit_traffic.specs.calls.CallOrder.{calls_total, exact_calls}
+use Rattle.audit_traffic.specs.calls.Overdue.{IsOpenCall, unanswered}
+use Rattle.audit_traffic.specs.declared.segments.told.Missing.{Missing}
+use Rattle.audit_traffic.specs.segments.MessageKeys.{exact_messages, message_key, messages_total}
+use Rattle.audit_traffic.specs.segments.SegmentBooks.{IsWaiting}
+use Rattle.audit_traffic.specs.declared.segments.key.MessageKey.{MessageKey}
+use Rattle.audit_traffic.specs.declared.segments.waiting.Waiting.{Waiting}
 use Rattle.someip_reassembly.specs.declared.key.ReassemblyKey.{ReassemblyKey}
-use Rattle.audit_offers.specs.declared.finding.Expired.{Expired}
-use Rattle.audit_offers.specs.OfferRules.{passes_at}
-use Rattle.audit_offers.specs.OfferOrder.{exact_offers, offers_total}
-use Rattle.audit_subscriptions.specs.declared.finding.Unanswered as no_answer
-use Rattle.audit_subscriptions.specs.declared.key.SubscriptionKey.{SubscriptionKey}
-use Rattle.audit_subscriptions.specs.declared.entry.Asked.{Asked}
-use Rattle.audit_subscriptions.specs.SubscriptionOrder.{exact_subscriptions, subscriptions_total}
+use Rattle.audit_sd.specs.declared.offers.finding.Expired.{Expired}
+use Rattle.audit_sd.specs.offers.OfferRules.{passes_at}
+use Rattle.audit_sd.specs.offers.OfferOrder.{exact_offers, offers_total}
+use Rattle.audit_sd.specs.declared.subscriptions.finding.Unanswered as no_answer
+use Rattle.audit_sd.specs.declared.subscriptions.key.SubscriptionKey.{SubscriptionKey}
+use Rattle.audit_sd.specs.declared.subscriptions.entry.Asked.{Asked}
+use Rattle.audit_sd.specs.subscriptions.SubscriptionOrder.{exact_subscriptions, subscriptions_total}
 use Rattle.someip_audit.specs.declared.fell_due.FellDue.{FellDue}
 use Rattle.someip_audit.specs.declared.fell_due.FellDue.TheVariants as due
 use Rattle.someip_audit.specs.BooksHeld.{Held}

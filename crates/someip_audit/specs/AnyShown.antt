@@ -8,7 +8,7 @@ use Rattle.sd_wire.specs.declared.error.SdError.{SdError}
 use Rattle.sd_wire.specs.declared.error.SdError.TheVariants as faults
 use Rattle.sd_wire.specs.decoding.Program.{reading}
 use Rattle.sd_wire.specs.contents.Values.{SdValue}
-use Rattle.audit_tables.specs.declared.origin.Origin.{Origin}
+use Rattle.someip_tables.specs.declared.hashed.origin.Origin.{Origin}
 use Rattle.someip_audit.specs.declared.finding.Finding.TheVariants as findings
 use Rattle.someip_audit.specs.MessageShown.{message_shown}
 use Rattle.someip_audit.specs.SdShown.{Work, sd_shown, with_told}

@@ -4,10 +4,10 @@ use Rattle.std.specs.FinMap as finite
 use Rattle.std.specs.Ordering.{is_le}
 use Rattle.someip_wire.specs.Reading.{items_of}
 use Rattle.someip_tables.specs.Lastings.{expired}
-use Rattle.audit_tables.specs.declared.origin.Origin.{Origin}
-use Rattle.audit_subscriptions.specs.declared.key.SubscriptionKey.{SubscriptionKey}
-use Rattle.audit_receivers.specs.ReceiverTables.{without_expired}
-use Rattle.audit_events.specs.EventTables.{Events, after_change}
+use Rattle.someip_tables.specs.declared.hashed.origin.Origin.{Origin}
+use Rattle.audit_sd.specs.declared.subscriptions.key.SubscriptionKey.{SubscriptionKey}
+use Rattle.audit_sd.specs.receivers.ReceiverTables.{without_expired}
+use Rattle.audit_traffic.specs.events.EventTables.{Events, after_change}
 use Rattle.someip_audit.specs.declared.fell_due.FellDue.{FellDue}
 use Rattle.someip_audit.specs.declared.finding.Finding.{Finding}
 use Rattle.someip_audit.specs.declared.rules.AuditRules.{AuditRules}

@@ -2,14 +2,14 @@
 use Rattle.std.specs.Prelude.{◌-◌, ◌+◌, ◌^◌, ℕ, min, false, List, Option, refl}
 use Rattle.std.specs.Coded.{Coded, code_by, coded×}
 use Rattle.std.specs.FinMap as finite
-use Rattle.audit_calls.specs.CallBooks as calls
-use Rattle.audit_calls.specs.CallCodes as codes
-use Rattle.audit_segments.specs.SegmentBooks as segments
-use Rattle.audit_offers.specs.OfferTables.{OfferTable, coded_offers}
-use Rattle.audit_subscriptions.specs.SubscribeTables.{SubscribeTable, coded_subscribes}
-use Rattle.audit_sessions.specs.SessionBooks.{Sessions, coded_sessions}
-use Rattle.audit_receivers.specs.ReceiverTables.{Receivers, coded_receivers}
-use Rattle.audit_events.specs.EventTables.{Events, coded_events}
+use Rattle.audit_traffic.specs.calls.CallBooks as calls
+use Rattle.audit_traffic.specs.calls.CallCodes as codes
+use Rattle.audit_traffic.specs.segments.SegmentBooks as segments
+use Rattle.audit_sd.specs.offers.OfferTables.{OfferTable, coded_offers}
+use Rattle.audit_sd.specs.subscriptions.SubscribeTables.{SubscribeTable, coded_subscribes}
+use Rattle.audit_sd.specs.sessions.SessionBooks.{Sessions, coded_sessions}
+use Rattle.audit_sd.specs.receivers.ReceiverTables.{Receivers, coded_receivers}
+use Rattle.audit_traffic.specs.events.EventTables.{Events, coded_events}
 use Rattle.someip_audit.specs.declared.rules.AuditRules.{AuditRules}
 use Rattle.someip_audit.specs.WatchedEndpoints.{Watch, coded_watch}
 

@@ -4,17 +4,17 @@ use Rattle.std.specs.declared.cmp.Ordering.{Ordering}
 use Rattle.std.specs.declared.cmp.Ordering.TheVariants.{Equal}
 use Rattle.std.specs.Ordering.{nat_cmp, ordering_then}
 use Rattle.std.specs.FinMap as finite
-use Rattle.audit_calls.specs.declared.finding.Unanswered.{Unanswered}
-use Rattle.audit_calls.specs.AuditedCalls.{call_cmp}
-use Rattle.audit_calls.specs.CallBooks as calls
-use Rattle.audit_calls.specs.Overdue.{IsOpenCall, calls_after_due}
-use Rattle.audit_segments.specs.MessageKeys.{message_cmp, message_key}
-use Rattle.audit_segments.specs.SegmentBooks as segments
-use Rattle.audit_offers.specs.OfferKeys.{offer_cmp}
-use Rattle.audit_offers.specs.OfferRules.{passes_at}
-use Rattle.audit_offers.specs.OfferTables as offers
-use Rattle.audit_subscriptions.specs.SubscriptionKeys.{subscription_cmp}
-use Rattle.audit_subscriptions.specs.SubscribeTables as subscriptions
+use Rattle.audit_traffic.specs.declared.calls.finding.Unanswered.{Unanswered}
+use Rattle.audit_traffic.specs.calls.AuditedCalls.{call_cmp}
+use Rattle.audit_traffic.specs.calls.CallBooks as calls
+use Rattle.audit_traffic.specs.calls.Overdue.{IsOpenCall, calls_after_due}
+use Rattle.audit_traffic.specs.segments.MessageKeys.{message_cmp, message_key}
+use Rattle.audit_traffic.specs.segments.SegmentBooks as segments
+use Rattle.audit_sd.specs.offers.OfferKeys.{offer_cmp}
+use Rattle.audit_sd.specs.offers.OfferRules.{passes_at}
+use Rattle.audit_sd.specs.offers.OfferTables as offers
+use Rattle.audit_sd.specs.subscriptions.SubscriptionKeys.{subscription_cmp}
+use Rattle.audit_sd.specs.subscriptions.SubscribeTables as subscriptions
 use Rattle.someip_audit.specs.declared.fell_due.FellDue.{FellDue}
 use Rattle.someip_audit.specs.declared.fell_due.FellDue.TheVariants as due
 use Rattle.someip_audit.specs.BooksHeld.{Held}

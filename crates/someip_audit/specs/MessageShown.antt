@@ -7,16 +7,16 @@ use Rattle.someip_wire.specs.declared.header.Header.{Header}
 use Rattle.someip_wire.specs.Discovery.{is_notification}
 use Rattle.someip_wire.specs.Kinds.{has_tp_flag}
 use Rattle.someip_wire.specs.Spelling.{MessageValue}
-use Rattle.someip_segments.specs.declared.error.TpError.{TpError}
-use Rattle.audit_tables.specs.declared.origin.Origin.{Origin}
-use Rattle.audit_calls.specs.CallBooks as calls
-use Rattle.audit_calls.specs.Tapped.{Tapped}
-use Rattle.audit_segments.specs.SegmentBooks as segments
-use Rattle.audit_receivers.specs.declared.delivery.Delivery.{Delivery}
-use Rattle.audit_receivers.specs.ReceiverTables as receivers
-use Rattle.audit_events.specs.declared.flow.EventFlow.{EventFlow}
-use Rattle.audit_events.specs.declared.notification.Notification.{Notification as EventSeen}
-use Rattle.audit_events.specs.EventTables as events
+use Rattle.someip_reassembly.specs.declared.error.TpError.{TpError}
+use Rattle.someip_tables.specs.declared.hashed.origin.Origin.{Origin}
+use Rattle.audit_traffic.specs.calls.CallBooks as calls
+use Rattle.audit_traffic.specs.calls.Tapped.{Tapped}
+use Rattle.audit_traffic.specs.segments.SegmentBooks as segments
+use Rattle.audit_sd.specs.declared.receivers.delivery.Delivery.{Delivery}
+use Rattle.audit_sd.specs.receivers.ReceiverTables as receivers
+use Rattle.audit_traffic.specs.declared.events.flow.EventFlow.{EventFlow}
+use Rattle.audit_traffic.specs.declared.events.notification.Notification.{Notification as EventSeen}
+use Rattle.audit_traffic.specs.events.EventTables as events
 use Rattle.someip_audit.specs.declared.finding.Finding.TheVariants as findings
 use Rattle.someip_audit.specs.BooksHeld.{Held}
 use Rattle.someip_audit.specs.SdShown.{Work, with_told}

@@ -12,16 +12,16 @@ use Rattle.sd_wire.specs.declared.entry.ServiceEntry.{ServiceEntry}
 use Rattle.sd_wire.specs.declared.entry.ServiceKind.{ServiceKind}
 use Rattle.sd_wire.specs.declared.entry.ServiceKind.TheVariants.{Find, Offer}
 use Rattle.sd_wire.specs.declared.flags.SdFlags.{SdFlags}
-use Rattle.audit_tables.specs.declared.origin.Origin.{Origin}
-use Rattle.audit_sessions.specs.declared.message.SdMessage.{SdMessage}
-use Rattle.audit_offers.specs.declared.entry.OfferEntry.{OfferEntry}
-use Rattle.audit_offers.specs.declared.key.OfferKey.{OfferKey}
-use Rattle.audit_subscriptions.specs.declared.entry.EntryKind.{EntryKind}
-use Rattle.audit_subscriptions.specs.declared.entry.EntryKind.TheVariants.{Answer, Subscribe}
-use Rattle.audit_subscriptions.specs.declared.entry.SubscribeEntry.{SubscribeEntry}
-use Rattle.audit_subscriptions.specs.declared.key.SubscriptionKey.{SubscriptionKey}
-use Rattle.audit_receivers.specs.declared.entry.ReceiverEntry.{ReceiverEntry}
-use Rattle.audit_receivers.specs.declared.entry.WithdrawnOffer.{WithdrawnOffer}
+use Rattle.someip_tables.specs.declared.hashed.origin.Origin.{Origin}
+use Rattle.audit_sd.specs.declared.sessions.message.SdMessage.{SdMessage}
+use Rattle.audit_sd.specs.declared.offers.entry.OfferEntry.{OfferEntry}
+use Rattle.audit_sd.specs.declared.offers.key.OfferKey.{OfferKey}
+use Rattle.audit_sd.specs.declared.subscriptions.entry.EntryKind.{EntryKind}
+use Rattle.audit_sd.specs.declared.subscriptions.entry.EntryKind.TheVariants.{Answer, Subscribe}
+use Rattle.audit_sd.specs.declared.subscriptions.entry.SubscribeEntry.{SubscribeEntry}
+use Rattle.audit_sd.specs.declared.subscriptions.key.SubscriptionKey.{SubscriptionKey}
+use Rattle.audit_sd.specs.declared.receivers.entry.ReceiverEntry.{ReceiverEntry}
+use Rattle.audit_sd.specs.declared.receivers.entry.WithdrawnOffer.{WithdrawnOffer}
 
 -- the address that a datagram was sent from, and the one that it was sent to
 abbrev pub sender : Origin → Ipv4Addr

@@ -11,11 +11,11 @@ use Rattle.sd_wire.specs.contents.Values.{ReadValue, good}
 use Rattle.someip_wire.specs.declared.header.Header.{Header}
 use Rattle.someip_wire.specs.declared.header.MessageType.TheVariants as kinds
 use Rattle.someip_tables.specs.declared.deadline.Deadline.TheVariants.{At}
-use Rattle.audit_calls.specs.Scenes.{call_5, header_with}
-use Rattle.audit_offers.specs.OfferExamples.{endpoint, from_node, service}
-use Rattle.audit_subscriptions.specs.SubscribeExamples as subscribes
+use Rattle.audit_traffic.specs.calls.Scenes.{call_5, header_with}
+use Rattle.audit_sd.specs.offers.OfferExamples.{endpoint, from_node, service}
+use Rattle.audit_sd.specs.subscriptions.SubscribeExamples as subscribes
 use Rattle.someip_wire.specs.Spelling.{MessageValue}
-use Rattle.audit_tables.specs.declared.origin.Origin.{Origin}
+use Rattle.someip_tables.specs.declared.hashed.origin.Origin.{Origin}
 use Rattle.someip_audit.specs.SdShown.{Work}
 use Rattle.someip_audit.specs.WatchedEndpoints.{Watch}
 use Rattle.someip_audit.specs.declared.finding.Finding.{Finding}

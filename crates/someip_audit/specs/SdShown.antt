@@ -9,20 +9,20 @@ use Rattle.sd_wire.specs.declared.entry.ServiceKind.{ServiceKind}
 use Rattle.sd_wire.specs.declared.entry.ServiceKind.TheVariants.{Find, Offer}
 use Rattle.sd_wire.specs.contents.Endpoints.{first_udp_endpoint, options_of}
 use Rattle.sd_wire.specs.contents.Values.{ReadValue, SdValue, good, bad_run}
-use Rattle.audit_tables.specs.declared.origin.Origin.{Origin}
-use Rattle.audit_sessions.specs.declared.message.SdMessage.{SdMessage}
-use Rattle.audit_sessions.specs.declared.finding.Finding.{Finding as SessionFinding}
-use Rattle.audit_sessions.specs.declared.finding.Finding.TheVariants as sessions
-use Rattle.audit_sessions.specs.SessionBooks as session_book
-use Rattle.audit_offers.specs.declared.entry.OfferEntry.{OfferEntry}
-use Rattle.audit_offers.specs.OfferTables as offers
-use Rattle.audit_subscriptions.specs.declared.entry.SubscribeEntry.{SubscribeEntry}
-use Rattle.audit_subscriptions.specs.SubscribeTables as subscriptions
-use Rattle.audit_receivers.specs.declared.entry.ReceiverEntry.{ReceiverEntry}
-use Rattle.audit_receivers.specs.declared.entry.WithdrawnOffer.{WithdrawnOffer}
-use Rattle.audit_receivers.specs.ReceiverTables as receivers
-use Rattle.audit_subscriptions.specs.declared.key.SubscriptionKey.{SubscriptionKey}
-use Rattle.audit_events.specs.EventTables as events
+use Rattle.someip_tables.specs.declared.hashed.origin.Origin.{Origin}
+use Rattle.audit_sd.specs.declared.sessions.message.SdMessage.{SdMessage}
+use Rattle.audit_sd.specs.declared.sessions.finding.Finding.{Finding as SessionFinding}
+use Rattle.audit_sd.specs.declared.sessions.finding.Finding.TheVariants as sessions
+use Rattle.audit_sd.specs.sessions.SessionBooks as session_book
+use Rattle.audit_sd.specs.declared.offers.entry.OfferEntry.{OfferEntry}
+use Rattle.audit_sd.specs.offers.OfferTables as offers
+use Rattle.audit_sd.specs.declared.subscriptions.entry.SubscribeEntry.{SubscribeEntry}
+use Rattle.audit_sd.specs.subscriptions.SubscribeTables as subscriptions
+use Rattle.audit_sd.specs.declared.receivers.entry.ReceiverEntry.{ReceiverEntry}
+use Rattle.audit_sd.specs.declared.receivers.entry.WithdrawnOffer.{WithdrawnOffer}
+use Rattle.audit_sd.specs.receivers.ReceiverTables as receivers
+use Rattle.audit_sd.specs.declared.subscriptions.key.SubscriptionKey.{SubscriptionKey}
+use Rattle.audit_traffic.specs.events.EventTables as events
 use Rattle.someip_audit.specs.declared.finding.Finding.{Finding}
 use Rattle.someip_audit.specs.declared.finding.Finding.TheVariants as findings
 use Rattle.someip_audit.specs.BooksHeld.{Held}

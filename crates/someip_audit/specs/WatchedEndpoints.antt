@@ -8,7 +8,7 @@ use Rattle.std.specs.FinMap.{FinMap}
 use Rattle.std.specs.declared.net.socket_addr.SocketAddrV4.{SocketAddrV4}
 use Rattle.std.specs.Net.Socket.{v4_port}
 use Rattle.someip_tables.specs.Endpoints.{coded_endpoint, endpoint_cmp}
-use Rattle.audit_tables.specs.declared.origin.Origin.{Origin}
+use Rattle.someip_tables.specs.declared.hashed.origin.Origin.{Origin}
 use Rattle.someip_audit.specs.declared.finding.Finding.{Finding}
 use Rattle.someip_audit.specs.declared.finding.Finding.TheVariants.{EndpointsFull}
 

@@ -12,10 +12,10 @@ use crate::books::Books;
 use crate::discovery::tell;
 use crate::finding::Finding;
 use crate::watched::is_at_discovery;
-use audit_tables::Origin;
 use sd_wire::{SdError, SdRead, read_sd};
 use someip_reassembly::Reassembly;
 use someip_tables::Moment;
+use someip_tables::hashed::Origin;
 use someip_wire::{Header, Message};
 use std::alloc::{AllocError, Global};
 

@@ -12,9 +12,9 @@ use crate::books::Books;
 use crate::fell_due::FellDue;
 use crate::finding::Finding;
 use crate::rules::AuditRules;
-use audit_tables::Origin;
 use someip_reassembly::Reassembly;
 use someip_tables::Moment;
+use someip_tables::hashed::Origin;
 use std::alloc::{AllocError, Global};
 use std::marker::Model;
 

@@ -8,9 +8,9 @@ ghost use Rattle.someip_audit.specs.SdShown.{IsBegun, working};
 use crate::books::Books;
 use crate::discovery::tell;
 use crate::finding::Finding;
-use audit_tables::Origin;
 use someip_reassembly::Reassembly;
 use someip_tables::Moment;
+use someip_tables::hashed::Origin;
 use someip_wire::{Header, Message, Messages, WireError, written_len};
 use std::alloc::{AllocError, Global};
 

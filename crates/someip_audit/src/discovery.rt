@@ -11,14 +11,14 @@ use crate::entries::{
     named_endpoint, offer_entry, receiver_entry, sd_message, subscribe_entry, withdrawn_offer,
 };
 use crate::finding::Finding;
-use audit_offers::OfferEntry;
-use audit_receivers::ReceiverEntry;
-use audit_sessions::SdMessage;
-use audit_subscriptions::{SubscribeEntry, SubscriptionKey};
-use audit_tables::Origin;
+use audit_sd::offers::OfferEntry;
+use audit_sd::receivers::ReceiverEntry;
+use audit_sd::sessions::SdMessage;
+use audit_sd::subscriptions::{SubscribeEntry, SubscriptionKey};
 use sd_wire::{EntryHead, ReadEntry, SdRead, ServiceEntry, ServiceKind};
 use someip_reassembly::Reassembly;
 use someip_tables::Moment;
+use someip_tables::hashed::Origin;
 use std::alloc::AllocError;
 use std::net::{Ipv4Addr, SocketAddrV4};
 
@@ -54,7 +54,7 @@ impl<S: Reassembly> Books<S> {
         ensures err { OnErr result (findings.new.items ≡ findings.old.items) }
     {
         let told = self.sessions.saw(message)?;
-        if let Some(audit_sessions::Finding::Reboot) = told {
+        if let Some(audit_sd::sessions::Finding::Reboot) = told {
             self.begin_again(message.from);
         }
         match told {

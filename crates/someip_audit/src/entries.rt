@@ -3,13 +3,13 @@ ghost use Rattle.std.specs.Prelude.{◌≡◌};
 ghost use Rattle.someip_audit.specs.SdEntries.{named_endpoint, names_endpoint, offer_entry, receiver_entry};
 ghost use Rattle.someip_audit.specs.SdEntries.{sd_message, subscribe_entry, withdrawn_offer};
 
-use audit_offers::{OfferEntry, OfferKey};
-use audit_receivers::{ReceiverEntry, WithdrawnOffer};
-use audit_sessions::SdMessage;
-use audit_subscriptions::{EntryKind, SubscribeEntry, SubscriptionKey};
-use audit_tables::Origin;
+use audit_sd::offers::{OfferEntry, OfferKey};
+use audit_sd::receivers::{ReceiverEntry, WithdrawnOffer};
+use audit_sd::sessions::SdMessage;
+use audit_sd::subscriptions::{EntryKind, SubscribeEntry, SubscriptionKey};
 use sd_session::Stamp;
 use sd_wire::{EntryHead, EventgroupEntry, EventgroupKind, SdFlags, ServiceEntry, ServiceKind};
+use someip_tables::hashed::Origin;
 use std::net::SocketAddrV4;
 
 /// A message of Service Discovery, as far as its sessions go.

@@ -3,8 +3,8 @@ ghost use Rattle.std.specs.Prelude.{◌≡◌, OnErr, OnOk};
 ghost use Rattle.someip_audit.specs.Audits.{each_disturbed, without_passed};
 
 use crate::books::Books;
-use audit_events::EventBook;
-use audit_subscriptions::SubscriptionKey;
+use audit_sd::subscriptions::SubscriptionKey;
+use audit_traffic::events::EventBook;
 use someip_reassembly::Reassembly;
 use someip_tables::Moment;
 use std::alloc::{AllocError, Global};

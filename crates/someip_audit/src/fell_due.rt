@@ -1,8 +1,8 @@
 //! What falls due between datagrams.
-use audit_calls::Unanswered;
-use audit_offers::Expired;
-use audit_segments::Missing;
-use audit_subscriptions::Unanswered as SubscribeUnanswered;
+use audit_sd::offers::Expired;
+use audit_sd::subscriptions::Unanswered as SubscribeUnanswered;
+use audit_traffic::calls::Unanswered;
+use audit_traffic::segments::Missing;
 
 /// What falls due between datagrams, in the order in which it is told at one deadline.
 #[derive(Clone, Copy, Debug, PartialEq, Eq)]

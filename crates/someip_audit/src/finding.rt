@@ -1,11 +1,11 @@
 //! What datagrams of a recording show.
-use audit_calls::CallFinding;
-use audit_events::EventFlow;
-use audit_offers::OfferKey;
-use audit_receivers::Delivery;
-use audit_subscriptions::SubscriptionKey;
+use audit_sd::offers::OfferKey;
+use audit_sd::receivers::Delivery;
+use audit_sd::subscriptions::SubscriptionKey;
+use audit_traffic::calls::CallFinding;
+use audit_traffic::events::EventFlow;
 use sd_wire::SdError;
-use someip_segments::TpError;
+use someip_reassembly::TpError;
 use someip_wire::{Header, WireError};
 
 /// What a datagram of a recording shows that is not as it should be, or that a book is full. Places are
@@ -13,19 +13,19 @@ use someip_wire::{Header, WireError};
 #[derive(Clone, Copy, Debug, PartialEq, Eq)]
 pub enum Finding {
     /// A message of Service Discovery shows this by its sessions.
-    Session(audit_sessions::Finding),
+    Session(audit_sd::sessions::Finding),
     /// An Offer of this instance.
-    Offer(OfferKey, audit_offers::Finding),
+    Offer(OfferKey, audit_sd::offers::Finding),
     /// An entry of this subscription, as to its answer.
-    Subscription(SubscriptionKey, audit_subscriptions::Finding),
+    Subscription(SubscriptionKey, audit_sd::subscriptions::Finding),
     /// An entry of this subscription, as to who is subscribed.
-    Receiver(SubscriptionKey, audit_receivers::Finding),
+    Receiver(SubscriptionKey, audit_sd::receivers::Finding),
     /// A message with this header, as to its call.
     Call(Header, CallFinding),
     /// An event to one endpoint, as to who is subscribed.
-    Event(Delivery, audit_receivers::Finding),
+    Event(Delivery, audit_sd::receivers::Finding),
     /// An event of this flow, to one endpoint or to a group, with this session, by this.
-    EventSession(EventFlow, u16, audit_events::Finding),
+    EventSession(EventFlow, u16, audit_traffic::events::Finding),
     /// A segment with this header that reassembly refuses.
     Segment(Header, TpError),
     /// A segment whose payload, which begins at this place, has no room for its TP header.

@@ -2,10 +2,10 @@
 //! nothing.
 ghost use Rattle.std.specs.Prelude.{◌≡◌, ℕ, List, [], ◌∷◌, Some, None, Ok, Err, true, false, if◌then◌else◌, nat_lt, option_map};
 ghost use Rattle.std.specs.List.{list_any};
-ghost use Rattle.audit_subscriptions.specs.declared.key.SubscriptionKey.{SubscriptionKey};
-ghost use Rattle.audit_events.specs.declared.flow.EventFlow.{EventFlow};
-ghost use Rattle.audit_events.specs.EventRules.{disturbed, is_between};
-ghost use Rattle.audit_events.specs.EventTables.{Events};
+ghost use Rattle.audit_sd.specs.declared.subscriptions.key.SubscriptionKey.{SubscriptionKey};
+ghost use Rattle.audit_traffic.specs.declared.events.flow.EventFlow.{EventFlow};
+ghost use Rattle.audit_traffic.specs.events.EventRules.{disturbed, is_between};
+ghost use Rattle.audit_traffic.specs.events.EventTables.{Events};
 ghost use Rattle.someip_audit.specs.Audits.{AuditState, Audits, Report, Seen, each_disturbed};
 ghost use Rattle.std.specs.FinMap as finite;
 ghost use Rattle.std.specs.Ordering.{is_lt};
@@ -13,13 +13,13 @@ ghost use Rattle.sd_wire.specs.declared.entry.ServiceKind.TheVariants.{Find, Off
 ghost use Rattle.sd_wire.specs.declared.entry.EntryHead.TheVariants.{Eventgroup, Service};
 ghost use Rattle.sd_wire.specs.declared.entry.EventgroupKind.TheVariants as groups;
 ghost use Rattle.someip_wire.specs.declared.header.MessageType.TheVariants as kinds;
-ghost use Rattle.audit_calls.specs.Scenes.{header_with};
-ghost use Rattle.audit_offers.specs.OfferExamples.{endpoint, from_node};
-ghost use Rattle.audit_sessions.specs.declared.finding.Finding.TheVariants as sessions;
-ghost use Rattle.audit_subscriptions.specs.SubscribeExamples.{answer, datagram, subscribe};
+ghost use Rattle.audit_traffic.specs.calls.Scenes.{header_with};
+ghost use Rattle.audit_sd.specs.offers.OfferExamples.{endpoint, from_node};
+ghost use Rattle.audit_sd.specs.declared.sessions.finding.Finding.TheVariants as sessions;
+ghost use Rattle.audit_sd.specs.subscriptions.SubscribeExamples.{answer, datagram, subscribe};
 ghost use Rattle.someip_wire.specs.declared.error.WireError.TheVariants.{Truncated};
 ghost use Rattle.sd_wire.specs.declared.error.SdError.TheVariants as faults;
-ghost use Rattle.audit_tables.specs.declared.origin.Origin.{Origin};
+ghost use Rattle.someip_tables.specs.declared.hashed.origin.Origin.{Origin};
 ghost use Rattle.someip_audit.specs.declared.finding.Finding.TheVariants as findings;
 ghost use Rattle.someip_audit.specs.AnyShown.{is_sd, items_shown, message_count, payload_shown};
 ghost use Rattle.someip_audit.specs.WatchedEndpoints.{Watch, is_at_learnt, is_looked_at, once_named, told_of_endpoint};

@@ -1,5 +1,5 @@
 //! The settings of an audit.
-use audit_segments::SegmentRules;
+use audit_traffic::segments::SegmentRules;
 
 /// The settings of an audit.
 #[derive(Clone, Copy, Debug, PartialEq, Eq)]

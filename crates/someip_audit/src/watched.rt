@@ -8,7 +8,7 @@ ghost use Rattle.someip_audit.specs.WatchedEndpoints.{is_passed_over, once_named
 ghost use Rattle.someip_audit.specs.WatchedEndpoints.{told_when_full};
 
 use crate::finding::Finding;
-use audit_tables::{KeySet, Origin};
+use someip_tables::hashed::{KeySet, Origin};
 use std::alloc::{AllocError, Global};
 use std::marker::Model;
 use std::net::SocketAddrV4;

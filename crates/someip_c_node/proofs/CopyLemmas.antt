@@ -5,7 +5,7 @@ use Prim.Native.Nat.{suc}
 use Rattle.std.specs.List.{AllZip, list_all}
 use Rattle.std.specs.Ordering.{nat_cmp}
 use Rattle.std.specs.FinMap as finite
-use Rattle.sd_instances.specs.declared.keys.InstanceId.{InstanceId}
+use Rattle.sd_core.specs.declared.keys.InstanceId.{InstanceId}
 use Rattle.someip_node_rules.specs.trails.Copies.{IsCopy, IsCopyOfOffer, IsCopyOfWant}
 use Rattle.someip_node_rules.specs.forms.GoodConfigs.{has_own_ports, is_good, is_good_common, is_good_offer, is_good_port, is_good_want}
 use Rattle.someip_node_rules.specs.rules.Handling.{same_address}

@@ -1,7 +1,7 @@
 -- The numbers of reasons.
 use Rattle.std.specs.Prelude.{ℕ}
-use Rattle.sd_subscribers.specs.declared.error.Cause.{Cause}
-use Rattle.sd_subscribers.specs.declared.error.Cause.TheVariants as cause
+use Rattle.sd_core.specs.declared.error.Cause.{Cause}
+use Rattle.sd_core.specs.declared.error.Cause.TheVariants as cause
 use Rattle.someip_rpc.specs.declared.error.DropCause.{DropCause}
 use Rattle.someip_rpc.specs.declared.error.DropCause.TheVariants as answer
 use Rattle.someip_rpc.specs.declared.request.RequestFault.{RequestFault}
@@ -10,8 +10,8 @@ use Rattle.someip_wire.specs.declared.error.WireError.{WireError}
 use Rattle.someip_wire.specs.declared.error.WireError.TheVariants as wire
 use Rattle.sd_wire.specs.declared.error.SdError.{SdError}
 use Rattle.sd_wire.specs.declared.error.SdError.TheVariants as sd
-use Rattle.someip_segments.specs.declared.error.TpError.{TpError}
-use Rattle.someip_segments.specs.declared.error.TpError.TheVariants as tp
+use Rattle.someip_reassembly.specs.declared.error.TpError.{TpError}
+use Rattle.someip_reassembly.specs.declared.error.TpError.TheVariants as tp
 use Rattle.someip_node_rules.specs.declared.drops.DropReason.{DropReason}
 use Rattle.someip_node_rules.specs.declared.drops.DropReason.TheVariants as drops
 

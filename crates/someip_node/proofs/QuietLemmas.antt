@@ -15,24 +15,24 @@ use Rattle.someip_tables.specs.Retained.{kept_if, retain}
 use Rattle.someip_tables.proofs.Entries.{own_test, same_by_test, get-retain}
 use Rattle.sd_wire.specs.fronts.Fronts.{front_lengths, fronts_of, lengths_of_fronts, longest_front}
 use Rattle.sd_wire.specs.contents.Values.{EntryValue}
-use Rattle.sd_instances.specs.declared.eventgroup.Eventgroup.{Eventgroup}
-use Rattle.sd_instances.specs.declared.keys.InstanceId.{InstanceId}
+use Rattle.sd_core.specs.declared.eventgroup.Eventgroup.{Eventgroup}
+use Rattle.sd_core.specs.declared.keys.InstanceId.{InstanceId}
 use Rattle.sd_core.specs.declared.received.KnownOffer.{KnownOffer}
-use Rattle.sd_wishes.specs.declared.wish.Beginning.{Beginning}
-use Rattle.sd_wishes.specs.declared.wish.Wish.{Wish}
+use Rattle.sd_core.specs.declared.wish.Beginning.{Beginning}
+use Rattle.sd_core.specs.declared.wish.Wish.{Wish}
 use Rattle.sd_core.specs.Endings.{ends_at}
-use Rattle.sd_instances.specs.EventgroupOrder.{eventgroups_total, exact_eventgroups}
-use Rattle.sd_instances.specs.Keys.{instance_cmp}
-use Rattle.sd_instances.specs.KeyOrder.{instances_total, exact_instances}
+use Rattle.sd_core.specs.EventgroupOrder.{eventgroups_total, exact_eventgroups}
+use Rattle.sd_core.specs.Keys.{instance_cmp}
+use Rattle.sd_core.specs.KeyOrder.{instances_total, exact_instances}
 use Rattle.sd_core.specs.SeekTables.{KnowsWanted}
-use Rattle.sd_instances.specs.Sendings.{due_at}
-use Rattle.sd_wishes.specs.Wishes.{has_begun, wish_of}
+use Rattle.sd_core.specs.Sendings.{due_at}
+use Rattle.sd_core.specs.Wishes.{has_begun, wish_of}
 use Rattle.sd_core.specs.WishTables.{begun_where}
 use Rattle.someip_node_rules.specs.rules.Ticking.{due_entries, find_of, lapsed, ticks, timed_out}
 use Rattle.someip_node_rules.specs.declared.output.Output.TheVariants.{TimedOut}
 use Rattle.someip_node_rules.specs.declared.error.NodeError.{NodeError}
 use Rattle.someip_node_rules.specs.declared.error.NodeError.TheVariants.{ClockPast, OutOfMemory}
-use Rattle.someip_node_engine.specs.declared.giving.Giving.{Giving}
+use Rattle.someip_node_engine.specs.declared.outputs.Giving.{Giving}
 use Rattle.someip_node.specs.Finishings.{given_or_error}
 use Rattle.someip_node_rules.specs.declared.receiver.Receiver.TheVariants.{Group}
 use Rattle.someip_node_rules.specs.histories.History.{History, answers_of, historic}

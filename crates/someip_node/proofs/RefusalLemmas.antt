@@ -22,7 +22,7 @@ use Rattle.someip_node_rules.specs.declared.error.NodeError.{NodeError}
 use Rattle.someip_node_rules.specs.declared.error.NodeError.TheVariants.{ClockPast, NotWanted, Rpc}
 use Rattle.someip_node_rules.specs.declared.output.Output.{Output}
 use Rattle.someip_node_engine.specs.Handled.{Handled, or_no_memory}
-use Rattle.someip_node_engine.specs.declared.giving.Giving.{Giving}
+use Rattle.someip_node_engine.specs.declared.outputs.Giving.{Giving}
 use Rattle.someip_node.specs.Finishings.{given_or_error}
 use Rattle.someip_node.specs.Refusals.{is_call_refusal, is_rpc_refusal}
 

@@ -1,7 +1,7 @@
 -- No eventgroup of a node in hand has more live subscriptions than it may.
 use Rattle.std.proofs.Common.{◌≡◌, ℕ, Bool, true, false, Option, None, Some, Result, Ok, Err, refl, ap, sym, subst, ◌∙◌}
 use Rattle.std.specs.Option.{IsSome}
-use Rattle.someip_node_engine.specs.declared.giving.Giving.{Giving}
+use Rattle.someip_node_engine.specs.declared.outputs.Giving.{Giving}
 use Rattle.someip_node_engine.specs.Handled.{Handled, or_no_memory}
 use Rattle.someip_node_engine.specs.Working.{working}
 use Rattle.someip_node_rules.specs.declared.config.Config.{Config}

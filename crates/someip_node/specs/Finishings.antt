@@ -3,7 +3,7 @@ use Rattle.std.specs.Prelude.{Bool, true, false, Result, Ok, Err}
 use Rattle.std.specs.Global.{Vec}
 use Rattle.someip_node_rules.specs.declared.error.NodeError.{NodeError}
 use Rattle.someip_node_rules.specs.declared.error.NodeError.TheVariants.{OutOfMemory}
-use Rattle.someip_node_engine.specs.declared.giving.Giving.{Giving}
+use Rattle.someip_node_engine.specs.declared.outputs.Giving.{Giving}
 use Rattle.someip_node_rules.specs.declared.output.Output.{Output}
 
 -- memory ran out

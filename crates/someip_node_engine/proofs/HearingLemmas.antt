@@ -9,8 +9,8 @@ use Rattle.sd_session.specs.declared.peers.Seen.TheVariants as seen_as
 use Rattle.sd_session.specs.declared.stamp.Channel.{Channel}
 use Rattle.sd_session.specs.declared.stamp.Stamp.{Stamp}
 use Rattle.sd_session.specs.Peers.{Held, stamps_after, stamps_of, told_by}
-use Rattle.sd_instances.specs.declared.eventgroup.Eventgroup.{Eventgroup}
-use Rattle.sd_instances.specs.declared.keys.InstanceId.{InstanceId}
+use Rattle.sd_core.specs.declared.eventgroup.Eventgroup.{Eventgroup}
+use Rattle.sd_core.specs.declared.keys.InstanceId.{InstanceId}
 use Rattle.someip_node_rules.specs.declared.output.Output.{Output}
 use Rattle.someip_node_rules.specs.declared.output.Output.TheVariants.{Rebooted}
 use Rattle.someip_node_rules.specs.histories.Items.{changed, PeerRebooted}

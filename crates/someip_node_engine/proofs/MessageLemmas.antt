@@ -5,7 +5,7 @@ use Rattle.std.specs.declared.net.socket_addr.SocketAddrV4.{SocketAddrV4}
 use Rattle.someip_wire.specs.declared.header.Header.{Header}
 use Rattle.someip_wire.specs.declared.header.MessageType.{MessageType}
 use Rattle.someip_wire.specs.declared.header.MessageType.TheVariants as kinds
-use Rattle.sd_instances.specs.declared.keys.InstanceId.{InstanceId}
+use Rattle.sd_core.specs.declared.keys.InstanceId.{InstanceId}
 use Rattle.sd_wire.specs.contents.Values.{EntryValue}
 use Rattle.someip_rpc.specs.declared.request.Arrived.{Arrived}
 use Rattle.someip_rpc.specs.declared.request.Arrived.TheVariants as arrived

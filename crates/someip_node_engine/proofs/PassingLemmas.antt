@@ -4,7 +4,7 @@ use Rattle.std.proofs.Common.{Bool, IsTrue, IsFalse}
 use Rattle.sd_wire.specs.fronts.Fronts.{front_lengths}
 use Rattle.someip_node_rules.specs.forms.Entries.{fronts}
 use Rattle.std.proofs.lemmas.List.{append-nil}
-use Rattle.sd_instances.specs.declared.keys.InstanceId.{InstanceId}
+use Rattle.sd_core.specs.declared.keys.InstanceId.{InstanceId}
 use Rattle.someip_node_rules.specs.declared.config.Config.{Config}
 use Rattle.someip_node_rules.specs.rules.Outcomes.{endings}
 use Rattle.someip_node_rules.specs.forms.Setups.{wanted_instances}
@@ -13,7 +13,7 @@ use Rattle.std.specs.List.{flat_map}
 use Rattle.std.proofs.Common.{OnErr, OnOk, Result, Ok, Err}
 use Rattle.std.specs.declared.alloc.AllocError.{AllocError}
 use Rattle.sd_wire.specs.contents.Values.{EntryValue, view_entry}
-use Rattle.someip_node_engine.specs.declared.giving.Giving.{Giving}
+use Rattle.someip_node_engine.specs.declared.outputs.Giving.{Giving}
 use Rattle.someip_node_rules.specs.declared.receiver.Receiver.TheVariants.{Group}
 use Rattle.someip_tables.specs.Lastings.{unexpired}
 use Rattle.someip_reassembly.specs.Parts.{parts_at}

@@ -13,8 +13,8 @@ use Rattle.someip_tables.proofs.Firsts.{earlier_due}
 use Rattle.someip_tables.proofs.SortedEntries.{keys-empty, no_keys}
 use Rattle.sd_core.specs.Endings.{ends_at}
 use Rattle.sd_core.specs.SeekTables.{IsQuiet}
-use Rattle.sd_instances.specs.Sendings.{due_at}
-use Rattle.sd_wishes.specs.Wishes.{is_over}
+use Rattle.sd_core.specs.Sendings.{due_at}
+use Rattle.sd_core.specs.Wishes.{is_over}
 use Rattle.sd_core.specs.WishTables.{begun_where}
 use Rattle.someip_node_rules.specs.histories.Tables.{Tables, passed_instances}
 use Rattle.someip_node_engine.specs.Passings.{BringsNothing}

@@ -5,13 +5,13 @@ use Rattle.std.specs.Net.Socket.{v4_ip}
 use Rattle.someip_wire.specs.declared.error.WireError.{WireError}
 use Rattle.someip_wire.specs.declared.header.Header.{Header}
 use Rattle.someip_wire.specs.Spelling.{MessageValue}
-use Rattle.someip_segments.specs.declared.error.TpError.{TpError}
+use Rattle.someip_reassembly.specs.declared.error.TpError.{TpError}
 use Rattle.someip_reassembly.specs.declared.key.ReassemblyKey.{ReassemblyKey}
 use Rattle.someip_reassembly.specs.declared.reassembly.Offered.{Offered}
 use Rattle.someip_reassembly.specs.declared.reassembly.Offered.TheVariants.{Part, Whole}
 use Rattle.someip_reassembly.specs.SegmentOffers.{SegmentOffer, offer, parts_less}
 use Rattle.someip_reassembly.specs.Parts.{Parts}
-use Rattle.sd_instances.specs.declared.keys.InstanceId.{InstanceId}
+use Rattle.sd_core.specs.declared.keys.InstanceId.{InstanceId}
 use Rattle.someip_rpc.specs.declared.error.DropCause.{DropCause}
 use Rattle.someip_rpc.specs.declared.ids.CallKey.{CallKey}
 use Rattle.someip_rpc.specs.declared.request.Arrived.{Arrived}

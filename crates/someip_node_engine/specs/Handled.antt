@@ -2,7 +2,7 @@
 use Rattle.std.specs.Prelude.{◌≡◌, Option, None, Some, Result, Ok, Err, IsSome}
 use Rattle.someip_node_rules.specs.declared.error.NodeError.{NodeError}
 use Rattle.someip_node_rules.specs.declared.error.NodeError.TheVariants.{OutOfMemory}
-use Rattle.someip_node_engine.specs.declared.giving.Giving.{Giving}
+use Rattle.someip_node_engine.specs.declared.outputs.Giving.{Giving}
 use Rattle.someip_node_rules.specs.rules.Inputs.{Input, plan_of, refusal_of}
 use Rattle.someip_node_rules.specs.rules.Plans.{plain, run}
 use Rattle.someip_node_rules.specs.histories.Tables.{Tables}

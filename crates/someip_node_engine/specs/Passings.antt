@@ -5,7 +5,7 @@ use Rattle.std.specs.FinMap as finite
 use Rattle.someip_tables.specs.Lastings.{expired}
 use Rattle.sd_wire.specs.contents.Values.{EntryValue}
 use Rattle.sd_core.specs.Endings.{ends_at}
-use Rattle.sd_instances.specs.Sendings.{due_at}
+use Rattle.sd_core.specs.Sendings.{due_at}
 use Rattle.sd_core.specs.WishTables.{begun_where}
 use Rattle.someip_node_rules.specs.declared.config.Config.{Config}
 use Rattle.someip_node_rules.specs.declared.output.Output.{Output}

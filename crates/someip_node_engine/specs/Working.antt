@@ -1,7 +1,7 @@
 -- The tables of a node and what it gives so far, as work.
 use Rattle.std.specs.Prelude.{List, [], ◌∷◌, ◌++◌, map}
 use Rattle.sd_wire.specs.contents.Values.{view_entry}
-use Rattle.someip_node_engine.specs.declared.giving.Giving.{Giving}
+use Rattle.someip_node_engine.specs.declared.outputs.Giving.{Giving}
 use Rattle.someip_node_rules.specs.declared.output.Output.{Output}
 use Rattle.someip_node_rules.specs.rules.Plans.{Work, work}
 use Rattle.someip_node_rules.specs.histories.Tables.{Tables}

@@ -17,7 +17,7 @@ ghost use Rattle.someip_node_rules.specs.histories.Tables.{stamp_for};
 ghost use Rattle.someip_node_engine.specs.Working.{working};
 
 use crate::engine::Engine;
-use crate::giving::Giving;
+use crate::outputs::Giving;
 use crate::own_config::own_endpoint;
 use sd_session::{Counter, Stamp};
 use sd_wire::{Entry, SdError, SdFlags, SdMessage, split_entries, write_sd};

@@ -10,8 +10,8 @@ ghost use Rattle.someip_node_rules.specs.forms.Outputs.{Sends};
 ghost use Rattle.someip_node_rules.specs.forms.GoodConfigs.{greatest_message_limit};
 
 use crate::engine::Engine;
-use crate::giving::Giving;
 use crate::message_sending::send;
+use crate::outputs::Giving;
 use someip_node_rules::NodeError;
 use someip_rpc::{Outgoing, Reply};
 use someip_tp::Reassembly;

@@ -13,8 +13,8 @@ ghost use Rattle.someip_rpc.specs.Calls.{call_header};
 ghost use Rattle.someip_node_rules.specs.forms.GoodConfigs.{greatest_message_limit};
 
 use crate::engine::Engine;
-use crate::giving::Giving;
 use crate::message_sending::send;
+use crate::outputs::Giving;
 use crate::own_config::client_rules;
 use sd_core::InstanceId;
 use someip_node_rules::{NodeError, Output};

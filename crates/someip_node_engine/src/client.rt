@@ -10,7 +10,7 @@ ghost use Rattle.someip_node_rules.specs.histories.Tables.{known_endpoint};
 ghost use Rattle.someip_node_engine.specs.Working.{working};
 
 use crate::engine::Engine;
-use crate::giving::Giving;
+use crate::outputs::Giving;
 use crate::own_config::client_rules;
 use crate::received_payload::ReceivedPayload;
 use sd_core::{Eventgroup, InstanceId};

@@ -7,7 +7,7 @@ ghost use Rattle.someip_node_rules.specs.rules.Plans.{plain, run};
 ghost use Rattle.someip_node_rules.specs.forms.Setups.{is_wanted_eventgroup};
 ghost use Rattle.someip_node_rules.specs.histories.Tables.{known_peer};
 ghost use Rattle.someip_node_engine.specs.Working.{working, told_after};
-ghost use Rattle.sd_wishes.specs.Wishes.{sent_at_once, wish_of};
+ghost use Rattle.sd_core.specs.Wishes.{sent_at_once, wish_of};
 ghost use Rattle.std.specs.FinMap as finite;
 ghost use Rattle.someip_node_rules.specs.rules.ClientSubscribing.{standing_of, stop_subscribe_of, wish_entries_by};
 ghost use Rattle.someip_node_engine.specs.Handled.{Handled};
@@ -17,7 +17,7 @@ ghost use Rattle.someip_node_rules.specs.declared.receiver.Receiver.TheVariants.
 
 use crate::engine::Engine;
 use crate::entry_making::subscribe_entry;
-use crate::giving::Giving;
+use crate::outputs::Giving;
 use crate::own_config::client_endpoint;
 use sd_core::{Beginning, Eventgroup, InstanceId, OutgoingSubscribe};
 use sd_wire::{Entry, SubscriptionCounter, Ttl};

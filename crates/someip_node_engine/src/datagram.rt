@@ -16,7 +16,7 @@ ghost use Rattle.someip_node_engine.specs.Working.{working};
 
 use crate::arrival::{Addressee, Arrival, Reached, reached_from};
 use crate::engine::Engine;
-use crate::giving::Giving;
+use crate::outputs::Giving;
 use crate::received_payload::ReceivedPayload;
 use sd_core::InstanceId;
 use sd_session::Channel;

@@ -12,7 +12,7 @@ ghost use Rattle.someip_node_rules.specs.rules.Plans.{plain, replying, run};
 ghost use Rattle.someip_node_engine.specs.Working.{working};
 
 use crate::engine::Engine;
-use crate::giving::Giving;
+use crate::outputs::Giving;
 use sd_session::{Channel, Stamp};
 use sd_wire::{ReadEntry, SdError, SdRead, read_sd};
 use someip_node_rules::{DropReason, Receiver};

@@ -3,8 +3,8 @@ ghost use Rattle.std.specs.Prelude.{◌≡◌, ◌++◌, ◌∷◌, [], if◌the
 ghost use Rattle.std.specs.List.{prefix_len};
 ghost use Rattle.std.specs.List.Sorted.{IsStrictlySortedBy};
 ghost use Rattle.std.specs.Ordering.{is_lt};
-ghost use Rattle.sd_instances.specs.Eventgroups.{eventgroup_cmp};
-ghost use Rattle.sd_instances.specs.Keys.{instance_cmp};
+ghost use Rattle.sd_core.specs.Eventgroups.{eventgroup_cmp};
+ghost use Rattle.sd_core.specs.Keys.{instance_cmp};
 ghost use Rattle.someip_node_rules.specs.declared.output.Output.TheVariants.{Gone, Unsubscribed};
 ghost use Rattle.someip_node_rules.specs.rules.Outcomes.{endings, unsubscribed};
 ghost use Rattle.someip_node_rules.specs.forms.Setups.{wanted_as, wanted_instances};

@@ -48,7 +48,7 @@ impl<R: Reassembly> Model for Engine<R> {
     ghost use Rattle.someip_node_rules.specs.histories.Tables.{Tables, coded_held, coded_stamps_to};
     ghost use Rattle.sd_core.specs.OfferTables.{coded_offers};
     ghost use Rattle.sd_core.specs.SeekTables.{coded_seek};
-    ghost use Rattle.sd_subscribers.specs.SubscriberTables.{coded_subscribers};
+    ghost use Rattle.sd_core.specs.SubscriberTables.{coded_subscribers};
     ghost use Rattle.sd_core.specs.WishTables.{coded_wishes};
     ghost use Rattle.someip_rpc.specs.Calls.{coded_client};
     ghost use Rattle.someip_rpc.specs.Servers.{coded_server};

@@ -7,7 +7,7 @@ ghost use Rattle.someip_node_rules.specs.rules.Plans.{each, plain, run};
 ghost use Rattle.someip_node_engine.specs.Working.{working};
 
 use crate::engine::Engine;
-use crate::giving::Giving;
+use crate::outputs::Giving;
 use sd_core::{InstanceId, ReceivedOffer};
 use sd_wire::{EntryHead, EventgroupEntry, ReadEntry, ServiceEntry};
 use someip_node_rules::DropReason;

@@ -8,8 +8,8 @@
 //! Discovery on one of its two channels, the client, an instance by the index of ports, or nothing; `arrival`
 //! keeps both endpoints. A message with the TP flag goes through `segments` to the store, and a whole one
 //! goes on with the flag cleared. `serving` takes messages to an instance, `client` takes answers and events,
-//! `discovery` messages of Service Discovery: `hearing` enters the peer and ends what a reboot ends,
-//! `entries` takes the entries one by one to `offering`, `server_subscribing` and `learning`. Replies are
+//! `discovery` messages of Service Discovery: `peers` enters the peer and ends what a reboot ends,
+//! `entries` takes the entries one by one to `offering`, `server_subscribing` and `known_offers`. Replies are
 //! gathered in [`Giving`] beside the outputs; after the last entry `announcing` splits them into messages,
 //! each with the next session of its receiver.
 //!
@@ -32,13 +32,13 @@ mod endings;
 mod engine;
 mod entries;
 mod entry_making;
-mod giving;
-mod hearing;
-mod learning;
+mod known_offers;
 mod message_sending;
 mod offering;
+mod outputs;
 mod own_config;
 mod passed;
+mod peers;
 mod publishing;
 mod received_payload;
 mod segments;
@@ -50,4 +50,4 @@ mod waking;
 
 pub use config_checks::is_good_delay;
 pub use engine::Engine;
-pub use giving::Giving;
+pub use outputs::Giving;

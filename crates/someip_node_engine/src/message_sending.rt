@@ -1,7 +1,7 @@
 //! Messages that are sent.
 ghost use Rattle.std.specs.Prelude.{◌≡◌, ◌≤◌, ◌<◌, ◌+◌, ◌++◌, ◌∷◌, [], length, OnOk};
 ghost use Rattle.someip_wire.specs.View.{view};
-ghost use Rattle.someip_segments.specs.Sent.{view_piece};
+ghost use Rattle.someip_reassembly.specs.Sent.{view_piece};
 ghost use Rattle.someip_node_rules.specs.forms.Outputs.{datagram_of, datagrams_of};
 ghost use Rattle.someip_node_rules.specs.forms.GoodConfigs.{greatest_message_limit};
 

@@ -15,7 +15,7 @@ ghost use Rattle.someip_node_rules.specs.rules.Inputs as input;
 
 use crate::engine::Engine;
 use crate::entry_making::offer_entry;
-use crate::giving::Giving;
+use crate::outputs::Giving;
 use sd_core::{InstanceId, Sought};
 use sd_wire::{Entry, ServiceEntry, Ttl};
 use someip_node_rules::{NodeError, Receiver};

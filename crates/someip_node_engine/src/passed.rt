@@ -1,8 +1,8 @@
 //! What a moment brings.
 ghost use Rattle.std.proofs.Props.{props};
 ghost use Rattle.std.specs.List.Sorted.{IsStrictlySortedBy};
-ghost use Rattle.sd_instances.specs.Eventgroups.{eventgroup_cmp};
-ghost use Rattle.sd_instances.specs.Keys.{instance_cmp};
+ghost use Rattle.sd_core.specs.Eventgroups.{eventgroup_cmp};
+ghost use Rattle.sd_core.specs.Keys.{instance_cmp};
 
 use sd_core::{Eventgroup, InstanceId};
 use someip_rpc::CallKey;

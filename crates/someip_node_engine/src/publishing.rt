@@ -3,7 +3,7 @@ ghost use Rattle.std.specs.Prelude.{◌≡◌, ◌≤◌, ◌++◌, length, IfOk
 ghost use Rattle.std.specs.List.{flat_map};
 ghost use Rattle.someip_wire.specs.View.{view};
 ghost use Rattle.someip_tables.specs.Lastings.{unexpired};
-ghost use Rattle.sd_subscribers.specs.SubscriberTables.{endpoints_of};
+ghost use Rattle.sd_core.specs.SubscriberTables.{endpoints_of};
 ghost use Rattle.someip_node_rules.specs.rules.Publishing.{eventgroups_of, subscriber_at};
 ghost use Rattle.someip_node_engine.specs.Handled.{Handled};
 ghost use Rattle.someip_node_rules.specs.rules.Inputs as input;
@@ -13,8 +13,8 @@ ghost use Rattle.someip_node_rules.specs.histories.Tables.{is_up};
 ghost use Rattle.someip_node_rules.specs.forms.GoodConfigs.{greatest_message_limit};
 
 use crate::engine::Engine;
-use crate::giving::Giving;
 use crate::message_sending::send;
+use crate::outputs::Giving;
 use sd_core::{InstanceId, Subscribers};
 use someip_node_rules::{NodeError, OfferedService, Output};
 use someip_rpc::{Publication, RpcError, ServerCore, Subscriber};

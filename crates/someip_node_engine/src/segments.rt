@@ -2,7 +2,7 @@
 ghost use Rattle.std.specs.Prelude.{◌≡◌, ◌++◌, ◌%◌, true, is_ok, IfOk, OnOk, OnErr};
 ghost use Rattle.someip_reassembly.specs.SegmentOffers.{judgement, message_at, parts_after, parts_less};
 ghost use Rattle.someip_reassembly.specs.Parts.{NoneAfter};
-ghost use Rattle.someip_segments.specs.TpHeader.{segment_in};
+ghost use Rattle.someip_reassembly.specs.TpHeader.{segment_in};
 ghost use Rattle.someip_node_engine.specs.Arrivals.{parts_once_taken, refused_as, segment_offer, target_at};
 ghost use Rattle.someip_node_rules.specs.rules.Handling.{completed_plan, segment_plan};
 ghost use Rattle.someip_node_rules.specs.rules.Messages.{completed, completed_by};
@@ -11,7 +11,7 @@ ghost use Rattle.someip_node_engine.specs.Working.{working};
 
 use crate::arrival::Arrival;
 use crate::engine::Engine;
-use crate::giving::{Giving, tell_dropped};
+use crate::outputs::{Giving, tell_dropped};
 use crate::received_payload::ReceivedPayload;
 use someip_node_rules::{DropReason, Output, Payload};
 use someip_tables::Moment;

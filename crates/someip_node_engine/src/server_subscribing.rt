@@ -2,7 +2,7 @@
 ghost use Rattle.std.specs.Prelude.{◌≡◌, ◌++◌, ◌∷◌, [], map, None, IfOk, OnOk, OnErr};
 ghost use Rattle.std.specs.List.{flat_map, fold};
 ghost use Rattle.sd_wire.specs.contents.Values.{view_entry};
-ghost use Rattle.sd_subscribers.specs.SubscriberTables.{nack_cause};
+ghost use Rattle.sd_core.specs.SubscriberTables.{nack_cause};
 ghost use Rattle.someip_node_rules.specs.declared.output.Output.TheVariants.{Accepted, Nacked};
 ghost use Rattle.someip_node_rules.specs.forms.Entries.{ack_entry};
 ghost use Rattle.someip_node_rules.specs.histories.Items.{changed};
@@ -16,7 +16,7 @@ ghost use Rattle.someip_node_engine.specs.Working.{working};
 
 use crate::engine::Engine;
 use crate::entry_making::ack_entry;
-use crate::giving::Giving;
+use crate::outputs::Giving;
 use sd_core::{
     Cause, Eventgroup, InstanceId, Subscribe, SubscribeError, SubscribeRules, Subscription,
 };

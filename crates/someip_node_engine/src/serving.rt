@@ -14,8 +14,8 @@ ghost use Rattle.someip_node_rules.specs.rules.Plans.{act, plain, run, TakesRequ
 ghost use Rattle.someip_node_engine.specs.Working.{working};
 
 use crate::engine::Engine;
-use crate::giving::{Giving, tell_dropped};
 use crate::message_sending::send;
+use crate::outputs::{Giving, tell_dropped};
 use crate::received_payload::ReceivedPayload;
 use sd_core::InstanceId;
 use someip_node_rules::{DropReason, Output};

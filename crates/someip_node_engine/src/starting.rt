@@ -3,7 +3,7 @@ ghost use Rattle.std.specs.Prelude.{◌≡◌, ◌≤◌, OnOk, IfOk, IfErr, fal
 ghost use Rattle.std.specs.FinMap as finite;
 ghost use Rattle.std.specs.Ordering.{nat_cmp};
 ghost use Rattle.someip_tables.specs.Tables.{map_of};
-ghost use Rattle.sd_instances.specs.Keys.{instance_cmp};
+ghost use Rattle.sd_core.specs.Keys.{instance_cmp};
 ghost use Rattle.sd_core.specs.OfferTables.{started};
 ghost use Rattle.sd_core.specs.SeekTables.{searching};
 ghost use Rattle.someip_reassembly.specs.Parts.{NoneAfter};

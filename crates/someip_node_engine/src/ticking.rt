@@ -20,7 +20,7 @@ ghost use Rattle.someip_node_rules.specs.declared.output.Output.TheVariants.{Tim
 use crate::endings::tell_endings;
 use crate::engine::Engine;
 use crate::entry_making::find_entry;
-use crate::giving::Giving;
+use crate::outputs::Giving;
 use crate::passed::Passed;
 use sd_core::InstanceId;
 use sd_wire::Entry;

@@ -8,8 +8,8 @@ use Rattle.sd_wire.specs.declared.entry.EventgroupEntry.{EventgroupEntry}
 use Rattle.sd_wire.specs.declared.entry.EventgroupKind.TheVariants.{Ack}
 use Rattle.sd_wire.specs.contents.Kinds.{is_subscribe}
 use Rattle.sd_wire.specs.contents.Values.{EntryValue}
-use Rattle.sd_subscribers.specs.declared.error.Cause.{Cause}
-use Rattle.sd_subscribers.specs.SubscriberTables.{subscription_at}
+use Rattle.sd_core.specs.declared.error.Cause.{Cause}
+use Rattle.sd_core.specs.SubscriberTables.{subscription_at}
 use Rattle.someip_node_rules.specs.declared.output.Output.TheVariants.{Nacked}
 use Rattle.someip_node_rules.specs.forms.Entries.{ack_entry}
 use Rattle.someip_node_rules.specs.histories.Items.{SubscriptionAccepted}

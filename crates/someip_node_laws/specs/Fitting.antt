@@ -11,7 +11,7 @@ use Rattle.sd_wire.specs.layout.Spelling.{HeadFits}
 use Rattle.sd_wire.specs.fronts.Splitting.{FitsDatagram}
 use Rattle.sd_wire.specs.contents.Values.{ReadValue, good, bad_run}
 use Rattle.sd_wire.specs.encoding.Writing.{EntryFits}
-use Rattle.sd_instances.specs.declared.keys.InstanceId.{InstanceId}
+use Rattle.sd_core.specs.declared.keys.InstanceId.{InstanceId}
 use Rattle.someip_rpc.specs.Requests.{answer_header}
 use Rattle.someip_rpc.specs.Servers.{code_of_reply}
 use Rattle.someip_node_rules.specs.declared.config.Config.{Config}

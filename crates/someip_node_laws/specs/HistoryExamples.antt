@@ -3,12 +3,12 @@ use Rattle.std.specs.Prelude.{ℕ, suc, true, List, [], ◌∷◌, Option, Some}
 use Rattle.std.specs.declared.net.ipv4_addr.Ipv4Addr.{Ipv4Addr}
 use Rattle.std.specs.declared.net.socket_addr.SocketAddrV4.{SocketAddrV4}
 use Rattle.someip_tables.specs.declared.deadline.Deadline.{Deadline}
-use Rattle.sd_instances.specs.declared.eventgroup.Eventgroup.{Eventgroup}
-use Rattle.sd_instances.specs.declared.keys.InstanceId.{InstanceId}
+use Rattle.sd_core.specs.declared.eventgroup.Eventgroup.{Eventgroup}
+use Rattle.sd_core.specs.declared.keys.InstanceId.{InstanceId}
 use Rattle.sd_core.specs.declared.received.ReceivedOffer.{ReceivedOffer}
-use Rattle.sd_wishes.specs.declared.wish.Stage.TheVariants.{Begun, Waiting}
-use Rattle.sd_wishes.specs.declared.wish.SubscribeAnswer.{SubscribeAnswer}
-use Rattle.sd_wishes.specs.declared.wish.Wish.{Wish}
+use Rattle.sd_core.specs.declared.wish.Stage.TheVariants.{Begun, Waiting}
+use Rattle.sd_core.specs.declared.wish.SubscribeAnswer.{SubscribeAnswer}
+use Rattle.sd_core.specs.declared.wish.Wish.{Wish}
 use Rattle.someip_node_rules.specs.histories.Items.{Item, AckCame, OfferCounted, Ticked, Wished}
 
 -- a server, its instance, and an eventgroup of that

@@ -1,6 +1,6 @@
 -- Subscriptions of a client to one eventgroup, as examples.
 use Rattle.std.specs.Prelude.{ℕ, List, map}
-use Rattle.sd_subscribers.specs.declared.subscription.Subscription.{Subscription}
+use Rattle.sd_core.specs.declared.subscription.Subscription.{Subscription}
 use Rattle.someip_node_rules.specs.histories.Items.{Item, SubscriptionAccepted}
 use Rattle.someip_node_laws.specs.WorkedExamples.{client, instance}
 

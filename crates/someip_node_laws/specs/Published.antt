@@ -5,8 +5,8 @@ use Rattle.std.specs.List.Sorted.{IsStrictlySortedBy}
 use Rattle.std.specs.declared.net.socket_addr.SocketAddrV4.{SocketAddrV4}
 use Rattle.someip_wire.specs.Spelling.{MessageValue}
 use Rattle.someip_tables.specs.Endpoints.{endpoint_cmp}
-use Rattle.sd_instances.specs.declared.keys.InstanceId.{InstanceId}
-use Rattle.sd_subscribers.specs.declared.subscription.Subscription.{Subscription}
+use Rattle.sd_core.specs.declared.keys.InstanceId.{InstanceId}
+use Rattle.sd_core.specs.declared.subscription.Subscription.{Subscription}
 use Rattle.someip_rpc.specs.Events.{event_header, event_of}
 use Rattle.someip_rpc.specs.Sessions.{session_after}
 use Rattle.someip_node_rules.specs.declared.config.OfferedService.{OfferedService}

@@ -4,8 +4,8 @@ use Rattle.std.specs.Prelude.{◌≡◌, ℕ, true, List, [], ◌∷◌, Ok}
 use Rattle.std.specs.declared.net.ipv4_addr.Ipv4Addr.{Ipv4Addr}
 use Rattle.sd_session.specs.declared.stamp.Channel.TheVariants.{Multicast, Unicast}
 use Rattle.sd_session.specs.Sessions.{first}
-use Rattle.sd_instances.specs.declared.eventgroup.Eventgroup.{Eventgroup}
-use Rattle.sd_subscribers.specs.declared.subscription.Subscription.{Subscription}
+use Rattle.sd_core.specs.declared.eventgroup.Eventgroup.{Eventgroup}
+use Rattle.sd_core.specs.declared.subscription.Subscription.{Subscription}
 use Rattle.someip_rpc.specs.declared.call.CallKind.TheVariants.{Request}
 use Rattle.someip_rpc.specs.declared.ids.MessageId.{MessageId}
 use Rattle.someip_rpc.specs.declared.request.Asked.{Asked}

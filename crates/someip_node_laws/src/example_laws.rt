@@ -10,7 +10,7 @@ ghost use Rattle.sd_wire.specs.declared.entry.EntryHead.TheVariants.{Eventgroup,
 ghost use Rattle.sd_wire.specs.declared.entry.ServiceEntry.{ServiceEntry};
 ghost use Rattle.sd_wire.specs.decoding.Program.{reading};
 ghost use Rattle.sd_wire.specs.contents.Values.{bad_run};
-ghost use Rattle.sd_subscribers.specs.declared.error.Cause.TheVariants.{NoEndpoint, UnknownEventgroup};
+ghost use Rattle.sd_core.specs.declared.error.Cause.TheVariants.{NoEndpoint, UnknownEventgroup};
 ghost use Rattle.someip_rpc.specs.declared.error.DropCause.TheVariants.{NotPending};
 ghost use Rattle.someip_rpc.specs.Answers.{answered_call};
 ghost use Rattle.someip_node_laws.specs.CallExamples.{IsClient, knowing, other_offer, other_server};

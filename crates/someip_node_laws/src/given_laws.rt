@@ -6,7 +6,7 @@ ghost use Rattle.std.specs.declared.net.ipv4_addr.Ipv4Addr.{Ipv4Addr};
 ghost use Rattle.std.specs.declared.net.socket_addr.SocketAddrV4.{SocketAddrV4};
 ghost use Rattle.someip_wire.specs.declared.header.ReturnCode.{ReturnCode};
 ghost use Rattle.sd_wire.specs.contents.Values.{EntryValue};
-ghost use Rattle.sd_instances.specs.declared.keys.InstanceId.{InstanceId};
+ghost use Rattle.sd_core.specs.declared.keys.InstanceId.{InstanceId};
 ghost use Rattle.someip_rpc.specs.declared.ids.MessageId.{MessageId};
 ghost use Rattle.someip_node_rules.specs.declared.output.Output.TheVariants.{Answered, Event, Request};
 ghost use Rattle.someip_node_laws.specs.Answerings.{AnswersSubscribe, IsAnswer};

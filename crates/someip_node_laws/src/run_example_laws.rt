@@ -9,7 +9,7 @@ ghost use Rattle.std.specs.Prelude.{◌≡◌, ℕ, List, [], ◌∷◌, Some, O
 ghost use Rattle.someip_wire.specs.declared.header.ReturnCode.{ReturnCode};
 ghost use Rattle.sd_session.specs.declared.stamp.Channel.TheVariants.{Multicast};
 ghost use Rattle.sd_session.specs.Sessions.{first};
-ghost use Rattle.sd_subscribers.specs.declared.error.Cause.TheVariants.{NotOffered};
+ghost use Rattle.sd_core.specs.declared.error.Cause.TheVariants.{NotOffered};
 ghost use Rattle.someip_rpc.specs.declared.call.CallKind.TheVariants as kind;
 ghost use Rattle.someip_rpc.specs.declared.error.DropCause.TheVariants.{NotPending};
 ghost use Rattle.someip_rpc.specs.declared.error.RpcError.TheVariants.{UnknownToken};

@@ -3,10 +3,10 @@
 ghost use Rattle.std.specs.Prelude.{◌≡◌, ◌≤◌, ℕ, IsTrue, List, [], ◌∷◌, length};
 ghost use Rattle.std.specs.List.{AllByRecursion, IsDistinct};
 ghost use Rattle.std.specs.Ordering.{eq_by_cmp};
-ghost use Rattle.sd_instances.specs.declared.keys.InstanceId.{InstanceId};
-ghost use Rattle.sd_subscribers.specs.declared.subscription.Subscription.{Subscription};
-ghost use Rattle.sd_subscribers.specs.SubscriberTables.{is_to};
-ghost use Rattle.sd_subscribers.specs.SubscriptionKeys.{subscription_cmp};
+ghost use Rattle.sd_core.specs.declared.keys.InstanceId.{InstanceId};
+ghost use Rattle.sd_core.specs.declared.subscription.Subscription.{Subscription};
+ghost use Rattle.sd_core.specs.SubscriberTables.{is_to};
+ghost use Rattle.sd_core.specs.SubscriptionKeys.{subscription_cmp};
 ghost use Rattle.someip_node_rules.specs.declared.config.Config.{Config};
 ghost use Rattle.someip_node_rules.specs.steps.Advances.{after_inputs};
 ghost use Rattle.someip_node_rules.specs.histories.History.{start_of};

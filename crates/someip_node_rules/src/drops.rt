@@ -6,8 +6,8 @@ ghost use Rattle.std.specs.Prelude.{◌≡◌};
 ghost use Rattle.someip_node_rules.specs.trails.Names.{drop_name};
 
 use sd_wire::SdError;
+use someip_reassembly::TpError;
 use someip_rpc::{DropCause, RequestFault};
-use someip_segments::TpError;
 use someip_wire::WireError;
 use thiserror::Error;
 

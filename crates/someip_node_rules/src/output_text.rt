@@ -9,7 +9,7 @@ ghost use Rattle.std.specs.Net.Text.{socket_v4_text};
 ghost use Rattle.hex.specs.Hex.{encode_lower};
 ghost use Rattle.someip_node_rules.specs.forms.OutputWords.{bytes_word, code_word, id_word, ids_word};
 ghost use Rattle.someip_node_rules.specs.forms.OutputWords.{instance_word, message_word, output_text, token_word, words_text};
-ghost use Rattle.sd_subscribers.specs.Names.{cause_name};
+ghost use Rattle.sd_core.specs.Names.{cause_name};
 
 use crate::output::Output;
 use sd_core::{Cause, Eventgroup, InstanceId};

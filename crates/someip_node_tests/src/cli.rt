@@ -12,8 +12,8 @@ use someipctl_run::{RunFault, SetupFault, read_setup};
 use someipctl_show::payload::PayloadRefusal;
 use someipctl_show::services::ServicesError;
 use someipctl_show::show::ShowError;
+use someipctl_show::types::{TypesError, TypesFault};
 use someipctl_show::vectors::VectorsError;
-use someipctl_types::{TypesError, TypesFault};
 use std::alloc::Global;
 use std::process::Abort;
 

@@ -2,7 +2,7 @@
 use someipctl_cli::laws as words;
 use someipctl_recordings::laws as recordings;
 use someipctl_show::laws as commands;
-use someipctl_types::laws as types;
+use someipctl_show::types::laws as types;
 
 #[test]
 fn laws_hold() {

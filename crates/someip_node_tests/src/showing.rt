@@ -3,7 +3,7 @@ use someip_tp::IntervalPool;
 use someipctl_io::Outcome;
 use someipctl_recordings::{Asked, RecordingFault, ShownRecording, show_recording};
 use someipctl_show::show::{ShowError, show};
-use someipctl_types::MessageTypes;
+use someipctl_show::types::MessageTypes;
 use std::alloc::Global;
 use std::io::{Read, Write};
 

@@ -2,7 +2,7 @@
 use crate::slow::{SlowWriter, UNLIMITED};
 use someipctl_io::Outcome;
 use someipctl_show::show::show;
-use someipctl_types::MessageTypes;
+use someipctl_show::types::MessageTypes;
 use std::alloc::Global;
 
 /// An event; two requests of two services in one datagram; a request of the second; an empty datagram; and one of the

@@ -5,7 +5,7 @@ use packets::recording_of;
 use rows::{ROWS, Row, STANDING, UNTIMED};
 use someip_tp::{IntervalPool, Reassembly, SegmentList};
 use someipctl_recordings::{Asked, show_recording};
-use someipctl_types::MessageTypes;
+use someipctl_show::types::MessageTypes;
 use std::alloc::{AllocError, Global};
 
 mod others;

@@ -1,3 +1,6 @@
+pub mod SegmentsLemmas
+pub mod SegmentTexts
+pub mod SentLemmas
 pub mod SliceLemmas
 pub mod Placed
 pub mod KeyOrder

@@ -5,8 +5,8 @@ use Rattle.std.specs.Ordering.{eq_by_cmp}
 use Rattle.std.specs.FinMap.{get, insert, remove, empty, get-insert, get-remove, get-empty}
 use Rattle.someip_reassembly.specs.declared.key.ReassemblyKey.{ReassemblyKey}
 use Rattle.someip_reassembly.specs.declared.reassembly.Offered.{Offered}
-use Rattle.someip_segments.specs.declared.error.TpError.{TpError}
-use Rattle.someip_segments.specs.declared.error.TpError.TheVariants.{Unaligned, TooLong, Conflict, NoSlot, OutOfMemory, NoHeader}
+use Rattle.someip_reassembly.specs.declared.error.TpError.{TpError}
+use Rattle.someip_reassembly.specs.declared.error.TpError.TheVariants.{Unaligned, TooLong, Conflict, NoSlot, OutOfMemory, NoHeader}
 use Rattle.someip_reassembly.specs.Keys.{key_cmp}
 use Rattle.someip_tables.specs.Retained.{kept_if as passed}
 use Rattle.someip_reassembly.specs.Parts.{Part, Parts, Limits, NoneAfter, is_gone, parts_at}

@@ -4,8 +4,8 @@ use Rattle.std.specs.Option.{is_some, is_none, option_and_then}
 use Rattle.std.specs.FinMap.{get, insert, len, get-insert}
 use Rattle.someip_reassembly.specs.declared.reassembly.Offered.{Offered}
 use Rattle.someip_reassembly.specs.declared.reassembly.Offered.TheVariants.{Part as InPart, Whole}
-use Rattle.someip_segments.specs.declared.error.TpError.{TpError}
-use Rattle.someip_segments.specs.declared.error.TpError.TheVariants.{Unaligned, TooLong, Conflict, NoSlot, OutOfMemory, NoHeader}
+use Rattle.someip_reassembly.specs.declared.error.TpError.{TpError}
+use Rattle.someip_reassembly.specs.declared.error.TpError.TheVariants.{Unaligned, TooLong, Conflict, NoSlot, OutOfMemory, NoHeader}
 use Rattle.someip_reassembly.specs.Parts.{Limits, Part, Parts, parts_at}
 use Rattle.someip_reassembly.specs.SegmentOffers.{SegmentOffer, judgement, kept, parts_after, message_of, message_at, part_or_whole, with_offer, part_under, is_unaligned, is_too_long, conflicts}
 use Rattle.someip_reassembly.proofs.KeyOrder.{keys_total, test_from_same}

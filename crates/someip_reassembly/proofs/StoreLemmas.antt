@@ -11,8 +11,8 @@ use Rattle.someip_tables.specs.Distinct.{are_distinct}
 use Rattle.someip_reassembly.specs.Keys.{key_cmp, same_key}
 use Rattle.someip_reassembly.specs.Parts.{Part, Parts, Limits, is_gone, parts_at}
 use Rattle.someip_reassembly.specs.declared.reassembly.Offered.{Offered}
-use Rattle.someip_segments.specs.declared.error.TpError.{TpError}
-use Rattle.someip_segments.specs.declared.error.TpError.TheVariants.{Unaligned, TooLong, Conflict, NoSlot, OutOfMemory, NoHeader}
+use Rattle.someip_reassembly.specs.declared.error.TpError.{TpError}
+use Rattle.someip_reassembly.specs.declared.error.TpError.TheVariants.{Unaligned, TooLong, Conflict, NoSlot, OutOfMemory, NoHeader}
 use Rattle.std.specs.Result.{is_ok, OnErr}
 use Rattle.someip_reassembly.specs.SegmentOffers.{SegmentOffer, judged, judgement, kept, parts_after, judged_among, part_or_whole, part_under, no_part, conflicts, passes, total_of, with_offer, message_of, message_at, parts_less}
 use Rattle.someip_reassembly.specs.Partials.{Entry}

@@ -1,3 +1,7 @@
+pub mod Names
+pub mod TpHeader
+pub mod Segments
+pub mod Sent
 pub mod Keys
 pub mod Parts
 pub mod SegmentOffers

@@ -7,8 +7,8 @@ use Rattle.std.specs.FinMap.{FinMap, get, insert, remove, contains_key, keys, le
 use Rattle.someip_reassembly.specs.declared.key.ReassemblyKey.{ReassemblyKey}
 use Rattle.someip_reassembly.specs.declared.reassembly.Offered.{Offered}
 use Rattle.someip_reassembly.specs.declared.reassembly.Offered.TheVariants.{Part as InPart, Whole}
-use Rattle.someip_segments.specs.declared.error.TpError.{TpError}
-use Rattle.someip_segments.specs.declared.error.TpError.TheVariants.{Unaligned, TooLong, Conflict, NoSlot}
+use Rattle.someip_reassembly.specs.declared.error.TpError.{TpError}
+use Rattle.someip_reassembly.specs.declared.error.TpError.TheVariants.{Unaligned, TooLong, Conflict, NoSlot}
 use Rattle.someip_reassembly.specs.Parts.{Limits, Part, Parts, parts_at}
 
 -- a segment that is offered: the key of its message, its offset in bytes, More Segments, and its slice

@@ -5,8 +5,8 @@ use Rattle.std.specs.Coded.{Coded, code_by, coded×}
 use Rattle.std.specs.FinMap.{find, from_entries}
 use Rattle.someip_reassembly.specs.declared.key.ReassemblyKey.{ReassemblyKey}
 use Rattle.someip_reassembly.specs.declared.reassembly.Offered.{Offered}
-use Rattle.someip_segments.specs.declared.error.TpError.{TpError}
-use Rattle.someip_segments.specs.declared.error.TpError.TheVariants.{OutOfMemory}
+use Rattle.someip_reassembly.specs.declared.error.TpError.{TpError}
+use Rattle.someip_reassembly.specs.declared.error.TpError.TheVariants.{OutOfMemory}
 use Rattle.someip_reassembly.specs.Keys.{key_cmp, same_key}
 use Rattle.someip_reassembly.specs.Parts.{Limits, Parts, coded_parts, coded_limits}
 use Rattle.someip_reassembly.specs.declared.partials.Arrived.{Arrived}

@@ -7,10 +7,10 @@ ghost use Rattle.someip_reassembly.specs.Parts.{is_gone};
 ghost use Rattle.someip_reassembly.specs.SegmentOffers.{no_part, part_under, conflicts, with_offer, part_or_whole, message_at, parts_less};
 ghost use Rattle.someip_reassembly.specs.Stores.{StandsAt, Offers, OffersAmong, segment_arrived, parts_of_entries};
 
+use crate::TpError;
 use crate::key::ReassemblyKey;
 use crate::partial::Partial;
 use crate::reassembly::Offered;
-use someip_segments::TpError;
 use std::alloc::{AllocError, Global};
 
 /// A segment that arrived.

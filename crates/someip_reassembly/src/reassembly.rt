@@ -4,8 +4,8 @@ ghost use Rattle.std.specs.FinMap as map;
 ghost use Rattle.someip_reassembly.specs.Parts.{Limits, NoneAfter, parts_at};
 ghost use Rattle.someip_reassembly.specs.SegmentOffers.{offer, judgement, parts_after, message_at, parts_less};
 
+use crate::TpError;
 use crate::key::ReassemblyKey;
-use someip_segments::TpError;
 use std::alloc::Global;
 
 /// What an accepted segment made of its message.

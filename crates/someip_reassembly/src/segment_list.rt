@@ -1,10 +1,10 @@
 //! Reassembly by plain lists of accepted segments.
 
+use crate::TpError;
 use crate::key::ReassemblyKey;
 use crate::partial::Partial;
 use crate::partials::{Arrived, drop_gone, offer_to, take_from};
 use crate::reassembly::{Offered, Reassembly};
-use someip_segments::TpError;
 use std::alloc::Global;
 use std::marker::Model;
 

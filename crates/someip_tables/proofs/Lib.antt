@@ -16,3 +16,4 @@ pub mod Ranked
 pub mod AgendaLemmas
 pub mod AgendaKeys
 pub mod AgendaFills
+pub mod about_hashed

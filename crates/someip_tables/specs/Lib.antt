@@ -12,3 +12,4 @@ pub mod Lastings
 pub mod Dues
 pub mod Agendas
 pub mod Examples
+pub mod hashed

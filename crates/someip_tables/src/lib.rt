@@ -8,6 +8,7 @@
 //! - [`value_at`] and [`put_value`]: a map whose values stay until they are replaced;
 //! - [`next_session`] and [`session_after_last`]: Session IDs in cyclic order;
 //! - [`earlier`]: which of two moments comes first;
+//! - [`hashed`]: tables whose keys are found by their hash, for the audit of recordings;
 //! - [`laws`]: what the definitions behind the contracts promise, whatever body keeps them.
 //!
 //! How tables are kept. A moment never passes 2^63 - 1 milliseconds, and its type says so: no call that takes
@@ -37,6 +38,7 @@ mod awaited;
 mod deadline;
 mod deadline_map;
 mod due;
+pub mod hashed;
 mod key;
 mod lasting;
 pub mod laws;

@@ -6,8 +6,8 @@ use Rattle.someip_reassembly.specs.declared.key.ReassemblyKey.{ReassemblyKey}
 use Rattle.someip_tp.specs.declared.calls.TpCall.{TpCall}
 use Rattle.someip_tp.specs.declared.calls.TpCall.TheVariants.{Offer as OfferCall, Take, Expire, Clear}
 use Rattle.someip_reassembly.specs.Keys.{same_key}
-use Rattle.someip_segments.specs.Segments.{SegmentValue}
-use Rattle.someip_segments.specs.Sent.{segments_of}
+use Rattle.someip_reassembly.specs.Segments.{SegmentValue}
+use Rattle.someip_reassembly.specs.Sent.{segments_of}
 use Rattle.someip_reassembly.specs.Parts.{Limits, Part, Parts, parts_at}
 use Rattle.someip_reassembly.specs.SegmentOffers.{SegmentOffer, offer, judgement, parts_after}
 use Rattle.someip_tp.specs.Calls.{parts_after_call}

@@ -6,7 +6,7 @@ use Rattle.someip_reassembly.specs.declared.key.ReassemblyKey.{ReassemblyKey}
 use Rattle.someip_tp.specs.declared.calls.TpCall.{TpCall}
 use Rattle.someip_tp.specs.declared.calls.TpCall.TheVariants.{Offer as OfferCall, Take, Expire, Clear}
 use Rattle.someip_reassembly.specs.Keys.{same_key}
-use Rattle.someip_segments.specs.Sent.{segments_of}
+use Rattle.someip_reassembly.specs.Sent.{segments_of}
 use Rattle.someip_reassembly.specs.Parts.{Limits}
 use Rattle.someip_reassembly.specs.SegmentOffers.{SegmentOffer, offer}
 use Rattle.someip_tp.specs.Accepted.{offered_segment, IsSegmentOf}

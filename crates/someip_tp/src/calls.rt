@@ -6,8 +6,7 @@ ghost use Rattle.std.specs.Prelude.{◌≡◌, ◌++◌, ◌∷◌, [], IfOk, If
 ghost use Rattle.std.specs.FinMap as map;
 ghost use Rattle.someip_tp.specs.Calls.{MayCall, MayCalls, answer_to, answers_to, parts_after_call, parts_through, taken_by, taken_through};
 
-use someip_reassembly::{Offered, Reassembly, ReassemblyKey};
-use someip_segments::TpError;
+use someip_reassembly::{Offered, Reassembly, ReassemblyKey, TpError};
 use std::alloc::{AllocError, Global};
 
 /// A call of a store.

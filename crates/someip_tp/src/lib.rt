@@ -33,8 +33,7 @@ mod pool;
 pub use calls::{TpAnswer, TpCall, run_calls};
 pub use moments::{are_in_time, calls_in_time_may_be_made, no_part_is_ahead_of_its_caller};
 pub use pool::IntervalPool;
-pub use someip_reassembly::{Offered, Reassembly, ReassemblyKey, SegmentList};
-pub use someip_segments::{
-    ALONE_LEN, SLICE_LEN, Segment, Segments, Sent, SentPiece, ShortMessage, TpError,
-    append_message, append_piece, append_segment, read_segment,
+pub use someip_reassembly::{
+    ALONE_LEN, Offered, Reassembly, ReassemblyKey, SLICE_LEN, Segment, SegmentList, Segments, Sent,
+    SentPiece, ShortMessage, TpError, append_message, append_piece, append_segment, read_segment,
 };

@@ -3,7 +3,7 @@ ghost use Rattle.std.specs.Prelude.{◌≡◌, ◌≢◌, ◌≤◌, ◌↔◌, 
 ghost use Rattle.std.specs.FinMap as map;
 ghost use Rattle.someip_reassembly.specs.declared.key.ReassemblyKey.{ReassemblyKey};
 ghost use Rattle.someip_tp.specs.declared.calls.TpCall.{TpCall};
-ghost use Rattle.someip_segments.specs.declared.error.TpError.{TpError};
+ghost use Rattle.someip_reassembly.specs.declared.error.TpError.{TpError};
 ghost use Rattle.someip_reassembly.specs.declared.reassembly.Offered.{Offered};
 ghost use Rattle.someip_reassembly.specs.Parts.{Limits, Parts, NoneAfter, parts_at};
 ghost use Rattle.someip_reassembly.specs.SegmentOffers.{SegmentOffer, parts_after, parts_less};

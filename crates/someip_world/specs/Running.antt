@@ -5,7 +5,7 @@ use Rattle.std.specs.List.{AllZip}
 use Rattle.someip_node_rules.specs.trails.Copies.{IsCopy}
 use Rattle.someip_node_rules.specs.histories.History.{start_of}
 use Rattle.someip_node_rules.specs.declared.config.Config.{Config}
-use Rattle.someip_world_steps.specs.declared.step.Step.{Step}
+use Rattle.someip_world_schedule.specs.declared.step.Step.{Step}
 use Rattle.someip_world_setup.specs.declared.setup_node.SetupNode.{SetupNode}
 use Rattle.someip_world_rules.specs.declared.error.RunError.{RunError}
 use Rattle.someip_world_rules.specs.declared.error.RunError.TheVariants.{BadStep, OutOfMemory}

@@ -1,6 +1,6 @@
 //! Runs.
 ghost use Rattle.std.specs.Prelude.{◌≡◌, IfOk, IfErr};
-ghost use Rattle.someip_world_exchanges.specs.CleanReuse.{IsVerdictOn};
+ghost use Rattle.someip_world_rules.specs.exchanges.CleanReuse.{IsVerdictOn};
 ghost use Rattle.someip_world_rules.specs.Runs.{IsRun};
 ghost use Rattle.someip_world_rules.specs.Liars.{HasNoLiars};
 ghost use Rattle.someip_world_safety.specs.Safety.{IsSafeAmongLiarsOn, IsSafeOn};

@@ -4,11 +4,11 @@ use Rattle.std.specs.List.{AllByRecursion, Contains}
 use Rattle.std.specs.declared.net.socket_addr.SocketAddrV4.{SocketAddrV4}
 use Rattle.someip_tables.specs.declared.lasting.Lasting.{Lasting}
 use Rattle.someip_wire.specs.Spelling.{Fits, spelling}
-use Rattle.someip_segments.specs.Sent.{PieceValue, piece_message, sent}
-use Rattle.someip_segments.proofs.SentLemmas.{all_fit}
+use Rattle.someip_reassembly.specs.Sent.{PieceValue, piece_message, sent}
+use Rattle.someip_reassembly.proofs.SentLemmas.{all_fit}
 use Rattle.sd_wire.specs.declared.entry.ServiceEntry.{ServiceEntry}
 use Rattle.sd_wire.specs.contents.Kinds.{is_offer}
-use Rattle.sd_instances.specs.declared.keys.InstanceId.{InstanceId}
+use Rattle.sd_core.specs.declared.keys.InstanceId.{InstanceId}
 use Rattle.sd_core.specs.declared.received.KnownOffer.{KnownOffer}
 use Rattle.someip_node_rules.specs.declared.config.Config.{Config}
 use Rattle.someip_node_rules.specs.declared.output.Output.TheVariants.{Sent}
@@ -22,7 +22,7 @@ use Rattle.someip_node_rules.specs.forms.Outputs.{Given, Announces, Sends, Tells
 use Rattle.someip_node_rules.specs.trails.Packets.{Packet, HasServiceEntry}
 use Rattle.someip_node_rules.specs.histories.SeekQuestions.{known_offer_at}
 use Rattle.someip_node_rules.proofs.lists.MemberLemmas.{all_both, all_map, at_member}
-use Rattle.someip_world_steps.specs.declared.step.Step.{Step}
+use Rattle.someip_world_schedule.specs.declared.step.Step.{Step}
 use Rattle.someip_world_setup.specs.declared.setup_node.SetupNode.{SetupNode}
 use Rattle.someip_world_rules.specs.Announced.{FitsStep, IsAsConfigured, IsConfigured}
 use Rattle.someip_world_rules.specs.Liars.{HasNoLiars, IsHonest}

@@ -5,9 +5,9 @@ use Rattle.std.specs.Option.{option_map}
 use Rattle.someip_node_rules.specs.rules.Inputs as inputs
 use Rattle.someip_node_rules.specs.rules.Inputs.{Input}
 use Rattle.someip_node_rules.specs.declared.config.Config.{Config}
-use Rattle.someip_world_steps.specs.declared.step.Step.{Step}
-use Rattle.someip_world_steps.specs.declared.step.Step.TheVariants as steps
-use Rattle.someip_world_steps.specs.StepNodes.{node_of}
+use Rattle.someip_world_schedule.specs.declared.step.Step.{Step}
+use Rattle.someip_world_schedule.specs.declared.step.Step.TheVariants as steps
+use Rattle.someip_world_schedule.specs.StepNodes.{node_of}
 use Rattle.someip_world_setup.specs.declared.setup_node.SetupNode.{SetupNode}
 use Rattle.someip_world_rules.specs.declared.line.Line.{Line}
 use Rattle.someip_world_rules.specs.declared.step_fault.StepFault.{StepFault}

@@ -9,15 +9,15 @@ use Rattle.std.specs.Net.Socket.{IsSocketAddrV4}
 use Rattle.someip_wire.proofs.TypeLemmas.{flagged_is_no_event}
 use Rattle.someip_wire.specs.declared.header.Header.{Header}
 use Rattle.someip_wire.specs.Spelling.{Fits, IsBytes, MessageValue, spelling}
-use Rattle.someip_segments.specs.Segments.{segment_header, segments_within}
-use Rattle.someip_segments.specs.Sent.{Alone, InSegment, is_long, piece_message, segments_of, sent}
-use Rattle.someip_segments.proofs.SentLemmas.{all_fit}
+use Rattle.someip_reassembly.specs.Segments.{segment_header, segments_within}
+use Rattle.someip_reassembly.specs.Sent.{Alone, InSegment, is_long, piece_message, segments_of, sent}
+use Rattle.someip_reassembly.proofs.SentLemmas.{all_fit}
 use Rattle.sd_wire.specs.layout.Spelling.{HeadFits}
 use Rattle.sd_wire.specs.fronts.Splitting.{FitsDatagram}
 use Rattle.sd_wire.specs.contents.Values.{EntryValue, good}
 use Rattle.sd_wire.specs.encoding.Writing.{EntryFits}
 use Rattle.sd_session.specs.declared.stamp.Stamp.{Stamp}
-use Rattle.sd_instances.specs.declared.keys.InstanceId.{InstanceId}
+use Rattle.sd_core.specs.declared.keys.InstanceId.{InstanceId}
 use Rattle.someip_node_rules.specs.declared.config.Config.{Config}
 use Rattle.someip_node_rules.specs.declared.config.OfferedService.{OfferedService}
 use Rattle.someip_node_rules.specs.declared.config.WantedService.{WantedService}
@@ -41,8 +41,8 @@ use Rattle.someip_node_laws.proofs.fits.FitPackets.{bytes_fit}
 use Rattle.someip_node_laws.proofs.fits.FitRules.{no_notification}
 use Rattle.someip_node_rules.proofs.trails.MeaningLemmas.{all_given, outputs_written}
 use Rattle.someip_node_rules.proofs.lists.MemberLemmas.{all_append, all_both, all_flat_map, all_map, all_take, all_weaker, at_member}
-use Rattle.someip_world_steps.specs.declared.step.Step.{Step}
-use Rattle.someip_world_steps.specs.declared.step.Step.TheVariants as steps
+use Rattle.someip_world_schedule.specs.declared.step.Step.{Step}
+use Rattle.someip_world_schedule.specs.declared.step.Step.TheVariants as steps
 use Rattle.someip_world_setup.specs.declared.setup_node.SetupNode.{SetupNode}
 use Rattle.someip_world_rules.specs.Announced.{AllFits, FitNodes, FitsStep}
 use Rattle.someip_world_rules.specs.declared.line.Line.{Line}

@@ -3,7 +3,7 @@ use Rattle.std.proofs.Common.{◌≡◌, ◌≢◌, ℕ, zero, suc, ◌+◌, ◌
 use Rattle.std.specs.List.{AllByRecursion}
 use Rattle.std.proofs.lemmas.List.{take_all}
 use Rattle.someip_node_rules.specs.declared.config.Config.{Config}
-use Rattle.someip_world_steps.specs.declared.step.Step.{Step}
+use Rattle.someip_world_schedule.specs.declared.step.Step.{Step}
 use Rattle.someip_world_setup.specs.declared.setup_node.SetupNode.{SetupNode}
 use Rattle.someip_world_rules.specs.Deeds.{done_with}
 use Rattle.someip_world_rules.specs.Runs.{World, world_after, world_of}

@@ -10,8 +10,8 @@ use Rattle.someip_node_laws.specs.WorkedExamples.{client, instance, server}
 use Rattle.someip_node_laws.specs.WorkedRun.{OffersEvent, WantsEvent, answer_packet, answered_items, call_packet, called_items, comes, goes, having_met, known_items, method, offer_packet, offered_items, replied_items, requested_items}
 use Rattle.someip_node_laws.proofs.examples.ClientRun.{answer_taken, call_goes, offer_learned, other_call_goes}
 use Rattle.someip_node_laws.proofs.examples.ServerRun.{answer_goes, call_taken, offered}
-use Rattle.someip_world_steps.specs.declared.step.Step.{Step}
-use Rattle.someip_world_steps.specs.declared.step.Step.TheVariants.{Tick, Deliver, Call, Answer, Restart}
+use Rattle.someip_world_schedule.specs.declared.step.Step.{Step}
+use Rattle.someip_world_schedule.specs.declared.step.Step.TheVariants.{Tick, Deliver, Call, Answer, Restart}
 use Rattle.someip_world_setup.specs.declared.setup_node.SetupNode.{SetupNode}
 use Rattle.someip_world_rules.specs.declared.line.Line.{Line}
 use Rattle.someip_world_rules.specs.declared.step_fault.StepFault.TheVariants.{BadDelay}

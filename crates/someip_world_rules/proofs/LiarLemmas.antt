@@ -8,8 +8,8 @@ use Rattle.someip_node_rules.specs.histories.History.{History}
 use Rattle.someip_node_rules.specs.rules.Inputs as inputs
 use Rattle.someip_node_rules.specs.rules.Inputs.{Input}
 use Rattle.someip_node_rules.specs.declared.config.Config.{Config}
-use Rattle.someip_world_steps.specs.declared.step.Step.{Step}
-use Rattle.someip_world_steps.specs.declared.step.Step.TheVariants as steps
+use Rattle.someip_world_schedule.specs.declared.step.Step.{Step}
+use Rattle.someip_world_schedule.specs.declared.step.Step.TheVariants as steps
 use Rattle.someip_world_setup.specs.declared.setup_node.SetupNode.{SetupNode}
 use Rattle.someip_world_rules.specs.Datagrams.{SentDatagram, datagram_at}
 use Rattle.someip_world_rules.specs.Deeds.{Deed, Takes, Restarts, Injects, datagram_limit, deed_at, deed_of, delivery, is_addressed, liar_deed}

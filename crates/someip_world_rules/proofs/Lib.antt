@@ -16,3 +16,4 @@ pub mod ConfiguredLemmas
 pub mod NumberLemmas
 pub mod WorkedTraceLemmas
 pub mod LateAnswerLemmas
+pub mod about_exchanges

@@ -2,7 +2,7 @@
 use Rattle.std.proofs.Common.{◌≡◌, ◌⊎◌, inl, inr, ◌<◌, ◌≤◌, ℕ, zero, suc, List, arith, refl, ◌∙◌, subst}
 use Rattle.std.proofs.lemmas.Bool.{cases_lt}
 use Rattle.someip_node_rules.specs.declared.config.Config.{Config}
-use Rattle.someip_world_steps.specs.declared.step.Step.{Step}
+use Rattle.someip_world_schedule.specs.declared.step.Step.{Step}
 use Rattle.someip_world_setup.specs.declared.setup_node.SetupNode.{SetupNode}
 use Rattle.someip_world_rules.specs.Deeds.{Restarts}
 use Rattle.someip_world_rules.specs.Deliveries.{LivesOn, Restarted}

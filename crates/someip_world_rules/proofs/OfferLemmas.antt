@@ -13,9 +13,9 @@ use Rattle.sd_wire.specs.contents.Endpoints.{first_udp_endpoint, options_of}
 use Rattle.sd_wire.specs.contents.Kinds.{is_offer}
 use Rattle.sd_wire.specs.contents.Values.{EntryValue}
 use Rattle.sd_session.specs.declared.stamp.Stamp.{Stamp}
-use Rattle.sd_instances.specs.declared.eventgroup.Eventgroup as groups
-use Rattle.sd_instances.specs.declared.keys.InstanceId.{InstanceId}
-use Rattle.sd_wishes.specs.declared.wish.OutgoingSubscribe.{OutgoingSubscribe}
+use Rattle.sd_core.specs.declared.eventgroup.Eventgroup as groups
+use Rattle.sd_core.specs.declared.keys.InstanceId.{InstanceId}
+use Rattle.sd_core.specs.declared.wish.OutgoingSubscribe.{OutgoingSubscribe}
 use Rattle.someip_node_rules.specs.declared.config.Config.{Config}
 use Rattle.someip_node_rules.specs.declared.config.OfferedService.{OfferedService}
 use Rattle.someip_node_rules.specs.declared.config.WantedService.{WantedService}

@@ -14,7 +14,7 @@ use Rattle.someip_node_rules.specs.declared.error.NodeError.{NodeError}
 use Rattle.someip_node_rules.proofs.trails.MeetingLemmas.{all_met, state_met}
 use Rattle.someip_node_rules.proofs.lists.MemberLemmas.{all_weaker}
 use Rattle.someip_node_rules.proofs.rules.StepRules.{config_kept}
-use Rattle.someip_world_steps.specs.declared.step.Step.{Step}
+use Rattle.someip_world_schedule.specs.declared.step.Step.{Step}
 use Rattle.someip_world_setup.specs.declared.setup_node.SetupNode.{SetupNode}
 use Rattle.someip_world_rules.specs.Deeds.{Deed, Takes, Restarts, Injects, done_with}
 use Rattle.someip_world_rules.specs.Deliveries.{Restarted}

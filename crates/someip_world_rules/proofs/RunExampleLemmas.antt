@@ -14,9 +14,9 @@ use Rattle.someip_tables.specs.EndpointOrder.{endpoints_total}
 use Rattle.someip_tables.specs.Endpoints.{endpoint_cmp}
 use Rattle.someip_tables.specs.Lastings.{unless_passed}
 use Rattle.someip_tables.proofs.Entries.{own_test, same_by_test}
-use Rattle.sd_subscribers.specs.declared.subscription.Subscription.{Subscription}
-use Rattle.sd_subscribers.specs.SubscriptionKeys.{subscription_cmp}
-use Rattle.sd_subscribers.specs.SubscriptionOrder.{exact_subscriptions}
+use Rattle.sd_core.specs.declared.subscription.Subscription.{Subscription}
+use Rattle.sd_core.specs.SubscriptionKeys.{subscription_cmp}
+use Rattle.sd_core.specs.SubscriptionOrder.{exact_subscriptions}
 use Rattle.someip_rpc.specs.Events.{publish_refusal}
 use Rattle.someip_rpc.specs.declared.error.RpcError.TheVariants.{NotOffered, TooLong, UnknownEvent}
 use Rattle.someip_node_rules.specs.declared.config.Config.{Config}

@@ -14,9 +14,9 @@ use Rattle.someip_node_laws.proofs.examples.ClientEvents.{ack_taken, event_taken
 use Rattle.someip_node_laws.proofs.examples.ClientRun.{answer_taken, call_goes, offer_learned}
 use Rattle.someip_node_laws.proofs.examples.ServerEvents.{event_goes, subscribe_accepted}
 use Rattle.someip_node_laws.proofs.examples.ServerRun.{answer_goes, call_taken, offered}
-use Rattle.someip_world_steps.specs.declared.step.Step.{Step}
-use Rattle.someip_world_steps.specs.declared.step.Step.TheVariants.{Tick, Deliver, Call, Answer, Publish, Subscribe}
-use Rattle.someip_world_steps.specs.StepNodes.{node_of}
+use Rattle.someip_world_schedule.specs.declared.step.Step.{Step}
+use Rattle.someip_world_schedule.specs.declared.step.Step.TheVariants.{Tick, Deliver, Call, Answer, Publish, Subscribe}
+use Rattle.someip_world_schedule.specs.StepNodes.{node_of}
 use Rattle.someip_world_setup.specs.declared.setup_node.SetupNode.{SetupNode}
 use Rattle.someip_world_rules.specs.declared.error.RunError.TheVariants.{BadStep}
 use Rattle.someip_world_rules.specs.declared.line.Line.{Line}

@@ -9,14 +9,14 @@ use Rattle.sd_wire.specs.declared.entry.EntryHead.TheVariants.{Service}
 use Rattle.sd_wire.specs.contents.Endpoints.{first_udp_endpoint, options_of}
 use Rattle.sd_wire.specs.contents.Kinds.{is_offer}
 use Rattle.sd_wire.specs.contents.Values.{EntryValue}
-use Rattle.sd_instances.specs.declared.keys.InstanceId.{InstanceId}
+use Rattle.sd_core.specs.declared.keys.InstanceId.{InstanceId}
 use Rattle.sd_core.specs.declared.received.KnownOffer.{KnownOffer}
 use Rattle.someip_node_rules.specs.histories.History.{History}
 use Rattle.someip_node_rules.specs.rules.Inputs.{Datagram}
 use Rattle.someip_node_rules.specs.trails.Packets.{Packet, HasServiceEntry}
 use Rattle.someip_node_rules.specs.histories.SeekQuestions.{majors_of}
 use Rattle.someip_node_rules.specs.declared.config.Config.{Config}
-use Rattle.someip_world_steps.specs.declared.step.Step.{Step}
+use Rattle.someip_world_schedule.specs.declared.step.Step.{Step}
 use Rattle.someip_world_setup.specs.declared.setup_node.SetupNode.{SetupNode}
 use Rattle.someip_world_rules.specs.Deliveries.{Delivers, Does, GoesOut, LivesOn}
 

@@ -6,8 +6,8 @@ use Rattle.someip_rpc.specs.declared.request.Reply.TheVariants.{Response}
 use Rattle.someip_node_rules.specs.declared.output.Output.TheVariants.{Answered, Called, Known, Request, Sent}
 use Rattle.someip_node_laws.specs.WorkedExamples.{client, instance, server}
 use Rattle.someip_node_laws.specs.WorkedRun.{answer_packet, call_packet, goes, method, offer_packet}
-use Rattle.someip_world_steps.specs.declared.step.Step.{Step}
-use Rattle.someip_world_steps.specs.declared.step.Step.TheVariants.{Tick, Deliver, Call, Answer, Restart}
+use Rattle.someip_world_schedule.specs.declared.step.Step.{Step}
+use Rattle.someip_world_schedule.specs.declared.step.Step.TheVariants.{Tick, Deliver, Call, Answer, Restart}
 use Rattle.someip_world_rules.specs.declared.line.Line.{Line}
 use Rattle.someip_world_rules.specs.WorkedTrace.{a, b, gave}
 

@@ -10,3 +10,4 @@ pub mod RunExamples
 pub mod Announced
 pub mod WorkedTrace
 pub mod LateAnswer
+pub mod exchanges

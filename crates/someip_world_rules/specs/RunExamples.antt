@@ -1,7 +1,7 @@
 -- A server with one subscription, as an example.
 use Rattle.std.specs.Prelude.{◌≡◌, ◌≤◌, ℕ, true, List, [], ◌∷◌, length, Some, Ok}
 use Rattle.std.specs.List.{Contains}
-use Rattle.sd_subscribers.specs.declared.subscription.Subscription.{Subscription}
+use Rattle.sd_core.specs.declared.subscription.Subscription.{Subscription}
 use Rattle.someip_rpc.specs.Events.{has_event}
 use Rattle.someip_node_rules.specs.rules.Publishing.{eventgroups_of}
 use Rattle.someip_node_rules.specs.histories.History.{History}

@@ -7,8 +7,8 @@ use Rattle.someip_node_rules.specs.rules.Plans.{Work}
 use Rattle.someip_node_rules.specs.steps.Steps.{step, given_in}
 use Rattle.someip_node_rules.specs.declared.config.Config.{Config}
 use Rattle.someip_node_rules.specs.declared.error.NodeError.{NodeError}
-use Rattle.someip_world_steps.specs.declared.step.Step.{Step}
-use Rattle.someip_world_steps.specs.StepNodes.{node_of}
+use Rattle.someip_world_schedule.specs.declared.step.Step.{Step}
+use Rattle.someip_world_schedule.specs.StepNodes.{node_of}
 use Rattle.someip_world_setup.specs.declared.setup_node.SetupNode.{SetupNode}
 use Rattle.someip_world_rules.specs.declared.line.Line.{Line}
 use Rattle.someip_world_rules.specs.Deeds.{Deed, Takes, deed_at, done_with}

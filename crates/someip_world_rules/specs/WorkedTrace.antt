@@ -6,8 +6,8 @@ use Rattle.someip_node_rules.specs.declared.output.Output.{Output}
 use Rattle.someip_node_rules.specs.declared.output.Output.TheVariants.{Accepted, Answered, Called, Event, Known, Request, Subscribed}
 use Rattle.someip_node_laws.specs.WorkedExamples.{client, instance, server}
 use Rattle.someip_node_laws.specs.WorkedRun.{ack_packet, answer_packet, call_packet, event_packet, eventgroup, goes, method, offer_packet, subscribe_packet}
-use Rattle.someip_world_steps.specs.declared.step.Step.{Step}
-use Rattle.someip_world_steps.specs.declared.step.Step.TheVariants.{Tick, Deliver, Call, Answer, Publish, Subscribe}
+use Rattle.someip_world_schedule.specs.declared.step.Step.{Step}
+use Rattle.someip_world_schedule.specs.declared.step.Step.TheVariants.{Tick, Deliver, Call, Answer, Publish, Subscribe}
 use Rattle.someip_world_setup.specs.declared.setup_node.SetupNode.{SetupNode}
 use Rattle.someip_world_rules.specs.declared.line.Line.{Line}
 use Rattle.someip_world_rules.specs.declared.line.Told.TheVariants.{Gave}

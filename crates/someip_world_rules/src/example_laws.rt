@@ -4,7 +4,7 @@ ghost use Rattle.std.specs.Prelude.{◌≡◌, true, [], ◌∷◌, Ok, Err};
 ghost use Rattle.someip_node_laws.specs.WorkedRun.{OffersEvent, WantsEvent};
 ghost use Rattle.someip_node_rules.specs.declared.config.Config.{Config};
 ghost use Rattle.someip_node_rules.specs.forms.GoodConfigs.{is_good_delay};
-ghost use Rattle.someip_world_steps.specs.declared.step.Step.TheVariants.{Deliver};
+ghost use Rattle.someip_world_schedule.specs.declared.step.Step.TheVariants.{Deliver};
 ghost use Rattle.someip_world_setup.specs.declared.setup_node.SetupNode.{SetupNode};
 ghost use Rattle.someip_world_rules.specs.declared.error.RunError.TheVariants.{BadStep};
 ghost use Rattle.someip_world_rules.specs.declared.step_fault.StepFault.TheVariants.{NoSuchDatagram};

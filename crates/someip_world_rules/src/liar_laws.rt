@@ -3,14 +3,14 @@
 ghost use Rattle.std.specs.Prelude.{◌≡◌, ◌≤◌, ℕ, true, false, nat_lt, List, length, take, slice_get, Some, Ok, Err};
 ghost use Rattle.std.specs.Net.Socket.{v4_ip};
 ghost use Rattle.std.specs.declared.net.socket_addr.SocketAddrV4.{SocketAddrV4};
-ghost use Rattle.sd_instances.specs.declared.eventgroup.Eventgroup.{Eventgroup};
-ghost use Rattle.sd_instances.specs.declared.keys.InstanceId.{InstanceId};
+ghost use Rattle.sd_core.specs.declared.eventgroup.Eventgroup.{Eventgroup};
+ghost use Rattle.sd_core.specs.declared.keys.InstanceId.{InstanceId};
 ghost use Rattle.someip_rpc.specs.declared.call.CallKind.{CallKind};
 ghost use Rattle.someip_rpc.specs.declared.request.Reply.{Reply};
 ghost use Rattle.someip_node_rules.specs.histories.History.{History};
 ghost use Rattle.someip_node_rules.specs.declared.config.Config.{Config};
-ghost use Rattle.someip_world_steps.specs.declared.step.Step.{Step};
-ghost use Rattle.someip_world_steps.specs.declared.step.Step.TheVariants.{Answer, Call, Deliver, Inject, Publish, PublishTo, Restart, StopOffer, Subscribe, Tick, Unsubscribe};
+ghost use Rattle.someip_world_schedule.specs.declared.step.Step.{Step};
+ghost use Rattle.someip_world_schedule.specs.declared.step.Step.TheVariants.{Answer, Call, Deliver, Inject, Publish, PublishTo, Restart, StopOffer, Subscribe, Tick, Unsubscribe};
 ghost use Rattle.someip_world_setup.specs.declared.setup_node.SetupNode.{SetupNode};
 ghost use Rattle.someip_world_rules.specs.declared.line.Line.{Line};
 ghost use Rattle.someip_world_rules.specs.declared.step_fault.StepFault.TheVariants.{IsLiar, NotLiar, PayloadTooLong};

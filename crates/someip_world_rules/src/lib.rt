@@ -6,6 +6,7 @@
 //! - [`place_of`]: the node of a name;
 //! - [`run_laws`]: what holds of every run, whatever its setup and schedule;
 //! - [`liar_laws`]: what liars do in it, and what they can't;
+//! - [`exchanges`]: calls, publications and subscriptions, their keys, and clean reuse;
 //! - [`number_laws`]: that the numbers of setups and steps fit their fields;
 //! - [`example_laws`]: a worked run.
 //!
@@ -18,6 +19,7 @@
 
 mod error;
 pub mod example_laws;
+pub mod exchanges;
 pub mod liar_laws;
 mod line;
 mod nodes;

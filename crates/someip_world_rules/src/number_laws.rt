@@ -16,8 +16,8 @@ ghost use Rattle.someip_world_rules.specs.Announced.{FitNodes, FitsStep};
 use sd_core::InstanceId;
 use someip_node_rules::{Config, OfferedService, WantedService};
 use someip_rpc::Reply;
+use someip_world_schedule::Step;
 use someip_world_setup::{Setup, SetupNode};
-use someip_world_steps::Step;
 use std::collections::BTreeMap;
 use std::net::{Ipv4Addr, SocketAddrV4};
 

@@ -11,9 +11,9 @@ ghost use Rattle.sd_wire.specs.encoding.Writing.{EntryFits};
 ghost use Rattle.sd_session.specs.declared.stamp.Stamp.{Stamp};
 ghost use Rattle.someip_node_rules.specs.forms.Entries.{discovery_message};
 ghost use Rattle.someip_node_rules.specs.trails.Packets.{HasDiscovery, HasServiceEntry, Packet};
-ghost use Rattle.sd_instances.specs.declared.eventgroup.Eventgroup.{Eventgroup};
-ghost use Rattle.sd_instances.specs.declared.keys.InstanceId.{InstanceId};
-ghost use Rattle.sd_subscribers.specs.declared.subscription.Subscription.{Subscription};
+ghost use Rattle.sd_core.specs.declared.eventgroup.Eventgroup.{Eventgroup};
+ghost use Rattle.sd_core.specs.declared.keys.InstanceId.{InstanceId};
+ghost use Rattle.sd_core.specs.declared.subscription.Subscription.{Subscription};
 ghost use Rattle.sd_core.specs.declared.received.KnownOffer.{KnownOffer};
 ghost use Rattle.someip_tables.specs.declared.lasting.Lasting.{Lasting};
 ghost use Rattle.someip_node_rules.specs.histories.SeekQuestions.{known_offer_at};
@@ -28,8 +28,8 @@ ghost use Rattle.someip_node_rules.specs.rules.Inputs.{Input};
 ghost use Rattle.someip_node_rules.specs.histories.Items.{Item};
 ghost use Rattle.someip_node_rules.specs.trails.Meanings.{GivenBy};
 ghost use Rattle.someip_node_laws.specs.Published.{IsPublished, IsPublishedTo, publication};
-ghost use Rattle.someip_world_steps.specs.declared.step.Step.{Step};
-ghost use Rattle.someip_world_steps.specs.declared.step.Step.TheVariants.{Publish, PublishTo};
+ghost use Rattle.someip_world_schedule.specs.declared.step.Step.{Step};
+ghost use Rattle.someip_world_schedule.specs.declared.step.Step.TheVariants.{Publish, PublishTo};
 ghost use Rattle.someip_world_setup.specs.declared.setup_node.SetupNode.{SetupNode};
 ghost use Rattle.someip_world_rules.specs.declared.line.Line.{Line};
 ghost use Rattle.someip_world_rules.specs.Turns.{IsOfRun, IsOfStep, LeadTo, TakesIt, ToldTurn, Turn};
@@ -43,8 +43,8 @@ ghost use Rattle.someip_world_rules.specs.Runs.{AreCopies, IsRun, World, run_of}
 ghost use Rattle.someip_world_rules.specs.declared.trace.Trace.{Trace};
 
 use crate::number_laws::{setup_fits, steps_fit};
+use someip_world_schedule::Step;
 use someip_world_setup::Setup;
-use someip_world_steps::Step;
 
 /// Each step of a run that has a trace is done by the node that it names, at the history of that node in
 /// the world to which the steps before it led. The lines of its index tell what the node then gives.

@@ -5,7 +5,7 @@ use Rattle.std.specs.declared.net.socket_addr.SocketAddrV4.{SocketAddrV4}
 use Rattle.someip_wire.specs.declared.header.Header.{Header}
 use Rattle.someip_wire.specs.declared.header.MessageType.TheVariants as kinds
 use Rattle.someip_wire.specs.declared.header.ReturnCode.{ReturnCode}
-use Rattle.sd_instances.specs.declared.keys.InstanceId.{InstanceId}
+use Rattle.sd_core.specs.declared.keys.InstanceId.{InstanceId}
 use Rattle.someip_rpc.specs.declared.ids.MessageId.{MessageId}
 use Rattle.someip_rpc.specs.declared.request.Reply.{Reply}
 use Rattle.someip_rpc.specs.declared.request.RequestFault.{RequestFault}
@@ -20,13 +20,13 @@ use Rattle.someip_node_rules.specs.rules.Plans.{TakesRequest}
 use Rattle.someip_node_rules.specs.forms.Setups.{client_endpoint, offered_as}
 use Rattle.someip_node_rules.specs.histories.Tables.{is_up}
 use Rattle.someip_node_rules.specs.trails.Trails.{Done, trail_of}
-use Rattle.someip_world_steps.specs.declared.step.Step.{Step}
+use Rattle.someip_world_schedule.specs.declared.step.Step.{Step}
 use Rattle.someip_world_setup.specs.declared.setup_node.SetupNode.{SetupNode}
 use Rattle.someip_world_rules.specs.Deliveries.{Does, LivesOn}
-use Rattle.someip_world_exchanges.specs.declared.exchange_key.ExchangeKey.{ExchangeKey}
-use Rattle.someip_world_exchanges.specs.Belonging.{Belongs, HandsUp}
-use Rattle.someip_world_exchanges.specs.Namings.{of_call}
-use Rattle.someip_world_exchanges.specs.Openings.{Opened}
+use Rattle.someip_world_rules.specs.declared.exchanges.exchange_key.ExchangeKey.{ExchangeKey}
+use Rattle.someip_world_rules.specs.exchanges.Belonging.{Belongs, HandsUp}
+use Rattle.someip_world_rules.specs.exchanges.Namings.{of_call}
+use Rattle.someip_world_rules.specs.exchanges.Openings.{Opened}
 use Rattle.someip_world_safety.specs.AwaitedCalls.{IsAwaited}
 use Rattle.someip_world_safety.specs.GivenMessages.{WasGiven}
 

@@ -10,11 +10,11 @@ use Rattle.someip_node_rules.specs.histories.CallQuestions.{open_request_at}
 use Rattle.someip_node_rules.specs.histories.History.{History}
 use Rattle.someip_node_rules.specs.rules.Plans.{TakesRequest}
 use Rattle.someip_node_rules.specs.forms.Setups.{offered_as}
-use Rattle.someip_world_steps.specs.declared.step.Step.{Step}
+use Rattle.someip_world_schedule.specs.declared.step.Step.{Step}
 use Rattle.someip_world_setup.specs.declared.setup_node.SetupNode.{SetupNode}
 use Rattle.someip_world_rules.specs.Runs.{World}
 use Rattle.someip_world_rules.specs.Deliveries.{LivesOn}
-use Rattle.someip_world_exchanges.specs.Belonging.{HandsUp}
+use Rattle.someip_world_rules.specs.exchanges.Belonging.{HandsUp}
 
 module _ (nodes : List SetupNode) (configs : List Config) (steps : List Step) where
   -- A request is open before a step, under its token: a step of the present life of the node handed it up, by a rule that took it

@@ -7,8 +7,8 @@ use Rattle.std.specs.declared.net.socket_addr.SocketAddrV4.{SocketAddrV4}
 use Rattle.someip_tables.specs.declared.deadline.Deadline.{Deadline}
 use Rattle.sd_wire.specs.declared.entry.EventgroupEntry.{EventgroupEntry}
 use Rattle.sd_wire.specs.contents.Kinds.{is_subscribe}
-use Rattle.sd_instances.specs.declared.eventgroup.Eventgroup.{Eventgroup}
-use Rattle.sd_subscribers.specs.SubscriberTables.{subscription_at}
+use Rattle.sd_core.specs.declared.eventgroup.Eventgroup.{Eventgroup}
+use Rattle.sd_core.specs.SubscriberTables.{subscription_at}
 use Rattle.someip_node_rules.specs.declared.config.Config.{Config}
 use Rattle.someip_node_rules.specs.histories.History.{History}
 use Rattle.someip_node_rules.specs.rules.Inputs.{Datagram}
@@ -19,15 +19,15 @@ use Rattle.someip_node_rules.specs.rules.Plans.{TakesSubscribe}
 use Rattle.someip_node_rules.specs.rules.ServerSubscribing.{subscribe_in}
 use Rattle.someip_node_rules.specs.trails.Trails.{Done, outcome_of, trail_of}
 use Rattle.someip_node_rules.specs.histories.WishQuestions.{course_at}
-use Rattle.someip_world_steps.specs.declared.step.Step.{Step}
+use Rattle.someip_world_schedule.specs.declared.step.Step.{Step}
 use Rattle.someip_world_setup.specs.declared.setup_node.SetupNode.{SetupNode}
 use Rattle.someip_world_rules.specs.Datagrams.{SentDatagram}
 use Rattle.someip_world_rules.specs.Liars.{IsHonest}
 use Rattle.someip_world_rules.specs.Runs.{World}
 use Rattle.someip_world_rules.specs.Deliveries.{Delivers, Does, LivesOn}
-use Rattle.someip_world_exchanges.specs.Belonging.{Belongs, IsNewest}
-use Rattle.someip_world_exchanges.specs.Namings.{of_subscription}
-use Rattle.someip_world_exchanges.specs.Openings.{Opened}
+use Rattle.someip_world_rules.specs.exchanges.Belonging.{Belongs, IsNewest}
+use Rattle.someip_world_rules.specs.exchanges.Namings.{of_subscription}
+use Rattle.someip_world_rules.specs.exchanges.Openings.{Opened}
 
 module _ (nodes : List SetupNode) (configs : List Config) (steps : List Step) where
   -- A rule of a step takes a Subscribe, about an eventgroup and with a counter, that came from a client, and accepts it: the

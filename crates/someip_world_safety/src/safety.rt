@@ -7,14 +7,14 @@ ghost use Rattle.someip_world_rules.specs.Turns.{LeadTo};
 ghost use Rattle.someip_world_rules.specs.declared.line.Line.{Line};
 ghost use Rattle.someip_world_rules.specs.declared.reuse.Reuse.{Reuse};
 ghost use Rattle.someip_world_rules.specs.declared.reuse.Reuse.TheVariants.{Clean};
-ghost use Rattle.someip_world_exchanges.specs.CleanReuse.{IsCleanBefore, IsVerdictOn};
+ghost use Rattle.someip_world_rules.specs.exchanges.CleanReuse.{IsCleanBefore, IsVerdictOn};
 ghost use Rattle.someip_world_safety.specs.CleanRuns.{AreShort, CountsOnce};
 ghost use Rattle.someip_world_safety.specs.Safety.{AcknowledgedAreSafe, AnswersAreSafe, EventsAreSafe, HonestAcknowledgedAreSafe, HonestAnswersAreSafe, HonestEventsAreSafe, HonestOffersAreConfigured, IsSafeAmongLiarsOn, IsSafeOn, OffersAreConfigured, PublishesToAll, PublishesToOne};
 ghost use Rattle.someip_world_safety.specs.Subscriptions.{HonestSubscriptionsAreSafe, SubscriptionsAreSafe};
 
 use someip_world_rules::run_laws::{all_that_a_setup_gives_fits, known_offers_are_of_the_setup};
+use someip_world_schedule::Step;
 use someip_world_setup::Setup;
-use someip_world_steps::Step;
 
 /// Runs are safe, whatever the setup and the steps: also among liars, which send any bytes under their own
 /// addresses.

@@ -1,1 +1,4 @@
+pub mod StepWords
+pub mod Steps
+pub mod StepNodes
 pub mod Schedule

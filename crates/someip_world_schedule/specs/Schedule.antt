@@ -5,10 +5,10 @@ use Rattle.std.specs.Str.{is_utf8}
 use Rattle.someip_texts.specs.Lines.{is_left_out, lines_of}
 use Rattle.someip_world_schedule.specs.declared.error.ScheduleError.{ScheduleError}
 use Rattle.someip_world_schedule.specs.declared.error.ScheduleError.TheVariants.{BadLine, OutOfMemory}
-use Rattle.someip_world_steps.specs.declared.step.Step.{Step}
-use Rattle.someip_world_steps.specs.declared.step_words.WordFault.{WordFault}
-use Rattle.someip_world_steps.specs.declared.step_words.WordFault.TheVariants as faults
-use Rattle.someip_world_steps.specs.Steps.{step_in}
+use Rattle.someip_world_schedule.specs.declared.step.Step.{Step}
+use Rattle.someip_world_schedule.specs.declared.step_words.WordFault.{WordFault}
+use Rattle.someip_world_schedule.specs.declared.step_words.WordFault.TheVariants as faults
+use Rattle.someip_world_schedule.specs.Steps.{step_in}
 
 -- a line is skipped if it is empty, or UTF-8 that begins with `#`
 abbrev pub is_skipped : List ℕ → Bool

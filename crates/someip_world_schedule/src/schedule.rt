@@ -22,8 +22,8 @@ ghost use Rattle.someip_world_schedule.specs.Schedule.{IsFoundOf, RefusesSchedul
 ghost use Rattle.someip_world_schedule.specs.Schedule.{lines_of_steps, steps_of};
 
 use crate::error::ScheduleError;
+use crate::{Step, WordFault, step_of_line};
 use someip_texts::{is_left_out, text_of};
-use someip_world_steps::{Step, WordFault, step_of_line};
 use std::alloc::Global;
 
 /// The steps of a schedule, and the lines on which they stand.

@@ -4,8 +4,8 @@ ghost use Rattle.std.specs.Prelude.{◌≡◌, ◌<◌, ◌^◌, [], ◌∷◌, 
 ghost use Rattle.std.specs.List.{AllByRecursion};
 ghost use Rattle.std.specs.Net.Text.{socket_v4_text};
 ghost use Rattle.std.specs.declared.net.socket_addr.SocketAddrV4.{SocketAddrV4};
-ghost use Rattle.someip_world_steps.specs.StepWords.{endpoint_in, endpoint_of};
-ghost use Rattle.someip_world_steps.specs.Steps.{IsUnparted, joined_by_blanks, words_in};
+ghost use Rattle.someip_world_schedule.specs.StepWords.{endpoint_in, endpoint_of};
+ghost use Rattle.someip_world_schedule.specs.Steps.{IsUnparted, joined_by_blanks, words_in};
 
 /// The words of a line are those that single spaces join to it, and no others.
 pub fn what_words_are()

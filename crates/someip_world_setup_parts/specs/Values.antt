@@ -1,7 +1,7 @@
 -- What a setup says, as plain values.
 use Rattle.std.specs.Prelude.{ℕ, Bool, List, map, string_bytes}
 use Rattle.std.specs.declared.net.ipv4_addr.Ipv4Addr.{Ipv4Addr}
-use Rattle.sd_instances.specs.declared.phases.Phases.{Phases}
+use Rattle.sd_core.specs.declared.phases.Phases.{Phases}
 use Rattle.someip_node_rules.specs.declared.config.Common.{Common}
 use Rattle.someip_world_setup_parts.specs.declared.parts.Listed.{Listed}
 use Rattle.someip_world_setup_parts.specs.declared.parts.OfferParts.{OfferParts}

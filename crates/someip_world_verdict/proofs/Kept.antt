@@ -4,9 +4,9 @@ use Rattle.std.specs.FinMap as finite
 use Rattle.std.specs.List.{AllZip}
 use Rattle.std.specs.Option.{option_map}
 use Rattle.someip_wire.specs.Spelling.{MessageValue}
-use Rattle.someip_segments.specs.Sent.{is_long}
+use Rattle.someip_reassembly.specs.Sent.{is_long}
 use Rattle.someip_reassembly.specs.declared.key.ReassemblyKey.{ReassemblyKey}
-use Rattle.sd_instances.specs.declared.eventgroup.Eventgroup.{Eventgroup}
+use Rattle.sd_core.specs.declared.eventgroup.Eventgroup.{Eventgroup}
 use Rattle.someip_tables.specs.Sessions.{session_after_last}
 use Rattle.someip_rpc.specs.Sessions.{session_after}
 use Rattle.someip_rpc.specs.declared.ids.EventId.{EventId}
@@ -16,16 +16,16 @@ use Rattle.someip_node_rules.specs.forms.Outputs as outputs
 use Rattle.someip_node_rules.specs.histories.Questions.{clock_at}
 use Rattle.someip_node_rules.specs.histories.WishQuestions.{course_at}
 use Rattle.someip_node_rules.specs.declared.config.Config.{Config}
-use Rattle.someip_world_steps.specs.declared.step.Step.{Step}
+use Rattle.someip_world_schedule.specs.declared.step.Step.{Step}
 use Rattle.someip_world_setup.specs.declared.setup_node.SetupNode.{SetupNode}
 use Rattle.someip_world_rules.specs.Datagrams.{SentDatagram}
 use Rattle.someip_world_rules.specs.Runs.{World}
-use Rattle.someip_world_exchanges.specs.Beginnings.{last_counter}
-use Rattle.someip_world_exchanges.specs.Belonging.{Answered, WasHandedUp}
-use Rattle.someip_world_exchanges.specs.CleanReuse.{Arrives}
+use Rattle.someip_world_rules.specs.exchanges.Beginnings.{last_counter}
+use Rattle.someip_world_rules.specs.exchanges.Belonging.{Answered, WasHandedUp}
+use Rattle.someip_world_rules.specs.exchanges.CleanReuse.{Arrives}
 use Rattle.someip_world_rules.specs.Deliveries.{Dispatch, IsInjected, LivesOn, Sends, dispatches_in}
-use Rattle.someip_world_exchanges.specs.Openings.{Opened}
-use Rattle.someip_world_exchanges.specs.declared.exchange_key.ExchangeKey.{ExchangeKey}
+use Rattle.someip_world_rules.specs.exchanges.Openings.{Opened}
+use Rattle.someip_world_rules.specs.declared.exchanges.exchange_key.ExchangeKey.{ExchangeKey}
 use Rattle.someip_world_verdict.specs.Books.{Book, LifeKept, NoteKept, PayloadNumbers, TakenKeys, taken_at}
 use Rattle.someip_world_verdict.specs.Booking.{payload_of}
 use Rattle.someip_world_verdict.specs.Contents.{said_in, stream_in}

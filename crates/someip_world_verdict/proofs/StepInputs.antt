@@ -4,13 +4,13 @@ use Rattle.someip_node_rules.specs.histories.History.{History}
 use Rattle.someip_node_rules.specs.rules.Inputs as inputs
 use Rattle.someip_node_rules.specs.rules.Inputs.{Input}
 use Rattle.someip_node_rules.specs.histories.Questions.{clock_at}
-use Rattle.someip_world_steps.specs.declared.step.Step.{Step}
-use Rattle.someip_world_steps.specs.declared.step.Step.TheVariants as steps
+use Rattle.someip_world_schedule.specs.declared.step.Step.{Step}
+use Rattle.someip_world_schedule.specs.declared.step.Step.TheVariants as steps
 use Rattle.someip_world_rules.specs.Datagrams.{SentDatagram, datagram_at}
 use Rattle.someip_world_rules.specs.Deeds.{Takes, Restarts, clock_limit, deed_of, delivery, is_addressed}
 use Rattle.someip_world_rules.specs.declared.line.Line.{Line}
 use Rattle.someip_world_rules.specs.declared.step_fault.StepFault.{StepFault}
-use Rattle.someip_world_exchanges.specs.Payloads.{payload_in}
+use Rattle.someip_world_rules.specs.exchanges.Payloads.{payload_in}
 use Rattle.someip_world_verdict.specs.Booking.{payload_of}
 
 -- what is done unless something speaks against it

@@ -12,7 +12,7 @@ use Rattle.someip_node_rules.specs.forms.GoodConfigs.{is_good}
 use Rattle.someip_node_rules.specs.histories.History.{History}
 use Rattle.someip_node_rules.specs.steps.Steps.{given_in}
 use Rattle.someip_node_rules.specs.declared.config.Config.{Config}
-use Rattle.someip_world_steps.specs.declared.step.Step.{Step}
+use Rattle.someip_world_schedule.specs.declared.step.Step.{Step}
 use Rattle.someip_node_rules.proofs.lists.MemberLemmas.{all_weaker}
 use Rattle.someip_world_setup.specs.GoodSetups.{IsGoodNetwork, IsGoodNode, Network}
 use Rattle.someip_world_setup.specs.declared.setup_node.SetupNode.{SetupNode}
@@ -24,10 +24,10 @@ use Rattle.someip_world_rules.specs.declared.line.Line.{Line}
 use Rattle.someip_world_rules.specs.declared.reuse.Reuse.{Reuse}
 use Rattle.someip_world_rules.proofs.OriginLemmas.{turn_configured}
 use Rattle.someip_world_rules.proofs.TurnLemmas.{AreWithin, ends_in, told_more, told_within, turn_in, went_through}
-use Rattle.someip_world_exchanges.specs.CleanReuse.{Breaks, IsCleanBefore, IsVerdict, IsVerdictOn}
-use Rattle.someip_world_exchanges.specs.KeyOrder.{call_cmp, event_cmp, subscription_cmp}
-use Rattle.someip_world_exchanges.specs.declared.exchange_key.ExchangeKey.{ExchangeKey}
-use Rattle.someip_world_exchanges.specs.declared.exchange_key.ExchangeKey.TheVariants as keys
+use Rattle.someip_world_rules.specs.exchanges.CleanReuse.{Breaks, IsCleanBefore, IsVerdict, IsVerdictOn}
+use Rattle.someip_world_rules.specs.exchanges.KeyOrder.{call_cmp, event_cmp, subscription_cmp}
+use Rattle.someip_world_rules.specs.declared.exchanges.exchange_key.ExchangeKey.{ExchangeKey}
+use Rattle.someip_world_rules.specs.declared.exchanges.exchange_key.ExchangeKey.TheVariants as keys
 use Rattle.someip_world_rules.proofs.Fronts.{one_world}
 use Rattle.someip_world_verdict.specs.Books.{Book, LifeKept, breaks_at, new_life, none_taken}
 use Rattle.someip_world_verdict.specs.Booking.{booked}

@@ -6,28 +6,28 @@ use Rattle.std.specs.BTreeMap as tree
 use Rattle.std.specs.List.{filter_map, flat_map, list_any}
 use Rattle.std.specs.Option.{option_map, option_map_or}
 use Rattle.std.specs.Ordering.{nat_cmp}
-use Rattle.someip_segments.specs.Sent.{is_long}
-use Rattle.sd_instances.specs.Eventgroups.{eventgroup_cmp}
-use Rattle.sd_instances.specs.Keys.{instance_cmp}
-use Rattle.sd_instances.specs.declared.keys.InstanceId.{InstanceId}
+use Rattle.someip_reassembly.specs.Sent.{is_long}
+use Rattle.sd_core.specs.Eventgroups.{eventgroup_cmp}
+use Rattle.sd_core.specs.Keys.{instance_cmp}
+use Rattle.sd_core.specs.declared.keys.InstanceId.{InstanceId}
 use Rattle.someip_rpc.specs.Events.{event_of}
 use Rattle.someip_tables.specs.Sessions.{session_after_last}
 use Rattle.someip_rpc.specs.declared.ids.EventId.{EventId}
 use Rattle.someip_node_rules.specs.declared.config.Config.{Config}
 use Rattle.someip_node_rules.specs.declared.config.OfferedService.{OfferedService}
 use Rattle.someip_node_rules.specs.declared.output.Output.TheVariants.{Request}
-use Rattle.someip_world_steps.specs.declared.step.Step.{Step}
-use Rattle.someip_world_steps.specs.declared.step.Step.TheVariants as steps
+use Rattle.someip_world_schedule.specs.declared.step.Step.{Step}
+use Rattle.someip_world_schedule.specs.declared.step.Step.TheVariants as steps
 use Rattle.someip_world_rules.specs.Datagrams.{SentDatagram, datagrams_in}
 use Rattle.someip_world_rules.specs.declared.line.Line.{Line}
 use Rattle.someip_world_rules.specs.declared.line.Told.{Told}
 use Rattle.someip_world_rules.specs.declared.line.Told.TheVariants.{Gave, Refused}
-use Rattle.someip_world_exchanges.specs.declared.exchange_key.ExchangeKey.{ExchangeKey}
-use Rattle.someip_world_exchanges.specs.declared.exchange_key.ExchangeKey.TheVariants as keys
-use Rattle.someip_world_exchanges.specs.declared.exchange_key.SubscriptionExchange.{SubscriptionExchange}
-use Rattle.someip_world_exchanges.specs.declared.naming.Side.{Side}
-use Rattle.someip_world_exchanges.specs.declared.naming.Side.TheVariants.{Opener}
-use Rattle.someip_world_exchanges.specs.Namings.{of_event}
+use Rattle.someip_world_rules.specs.declared.exchanges.exchange_key.ExchangeKey.{ExchangeKey}
+use Rattle.someip_world_rules.specs.declared.exchanges.exchange_key.ExchangeKey.TheVariants as keys
+use Rattle.someip_world_rules.specs.declared.exchanges.exchange_key.SubscriptionExchange.{SubscriptionExchange}
+use Rattle.someip_world_rules.specs.declared.exchanges.naming.Side.{Side}
+use Rattle.someip_world_rules.specs.declared.exchanges.naming.Side.TheVariants.{Opener}
+use Rattle.someip_world_rules.specs.exchanges.Namings.{of_event}
 use Rattle.someip_world_verdict.specs.Books.{Book, LifeKept, NoteKept, PayloadNumbers, TakenKeys, new_life, note_at, taken_with}
 use Rattle.someip_world_verdict.specs.Contents.{said_in, stream_in}
 use Rattle.someip_world_verdict.specs.Streams.{stream_of}

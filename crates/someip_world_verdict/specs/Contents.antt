@@ -22,11 +22,11 @@ use Rattle.sd_wire.specs.contents.Values.{ReadValue, SdValue}
 use Rattle.someip_node_rules.specs.declared.output.Output.{Output}
 use Rattle.someip_node_laws.specs.Fitting.{head_of}
 use Rattle.someip_world_rules.specs.Datagrams.{SentDatagram, sent_with}
-use Rattle.someip_world_exchanges.specs.declared.exchange_key.ExchangeKey.{ExchangeKey}
-use Rattle.someip_world_exchanges.specs.declared.exchange_key.ExchangeKey.TheVariants as keys
-use Rattle.someip_world_exchanges.specs.declared.naming.Naming.{Naming}
-use Rattle.someip_world_exchanges.specs.Beginnings.{SentSubscribe}
-use Rattle.someip_world_exchanges.specs.Namings.{named_by_kind, named_by_type}
+use Rattle.someip_world_rules.specs.declared.exchanges.exchange_key.ExchangeKey.{ExchangeKey}
+use Rattle.someip_world_rules.specs.declared.exchanges.exchange_key.ExchangeKey.TheVariants as keys
+use Rattle.someip_world_rules.specs.declared.exchanges.naming.Naming.{Naming}
+use Rattle.someip_world_rules.specs.exchanges.Beginnings.{SentSubscribe}
+use Rattle.someip_world_rules.specs.exchanges.Namings.{named_by_kind, named_by_type}
 use Rattle.someip_world_verdict.specs.declared.said.Said.{Said}
 
 -- the header of the whole message, of which this is one or a segment

@@ -9,15 +9,15 @@ use Rattle.someip_node_rules.specs.declared.output.Output.{Output}
 use Rattle.someip_node_rules.specs.declared.output.Output.TheVariants.{Accepted, Answered, Known, Request, Sent}
 use Rattle.someip_node_laws.specs.WorkedExamples.{asking, client, instance, refusing, server}
 use Rattle.someip_node_laws.specs.WorkedRun.{ack_packet, eventgroup, goes, offer_packet, subscribe_packet}
-use Rattle.someip_world_steps.specs.declared.step.Step.{Step}
-use Rattle.someip_world_steps.specs.declared.step.Step.TheVariants.{Tick, Deliver, Call, Answer, Restart, Subscribe}
+use Rattle.someip_world_schedule.specs.declared.step.Step.{Step}
+use Rattle.someip_world_schedule.specs.declared.step.Step.TheVariants.{Tick, Deliver, Call, Answer, Restart, Subscribe}
 use Rattle.someip_world_setup.specs.GoodSetups.{IsGoodNetwork, Network}
 use Rattle.someip_world_setup.specs.declared.setup_node.SetupNode.{SetupNode}
 use Rattle.someip_world_rules.specs.Announced.{FitNodes}
 use Rattle.someip_world_rules.specs.Runs.{told_lines}
 use Rattle.someip_world_rules.specs.declared.line.Line.{Line}
 use Rattle.someip_world_rules.specs.declared.reuse.Reuse.{Reuse}
-use Rattle.someip_world_exchanges.specs.CleanReuse.{IsVerdictOn}
+use Rattle.someip_world_rules.specs.exchanges.CleanReuse.{IsVerdictOn}
 use Rattle.someip_world_rules.specs.LateAnswer.{asking_with, called_first}
 use Rattle.someip_world_rules.specs.WorkedTrace.{AreNamed, a, b, gave}
 

@@ -20,7 +20,7 @@ use sd_core::Eventgroup;
 use someip_node_rules::Config;
 use someip_tables::{put_value, value_at};
 use someip_world_rules::{Datagram, Line};
-use someip_world_steps::Step;
+use someip_world_schedule::Step;
 use std::alloc::{AllocError, Global};
 use std::collections::BTreeMap;
 

@@ -9,7 +9,7 @@ use crate::note::Note;
 use crate::said::Said;
 use crate::taken::Taken;
 use someip_tables::Moment;
-use someip_world_exchanges::Side;
+use someip_world_rules::exchanges::Side;
 
 /// Whether the delivery of a datagram to a node breaks clean reuse.
 pub(crate) fn is_breach(timeout_ms: u32, taken: &Taken, life: &Life, note: &Note) -> bool

@@ -7,7 +7,7 @@ ghost use Rattle.sd_wire.specs.decoding.Program.{reading};
 ghost use Rattle.sd_wire.specs.contents.Values.{view_read, view_sd};
 ghost use Rattle.someip_node_laws.specs.Fitting.{head_of};
 ghost use Rattle.someip_node_rules.specs.rules.Learning.{eventgroup_in};
-ghost use Rattle.someip_world_exchanges.specs.Namings.{named_by_kind, named_by_type, of_call, of_event, of_subscription};
+ghost use Rattle.someip_world_rules.specs.exchanges.Namings.{named_by_kind, named_by_type, of_call, of_event, of_subscription};
 ghost use Rattle.someip_world_verdict.specs.Contents.{said_by_entries, said_by_head, said_by_header, said_by_message, said_by_reading, said_in, stream_in, whole_header};
 
 use crate::said::Said;
@@ -16,10 +16,10 @@ use sd_wire::{EntryHead, EventgroupEntry, EventgroupKind, ReadEntry, SdError, Sd
 use someip_rpc::MessageId;
 use someip_tp::ReassemblyKey;
 use someip_wire::{Header, Message, MessageType, Messages};
-use someip_world_exchanges::{
+use someip_world_rules::Datagram;
+use someip_world_rules::exchanges::{
     CallExchange, EventExchange, ExchangeKey, Naming, Side, SubscriptionExchange,
 };
-use someip_world_rules::Datagram;
 use std::alloc::{AllocError, Global};
 use std::net::{Ipv4Addr, SocketAddrV4};
 

@@ -13,8 +13,8 @@ use crate::note::Note;
 use crate::numbers::number_long;
 use crate::taken::Taken;
 use crate::telling::is_refused;
+use someip_world_schedule::Step;
 use someip_world_setup::SetupNode;
-use someip_world_steps::Step;
 use std::alloc::{AllocError, Global};
 use std::collections::BTreeMap;
 

@@ -5,8 +5,8 @@ ghost use Rattle.std.specs.Option.{option_map};
 ghost use Rattle.someip_world_verdict.specs.Booking.{long_payload_of, number_of, numbered, payload_of};
 ghost use Rattle.someip_world_verdict.specs.Views.{view_numbers};
 
-use someip_segments::ALONE_LEN;
-use someip_world_steps::{Step, StepPayload};
+use someip_reassembly::ALONE_LEN;
+use someip_world_schedule::{Step, StepPayload};
 use std::alloc::{AllocError, Global};
 use std::collections::BTreeMap;
 

@@ -7,7 +7,7 @@ use crate::said::Said;
 use crate::taken::Taken;
 use sd_core::Eventgroup;
 use someip_tables::{put_value, value_at};
-use someip_world_exchanges::{ExchangeKey, Side, SubscriptionExchange};
+use someip_world_rules::exchanges::{ExchangeKey, Side, SubscriptionExchange};
 use std::alloc::AllocError;
 use std::collections::BTreeMap;
 

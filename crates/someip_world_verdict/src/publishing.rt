@@ -9,8 +9,8 @@ use sd_core::InstanceId;
 use someip_node_rules::{Config, OfferedService};
 use someip_rpc::{EventId, MessageId};
 use someip_tables::{session_after_last, value_at};
-use someip_world_exchanges::{EventExchange, ExchangeKey};
-use someip_world_steps::Step;
+use someip_world_rules::exchanges::{EventExchange, ExchangeKey};
+use someip_world_schedule::Step;
 
 /// An event that a step publishes.
 #[derive(Clone, Copy)]

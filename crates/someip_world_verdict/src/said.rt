@@ -1,6 +1,6 @@
 //! What a message or an entry says of an exchange.
 
-use someip_world_exchanges::Naming;
+use someip_world_rules::exchanges::Naming;
 
 /// What a message or an entry says of an exchange.
 #[derive(Clone, Copy)]

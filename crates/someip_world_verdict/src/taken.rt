@@ -4,7 +4,9 @@ ghost use Rattle.someip_world_verdict.specs.Books.{none_taken, taken_at, taken_w
 ghost use Rattle.someip_world_verdict.specs.Views.{view_taken};
 
 use someip_tables::{put_value, value_at};
-use someip_world_exchanges::{CallExchange, EventExchange, ExchangeKey, SubscriptionExchange};
+use someip_world_rules::exchanges::{
+    CallExchange, EventExchange, ExchangeKey, SubscriptionExchange,
+};
 use std::alloc::{AllocError, Global};
 use std::collections::BTreeMap;
 

@@ -1,6 +1,6 @@
 //! The verdict on a run.
 ghost use Rattle.std.specs.Prelude.{◌≡◌, IfOk};
-ghost use Rattle.someip_world_exchanges.specs.CleanReuse.{IsVerdictOn};
+ghost use Rattle.someip_world_rules.specs.exchanges.CleanReuse.{IsVerdictOn};
 ghost use Rattle.someip_world_verdict.specs.Judging.{judged};
 
 use crate::booking::DoneStep;
@@ -8,8 +8,8 @@ use crate::ledger::Ledger;
 use crate::telling::own_count;
 use someip_world_rules::run_laws::all_that_a_setup_gives_fits;
 use someip_world_rules::{Line, Reuse, place_of};
+use someip_world_schedule::Step;
 use someip_world_setup::{Setup, SetupNode};
-use someip_world_steps::Step;
 use std::alloc::{AllocError, Global};
 
 /// The verdict on a run over the nodes of a setup, of which these lines are the trace: the first step that

@@ -16,8 +16,8 @@ use Rattle.someipctl_recordings.specs.declared.recordings.RecordingFault.{Record
 use Rattle.someipctl_recordings.specs.declared.recordings.RecordingFault.TheVariants as recordings
 use Rattle.someipctl_show.specs.declared.services.ServicesError.{ServicesError}
 use Rattle.someipctl_show.specs.declared.services.ServicesError.TheVariants as services
-use Rattle.someipctl_types.specs.declared.TypesFault.{TypesFault}
-use Rattle.someipctl_types.specs.declared.TypesFault.TheVariants as types
+use Rattle.someipctl_show.specs.declared.types.TypesFault.{TypesFault}
+use Rattle.someipctl_show.specs.declared.types.TypesFault.TheVariants as types
 use Rattle.someipctl_show.specs.declared.show.ShowError.{ShowError}
 use Rattle.someipctl_show.specs.declared.show.ShowError.TheVariants as shows
 use Rattle.someipctl_show.specs.declared.vectors.VectorsError.{VectorsError}

@@ -12,16 +12,16 @@ ghost use Rattle.someipctl_cli.specs.Failures.{failure_of_services, failure_of_t
 
 use recording::RecordingError;
 use someip_world::{SetupError, StepFault};
-use someipctl_audit::TimesError;
 use someipctl_io::ReadFault;
+use someipctl_recordings::audit::TimesError;
 use someipctl_recordings::ports::PortsError;
 use someipctl_recordings::{LimitsError, RecordingFault};
 use someipctl_run::{ExpectedFault, RunFault, SetupFault, SetupRefusal};
 use someipctl_show::payload::PayloadRefusal;
 use someipctl_show::services::ServicesError;
 use someipctl_show::show::ShowError;
+use someipctl_show::types::{TypesError, TypesFault};
 use someipctl_show::vectors::VectorsError;
-use someipctl_types::{TypesError, TypesFault};
 use thiserror::Error;
 
 /// Why the program did not do its work. Printed, it is the text for standard error.

@@ -6,7 +6,7 @@ use Rattle.std.proofs.lemmas.Bool.{lt-ltb, le-ltb}
 use Rattle.std.proofs.lemmas.Nat.{from_be_bytes-to_be_bytes_4}
 use Rattle.someip_wire.specs.Kinds.{has_tp_flag}
 use Rattle.someip_wire.specs.Spelling.{MessageValue}
-use Rattle.someip_segments.specs.TpHeader.{reads_segment, tp_header_in}
+use Rattle.someip_reassembly.specs.TpHeader.{reads_segment, tp_header_in}
 use Rattle.someipctl_io.specs.Parts.{hex4, hex2}
 use Rattle.someipctl_io.specs.Lines.{joined, type_name, payload_text, line_behind, flag_text, fault_line, segment_lines}
 

@@ -6,7 +6,7 @@ use Rattle.someip_wire.specs.declared.MessageType.{MessageType}
 use Rattle.someip_wire.specs.declared.MessageType.TheVariants.{Request, RequestNoReturn, Notification, Response, Error, TpRequest, TpRequestNoReturn, TpNotification, TpResponse, TpError}
 use Rattle.someip_wire.specs.Kinds.{has_tp_flag}
 use Rattle.someip_wire.specs.Spelling.{MessageValue}
-use Rattle.someip_segments.specs.TpHeader.{offset_of, more_of, tp_header_in}
+use Rattle.someip_reassembly.specs.TpHeader.{offset_of, more_of, tp_header_in}
 use Rattle.someipctl_io.specs.Parts.{hex4, hex2}
 
 -- the texts one after the other

@@ -14,7 +14,7 @@ ghost use Rattle.someipctl_io.specs.Lines.{segment_lines, has_no_tp_header};
 
 use crate::output::{Buffer, CannotWrite, write_hex};
 use crate::parts::{Part, put_parts};
-use someip_segments::read_segment;
+use someip_reassembly::read_segment;
 use someip_wire::{Message, MessageType};
 use std::io::Write;
 

@@ -10,8 +10,8 @@ use Rattle.recording.specs.HeldItems.{held_of}
 use Rattle.recording.specs.Readers.{ReaderValue, CanFollow, IsNext, IsAfterRead, items_by, to_come}
 use Rattle.someipctl_io.specs.Inputs.{WasLeft}
 use Rattle.someipctl_recordings.specs.Coming.{Comes, EndsAt, coming_items}
-use Rattle.someipctl_recordings.specs.declared.coming.Coming.{Coming}
-use Rattle.someipctl_recordings.specs.declared.coming.Coming.TheVariants.{Record}
+use Rattle.someipctl_recordings.specs.declared.read_loop.Coming.{Coming}
+use Rattle.someipctl_recordings.specs.declared.read_loop.Coming.TheVariants.{Record}
 
 -- ---- the bytes that a source gives
 

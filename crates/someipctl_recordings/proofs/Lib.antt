@@ -3,3 +3,4 @@ pub mod GatheredLemmas
 pub mod RecordedLemmas
 pub mod ComingLemmas
 pub mod ShowingLemmas
+pub mod about_audit

@@ -4,8 +4,8 @@ use Rattle.std.specs.Io.KnownBytes.{Consumes, IsAtEnd}
 use Rattle.recording.specs.Packets.{RecordValue}
 use Rattle.recording.specs.Records.{Item}
 use Rattle.recording.specs.Readers.{ReaderValue, CanFollow, to_come}
-use Rattle.someipctl_recordings.specs.declared.coming.Coming.{Coming}
-use Rattle.someipctl_recordings.specs.declared.coming.Coming.TheVariants.{Record, Fault, End}
+use Rattle.someipctl_recordings.specs.declared.read_loop.Coming.{Coming}
+use Rattle.someipctl_recordings.specs.declared.read_loop.Coming.TheVariants.{Record, Fault, End}
 
 -- the source is at its end, where it was known what it had left
 abbrev pub EndsAt : Option (List ℕ) → Option (List ℕ) → Type 0

@@ -5,8 +5,8 @@ use Rattle.someip_wire.specs.declared.Header.{Header}
 use Rattle.someip_wire.specs.declared.WireError.{WireError}
 use Rattle.someip_wire.specs.Kinds.{has_tp_flag, without_tp_flag}
 use Rattle.someip_wire.specs.Spelling.{MessageValue}
-use Rattle.someip_segments.specs.declared.TpError.{TpError}
-use Rattle.someip_segments.specs.TpHeader.{segment_in}
+use Rattle.someip_reassembly.specs.declared.TpError.{TpError}
+use Rattle.someip_reassembly.specs.TpHeader.{segment_in}
 use Rattle.someip_reassembly.specs.declared.ReassemblyKey.{ReassemblyKey}
 use Rattle.someip_reassembly.specs.declared.Offered.{Offered}
 use Rattle.someip_reassembly.specs.declared.Offered.TheVariants.{Part, Whole}
@@ -15,9 +15,9 @@ use Rattle.someip_reassembly.specs.Parts.{Limits, NoneAfter, Parts}
 use Rattle.someip_reassembly.specs.SegmentOffers.{SegmentOffer, offer, judgement, parts_after, message_at, parts_less}
 use Rattle.recording.specs.declared.Endpoint.{Endpoint}
 use Rattle.recording.specs.Packets.{DatagramValue}
-use Rattle.someipctl_recordings.specs.declared.gathering.Piece.{Piece}
-use Rattle.someipctl_recordings.specs.declared.gathering.Told.{Told}
-use Rattle.someipctl_recordings.specs.declared.gathering.Told.TheVariants as told
+use Rattle.someipctl_recordings.specs.declared.reassembly.Piece.{Piece}
+use Rattle.someipctl_recordings.specs.declared.reassembly.Told.{Told}
+use Rattle.someipctl_recordings.specs.declared.reassembly.Told.TheVariants as told
 
 -- what contracts see of a store of messages that have come in part
 pub record StoreValue : Type 0 where

@@ -8,3 +8,4 @@ pub mod RecordedText
 pub mod Scenes
 pub mod RecordingResult
 pub mod Coming
+pub mod audit

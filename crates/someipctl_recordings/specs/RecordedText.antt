@@ -11,14 +11,14 @@ use Rattle.recording.specs.Records.{Item}
 use Rattle.someip_wire.specs.declared.WireError.{WireError}
 use Rattle.someip_wire.specs.Spelling.{MessageValue}
 use Rattle.someip_wire.specs.Reading.{items_of}
-use Rattle.someip_segments.specs.declared.TpError.{TpError}
-use Rattle.someip_segments.specs.Names.{error_name}
+use Rattle.someip_reassembly.specs.declared.TpError.{TpError}
+use Rattle.someip_reassembly.specs.Names.{error_name}
 use Rattle.someip_reassembly.specs.Parts.{Limits}
 use Rattle.someipctl_io.specs.Items.{item_len, item_lines}
 use Rattle.someipctl_io.specs.Lines.{dropped_line, empty_line, whole_line}
 use Rattle.someipctl_io.specs.Words.{spaced}
-use Rattle.someipctl_types.specs.Types.{TypesValue}
-use Rattle.someipctl_types.specs.ValueLine.{value_line, has_value_fault}
+use Rattle.someipctl_show.specs.types.Types.{TypesValue}
+use Rattle.someipctl_show.specs.types.ValueLine.{value_line, has_value_fault}
 use Rattle.someipctl_show.specs.declared.services.AskedService.{AskedService}
 use Rattle.someipctl_show.specs.Services.{is_asked_by}
 use Rattle.someipctl_show.specs.ShownText.{shows_fault, value_of_item}

@@ -1,6 +1,6 @@
 -- A datagram that is shown.
 use Rattle.recording.specs.View.{view_datagram}
-use Rattle.someipctl_types.specs.Types.{TypesValue}
+use Rattle.someipctl_show.specs.types.Types.{TypesValue}
 use Rattle.someipctl_recordings.specs.declared.datagrams.Numbered.{Numbered}
 use Rattle.someipctl_recordings.specs.RecordedText.{Scene}
 

@@ -1,7 +1,7 @@
 //! What of a recording is asked for.
 
 use someipctl_show::services::AskedService;
-use someipctl_types::MessageTypes;
+use someipctl_show::types::MessageTypes;
 
 /// What of a recording is asked for, and what is told of it.
 #[derive(Clone, Copy)]

@@ -10,8 +10,8 @@ ghost use Rattle.someipctl_recordings.specs.RecordedText.{gathered_lines, gather
 ghost use Rattle.someipctl_recordings.specs.RecordedText.{lines_with, recorded_lines, records_fault, scene_text, store_after_all};
 ghost use Rattle.someipctl_recordings.specs.Scenes.{scene_by};
 
-use crate::gathering::{Told, tell_item};
 use crate::heads::put_with_heads;
+use crate::reassembly::{Told, tell_item};
 use recording::Datagram;
 use someip_reassembly::Reassembly;
 use someip_wire::{Message, Messages, WireError};

@@ -7,13 +7,14 @@
 //!   shown up to its end or its fault;
 //! - [`limits_in`]: the limits that texts say; [`number_or`]: a number of such a text;
 //! - [`ports`]: the ports that a text names;
-//! - [`coming`], [`moments`], [`heads`], [`gathering`]: what comes next of a recording, its moment, the text of
+//! - [`read_loop`], [`moments`], [`heads`], [`reassembly`]: what comes next of a recording, its moment, the text of
 //!   its time, and its endpoints, for whatever else goes over a recording;
+//! - [`audit`]: the command `audit`, over the same way of reading;
 //! - [`laws`]: what the definitions behind the contracts promise.
 //!
-//! `coming` asks the reader of a recording what is next; where that needs bytes, it writes out what was
+//! `read_loop` asks the reader of a recording what is next; where that needs bytes, it writes out what was
 //! printed, and then reads once. `recordings` counts a record that is no datagram (`left_out`), and skips a
-//! datagram that is not asked for. `datagrams` goes over its messages; `gathering` offers segments to the
+//! datagram that is not asked for. `datagrams` goes over its messages; `reassembly` offers segments to the
 //! store, and takes a message that is whole into a vector that is used again. With endpoints the text of a
 //! datagram goes into a vector first, and `heads` puts time and endpoints before each line. Contracts see
 //! `Progress` (`RecordedText.antt`): how many datagrams were shown, the moment of the last, the parts of the
@@ -21,15 +22,16 @@
 #![tactic(auto)]
 
 mod asked;
-pub mod coming;
+pub mod audit;
 mod datagrams;
-pub mod gathering;
 pub mod heads;
 pub mod laws;
 mod left_out;
 mod limits;
 pub mod moments;
 pub mod ports;
+pub mod read_loop;
+pub mod reassembly;
 mod recordings;
 
 pub use asked::{Asked, WholeLimits};

@@ -13,10 +13,10 @@ ghost use Rattle.someipctl_recordings.specs.RecordingResult.{ShowsRecording, fau
 ghost use Rattle.someipctl_recordings.specs.RecordingResult.{progress_of, shown_recording, view_asked, view_limits, view_ports};
 
 use crate::asked::{Asked, WholeLimits};
-use crate::coming::{Coming, next_coming};
 use crate::datagrams::{Numbered, Telling, put_recorded};
 use crate::left_out::LeftOut;
 use crate::moments::moment_of;
+use crate::read_loop::{Coming, next_coming};
 use recording::{Datagram, Record, RecordingError, RecordingReader};
 use someip_reassembly::Reassembly;
 use someipctl_io::{Buffer, CannotWrite, Outcome, ReadFault};

@@ -8,7 +8,7 @@ use Rattle.someip_world_rules.specs.declared.line.Line.{Line}
 use Rattle.someip_world_rules.specs.declared.reuse.Reuse.{Reuse}
 use Rattle.someip_texts.specs.Lines.{lines_of}
 use Rattle.someip_world_schedule.specs.Schedule.{is_read, lines_of_steps, numbers_read}
-use Rattle.someip_world_steps.specs.Steps.{step_in}
+use Rattle.someip_world_schedule.specs.Steps.{step_in}
 use Rattle.someip_world_setup.specs.declared.setup_node.SetupNode.{SetupNode}
 use Rattle.someipctl_run.specs.Laws.{StandBehindWords}
 use Rattle.someipctl_run.specs.StepLines.{line_of_step}

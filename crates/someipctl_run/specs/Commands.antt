@@ -2,13 +2,13 @@
 use Rattle.std.specs.Prelude.{ℕ, ◌≡◌, true, List, ◌++◌, map, Option, Some, None, Ok, Err, IsSomeAnd}
 use Rattle.std.specs.Io.KnownBytes.{Appends, Keeps}
 use Rattle.std.specs.Str.{is_utf8}
-use Rattle.someip_world_exchanges.specs.CleanReuse.{IsVerdictOn}
+use Rattle.someip_world_rules.specs.exchanges.CleanReuse.{IsVerdictOn}
 use Rattle.someip_world_rules.specs.Runs.{ComesTo}
 use Rattle.someip_world_rules.specs.declared.error.RunError.TheVariants as runs
 use Rattle.someip_world_rules.specs.declared.line.Line.{Line}
 use Rattle.someip_world_rules.specs.declared.reuse.Reuse.{Reuse}
 use Rattle.someip_world_schedule.specs.Schedule.{first_bad, steps_of}
-use Rattle.someip_world_steps.specs.declared.step.Step.{Step}
+use Rattle.someip_world_schedule.specs.declared.step.Step.{Step}
 use Rattle.someip_world_setup.specs.GoodSetups.{Network}
 use Rattle.someip_world_setup.specs.Readings.{HasValues, TextHasFault, setup_of_text, tree_of}
 use Rattle.someip_world_setup_parts.specs.declared.error.SetupError.TheVariants as errors

@@ -7,3 +7,4 @@ pub mod Expected
 pub mod FormedTraces
 pub mod Comparing
 pub mod Laws
+pub mod chart

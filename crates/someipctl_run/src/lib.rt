@@ -5,12 +5,14 @@
 //!   a [`TraceForm`] says what stands before its lines;
 //! - [`read_expected`], [`compare_schedule`]: compares the trace with the one that a file expects;
 //! - [`told_text`]: what a line of a trace tells;
+//! - [`chart`]: the command `chart`, a picture of a run;
 //! - [`laws`]: what the definitions promise.
 //!
 //! The lines of a trace stand in `lines`, what they tell in `outputs`, and the lines of a schedule by
 //! which they came in `step_lines`.
 #![tactic(auto)]
 
+pub mod chart;
 mod comparing;
 mod error;
 mod expected;

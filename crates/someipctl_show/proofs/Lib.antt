@@ -8,3 +8,4 @@ pub mod VerdictLemmas
 pub mod PayloadLemmas
 pub mod BlankLemmas
 pub mod WordLemmas
+pub mod about_types

@@ -7,8 +7,8 @@ use Rattle.someip_wire.specs.declared.WireError.{WireError}
 use Rattle.someip_wire.specs.Spelling.{MessageValue, header_bytes, spelling}
 use Rattle.someip_wire.specs.Datagram.{Datagram, items}
 use Rattle.someipctl_io.specs.Items.{item_lines}
-use Rattle.someipctl_types.specs.Types.{TypesValue}
-use Rattle.someipctl_types.specs.ValueLine.{value_line}
+use Rattle.someipctl_show.specs.types.Types.{TypesValue}
+use Rattle.someipctl_show.specs.types.ValueLine.{value_line}
 use Rattle.someipctl_show.specs.ShownText.{lines_from}
 
 lines_from-append : (types : TypesValue) (k place : ℕ) (front others : List MessageValue) (end : Option WireError)

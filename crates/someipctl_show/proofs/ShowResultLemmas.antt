@@ -9,7 +9,7 @@ use Rattle.someipctl_show.specs.declared.print_fault.PrintFault.{PrintFault}
 use Rattle.someipctl_show.specs.declared.print_fault.PrintFault.TheVariants as prints
 use Rattle.someipctl_show.specs.declared.services.AskedService.{AskedService}
 use Rattle.someipctl_show.specs.Services.{asked_among}
-use Rattle.someipctl_types.specs.Types.{TypesValue}
+use Rattle.someipctl_show.specs.types.Types.{TypesValue}
 use Rattle.someipctl_show.proofs.ShownTextLemmas.{bytes_of_each}
 
 map_some : (datagrams : List (Vec ℕ Global)) → map (λ (t : List ℕ). Some t) (bytes_of_each datagrams) ≡ map (λ d. Some d.items) datagrams

@@ -9,7 +9,7 @@ use Rattle.someip_wire.specs.Reading.{items_of}
 use Rattle.someip_wire.proofs.DatagramLemmas.{items_from-nil}
 use Rattle.someipctl_io.specs.Lines.{empty_line}
 use Rattle.someipctl_io.specs.Items.{item_len}
-use Rattle.someipctl_types.specs.Types.{TypesValue}
+use Rattle.someipctl_show.specs.types.Types.{TypesValue}
 use Rattle.someipctl_show.specs.ShownText.{datagram_text, has_fault, lines_from, shows_fault}
 
 pub datagram_text-empty : (types : TypesValue) (k : ℕ) (datagram : List ℕ) → length datagram ≡ 0 → datagram_text types k datagram ≡ empty_line k

@@ -7,3 +7,4 @@ pub mod ShowResult
 pub mod Payload
 pub mod VectorLines
 pub mod Vectors
+pub mod types

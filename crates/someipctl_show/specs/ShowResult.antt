@@ -13,7 +13,7 @@ use Rattle.someipctl_show.specs.declared.print_fault.PrintFault.{PrintFault}
 use Rattle.someipctl_show.specs.declared.print_fault.PrintFault.TheVariants as prints
 use Rattle.someipctl_show.specs.declared.services.AskedService.{AskedService}
 use Rattle.someipctl_show.specs.Services.{asked_among}
-use Rattle.someipctl_types.specs.Types.{TypesValue}
+use Rattle.someipctl_show.specs.types.Types.{TypesValue}
 use Rattle.someipctl_show.specs.Capture.{captured_datagrams, first_bad}
 use Rattle.someipctl_io.specs.Inputs.{WasLeft}
 use Rattle.someipctl_show.specs.ShownText.{shown_text, shown_outcome}

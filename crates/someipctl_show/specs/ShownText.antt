@@ -10,8 +10,8 @@ use Rattle.someipctl_io.specs.Lines.{empty_line}
 use Rattle.someipctl_io.specs.Items.{item_len, item_lines, is_faulty}
 use Rattle.someipctl_show.specs.declared.print_fault.PrintFault.{PrintFault}
 use Rattle.someipctl_show.specs.declared.print_fault.PrintFault.TheVariants.{CannotWrite, OutOfMemory}
-use Rattle.someipctl_types.specs.Types.{TypesValue}
-use Rattle.someipctl_types.specs.ValueLine.{value_line, has_value_fault}
+use Rattle.someipctl_show.specs.types.Types.{TypesValue}
+use Rattle.someipctl_show.specs.types.ValueLine.{value_line, has_value_fault}
 
 -- ---- values
 

@@ -9,7 +9,7 @@ ghost use Rattle.someip_wire.specs.Spelling.{MessageValue, spelling};
 ghost use Rattle.someip_wire.specs.Datagram.{Datagram, items};
 ghost use Rattle.someip_payload_values.specs.Data.{bool};
 ghost use Rattle.someip_texts.specs.Lines.{is_left_out};
-ghost use Rattle.someipctl_types.specs.Types.{TypesValue};
+ghost use Rattle.someipctl_show.specs.types.Types.{TypesValue};
 ghost use Rattle.someipctl_show.specs.ShownText.{lines_from};
 ghost use Rattle.someipctl_show.specs.VectorLines.{IsBadBehind, Said, Says, asks, expects};
 ghost use Rattle.someipctl_show.specs.VectorLines.{of_datagram, of_payload};

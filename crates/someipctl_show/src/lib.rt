@@ -8,6 +8,7 @@
 //! - [`readings`]: what a datagram holds for Service Discovery, item by item;
 //! - [`payload`]: the value that bytes have by a shape;
 //! - [`vectors`]: whether what is printed is what a file expects;
+//! - [`types`]: types files, and the line of the value of a message;
 //! - [`comma_words`]: the words of an argument;
 //! - [`read_capture`]: the datagrams of a capture;
 //! - [`laws`]: what the definitions behind the contracts promise.
@@ -26,6 +27,7 @@ mod print_fault;
 pub mod readings;
 pub mod services;
 pub mod show;
+pub mod types;
 pub mod value_lines;
 mod vector_lines;
 pub mod vectors;

@@ -11,17 +11,17 @@ use Rattle.someip_tables.proofs.Expiry.{get-unexpired}
 use Rattle.someip_tables.proofs.MapLaws.{retain-empty}
 use Rattle.sd_wire.specs.fronts.Fronts.{front_lengths}
 use Rattle.sd_wire.specs.contents.Values.{EntryValue}
-use Rattle.sd_instances.specs.declared.eventgroup.Eventgroup.{Eventgroup}
-use Rattle.sd_instances.specs.declared.keys.InstanceId.{InstanceId}
+use Rattle.sd_core.specs.declared.eventgroup.Eventgroup.{Eventgroup}
+use Rattle.sd_core.specs.declared.keys.InstanceId.{InstanceId}
 use Rattle.sd_core.specs.declared.received.ReceivedOffer.{ReceivedOffer}
-use Rattle.sd_instances.specs.declared.sending.Sending.{Sending}
-use Rattle.sd_wishes.specs.declared.wish.Wish.{Wish}
+use Rattle.sd_core.specs.declared.sending.Sending.{Sending}
+use Rattle.sd_core.specs.declared.wish.Wish.{Wish}
 use Rattle.sd_core.specs.Endings.{ends_at}
-use Rattle.sd_instances.specs.EventgroupOrder.{eventgroups_total, exact_eventgroups}
-use Rattle.sd_instances.specs.Eventgroups.{eventgroup_cmp}
-use Rattle.sd_instances.specs.KeyOrder.{instances_total, exact_instances}
-use Rattle.sd_instances.specs.Keys.{instance_cmp}
-use Rattle.sd_instances.specs.Sendings.{due_at, goes_out}
+use Rattle.sd_core.specs.EventgroupOrder.{eventgroups_total, exact_eventgroups}
+use Rattle.sd_core.specs.Eventgroups.{eventgroup_cmp}
+use Rattle.sd_core.specs.KeyOrder.{instances_total, exact_instances}
+use Rattle.sd_core.specs.Keys.{instance_cmp}
+use Rattle.sd_core.specs.Sendings.{due_at, goes_out}
 use Rattle.sd_core.specs.WishTables.{begun_where}
 use Rattle.someip_tables.proofs.SortedEntries.{keys-empty}
 use Rattle.someip_rpc.specs.declared.call.Awaited.{Awaited}

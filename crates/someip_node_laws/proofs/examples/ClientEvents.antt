@@ -20,14 +20,14 @@ use Rattle.sd_session.specs.declared.peers.Stamps.{Stamps}
 use Rattle.sd_session.specs.declared.stamp.Channel.TheVariants.{Unicast}
 use Rattle.sd_session.specs.Peers.{may_hold, stamps_of, stamps_or_none, told_by}
 use Rattle.sd_session.specs.Sessions.{first}
-use Rattle.sd_instances.specs.declared.keys.InstanceId.{InstanceId}
-use Rattle.sd_wishes.specs.declared.wish.SubscribeAnswer.{SubscribeAnswer}
-use Rattle.sd_wishes.specs.declared.wish.Wish.{Wish}
-use Rattle.sd_instances.specs.EventgroupOrder.{eventgroups_total}
-use Rattle.sd_instances.specs.Eventgroups.{eventgroup_cmp}
-use Rattle.sd_instances.specs.KeyOrder.{instances_total}
+use Rattle.sd_core.specs.declared.keys.InstanceId.{InstanceId}
+use Rattle.sd_core.specs.declared.wish.SubscribeAnswer.{SubscribeAnswer}
+use Rattle.sd_core.specs.declared.wish.Wish.{Wish}
+use Rattle.sd_core.specs.EventgroupOrder.{eventgroups_total}
+use Rattle.sd_core.specs.Eventgroups.{eventgroup_cmp}
+use Rattle.sd_core.specs.KeyOrder.{instances_total}
 use Rattle.sd_core.specs.SeekTables.{known_at}
-use Rattle.sd_wishes.specs.Wishes.{is_subscribed, sent_at_once, told_by_ack, wish_of}
+use Rattle.sd_core.specs.Wishes.{is_subscribed, sent_at_once, told_by_ack, wish_of}
 use Rattle.someip_rpc.specs.declared.call.CallKind.TheVariants.{Request}
 use Rattle.someip_node_rules.specs.steps.Advances.{after_inputs}
 use Rattle.someip_node_rules.specs.rules.ClientSubscribing.{wish_entries, wish_entries_by, wishes}

@@ -14,13 +14,13 @@ use Rattle.sd_wire.specs.contents.Values.{EntryValue, ReadValue, good}
 use Rattle.sd_session.specs.declared.stamp.Channel.TheVariants.{Multicast}
 use Rattle.sd_session.specs.Peers.{may_hold}
 use Rattle.sd_session.specs.Sessions.{after_uses, first}
-use Rattle.sd_wishes.specs.declared.wish.Stage.TheVariants.{Waiting}
-use Rattle.sd_wishes.specs.declared.wish.Wish.{Wish}
-use Rattle.sd_instances.specs.EventgroupOrder.{eventgroups_total, exact_eventgroups}
-use Rattle.sd_instances.specs.KeyOrder.{instances_total}
-use Rattle.sd_instances.specs.Keys.{instance_cmp}
+use Rattle.sd_core.specs.declared.wish.Stage.TheVariants.{Waiting}
+use Rattle.sd_core.specs.declared.wish.Wish.{Wish}
+use Rattle.sd_core.specs.EventgroupOrder.{eventgroups_total, exact_eventgroups}
+use Rattle.sd_core.specs.KeyOrder.{instances_total}
+use Rattle.sd_core.specs.Keys.{instance_cmp}
 use Rattle.sd_core.specs.SeekTables.{counted_as, known_at, is_wanted, offer_refusal, stands_by}
-use Rattle.sd_wishes.specs.Wishes.{subscribe_of}
+use Rattle.sd_core.specs.Wishes.{subscribe_of}
 use Rattle.sd_core.specs.WishTables.{subscribes}
 use Rattle.someip_wire.specs.declared.header.Header.{Header}
 use Rattle.someip_wire.specs.declared.header.MessageType.TheVariants as kinds
@@ -29,7 +29,7 @@ use Rattle.someip_tables.specs.declared.lasting.Lasting.{Lasting}
 use Rattle.someip_tables.specs.Lastings.{unless_passed}
 use Rattle.someip_tables.proofs.Expiry.{get-unexpired}
 use Rattle.someip_tables.proofs.MapLaws.{retain-empty}
-use Rattle.sd_instances.specs.declared.keys.InstanceId.{InstanceId}
+use Rattle.sd_core.specs.declared.keys.InstanceId.{InstanceId}
 use Rattle.sd_core.specs.declared.received.KnownOffer.{KnownOffer}
 use Rattle.someip_rpc.specs.declared.call.Awaited.{Awaited}
 use Rattle.someip_rpc.specs.declared.call.CallKind.TheVariants.{Request}

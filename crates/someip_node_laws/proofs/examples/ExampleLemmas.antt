@@ -38,10 +38,10 @@ use Rattle.someip_wire.specs.declared.header.MessageType.{MessageType}
 use Rattle.someip_wire.specs.declared.header.MessageType.TheVariants.{Response}
 use Rattle.sd_wire.specs.encoding.Encoding.{message_bytes}
 use Rattle.sd_wire.specs.decoding.Program.{options_within, reading}
-use Rattle.sd_subscribers.specs.declared.error.Cause.TheVariants.{NoEndpoint, UnknownEventgroup}
-use Rattle.sd_instances.specs.declared.keys.InstanceId.{InstanceId}
-use Rattle.sd_instances.specs.Keys.{instance_cmp}
-use Rattle.sd_subscribers.specs.SubscriberTables.{nack_cause}
+use Rattle.sd_core.specs.declared.error.Cause.TheVariants.{NoEndpoint, UnknownEventgroup}
+use Rattle.sd_core.specs.declared.keys.InstanceId.{InstanceId}
+use Rattle.sd_core.specs.Keys.{instance_cmp}
+use Rattle.sd_core.specs.SubscriberTables.{nack_cause}
 use Rattle.someip_rpc.specs.declared.call.Awaited.{Awaited}
 use Rattle.someip_rpc.specs.declared.error.DropCause.{DropCause}
 use Rattle.someip_rpc.specs.declared.error.DropCause.TheVariants.{NotPending, WrongType}
@@ -65,7 +65,7 @@ use Rattle.sd_wire.specs.declared.entry.EventgroupEntry.{EventgroupEntry}
 use Rattle.sd_session.specs.declared.stamp.Channel.TheVariants.{Unicast}
 use Rattle.sd_session.specs.declared.stamp.Stamp.{Stamp}
 use Rattle.sd_session.specs.Sessions.{after_uses}
-use Rattle.sd_subscribers.specs.declared.error.Cause.{Cause}
+use Rattle.sd_core.specs.declared.error.Cause.{Cause}
 use Rattle.someip_node_rules.specs.forms.Entries.{discovery_message}
 use Rattle.someip_node_rules.specs.rules.Handling.{heard_plan, target_plan}
 use Rattle.someip_node_rules.specs.histories.Items.{PeerHeard}

@@ -5,12 +5,12 @@ use Rattle.someip_tables.proofs.Entries.{len-retain_keys-≤, same_by_test}
 use Rattle.someip_tables.proofs.MapLaws.{insert_present}
 use Rattle.someip_tables.specs.declared.deadline.Deadline.TheVariants.{At}
 use Rattle.someip_tables.specs.declared.lasting.Lasting.{Lasting}
-use Rattle.sd_instances.specs.declared.keys.InstanceId.{InstanceId}
-use Rattle.sd_subscribers.specs.declared.subscription.Subscription.{Subscription}
-use Rattle.sd_instances.specs.KeyOrder.{exact_instances}
-use Rattle.sd_subscribers.specs.SubscriberTables.{is_of_instance, is_to, subscriber_count}
-use Rattle.sd_subscribers.specs.SubscriptionKeys.{subscription_cmp}
-use Rattle.sd_subscribers.specs.SubscriptionOrder.{subscriptions_total, exact_subscriptions}
+use Rattle.sd_core.specs.declared.keys.InstanceId.{InstanceId}
+use Rattle.sd_core.specs.declared.subscription.Subscription.{Subscription}
+use Rattle.sd_core.specs.KeyOrder.{exact_instances}
+use Rattle.sd_core.specs.SubscriberTables.{is_of_instance, is_to, subscriber_count}
+use Rattle.sd_core.specs.SubscriptionKeys.{subscription_cmp}
+use Rattle.sd_core.specs.SubscriptionOrder.{subscriptions_total, exact_subscriptions}
 use Rattle.someip_node_rules.specs.declared.config.Config.{Config}
 use Rattle.someip_node_rules.specs.histories.Items.{Ticked}
 use Rattle.someip_node_laws.specs.LimitExamples.{accepted_with, subscription_with}

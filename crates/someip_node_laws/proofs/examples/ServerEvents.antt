@@ -26,12 +26,12 @@ use Rattle.sd_wire.specs.decoding.Program.{options_within}
 use Rattle.sd_wire.specs.contents.Values.{EntryValue, ReadValue, good}
 use Rattle.sd_session.specs.declared.stamp.Channel.TheVariants.{Unicast}
 use Rattle.sd_session.specs.Sessions.{after_uses, first}
-use Rattle.sd_subscribers.specs.declared.error.Cause.TheVariants.{Full, NotOffered}
-use Rattle.sd_subscribers.specs.declared.subscribe.Subscribe.{Subscribe}
-use Rattle.sd_subscribers.specs.declared.subscription.Subscription.{Subscription}
-use Rattle.sd_subscribers.specs.SubscriberTables.{SubscriberMap, count_beside, endpoints_of, is_to, is_to_any, nack_cause}
-use Rattle.sd_subscribers.specs.SubscriptionKeys.{subscription_cmp}
-use Rattle.sd_subscribers.specs.SubscriptionOrder.{subscriptions_total, exact_subscriptions}
+use Rattle.sd_core.specs.declared.error.Cause.TheVariants.{Full, NotOffered}
+use Rattle.sd_core.specs.declared.subscribe.Subscribe.{Subscribe}
+use Rattle.sd_core.specs.declared.subscription.Subscription.{Subscription}
+use Rattle.sd_core.specs.SubscriberTables.{SubscriberMap, count_beside, endpoints_of, is_to, is_to_any, nack_cause}
+use Rattle.sd_core.specs.SubscriptionKeys.{subscription_cmp}
+use Rattle.sd_core.specs.SubscriptionOrder.{subscriptions_total, exact_subscriptions}
 use Rattle.someip_tables.proofs.SortedEntries.{keys-empty}
 use Rattle.someip_rpc.specs.Events.{event_header, event_of, next_session_of, publish_refusal}
 use Rattle.someip_rpc.specs.declared.request.Reply.TheVariants.{Response}

@@ -4,12 +4,12 @@ use Rattle.std.specs.List.{flat_map}
 use Rattle.std.specs.FinMap.{get, get-from_entries, keys, len, len-empty}
 use Rattle.sd_wire.specs.encoding.Encoding.{message_bytes}
 use Rattle.sd_wire.specs.contents.Values.{EntryValue}
-use Rattle.sd_instances.specs.declared.keys.InstanceId.{InstanceId}
-use Rattle.sd_instances.specs.declared.sending.Sending.{Sending}
+use Rattle.sd_core.specs.declared.keys.InstanceId.{InstanceId}
+use Rattle.sd_core.specs.declared.sending.Sending.{Sending}
 use Rattle.sd_core.specs.Endings.{ends_at}
-use Rattle.sd_instances.specs.KeyOrder.{instances_total, exact_instances}
-use Rattle.sd_instances.specs.Keys.{instance_cmp}
-use Rattle.sd_instances.specs.Sendings.{due_at, first_at, goes_out}
+use Rattle.sd_core.specs.KeyOrder.{instances_total, exact_instances}
+use Rattle.sd_core.specs.Keys.{instance_cmp}
+use Rattle.sd_core.specs.Sendings.{due_at, first_at, goes_out}
 use Rattle.sd_core.specs.WishTables.{begun_where}
 use Rattle.someip_tables.proofs.SortedEntries.{keys-empty}
 use Rattle.someip_tables.proofs.MapLaws.{retain-empty}

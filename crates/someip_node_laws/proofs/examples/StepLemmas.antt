@@ -23,7 +23,7 @@ use Rattle.sd_session.specs.declared.stamp.Channel.TheVariants.{Multicast, Unica
 use Rattle.sd_session.specs.declared.stamp.Stamp.{Stamp}
 use Rattle.sd_session.specs.Sessions.{after_uses}
 use Rattle.sd_session.specs.Peers.{may_hold, no_stamps, stamps_of, stamps_or_none, told_by}
-use Rattle.sd_instances.specs.declared.keys.InstanceId.{InstanceId}
+use Rattle.sd_core.specs.declared.keys.InstanceId.{InstanceId}
 use Rattle.someip_rpc.specs.declared.call.Awaited.{Awaited}
 use Rattle.someip_rpc.specs.declared.call.Call.{Call}
 use Rattle.someip_rpc.specs.declared.call.CallKind.TheVariants.{Request}

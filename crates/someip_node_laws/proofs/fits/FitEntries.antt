@@ -14,10 +14,10 @@ use Rattle.sd_wire.specs.contents.Values.{EntryValue}
 use Rattle.sd_wire.specs.encoding.Writing.{EntryFits}
 use Rattle.sd_wire.proofs.fronts.AloneLemmas.{endpoint_alone}
 use Rattle.sd_wire.proofs.fronts.SplitLemmas.{packed_fits}
-use Rattle.sd_instances.specs.declared.eventgroup.Eventgroup as groups
-use Rattle.sd_instances.specs.declared.keys.InstanceId.{InstanceId}
-use Rattle.sd_wishes.specs.declared.wish.OutgoingSubscribe.{OutgoingSubscribe}
-use Rattle.sd_instances.specs.KeyOrder.{exact_instances, instances_total}
+use Rattle.sd_core.specs.declared.eventgroup.Eventgroup as groups
+use Rattle.sd_core.specs.declared.keys.InstanceId.{InstanceId}
+use Rattle.sd_core.specs.declared.wish.OutgoingSubscribe.{OutgoingSubscribe}
+use Rattle.sd_core.specs.KeyOrder.{exact_instances, instances_total}
 use Rattle.someip_node_rules.specs.declared.config.Config.{Config}
 use Rattle.someip_node_rules.specs.declared.config.OfferedService.{OfferedService}
 use Rattle.someip_node_rules.specs.declared.config.WantedService.{WantedService}

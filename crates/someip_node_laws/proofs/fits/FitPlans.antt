@@ -12,10 +12,10 @@ use Rattle.someip_wire.specs.declared.header.MessageType.TheVariants as kinds
 use Rattle.someip_wire.specs.Kinds.{has_tp_flag, without_tp_flag}
 use Rattle.someip_wire.specs.Reading.{items_of}
 use Rattle.someip_wire.specs.Spelling.{Fits, MessageValue}
-use Rattle.someip_segments.specs.declared.error.TpError.{TpError}
+use Rattle.someip_reassembly.specs.declared.error.TpError.{TpError}
 use Rattle.someip_reassembly.specs.Keys.{segment_key}
 use Rattle.someip_reassembly.specs.SegmentOffers.{offer}
-use Rattle.someip_segments.specs.TpHeader.{segment_in}
+use Rattle.someip_reassembly.specs.TpHeader.{segment_in}
 use Rattle.sd_wire.specs.declared.entry.EntryHead.{EntryHead}
 use Rattle.sd_wire.specs.declared.entry.EntryHead.TheVariants.{Service, Eventgroup}
 use Rattle.sd_wire.specs.declared.entry.EventgroupEntry.{EventgroupEntry}
@@ -33,9 +33,9 @@ use Rattle.sd_wire.proofs.fronts.AloneLemmas.{endpoint_fronts}
 use Rattle.sd_wire.proofs.fronts.FrontLemmas.{lengths_are}
 use Rattle.sd_session.specs.declared.stamp.Channel.{Channel}
 use Rattle.sd_session.specs.Peers.{may_hold}
-use Rattle.sd_instances.specs.declared.eventgroup.Eventgroup as groups
-use Rattle.sd_wishes.specs.declared.wish.Beginning.{Beginning}
-use Rattle.sd_wishes.specs.Wishes.{sent_at_once, wish_of}
+use Rattle.sd_core.specs.declared.eventgroup.Eventgroup as groups
+use Rattle.sd_core.specs.declared.wish.Beginning.{Beginning}
+use Rattle.sd_core.specs.Wishes.{sent_at_once, wish_of}
 use Rattle.someip_node_rules.specs.declared.config.Config.{Config}
 use Rattle.someip_node_rules.specs.declared.receiver.Receiver.{Receiver}
 use Rattle.someip_node_rules.specs.declared.receiver.Receiver.TheVariants.{Group, Peer}

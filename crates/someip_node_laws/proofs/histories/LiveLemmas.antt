@@ -8,11 +8,11 @@ use Rattle.someip_tables.specs.Deadlines.{deadline_after, has_passed}
 use Rattle.someip_tables.specs.EndpointOrder.{addresses_total, exact_addresses}
 use Rattle.someip_tables.specs.Lastings.{unless_passed}
 use Rattle.someip_tables.proofs.Entries.{own_test, same_by_test}
-use Rattle.sd_subscribers.specs.declared.subscription.Subscription.{Subscription}
-use Rattle.sd_instances.specs.KeyOrder.{instances_total}
-use Rattle.sd_subscribers.specs.SubscriberTables.{is_of_instance, is_of_peer}
-use Rattle.sd_subscribers.specs.SubscriptionKeys.{subscription_cmp}
-use Rattle.sd_subscribers.specs.SubscriptionOrder.{subscriptions_total, exact_subscriptions}
+use Rattle.sd_core.specs.declared.subscription.Subscription.{Subscription}
+use Rattle.sd_core.specs.KeyOrder.{instances_total}
+use Rattle.sd_core.specs.SubscriberTables.{is_of_instance, is_of_peer}
+use Rattle.sd_core.specs.SubscriptionKeys.{subscription_cmp}
+use Rattle.sd_core.specs.SubscriptionOrder.{subscriptions_total, exact_subscriptions}
 use Rattle.someip_node_rules.specs.histories.Items.{Item, OfferStopped, PeerRebooted, SubscriptionAccepted, SubscriptionStopped, Ticked}
 use Rattle.someip_node_rules.specs.steps.Lives.{is_live}
 use Rattle.someip_node_rules.specs.histories.Questions.{clock_at}

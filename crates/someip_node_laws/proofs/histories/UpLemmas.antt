@@ -5,11 +5,11 @@ use Rattle.std.specs.Option.{is_some, option_map}
 use Rattle.std.specs.Ordering.{eq_by_cmp}
 use Rattle.std.specs.BTreeMap.{is_at}
 use Rattle.std.specs.Map.{lookup}
-use Rattle.sd_instances.specs.declared.keys.InstanceId.{InstanceId}
-use Rattle.sd_instances.specs.declared.sending.Sending.{Sending}
-use Rattle.sd_instances.specs.KeyOrder.{instances_total, exact_instances}
-use Rattle.sd_instances.specs.Keys.{instance_cmp}
-use Rattle.sd_instances.specs.Sendings.{sent_if_due}
+use Rattle.sd_core.specs.declared.keys.InstanceId.{InstanceId}
+use Rattle.sd_core.specs.declared.sending.Sending.{Sending}
+use Rattle.sd_core.specs.KeyOrder.{instances_total, exact_instances}
+use Rattle.sd_core.specs.Keys.{instance_cmp}
+use Rattle.sd_core.specs.Sendings.{sent_if_due}
 use Rattle.someip_node_rules.specs.declared.config.Config.{Config}
 use Rattle.someip_node_rules.specs.histories.History.{History, answers_of}
 use Rattle.someip_node_rules.specs.histories.Items.{Item, OfferStopped, Ticked}

@@ -7,8 +7,8 @@ use Rattle.std.specs.declared.net.socket_addr.SocketAddrV4.{SocketAddrV4}
 use Rattle.sd_wire.specs.declared.entry.EventgroupEntry.{EventgroupEntry}
 use Rattle.sd_wire.specs.declared.entry.EventgroupKind.TheVariants.{Ack, Subscribe}
 use Rattle.sd_wire.specs.contents.Values.{EntryValue}
-use Rattle.sd_subscribers.specs.declared.error.Cause.{Cause}
-use Rattle.sd_subscribers.specs.SubscriberTables.{nack_cause}
+use Rattle.sd_core.specs.declared.error.Cause.{Cause}
+use Rattle.sd_core.specs.SubscriberTables.{nack_cause}
 use Rattle.someip_node_laws.specs.Answerings.{AnswersAccepted, AnswersRefused, AnswersSubscribe, IsAnswer}
 use Rattle.someip_node_rules.specs.trails.Bringing.{OfDatagram, OfEntry, RepliesToEntry, WasBrought}
 use Rattle.someip_node_rules.specs.forms.Entries.{ack_entry}

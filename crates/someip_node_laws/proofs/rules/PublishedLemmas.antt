@@ -21,14 +21,14 @@ use Rattle.someip_tables.specs.Lastings.{unless_passed}
 use Rattle.someip_tables.proofs.Entries.{own_test, same_by_test}
 use Rattle.someip_tables.proofs.Expiry.{get-unexpired}
 use Rattle.someip_tables.proofs.Sorted.{sorted_set-rises}
-use Rattle.sd_instances.specs.declared.keys.InstanceId.{InstanceId}
-use Rattle.sd_subscribers.specs.declared.subscription.Subscription.{Subscription}
-use Rattle.sd_instances.specs.Keys.{instance_cmp}
-use Rattle.sd_instances.specs.KeyOrder.{exact_instances, instances_total}
-use Rattle.sd_subscribers.specs.SubscriberTables.{SubscriberMap, endpoints_of, is_of_instance, is_to_any}
-use Rattle.sd_subscribers.specs.SubscriptionKeys.{subscription_cmp}
-use Rattle.sd_subscribers.specs.SubscriptionOrder.{exact_subscriptions, subscriptions_total}
-use Rattle.sd_subscribers.proofs.SubscriberLemmas.{any_endpoint}
+use Rattle.sd_core.specs.declared.keys.InstanceId.{InstanceId}
+use Rattle.sd_core.specs.declared.subscription.Subscription.{Subscription}
+use Rattle.sd_core.specs.Keys.{instance_cmp}
+use Rattle.sd_core.specs.KeyOrder.{exact_instances, instances_total}
+use Rattle.sd_core.specs.SubscriberTables.{SubscriberMap, endpoints_of, is_of_instance, is_to_any}
+use Rattle.sd_core.specs.SubscriptionKeys.{subscription_cmp}
+use Rattle.sd_core.specs.SubscriptionOrder.{exact_subscriptions, subscriptions_total}
+use Rattle.sd_core.proofs.SubscriberLemmas.{any_endpoint}
 use Rattle.someip_rpc.specs.declared.error.RpcError.{RpcError}
 use Rattle.someip_rpc.specs.declared.error.RpcError.TheVariants.{NotOffered}
 use Rattle.someip_rpc.specs.Events.{belongs, event_header, event_of, publish_refusal, publish_to_refusal}

@@ -9,8 +9,8 @@ use Rattle.std.proofs.lemmas.Bool.{and_parts, eqb-true, leb-true}
 use Rattle.std.proofs.lemmas.Map.Views.{IfSome-get}
 use Rattle.someip_tables.proofs.Entries.{same_by_test}
 use Rattle.someip_tables.specs.EndpointOrder.{exact_addresses}
-use Rattle.sd_instances.specs.KeyOrder.{exact_instances, instances_total}
-use Rattle.sd_instances.specs.declared.keys.InstanceId.{InstanceId}
+use Rattle.sd_core.specs.KeyOrder.{exact_instances, instances_total}
+use Rattle.sd_core.specs.declared.keys.InstanceId.{InstanceId}
 use Rattle.someip_node_rules.specs.declared.config.Config.{Config}
 use Rattle.someip_node_rules.specs.declared.config.OfferedService.{OfferedService}
 use Rattle.someip_node_rules.specs.forms.GoodConfigs.{are_good_methods, has_good_eventgroups, has_own_ports, is_good, is_good_common, is_good_id, is_good_instance, is_good_offer, is_good_port, is_good_want, is_within}

@@ -6,12 +6,12 @@ use Rattle.std.specs.FinMap.{remove}
 use Rattle.std.specs.declared.net.ipv4_addr.Ipv4Addr.{Ipv4Addr}
 use Rattle.std.specs.declared.net.socket_addr.SocketAddrV4.{SocketAddrV4}
 use Rattle.someip_tables.specs.Deadlines.{has_passed}
-use Rattle.sd_instances.specs.declared.keys.InstanceId.{InstanceId}
+use Rattle.sd_core.specs.declared.keys.InstanceId.{InstanceId}
 use Rattle.sd_core.specs.declared.received.ReceivedOffer.{ReceivedOffer}
-use Rattle.sd_instances.specs.KeyOrder.{instances_total, exact_instances}
+use Rattle.sd_core.specs.KeyOrder.{instances_total, exact_instances}
 use Rattle.sd_core.specs.OfferTables.{after_tick, without}
 use Rattle.sd_core.specs.SeekTables.{forgetting, learned, seek_after_tick, stands_by}
-use Rattle.sd_instances.specs.Sendings.{after_find, sent_if_due}
+use Rattle.sd_core.specs.Sendings.{after_find, sent_if_due}
 use Rattle.someip_node_rules.specs.declared.config.Config.{Config}
 use Rattle.someip_node_rules.specs.histories.Items.{Item, OfferCounted, OfferStopped, OfferWithdrawn, PeerRebooted, Ticked}
 use Rattle.someip_node_rules.specs.histories.OfferQuestions.{offered_instances, offering_at, offers_in, versions_of}

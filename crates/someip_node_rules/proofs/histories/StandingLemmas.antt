@@ -11,14 +11,14 @@ use Rattle.someip_tables.specs.EndpointOrder.{addresses_total, exact_addresses}
 use Rattle.someip_tables.specs.Lastings.{unless_passed}
 use Rattle.someip_tables.specs.Retained.{kept_if}
 use Rattle.someip_tables.proofs.Entries.{own_test, same_by_test}
-use Rattle.sd_instances.specs.declared.eventgroup.Eventgroup.{Eventgroup}
+use Rattle.sd_core.specs.declared.eventgroup.Eventgroup.{Eventgroup}
 use Rattle.sd_core.specs.declared.received.KnownOffer.{KnownOffer}
-use Rattle.sd_wishes.specs.declared.wish.Beginning.{Beginning}
-use Rattle.sd_wishes.specs.declared.wish.Stage.TheVariants.{Begun}
-use Rattle.sd_instances.specs.EventgroupOrder.{exact_eventgroups}
-use Rattle.sd_instances.specs.Keys.{instance_cmp}
+use Rattle.sd_core.specs.declared.wish.Beginning.{Beginning}
+use Rattle.sd_core.specs.declared.wish.Stage.TheVariants.{Begun}
+use Rattle.sd_core.specs.EventgroupOrder.{exact_eventgroups}
+use Rattle.sd_core.specs.Keys.{instance_cmp}
 use Rattle.sd_core.specs.SeekTables.{is_by, known_at, stands_by}
-use Rattle.sd_wishes.specs.Wishes.{is_over, is_with, stands_with}
+use Rattle.sd_core.specs.Wishes.{is_over, is_with, stands_with}
 use Rattle.someip_node_rules.specs.histories.Items.{Item, AckCame, NackCame, OfferCounted, OfferWithdrawn, PeerRebooted, Ticked, Unwished, Wished}
 use Rattle.someip_node_rules.specs.steps.Lives.{has_its_offer}
 use Rattle.someip_node_rules.specs.histories.Questions.{clock_at}

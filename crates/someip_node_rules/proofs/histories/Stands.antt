@@ -5,11 +5,11 @@ use Rattle.std.specs.Option.{option_and_then}
 use Rattle.std.specs.Ordering.{eq_by_cmp}
 use Rattle.std.specs.FinMap.{find, get-from_entries, same_map}
 use Rattle.std.proofs.lemmas.Option.{same_Some}
-use Rattle.sd_instances.specs.declared.keys.InstanceId.{InstanceId}
-use Rattle.sd_instances.specs.declared.sending.Sending.{Sending}
-use Rattle.sd_instances.specs.KeyOrder.{instances_total, exact_instances}
-use Rattle.sd_instances.specs.Keys.{instance_cmp}
-use Rattle.sd_instances.specs.Sendings.{first_at}
+use Rattle.sd_core.specs.declared.keys.InstanceId.{InstanceId}
+use Rattle.sd_core.specs.declared.sending.Sending.{Sending}
+use Rattle.sd_core.specs.KeyOrder.{instances_total, exact_instances}
+use Rattle.sd_core.specs.Keys.{instance_cmp}
+use Rattle.sd_core.specs.Sendings.{first_at}
 use Rattle.sd_core.specs.Shown.{map_values}
 use Rattle.sd_core.proofs.ShownLemmas.{get-shown}
 use Rattle.someip_tables.specs.Tables.{map_of}

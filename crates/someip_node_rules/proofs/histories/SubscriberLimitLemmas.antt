@@ -17,15 +17,15 @@ use Rattle.someip_tables.proofs.Entries.{len-retain-≤, len-retain_keys-≤, re
 use Rattle.someip_tables.proofs.Expiry.{unexpired-unexpired}
 use Rattle.someip_tables.proofs.MapLaws.{len-remove-≤, retain-insert_dropped, retain-retain, retain_same}
 use Rattle.sd_wire.specs.declared.entry.EventgroupEntry.{EventgroupEntry}
-use Rattle.sd_subscribers.specs.declared.error.Cause.{Cause}
-use Rattle.sd_subscribers.specs.declared.error.Cause.TheVariants.{NotOffered, WrongMajor, UnknownEventgroup, Full}
-use Rattle.sd_instances.specs.declared.keys.InstanceId.{InstanceId}
-use Rattle.sd_subscribers.specs.declared.subscription.Subscription.{Subscription}
-use Rattle.sd_instances.specs.KeyOrder.{exact_instances}
-use Rattle.sd_subscribers.specs.SubscriberTables.{SubscriberMap, count_beside, is_of_instance, is_of_peer, is_to, nack_cause, subscribed_until, subscriber_count, subscription_at}
-use Rattle.sd_subscribers.specs.SubscriptionKeys.{subscription_cmp}
-use Rattle.sd_subscribers.specs.SubscriptionOrder.{subscriptions_total, exact_subscriptions}
-use Rattle.sd_subscribers.proofs.SubscriberLemmas.{count_within}
+use Rattle.sd_core.specs.declared.error.Cause.{Cause}
+use Rattle.sd_core.specs.declared.error.Cause.TheVariants.{NotOffered, WrongMajor, UnknownEventgroup, Full}
+use Rattle.sd_core.specs.declared.keys.InstanceId.{InstanceId}
+use Rattle.sd_core.specs.declared.subscription.Subscription.{Subscription}
+use Rattle.sd_core.specs.KeyOrder.{exact_instances}
+use Rattle.sd_core.specs.SubscriberTables.{SubscriberMap, count_beside, is_of_instance, is_of_peer, is_to, nack_cause, subscribed_until, subscriber_count, subscription_at}
+use Rattle.sd_core.specs.SubscriptionKeys.{subscription_cmp}
+use Rattle.sd_core.specs.SubscriptionOrder.{subscriptions_total, exact_subscriptions}
+use Rattle.sd_core.proofs.SubscriberLemmas.{count_within}
 use Rattle.someip_node_rules.specs.declared.config.Config.{Config}
 use Rattle.someip_node_rules.specs.declared.config.OfferedService.{OfferedService}
 use Rattle.someip_node_rules.specs.declared.error.NodeError.{NodeError}

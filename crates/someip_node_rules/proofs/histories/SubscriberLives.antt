@@ -5,10 +5,10 @@ use Rattle.std.specs.FinMap.{remove, retain_keys}
 use Rattle.std.specs.declared.net.ipv4_addr.Ipv4Addr.{Ipv4Addr}
 use Rattle.someip_tables.specs.Deadlines.{deadline_after}
 use Rattle.someip_tables.specs.Lastings.{unexpired}
-use Rattle.sd_instances.specs.declared.keys.InstanceId.{InstanceId}
-use Rattle.sd_subscribers.specs.declared.subscription.Subscription.{Subscription}
-use Rattle.sd_subscribers.specs.SubscriberTables.{is_of_instance, is_of_peer, subscribed_until}
-use Rattle.sd_subscribers.specs.SubscriptionOrder.{subscriptions_total, exact_subscriptions}
+use Rattle.sd_core.specs.declared.keys.InstanceId.{InstanceId}
+use Rattle.sd_core.specs.declared.subscription.Subscription.{Subscription}
+use Rattle.sd_core.specs.SubscriberTables.{is_of_instance, is_of_peer, subscribed_until}
+use Rattle.sd_core.specs.SubscriptionOrder.{subscriptions_total, exact_subscriptions}
 use Rattle.someip_node_rules.specs.histories.Items.{Item, OfferStopped, PeerRebooted, SubscriptionAccepted, SubscriptionStopped, Ticked}
 use Rattle.someip_node_rules.specs.histories.Questions.{clock_at}
 use Rattle.someip_node_rules.specs.histories.SubscriberQuestions.{accepted, stands_until, subscribed_at, subscribers_in}

@@ -15,21 +15,21 @@ use Rattle.someip_tables.specs.Lastings.{expired, unless_passed}
 use Rattle.someip_tables.specs.Retained.{kept_if}
 use Rattle.someip_tables.proofs.Entries.{same_by_test}
 use Rattle.someip_tables.proofs.Expiry.{get-expired}
-use Rattle.sd_instances.specs.declared.eventgroup.Eventgroup.{Eventgroup}
-use Rattle.sd_instances.specs.declared.keys.InstanceId.{InstanceId}
+use Rattle.sd_core.specs.declared.eventgroup.Eventgroup.{Eventgroup}
+use Rattle.sd_core.specs.declared.keys.InstanceId.{InstanceId}
 use Rattle.sd_core.specs.declared.received.KnownOffer.{KnownOffer}
 use Rattle.sd_core.specs.declared.received.ReceivedOffer.{ReceivedOffer}
-use Rattle.sd_wishes.specs.declared.wish.Beginning.{Beginning}
-use Rattle.sd_wishes.specs.declared.wish.Stage.TheVariants.{Begun, Waiting}
-use Rattle.sd_wishes.specs.declared.wish.SubscribeAnswer.{SubscribeAnswer}
-use Rattle.sd_wishes.specs.declared.wish.Wish.{Wish}
+use Rattle.sd_core.specs.declared.wish.Beginning.{Beginning}
+use Rattle.sd_core.specs.declared.wish.Stage.TheVariants.{Begun, Waiting}
+use Rattle.sd_core.specs.declared.wish.SubscribeAnswer.{SubscribeAnswer}
+use Rattle.sd_core.specs.declared.wish.Wish.{Wish}
 use Rattle.someip_tables.specs.Changed.{each_changed, changed_at}
 use Rattle.sd_core.specs.Endings.{ends_at}
-use Rattle.sd_instances.specs.EventgroupOrder.{eventgroups_total, exact_eventgroups}
-use Rattle.sd_instances.specs.KeyOrder.{instances_total, exact_instances}
-use Rattle.sd_instances.specs.Keys.{instance_cmp}
+use Rattle.sd_core.specs.EventgroupOrder.{eventgroups_total, exact_eventgroups}
+use Rattle.sd_core.specs.KeyOrder.{instances_total, exact_instances}
+use Rattle.sd_core.specs.Keys.{instance_cmp}
 use Rattle.sd_core.specs.SeekTables.{known_at, stands_by}
-use Rattle.sd_wishes.specs.Wishes.{acked_wish, ended_wish, is_over, is_with, is_wished, nacked_wish, stands_with, subscribing, unwished, wished_with, wish_of, wished}
+use Rattle.sd_core.specs.Wishes.{acked_wish, ended_wish, is_over, is_with, is_wished, nacked_wish, stands_with, subscribing, unwished, wished_with, wish_of, wished}
 use Rattle.sd_core.specs.WishTables.{ended_where, offered}
 use Rattle.someip_node_rules.specs.histories.Items.{Item, AckCame, NackCame, OfferCounted, OfferWithdrawn, PeerRebooted, Ticked, Unwished, Wished}
 use Rattle.someip_node_rules.specs.histories.Questions.{clock_at, table_of}

@@ -8,7 +8,7 @@ use Rattle.std.specs.declared.net.socket_addr.SocketAddrV4.{SocketAddrV4}
 use Rattle.someip_wire.specs.declared.header.Header.{Header}
 use Rattle.someip_wire.specs.declared.header.MessageType.{MessageType}
 use Rattle.someip_wire.specs.declared.header.MessageType.TheVariants as kinds
-use Rattle.someip_segments.specs.declared.error.TpError.{TpError}
+use Rattle.someip_reassembly.specs.declared.error.TpError.{TpError}
 use Rattle.someip_reassembly.specs.declared.reassembly.Offered.{Offered}
 use Rattle.someip_reassembly.specs.declared.reassembly.Offered.TheVariants.{Part, Whole}
 use Rattle.someip_reassembly.specs.SegmentOffers.{SegmentOffer}
@@ -18,9 +18,9 @@ use Rattle.sd_session.specs.declared.peers.Seen.{Seen}
 use Rattle.sd_session.specs.declared.peers.Seen.TheVariants.{Same, Rebooted}
 use Rattle.sd_session.specs.declared.stamp.Channel.{Channel}
 use Rattle.sd_session.specs.declared.stamp.Stamp.{Stamp}
-use Rattle.sd_instances.specs.declared.eventgroup.Eventgroup.{Eventgroup}
-use Rattle.sd_instances.specs.declared.keys.InstanceId.{InstanceId}
-use Rattle.sd_wishes.specs.declared.wish.Beginning.{Beginning}
+use Rattle.sd_core.specs.declared.eventgroup.Eventgroup.{Eventgroup}
+use Rattle.sd_core.specs.declared.keys.InstanceId.{InstanceId}
+use Rattle.sd_core.specs.declared.wish.Beginning.{Beginning}
 use Rattle.someip_rpc.specs.declared.error.DropCause.{DropCause}
 use Rattle.someip_rpc.specs.declared.request.RequestFault.{RequestFault}
 use Rattle.someip_node_rules.specs.declared.config.OfferedService.{OfferedService}

@@ -11,11 +11,11 @@ use Rattle.someip_wire.specs.declared.header.Header.{Header}
 use Rattle.someip_wire.specs.declared.header.MessageType.{MessageType}
 use Rattle.someip_wire.specs.declared.header.MessageType.TheVariants as kinds
 use Rattle.someip_tables.specs.Lastings.{expired}
-use Rattle.someip_segments.specs.declared.error.TpError.{TpError}
+use Rattle.someip_reassembly.specs.declared.error.TpError.{TpError}
 use Rattle.someip_reassembly.specs.declared.reassembly.Offered.{Offered}
 use Rattle.someip_reassembly.specs.declared.reassembly.Offered.TheVariants.{Part, Whole}
 use Rattle.someip_reassembly.specs.SegmentOffers.{SegmentOffer}
-use Rattle.someip_segments.specs.Sent.{PieceValue, sent}
+use Rattle.someip_reassembly.specs.Sent.{PieceValue, sent}
 use Rattle.sd_wire.specs.declared.entry.EventgroupEntry.{EventgroupEntry}
 use Rattle.sd_session.specs.declared.peers.Seen.{Seen}
 use Rattle.sd_session.specs.declared.peers.Seen.TheVariants.{Same}
@@ -23,9 +23,9 @@ use Rattle.sd_session.specs.declared.peers.Seen.TheVariants as seen_as
 use Rattle.sd_session.specs.declared.stamp.Channel.{Channel}
 use Rattle.sd_session.specs.declared.stamp.Stamp.{Stamp}
 use Rattle.sd_session.specs.Peers.{stamps_of, told_by}
-use Rattle.sd_subscribers.specs.declared.error.Cause.{Cause}
-use Rattle.sd_instances.specs.declared.eventgroup.Eventgroup.{Eventgroup}
-use Rattle.sd_instances.specs.declared.keys.InstanceId.{InstanceId}
+use Rattle.sd_core.specs.declared.error.Cause.{Cause}
+use Rattle.sd_core.specs.declared.eventgroup.Eventgroup.{Eventgroup}
+use Rattle.sd_core.specs.declared.keys.InstanceId.{InstanceId}
 use Rattle.sd_core.specs.declared.received.Counted.{Counted}
 use Rattle.sd_core.specs.declared.received.Counted.TheVariants.{New, Moved}
 use Rattle.sd_core.specs.declared.received.Counted.TheVariants as known_as
@@ -33,14 +33,14 @@ use Rattle.sd_core.specs.declared.received.ReceivedOffer.{ReceivedOffer}
 use Rattle.sd_core.specs.declared.received.Uncounted.{Uncounted}
 use Rattle.sd_core.specs.declared.received.Uncounted.TheVariants.{Unwanted}
 use Rattle.sd_core.specs.declared.received.Uncounted.TheVariants as left_out
-use Rattle.sd_wishes.specs.declared.wish.Acked.{Acked}
-use Rattle.sd_wishes.specs.declared.wish.Acked.TheVariants.{Renewed}
-use Rattle.sd_wishes.specs.declared.wish.Acked.TheVariants as acked_as
+use Rattle.sd_core.specs.declared.wish.Acked.{Acked}
+use Rattle.sd_core.specs.declared.wish.Acked.TheVariants.{Renewed}
+use Rattle.sd_core.specs.declared.wish.Acked.TheVariants as acked_as
 use Rattle.sd_core.specs.Endings.{ends_at}
-use Rattle.sd_instances.specs.Keys.{instance_cmp}
+use Rattle.sd_core.specs.Keys.{instance_cmp}
 use Rattle.sd_core.specs.SeekTables.{is_stopped, known_of, uncounted}
-use Rattle.sd_subscribers.specs.SubscriberTables.{endpoints_of, nack_cause}
-use Rattle.sd_wishes.specs.Wishes.{is_with, told_by_ack, wish_of}
+use Rattle.sd_core.specs.SubscriberTables.{endpoints_of, nack_cause}
+use Rattle.sd_core.specs.Wishes.{is_with, told_by_ack, wish_of}
 use Rattle.sd_core.specs.WishTables.{begun_where}
 use Rattle.someip_rpc.specs.declared.call.CallKind.{CallKind}
 use Rattle.someip_rpc.specs.declared.error.DropCause.{DropCause}

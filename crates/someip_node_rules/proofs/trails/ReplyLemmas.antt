@@ -7,16 +7,16 @@ use Rattle.std.proofs.lemmas.Bool.{cond_both}
 use Rattle.std.specs.declared.net.ipv4_addr.Ipv4Addr.{Ipv4Addr}
 use Rattle.std.specs.declared.net.socket_addr.SocketAddrV4.{SocketAddrV4}
 use Rattle.sd_wire.specs.declared.entry.EventgroupEntry.{EventgroupEntry}
-use Rattle.sd_subscribers.specs.declared.error.Cause.{Cause}
-use Rattle.sd_instances.specs.declared.keys.InstanceId.{InstanceId}
+use Rattle.sd_core.specs.declared.error.Cause.{Cause}
+use Rattle.sd_core.specs.declared.keys.InstanceId.{InstanceId}
 use Rattle.sd_core.specs.declared.received.ReceivedOffer.{ReceivedOffer}
 use Rattle.sd_core.specs.declared.received.Uncounted.{Uncounted}
 use Rattle.sd_core.specs.declared.received.Uncounted.TheVariants.{Unwanted, NoEndpoint, OtherPeer}
-use Rattle.sd_wishes.specs.declared.wish.OutgoingSubscribe.{OutgoingSubscribe}
+use Rattle.sd_core.specs.declared.wish.OutgoingSubscribe.{OutgoingSubscribe}
 use Rattle.sd_core.specs.OfferTables.{answering}
 use Rattle.sd_core.specs.SeekTables.{is_stopped, uncounted}
-use Rattle.sd_instances.specs.Sendings.{due_at}
-use Rattle.sd_subscribers.specs.SubscriberTables.{nack_cause}
+use Rattle.sd_core.specs.Sendings.{due_at}
+use Rattle.sd_core.specs.SubscriberTables.{nack_cause}
 use Rattle.sd_core.specs.WishTables.{subscribes}
 use Rattle.someip_node_rules.specs.declared.config.OfferedService.{OfferedService}
 use Rattle.someip_node_rules.specs.declared.config.WantedService.{WantedService}

@@ -14,8 +14,8 @@ use Rattle.sd_wire.specs.declared.option.SdOption.TheVariants.{Endpoint4}
 use Rattle.sd_wire.specs.contents.Values.{EntryValue}
 use Rattle.sd_wire.specs.encoding.Encoding.{message_bytes}
 use Rattle.sd_wire.specs.fronts.Fronts.{front_lengths, fronts_of}
-use Rattle.sd_instances.specs.declared.eventgroup.Eventgroup.{Eventgroup}
-use Rattle.sd_instances.specs.declared.keys.InstanceId.{InstanceId}
+use Rattle.sd_core.specs.declared.eventgroup.Eventgroup.{Eventgroup}
+use Rattle.sd_core.specs.declared.keys.InstanceId.{InstanceId}
 use Rattle.sd_session.specs.declared.stamp.Stamp.{Stamp}
 use Rattle.someip_node_rules.specs.declared.config.OfferedService.{OfferedService}
 

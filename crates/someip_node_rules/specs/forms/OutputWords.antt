@@ -5,8 +5,8 @@ use Rattle.std.specs.List.{flat_map}
 use Rattle.std.specs.Net.Addr.{ipv4_octets}
 use Rattle.std.specs.Net.Text.{ipv4_text, socket_v4_text}
 use Rattle.hex.specs.Hex.{encode_lower}
-use Rattle.sd_instances.specs.declared.keys.InstanceId.{InstanceId}
-use Rattle.sd_subscribers.specs.Names.{cause_name}
+use Rattle.sd_core.specs.declared.keys.InstanceId.{InstanceId}
+use Rattle.sd_core.specs.Names.{cause_name}
 use Rattle.someip_rpc.specs.declared.ids.MessageId.{MessageId}
 use Rattle.someip_node_rules.specs.trails.Names.{drop_name}
 use Rattle.someip_node_rules.specs.declared.output.Output.{Output}

@@ -2,7 +2,7 @@
 use Rattle.std.specs.Prelude.{List, [], ◌∷◌, map}
 use Rattle.std.specs.declared.net.socket_addr.SocketAddrV4.{SocketAddrV4}
 use Rattle.someip_wire.specs.Spelling.{MessageValue, spelling}
-use Rattle.someip_segments.specs.Sent.{PieceValue, piece_message, sent}
+use Rattle.someip_reassembly.specs.Sent.{PieceValue, piece_message, sent}
 use Rattle.sd_wire.specs.contents.Values.{EntryValue}
 use Rattle.sd_session.specs.declared.stamp.Stamp.{Stamp}
 use Rattle.someip_node_rules.specs.declared.output.Output.{Output}

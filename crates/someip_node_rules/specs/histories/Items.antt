@@ -13,17 +13,17 @@ use Rattle.sd_session.specs.declared.stamp.Channel.{Channel}
 use Rattle.sd_session.specs.declared.stamp.Stamp.{Stamp}
 use Rattle.sd_session.specs.Peers.{stamps_after, stamps_of}
 use Rattle.sd_session.specs.Sessions.{following}
-use Rattle.sd_instances.specs.declared.eventgroup.Eventgroup.{Eventgroup}
-use Rattle.sd_instances.specs.declared.keys.InstanceId.{InstanceId}
+use Rattle.sd_core.specs.declared.eventgroup.Eventgroup.{Eventgroup}
+use Rattle.sd_core.specs.declared.keys.InstanceId.{InstanceId}
 use Rattle.sd_core.specs.declared.received.ReceivedOffer.{ReceivedOffer}
-use Rattle.sd_subscribers.specs.declared.subscription.Subscription.{Subscription}
-use Rattle.sd_wishes.specs.declared.wish.SubscribeAnswer.{SubscribeAnswer}
+use Rattle.sd_core.specs.declared.subscription.Subscription.{Subscription}
+use Rattle.sd_core.specs.declared.wish.SubscribeAnswer.{SubscribeAnswer}
 use Rattle.someip_tables.specs.Changed.{changed_at}
 use Rattle.sd_core.specs.Endings.{ends_at}
 use Rattle.sd_core.specs.OfferTables.{after_tick, without}
 use Rattle.sd_core.specs.SeekTables.{seek_after_tick, learned, forgetting}
-use Rattle.sd_subscribers.specs.SubscriberTables.{is_of_instance, is_of_peer, subscribed_until}
-use Rattle.sd_wishes.specs.Wishes.{acked_wish, is_with, nacked_wish, unwished, wished_with, wish_of}
+use Rattle.sd_core.specs.SubscriberTables.{is_of_instance, is_of_peer, subscribed_until}
+use Rattle.sd_core.specs.Wishes.{acked_wish, is_with, nacked_wish, unwished, wished_with, wish_of}
 use Rattle.sd_core.specs.WishTables.{ended_where, offered}
 use Rattle.someip_rpc.specs.declared.call.Call.{Call}
 use Rattle.someip_rpc.specs.declared.ids.CallKey.{CallKey}
@@ -34,7 +34,7 @@ use Rattle.someip_rpc.specs.Sessions.{next_of}
 use Rattle.someip_node_rules.specs.forms.Setups.{client_rules, limits_of}
 use Rattle.someip_node_rules.specs.histories.Tables.{Tables, known_peer, passed_instances, stamp_for}
 use Rattle.std.specs.Ordering.{eq_by_cmp}
-use Rattle.sd_instances.specs.Keys.{instance_cmp}
+use Rattle.sd_core.specs.Keys.{instance_cmp}
 
 pub data Item : Type 0 where
   -- the clock went on by so many milliseconds

@@ -4,13 +4,13 @@ use Rattle.std.specs.Option.{option_map}
 use Rattle.std.specs.Ordering.{eq_by_cmp}
 use Rattle.std.specs.FinMap.{FinMap}
 use Rattle.someip_tables.specs.Tables.{map_of}
-use Rattle.sd_instances.specs.declared.keys.InstanceId.{InstanceId}
-use Rattle.sd_instances.specs.declared.phases.Phases.{Phases}
-use Rattle.sd_instances.specs.declared.sending.Sending.{Sending}
+use Rattle.sd_core.specs.declared.keys.InstanceId.{InstanceId}
+use Rattle.sd_core.specs.declared.phases.Phases.{Phases}
+use Rattle.sd_core.specs.declared.sending.Sending.{Sending}
 use Rattle.sd_core.specs.declared.version.Version.{Version}
-use Rattle.sd_instances.specs.Keys.{instance_cmp}
+use Rattle.sd_core.specs.Keys.{instance_cmp}
 use Rattle.sd_core.specs.OfferTables.{OfferTable}
-use Rattle.sd_instances.specs.Sendings.{first_at, sent_if_due}
+use Rattle.sd_core.specs.Sendings.{first_at, sent_if_due}
 use Rattle.someip_node_rules.specs.declared.config.Config.{Config}
 use Rattle.someip_node_rules.specs.declared.config.OfferedService.{OfferedService}
 use Rattle.someip_node_rules.specs.histories.Items.{Item, OfferStopped, Ticked}

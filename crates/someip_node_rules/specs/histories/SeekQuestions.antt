@@ -11,14 +11,14 @@ use Rattle.someip_tables.specs.Deadlines.{deadline_after}
 use Rattle.someip_tables.specs.Lastings.{unless_passed}
 use Rattle.someip_tables.specs.Retained.{kept_if}
 use Rattle.someip_tables.specs.Tables.{map_of}
-use Rattle.sd_instances.specs.declared.keys.InstanceId.{InstanceId}
-use Rattle.sd_instances.specs.declared.phases.Phases.{Phases}
+use Rattle.sd_core.specs.declared.keys.InstanceId.{InstanceId}
+use Rattle.sd_core.specs.declared.phases.Phases.{Phases}
 use Rattle.sd_core.specs.declared.received.KnownOffer.{KnownOffer}
 use Rattle.sd_core.specs.declared.received.ReceivedOffer.{ReceivedOffer}
-use Rattle.sd_instances.specs.declared.sending.Sending.{Sending}
-use Rattle.sd_instances.specs.Keys.{instance_cmp}
+use Rattle.sd_core.specs.declared.sending.Sending.{Sending}
+use Rattle.sd_core.specs.Keys.{instance_cmp}
 use Rattle.sd_core.specs.SeekTables.{SeekTable, stands_by}
-use Rattle.sd_instances.specs.Sendings.{after_find, first_at}
+use Rattle.sd_core.specs.Sendings.{after_find, first_at}
 use Rattle.someip_node_rules.specs.declared.config.Config.{Config}
 use Rattle.someip_node_rules.specs.histories.Items.{Item, OfferCounted, OfferWithdrawn, PeerRebooted, Ticked}
 use Rattle.someip_node_rules.specs.histories.Questions.{clock_at, latest, table_of}

@@ -6,9 +6,9 @@ use Rattle.someip_tables.specs.declared.deadline.Deadline.{Deadline}
 use Rattle.someip_tables.specs.declared.lasting.Lasting.{Lasting}
 use Rattle.someip_tables.specs.Deadlines.{deadline_after}
 use Rattle.someip_tables.specs.Lastings.{unless_passed}
-use Rattle.sd_subscribers.specs.declared.subscription.Subscription.{Subscription}
-use Rattle.sd_subscribers.specs.SubscriberTables.{SubscriberMap, is_of_instance, is_of_peer}
-use Rattle.sd_subscribers.specs.SubscriptionKeys.{subscription_cmp}
+use Rattle.sd_core.specs.declared.subscription.Subscription.{Subscription}
+use Rattle.sd_core.specs.SubscriberTables.{SubscriberMap, is_of_instance, is_of_peer}
+use Rattle.sd_core.specs.SubscriptionKeys.{subscription_cmp}
 use Rattle.someip_node_rules.specs.histories.Items.{Item, OfferStopped, PeerRebooted, SubscriptionAccepted, SubscriptionStopped}
 use Rattle.someip_node_rules.specs.histories.Questions.{clock_at, latest, table_of}
 

@@ -12,11 +12,11 @@ use Rattle.someip_reassembly.specs.Parts.{Parts}
 use Rattle.sd_session.specs.declared.stamp.Stamp.{Stamp}
 use Rattle.sd_session.specs.Peers.{Held, coded_stamp, coded_stamps}
 use Rattle.sd_session.specs.Sessions.{first}
-use Rattle.sd_instances.specs.declared.keys.InstanceId.{InstanceId}
+use Rattle.sd_core.specs.declared.keys.InstanceId.{InstanceId}
 use Rattle.sd_core.specs.declared.received.KnownOffer.{KnownOffer}
 use Rattle.sd_core.specs.OfferTables.{OfferTable}
 use Rattle.sd_core.specs.SeekTables.{SeekTable, known_at}
-use Rattle.sd_subscribers.specs.SubscriberTables.{SubscriberMap}
+use Rattle.sd_core.specs.SubscriberTables.{SubscriberMap}
 use Rattle.sd_core.specs.WishTables.{Wishes}
 use Rattle.someip_rpc.specs.Calls.{Client, Pending}
 use Rattle.someip_rpc.specs.Servers.{Server}

@@ -13,10 +13,10 @@ use Rattle.someip_wire.specs.Kinds.{has_tp_flag, without_tp_flag}
 use Rattle.someip_wire.specs.Reading.{items_of}
 use Rattle.someip_wire.specs.Spelling.{MessageValue}
 use Rattle.someip_tables.specs.Endpoints.{address_cmp}
-use Rattle.someip_segments.specs.declared.error.TpError.{TpError}
+use Rattle.someip_reassembly.specs.declared.error.TpError.{TpError}
 use Rattle.someip_reassembly.specs.Keys.{segment_key}
 use Rattle.someip_reassembly.specs.SegmentOffers.{SegmentOffer, offer}
-use Rattle.someip_segments.specs.TpHeader.{segment_in}
+use Rattle.someip_reassembly.specs.TpHeader.{segment_in}
 use Rattle.sd_wire.specs.declared.entry.EntryHead.{EntryHead}
 use Rattle.sd_wire.specs.declared.entry.EntryHead.TheVariants.{Service, Eventgroup}
 use Rattle.sd_wire.specs.declared.entry.EventgroupEntry.{EventgroupEntry}
@@ -29,7 +29,7 @@ use Rattle.sd_wire.specs.contents.Values.{ReadValue, SdValue, good, bad_run}
 use Rattle.sd_session.specs.declared.stamp.Channel.{Channel}
 use Rattle.sd_session.specs.declared.stamp.Channel.TheVariants.{Multicast, Unicast}
 use Rattle.sd_session.specs.Peers.{may_hold}
-use Rattle.sd_instances.specs.declared.keys.InstanceId.{InstanceId}
+use Rattle.sd_core.specs.declared.keys.InstanceId.{InstanceId}
 use Rattle.someip_node_rules.specs.declared.config.Config.{Config}
 use Rattle.someip_node_rules.specs.declared.drops.DropReason.TheVariants.{BadRun, NoPort, NotSd, Own, PeersFull, Sd, Tp, Wire}
 use Rattle.someip_node_rules.specs.declared.target.Target.{Target}

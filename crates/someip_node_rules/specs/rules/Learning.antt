@@ -16,8 +16,8 @@ use Rattle.sd_session.specs.declared.peers.Seen.TheVariants as seen_as
 use Rattle.sd_session.specs.declared.stamp.Channel.{Channel}
 use Rattle.sd_session.specs.declared.stamp.Stamp.{Stamp}
 use Rattle.sd_session.specs.Peers.{stamps_of, told_by}
-use Rattle.sd_instances.specs.declared.eventgroup.Eventgroup.{Eventgroup}
-use Rattle.sd_instances.specs.declared.keys.InstanceId.{InstanceId}
+use Rattle.sd_core.specs.declared.eventgroup.Eventgroup.{Eventgroup}
+use Rattle.sd_core.specs.declared.keys.InstanceId.{InstanceId}
 use Rattle.sd_core.specs.declared.received.Counted.{Counted}
 use Rattle.sd_core.specs.declared.received.Counted.TheVariants.{New, Moved}
 use Rattle.sd_core.specs.declared.received.Counted.TheVariants as known_as
@@ -25,14 +25,14 @@ use Rattle.sd_core.specs.declared.received.ReceivedOffer.{ReceivedOffer}
 use Rattle.sd_core.specs.declared.received.Uncounted.{Uncounted}
 use Rattle.sd_core.specs.declared.received.Uncounted.TheVariants.{Unwanted}
 use Rattle.sd_core.specs.declared.received.Uncounted.TheVariants as left_out
-use Rattle.sd_wishes.specs.declared.wish.Acked.{Acked}
-use Rattle.sd_wishes.specs.declared.wish.Acked.TheVariants.{Renewed}
-use Rattle.sd_wishes.specs.declared.wish.Acked.TheVariants as acked_as
-use Rattle.sd_wishes.specs.declared.wish.OutgoingSubscribe.{OutgoingSubscribe}
-use Rattle.sd_wishes.specs.declared.wish.SubscribeAnswer.{SubscribeAnswer}
-use Rattle.sd_instances.specs.Keys.{instance_cmp}
+use Rattle.sd_core.specs.declared.wish.Acked.{Acked}
+use Rattle.sd_core.specs.declared.wish.Acked.TheVariants.{Renewed}
+use Rattle.sd_core.specs.declared.wish.Acked.TheVariants as acked_as
+use Rattle.sd_core.specs.declared.wish.OutgoingSubscribe.{OutgoingSubscribe}
+use Rattle.sd_core.specs.declared.wish.SubscribeAnswer.{SubscribeAnswer}
+use Rattle.sd_core.specs.Keys.{instance_cmp}
 use Rattle.sd_core.specs.SeekTables.{counted_as, is_stopped, known_of, uncounted}
-use Rattle.sd_wishes.specs.Wishes.{is_answered, is_with, told_by_ack, wish_of}
+use Rattle.sd_core.specs.Wishes.{is_answered, is_with, told_by_ack, wish_of}
 use Rattle.sd_core.specs.WishTables.{begun_where, subscribes}
 use Rattle.someip_node_rules.specs.declared.drops.DropReason.TheVariants.{NoEndpoint, NotPending, OtherPeer}
 use Rattle.someip_node_rules.specs.declared.output.Output.{Output}

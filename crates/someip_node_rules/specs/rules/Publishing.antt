@@ -8,8 +8,8 @@ use Rattle.std.specs.BTreeMap as tree
 use Rattle.std.specs.declared.net.socket_addr.SocketAddrV4.{SocketAddrV4}
 use Rattle.someip_wire.specs.Spelling.{MessageValue}
 use Rattle.someip_tables.specs.Endpoints.{endpoint_cmp}
-use Rattle.sd_instances.specs.declared.keys.InstanceId.{InstanceId}
-use Rattle.sd_subscribers.specs.SubscriberTables.{endpoints_of}
+use Rattle.sd_core.specs.declared.keys.InstanceId.{InstanceId}
+use Rattle.sd_core.specs.SubscriberTables.{endpoints_of}
 use Rattle.someip_rpc.specs.declared.error.RpcError.TheVariants.{NotOffered}
 use Rattle.someip_rpc.specs.declared.publication.Subscriber.{Subscriber}
 use Rattle.someip_rpc.specs.Events.{event_header, event_of, next_session_of, publish_refusal, publish_to_refusal}

@@ -4,7 +4,7 @@ use Rattle.std.specs.Prelude.{[], ◌∷◌, Option, None, Some, ◌==◌, Bool,
 use Rattle.std.specs.Option.{option_map_or}
 use Rattle.std.specs.declared.net.ipv4_addr.Ipv4Addr.{Ipv4Addr}
 use Rattle.std.specs.declared.net.socket_addr.SocketAddrV4.{SocketAddrV4}
-use Rattle.sd_subscribers.specs.SubscriberTables.{nack_cause, subscription_at}
+use Rattle.sd_core.specs.SubscriberTables.{nack_cause, subscription_at}
 use Rattle.someip_node_rules.specs.declared.config.OfferedService.{OfferedService}
 use Rattle.someip_node_rules.specs.declared.output.Output.TheVariants.{Accepted, Nacked}
 use Rattle.someip_node_rules.specs.forms.Entries.{ack_entry}
@@ -15,9 +15,9 @@ use Rattle.someip_node_rules.specs.forms.Outputs.{Tells}
 use Rattle.someip_node_rules.specs.forms.Setups.{offered_as, has_eventgroup}
 use Rattle.someip_node_rules.specs.histories.Tables.{Tables, is_up, live_subscribers}
 use Rattle.sd_wire.specs.declared.entry.EventgroupEntry.{EventgroupEntry}
-use Rattle.sd_subscribers.specs.declared.error.Cause.{Cause}
-use Rattle.sd_subscribers.specs.declared.subscribe.Subscribe.{Subscribe}
-use Rattle.sd_subscribers.specs.declared.subscribe.SubscribeRules.{SubscribeRules}
+use Rattle.sd_core.specs.declared.error.Cause.{Cause}
+use Rattle.sd_core.specs.declared.subscribe.Subscribe.{Subscribe}
+use Rattle.sd_core.specs.declared.subscribe.SubscribeRules.{SubscribeRules}
 use Rattle.someip_node_rules.specs.declared.drops.DropReason.TheVariants.{NoEndpoint}
 
 -- a Subscribe of a peer, with this endpoint

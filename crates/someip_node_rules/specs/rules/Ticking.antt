@@ -5,9 +5,9 @@ use Rattle.std.specs.Option.{option_map_or}
 use Rattle.std.specs.FinMap as finite
 use Rattle.someip_tables.specs.Lastings.{expired}
 use Rattle.sd_wire.specs.contents.Values.{EntryValue}
-use Rattle.sd_instances.specs.declared.keys.InstanceId.{InstanceId}
+use Rattle.sd_core.specs.declared.keys.InstanceId.{InstanceId}
 use Rattle.sd_core.specs.Endings.{ends_at}
-use Rattle.sd_instances.specs.Sendings.{due_at}
+use Rattle.sd_core.specs.Sendings.{due_at}
 use Rattle.sd_core.specs.WishTables.{begun_where}
 use Rattle.someip_node_rules.specs.declared.error.NodeError.{NodeError}
 use Rattle.someip_node_rules.specs.declared.error.NodeError.TheVariants.{ClockPast}

@@ -1,8 +1,8 @@
 -- How many live subscriptions the eventgroups of a node may have (the limit is our own).
 use Rattle.std.specs.Prelude.{ℕ, ◌≤◌}
 use Rattle.std.specs.Option.{option_map_or}
-use Rattle.sd_instances.specs.declared.keys.InstanceId.{InstanceId}
-use Rattle.sd_subscribers.specs.SubscriberTables.{SubscriberMap, subscriber_count}
+use Rattle.sd_core.specs.declared.keys.InstanceId.{InstanceId}
+use Rattle.sd_core.specs.SubscriberTables.{SubscriberMap, subscriber_count}
 use Rattle.someip_node_rules.specs.declared.config.Config.{Config}
 use Rattle.someip_node_rules.specs.forms.Setups.{offered_as}
 

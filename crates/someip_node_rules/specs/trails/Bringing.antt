@@ -10,9 +10,9 @@ use Rattle.sd_wire.specs.declared.entry.ServiceEntry.{ServiceEntry}
 use Rattle.sd_wire.specs.contents.Kinds.{is_ack, is_find, is_nack, is_offer, is_stop_offer, is_stop_subscribe, is_subscribe}
 use Rattle.sd_wire.specs.contents.Values.{EntryValue, SdValue}
 use Rattle.sd_session.specs.declared.stamp.Channel.{Channel}
-use Rattle.sd_instances.specs.declared.eventgroup.Eventgroup.{Eventgroup}
-use Rattle.sd_instances.specs.declared.keys.InstanceId.{InstanceId}
-use Rattle.sd_wishes.specs.declared.wish.Beginning.{Beginning}
+use Rattle.sd_core.specs.declared.eventgroup.Eventgroup.{Eventgroup}
+use Rattle.sd_core.specs.declared.keys.InstanceId.{InstanceId}
+use Rattle.sd_core.specs.declared.wish.Beginning.{Beginning}
 use Rattle.someip_node_rules.specs.declared.target.Target.TheVariants.{Instance, Client, Discovery}
 use Rattle.someip_node_rules.specs.rules.ClientSubscribing.{standing_of, stop_subscribe_of, wish_entries}
 use Rattle.someip_node_rules.specs.rules.Offering.{stop_offer_of}

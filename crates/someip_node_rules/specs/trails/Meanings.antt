@@ -13,14 +13,14 @@ use Rattle.sd_session.specs.declared.peers.Seen.TheVariants as seen_as
 use Rattle.sd_session.specs.declared.stamp.Channel.{Channel}
 use Rattle.sd_session.specs.declared.stamp.Stamp.{Stamp}
 use Rattle.sd_session.specs.Peers.{stamps_of, told_by}
-use Rattle.sd_subscribers.specs.declared.error.Cause.{Cause}
-use Rattle.sd_instances.specs.declared.eventgroup.Eventgroup.{Eventgroup}
-use Rattle.sd_instances.specs.declared.keys.InstanceId.{InstanceId}
+use Rattle.sd_core.specs.declared.error.Cause.{Cause}
+use Rattle.sd_core.specs.declared.eventgroup.Eventgroup.{Eventgroup}
+use Rattle.sd_core.specs.declared.keys.InstanceId.{InstanceId}
 use Rattle.sd_core.specs.declared.received.ReceivedOffer.{ReceivedOffer}
-use Rattle.sd_wishes.specs.declared.wish.Acked.TheVariants as acked_as
+use Rattle.sd_core.specs.declared.wish.Acked.TheVariants as acked_as
 use Rattle.sd_core.specs.SeekTables.{uncounted}
-use Rattle.sd_subscribers.specs.SubscriberTables.{nack_cause}
-use Rattle.sd_wishes.specs.Wishes.{told_by_ack, wish_of}
+use Rattle.sd_core.specs.SubscriberTables.{nack_cause}
+use Rattle.sd_core.specs.Wishes.{told_by_ack, wish_of}
 use Rattle.someip_rpc.specs.declared.call.CallKind.{CallKind}
 use Rattle.someip_rpc.specs.declared.ids.MessageId.{MessageId}
 use Rattle.someip_rpc.specs.Answers.{answer_drop, answered_call}

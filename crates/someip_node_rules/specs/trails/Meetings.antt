@@ -9,11 +9,11 @@ use Rattle.someip_reassembly.specs.declared.reassembly.Offered.TheVariants.{Whol
 use Rattle.someip_reassembly.specs.SegmentOffers.{SegmentOffer, judgement}
 use Rattle.sd_wire.specs.declared.entry.EventgroupEntry.{EventgroupEntry}
 use Rattle.sd_wire.specs.contents.Values.{EntryValue}
-use Rattle.sd_instances.specs.declared.keys.InstanceId.{InstanceId}
-use Rattle.sd_subscribers.specs.declared.subscription.Subscription.{Subscription}
-use Rattle.sd_wishes.specs.declared.wish.Beginning.{Beginning}
+use Rattle.sd_core.specs.declared.keys.InstanceId.{InstanceId}
+use Rattle.sd_core.specs.declared.subscription.Subscription.{Subscription}
+use Rattle.sd_core.specs.declared.wish.Beginning.{Beginning}
 use Rattle.sd_core.specs.SeekTables.{is_stopped, uncounted}
-use Rattle.sd_subscribers.specs.SubscriberTables.{nack_cause, subscription_at}
+use Rattle.sd_core.specs.SubscriberTables.{nack_cause, subscription_at}
 use Rattle.someip_rpc.specs.declared.call.Call.{Call}
 use Rattle.someip_rpc.specs.declared.call.CallKind.{CallKind}
 use Rattle.someip_rpc.specs.declared.ids.EventId.{EventId}

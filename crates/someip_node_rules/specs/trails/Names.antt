@@ -1,7 +1,7 @@
 -- The names of drops and refusals, as a trace tells them.
 use Rattle.std.specs.Prelude.{ℕ, List, codes}
 use Rattle.sd_wire.specs.decoding.Faults as sd
-use Rattle.someip_segments.specs.Names as tp
+use Rattle.someip_reassembly.specs.Names as tp
 use Rattle.someip_wire.specs.Faults as wire
 use Rattle.someip_rpc.specs.Names.{drop_cause_name, request_fault_name, rpc_error_name}
 use Rattle.someip_node_rules.specs.declared.drops.DropReason.{DropReason}

@@ -1,12 +1,12 @@
 //! Datagrams of a recording, over all books.
 use super::places::{at, endpoint};
-use audit_calls::CallFinding;
-use audit_segments::SegmentRules;
-use audit_tables::Origin;
+use audit_traffic::calls::CallFinding;
+use audit_traffic::segments::SegmentRules;
 use sd_wire::SdError;
 use someip_audit::{Audit, AuditRules, FellDue, Finding};
 use someip_reassembly::SegmentList;
 use someip_tables::Moment;
+use someip_tables::hashed::Origin;
 use someip_wire::WireError;
 use std::alloc::{AllocError, Global};
 
@@ -229,11 +229,11 @@ fn told_of_due(fell: &FellDue) -> Told {
 
 fn told_of(finding: &Finding) -> Told {
     match finding {
-        Finding::Session(audit_sessions::Finding::Reboot) => Reboot,
-        Finding::Offer(_, audit_offers::Finding::Full) => OfferFull,
-        Finding::Subscription(_, audit_subscriptions::Finding::Nack) => Nack,
+        Finding::Session(audit_sd::sessions::Finding::Reboot) => Reboot,
+        Finding::Offer(_, audit_sd::offers::Finding::Full) => OfferFull,
+        Finding::Subscription(_, audit_sd::subscriptions::Finding::Nack) => Nack,
         Finding::Call(_, CallFinding::Late(1400)) => Late,
-        Finding::Event(_, audit_receivers::Finding::Unsubscribed) => Unsubscribed,
+        Finding::Event(_, audit_sd::receivers::Finding::Unsubscribed) => Unsubscribed,
         Finding::EventSession(_, _, shown) => told_of_event(shown),
         Finding::NoTpHeader(16) => NoTpHeader,
         Finding::Malformed(WireError::Truncated(63)) => Truncated,
@@ -243,10 +243,10 @@ fn told_of(finding: &Finding) -> Told {
     }
 }
 
-fn told_of_event(shown: &audit_events::Finding) -> Told {
+fn told_of_event(shown: &audit_traffic::events::Finding) -> Told {
     match shown {
-        audit_events::Finding::Repeated => Repeated,
-        audit_events::Finding::Gap {
+        audit_traffic::events::Finding::Repeated => Repeated,
+        audit_traffic::events::Finding::Gap {
             session: 4,
             expected: 2,
         } => Gap,

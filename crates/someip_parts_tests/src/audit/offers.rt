@@ -1,6 +1,6 @@
 //! Offers of two nodes.
 use super::places::{at, datagram, endpoint, node};
-use audit_offers::{Finding, OfferBook, OfferEntry, OfferKey, laws};
+use audit_sd::offers::{Finding, OfferBook, OfferEntry, OfferKey, laws};
 use std::alloc::Global;
 
 /// What comes, and what has to come of it.

@@ -1,6 +1,6 @@
 //! Where nodes are.
-use audit_tables::Origin;
 use someip_tables::Moment;
+use someip_tables::hashed::Origin;
 use std::net::{Ipv4Addr, SocketAddrV4};
 
 /// The address of a node; node 0 is the group.

@@ -1,7 +1,7 @@
 //! Events of node 9 to two clients.
 use super::places::{at, endpoint, node};
-use audit_receivers::{Delivery, Finding, ReceiverBook, ReceiverEntry, WithdrawnOffer, laws};
-use audit_subscriptions::{EntryKind, SubscriptionKey};
+use audit_sd::receivers::{Delivery, Finding, ReceiverBook, ReceiverEntry, WithdrawnOffer, laws};
+use audit_sd::subscriptions::{EntryKind, SubscriptionKey};
 use std::alloc::Global;
 
 /// What comes, and what has to come of it.

@@ -1,6 +1,6 @@
 //! Sessions of three nodes.
 use super::places::node;
-use audit_sessions::{Finding, SdMessage, SessionBook, laws};
+use audit_sd::sessions::{Finding, SdMessage, SessionBook, laws};
 use sd_session::Stamp;
 use std::alloc::Global;
 

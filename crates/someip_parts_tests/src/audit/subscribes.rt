@@ -1,6 +1,6 @@
 //! Subscribes of two clients at node 9.
 use super::places::{at, datagram, node};
-use audit_subscriptions::{
+use audit_sd::subscriptions::{
     EntryKind, Finding, SubscribeBook, SubscribeEntry, SubscriptionKey, laws,
 };
 use std::alloc::Global;

@@ -14,9 +14,9 @@ use Rattle.someip_reassembly.specs.declared.key.ReassemblyKey.{ReassemblyKey}
 use Rattle.someip_tp.specs.declared.calls.TpCall.{TpCall}
 use Rattle.someip_tp.specs.declared.calls.TpCall.TheVariants as call
 use Rattle.someip_reassembly.specs.Keys.{key_cmp, same_key}
-use Rattle.someip_segments.specs.Segments.{SegmentValue, segment_at, segment_header, segment_message}
-use Rattle.someip_segments.specs.TpHeader.{segment_in}
-use Rattle.someip_segments.specs.Sent.{segments_of}
+use Rattle.someip_reassembly.specs.Segments.{SegmentValue, segment_at, segment_header, segment_message}
+use Rattle.someip_reassembly.specs.TpHeader.{segment_in}
+use Rattle.someip_reassembly.specs.Sent.{segments_of}
 use Rattle.someip_reassembly.specs.Parts.{Limits, Part, Parts, parts_at}
 use Rattle.someip_reassembly.specs.SegmentOffers.{SegmentOffer, offer, judgement, kept, parts_after, part_under, no_part, with_offer, is_unaligned, is_too_long, conflicts, message_of, message_at, parts_less}
 use Rattle.someip_reassembly.specs.Slices.{byte_at}
@@ -25,8 +25,8 @@ use Rattle.someip_tp.specs.Accepted.{IsSegmentOf, HoldsOnly, where_it_stands, ac
 use Rattle.someip_reassembly.proofs.Placed.{over, get-added}
 use Rattle.someip_reassembly.proofs.SliceLemmas.{byte_within}
 use Rattle.someip_reassembly.proofs.KeyOrder.{keys_total, same_from_test}
-use Rattle.someip_segments.proofs.SegmentsLemmas.{are_segments}
-use Rattle.someip_segments.proofs.SegmentTexts.{read_as_sent}
+use Rattle.someip_reassembly.proofs.SegmentsLemmas.{are_segments}
+use Rattle.someip_reassembly.proofs.SegmentTexts.{read_as_sent}
 use Rattle.someip_tp.proofs.promises.WholeLemmas.{whole_from_message}
 use Rattle.someip_reassembly.proofs.OfferLemmas.{judged_by}
 use Rattle.someip_tp.proofs.promises.BoundLemmas.{left_same, removed_same}

@@ -14,8 +14,8 @@ use Rattle.someip_tp.specs.declared.calls.TpCall.{TpCall}
 use Rattle.someip_tp.specs.declared.calls.TpCall.TheVariants as call
 use Rattle.someip_reassembly.specs.Keys.{same_key}
 use Rattle.someip_tables.specs.Retained.{kept_if as passed}
-use Rattle.someip_segments.specs.Segments.{SegmentValue, segment_at, segment_header}
-use Rattle.someip_segments.specs.Sent.{segments_of}
+use Rattle.someip_reassembly.specs.Segments.{SegmentValue, segment_at, segment_header}
+use Rattle.someip_reassembly.specs.Sent.{segments_of}
 use Rattle.someip_reassembly.specs.Parts.{Limits, Part, Parts, is_gone, parts_at}
 use Rattle.someip_reassembly.specs.SegmentOffers.{SegmentOffer, offer, placed, passes, differ, kept, parts_after, part_under, no_part, with_offer, total_of, is_unaligned, is_too_long, conflicts, message_of, message_at, parts_less}
 use Rattle.someip_reassembly.specs.Slices.{byte_at}
@@ -28,7 +28,7 @@ use Rattle.someip_reassembly.proofs.SliceLemmas.{byte_from}
 use Rattle.someip_reassembly.proofs.PartialLemmas.{any_place, no_place_passes}
 use Rattle.someip_reassembly.proofs.KeyOrder.{keys_total, exact_keys, same_from_test, test_from_same}
 use Rattle.someip_tables.proofs.Entries.{get-retain}
-use Rattle.someip_segments.proofs.SegmentsLemmas.{are_segments}
+use Rattle.someip_reassembly.proofs.SegmentsLemmas.{are_segments}
 use Rattle.someip_tp.proofs.promises.WholeLemmas.{message_from_whole}
 use Rattle.someip_reassembly.proofs.OfferLemmas.{judged_by}
 use Rattle.someip_tp.proofs.promises.BoundLemmas.{fewer, left_same}

@@ -11,8 +11,8 @@ use Rattle.someip_reassembly.specs.Keys.{key_cmp}
 use Rattle.someip_tables.specs.Retained.{kept_if}
 use Rattle.someip_reassembly.specs.Parts.{Limits, Part, Parts, is_gone, parts_at}
 use Rattle.someip_reassembly.specs.declared.reassembly.Offered.{Offered}
-use Rattle.someip_segments.specs.declared.error.TpError.{TpError}
-use Rattle.someip_segments.specs.declared.error.TpError.TheVariants.{Unaligned, TooLong, Conflict, NoSlot, OutOfMemory}
+use Rattle.someip_reassembly.specs.declared.error.TpError.{TpError}
+use Rattle.someip_reassembly.specs.declared.error.TpError.TheVariants.{Unaligned, TooLong, Conflict, NoSlot, OutOfMemory}
 use Rattle.someip_reassembly.specs.SegmentOffers.{SegmentOffer as Segment, offer, part_or_whole, conflicts, is_unaligned, is_too_long, part_under, no_part, with_offer, parts_after, parts_less, message_at, kept as offer_kept}
 use Rattle.someip_reassembly.specs.Slices.{byte_at}
 use Rattle.someip_tp.specs.Wholes.{IsWithin}

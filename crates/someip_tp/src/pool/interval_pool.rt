@@ -7,8 +7,7 @@ ghost use Rattle.someip_reassembly.specs.Parts.{NoneAfter};
 ghost use Rattle.someip_reassembly.specs.SegmentOffers.{offer, judgement, parts_after};
 
 use crate::pool::slots::Slots;
-use someip_reassembly::{Arrived, Offered, Reassembly, ReassemblyKey};
-use someip_segments::TpError;
+use someip_reassembly::{Arrived, Offered, Reassembly, ReassemblyKey, TpError};
 use std::alloc::Global;
 use std::marker::Model;
 

@@ -8,8 +8,7 @@ ghost use Rattle.someip_tp.specs.Pools.{ArePooled, SameBounds, AreRising, GoesAt
 
 use crate::pool::part::{RoomPart, is_over};
 use crate::pool::room::Room;
-use someip_reassembly::{Arrived, Offered, ReassemblyKey};
-use someip_segments::TpError;
+use someip_reassembly::{Arrived, Offered, ReassemblyKey, TpError};
 use std::alloc::{AllocError, Global};
 
 /// The slots of a pool: those that a message stands in, and free ones.

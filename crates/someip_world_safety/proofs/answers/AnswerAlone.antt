@@ -10,14 +10,14 @@ use Rattle.someip_wire.specs.declared.header.ReturnCode.{ReturnCode}
 use Rattle.someip_wire.specs.Kinds.{has_tp_flag, without_tp_flag}
 use Rattle.someip_wire.specs.Reading.{items_of}
 use Rattle.someip_wire.specs.Spelling.{MessageValue}
-use Rattle.someip_segments.specs.declared.error.TpError.{TpError}
+use Rattle.someip_reassembly.specs.declared.error.TpError.{TpError}
 use Rattle.someip_reassembly.specs.declared.reassembly.Offered.{Offered}
 use Rattle.someip_reassembly.specs.declared.reassembly.Offered.TheVariants.{Part, Whole}
 use Rattle.someip_reassembly.specs.SegmentOffers.{SegmentOffer, judgement, message_at, offer, parts_after}
 use Rattle.someip_reassembly.specs.Keys.{segment_key}
-use Rattle.someip_segments.specs.TpHeader.{segment_in}
+use Rattle.someip_reassembly.specs.TpHeader.{segment_in}
 use Rattle.sd_wire.specs.contents.Values.{EntryValue}
-use Rattle.sd_instances.specs.declared.keys.InstanceId.{InstanceId}
+use Rattle.sd_core.specs.declared.keys.InstanceId.{InstanceId}
 use Rattle.someip_rpc.specs.Answers.{answer_drop}
 use Rattle.someip_rpc.specs.declared.error.DropCause.{DropCause}
 use Rattle.someip_rpc.specs.declared.ids.MessageId.{MessageId}

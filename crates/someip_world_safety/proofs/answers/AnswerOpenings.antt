@@ -6,8 +6,8 @@ use Rattle.std.specs.declared.net.socket_addr.SocketAddrV4.{SocketAddrV4}
 use Rattle.someip_wire.specs.declared.header.Header.{Header}
 use Rattle.someip_wire.specs.declared.header.MessageType.TheVariants as kinds
 use Rattle.someip_wire.specs.Spelling.{MessageValue}
-use Rattle.someip_segments.specs.Sent.{is_long}
-use Rattle.sd_instances.specs.declared.keys.InstanceId.{InstanceId}
+use Rattle.someip_reassembly.specs.Sent.{is_long}
+use Rattle.sd_core.specs.declared.keys.InstanceId.{InstanceId}
 use Rattle.someip_rpc.specs.declared.request.Asked.{Asked}
 use Rattle.someip_rpc.specs.declared.request.Reply.{Reply}
 use Rattle.someip_node_rules.specs.declared.config.Config.{Config}
@@ -25,7 +25,7 @@ use Rattle.someip_node_rules.specs.trails.SendingRules.{IsSent}
 use Rattle.someip_node_rules.specs.forms.Setups.{offered_as}
 use Rattle.someip_node_rules.specs.trails.Trails.{Done}
 use Rattle.someip_node_rules.proofs.rules.StepRules.{config_there}
-use Rattle.someip_world_steps.specs.declared.step.Step.{Step}
+use Rattle.someip_world_schedule.specs.declared.step.Step.{Step}
 use Rattle.someip_world_setup.specs.declared.setup_node.SetupNode.{SetupNode}
 use Rattle.someip_world_rules.specs.Announced.{AllFits}
 use Rattle.someip_world_rules.specs.Datagrams.{SentDatagram}
@@ -35,14 +35,14 @@ use Rattle.someip_world_rules.specs.Liars.{IsHonest}
 use Rattle.someip_world_rules.proofs.Deliverings.{delivered_in}
 use Rattle.someip_world_rules.proofs.InjectionLemmas.{sent_honestly}
 use Rattle.someip_world_rules.proofs.OriginLemmas.{turn_configured}
-use Rattle.someip_world_exchanges.specs.Belonging.{Answered, HandsUp, WasHandedUp}
-use Rattle.someip_world_exchanges.specs.Namings.{named_by_type, named_in, of_call}
-use Rattle.someip_world_exchanges.specs.declared.exchange_key.ExchangeKey.{ExchangeKey}
-use Rattle.someip_world_exchanges.specs.declared.naming.Naming.{Naming}
-use Rattle.someip_world_exchanges.specs.declared.naming.Side.TheVariants.{Answerer, Opener}
-use Rattle.someip_world_exchanges.proofs.runs.Among.{is_among}
-use Rattle.someip_world_exchanges.proofs.openings.OpeningLemmas.{opens_its_own}
-use Rattle.someip_world_exchanges.proofs.messages.WholeLemmas.{IsForApplication, given_in_segments}
+use Rattle.someip_world_rules.specs.exchanges.Belonging.{Answered, HandsUp, WasHandedUp}
+use Rattle.someip_world_rules.specs.exchanges.Namings.{named_by_type, named_in, of_call}
+use Rattle.someip_world_rules.specs.declared.exchanges.exchange_key.ExchangeKey.{ExchangeKey}
+use Rattle.someip_world_rules.specs.declared.exchanges.naming.Naming.{Naming}
+use Rattle.someip_world_rules.specs.declared.exchanges.naming.Side.TheVariants.{Answerer, Opener}
+use Rattle.someip_world_rules.proofs.about_exchanges.runs.Among.{is_among}
+use Rattle.someip_world_rules.proofs.about_exchanges.openings.OpeningLemmas.{opens_its_own}
+use Rattle.someip_world_rules.proofs.about_exchanges.messages.WholeLemmas.{IsForApplication, given_in_segments}
 use Rattle.someip_world_safety.specs.CleanRuns.{AreShort}
 use Rattle.someip_world_safety.specs.OwnOffers.{HaveOwnOffers}
 use Rattle.someip_world_safety.specs.OpenRequests.{IsOpenRequest}

@@ -23,11 +23,11 @@ use Rattle.someip_node_rules.proofs.trails.MeetingLemmas.{all_met}
 use Rattle.someip_node_rules.proofs.lists.MemberLemmas.{at_member}
 use Rattle.someip_node_rules.proofs.rules.PlanLemmas.{before_each}
 use Rattle.someip_node_rules.proofs.rules.StepRules.{config_kept}
-use Rattle.someip_world_steps.specs.declared.step.Step.{Step}
+use Rattle.someip_world_schedule.specs.declared.step.Step.{Step}
 use Rattle.someip_world_setup.specs.declared.setup_node.SetupNode.{SetupNode}
 use Rattle.someip_world_rules.specs.Deliveries.{Does}
 use Rattle.someip_world_rules.proofs.Fronts.{within}
-use Rattle.someip_world_exchanges.proofs.openings.RuleInputs.{AskedBy, done_asked}
+use Rattle.someip_world_rules.proofs.about_exchanges.openings.RuleInputs.{AskedBy, done_asked}
 use Rattle.someip_world_safety.specs.AwaitedCalls.{IsAwaited}
 use Rattle.someip_world_safety.proofs.answers.AnswerTests.{IsToACall, to_a_call, waits_by_history}
 use Rattle.someip_world_safety.proofs.calls.CallItems.{Since, WasCalled, Waited, since}

@@ -6,7 +6,7 @@ use Rattle.std.specs.declared.net.socket_addr.SocketAddrV4.{SocketAddrV4}
 use Rattle.someip_wire.specs.declared.header.Header.{Header}
 use Rattle.someip_wire.specs.declared.header.MessageType.TheVariants as kinds
 use Rattle.someip_wire.specs.Spelling.{MessageValue}
-use Rattle.sd_instances.specs.declared.keys.InstanceId.{InstanceId}
+use Rattle.sd_core.specs.declared.keys.InstanceId.{InstanceId}
 use Rattle.someip_rpc.specs.declared.call.CallKind.{CallKind}
 use Rattle.someip_rpc.specs.declared.call.CallKind.TheVariants as calls
 use Rattle.someip_rpc.specs.declared.request.Reply.{Reply}
@@ -30,7 +30,7 @@ use Rattle.someip_node_rules.specs.histories.Tables.{Tables}
 use Rattle.someip_node_rules.specs.trails.Trails.{after, met_by}
 use Rattle.someip_node_laws.proofs.histories.NamedLemmas.{get-request}
 use Rattle.someip_node_rules.proofs.rules.StepRules.{config_there}
-use Rattle.someip_world_steps.specs.declared.step.Step.{Step}
+use Rattle.someip_world_schedule.specs.declared.step.Step.{Step}
 use Rattle.someip_world_setup.specs.declared.setup_node.SetupNode.{SetupNode}
 use Rattle.someip_world_rules.specs.Announced.{AllFits}
 use Rattle.someip_world_rules.specs.Datagrams.{SentDatagram}
@@ -38,13 +38,13 @@ use Rattle.someip_world_rules.specs.Deliveries.{LivesOn, Sends}
 use Rattle.someip_world_rules.specs.Liars.{IsHonest}
 use Rattle.someip_world_rules.proofs.Fronts.{within}
 use Rattle.someip_world_rules.proofs.Sendings.{sent_before}
-use Rattle.someip_world_exchanges.specs.declared.exchange_key.ExchangeKey.{ExchangeKey}
-use Rattle.someip_world_exchanges.specs.declared.naming.Side.TheVariants.{Answerer}
-use Rattle.someip_world_exchanges.specs.Belonging.{Answered, HandsUp}
-use Rattle.someip_world_exchanges.specs.CleanReuse.{IsCleanBefore}
-use Rattle.someip_world_exchanges.specs.Namings.{named_by_type, named_in, of_call}
-use Rattle.someip_world_exchanges.proofs.runs.Among.{is_among}
-use Rattle.someip_world_exchanges.proofs.openings.RuleInputs.{AskedBy, done_asked}
+use Rattle.someip_world_rules.specs.declared.exchanges.exchange_key.ExchangeKey.{ExchangeKey}
+use Rattle.someip_world_rules.specs.declared.exchanges.naming.Side.TheVariants.{Answerer}
+use Rattle.someip_world_rules.specs.exchanges.Belonging.{Answered, HandsUp}
+use Rattle.someip_world_rules.specs.exchanges.CleanReuse.{IsCleanBefore}
+use Rattle.someip_world_rules.specs.exchanges.Namings.{named_by_type, named_in, of_call}
+use Rattle.someip_world_rules.proofs.about_exchanges.runs.Among.{is_among}
+use Rattle.someip_world_rules.proofs.about_exchanges.openings.RuleInputs.{AskedBy, done_asked}
 use Rattle.someip_world_safety.specs.GivenMessages.{WasGiven}
 use Rattle.someip_world_safety.specs.OpenRequests.{IsOpenRequest}
 use Rattle.someip_world_safety.specs.OwnOffers.{HaveOwnOffers}

@@ -18,7 +18,7 @@ use Rattle.someip_node_rules.specs.forms.Outputs as outputs
 use Rattle.someip_node_rules.specs.forms.Setups.{client_endpoint}
 use Rattle.someip_node_laws.proofs.rules.HandUpLemmas.{answer_came}
 use Rattle.someip_node_rules.specs.steps.Steps.{step}
-use Rattle.someip_world_steps.specs.declared.step.Step.{Step}
+use Rattle.someip_world_schedule.specs.declared.step.Step.{Step}
 use Rattle.someip_world_setup.specs.declared.setup_node.SetupNode.{SetupNode}
 use Rattle.someip_world_rules.specs.Announced.{AllFits}
 use Rattle.someip_world_rules.specs.Datagrams.{SentDatagram}
@@ -27,13 +27,13 @@ use Rattle.someip_world_rules.specs.Liars.{IsFromLiar, IsHonest}
 use Rattle.someip_world_rules.proofs.InjectionLemmas.{taken_by_node}
 use Rattle.someip_world_rules.proofs.OriginLemmas.{turn_configured}
 use Rattle.someip_world_rules.proofs.Sendings.{sent_before}
-use Rattle.someip_world_exchanges.specs.Belonging.{Belongs}
-use Rattle.someip_world_exchanges.specs.CleanReuse.{IsCleanBefore, Old}
-use Rattle.someip_world_exchanges.specs.Namings.{of_call}
-use Rattle.someip_world_exchanges.specs.Openings.{Opened}
-use Rattle.someip_world_exchanges.specs.declared.exchange_key.ExchangeKey.{ExchangeKey}
-use Rattle.someip_world_exchanges.specs.declared.exchange_key.ExchangeKey.TheVariants as keys
-use Rattle.someip_world_exchanges.proofs.messages.WholeLemmas.{IsForApplication}
+use Rattle.someip_world_rules.specs.exchanges.Belonging.{Belongs}
+use Rattle.someip_world_rules.specs.exchanges.CleanReuse.{IsCleanBefore, Old}
+use Rattle.someip_world_rules.specs.exchanges.Namings.{of_call}
+use Rattle.someip_world_rules.specs.exchanges.Openings.{Opened}
+use Rattle.someip_world_rules.specs.declared.exchanges.exchange_key.ExchangeKey.{ExchangeKey}
+use Rattle.someip_world_rules.specs.declared.exchanges.exchange_key.ExchangeKey.TheVariants as keys
+use Rattle.someip_world_rules.proofs.about_exchanges.messages.WholeLemmas.{IsForApplication}
 use Rattle.someip_world_safety.specs.Addresses.{HaveOwnAddresses}
 use Rattle.someip_world_safety.specs.Answers.{IsAnswered, IsRefused, IsSafeAnswer}
 use Rattle.someip_world_safety.specs.AwaitedCalls.{IsAwaited, Makes}

@@ -16,10 +16,10 @@ use Rattle.someip_node_rules.specs.trails.Trails.{met_by, trail_of}
 use Rattle.someip_node_rules.proofs.trails.MeetingLemmas.{all_met}
 use Rattle.someip_node_rules.proofs.lists.MemberLemmas.{at_member}
 use Rattle.someip_node_rules.proofs.rules.StepRules.{config_there}
-use Rattle.someip_world_steps.specs.declared.step.Step.{Step}
+use Rattle.someip_world_schedule.specs.declared.step.Step.{Step}
 use Rattle.someip_world_setup.specs.declared.setup_node.SetupNode.{SetupNode}
-use Rattle.someip_world_exchanges.specs.Namings.{of_call}
-use Rattle.someip_world_exchanges.specs.Openings.{Opened}
+use Rattle.someip_world_rules.specs.exchanges.Namings.{of_call}
+use Rattle.someip_world_rules.specs.exchanges.Openings.{Opened}
 use Rattle.someip_world_safety.specs.AwaitedCalls.{Makes}
 
 module _ (nodes : List SetupNode) (configs : List Config) (steps : List Step) where

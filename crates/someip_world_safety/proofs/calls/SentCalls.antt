@@ -6,7 +6,7 @@ use Rattle.std.specs.declared.net.socket_addr.SocketAddrV4.{SocketAddrV4}
 use Rattle.someip_wire.specs.declared.header.Header.{Header}
 use Rattle.someip_wire.specs.declared.header.MessageType.TheVariants as kinds
 use Rattle.someip_wire.specs.Spelling.{MessageValue}
-use Rattle.sd_instances.specs.declared.keys.InstanceId.{InstanceId}
+use Rattle.sd_core.specs.declared.keys.InstanceId.{InstanceId}
 use Rattle.someip_rpc.specs.declared.call.Call.{Call}
 use Rattle.someip_rpc.specs.declared.call.CallKind.TheVariants as calls
 use Rattle.someip_rpc.specs.declared.ids.CallKey.{CallKey}
@@ -31,17 +31,17 @@ use Rattle.someip_node_rules.specs.forms.Setups.{client_endpoint}
 use Rattle.someip_node_rules.specs.histories.Tables.{Tables, known_endpoint}
 use Rattle.someip_node_rules.specs.trails.Trails.{after, given_by, met_by, trail_of}
 use Rattle.someip_node_rules.proofs.lists.MemberLemmas.{only_one}
-use Rattle.someip_world_steps.specs.declared.step.Step.{Step}
+use Rattle.someip_world_schedule.specs.declared.step.Step.{Step}
 use Rattle.someip_world_setup.specs.declared.setup_node.SetupNode.{SetupNode}
 use Rattle.someip_world_rules.specs.Datagrams.{SentDatagram}
 use Rattle.someip_world_rules.specs.Deliveries.{Does, Sends}
-use Rattle.someip_world_exchanges.specs.Belonging.{Belongs}
-use Rattle.someip_world_exchanges.specs.Namings.{named_in, of_call}
-use Rattle.someip_world_exchanges.specs.declared.exchange_key.ExchangeKey.{ExchangeKey}
-use Rattle.someip_world_exchanges.specs.declared.naming.Naming.{Naming}
-use Rattle.someip_world_exchanges.proofs.runs.Among.{among_all, is_among}
-use Rattle.someip_world_exchanges.proofs.openings.CallOpenings.{key_to, opener_of}
-use Rattle.someip_world_exchanges.proofs.openings.RuleInputs.{AskedBy, done_asked}
+use Rattle.someip_world_rules.specs.exchanges.Belonging.{Belongs}
+use Rattle.someip_world_rules.specs.exchanges.Namings.{named_in, of_call}
+use Rattle.someip_world_rules.specs.declared.exchanges.exchange_key.ExchangeKey.{ExchangeKey}
+use Rattle.someip_world_rules.specs.declared.exchanges.naming.Naming.{Naming}
+use Rattle.someip_world_rules.proofs.about_exchanges.runs.Among.{among_all, is_among}
+use Rattle.someip_world_rules.proofs.about_exchanges.openings.CallOpenings.{key_to, opener_of}
+use Rattle.someip_world_rules.proofs.about_exchanges.openings.RuleInputs.{AskedBy, done_asked}
 use Rattle.someip_world_safety.specs.Answers.{TakesCall}
 use Rattle.someip_world_safety.specs.AwaitedCalls.{Makes}
 use Rattle.someip_world_safety.proofs.runs.SameStep.{same_history, same_input}

@@ -16,14 +16,14 @@ use Rattle.someip_node_rules.specs.steps.Steps.{step}
 use Rattle.someip_node_rules.specs.trails.Trails.{Done}
 use Rattle.someip_node_rules.proofs.trails.MeetingLemmas.{state_met}
 use Rattle.someip_node_rules.proofs.rules.StepRules.{config_there}
-use Rattle.someip_world_steps.specs.declared.step.Step.{Step}
+use Rattle.someip_world_schedule.specs.declared.step.Step.{Step}
 use Rattle.someip_world_setup.specs.declared.setup_node.SetupNode.{SetupNode}
 use Rattle.someip_world_rules.specs.Deeds.{Takes}
 use Rattle.someip_world_rules.specs.Deliveries.{Does, Restarted}
 use Rattle.someip_world_rules.specs.Runs.{World, history_after}
 use Rattle.someip_world_rules.specs.Turns.{LeadTo, Turn}
 use Rattle.someip_world_rules.proofs.Lives.{below_next, lives_next}
-use Rattle.someip_world_exchanges.specs.Belonging.{HandsUp}
+use Rattle.someip_world_rules.specs.exchanges.Belonging.{HandsUp}
 use Rattle.someip_world_safety.specs.OpenRequests.{IsOpenRequest, RequestsAreOpen}
 use Rattle.someip_world_safety.proofs.runs.EachNode.{each_node}
 use Rattle.someip_world_safety.proofs.calls.RequestItems.{open_below}

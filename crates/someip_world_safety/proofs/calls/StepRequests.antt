@@ -8,7 +8,7 @@ use Rattle.std.proofs.lemmas.Map.Lookups.{exact_unsigned}
 use Rattle.someip_tables.proofs.Entries.{same_by_test}
 use Rattle.someip_wire.specs.declared.header.Header.{Header}
 use Rattle.someip_rpc.specs.declared.request.Asked.{Asked}
-use Rattle.sd_instances.specs.declared.keys.InstanceId.{InstanceId}
+use Rattle.sd_core.specs.declared.keys.InstanceId.{InstanceId}
 use Rattle.someip_node_rules.specs.declared.output.Output.TheVariants.{Request}
 use Rattle.someip_node_rules.specs.trails.Bringing.{WasBrought}
 use Rattle.someip_node_rules.specs.histories.CallQuestions.{next_token, open_request_at}

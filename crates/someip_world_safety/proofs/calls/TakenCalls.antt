@@ -5,7 +5,7 @@ use Rattle.std.specs.Net.Socket.{v4_ip}
 use Rattle.std.specs.declared.net.socket_addr.SocketAddrV4.{SocketAddrV4}
 use Rattle.someip_wire.specs.declared.header.Header.{Header}
 use Rattle.someip_wire.specs.declared.header.MessageType.TheVariants as kinds
-use Rattle.sd_instances.specs.declared.keys.InstanceId.{InstanceId}
+use Rattle.sd_core.specs.declared.keys.InstanceId.{InstanceId}
 use Rattle.someip_node_rules.specs.declared.config.Config.{Config}
 use Rattle.someip_node_rules.specs.declared.config.OfferedService.{OfferedService}
 use Rattle.someip_node_rules.specs.trails.Bringing.{Brings, OfDatagram, WasBrought}
@@ -16,19 +16,19 @@ use Rattle.someip_node_rules.specs.trails.Packets.{Packet}
 use Rattle.someip_node_rules.specs.rules.Plans.{Rule, TakesRequest}
 use Rattle.someip_node_rules.specs.forms.Setups.{offered_as}
 use Rattle.someip_node_rules.specs.trails.Trails.{Done, trail_of}
-use Rattle.someip_world_steps.specs.declared.step.Step.{Step}
+use Rattle.someip_world_schedule.specs.declared.step.Step.{Step}
 use Rattle.someip_world_setup.specs.declared.setup_node.SetupNode.{SetupNode}
 use Rattle.someip_world_rules.specs.Announced.{AllFits}
 use Rattle.someip_world_rules.specs.Deliveries.{Does}
 use Rattle.someip_world_rules.specs.Liars.{IsHonest}
 use Rattle.someip_world_rules.proofs.OriginLemmas.{turn_configured}
-use Rattle.someip_world_exchanges.specs.declared.exchange_key.ExchangeKey.{ExchangeKey}
-use Rattle.someip_world_exchanges.specs.declared.naming.Side.TheVariants.{Opener}
-use Rattle.someip_world_exchanges.specs.Belonging.{Belongs}
-use Rattle.someip_world_exchanges.specs.CleanReuse.{IsCleanBefore}
-use Rattle.someip_world_exchanges.specs.Namings.{named_by_type, named_in, of_call}
-use Rattle.someip_world_exchanges.proofs.runs.Among.{is_among}
-use Rattle.someip_world_exchanges.proofs.messages.WholeLemmas.{IsForApplication}
+use Rattle.someip_world_rules.specs.declared.exchanges.exchange_key.ExchangeKey.{ExchangeKey}
+use Rattle.someip_world_rules.specs.declared.exchanges.naming.Side.TheVariants.{Opener}
+use Rattle.someip_world_rules.specs.exchanges.Belonging.{Belongs}
+use Rattle.someip_world_rules.specs.exchanges.CleanReuse.{IsCleanBefore}
+use Rattle.someip_world_rules.specs.exchanges.Namings.{named_by_type, named_in, of_call}
+use Rattle.someip_world_rules.proofs.about_exchanges.runs.Among.{is_among}
+use Rattle.someip_world_rules.proofs.about_exchanges.messages.WholeLemmas.{IsForApplication}
 use Rattle.someip_world_safety.specs.Answers.{TakesCall}
 use Rattle.someip_world_safety.specs.GivenMessages.{WasGiven}
 use Rattle.someip_world_safety.specs.OwnOffers.{HaveOwnOffers}

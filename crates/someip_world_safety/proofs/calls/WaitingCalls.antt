@@ -22,14 +22,14 @@ use Rattle.someip_node_rules.specs.trails.Trails.{met_by, trail_of}
 use Rattle.someip_node_rules.proofs.trails.MeetingLemmas.{all_met, state_met}
 use Rattle.someip_node_rules.proofs.lists.MemberLemmas.{at_member}
 use Rattle.someip_node_rules.proofs.rules.StepRules.{config_kept}
-use Rattle.someip_world_steps.specs.declared.step.Step.{Step}
+use Rattle.someip_world_schedule.specs.declared.step.Step.{Step}
 use Rattle.someip_world_setup.specs.declared.setup_node.SetupNode.{SetupNode}
 use Rattle.someip_world_rules.specs.Deeds.{Takes}
 use Rattle.someip_world_rules.specs.Deliveries.{Does, Restarted}
 use Rattle.someip_world_rules.specs.Runs.{World, history_after}
 use Rattle.someip_world_rules.specs.Turns.{LeadTo, Turn}
 use Rattle.someip_world_rules.proofs.Lives.{below_next, lives_next}
-use Rattle.someip_world_exchanges.proofs.openings.RuleInputs.{AskedBy, done_asked}
+use Rattle.someip_world_rules.proofs.about_exchanges.openings.RuleInputs.{AskedBy, done_asked}
 use Rattle.someip_world_safety.specs.AwaitedCalls.{CallsAreAwaited, IsAwaited, Makes, TakesAnswerTo}
 use Rattle.someip_world_safety.proofs.calls.CallItems.{IsOther, Since, WasCalled, Waited, since}
 use Rattle.someip_world_safety.proofs.runs.EachNode.{each_node}

@@ -8,7 +8,7 @@ use Rattle.someip_wire.specs.declared.header.Header.{Header}
 use Rattle.someip_tables.specs.EndpointOrder.{exact_endpoints}
 use Rattle.someip_tables.specs.Endpoints.{endpoint_cmp}
 use Rattle.someip_tables.proofs.Entries.{same_by_test}
-use Rattle.sd_instances.specs.declared.keys.InstanceId.{InstanceId}
+use Rattle.sd_core.specs.declared.keys.InstanceId.{InstanceId}
 use Rattle.someip_node_rules.specs.declared.config.WantedService.{WantedService}
 use Rattle.someip_node_rules.specs.rules.Messages.{is_event_of, takes_event}
 use Rattle.someip_node_rules.specs.histories.Tables.{Tables, known_endpoint}

@@ -6,7 +6,7 @@ use Rattle.someip_node_laws.specs.Fitting.{FitsConfig}
 use Rattle.someip_node_rules.specs.steps.Steps.{step}
 use Rattle.someip_node_rules.proofs.lists.MemberLemmas.{all_take}
 use Rattle.someip_node_laws.proofs.rules.PublishedLemmas.{is_published, is_published_to}
-use Rattle.someip_world_steps.specs.declared.step.Step.{Step}
+use Rattle.someip_world_schedule.specs.declared.step.Step.{Step}
 use Rattle.someip_world_setup.specs.declared.setup_node.SetupNode.{SetupNode}
 use Rattle.someip_world_rules.specs.Announced.{FitsStep}
 use Rattle.someip_world_rules.specs.Liars.{HasNoLiars}

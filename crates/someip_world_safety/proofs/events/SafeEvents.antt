@@ -5,7 +5,7 @@ use Rattle.std.specs.declared.net.socket_addr.SocketAddrV4.{SocketAddrV4}
 use Rattle.std.proofs.lemmas.List.Elements.{Contains-append_right}
 use Rattle.someip_wire.specs.declared.header.Header.{Header}
 use Rattle.someip_wire.specs.declared.header.MessageType.TheVariants as kinds
-use Rattle.sd_instances.specs.declared.keys.InstanceId.{InstanceId}
+use Rattle.sd_core.specs.declared.keys.InstanceId.{InstanceId}
 use Rattle.someip_node_rules.specs.declared.config.Config.{Config}
 use Rattle.someip_node_rules.specs.declared.output.Output.TheVariants.{Event}
 use Rattle.someip_node_rules.specs.rules.Handling.{target_of}
@@ -17,12 +17,12 @@ use Rattle.someip_node_rules.specs.rules.Messages.{takes_event}
 use Rattle.someip_node_rules.specs.trails.Packets.{Packet, Came}
 use Rattle.someip_node_rules.specs.trails.Trails.{Done, given_by, trail_of}
 use Rattle.someip_node_laws.proofs.rules.HandUpLemmas.{event_came}
-use Rattle.someip_world_steps.specs.declared.step.Step.{Step}
+use Rattle.someip_world_schedule.specs.declared.step.Step.{Step}
 use Rattle.someip_world_setup.specs.declared.setup_node.SetupNode.{SetupNode}
 use Rattle.someip_world_rules.specs.Announced.{AllFits}
 use Rattle.someip_world_rules.specs.Deliveries.{Does}
 use Rattle.someip_world_rules.proofs.Sendings.{sent_before}
-use Rattle.someip_world_exchanges.proofs.messages.WholeLemmas.{IsForApplication}
+use Rattle.someip_world_rules.proofs.about_exchanges.messages.WholeLemmas.{IsForApplication}
 use Rattle.someip_world_safety.specs.Events.{IsSafeEvent, WasPublished}
 use Rattle.someip_world_safety.specs.GivenMessages.{WasGiven}
 use Rattle.someip_world_safety.proofs.networks.ClientEndpoint.{came_to_client}

@@ -5,7 +5,7 @@ use Rattle.std.specs.declared.net.socket_addr.SocketAddrV4.{SocketAddrV4}
 use Rattle.someip_wire.specs.declared.header.Header.{Header}
 use Rattle.someip_wire.specs.declared.header.MessageType.TheVariants as kinds
 use Rattle.someip_wire.specs.Spelling.{MessageValue}
-use Rattle.sd_instances.specs.declared.keys.InstanceId.{InstanceId}
+use Rattle.sd_core.specs.declared.keys.InstanceId.{InstanceId}
 use Rattle.someip_rpc.specs.declared.call.CallKind.{CallKind}
 use Rattle.someip_rpc.specs.declared.call.CallKind.TheVariants as calls
 use Rattle.someip_rpc.specs.declared.request.Reply.{Reply}
@@ -27,10 +27,10 @@ use Rattle.someip_node_rules.specs.histories.Tables.{Tables}
 use Rattle.someip_node_rules.specs.trails.Trails.{given_by, trail_of}
 use Rattle.someip_node_rules.proofs.lists.MemberLemmas.{all_from_members, all_map, at_member, only_one}
 use Rattle.someip_node_laws.proofs.rules.PublishedLemmas.{is_published, is_published_to}
-use Rattle.someip_world_steps.specs.declared.step.Step.{Step}
+use Rattle.someip_world_schedule.specs.declared.step.Step.{Step}
 use Rattle.someip_world_setup.specs.declared.setup_node.SetupNode.{SetupNode}
 use Rattle.someip_world_rules.specs.Deliveries.{Does}
-use Rattle.someip_world_exchanges.proofs.openings.RuleInputs.{AskedBy, done_asked}
+use Rattle.someip_world_rules.proofs.about_exchanges.openings.RuleInputs.{AskedBy, done_asked}
 use Rattle.someip_world_safety.specs.Events.{WasPublished}
 
 -- ---- which messages are events

@@ -4,7 +4,7 @@ use Rattle.std.specs.List.{AllByRecursion}
 use Rattle.std.specs.Net.Socket.{v4_ip}
 use Rattle.std.proofs.lemmas.Grind.{flat_map-append}
 use Rattle.someip_wire.specs.declared.header.Header.{Header}
-use Rattle.someip_segments.specs.declared.error.TpError.{TpError}
+use Rattle.someip_reassembly.specs.declared.error.TpError.{TpError}
 use Rattle.someip_reassembly.specs.declared.reassembly.Offered.{Offered}
 use Rattle.someip_reassembly.specs.declared.reassembly.Offered.TheVariants.{Part, Whole}
 use Rattle.someip_reassembly.specs.SegmentOffers.{judgement, message_at, parts_after}
@@ -26,14 +26,14 @@ use Rattle.someip_node_rules.specs.trails.Trails.{Done, after, met_by, outcome_o
 use Rattle.someip_node_rules.proofs.trails.MeetingLemmas.{all_met}
 use Rattle.someip_node_rules.proofs.rules.PlanLemmas.{before_each}
 use Rattle.someip_node_rules.proofs.rules.StepRules.{config_kept}
-use Rattle.someip_world_steps.specs.declared.step.Step.{Step}
+use Rattle.someip_world_schedule.specs.declared.step.Step.{Step}
 use Rattle.someip_world_setup.specs.declared.setup_node.SetupNode.{SetupNode}
 use Rattle.someip_world_rules.specs.Announced.{AllFits}
 use Rattle.someip_world_rules.specs.Deliveries.{Does}
 use Rattle.someip_world_rules.specs.Liars.{IsHonest}
 use Rattle.someip_world_rules.proofs.Fronts.{within}
-use Rattle.someip_world_exchanges.specs.CleanReuse.{IsCleanBefore}
-use Rattle.someip_world_exchanges.proofs.messages.WholeLemmas.{IsForApplication}
+use Rattle.someip_world_rules.specs.exchanges.CleanReuse.{IsCleanBefore}
+use Rattle.someip_world_rules.proofs.about_exchanges.messages.WholeLemmas.{IsForApplication}
 use Rattle.someip_world_safety.specs.GivenMessages.{WasGiven}
 use Rattle.someip_world_safety.proofs.messages.HeldParts.{AllHeld, Holding, came, holding_first, holding_on, of_message, source, whole_given}
 use Rattle.someip_world_safety.proofs.messages.HeldRuns.{all_held, clean_before}

@@ -26,7 +26,7 @@ use Rattle.someip_node_rules.specs.rules.Plans.{TakesSegment}
 use Rattle.someip_node_rules.specs.histories.Questions.{clock_at}
 use Rattle.someip_node_rules.specs.forms.Setups.{limits_of}
 use Rattle.someip_node_rules.specs.trails.Trails.{after}
-use Rattle.someip_world_steps.specs.declared.step.Step.{Step}
+use Rattle.someip_world_schedule.specs.declared.step.Step.{Step}
 use Rattle.someip_world_setup.specs.declared.setup_node.SetupNode.{SetupNode}
 use Rattle.someip_world_rules.specs.Announced.{AllFits}
 use Rattle.someip_world_rules.specs.Datagrams.{SentDatagram}
@@ -35,9 +35,9 @@ use Rattle.someip_world_rules.specs.Deliveries.{Does, LivesOn, Sends}
 use Rattle.someip_world_rules.specs.Liars.{IsHonest}
 use Rattle.someip_world_rules.proofs.Deliverings.{DeliveredIn, delivered_in}
 use Rattle.someip_world_rules.proofs.InjectionLemmas.{sent_honestly}
-use Rattle.someip_world_exchanges.specs.CleanReuse.{Arrives, IsCleanBefore, Mixed}
-use Rattle.someip_world_exchanges.proofs.runs.ClockLemmas.{leaves_clock}
-use Rattle.someip_world_exchanges.proofs.openings.RuleInputs.{is_tick}
+use Rattle.someip_world_rules.specs.exchanges.CleanReuse.{Arrives, IsCleanBefore, Mixed}
+use Rattle.someip_world_rules.proofs.about_exchanges.runs.ClockLemmas.{leaves_clock}
+use Rattle.someip_world_rules.proofs.about_exchanges.openings.RuleInputs.{is_tick}
 use Rattle.someip_world_safety.proofs.messages.PartWalks.{IsJoined, joined_holds, left_in_time, no_new_parts, offered_parts, whole_payload}
 use Rattle.someip_world_safety.proofs.messages.SentSegments.{IsOfMessage, plain_key, segment_given}
 

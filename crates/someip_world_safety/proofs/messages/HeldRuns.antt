@@ -30,7 +30,7 @@ use Rattle.someip_node_rules.specs.steps.Steps.{step}
 use Rattle.someip_node_rules.specs.trails.Trails.{Done, after, met_by, trail_of}
 use Rattle.someip_node_rules.proofs.trails.MeetingLemmas.{all_met, state_met}
 use Rattle.someip_node_rules.proofs.rules.StepRules.{config_kept}
-use Rattle.someip_world_steps.specs.declared.step.Step.{Step}
+use Rattle.someip_world_schedule.specs.declared.step.Step.{Step}
 use Rattle.someip_world_setup.specs.declared.setup_node.SetupNode.{SetupNode}
 use Rattle.someip_world_rules.specs.Announced.{AllFits}
 use Rattle.someip_world_rules.specs.Deeds.{Deed, Takes, Restarts, Injects, done_with}
@@ -41,7 +41,7 @@ use Rattle.someip_world_rules.specs.Turns.{LeadTo, Turn}
 use Rattle.someip_world_rules.proofs.Fronts.{get_set_other, get_set_same, on_the_way}
 use Rattle.someip_world_rules.proofs.Lives.{lives_next, not_restarted}
 use Rattle.someip_world_rules.proofs.OriginLemmas.{begun_so}
-use Rattle.someip_world_exchanges.specs.CleanReuse.{IsCleanBefore}
+use Rattle.someip_world_rules.specs.exchanges.CleanReuse.{IsCleanBefore}
 use Rattle.someip_world_safety.proofs.messages.HeldParts.{AllHeld, IsHeld, held_on, holding_first, holding_on}
 use Rattle.someip_world_safety.proofs.messages.PartWalks.{no_new_parts}
 

@@ -5,8 +5,8 @@ use Rattle.std.specs.Net.Socket.{v4_ip}
 use Rattle.std.specs.declared.net.socket_addr.SocketAddrV4.{SocketAddrV4}
 use Rattle.someip_wire.specs.Reading.{items_of}
 use Rattle.someip_wire.specs.Spelling.{Fits, MessageValue, spelling}
-use Rattle.someip_segments.specs.Sent.{piece_message, sent}
-use Rattle.someip_segments.proofs.SentLemmas.{all_fit}
+use Rattle.someip_reassembly.specs.Sent.{piece_message, sent}
+use Rattle.someip_reassembly.proofs.SentLemmas.{all_fit}
 use Rattle.someip_node_rules.specs.declared.config.Config.{Config}
 use Rattle.someip_node_rules.specs.declared.output.Output.TheVariants.{Sent}
 use Rattle.someip_node_rules.specs.forms.Entries.{discovery_message}
@@ -17,7 +17,7 @@ use Rattle.someip_node_rules.specs.trails.Meanings.{GivenBy, IsTold}
 use Rattle.someip_node_rules.specs.forms.Outputs.{Given, Announces, Sends, Tells, datagram_of, written}
 use Rattle.someip_node_rules.specs.trails.Packets.{Packet}
 use Rattle.someip_node_rules.proofs.lists.MemberLemmas.{all_map, all_weaker, at_member}
-use Rattle.someip_world_steps.specs.declared.step.Step.{Step}
+use Rattle.someip_world_schedule.specs.declared.step.Step.{Step}
 use Rattle.someip_world_setup.specs.declared.setup_node.SetupNode.{SetupNode}
 use Rattle.someip_world_rules.specs.Announced.{AllFits}
 use Rattle.someip_world_rules.specs.Datagrams.{SentDatagram}

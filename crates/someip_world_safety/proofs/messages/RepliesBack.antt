@@ -14,7 +14,7 @@ use Rattle.sd_wire.specs.declared.entry.EventgroupEntry.{EventgroupEntry}
 use Rattle.sd_wire.specs.declared.entry.EventgroupKind.TheVariants as group_kinds
 use Rattle.sd_wire.specs.contents.Values.{EntryValue}
 use Rattle.sd_session.specs.declared.stamp.Stamp.{Stamp}
-use Rattle.sd_instances.specs.declared.keys.InstanceId.{InstanceId}
+use Rattle.sd_core.specs.declared.keys.InstanceId.{InstanceId}
 use Rattle.someip_rpc.specs.Calls.{kind_of_call}
 use Rattle.someip_rpc.specs.declared.call.CallKind.{CallKind}
 use Rattle.someip_rpc.specs.declared.call.CallKind.TheVariants as calls
@@ -37,19 +37,19 @@ use Rattle.someip_node_rules.specs.trails.SendingRules.{IsSent}
 use Rattle.someip_node_rules.specs.trails.Trails.{Done, after, met_by}
 use Rattle.someip_node_rules.proofs.lists.MemberLemmas.{at_member, only_one}
 use Rattle.someip_node_laws.proofs.histories.NamedLemmas.{get-request}
-use Rattle.someip_world_steps.specs.declared.step.Step.{Step}
+use Rattle.someip_world_schedule.specs.declared.step.Step.{Step}
 use Rattle.someip_world_setup.specs.declared.setup_node.SetupNode.{SetupNode}
 use Rattle.someip_world_rules.specs.Datagrams.{SentDatagram}
 use Rattle.someip_world_rules.specs.Deeds.{Takes}
 use Rattle.someip_world_rules.specs.Deliveries.{Delivers, Does, Sends}
 use Rattle.someip_world_rules.proofs.Deliverings.{delivered_in}
 use Rattle.someip_world_rules.proofs.Fronts.{within}
-use Rattle.someip_world_exchanges.specs.Belonging.{Answered, HandsUp, WasHandedUp}
-use Rattle.someip_world_exchanges.specs.Namings.{named_by_type, of_call}
-use Rattle.someip_world_exchanges.specs.declared.exchange_key.ExchangeKey.{ExchangeKey}
-use Rattle.someip_world_exchanges.specs.declared.naming.Naming.{Naming}
-use Rattle.someip_world_exchanges.specs.declared.naming.Side.TheVariants.{Answerer}
-use Rattle.someip_world_exchanges.proofs.openings.RuleInputs.{answers_answer}
+use Rattle.someip_world_rules.specs.exchanges.Belonging.{Answered, HandsUp, WasHandedUp}
+use Rattle.someip_world_rules.specs.exchanges.Namings.{named_by_type, of_call}
+use Rattle.someip_world_rules.specs.declared.exchanges.exchange_key.ExchangeKey.{ExchangeKey}
+use Rattle.someip_world_rules.specs.declared.exchanges.naming.Naming.{Naming}
+use Rattle.someip_world_rules.specs.declared.exchanges.naming.Side.TheVariants.{Answerer}
+use Rattle.someip_world_rules.proofs.about_exchanges.openings.RuleInputs.{answers_answer}
 use Rattle.someip_world_safety.specs.OpenRequests.{IsOpenRequest}
 use Rattle.someip_world_safety.proofs.subscriptions.EntryOpenings.{brought_so, goes_to_peer, one_sender}
 use Rattle.someip_world_safety.proofs.subscriptions.SentEntries.{Asks, Back, IsGroupEntry, ToPeer, to_peer}

@@ -9,11 +9,11 @@ use Rattle.someip_reassembly.specs.declared.key.ReassemblyKey.{ReassemblyKey}
 use Rattle.someip_tp.specs.Accepted.{IsSegmentOf}
 use Rattle.someip_reassembly.specs.Keys.{segment_key}
 use Rattle.someip_reassembly.specs.SegmentOffers.{SegmentOffer, offer}
-use Rattle.someip_segments.specs.Segments.{SegmentValue, segment_header, segment_message}
-use Rattle.someip_segments.specs.Sent.{PieceValue, is_long, piece_message, segments_of, sent}
-use Rattle.someip_segments.specs.TpHeader.{segment_in}
+use Rattle.someip_reassembly.specs.Segments.{SegmentValue, segment_header, segment_message}
+use Rattle.someip_reassembly.specs.Sent.{PieceValue, is_long, piece_message, segments_of, sent}
+use Rattle.someip_reassembly.specs.TpHeader.{segment_in}
 use Rattle.someip_tp.proofs.promises.AcceptedLemmas.{own_read, segment_is}
-use Rattle.someip_segments.proofs.SentLemmas.{all_fit}
+use Rattle.someip_reassembly.proofs.SentLemmas.{all_fit}
 use Rattle.someip_node_rules.specs.declared.output.Output.TheVariants.{Sent}
 use Rattle.someip_node_rules.specs.forms.Entries.{discovery_message}
 use Rattle.someip_node_laws.specs.Fitting.{FitsWire}
@@ -24,7 +24,7 @@ use Rattle.someip_node_rules.specs.forms.Outputs.{Given, Announces, Sends, Tells
 use Rattle.someip_node_rules.specs.trails.Packets.{Packet, HasSegment}
 use Rattle.someip_node_rules.proofs.lists.MemberLemmas.{all_both, all_map, at_member}
 use Rattle.someip_world_rules.proofs.AnnouncedLemmas.{announced_fits, only_message}
-use Rattle.someip_world_exchanges.proofs.messages.WholeLemmas.{IsSegment, no_flag, segment_pieces}
+use Rattle.someip_world_rules.proofs.about_exchanges.messages.WholeLemmas.{IsSegment, no_flag, segment_pieces}
 
 -- ---- the type without the TP flag
 

@@ -6,7 +6,7 @@ use Rattle.someip_node_rules.specs.declared.config.Config.{Config}
 use Rattle.someip_node_rules.specs.rules.Handling.{target_of}
 use Rattle.someip_node_rules.specs.rules.Inputs.{Datagram}
 use Rattle.someip_node_rules.specs.trails.Packets.{HasWhole, Packet}
-use Rattle.someip_world_steps.specs.declared.step.Step.{Step}
+use Rattle.someip_world_schedule.specs.declared.step.Step.{Step}
 use Rattle.someip_world_setup.specs.declared.setup_node.SetupNode.{SetupNode}
 use Rattle.someip_world_rules.specs.Announced.{AllFits}
 use Rattle.someip_world_rules.specs.Datagrams.{SentDatagram}
@@ -15,7 +15,7 @@ use Rattle.someip_world_rules.specs.Deliveries.{Does}
 use Rattle.someip_world_rules.specs.Liars.{IsHonest}
 use Rattle.someip_world_rules.proofs.Deliverings.{delivered_in}
 use Rattle.someip_world_rules.proofs.InjectionLemmas.{sent_honestly}
-use Rattle.someip_world_exchanges.proofs.messages.WholeLemmas.{IsForApplication, given_whole}
+use Rattle.someip_world_rules.proofs.about_exchanges.messages.WholeLemmas.{IsForApplication, given_whole}
 use Rattle.someip_world_safety.specs.GivenMessages.{WasGiven}
 
 module _ (nodes : List SetupNode) (configs : List Config) (steps : List Step) where

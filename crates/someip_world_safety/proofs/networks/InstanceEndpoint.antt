@@ -12,7 +12,7 @@ use Rattle.std.specs.Cmp.{nat_cmp_total}
 use Rattle.someip_tables.specs.EndpointOrder.{exact_addresses}
 use Rattle.someip_tables.proofs.Entries.{same_by_test}
 use Rattle.someip_tables.proofs.Trees.{get-map_of}
-use Rattle.sd_instances.specs.declared.keys.InstanceId.{InstanceId}
+use Rattle.sd_core.specs.declared.keys.InstanceId.{InstanceId}
 use Rattle.sd_session.specs.declared.stamp.Channel.TheVariants as channels
 use Rattle.someip_node_rules.specs.declared.config.Config.{Config}
 use Rattle.someip_node_rules.specs.declared.config.OfferedService.{OfferedService}

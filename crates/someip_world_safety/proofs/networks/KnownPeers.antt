@@ -9,17 +9,17 @@ use Rattle.std.specs.declared.net.socket_addr.SocketAddrV4.{SocketAddrV4}
 use Rattle.someip_tables.specs.declared.lasting.Lasting.{Lasting}
 use Rattle.someip_tables.specs.Deadlines.{has_passed}
 use Rattle.someip_tables.specs.Retained.{kept_if}
-use Rattle.sd_instances.specs.declared.eventgroup.Eventgroup.{Eventgroup}
-use Rattle.sd_instances.specs.declared.keys.InstanceId.{InstanceId}
+use Rattle.sd_core.specs.declared.eventgroup.Eventgroup.{Eventgroup}
+use Rattle.sd_core.specs.declared.keys.InstanceId.{InstanceId}
 use Rattle.sd_core.specs.declared.received.KnownOffer.{KnownOffer}
 use Rattle.sd_core.specs.declared.received.ReceivedOffer.{ReceivedOffer}
-use Rattle.sd_wishes.specs.declared.wish.Beginning.{Beginning}
-use Rattle.sd_wishes.specs.declared.wish.Stage.{Stage}
-use Rattle.sd_wishes.specs.declared.wish.Stage.TheVariants as stages
-use Rattle.sd_wishes.specs.declared.wish.Wish.{Wish}
-use Rattle.sd_instances.specs.Keys.{instance_cmp}
+use Rattle.sd_core.specs.declared.wish.Beginning.{Beginning}
+use Rattle.sd_core.specs.declared.wish.Stage.{Stage}
+use Rattle.sd_core.specs.declared.wish.Stage.TheVariants as stages
+use Rattle.sd_core.specs.declared.wish.Wish.{Wish}
+use Rattle.sd_core.specs.Keys.{instance_cmp}
 use Rattle.sd_core.specs.SeekTables.{known_at, stands_by}
-use Rattle.sd_wishes.specs.Wishes.{is_over, standing, wish_of}
+use Rattle.sd_core.specs.Wishes.{is_over, standing, wish_of}
 use Rattle.someip_node_rules.specs.rules.ClientSubscribing.{standing_of}
 use Rattle.someip_node_rules.specs.histories.History.{History, answers_of}
 use Rattle.someip_node_rules.specs.histories.Items as items
@@ -28,7 +28,7 @@ use Rattle.someip_node_rules.specs.histories.Questions.{clock_at}
 use Rattle.someip_node_rules.specs.histories.SeekQuestions.{known_offer_at, offer_from}
 use Rattle.someip_node_rules.specs.histories.WishQuestions.{course_at, is_answered_by, is_wished_at, known_peer_at, same_eventgroup, stage_of, wish_at}
 use Rattle.someip_node_rules.proofs.histories.WishLives.{get-wish}
-use Rattle.someip_world_exchanges.proofs.beginnings.CourseLemmas.{BeginsAt, GoesOn, acked_so, is_tame, offered_so, tame_goes_on, wished_so}
+use Rattle.someip_world_rules.proofs.about_exchanges.beginnings.CourseLemmas.{BeginsAt, GoesOn, acked_so, is_tame, offered_so, tame_goes_on, wished_so}
 
 -- ---- the peers of known offers, and of subscriptions
 

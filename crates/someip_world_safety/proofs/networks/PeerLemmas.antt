@@ -8,7 +8,7 @@ use Rattle.std.specs.declared.net.socket_addr.SocketAddrV4.{SocketAddrV4}
 use Rattle.sd_wire.specs.contents.Values.{EntryValue, ReadValue, bad_run, good}
 use Rattle.sd_wire.specs.declared.entry.EntryHead.TheVariants as heads
 use Rattle.sd_session.specs.declared.stamp.Stamp.{Stamp}
-use Rattle.sd_instances.specs.declared.keys.InstanceId.{InstanceId}
+use Rattle.sd_core.specs.declared.keys.InstanceId.{InstanceId}
 use Rattle.sd_core.specs.declared.received.KnownOffer.{KnownOffer}
 use Rattle.sd_core.specs.SeekTables.{known_at}
 use Rattle.someip_node_rules.specs.declared.config.Config.{Config}
@@ -31,7 +31,7 @@ use Rattle.someip_node_rules.specs.trails.Trails.{Done}
 use Rattle.someip_node_rules.proofs.lists.MemberLemmas.{all_weaker}
 use Rattle.someip_node_rules.proofs.rules.StepRules.{config_there}
 use Rattle.someip_node_rules.proofs.histories.WishLives.{get-known}
-use Rattle.someip_world_steps.specs.declared.step.Step.{Step}
+use Rattle.someip_world_schedule.specs.declared.step.Step.{Step}
 use Rattle.someip_world_setup.specs.declared.setup_node.SetupNode.{SetupNode}
 use Rattle.someip_world_rules.specs.Announced.{AllFits}
 use Rattle.someip_world_rules.specs.Datagrams.{SentDatagram}
@@ -44,7 +44,7 @@ use Rattle.someip_world_rules.proofs.Deliverings.{DeliveredIn, delivered_in}
 use Rattle.someip_world_rules.proofs.Fronts.{within}
 use Rattle.someip_world_rules.proofs.InjectionLemmas.{of_liar}
 use Rattle.someip_world_rules.proofs.Sendings.{sent_before}
-use Rattle.someip_world_exchanges.proofs.messages.EntryLemmas.{announced_with}
+use Rattle.someip_world_rules.proofs.about_exchanges.messages.EntryLemmas.{announced_with}
 use Rattle.someip_world_safety.specs.Addresses.{IsOfNode}
 use Rattle.someip_world_safety.proofs.subscriptions.EntryInputs.{offer_came}
 use Rattle.someip_world_safety.proofs.networks.KnownPeers.{IsFrom, course_from, known_peer_from, standing_begun}

@@ -10,8 +10,8 @@ use Rattle.std.proofs.lemmas.List.Elements.{recursion_from_All}
 use Rattle.std.proofs.lemmas.Map.Lookups.{exact_unsigned}
 use Rattle.std.proofs.lemmas.Map.Views.{IfSome-get}
 use Rattle.someip_tables.proofs.Entries.{own_test, same_by_test}
-use Rattle.sd_instances.specs.KeyOrder.{exact_instances, instances_total}
-use Rattle.sd_instances.specs.declared.keys.InstanceId.{InstanceId}
+use Rattle.sd_core.specs.KeyOrder.{exact_instances, instances_total}
+use Rattle.sd_core.specs.declared.keys.InstanceId.{InstanceId}
 use Rattle.someip_node_rules.proofs.forms.GoodConfigParts.{good_ports}
 use Rattle.someip_node_rules.specs.trails.Copies.{IsCopyOfOffer}
 use Rattle.someip_node_rules.specs.declared.config.Config.{Config}

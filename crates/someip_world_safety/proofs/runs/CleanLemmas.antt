@@ -5,7 +5,7 @@ use Rattle.std.specs.Net.Socket.{v4_ip}
 use Rattle.std.specs.declared.net.ipv4_addr.Ipv4Addr.{Ipv4Addr}
 use Rattle.std.specs.declared.net.socket_addr.SocketAddrV4.{SocketAddrV4}
 use Rattle.someip_wire.specs.Spelling.{MessageValue}
-use Rattle.someip_segments.specs.Sent.{is_long}
+use Rattle.someip_reassembly.specs.Sent.{is_long}
 use Rattle.sd_wire.specs.declared.entry.EntryHead.{EntryHead}
 use Rattle.sd_wire.specs.declared.entry.EntryHead.TheVariants as heads
 use Rattle.sd_wire.specs.declared.entry.EventgroupEntry.{EventgroupEntry}
@@ -19,21 +19,21 @@ use Rattle.someip_node_rules.specs.forms.Outputs as outputs
 use Rattle.someip_node_rules.specs.forms.Outputs.{Given}
 use Rattle.someip_node_rules.specs.rules.Plans.{RepliesTo}
 use Rattle.someip_node_rules.proofs.lists.MemberLemmas.{at_member, only_one}
-use Rattle.someip_world_steps.specs.declared.step.Step.{Step}
+use Rattle.someip_world_schedule.specs.declared.step.Step.{Step}
 use Rattle.someip_world_setup.specs.declared.setup_node.SetupNode.{SetupNode}
 use Rattle.someip_world_rules.specs.Announced.{AllFits}
 use Rattle.someip_world_rules.specs.Datagrams.{SentDatagram}
 use Rattle.someip_world_rules.specs.Deliveries.{Sends}
 use Rattle.someip_world_rules.specs.Liars.{IsHonest, IsOfLiar}
-use Rattle.someip_world_exchanges.specs.Belonging.{Answered, Belongs, IsMeant}
-use Rattle.someip_world_exchanges.specs.CleanReuse.{Breaks, DeliversMixed, DeliversOld, Mixed, Old}
-use Rattle.someip_world_exchanges.specs.Namings.{named_by_entries, named_by_head, named_by_kind, named_by_type, named_in, of_subscription}
-use Rattle.someip_world_exchanges.specs.declared.exchange_key.ExchangeKey.{ExchangeKey}
-use Rattle.someip_world_exchanges.specs.declared.naming.Naming.{Naming}
-use Rattle.someip_world_exchanges.specs.declared.naming.Side.{Side}
-use Rattle.someip_world_exchanges.specs.declared.naming.Side.TheVariants.{Answerer, Opener}
-use Rattle.someip_world_exchanges.proofs.runs.Among.{one_among}
-use Rattle.someip_world_exchanges.proofs.openings.OpeningLemmas.{opens_its_own}
+use Rattle.someip_world_rules.specs.exchanges.Belonging.{Answered, Belongs, IsMeant}
+use Rattle.someip_world_rules.specs.exchanges.CleanReuse.{Breaks, DeliversMixed, DeliversOld, Mixed, Old}
+use Rattle.someip_world_rules.specs.exchanges.Namings.{named_by_entries, named_by_head, named_by_kind, named_by_type, named_in, of_subscription}
+use Rattle.someip_world_rules.specs.declared.exchanges.exchange_key.ExchangeKey.{ExchangeKey}
+use Rattle.someip_world_rules.specs.declared.exchanges.naming.Naming.{Naming}
+use Rattle.someip_world_rules.specs.declared.exchanges.naming.Side.{Side}
+use Rattle.someip_world_rules.specs.declared.exchanges.naming.Side.TheVariants.{Answerer, Opener}
+use Rattle.someip_world_rules.proofs.about_exchanges.runs.Among.{one_among}
+use Rattle.someip_world_rules.proofs.about_exchanges.openings.OpeningLemmas.{opens_its_own}
 use Rattle.someip_world_safety.specs.Addresses.{AreOffGroup, HaveOwnAddresses}
 use Rattle.someip_world_safety.specs.CleanRuns.{AreShort, OpensOnce}
 use Rattle.someip_world_safety.specs.OwnOffers.{HaveOwnOffers}

@@ -13,15 +13,15 @@ use Rattle.someip_node_rules.specs.histories.Items as items
 use Rattle.someip_node_rules.specs.histories.Items.{Item}
 use Rattle.someip_node_rules.specs.forms.Setups.{client_endpoint, offered_as}
 use Rattle.someip_node_rules.proofs.rules.StepRules.{config_there}
-use Rattle.someip_world_steps.specs.declared.step.Step.{Step}
+use Rattle.someip_world_schedule.specs.declared.step.Step.{Step}
 use Rattle.someip_world_setup.specs.declared.setup_node.SetupNode.{SetupNode}
 use Rattle.someip_world_rules.proofs.OriginLemmas.{turn_configured}
-use Rattle.someip_world_exchanges.specs.Openings.{Begins, IsEventKey, Opened, Opens}
-use Rattle.someip_world_exchanges.specs.declared.exchange_key.CallExchange.{CallExchange}
-use Rattle.someip_world_exchanges.specs.declared.exchange_key.EventExchange.{EventExchange}
-use Rattle.someip_world_exchanges.specs.declared.exchange_key.ExchangeKey.{ExchangeKey}
-use Rattle.someip_world_exchanges.specs.declared.exchange_key.ExchangeKey.TheVariants as keys
-use Rattle.someip_world_exchanges.specs.declared.exchange_key.SubscriptionExchange.{SubscriptionExchange}
+use Rattle.someip_world_rules.specs.exchanges.Openings.{Begins, IsEventKey, Opened, Opens}
+use Rattle.someip_world_rules.specs.declared.exchanges.exchange_key.CallExchange.{CallExchange}
+use Rattle.someip_world_rules.specs.declared.exchanges.exchange_key.EventExchange.{EventExchange}
+use Rattle.someip_world_rules.specs.declared.exchanges.exchange_key.ExchangeKey.{ExchangeKey}
+use Rattle.someip_world_rules.specs.declared.exchanges.exchange_key.ExchangeKey.TheVariants as keys
+use Rattle.someip_world_rules.specs.declared.exchanges.exchange_key.SubscriptionExchange.{SubscriptionExchange}
 use Rattle.someip_world_safety.specs.Addresses.{HaveOwnAddresses}
 use Rattle.someip_world_safety.specs.CleanRuns.{CountsOnce, NumbersCall, NumbersEvent, NumbersSubscription, OpensOnce}
 use Rattle.someip_world_safety.specs.OwnOffers.{HaveOwnOffers, HaveOwnPorts}

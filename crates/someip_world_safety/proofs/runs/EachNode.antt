@@ -8,7 +8,7 @@ use Rattle.someip_node_rules.specs.histories.History.{History, start_of}
 use Rattle.someip_node_rules.specs.rules.Inputs.{Input}
 use Rattle.someip_node_rules.specs.rules.Plans.{Work}
 use Rattle.someip_node_rules.specs.steps.Steps.{step}
-use Rattle.someip_world_steps.specs.declared.step.Step.{Step}
+use Rattle.someip_world_schedule.specs.declared.step.Step.{Step}
 use Rattle.someip_world_setup.specs.declared.setup_node.SetupNode.{SetupNode}
 use Rattle.someip_world_rules.specs.Deeds.{Deed, Takes, Restarts, Injects, done_with}
 use Rattle.someip_world_rules.specs.Deliveries.{Does, Restarted}

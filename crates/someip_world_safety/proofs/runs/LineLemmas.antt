@@ -10,7 +10,7 @@ use Rattle.someip_node_rules.specs.histories.History.{History}
 use Rattle.someip_node_rules.specs.steps.Steps.{given_in, step}
 use Rattle.someip_node_rules.proofs.trails.MeaningLemmas.{is_sent}
 use Rattle.someip_node_rules.proofs.lists.MemberLemmas.{all_from_members, all_map, at_member, only_one}
-use Rattle.someip_world_steps.specs.declared.step.Step.{Step}
+use Rattle.someip_world_schedule.specs.declared.step.Step.{Step}
 use Rattle.someip_world_setup.specs.declared.setup_node.SetupNode.{SetupNode}
 use Rattle.someip_world_rules.specs.declared.line.Line.{Line}
 use Rattle.someip_world_rules.specs.declared.line.Told.TheVariants.{Gave, Refused}

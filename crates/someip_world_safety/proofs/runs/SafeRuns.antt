@@ -3,7 +3,7 @@ use Rattle.std.proofs.Common.{◌≡◌, ℕ, arith, suc, List, refl, subst}
 use Rattle.std.specs.Net.Socket.{v4_ip}
 use Rattle.someip_node_rules.specs.rules.Inputs.{Input, Datagram}
 use Rattle.someip_node_rules.specs.declared.config.Config.{Config}
-use Rattle.someip_world_steps.specs.declared.step.Step.{Step}
+use Rattle.someip_world_schedule.specs.declared.step.Step.{Step}
 use Rattle.someip_world_setup.specs.declared.setup_node.SetupNode.{SetupNode}
 use Rattle.someip_world_rules.specs.Announced.{AllFits}
 use Rattle.someip_world_rules.specs.Liars.{HasNoLiars, IsFromLiar}
@@ -11,7 +11,7 @@ use Rattle.someip_world_rules.specs.declared.line.Line.{Line}
 use Rattle.someip_world_rules.specs.declared.reuse.Reuse.{Reuse}
 use Rattle.someip_world_rules.specs.declared.reuse.Reuse.TheVariants.{Broken, Clean}
 use Rattle.someip_world_rules.proofs.InjectionLemmas.{all_honest}
-use Rattle.someip_world_exchanges.specs.CleanReuse.{IsCleanBefore, IsVerdict}
+use Rattle.someip_world_rules.specs.exchanges.CleanReuse.{IsCleanBefore, IsVerdict}
 use Rattle.someip_world_safety.specs.Addresses.{HaveOwnAddresses}
 use Rattle.someip_world_safety.specs.OwnOffers.{HaveOwnOffers}
 use Rattle.someip_world_safety.specs.Safety.{AcknowledgedAreSafe, AnswersAreSafe, EventsAreSafe, HonestAcknowledgedAreSafe, HonestAnswersAreSafe, HonestEventsAreSafe, IsCleanUpTo}

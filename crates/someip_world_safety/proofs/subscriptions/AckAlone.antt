@@ -14,12 +14,12 @@ use Rattle.someip_node_rules.specs.rules.Plans.{Rule, TakesOffer, Wishes}
 use Rattle.someip_node_rules.specs.trails.Trails.{Done, trail_of}
 use Rattle.someip_node_rules.proofs.lists.MemberLemmas.{at_member}
 use Rattle.someip_node_rules.proofs.rules.StepRules.{all_brought}
-use Rattle.someip_world_steps.specs.declared.step.Step.{Step}
+use Rattle.someip_world_schedule.specs.declared.step.Step.{Step}
 use Rattle.someip_world_setup.specs.declared.setup_node.SetupNode.{SetupNode}
 use Rattle.someip_world_rules.specs.Announced.{AllFits}
 use Rattle.someip_world_rules.specs.Datagrams.{SentDatagram}
 use Rattle.someip_world_rules.specs.Deliveries.{Does}
-use Rattle.someip_world_exchanges.proofs.messages.EntryLemmas.{announced_with}
+use Rattle.someip_world_rules.proofs.about_exchanges.messages.EntryLemmas.{announced_with}
 use Rattle.someip_world_safety.specs.Addresses.{AreOffGroup, HaveOwnAddresses}
 use Rattle.someip_world_safety.proofs.subscriptions.AckLemmas.{asked_way}
 use Rattle.someip_world_safety.proofs.subscriptions.AckWays.{AckWay, IsReplied, SubscribeWay, ack_way, replied_beside}

@@ -9,8 +9,8 @@ use Rattle.someip_tables.specs.EndpointOrder.{exact_addresses}
 use Rattle.sd_wire.specs.declared.entry.EventgroupEntry.{EventgroupEntry}
 use Rattle.sd_wire.specs.contents.Kinds.{is_ack, is_subscribe}
 use Rattle.sd_wire.specs.contents.Values.{EntryValue}
-use Rattle.sd_instances.specs.declared.eventgroup.Eventgroup.{Eventgroup}
-use Rattle.sd_subscribers.specs.SubscriberTables.{subscription_at}
+use Rattle.sd_core.specs.declared.eventgroup.Eventgroup.{Eventgroup}
+use Rattle.sd_core.specs.SubscriberTables.{subscription_at}
 use Rattle.someip_node_rules.specs.declared.config.Config.{Config}
 use Rattle.someip_node_rules.specs.trails.Bringing.{Brings, WasBrought}
 use Rattle.someip_node_rules.specs.rules.Handling.{same_address}
@@ -21,7 +21,7 @@ use Rattle.someip_node_rules.specs.rules.ServerSubscribing.{subscribe_in}
 use Rattle.someip_node_rules.specs.trails.Trails.{trail_of}
 use Rattle.someip_node_rules.proofs.lists.MemberLemmas.{at_member}
 use Rattle.someip_node_rules.proofs.rules.StepRules.{all_brought}
-use Rattle.someip_world_steps.specs.declared.step.Step.{Step}
+use Rattle.someip_world_schedule.specs.declared.step.Step.{Step}
 use Rattle.someip_world_setup.specs.declared.setup_node.SetupNode.{SetupNode}
 use Rattle.someip_world_rules.specs.Announced.{AllFits}
 use Rattle.someip_world_rules.specs.Datagrams.{SentDatagram}
@@ -30,11 +30,11 @@ use Rattle.someip_world_rules.specs.Turns.{Turn}
 use Rattle.someip_world_rules.specs.Deliveries.{Delivers, Does}
 use Rattle.someip_world_rules.specs.Liars.{IsHonest}
 use Rattle.someip_world_rules.proofs.OriginLemmas.{turn_configured}
-use Rattle.someip_world_exchanges.specs.Belonging.{Answered, Belongs}
-use Rattle.someip_world_exchanges.specs.Namings.{named_by_entries, named_by_head, named_by_kind, named_in, of_subscription}
-use Rattle.someip_world_exchanges.specs.declared.naming.Side.TheVariants.{Answerer, Opener}
-use Rattle.someip_world_exchanges.specs.declared.naming.Naming.{Naming}
-use Rattle.someip_world_exchanges.proofs.runs.Among.{among_all, is_among}
+use Rattle.someip_world_rules.specs.exchanges.Belonging.{Answered, Belongs}
+use Rattle.someip_world_rules.specs.exchanges.Namings.{named_by_entries, named_by_head, named_by_kind, named_in, of_subscription}
+use Rattle.someip_world_rules.specs.declared.exchanges.naming.Side.TheVariants.{Answerer, Opener}
+use Rattle.someip_world_rules.specs.declared.exchanges.naming.Naming.{Naming}
+use Rattle.someip_world_rules.proofs.about_exchanges.runs.Among.{among_all, is_among}
 use Rattle.someip_world_safety.specs.Addresses.{AreOffGroup, HaveOwnAddresses, IsOfNode}
 use Rattle.someip_world_safety.proofs.subscriptions.AckWays.{AckWay, IsReplied, SubscribeWay, ack_way, way_back}
 use Rattle.someip_world_safety.proofs.subscriptions.EntryInputs.{ack_came}

@@ -21,7 +21,7 @@ use Rattle.someip_node_rules.specs.trails.SendingRules.{IsAnnounced}
 use Rattle.someip_node_rules.specs.trails.Trails.{Done}
 use Rattle.someip_node_rules.proofs.lists.MemberLemmas.{at_member}
 use Rattle.someip_node_rules.proofs.rules.StepRules.{config_there}
-use Rattle.someip_world_steps.specs.declared.step.Step.{Step}
+use Rattle.someip_world_schedule.specs.declared.step.Step.{Step}
 use Rattle.someip_world_setup.specs.declared.setup_node.SetupNode.{SetupNode}
 use Rattle.someip_world_rules.specs.Announced.{AllFits}
 use Rattle.someip_world_rules.specs.Datagrams.{SentDatagram}
@@ -31,7 +31,7 @@ use Rattle.someip_world_rules.specs.Deliveries.{Delivers, Does, Sends}
 use Rattle.someip_world_rules.specs.Liars.{IsHonest}
 use Rattle.someip_world_rules.proofs.Deliverings.{delivered_in}
 use Rattle.someip_world_rules.proofs.InjectionLemmas.{sent_honestly}
-use Rattle.someip_world_exchanges.proofs.messages.EntryLemmas.{announced_with}
+use Rattle.someip_world_rules.proofs.about_exchanges.messages.EntryLemmas.{announced_with}
 use Rattle.someip_world_safety.proofs.subscriptions.AnsweredEntries.{AnswersAsked, answers_asked}
 use Rattle.someip_world_safety.proofs.subscriptions.SentEntries.{Asks, Back, IsGroupEntry, ToPeer, announces_no_group, is_ack_kind, to_peer}
 

@@ -5,12 +5,12 @@ use Rattle.std.proofs.lemmas.Bool.{ltb-false, ltb-true}
 use Rattle.std.specs.Net.Socket.{v4_ip}
 use Rattle.std.specs.declared.net.ipv4_addr.Ipv4Addr.{Ipv4Addr}
 use Rattle.sd_wire.specs.declared.entry.EventgroupEntry.{EventgroupEntry}
-use Rattle.sd_instances.specs.declared.eventgroup.Eventgroup.{Eventgroup}
-use Rattle.sd_wishes.specs.declared.wish.Acked.TheVariants as acked_as
-use Rattle.sd_wishes.specs.declared.wish.Beginning.{Beginning}
-use Rattle.sd_wishes.specs.declared.wish.Stage.TheVariants.{Begun}
-use Rattle.sd_wishes.specs.declared.wish.SubscribeAnswer.{SubscribeAnswer}
-use Rattle.sd_wishes.specs.Wishes.{is_subscribed, told_by_ack}
+use Rattle.sd_core.specs.declared.eventgroup.Eventgroup.{Eventgroup}
+use Rattle.sd_core.specs.declared.wish.Acked.TheVariants as acked_as
+use Rattle.sd_core.specs.declared.wish.Beginning.{Beginning}
+use Rattle.sd_core.specs.declared.wish.Stage.TheVariants.{Begun}
+use Rattle.sd_core.specs.declared.wish.SubscribeAnswer.{SubscribeAnswer}
+use Rattle.sd_core.specs.Wishes.{is_subscribed, told_by_ack}
 use Rattle.someip_node_rules.specs.declared.config.Config.{Config}
 use Rattle.someip_node_rules.specs.declared.output.Output.TheVariants.{Subscribed}
 use Rattle.someip_node_rules.specs.trails.Bringing.{Brings}
@@ -27,16 +27,16 @@ use Rattle.someip_node_rules.specs.histories.WishQuestions.{course_at, is_answer
 use Rattle.someip_node_rules.proofs.trails.MeaningLemmas.{all_given, outputs_written, told_from_output}
 use Rattle.someip_node_rules.proofs.lists.MemberLemmas.{at_member}
 use Rattle.someip_node_rules.proofs.histories.WishLives.{get-wish}
-use Rattle.someip_world_steps.specs.declared.step.Step.{Step}
+use Rattle.someip_world_schedule.specs.declared.step.Step.{Step}
 use Rattle.someip_world_setup.specs.declared.setup_node.SetupNode.{SetupNode}
 use Rattle.someip_world_rules.specs.Deliveries.{Does}
 use Rattle.someip_world_rules.specs.Liars.{IsFromLiar, IsHonest}
 use Rattle.someip_world_rules.proofs.Fronts.{within}
 use Rattle.someip_world_rules.proofs.OriginLemmas.{turn_configured}
-use Rattle.someip_world_exchanges.specs.CleanReuse.{IsCleanBefore, Old}
-use Rattle.someip_world_exchanges.specs.Namings.{of_subscription}
-use Rattle.someip_world_exchanges.specs.Openings.{Opened}
-use Rattle.someip_world_exchanges.specs.declared.exchange_key.ExchangeKey.{ExchangeKey}
+use Rattle.someip_world_rules.specs.exchanges.CleanReuse.{IsCleanBefore, Old}
+use Rattle.someip_world_rules.specs.exchanges.Namings.{of_subscription}
+use Rattle.someip_world_rules.specs.exchanges.Openings.{Opened}
+use Rattle.someip_world_rules.specs.declared.exchanges.exchange_key.ExchangeKey.{ExchangeKey}
 use Rattle.someip_world_safety.specs.Addresses.{HaveOwnAddresses}
 use Rattle.someip_world_safety.specs.Safety.{HonestAcknowledgedAreSafe}
 use Rattle.someip_world_safety.specs.Subscriptions.{IsSafeSubscription, IsSafelyAcknowledged}

@@ -27,8 +27,8 @@ use Rattle.someip_node_rules.specs.trails.SendingRules.{IsAnnounced}
 use Rattle.someip_node_rules.specs.trails.Trails.{Done, trail_of}
 use Rattle.someip_node_laws.proofs.rules.AnsweringLemmas.{answers_subscribe}
 use Rattle.someip_node_rules.proofs.rules.StepRules.{config_there}
-use Rattle.someip_world_steps.specs.declared.step.Step.{Step}
-use Rattle.someip_world_steps.specs.declared.step.Step.TheVariants as steps
+use Rattle.someip_world_schedule.specs.declared.step.Step.{Step}
+use Rattle.someip_world_schedule.specs.declared.step.Step.TheVariants as steps
 use Rattle.someip_world_setup.specs.declared.setup_node.SetupNode.{SetupNode}
 use Rattle.someip_world_rules.specs.Announced.{AllFits}
 use Rattle.someip_world_rules.specs.Datagrams.{SentDatagram}
@@ -40,8 +40,8 @@ use Rattle.someip_world_rules.specs.Turns.{Turn}
 use Rattle.someip_world_rules.proofs.Deliverings.{delivered_in, one_turn}
 use Rattle.someip_world_rules.proofs.InjectionLemmas.{sent_honestly}
 use Rattle.someip_world_rules.proofs.OriginLemmas.{turn_configured}
-use Rattle.someip_world_exchanges.specs.Namings.{of_subscription}
-use Rattle.someip_world_exchanges.proofs.messages.EntryLemmas.{announced_with}
+use Rattle.someip_world_rules.specs.exchanges.Namings.{of_subscription}
+use Rattle.someip_world_rules.proofs.about_exchanges.messages.EntryLemmas.{announced_with}
 use Rattle.someip_world_safety.specs.Addresses.{AreOffGroup, IsOfNode}
 use Rattle.someip_world_safety.proofs.networks.PeerLemmas.{replies_go_to_nodes}
 use Rattle.someip_world_safety.proofs.subscriptions.SentEntries.{Asks, Back, IsGroupEntry, ToPeer, announces_no_group, is_subscribe_kind, to_peer}

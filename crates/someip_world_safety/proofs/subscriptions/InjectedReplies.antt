@@ -12,18 +12,18 @@ use Rattle.someip_node_rules.specs.forms.Outputs as outputs
 use Rattle.someip_node_rules.specs.forms.Outputs.{Given}
 use Rattle.someip_node_rules.specs.rules.Plans.{RepliesTo}
 use Rattle.someip_node_rules.proofs.lists.MemberLemmas.{at_member}
-use Rattle.someip_world_steps.specs.declared.step.Step.{Step}
+use Rattle.someip_world_schedule.specs.declared.step.Step.{Step}
 use Rattle.someip_world_setup.specs.declared.setup_node.SetupNode.{SetupNode}
 use Rattle.someip_world_rules.specs.Datagrams.{SentDatagram}
 use Rattle.someip_world_rules.specs.Deliveries.{GoesOut, IsInjected, Sends}
 use Rattle.someip_world_rules.specs.Liars.{IsOfLiar}
 use Rattle.someip_world_rules.proofs.InjectionLemmas.{apart, of_liar}
 use Rattle.someip_world_rules.proofs.Sendings.{sent_before}
-use Rattle.someip_world_exchanges.specs.Belonging.{Answered, Belongs, IsMeant}
-use Rattle.someip_world_exchanges.specs.Namings.{named_in}
-use Rattle.someip_world_exchanges.specs.declared.exchange_key.ExchangeKey.{ExchangeKey}
-use Rattle.someip_world_exchanges.specs.declared.naming.Side.{Side}
-use Rattle.someip_world_exchanges.specs.declared.naming.Side.TheVariants.{Answerer, Opener}
+use Rattle.someip_world_rules.specs.exchanges.Belonging.{Answered, Belongs, IsMeant}
+use Rattle.someip_world_rules.specs.exchanges.Namings.{named_in}
+use Rattle.someip_world_rules.specs.declared.exchanges.exchange_key.ExchangeKey.{ExchangeKey}
+use Rattle.someip_world_rules.specs.declared.exchanges.naming.Side.{Side}
+use Rattle.someip_world_rules.specs.declared.exchanges.naming.Side.TheVariants.{Answerer, Opener}
 use Rattle.someip_world_safety.specs.Addresses.{HaveOwnAddresses}
 use Rattle.someip_world_safety.proofs.runs.CleanLemmas.{NamedBy, named_by, says_side}
 use Rattle.someip_world_safety.proofs.subscriptions.EntryOpenings.{goes_to_peer}

@@ -3,21 +3,21 @@ use Rattle.std.proofs.Common.{◌≡◌, ℕ, List, ap, subst, ◌∙◌}
 use Rattle.std.specs.Net.Socket.{v4_ip}
 use Rattle.std.specs.declared.net.ipv4_addr.Ipv4Addr.{Ipv4Addr}
 use Rattle.std.specs.declared.net.socket_addr.SocketAddrV4.{SocketAddrV4}
-use Rattle.sd_instances.specs.declared.eventgroup.Eventgroup.{Eventgroup}
+use Rattle.sd_core.specs.declared.eventgroup.Eventgroup.{Eventgroup}
 use Rattle.someip_node_rules.specs.declared.config.Config.{Config}
 use Rattle.someip_node_rules.specs.histories.History.{History}
 use Rattle.someip_node_rules.specs.histories.Items as items
 use Rattle.someip_node_rules.specs.histories.Items.{Item}
 use Rattle.someip_node_rules.specs.forms.Setups.{client_endpoint}
 use Rattle.someip_node_rules.proofs.rules.StepRules.{config_there}
-use Rattle.someip_world_steps.specs.declared.step.Step.{Step}
+use Rattle.someip_world_schedule.specs.declared.step.Step.{Step}
 use Rattle.someip_world_setup.specs.declared.setup_node.SetupNode.{SetupNode}
 use Rattle.someip_world_rules.specs.Liars.{IsOfLiar}
-use Rattle.someip_world_exchanges.specs.Namings.{of_call, of_subscription}
-use Rattle.someip_world_exchanges.specs.Openings.{Opened, Opens}
-use Rattle.someip_world_exchanges.specs.declared.exchange_key.CallExchange.{CallExchange}
-use Rattle.someip_world_exchanges.specs.declared.exchange_key.ExchangeKey.{ExchangeKey}
-use Rattle.someip_world_exchanges.specs.declared.exchange_key.ExchangeKey.TheVariants as keys
+use Rattle.someip_world_rules.specs.exchanges.Namings.{of_call, of_subscription}
+use Rattle.someip_world_rules.specs.exchanges.Openings.{Opened, Opens}
+use Rattle.someip_world_rules.specs.declared.exchanges.exchange_key.CallExchange.{CallExchange}
+use Rattle.someip_world_rules.specs.declared.exchanges.exchange_key.ExchangeKey.{ExchangeKey}
+use Rattle.someip_world_rules.specs.declared.exchanges.exchange_key.ExchangeKey.TheVariants as keys
 use Rattle.someip_world_safety.specs.Addresses.{HaveOwnAddresses}
 use Rattle.someip_world_safety.proofs.networks.LiarLemmas.{does_honestly}
 use Rattle.someip_world_safety.proofs.subscriptions.RuleItems.{opens_more}

@@ -11,14 +11,14 @@ use Rattle.std.specs.declared.net.socket_addr.SocketAddrV4.{SocketAddrV4}
 use Rattle.someip_tables.proofs.Entries.{same_by_test}
 use Rattle.someip_tables.specs.EndpointOrder.{exact_addresses}
 use Rattle.sd_wire.specs.declared.entry.EventgroupEntry.{EventgroupEntry}
-use Rattle.sd_instances.specs.declared.eventgroup.Eventgroup.{Eventgroup}
+use Rattle.sd_core.specs.declared.eventgroup.Eventgroup.{Eventgroup}
 use Rattle.sd_core.specs.declared.received.ReceivedOffer.{ReceivedOffer}
 use Rattle.sd_core.specs.declared.received.Uncounted.{Uncounted}
 use Rattle.sd_core.specs.declared.received.Uncounted.TheVariants as left_out
-use Rattle.sd_wishes.specs.declared.wish.Beginning.{Beginning}
-use Rattle.sd_wishes.specs.declared.wish.SubscribeAnswer.{SubscribeAnswer}
+use Rattle.sd_core.specs.declared.wish.Beginning.{Beginning}
+use Rattle.sd_core.specs.declared.wish.SubscribeAnswer.{SubscribeAnswer}
 use Rattle.sd_core.specs.SeekTables.{uncounted}
-use Rattle.sd_wishes.specs.Wishes.{is_over, is_with}
+use Rattle.sd_core.specs.Wishes.{is_over, is_with}
 use Rattle.someip_node_rules.specs.trails.Bringing.{WasBrought}
 use Rattle.someip_node_rules.specs.histories.History.{History, answers_of, met}
 use Rattle.someip_node_rules.specs.rules.Inputs.{Input}
@@ -35,11 +35,11 @@ use Rattle.someip_node_rules.specs.histories.WishQuestions.{course_at, is_answer
 use Rattle.someip_node_rules.proofs.trails.MeetingLemmas.{rule_noted, state_met}
 use Rattle.someip_node_rules.proofs.lists.MemberLemmas.{all_weaker, at_member}
 use Rattle.someip_node_rules.proofs.rules.StepRules.{all_brought, config_there}
-use Rattle.someip_world_exchanges.specs.Namings.{of_subscription}
-use Rattle.someip_world_exchanges.specs.declared.exchange_key.ExchangeKey.TheVariants as keys
-use Rattle.someip_world_exchanges.specs.declared.exchange_key.SubscriptionExchange.{SubscriptionExchange}
-use Rattle.someip_world_exchanges.specs.Openings.{Opens, OpensBy}
-use Rattle.someip_world_exchanges.proofs.beginnings.CourseLemmas.{begun_grows_on, is_tame}
+use Rattle.someip_world_rules.specs.exchanges.Namings.{of_subscription}
+use Rattle.someip_world_rules.specs.declared.exchanges.exchange_key.ExchangeKey.TheVariants as keys
+use Rattle.someip_world_rules.specs.declared.exchanges.exchange_key.SubscriptionExchange.{SubscriptionExchange}
+use Rattle.someip_world_rules.specs.exchanges.Openings.{Opens, OpensBy}
+use Rattle.someip_world_rules.proofs.about_exchanges.beginnings.CourseLemmas.{begun_grows_on, is_tame}
 
 -- ---- the items of a rule: none that begins or acknowledges, or one alone
 

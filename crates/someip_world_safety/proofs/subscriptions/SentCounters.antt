@@ -13,18 +13,18 @@ use Rattle.someip_tables.specs.Distinct.{are_distinct}
 use Rattle.someip_tables.specs.EndpointOrder.{exact_addresses}
 use Rattle.someip_tables.proofs.Entries.{entries_distinct, none_found, own_test, same_by_test}
 use Rattle.sd_wire.specs.contents.Values.{EntryValue}
-use Rattle.sd_instances.specs.declared.eventgroup.Eventgroup.{Eventgroup}
-use Rattle.sd_instances.specs.declared.keys.InstanceId.{InstanceId}
+use Rattle.sd_core.specs.declared.eventgroup.Eventgroup.{Eventgroup}
+use Rattle.sd_core.specs.declared.keys.InstanceId.{InstanceId}
 use Rattle.sd_core.specs.declared.received.ReceivedOffer.{ReceivedOffer}
-use Rattle.sd_wishes.specs.declared.wish.Beginning.{Beginning}
-use Rattle.sd_wishes.specs.declared.wish.OutgoingSubscribe.{OutgoingSubscribe}
-use Rattle.sd_wishes.specs.declared.wish.Stage.TheVariants.{Begun}
-use Rattle.sd_wishes.specs.declared.wish.Wish.{Wish}
-use Rattle.sd_instances.specs.EventgroupOrder.{eventgroups_total, exact_eventgroups}
-use Rattle.sd_instances.specs.Eventgroups.{eventgroup_cmp}
-use Rattle.sd_instances.specs.Keys.{instance_cmp}
+use Rattle.sd_core.specs.declared.wish.Beginning.{Beginning}
+use Rattle.sd_core.specs.declared.wish.OutgoingSubscribe.{OutgoingSubscribe}
+use Rattle.sd_core.specs.declared.wish.Stage.TheVariants.{Begun}
+use Rattle.sd_core.specs.declared.wish.Wish.{Wish}
+use Rattle.sd_core.specs.EventgroupOrder.{eventgroups_total, exact_eventgroups}
+use Rattle.sd_core.specs.Eventgroups.{eventgroup_cmp}
+use Rattle.sd_core.specs.Keys.{instance_cmp}
 use Rattle.sd_core.specs.SeekTables.{uncounted}
-use Rattle.sd_wishes.specs.Wishes.{counter_in, is_over, is_renewed_by, is_wished, is_with, stands_with, subscribe_of, subscribing, wish_of}
+use Rattle.sd_core.specs.Wishes.{counter_in, is_over, is_renewed_by, is_wished, is_with, stands_with, subscribe_of, subscribing, wish_of}
 use Rattle.sd_core.specs.WishTables.{subscribes}
 use Rattle.someip_node_rules.specs.histories.History.{History, answers_of}
 use Rattle.someip_node_rules.specs.histories.Items as items
@@ -36,8 +36,8 @@ use Rattle.someip_node_rules.specs.histories.Tables.{Tables, known_peer}
 use Rattle.someip_node_rules.specs.histories.WishQuestions.{Course, begins_at, course_at, goes_on, is_wished_at, known_peer_at, stage_of, subscribes_at, subscribes_if_known, wish_at, wishes_in}
 use Rattle.someip_node_rules.proofs.lists.MemberLemmas.{all_weaker, at_member}
 use Rattle.someip_node_rules.proofs.histories.WishLives.{get-wish}
-use Rattle.someip_world_exchanges.proofs.beginnings.RuleBeginnings.{peer_known}
-use Rattle.someip_world_exchanges.proofs.beginnings.SubscribesLemmas.{counter_of, next_counter}
+use Rattle.someip_world_rules.proofs.about_exchanges.beginnings.RuleBeginnings.{peer_known}
+use Rattle.someip_world_rules.proofs.about_exchanges.beginnings.SubscribesLemmas.{counter_of, next_counter}
 
 -- ---- the subscription that stands as a Subscribe goes out
 

@@ -3,8 +3,8 @@ use Rattle.std.proofs.Common.{◌≡◌, ◌⊎◌, inl, inr, ℕ, suc, ◌+◌,
 use Rattle.std.proofs.lemmas.Bool.{eqb-true, eqb-false}
 use Rattle.std.specs.declared.net.ipv4_addr.Ipv4Addr.{Ipv4Addr}
 use Rattle.std.specs.declared.net.socket_addr.SocketAddrV4.{SocketAddrV4}
-use Rattle.sd_instances.specs.declared.eventgroup.Eventgroup.{Eventgroup}
-use Rattle.sd_wishes.specs.declared.wish.Beginning.{Beginning}
+use Rattle.sd_core.specs.declared.eventgroup.Eventgroup.{Eventgroup}
+use Rattle.sd_core.specs.declared.wish.Beginning.{Beginning}
 use Rattle.someip_node_rules.specs.declared.config.Config.{Config}
 use Rattle.someip_node_rules.specs.declared.error.NodeError.{NodeError}
 use Rattle.someip_node_rules.specs.histories.History.{History}
@@ -15,7 +15,7 @@ use Rattle.someip_node_rules.specs.trails.Trails.{after, met_by, trail_of}
 use Rattle.someip_node_rules.specs.histories.WishQuestions.{course_at}
 use Rattle.someip_node_rules.proofs.trails.MeetingLemmas.{state_met}
 use Rattle.someip_node_rules.proofs.rules.StepRules.{config_kept}
-use Rattle.someip_world_steps.specs.declared.step.Step.{Step}
+use Rattle.someip_world_schedule.specs.declared.step.Step.{Step}
 use Rattle.someip_world_setup.specs.declared.setup_node.SetupNode.{SetupNode}
 use Rattle.someip_world_rules.specs.Deeds.{Deed, Takes, Restarts, Injects, done_with}
 use Rattle.someip_world_rules.specs.Runs.{World, history_after, world_after, world_of}
@@ -25,10 +25,10 @@ use Rattle.someip_world_rules.proofs.OriginLemmas.{all_origins, begun_so, turn_c
 use Rattle.someip_world_rules.proofs.Lives.{below_next, lives_next, not_restarted}
 use Rattle.someip_world_rules.proofs.Deliverings.{one_turn}
 use Rattle.someip_world_rules.proofs.Fronts.{get_set_other, get_set_same, on_the_way, within}
-use Rattle.someip_world_exchanges.specs.Namings.{of_subscription}
-use Rattle.someip_world_exchanges.specs.declared.exchange_key.ExchangeKey.{ExchangeKey}
-use Rattle.someip_world_exchanges.specs.Openings.{Opened}
-use Rattle.someip_world_exchanges.specs.CleanReuse.{IsCleanBefore}
+use Rattle.someip_world_rules.specs.exchanges.Namings.{of_subscription}
+use Rattle.someip_world_rules.specs.declared.exchanges.exchange_key.ExchangeKey.{ExchangeKey}
+use Rattle.someip_world_rules.specs.exchanges.Openings.{Opened}
+use Rattle.someip_world_rules.specs.exchanges.CleanReuse.{IsCleanBefore}
 use Rattle.someip_world_safety.specs.Addresses.{HaveOwnAddresses}
 use Rattle.someip_world_safety.specs.Subscriptions.{HonestSubscriptionsAreSafe, WasAccepted}
 use Rattle.someip_world_safety.proofs.subscriptions.RuleItems.{opens_more}

@@ -9,11 +9,11 @@ use Rattle.std.specs.declared.net.socket_addr.SocketAddrV4.{SocketAddrV4}
 use Rattle.someip_tables.proofs.Entries.{same_by_test}
 use Rattle.someip_tables.specs.declared.deadline.Deadline.{Deadline}
 use Rattle.sd_wire.specs.declared.entry.EventgroupEntry.{EventgroupEntry}
-use Rattle.sd_instances.specs.declared.eventgroup.Eventgroup.{Eventgroup}
+use Rattle.sd_core.specs.declared.eventgroup.Eventgroup.{Eventgroup}
 use Rattle.sd_core.specs.declared.received.ReceivedOffer.{ReceivedOffer}
-use Rattle.sd_wishes.specs.declared.wish.Beginning.{Beginning}
-use Rattle.sd_wishes.specs.declared.wish.SubscribeAnswer.{SubscribeAnswer}
-use Rattle.sd_instances.specs.EventgroupOrder.{exact_eventgroups}
+use Rattle.sd_core.specs.declared.wish.Beginning.{Beginning}
+use Rattle.sd_core.specs.declared.wish.SubscribeAnswer.{SubscribeAnswer}
+use Rattle.sd_core.specs.EventgroupOrder.{exact_eventgroups}
 use Rattle.someip_node_rules.specs.declared.config.Config.{Config}
 use Rattle.someip_node_rules.specs.histories.History.{History, met}
 use Rattle.someip_node_rules.specs.rules.Inputs.{plan_of}
@@ -28,18 +28,18 @@ use Rattle.someip_node_rules.specs.histories.WishQuestions.{course_at, is_answer
 use Rattle.someip_node_rules.proofs.lists.MemberLemmas.{at_member}
 use Rattle.someip_node_rules.proofs.rules.PlanLemmas.{before_each}
 use Rattle.someip_node_rules.proofs.rules.StepRules.{config_there}
-use Rattle.someip_world_steps.specs.declared.step.Step.{Step}
+use Rattle.someip_world_schedule.specs.declared.step.Step.{Step}
 use Rattle.someip_world_setup.specs.declared.setup_node.SetupNode.{SetupNode}
 use Rattle.someip_world_rules.specs.Datagrams.{SentDatagram}
 use Rattle.someip_world_rules.specs.Runs.{World}
 use Rattle.someip_world_rules.specs.Deliveries.{Delivers, Does, LivesOn}
 use Rattle.someip_world_rules.specs.Liars.{IsHonest}
-use Rattle.someip_world_exchanges.specs.Belonging.{Belongs}
-use Rattle.someip_world_exchanges.specs.Namings.{of_subscription}
-use Rattle.someip_world_exchanges.specs.declared.exchange_key.ExchangeKey.{ExchangeKey}
-use Rattle.someip_world_exchanges.specs.Openings.{Begins, Opened, Opens}
-use Rattle.someip_world_exchanges.specs.CleanReuse.{IsCleanBefore, Old}
-use Rattle.someip_world_exchanges.proofs.beginnings.CourseLemmas.{BeginsAt, GoesOn, acked_so, offered_so, tame_goes_on, wished_so}
+use Rattle.someip_world_rules.specs.exchanges.Belonging.{Belongs}
+use Rattle.someip_world_rules.specs.exchanges.Namings.{of_subscription}
+use Rattle.someip_world_rules.specs.declared.exchanges.exchange_key.ExchangeKey.{ExchangeKey}
+use Rattle.someip_world_rules.specs.exchanges.Openings.{Begins, Opened, Opens}
+use Rattle.someip_world_rules.specs.exchanges.CleanReuse.{IsCleanBefore, Old}
+use Rattle.someip_world_rules.proofs.about_exchanges.beginnings.CourseLemmas.{BeginsAt, GoesOn, acked_so, offered_so, tame_goes_on, wished_so}
 use Rattle.someip_world_safety.specs.Subscriptions.{WasAccepted}
 use Rattle.someip_world_safety.proofs.subscriptions.RuleItems.{AWish, AllTame, AnAck, AnOffer, Kinds, MayBegin, Tame, after_more, answered_parts, kinds_of}
 

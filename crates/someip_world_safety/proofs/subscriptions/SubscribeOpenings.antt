@@ -11,9 +11,9 @@ use Rattle.sd_wire.specs.declared.entry.EntryHead.TheVariants as heads
 use Rattle.sd_wire.specs.declared.entry.EventgroupEntry.{EventgroupEntry}
 use Rattle.sd_wire.specs.declared.entry.EventgroupKind.TheVariants as group_kinds
 use Rattle.sd_wire.specs.contents.Values.{EntryValue}
-use Rattle.sd_instances.specs.declared.eventgroup.Eventgroup.{Eventgroup}
-use Rattle.sd_wishes.specs.declared.wish.OutgoingSubscribe.{OutgoingSubscribe}
-use Rattle.sd_wishes.specs.Wishes.{counter_in, sent_at_once, subscribing, wish_of}
+use Rattle.sd_core.specs.declared.eventgroup.Eventgroup.{Eventgroup}
+use Rattle.sd_core.specs.declared.wish.OutgoingSubscribe.{OutgoingSubscribe}
+use Rattle.sd_core.specs.Wishes.{counter_in, sent_at_once, subscribing, wish_of}
 use Rattle.someip_node_rules.specs.declared.config.Config.{Config}
 use Rattle.someip_node_rules.specs.declared.config.WantedService.{WantedService}
 use Rattle.someip_node_rules.specs.trails.Bringing.{Brings, OfEntry, RepliesToEntry}
@@ -35,10 +35,10 @@ use Rattle.someip_node_rules.specs.trails.Trails.{Done, after, trail_of}
 use Rattle.someip_node_rules.specs.histories.WishQuestions.{course_at, wish_at}
 use Rattle.someip_node_rules.proofs.lists.MemberLemmas.{at_member}
 use Rattle.someip_node_rules.proofs.histories.WishLives.{get-wish}
-use Rattle.someip_world_steps.specs.declared.step.Step.{Step}
+use Rattle.someip_world_schedule.specs.declared.step.Step.{Step}
 use Rattle.someip_world_setup.specs.declared.setup_node.SetupNode.{SetupNode}
 use Rattle.someip_world_rules.specs.Deliveries.{Does}
-use Rattle.someip_world_exchanges.specs.Namings.{of_subscription}
+use Rattle.someip_world_rules.specs.exchanges.Namings.{of_subscription}
 use Rattle.someip_world_safety.proofs.networks.KnownPeers.{standing_begun}
 use Rattle.someip_world_safety.proofs.subscriptions.SentCounters.{StandsWith, counted_items, is_counted, offered_course, stands_counted, wished_course}
 use Rattle.someip_world_safety.proofs.subscriptions.SentEntries.{IsGroupEntry}

@@ -4,23 +4,23 @@ use Rattle.std.specs.List.{list_any}
 use Rattle.std.specs.Option.{option_map_or}
 use Rattle.std.proofs.lemmas.Bool.{or_cases, or_left, or_right}
 use Rattle.someip_wire.specs.Spelling.{MessageValue}
-use Rattle.someip_segments.specs.Sent.{is_long}
+use Rattle.someip_reassembly.specs.Sent.{is_long}
 use Rattle.someip_reassembly.specs.declared.key.ReassemblyKey.{ReassemblyKey}
 use Rattle.someip_node_rules.specs.forms.GoodConfigs.{is_good}
 use Rattle.someip_node_rules.specs.forms.Outputs as outputs
 use Rattle.someip_node_rules.specs.histories.Questions.{clock_at}
 use Rattle.someip_node_rules.specs.declared.config.Config.{Config}
-use Rattle.someip_world_steps.specs.declared.step.Step.{Step}
-use Rattle.someip_world_steps.specs.declared.step.Step.TheVariants as steps
+use Rattle.someip_world_schedule.specs.declared.step.Step.{Step}
+use Rattle.someip_world_schedule.specs.declared.step.Step.TheVariants as steps
 use Rattle.someip_world_setup.specs.declared.setup_node.SetupNode.{SetupNode}
 use Rattle.someip_world_rules.specs.Announced.{AllFits}
 use Rattle.someip_world_rules.specs.Datagrams.{SentDatagram}
 use Rattle.someip_world_rules.specs.Turns.{Turn}
-use Rattle.someip_world_exchanges.specs.Belonging.{Belongs}
-use Rattle.someip_world_exchanges.specs.CleanReuse.{Arrives, Breaks, IsCleanBefore, Mixed, Old, message_key}
+use Rattle.someip_world_rules.specs.exchanges.Belonging.{Belongs}
+use Rattle.someip_world_rules.specs.exchanges.CleanReuse.{Arrives, Breaks, IsCleanBefore, Mixed, Old, message_key}
 use Rattle.someip_world_rules.specs.Deliveries.{Delivers, LivesOn, Sends}
-use Rattle.someip_world_exchanges.specs.Openings.{IsTaken}
-use Rattle.someip_world_exchanges.specs.declared.exchange_key.ExchangeKey.{ExchangeKey}
+use Rattle.someip_world_rules.specs.exchanges.Openings.{IsTaken}
+use Rattle.someip_world_rules.specs.declared.exchanges.exchange_key.ExchangeKey.{ExchangeKey}
 use Rattle.someip_world_rules.proofs.Deliverings.{one_turn}
 use Rattle.someip_world_verdict.specs.Books.{Book, LifeKept, NoteKept, breaks_at, is_breach, is_mixed, is_old, arrival_at, note_at}
 use Rattle.someip_world_verdict.proofs.noting.DeliveryNotes.{delivery_kept, life_kept, note_delivered}

@@ -7,18 +7,18 @@ use Rattle.someip_node_rules.specs.forms.GoodConfigs.{is_good}
 use Rattle.someip_node_rules.specs.rules.Plans.{Rule}
 use Rattle.someip_node_rules.specs.declared.config.Config.{Config}
 use Rattle.someip_node_rules.proofs.lists.MemberLemmas.{all_from_members, all_map, at_member}
-use Rattle.someip_world_steps.specs.declared.step.Step.{Step}
+use Rattle.someip_world_schedule.specs.declared.step.Step.{Step}
 use Rattle.someip_world_setup.specs.declared.setup_node.SetupNode.{SetupNode}
 use Rattle.someip_world_rules.specs.Announced.{AllFits}
 use Rattle.someip_world_rules.specs.Datagrams.{SentDatagram}
-use Rattle.someip_world_exchanges.specs.Belonging.{Belongs, IsMeant}
-use Rattle.someip_world_exchanges.specs.CleanReuse.{DeliversOld}
+use Rattle.someip_world_rules.specs.exchanges.Belonging.{Belongs, IsMeant}
+use Rattle.someip_world_rules.specs.exchanges.CleanReuse.{DeliversOld}
 use Rattle.someip_world_rules.specs.Deliveries.{Delivers, GoesOut, Sends}
-use Rattle.someip_world_exchanges.specs.Openings.{IsTaken}
-use Rattle.someip_world_exchanges.specs.declared.exchange_key.ExchangeKey.{ExchangeKey}
-use Rattle.someip_world_exchanges.specs.declared.naming.Naming.{Naming}
-use Rattle.someip_world_exchanges.specs.declared.naming.Side.{Side}
-use Rattle.someip_world_exchanges.specs.declared.naming.Side.TheVariants.{Answerer, Opener}
+use Rattle.someip_world_rules.specs.exchanges.Openings.{IsTaken}
+use Rattle.someip_world_rules.specs.declared.exchanges.exchange_key.ExchangeKey.{ExchangeKey}
+use Rattle.someip_world_rules.specs.declared.exchanges.naming.Naming.{Naming}
+use Rattle.someip_world_rules.specs.declared.exchanges.naming.Side.{Side}
+use Rattle.someip_world_rules.specs.declared.exchanges.naming.Side.TheVariants.{Answerer, Opener}
 use Rattle.someip_world_rules.proofs.Sendings.{sent_before}
 use Rattle.someip_world_verdict.specs.Books.{NoteKept, PayloadNumbers, TakenKeys, is_after, is_old, since_of, taken_at}
 use Rattle.someip_world_verdict.specs.Contents.{said_in}

@@ -13,14 +13,14 @@ use Rattle.sd_wire.specs.decoding.Program.{options_within}
 use Rattle.someip_rpc.specs.declared.call.CallKind.TheVariants as kinds
 use Rattle.someip_rpc.specs.declared.request.Reply.TheVariants.{Response}
 use Rattle.someip_node_laws.specs.WorkedExamples.{client, instance, server}
-use Rattle.someip_world_steps.specs.declared.step.Step.{Step}
-use Rattle.someip_world_steps.specs.declared.step.Step.TheVariants.{Tick, Deliver, Call, Answer}
+use Rattle.someip_world_schedule.specs.declared.step.Step.{Step}
+use Rattle.someip_world_schedule.specs.declared.step.Step.TheVariants.{Tick, Deliver, Call, Answer}
 use Rattle.someip_world_setup.specs.declared.setup_node.SetupNode.{SetupNode}
 use Rattle.someip_world_rules.specs.declared.line.Line.{Line}
 use Rattle.someip_world_rules.specs.declared.reuse.Reuse.TheVariants.{Broken, Clean}
 use Rattle.someip_world_rules.specs.WorkedTrace.{AreNamed, a, b}
-use Rattle.someip_world_exchanges.specs.declared.exchange_key.ExchangeKey.TheVariants as keys
-use Rattle.someip_world_exchanges.specs.declared.naming.Side.TheVariants.{Answerer, Opener}
+use Rattle.someip_world_rules.specs.declared.exchanges.exchange_key.ExchangeKey.TheVariants as keys
+use Rattle.someip_world_rules.specs.declared.exchanges.naming.Side.TheVariants.{Answerer, Opener}
 use Rattle.someip_world_verdict.specs.Books.{Book, LifeKept, NoteKept, TakenKeys, is_after, is_breach, is_mixed, new_life, none_taken, taken_at}
 use Rattle.someip_world_verdict.specs.Booking.{handed_up, number_of}
 use Rattle.someip_world_verdict.specs.Judging.{first_book, judged, judged_from}

@@ -5,13 +5,13 @@ use Rattle.someip_wire.specs.Reading.{items_within}
 use Rattle.sd_wire.specs.decoding.Program.{options_within}
 use Rattle.someip_rpc.specs.declared.call.CallKind.TheVariants as kinds
 use Rattle.someip_node_laws.specs.WorkedExamples.{instance}
-use Rattle.someip_world_steps.specs.declared.step.Step.{Step}
-use Rattle.someip_world_steps.specs.declared.step.Step.TheVariants.{Tick, Deliver, Call, Restart}
+use Rattle.someip_world_schedule.specs.declared.step.Step.{Step}
+use Rattle.someip_world_schedule.specs.declared.step.Step.TheVariants.{Tick, Deliver, Call, Restart}
 use Rattle.someip_world_setup.specs.declared.setup_node.SetupNode.{SetupNode}
 use Rattle.someip_world_rules.specs.declared.line.Line.{Line}
 use Rattle.someip_world_rules.specs.declared.reuse.Reuse.TheVariants.{Broken, Clean}
 use Rattle.someip_world_rules.specs.WorkedTrace.{AreNamed, a, b}
-use Rattle.someip_world_exchanges.specs.declared.naming.Side.TheVariants.{Opener}
+use Rattle.someip_world_rules.specs.declared.exchanges.naming.Side.TheVariants.{Opener}
 use Rattle.someip_world_verdict.specs.Books.{Book, TakenKeys, new_life, none_taken}
 use Rattle.someip_world_verdict.specs.Judging.{first_book, judged, judged_from}
 use Rattle.someip_world_verdict.specs.VerdictExamples.{sent_twice, sent_twice_lines}

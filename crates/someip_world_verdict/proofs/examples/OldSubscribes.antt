@@ -6,20 +6,20 @@ use Rattle.std.specs.Option.{option_map_or}
 use Rattle.someip_tables.proofs.Entries.{own_test}
 use Rattle.someip_wire.specs.Reading.{items_within}
 use Rattle.sd_wire.specs.decoding.Program.{options_within}
-use Rattle.sd_instances.specs.Eventgroups.{eventgroup_cmp}
+use Rattle.sd_core.specs.Eventgroups.{eventgroup_cmp}
 use Rattle.someip_node_laws.specs.WorkedExamples.{client, server_address}
 use Rattle.someip_node_laws.specs.WorkedRun.{eventgroup}
-use Rattle.someip_world_steps.specs.declared.step.Step.{Step}
-use Rattle.someip_world_steps.specs.declared.step.Step.TheVariants.{Tick, Deliver, Restart, Subscribe}
+use Rattle.someip_world_schedule.specs.declared.step.Step.{Step}
+use Rattle.someip_world_schedule.specs.declared.step.Step.TheVariants.{Tick, Deliver, Restart, Subscribe}
 use Rattle.someip_world_setup.specs.declared.setup_node.SetupNode.{SetupNode}
 use Rattle.someip_world_rules.specs.declared.line.Line.{Line}
 use Rattle.someip_world_rules.specs.declared.reuse.Reuse.TheVariants.{Broken, Clean}
 use Rattle.someip_world_rules.specs.WorkedTrace.{AreNamed, a, b}
-use Rattle.someip_world_exchanges.specs.KeyOrder.{subscriptions_total}
-use Rattle.someip_world_exchanges.specs.declared.exchange_key.ExchangeKey.TheVariants as keys
-use Rattle.someip_world_exchanges.specs.declared.exchange_key.SubscriptionExchange.{SubscriptionExchange}
-use Rattle.someip_world_exchanges.specs.declared.naming.Side.{Side}
-use Rattle.someip_world_exchanges.specs.declared.naming.Side.TheVariants.{Answerer, Opener}
+use Rattle.someip_world_rules.specs.exchanges.KeyOrder.{subscriptions_total}
+use Rattle.someip_world_rules.specs.declared.exchanges.exchange_key.ExchangeKey.TheVariants as keys
+use Rattle.someip_world_rules.specs.declared.exchanges.exchange_key.SubscriptionExchange.{SubscriptionExchange}
+use Rattle.someip_world_rules.specs.declared.exchanges.naming.Side.{Side}
+use Rattle.someip_world_rules.specs.declared.exchanges.naming.Side.TheVariants.{Answerer, Opener}
 use Rattle.someip_world_verdict.specs.Books.{Book, LifeKept, NoteKept, TakenKeys, is_after, is_breach, new_life, none_taken, since_of, taken_with}
 use Rattle.someip_world_verdict.specs.Booking.{Openings}
 use Rattle.someip_world_verdict.specs.Judging.{first_book, judged, judged_from}

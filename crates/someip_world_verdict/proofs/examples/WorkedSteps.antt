@@ -6,18 +6,18 @@ use Rattle.std.specs.FinMap.{FinMap, get-insert}
 use Rattle.std.specs.Ordering.{nat_cmp}
 use Rattle.someip_tables.proofs.Entries.{own_test}
 use Rattle.someip_node_laws.specs.WorkedExamples.{client, server}
-use Rattle.someip_world_steps.specs.StepNodes.{node_of}
-use Rattle.someip_world_steps.specs.declared.step.Step.{Step}
+use Rattle.someip_world_schedule.specs.StepNodes.{node_of}
+use Rattle.someip_world_schedule.specs.declared.step.Step.{Step}
 use Rattle.someip_world_setup.specs.declared.setup_node.SetupNode.{SetupNode}
 use Rattle.someip_world_rules.specs.Runs.{place_of}
 use Rattle.someip_world_rules.specs.declared.line.Line.{Line}
 use Rattle.someip_world_rules.specs.declared.reuse.Reuse.{Reuse}
 use Rattle.someip_world_rules.specs.declared.reuse.Reuse.TheVariants.{Broken}
 use Rattle.someip_world_rules.specs.WorkedTrace.{AreNamed, a, b}
-use Rattle.someip_world_exchanges.specs.KeyOrder.{calls_total}
-use Rattle.someip_world_exchanges.specs.declared.exchange_key.CallExchange.{CallExchange}
-use Rattle.someip_world_exchanges.specs.declared.exchange_key.ExchangeKey.TheVariants as keys
-use Rattle.someip_world_exchanges.specs.declared.naming.Side.{Side}
+use Rattle.someip_world_rules.specs.exchanges.KeyOrder.{calls_total}
+use Rattle.someip_world_rules.specs.declared.exchanges.exchange_key.CallExchange.{CallExchange}
+use Rattle.someip_world_rules.specs.declared.exchanges.exchange_key.ExchangeKey.TheVariants as keys
+use Rattle.someip_world_rules.specs.declared.exchanges.naming.Side.{Side}
 use Rattle.someip_world_verdict.specs.Books.{Book, LifeKept, NoteKept, TakenKeys, breaks_at, is_after, is_breach, new_life, since_of, taken_at, taken_with}
 use Rattle.someip_world_verdict.specs.Booking.{booked}
 use Rattle.someip_world_verdict.specs.Judging.{judged_at, judged_from, judged_on, other_lines, own_lines}

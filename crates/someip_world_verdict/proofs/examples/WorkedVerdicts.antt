@@ -1,7 +1,7 @@
 -- The verdicts on the worked runs are those of the definitions.
 use Rattle.std.proofs.Common.{ℕ, arith, ◌≡◌, ◌∙◌, List, [], ◌∷◌, ◌++◌, length, ap, sym}
 use Rattle.std.specs.List.{AllByRecursion}
-use Rattle.someip_world_steps.specs.declared.step.Step.{Step}
+use Rattle.someip_world_schedule.specs.declared.step.Step.{Step}
 use Rattle.someip_world_setup.specs.GoodSetups.{Network}
 use Rattle.someip_world_rules.specs.Announced.{FitsStep}
 use Rattle.someip_world_rules.specs.LateAnswer.{answered_late}

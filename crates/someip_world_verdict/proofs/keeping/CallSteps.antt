@@ -10,17 +10,17 @@ use Rattle.someip_node_rules.specs.rules.Inputs.{Input}
 use Rattle.someip_node_rules.specs.rules.Plans.{Work}
 use Rattle.someip_node_rules.specs.steps.Steps.{step}
 use Rattle.someip_node_rules.specs.trails.Trails.{given_by, trail_of}
-use Rattle.someip_world_exchanges.specs.Namings.{named_in}
-use Rattle.someip_world_exchanges.specs.Openings.{OpensBy}
-use Rattle.someip_world_exchanges.specs.declared.exchange_key.CallExchange.{CallExchange}
-use Rattle.someip_world_exchanges.specs.declared.exchange_key.ExchangeKey.TheVariants as keys
-use Rattle.someip_world_exchanges.specs.declared.naming.Naming.{Naming}
-use Rattle.someip_world_exchanges.specs.declared.naming.Side.TheVariants.{Answerer, Opener}
-use Rattle.someip_world_exchanges.proofs.openings.CallOpenings.{call_named_opens, call_opens_named, opener_of}
-use Rattle.someip_world_exchanges.proofs.openings.EventOpenings.{next_key, publish_names, publish_to_names, publishes_offered, publishes_to_offered}
-use Rattle.someip_world_exchanges.proofs.openings.OpeningItems.{call_key_by_call, is_sending}
-use Rattle.someip_world_exchanges.proofs.openings.RuleInputs.{is_call}
-use Rattle.someip_world_exchanges.proofs.openings.SentNames.{answer_names, given_among, named_among, quiet_names}
+use Rattle.someip_world_rules.specs.exchanges.Namings.{named_in}
+use Rattle.someip_world_rules.specs.exchanges.Openings.{OpensBy}
+use Rattle.someip_world_rules.specs.declared.exchanges.exchange_key.CallExchange.{CallExchange}
+use Rattle.someip_world_rules.specs.declared.exchanges.exchange_key.ExchangeKey.TheVariants as keys
+use Rattle.someip_world_rules.specs.declared.exchanges.naming.Naming.{Naming}
+use Rattle.someip_world_rules.specs.declared.exchanges.naming.Side.TheVariants.{Answerer, Opener}
+use Rattle.someip_world_rules.proofs.about_exchanges.openings.CallOpenings.{call_named_opens, call_opens_named, opener_of}
+use Rattle.someip_world_rules.proofs.about_exchanges.openings.EventOpenings.{next_key, publish_names, publish_to_names, publishes_offered, publishes_to_offered}
+use Rattle.someip_world_rules.proofs.about_exchanges.openings.OpeningItems.{call_key_by_call, is_sending}
+use Rattle.someip_world_rules.proofs.about_exchanges.openings.RuleInputs.{is_call}
+use Rattle.someip_world_rules.proofs.about_exchanges.openings.SentNames.{answer_names, given_among, named_among, quiet_names}
 use Rattle.someip_world_verdict.specs.Booking.{Openings, opened_by_all}
 use Rattle.someip_world_verdict.specs.Contents.{said_by_outputs}
 use Rattle.someip_world_verdict.proofs.reading.OutputLemmas.{step_named, step_names}

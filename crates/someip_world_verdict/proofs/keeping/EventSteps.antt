@@ -8,8 +8,8 @@ use Rattle.std.specs.Option.{option_map}
 use Rattle.std.specs.Ordering.{eq_by_cmp}
 use Rattle.std.specs.declared.net.socket_addr.SocketAddrV4.{SocketAddrV4}
 use Rattle.someip_tables.proofs.Entries.{own_test, same_by_test}
-use Rattle.sd_instances.specs.Keys.{instance_cmp}
-use Rattle.sd_instances.specs.declared.keys.InstanceId.{InstanceId}
+use Rattle.sd_core.specs.Keys.{instance_cmp}
+use Rattle.sd_core.specs.declared.keys.InstanceId.{InstanceId}
 use Rattle.someip_rpc.specs.Events.{event_of}
 use Rattle.someip_tables.specs.Sessions.{session_after_last}
 use Rattle.someip_rpc.specs.Sessions.{session_after}
@@ -25,20 +25,20 @@ use Rattle.someip_node_rules.specs.forms.Setups.{offered_as}
 use Rattle.someip_node_rules.specs.steps.Steps.{step}
 use Rattle.someip_node_rules.specs.declared.config.Config.{Config}
 use Rattle.someip_node_rules.specs.declared.config.OfferedService.{OfferedService}
-use Rattle.someip_world_steps.specs.declared.step.Step.{Step}
-use Rattle.someip_world_steps.specs.declared.step.Step.TheVariants as steps
+use Rattle.someip_world_schedule.specs.declared.step.Step.{Step}
+use Rattle.someip_world_schedule.specs.declared.step.Step.TheVariants as steps
 use Rattle.someip_world_rules.specs.Datagrams.{SentDatagram, datagram_at}
 use Rattle.someip_world_rules.specs.Deeds.{Takes, deed_of, delivery, is_addressed}
 use Rattle.someip_world_rules.specs.declared.line.Line.{Line}
 use Rattle.someip_world_rules.specs.declared.step_fault.StepFault.TheVariants.{BadDelay, ClockPast, NotAddressed, PayloadTooLong}
-use Rattle.someip_world_exchanges.specs.KeyOrder.{event_cmp, events_total, exact_events}
-use Rattle.someip_world_exchanges.specs.Namings.{of_event}
-use Rattle.someip_world_exchanges.specs.Openings.{OpensBy}
-use Rattle.someip_world_exchanges.specs.declared.exchange_key.EventExchange.{EventExchange}
-use Rattle.someip_world_exchanges.specs.declared.exchange_key.ExchangeKey.TheVariants as keys
-use Rattle.someip_world_exchanges.proofs.openings.EventOpenings.{next_key, publish_opens, publish_opens_one, publish_to_opens, publish_to_opens_one, publishes_offered, publishes_to_offered}
-use Rattle.someip_world_exchanges.proofs.openings.OpeningItems.{other_opens_no_event}
-use Rattle.someip_world_exchanges.proofs.openings.RuleInputs.{is_publication}
+use Rattle.someip_world_rules.specs.exchanges.KeyOrder.{event_cmp, events_total, exact_events}
+use Rattle.someip_world_rules.specs.exchanges.Namings.{of_event}
+use Rattle.someip_world_rules.specs.exchanges.Openings.{OpensBy}
+use Rattle.someip_world_rules.specs.declared.exchanges.exchange_key.EventExchange.{EventExchange}
+use Rattle.someip_world_rules.specs.declared.exchanges.exchange_key.ExchangeKey.TheVariants as keys
+use Rattle.someip_world_rules.proofs.about_exchanges.openings.EventOpenings.{next_key, publish_opens, publish_opens_one, publish_to_opens, publish_to_opens_one, publishes_offered, publishes_to_offered}
+use Rattle.someip_world_rules.proofs.about_exchanges.openings.OpeningItems.{other_opens_no_event}
+use Rattle.someip_world_rules.proofs.about_exchanges.openings.RuleInputs.{is_publication}
 use Rattle.someip_world_verdict.specs.Books.{LifeKept, TakenKeys, taken_with}
 use Rattle.someip_world_verdict.specs.Booking.{publication_by, publication_in, publication_of, published_key}
 use Rattle.someip_world_verdict.proofs.StepInputs.{restart_takes_none, takes_same}

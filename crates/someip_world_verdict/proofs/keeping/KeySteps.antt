@@ -4,8 +4,8 @@ use Rattle.std.specs.BTreeMap as tree
 use Rattle.std.specs.FinMap as finite
 use Rattle.std.specs.List.{AllByRecursion}
 use Rattle.std.specs.Option.{option_map}
-use Rattle.sd_instances.specs.Keys.{instance_cmp}
-use Rattle.sd_instances.specs.declared.eventgroup.Eventgroup.{Eventgroup}
+use Rattle.sd_core.specs.Keys.{instance_cmp}
+use Rattle.sd_core.specs.declared.eventgroup.Eventgroup.{Eventgroup}
 use Rattle.someip_node_rules.specs.trails.Copies.{IsCopy}
 use Rattle.someip_node_laws.specs.Fitting.{FitsWire}
 use Rattle.someip_node_rules.specs.forms.GoodConfigs.{is_good}
@@ -20,18 +20,18 @@ use Rattle.someip_node_rules.specs.declared.config.Config.{Config}
 use Rattle.someip_node_rules.specs.declared.config.OfferedService.{OfferedService}
 use Rattle.someip_node_rules.proofs.trails.MeaningLemmas.{all_given}
 use Rattle.someip_node_rules.proofs.lists.MemberLemmas.{all_weaker}
-use Rattle.someip_world_steps.specs.declared.step.Step.{Step}
-use Rattle.someip_world_steps.specs.declared.step.Step.TheVariants as steps
+use Rattle.someip_world_schedule.specs.declared.step.Step.{Step}
+use Rattle.someip_world_schedule.specs.declared.step.Step.TheVariants as steps
 use Rattle.someip_world_setup.specs.declared.setup_node.SetupNode.{SetupNode}
 use Rattle.someip_world_rules.specs.Announced.{AllFits}
 use Rattle.someip_world_rules.specs.Deeds.{Takes}
 use Rattle.someip_world_rules.specs.Runs.{told_lines}
 use Rattle.someip_world_rules.specs.Turns.{Turn}
 use Rattle.someip_world_rules.proofs.LiarLemmas.{taken_at as node_takes}
-use Rattle.someip_world_exchanges.specs.Beginnings.{last_counter}
-use Rattle.someip_world_exchanges.specs.Openings.{Opened, OpensBy}
-use Rattle.someip_world_exchanges.specs.declared.exchange_key.ExchangeKey.{ExchangeKey}
-use Rattle.someip_world_exchanges.specs.declared.exchange_key.ExchangeKey.TheVariants as keys
+use Rattle.someip_world_rules.specs.exchanges.Beginnings.{last_counter}
+use Rattle.someip_world_rules.specs.exchanges.Openings.{Opened, OpensBy}
+use Rattle.someip_world_rules.specs.declared.exchanges.exchange_key.ExchangeKey.{ExchangeKey}
+use Rattle.someip_world_rules.specs.declared.exchanges.exchange_key.ExchangeKey.TheVariants as keys
 use Rattle.someip_world_verdict.specs.Books.{LifeKept, NoteKept, PayloadNumbers, TakenKeys, taken_at}
 use Rattle.someip_world_verdict.specs.Booking.{Openings, life_then, opened_by_all, openings_after, publication_by, publication_in, published_key}
 use Rattle.someip_world_verdict.specs.Contents.{said_by_outputs}

@@ -8,16 +8,16 @@ use Rattle.std.specs.Ordering.{eq_by_cmp}
 use Rattle.std.proofs.lemmas.List.Elements.{Contains-append_cases, Contains-append_left, Contains-append_right}
 use Rattle.someip_tables.proofs.Entries.{own_test, same_by_test}
 use Rattle.someip_node_rules.proofs.lists.MemberLemmas.{at_member, only_one}
-use Rattle.someip_world_exchanges.specs.KeyOrder.{calls_total, call_cmp, exact_calls}
-use Rattle.someip_world_exchanges.specs.declared.exchange_key.CallExchange.{CallExchange}
-use Rattle.someip_world_exchanges.specs.declared.exchange_key.ExchangeKey.{ExchangeKey}
-use Rattle.someip_world_exchanges.specs.declared.exchange_key.ExchangeKey.TheVariants as keys
-use Rattle.someip_world_exchanges.specs.declared.exchange_key.SubscriptionExchange.{SubscriptionExchange}
-use Rattle.someip_world_exchanges.specs.declared.naming.Naming.{Naming}
-use Rattle.someip_world_exchanges.specs.declared.naming.Side.{Side}
-use Rattle.someip_world_exchanges.specs.declared.naming.Side.TheVariants.{Answerer, Opener}
-use Rattle.someip_world_exchanges.proofs.runs.Among.{is_among}
-use Rattle.someip_world_exchanges.proofs.openings.CallOpenings.{opener_of}
+use Rattle.someip_world_rules.specs.exchanges.KeyOrder.{calls_total, call_cmp, exact_calls}
+use Rattle.someip_world_rules.specs.declared.exchanges.exchange_key.CallExchange.{CallExchange}
+use Rattle.someip_world_rules.specs.declared.exchanges.exchange_key.ExchangeKey.{ExchangeKey}
+use Rattle.someip_world_rules.specs.declared.exchanges.exchange_key.ExchangeKey.TheVariants as keys
+use Rattle.someip_world_rules.specs.declared.exchanges.exchange_key.SubscriptionExchange.{SubscriptionExchange}
+use Rattle.someip_world_rules.specs.declared.exchanges.naming.Naming.{Naming}
+use Rattle.someip_world_rules.specs.declared.exchanges.naming.Side.{Side}
+use Rattle.someip_world_rules.specs.declared.exchanges.naming.Side.TheVariants.{Answerer, Opener}
+use Rattle.someip_world_rules.proofs.about_exchanges.runs.Among.{is_among}
+use Rattle.someip_world_rules.proofs.about_exchanges.openings.CallOpenings.{opener_of}
 use Rattle.someip_world_verdict.specs.Books.{taken_with}
 use Rattle.someip_world_verdict.specs.Booking.{Openings, opened_by, opened_by_all, opened_by_key}
 use Rattle.someip_world_verdict.specs.declared.said.Said.{Said}

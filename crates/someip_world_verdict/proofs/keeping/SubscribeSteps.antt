@@ -8,21 +8,21 @@ use Rattle.std.specs.Ordering.{eq_by_cmp}
 use Rattle.std.specs.declared.net.ipv4_addr.Ipv4Addr.{Ipv4Addr}
 use Rattle.std.proofs.lemmas.List.Elements.{Contains-append_cases, Contains-append_left, Contains-append_right, filter-append}
 use Rattle.someip_tables.proofs.Entries.{own_test, same_by_test}
-use Rattle.sd_instances.specs.EventgroupOrder.{eventgroups_total, exact_eventgroups}
+use Rattle.sd_core.specs.EventgroupOrder.{eventgroups_total, exact_eventgroups}
 use Rattle.someip_node_rules.specs.histories.WishQuestions.{same_eventgroup}
-use Rattle.someip_world_exchanges.specs.Beginnings.{SentSubscribe, about, begun_after, counter_after}
-use Rattle.someip_world_exchanges.specs.KeyOrder.{exact_subscriptions, subscription_cmp, subscriptions_total}
-use Rattle.someip_world_exchanges.specs.declared.exchange_key.ExchangeKey.{ExchangeKey}
-use Rattle.someip_world_exchanges.specs.declared.exchange_key.ExchangeKey.TheVariants as keys
-use Rattle.someip_world_exchanges.specs.declared.exchange_key.SubscriptionExchange.{SubscriptionExchange}
-use Rattle.someip_world_exchanges.specs.declared.naming.Naming.{Naming}
-use Rattle.someip_world_exchanges.specs.declared.naming.Side.{Side}
-use Rattle.someip_world_exchanges.specs.declared.naming.Side.TheVariants.{Answerer, Opener}
-use Rattle.someip_world_exchanges.proofs.beginnings.AgreeingLemmas.{subscribe_with}
+use Rattle.someip_world_rules.specs.exchanges.Beginnings.{SentSubscribe, about, begun_after, counter_after}
+use Rattle.someip_world_rules.specs.exchanges.KeyOrder.{exact_subscriptions, subscription_cmp, subscriptions_total}
+use Rattle.someip_world_rules.specs.declared.exchanges.exchange_key.ExchangeKey.{ExchangeKey}
+use Rattle.someip_world_rules.specs.declared.exchanges.exchange_key.ExchangeKey.TheVariants as keys
+use Rattle.someip_world_rules.specs.declared.exchanges.exchange_key.SubscriptionExchange.{SubscriptionExchange}
+use Rattle.someip_world_rules.specs.declared.exchanges.naming.Naming.{Naming}
+use Rattle.someip_world_rules.specs.declared.exchanges.naming.Side.{Side}
+use Rattle.someip_world_rules.specs.declared.exchanges.naming.Side.TheVariants.{Answerer, Opener}
+use Rattle.someip_world_rules.proofs.about_exchanges.beginnings.AgreeingLemmas.{subscribe_with}
 use Rattle.someip_node_rules.proofs.lists.MemberLemmas.{only_one}
-use Rattle.someip_world_exchanges.proofs.runs.Among.{is_among}
-use Rattle.someip_world_exchanges.proofs.beginnings.BeginningLemmas.{begun-append, counter-append}
-use Rattle.someip_world_exchanges.proofs.openings.CallOpenings.{opener_of}
+use Rattle.someip_world_rules.proofs.about_exchanges.runs.Among.{is_among}
+use Rattle.someip_world_rules.proofs.about_exchanges.beginnings.BeginningLemmas.{begun-append, counter-append}
+use Rattle.someip_world_rules.proofs.about_exchanges.openings.CallOpenings.{opener_of}
 use Rattle.someip_world_verdict.specs.Booking.{Openings, opened_by, opened_by_all, opened_by_key, subscribed}
 use Rattle.someip_world_verdict.specs.Contents.{subscribe_said}
 use Rattle.someip_world_verdict.specs.declared.said.Said.{Said}

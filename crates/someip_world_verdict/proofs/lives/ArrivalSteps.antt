@@ -14,15 +14,15 @@ use Rattle.someip_node_rules.specs.rules.Inputs as inputs
 use Rattle.someip_node_rules.specs.rules.Inputs.{Input}
 use Rattle.someip_node_rules.specs.histories.Questions.{clock_at}
 use Rattle.someip_node_rules.specs.declared.config.Config.{Config}
-use Rattle.someip_world_steps.specs.declared.step.Step.{Step}
-use Rattle.someip_world_steps.specs.declared.step.Step.TheVariants as steps
+use Rattle.someip_world_schedule.specs.declared.step.Step.{Step}
+use Rattle.someip_world_schedule.specs.declared.step.Step.TheVariants as steps
 use Rattle.someip_world_setup.specs.declared.setup_node.SetupNode.{SetupNode}
 use Rattle.someip_world_rules.specs.Announced.{AllFits}
 use Rattle.someip_world_rules.specs.Datagrams.{SentDatagram}
 use Rattle.someip_world_rules.specs.Deeds.{Takes}
 use Rattle.someip_world_rules.specs.Turns.{Turn}
 use Rattle.someip_world_rules.specs.declared.line.Line.{Line}
-use Rattle.someip_world_exchanges.specs.CleanReuse.{Arrives}
+use Rattle.someip_world_rules.specs.exchanges.CleanReuse.{Arrives}
 use Rattle.someip_world_rules.specs.Deliveries.{Delivers, GoesOut, IsInjected, Sends, dispatches_in}
 use Rattle.someip_world_rules.proofs.Deliverings.{delivered_in, one_delivery, one_turn}
 use Rattle.someip_world_rules.proofs.InjectionLemmas.{no_node_sent}

@@ -9,13 +9,13 @@ use Rattle.someip_node_rules.specs.histories.Questions.{clock_at}
 use Rattle.someip_node_rules.specs.steps.Steps.{step}
 use Rattle.someip_node_rules.specs.declared.config.Config.{Config}
 use Rattle.someip_node_rules.specs.declared.error.NodeError.{NodeError}
-use Rattle.someip_world_steps.specs.declared.step.Step.{Step}
+use Rattle.someip_world_schedule.specs.declared.step.Step.{Step}
 use Rattle.someip_world_setup.specs.declared.setup_node.SetupNode.{SetupNode}
 use Rattle.someip_world_rules.specs.Deeds.{Deed, Takes, Restarts, Injects, done_with}
 use Rattle.someip_world_rules.specs.Runs.{World, history_after, world_after, world_of}
 use Rattle.someip_world_rules.specs.Turns.{LeadTo, Turn}
 use Rattle.someip_world_rules.specs.Deliveries.{LivesOn}
-use Rattle.someip_world_exchanges.proofs.runs.ClockLemmas.{other_clock, tick_clock}
+use Rattle.someip_world_rules.proofs.about_exchanges.runs.ClockLemmas.{other_clock, tick_clock}
 use Rattle.someip_world_rules.proofs.Fronts.{get_set_other, get_set_same, on_the_way, one_world, within}
 use Rattle.someip_world_rules.proofs.Lives.{below_next}
 

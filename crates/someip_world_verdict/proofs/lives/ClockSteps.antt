@@ -6,12 +6,12 @@ use Rattle.someip_node_rules.specs.rules.Inputs.{Input}
 use Rattle.someip_node_rules.specs.rules.Plans.{Work}
 use Rattle.someip_node_rules.specs.histories.Questions.{clock_at}
 use Rattle.someip_node_rules.specs.steps.Steps.{step}
-use Rattle.someip_world_steps.specs.declared.step.Step.{Step}
-use Rattle.someip_world_steps.specs.declared.step.Step.TheVariants as steps
+use Rattle.someip_world_schedule.specs.declared.step.Step.{Step}
+use Rattle.someip_world_schedule.specs.declared.step.Step.TheVariants as steps
 use Rattle.someip_world_rules.specs.Deeds.{clock_limit}
 use Rattle.someip_world_rules.specs.declared.line.Line.{Line}
-use Rattle.someip_world_exchanges.proofs.runs.ClockLemmas.{other_clock, tick_clock}
-use Rattle.someip_world_exchanges.proofs.openings.RuleInputs.{is_tick}
+use Rattle.someip_world_rules.proofs.about_exchanges.runs.ClockLemmas.{other_clock, tick_clock}
+use Rattle.someip_world_rules.proofs.about_exchanges.openings.RuleInputs.{is_tick}
 use Rattle.someip_world_verdict.specs.Books.{LifeKept, NoteKept, note_at}
 use Rattle.someip_world_verdict.specs.Booking.{Publication, arrived, arrived_with, clock_after, life_on, published_session}
 use Rattle.someip_world_verdict.specs.declared.stream.Stream.{Stream}

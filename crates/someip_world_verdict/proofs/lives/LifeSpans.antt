@@ -5,11 +5,11 @@ use Rattle.someip_wire.specs.Spelling.{MessageValue}
 use Rattle.someip_reassembly.specs.declared.key.ReassemblyKey.{ReassemblyKey}
 use Rattle.someip_node_rules.specs.histories.History.{History}
 use Rattle.someip_node_rules.specs.declared.config.Config.{Config}
-use Rattle.someip_world_steps.specs.declared.step.Step.{Step}
+use Rattle.someip_world_schedule.specs.declared.step.Step.{Step}
 use Rattle.someip_world_setup.specs.declared.setup_node.SetupNode.{SetupNode}
 use Rattle.someip_world_rules.specs.Turns.{Turn}
-use Rattle.someip_world_exchanges.specs.Belonging.{HandsUp, WasHandedUp}
-use Rattle.someip_world_exchanges.specs.CleanReuse.{Arrives}
+use Rattle.someip_world_rules.specs.exchanges.Belonging.{HandsUp, WasHandedUp}
+use Rattle.someip_world_rules.specs.exchanges.CleanReuse.{Arrives}
 use Rattle.someip_world_rules.specs.Deliveries.{LivesOn, Restarted}
 use Rattle.someip_world_rules.proofs.Deliverings.{one_turn}
 use Rattle.someip_world_rules.proofs.Lives.{below_next, lives_back, lives_next}

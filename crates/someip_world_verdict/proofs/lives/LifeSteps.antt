@@ -9,15 +9,15 @@ use Rattle.someip_node_rules.specs.rules.Inputs.{Input}
 use Rattle.someip_node_rules.specs.steps.Steps.{step}
 use Rattle.someip_node_rules.specs.declared.config.Config.{Config}
 use Rattle.someip_node_rules.specs.declared.error.NodeError.{NodeError}
-use Rattle.someip_world_steps.specs.declared.step.Step.{Step}
-use Rattle.someip_world_steps.specs.declared.step.Step.TheVariants as steps
+use Rattle.someip_world_schedule.specs.declared.step.Step.{Step}
+use Rattle.someip_world_schedule.specs.declared.step.Step.TheVariants as steps
 use Rattle.someip_world_setup.specs.declared.setup_node.SetupNode.{SetupNode}
 use Rattle.someip_world_rules.specs.Datagrams.{SentDatagram, datagram_at}
 use Rattle.someip_world_rules.specs.Deeds.{Deed, Takes, Restarts, Injects, delivery, is_addressed}
 use Rattle.someip_world_rules.specs.declared.step_fault.StepFault.TheVariants.{NotAddressed}
 use Rattle.someip_world_rules.specs.Liars.{is_liar_at}
 use Rattle.someip_world_rules.specs.Turns.{Turn}
-use Rattle.someip_world_exchanges.specs.CleanReuse.{Arrives}
+use Rattle.someip_world_rules.specs.exchanges.CleanReuse.{Arrives}
 use Rattle.someip_world_rules.specs.Deliveries.{Delivers, Does, Restarted}
 use Rattle.someip_world_rules.proofs.Deliverings.{one_turn}
 use Rattle.someip_world_rules.proofs.LiarLemmas.{by_node}

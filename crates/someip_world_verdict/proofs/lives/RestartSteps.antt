@@ -8,13 +8,13 @@ use Rattle.someip_node_rules.specs.histories.CallQuestions.{times_published}
 use Rattle.someip_node_rules.specs.histories.Questions.{clock_at}
 use Rattle.someip_node_rules.specs.histories.WishQuestions.{course_at}
 use Rattle.std.specs.Ordering.{nat_cmp}
-use Rattle.sd_instances.specs.Eventgroups.{eventgroup_cmp}
+use Rattle.sd_core.specs.Eventgroups.{eventgroup_cmp}
 use Rattle.someip_rpc.specs.Ids.{event_cmp}
 use Rattle.someip_tables.specs.Sessions.{session_after_last}
 use Rattle.someip_rpc.specs.Sessions.{session_after}
 use Rattle.someip_node_rules.specs.declared.config.Config.{Config}
-use Rattle.someip_world_steps.specs.declared.step.Step.{Step}
-use Rattle.someip_world_steps.specs.declared.step.Step.TheVariants as steps
+use Rattle.someip_world_schedule.specs.declared.step.Step.{Step}
+use Rattle.someip_world_schedule.specs.declared.step.Step.TheVariants as steps
 use Rattle.someip_world_setup.specs.declared.setup_node.SetupNode.{SetupNode}
 use Rattle.someip_world_rules.specs.Datagrams.{SentDatagram, datagram_at}
 use Rattle.someip_world_rules.specs.Deeds.{Takes, Restarts, deed_of, delivery, is_addressed}
@@ -22,7 +22,7 @@ use Rattle.someip_world_rules.specs.declared.line.Line.{Line}
 use Rattle.someip_world_rules.specs.declared.step_fault.StepFault.{StepFault}
 use Rattle.someip_world_rules.specs.Turns.{Turn}
 use Rattle.someip_world_rules.proofs.LiarLemmas.{again_at}
-use Rattle.someip_world_exchanges.specs.Beginnings.{last_counter}
+use Rattle.someip_world_rules.specs.exchanges.Beginnings.{last_counter}
 use Rattle.someip_world_rules.specs.Deliveries.{LivesOn}
 use Rattle.someip_world_verdict.specs.Books.{LifeKept, NoteKept, PayloadNumbers, new_life}
 use Rattle.someip_world_verdict.specs.Booking.{answered_in, handed_up, life_after, life_then, tokens_told}

@@ -9,8 +9,8 @@ use Rattle.std.specs.Option.{option_map}
 use Rattle.std.specs.Ordering.{eq_by_cmp}
 use Rattle.std.specs.declared.net.socket_addr.SocketAddrV4.{SocketAddrV4}
 use Rattle.someip_tables.proofs.Entries.{own_test, same_by_test}
-use Rattle.sd_instances.specs.Keys.{instance_cmp}
-use Rattle.sd_instances.specs.declared.keys.InstanceId.{InstanceId}
+use Rattle.sd_core.specs.Keys.{instance_cmp}
+use Rattle.sd_core.specs.declared.keys.InstanceId.{InstanceId}
 use Rattle.someip_rpc.specs.Events.{event_of}
 use Rattle.someip_rpc.specs.IdOrder.{events_total, exact_events}
 use Rattle.someip_rpc.specs.Ids.{event_cmp}
@@ -28,11 +28,11 @@ use Rattle.someip_node_rules.specs.steps.Steps.{step}
 use Rattle.someip_node_rules.specs.declared.config.Config.{Config}
 use Rattle.someip_node_rules.specs.declared.config.OfferedService.{OfferedService}
 use Rattle.someip_node_laws.proofs.rules.PublishedLemmas.{is_published, is_published_to}
-use Rattle.someip_world_steps.specs.declared.step.Step.{Step}
-use Rattle.someip_world_steps.specs.declared.step.Step.TheVariants as steps
+use Rattle.someip_world_schedule.specs.declared.step.Step.{Step}
+use Rattle.someip_world_schedule.specs.declared.step.Step.TheVariants as steps
 use Rattle.someip_world_rules.specs.declared.line.Line.{Line}
-use Rattle.someip_world_exchanges.proofs.openings.EventCounts.{other_counts, publish_counts, publish_counts_no_other, publish_to_counts, publish_to_counts_no_other}
-use Rattle.someip_world_exchanges.proofs.openings.RuleInputs.{is_publication}
+use Rattle.someip_world_rules.proofs.about_exchanges.openings.EventCounts.{other_counts, publish_counts, publish_counts_no_other, publish_to_counts, publish_to_counts_no_other}
+use Rattle.someip_world_rules.proofs.about_exchanges.openings.RuleInputs.{is_publication}
 use Rattle.someip_world_verdict.specs.Books.{LifeKept, NoteKept, note_at}
 use Rattle.someip_world_verdict.specs.Booking.{arrived, arrived_with, clock_after, life_then, publication_by, publication_of, published_session}
 use Rattle.someip_world_verdict.specs.declared.stream.Stream.{Stream}

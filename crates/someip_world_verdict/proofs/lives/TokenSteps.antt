@@ -4,7 +4,7 @@ use Rattle.std.specs.FinMap as finite
 use Rattle.std.specs.List.{AllZip}
 use Rattle.std.specs.Option.{option_map}
 use Rattle.std.specs.declared.net.socket_addr.SocketAddrV4.{SocketAddrV4}
-use Rattle.sd_instances.specs.declared.keys.InstanceId.{InstanceId}
+use Rattle.sd_core.specs.declared.keys.InstanceId.{InstanceId}
 use Rattle.someip_wire.specs.declared.header.Header.{Header}
 use Rattle.someip_node_rules.specs.declared.output.Output.TheVariants.{Request}
 use Rattle.someip_node_rules.specs.trails.Bringing.{Brings}
@@ -17,16 +17,16 @@ use Rattle.someip_node_rules.specs.rules.Plans.{Rule, TakesRequest, Work}
 use Rattle.someip_node_rules.specs.steps.Steps.{step}
 use Rattle.someip_node_rules.specs.declared.config.Config.{Config}
 use Rattle.someip_node_rules.specs.trails.Trails.{Done}
-use Rattle.someip_world_steps.specs.declared.step.Step.{Step}
+use Rattle.someip_world_schedule.specs.declared.step.Step.{Step}
 use Rattle.someip_world_setup.specs.declared.setup_node.SetupNode.{SetupNode}
 use Rattle.someip_world_rules.specs.Datagrams.{SentDatagram}
 use Rattle.someip_world_rules.specs.Deeds.{Takes}
 use Rattle.someip_world_rules.specs.Runs.{told_lines}
 use Rattle.someip_world_rules.specs.Turns.{Turn}
-use Rattle.someip_world_exchanges.specs.Belonging.{HandsUp, WasHandedUp}
+use Rattle.someip_world_rules.specs.exchanges.Belonging.{HandsUp, WasHandedUp}
 use Rattle.someip_world_rules.specs.Deliveries.{Delivers, dispatches_in}
 use Rattle.someip_world_rules.proofs.Deliverings.{delivered_in, one_delivery, one_turn}
-use Rattle.someip_world_exchanges.proofs.openings.TokenLemmas.{given_token, token_given}
+use Rattle.someip_world_rules.proofs.about_exchanges.openings.TokenLemmas.{given_token, token_given}
 use Rattle.someip_world_verdict.specs.Books.{LifeKept, NoteKept, PayloadNumbers}
 use Rattle.someip_world_verdict.specs.Booking.{answered_in, handed_up, tokens_told}
 use Rattle.someip_world_verdict.proofs.Kept.{IsNoted}

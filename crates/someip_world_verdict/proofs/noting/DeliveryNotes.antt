@@ -2,11 +2,11 @@
 use Rattle.std.proofs.Common.{◌≡◌, arith, ℕ, ◌+◌, true, List, [], slice_get, None, Some, refl, ap, subst, ◌∙◌}
 use Rattle.std.specs.Option.{option_map}
 use Rattle.someip_wire.specs.Spelling.{MessageValue}
-use Rattle.someip_segments.specs.Sent.{is_long}
+use Rattle.someip_reassembly.specs.Sent.{is_long}
 use Rattle.someip_node_rules.specs.forms.Outputs as outputs
 use Rattle.someip_node_rules.specs.declared.config.Config.{Config}
-use Rattle.someip_world_steps.specs.declared.step.Step.{Step}
-use Rattle.someip_world_steps.specs.declared.step.Step.TheVariants as steps
+use Rattle.someip_world_schedule.specs.declared.step.Step.{Step}
+use Rattle.someip_world_schedule.specs.declared.step.Step.TheVariants as steps
 use Rattle.someip_world_setup.specs.declared.setup_node.SetupNode.{SetupNode}
 use Rattle.someip_world_rules.specs.Datagrams.{SentDatagram}
 use Rattle.someip_world_rules.specs.Turns.{Turn}

@@ -6,7 +6,7 @@ use Rattle.std.specs.Option.{option_map, option_map_or}
 use Rattle.std.proofs.lemmas.List.Elements.{filter_map-append}
 use Rattle.std.specs.declared.net.socket_addr.SocketAddrV4.{SocketAddrV4}
 use Rattle.someip_wire.specs.Spelling.{MessageValue}
-use Rattle.someip_segments.specs.Sent.{is_long}
+use Rattle.someip_reassembly.specs.Sent.{is_long}
 use Rattle.std.proofs.lemmas.Cmp.{nat_list_cmp_total}
 use Rattle.someip_tables.proofs.Entries.{own_test}
 use Rattle.someip_rpc.specs.declared.request.Reply.{Reply}
@@ -22,19 +22,19 @@ use Rattle.someip_node_rules.specs.rules.Plans.{Rule}
 use Rattle.someip_node_rules.specs.declared.config.Config.{Config}
 use Rattle.someip_node_rules.specs.declared.output.Output.{Output}
 use Rattle.someip_node_rules.specs.declared.output.Output.TheVariants.{Sent}
-use Rattle.someip_world_steps.specs.declared.step.Step.{Step}
-use Rattle.someip_world_steps.specs.declared.step.Step.TheVariants as steps
+use Rattle.someip_world_schedule.specs.declared.step.Step.{Step}
+use Rattle.someip_world_schedule.specs.declared.step.Step.TheVariants as steps
 use Rattle.someip_world_setup.specs.declared.setup_node.SetupNode.{SetupNode}
 use Rattle.someip_world_rules.specs.Datagrams.{SentDatagram, datagrams_in, sent_with}
 use Rattle.someip_world_rules.specs.Deeds.{Injects}
 use Rattle.someip_world_rules.specs.Runs.{World, told_lines}
 use Rattle.someip_world_rules.specs.Turns.{Turn}
-use Rattle.someip_world_exchanges.specs.Belonging.{Answered, WasHandedUp}
+use Rattle.someip_world_rules.specs.exchanges.Belonging.{Answered, WasHandedUp}
 use Rattle.someip_world_rules.specs.Deliveries.{Delivers, Dispatch, Does, IsInjected, Sends, dispatch_at, dispatch_in, dispatches_in}
 use Rattle.someip_world_rules.proofs.Deliverings.{one_turn}
 use Rattle.someip_world_rules.proofs.LiarLemmas.{taken_at}
-use Rattle.someip_world_exchanges.proofs.messages.LongMessages.{long_payload}
-use Rattle.someip_world_exchanges.proofs.openings.RuleInputs.{is_answer, no_answer_answers}
+use Rattle.someip_world_rules.proofs.about_exchanges.messages.LongMessages.{long_payload}
+use Rattle.someip_world_rules.proofs.about_exchanges.openings.RuleInputs.{is_answer, no_answer_answers}
 use Rattle.someip_world_verdict.specs.Books.{Book, LifeKept, NoteKept, PayloadNumbers, note_at}
 use Rattle.someip_world_verdict.specs.Booking.{answered_in, is_injection, long_payload_of, mute_note, note_of, notes_of, number_of, numbered}
 use Rattle.someip_world_verdict.proofs.InjectedSteps.{injected_so, injection_does_nothing}

@@ -13,9 +13,9 @@ use Rattle.someip_wire.specs.Reading.{items_of}
 use Rattle.someip_wire.specs.Spelling.{Fits, MessageValue, spelling}
 use Rattle.someip_reassembly.specs.Keys.{segment_key}
 use Rattle.someip_reassembly.specs.declared.key.ReassemblyKey.{ReassemblyKey}
-use Rattle.someip_segments.specs.Segments.{segment_header, segments_within}
-use Rattle.someip_segments.specs.Sent.{PieceValue, Alone, InSegment, is_long, piece_message, segments_of, sent}
-use Rattle.someip_segments.proofs.SentLemmas.{all_fit}
+use Rattle.someip_reassembly.specs.Segments.{segment_header, segments_within}
+use Rattle.someip_reassembly.specs.Sent.{PieceValue, Alone, InSegment, is_long, piece_message, segments_of, sent}
+use Rattle.someip_reassembly.proofs.SentLemmas.{all_fit}
 use Rattle.sd_wire.specs.declared.entry.EntryHead.{EntryHead}
 use Rattle.sd_wire.specs.declared.entry.EntryHead.TheVariants as heads
 use Rattle.sd_wire.specs.declared.entry.EventgroupKind.{EventgroupKind}
@@ -35,10 +35,10 @@ use Rattle.someip_node_rules.specs.forms.Outputs.{Given, Announces, Sends, Tells
 use Rattle.someip_node_rules.proofs.lists.MemberLemmas.{all_both, all_map, all_weaker, at_member}
 use Rattle.someip_world_rules.specs.Datagrams.{SentDatagram}
 use Rattle.someip_world_rules.proofs.AnnouncedLemmas.{announced_fits, announced_holds, one_message}
-use Rattle.someip_world_exchanges.specs.declared.naming.Naming.{Naming}
-use Rattle.someip_world_exchanges.specs.Beginnings.{subscribe_in_head, subscribe_of, subscribes_among, subscribes_in}
-use Rattle.someip_world_exchanges.specs.Namings.{named_by_entries, named_by_head, named_by_kind, named_in}
-use Rattle.someip_world_exchanges.proofs.messages.WholeLemmas.{no_flag}
+use Rattle.someip_world_rules.specs.declared.exchanges.naming.Naming.{Naming}
+use Rattle.someip_world_rules.specs.exchanges.Beginnings.{subscribe_in_head, subscribe_of, subscribes_among, subscribes_in}
+use Rattle.someip_world_rules.specs.exchanges.Namings.{named_by_entries, named_by_head, named_by_kind, named_in}
+use Rattle.someip_world_rules.proofs.about_exchanges.messages.WholeLemmas.{no_flag}
 use Rattle.someip_world_verdict.specs.Contents.{named_alone, said_by_entries, said_by_head, said_by_header, said_by_items, said_by_message, said_by_reading, said_in, stream_by_items, stream_by_message, stream_in, subscribe_said, whole_header}
 use Rattle.someip_world_verdict.proofs.reading.ApplicationLemmas.{given_by_application, no_event}
 

@@ -8,8 +8,8 @@ use Rattle.std.proofs.lemmas.List.{append-nil, map-append}
 use Rattle.std.proofs.lemmas.List.Elements.{Contains-append_cases, Contains-append_left, Contains-append_right, Contains-get_or}
 use Rattle.someip_wire.specs.declared.header.Header.{Header}
 use Rattle.someip_wire.specs.Spelling.{MessageValue, spelling}
-use Rattle.someip_segments.specs.Segments.{SegmentValue, segment_at, segment_header, segments_within}
-use Rattle.someip_segments.specs.Sent.{PieceValue, Alone, InSegment, is_long, piece_message, segments_of, sent}
+use Rattle.someip_reassembly.specs.Segments.{SegmentValue, segment_at, segment_header, segments_within}
+use Rattle.someip_reassembly.specs.Sent.{PieceValue, Alone, InSegment, is_long, piece_message, segments_of, sent}
 use Rattle.someip_node_rules.specs.declared.output.Output.{Output}
 use Rattle.someip_node_rules.specs.declared.output.Output.TheVariants.{Sent}
 use Rattle.someip_node_rules.specs.forms.Entries.{discovery_message}
@@ -26,9 +26,9 @@ use Rattle.someip_node_rules.proofs.trails.MeaningLemmas.{all_given, outputs_wri
 use Rattle.someip_node_rules.proofs.lists.MemberLemmas.{all_both, all_flat_map, all_from_members, all_members, all_weaker, at_member}
 use Rattle.someip_world_rules.specs.Datagrams.{SentDatagram, sent_with}
 use Rattle.someip_world_rules.proofs.Sendings.{sends}
-use Rattle.someip_world_exchanges.specs.declared.naming.Naming.{Naming}
-use Rattle.someip_world_exchanges.specs.Beginnings.{subscribes_in}
-use Rattle.someip_world_exchanges.specs.Namings.{named_in}
+use Rattle.someip_world_rules.specs.declared.exchanges.naming.Naming.{Naming}
+use Rattle.someip_world_rules.specs.exchanges.Beginnings.{subscribes_in}
+use Rattle.someip_world_rules.specs.exchanges.Namings.{named_in}
 use Rattle.someip_world_verdict.specs.declared.said.Said.{Said}
 use Rattle.someip_world_verdict.specs.Contents.{said_by_outputs, said_in, subscribe_said}
 use Rattle.someip_world_verdict.proofs.reading.ContentLemmas.{AreReadBack, read_back}

@@ -5,7 +5,7 @@ use Rattle.std.specs.Net.Socket.{v4_ip}
 use Rattle.std.specs.declared.net.ipv4_addr.Ipv4Addr.{Ipv4Addr}
 use Rattle.std.specs.declared.net.socket_addr.SocketAddrV4.{SocketAddrV4}
 use Rattle.std.proofs.lemmas.Bool.{and_parts}
-use Rattle.sd_instances.specs.declared.keys.InstanceId.{InstanceId}
+use Rattle.sd_core.specs.declared.keys.InstanceId.{InstanceId}
 use Rattle.sd_wire.specs.declared.entry.EntryHead.{EntryHead}
 use Rattle.sd_wire.specs.declared.entry.EntryHead.TheVariants as heads
 use Rattle.sd_wire.specs.declared.entry.EventgroupEntry.{EventgroupEntry}
@@ -36,9 +36,9 @@ use Rattle.someip_node_rules.proofs.trails.MeaningLemmas.{all_given, outputs_wri
 use Rattle.someip_node_rules.proofs.lists.MemberLemmas.{all_both, all_flat_map, all_from_members, all_weaker}
 use Rattle.someip_node_rules.proofs.rules.StepRules.{config_there}
 use Rattle.someip_world_rules.specs.Datagrams.{SentDatagram}
-use Rattle.someip_world_exchanges.specs.Namings.{named_by_kind}
-use Rattle.someip_world_exchanges.proofs.beginnings.SubscribesLemmas.{HasTtls}
-use Rattle.someip_world_exchanges.proofs.messages.WholeLemmas.{no_flag}
+use Rattle.someip_world_rules.specs.exchanges.Namings.{named_by_kind}
+use Rattle.someip_world_rules.proofs.about_exchanges.beginnings.SubscribesLemmas.{HasTtls}
+use Rattle.someip_world_rules.proofs.about_exchanges.messages.WholeLemmas.{no_flag}
 use Rattle.someip_world_verdict.specs.Contents.{said_by_entries, said_by_head, said_by_outputs, said_in}
 use Rattle.someip_world_verdict.specs.declared.said.Said.{Said}
 use Rattle.someip_world_verdict.proofs.reading.ApplicationLemmas.{given_by_application}

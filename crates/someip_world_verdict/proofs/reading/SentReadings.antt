@@ -4,7 +4,7 @@ use Rattle.std.specs.List.{Contains}
 use Rattle.std.specs.declared.net.socket_addr.SocketAddrV4.{SocketAddrV4}
 use Rattle.someip_wire.specs.Spelling.{MessageValue}
 use Rattle.someip_reassembly.specs.Keys.{segment_key}
-use Rattle.someip_segments.specs.Sent.{is_long}
+use Rattle.someip_reassembly.specs.Sent.{is_long}
 use Rattle.someip_reassembly.specs.declared.key.ReassemblyKey.{ReassemblyKey}
 use Rattle.someip_node_rules.specs.declared.output.Output.TheVariants.{Sent}
 use Rattle.someip_node_laws.specs.Fitting.{FitsWire}
@@ -14,19 +14,19 @@ use Rattle.someip_node_rules.specs.rules.Inputs.{Input}
 use Rattle.someip_node_rules.specs.trails.Meanings.{GivenBy}
 use Rattle.someip_node_rules.specs.forms.Outputs.{Given, Announces, Sends, Tells, written}
 use Rattle.someip_node_rules.specs.declared.config.Config.{Config}
-use Rattle.someip_world_steps.specs.declared.step.Step.{Step}
+use Rattle.someip_world_schedule.specs.declared.step.Step.{Step}
 use Rattle.someip_world_setup.specs.declared.setup_node.SetupNode.{SetupNode}
 use Rattle.someip_world_rules.specs.Announced.{AllFits}
 use Rattle.someip_world_rules.specs.Datagrams.{SentDatagram}
 use Rattle.someip_world_rules.specs.Turns.{Turn}
 use Rattle.someip_world_rules.proofs.OriginLemmas.{turn_configured}
-use Rattle.someip_world_exchanges.specs.CleanReuse.{Arrives, message_key}
+use Rattle.someip_world_rules.specs.exchanges.CleanReuse.{Arrives, message_key}
 use Rattle.someip_world_rules.specs.Deliveries as deliveries
 use Rattle.someip_world_rules.specs.Deliveries.{Does}
-use Rattle.someip_world_exchanges.specs.Payloads.{payload_in}
+use Rattle.someip_world_rules.specs.exchanges.Payloads.{payload_in}
 use Rattle.someip_world_rules.proofs.Deliverings.{one_turn}
-use Rattle.someip_world_exchanges.proofs.messages.LongMessages.{long_payload}
-use Rattle.someip_world_exchanges.proofs.messages.WholeLemmas.{no_flag}
+use Rattle.someip_world_rules.proofs.about_exchanges.messages.LongMessages.{long_payload}
+use Rattle.someip_world_rules.proofs.about_exchanges.messages.WholeLemmas.{no_flag}
 use Rattle.someip_world_verdict.specs.Contents.{stream_in}
 use Rattle.someip_world_verdict.proofs.reading.ApplicationLemmas.{given_by_application}
 use Rattle.someip_world_verdict.proofs.reading.ContentLemmas.{IsMessageRead, IsReadBack, announcement_read, message_read, read_back}

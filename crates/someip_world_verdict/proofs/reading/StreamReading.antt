@@ -7,7 +7,7 @@ use Rattle.someip_wire.specs.Kinds.{kind_of}
 use Rattle.someip_wire.specs.Spelling.{MessageValue}
 use Rattle.someip_wire.specs.declared.header.MessageType.TheVariants as kinds
 use Rattle.someip_reassembly.specs.Keys.{kind_back, segment_key}
-use Rattle.someip_segments.specs.Sent.{is_long}
+use Rattle.someip_reassembly.specs.Sent.{is_long}
 use Rattle.someip_reassembly.specs.declared.key.ReassemblyKey.{ReassemblyKey}
 use Rattle.someip_node_rules.specs.declared.output.Output.TheVariants.{Sent}
 use Rattle.someip_node_laws.specs.Fitting.{FitsWire}
@@ -18,14 +18,14 @@ use Rattle.someip_node_rules.specs.trails.Meanings.{GivenBy}
 use Rattle.someip_node_rules.specs.forms.Outputs as outputs
 use Rattle.someip_node_rules.specs.forms.Outputs.{Given, written}
 use Rattle.someip_node_rules.specs.declared.config.Config.{Config}
-use Rattle.someip_world_steps.specs.declared.step.Step.{Step}
+use Rattle.someip_world_schedule.specs.declared.step.Step.{Step}
 use Rattle.someip_world_setup.specs.declared.setup_node.SetupNode.{SetupNode}
 use Rattle.someip_world_rules.specs.Announced.{AllFits}
 use Rattle.someip_world_rules.specs.Datagrams.{SentDatagram}
 use Rattle.someip_world_rules.proofs.OriginLemmas.{turn_configured}
-use Rattle.someip_world_exchanges.specs.CleanReuse.{Arrives, message_key}
+use Rattle.someip_world_rules.specs.exchanges.CleanReuse.{Arrives, message_key}
 use Rattle.someip_world_rules.specs.Deliveries.{Sends}
-use Rattle.someip_world_exchanges.proofs.messages.WholeLemmas.{no_flag}
+use Rattle.someip_world_rules.proofs.about_exchanges.messages.WholeLemmas.{no_flag}
 use Rattle.someip_world_verdict.specs.Contents.{stream_in}
 use Rattle.someip_world_verdict.specs.Streams.{stream_of}
 use Rattle.someip_world_verdict.specs.declared.stream.Stream.{Stream}

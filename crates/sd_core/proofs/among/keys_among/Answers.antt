@@ -4,7 +4,7 @@ use Rattle.std.specs.FinMap as finite
 use Rattle.std.proofs.lemmas.List.{append-nil, drop_more}
 use Rattle.someip_tables.specs.Tables.{map_of}
 use Rattle.sd_core.proofs.AmongLemmas.{keys-among}
-use Rattle.sd_subscribers.proofs.SubscriptionRunLemmas.{past_all}
+use Rattle.sd_core.proofs.SubscriptionRunLemmas.{past_all}
 use Rattle.sd_core.proofs.among.keys_among.Goals as goal
 use Rattle.sd_core.proofs.among.keys_among.Goals.{then-passes+in_ok-push, else-passes}
 

@@ -3,10 +3,10 @@ use Rattle.std.specs.List.{list_any}
 use Rattle.std.specs.Ordering.{eq_by_cmp}
 use Rattle.std.proofs.lemmas.List.{drop_more}
 use Rattle.std.specs.Cmp.{eq_by_cmp_equiv}
-use Rattle.sd_instances.specs.Eventgroups.{eventgroup_cmp}
-use Rattle.sd_instances.specs.EventgroupOrder.{eventgroups_total}
+use Rattle.sd_core.specs.Eventgroups.{eventgroup_cmp}
+use Rattle.sd_core.specs.EventgroupOrder.{eventgroups_total}
 use Rattle.someip_tables.proofs.Members.{one_moved, or_false}
-use Rattle.sd_subscribers.proofs.SubscriptionRunLemmas.{past_all}
+use Rattle.sd_core.proofs.SubscriptionRunLemmas.{past_all}
 use Rattle.sd_core.proofs.ending.add_all.Goals as goal
 
 pub loop-eventgroup-preserved : goal.loop-eventgroup-preserved

@@ -2,7 +2,7 @@ use Rattle.std.proofs.Common.{◌≡◌, ◌||◌, drop}
 use Rattle.std.specs.BTreeSet.{IsOrdered}
 use Rattle.std.specs.List.{list_any}
 use Rattle.std.specs.Ordering.{eq_by_cmp}
-use Rattle.sd_instances.specs.Eventgroups.{eventgroup_cmp}
+use Rattle.sd_core.specs.Eventgroups.{eventgroup_cmp}
 use Rattle.sd_core.proofs.ending.add_all.Given as goal
 
 -- with those that are left the set has all

@@ -4,8 +4,8 @@ use Rattle.std.specs.Result.{OnErr}
 use Rattle.std.specs.FinMap.{empty, keys}
 use Rattle.std.proofs.lemmas.Result.{IfOk-weaker}
 use Rattle.someip_tables.specs.Tables.{map_of}
-use Rattle.sd_instances.specs.Eventgroups.{eventgroup_cmp}
-use Rattle.sd_wishes.specs.Wishes.{has_begun, is_with}
+use Rattle.sd_core.specs.Eventgroups.{eventgroup_cmp}
+use Rattle.sd_core.specs.Wishes.{has_begun, is_with}
 use Rattle.sd_core.specs.WishTables.{begun_where}
 use Rattle.sd_core.proofs.ending.begun_with.Goals as goal
 

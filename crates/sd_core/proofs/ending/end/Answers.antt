@@ -1,8 +1,8 @@
 use Rattle.std.proofs.Common.{◌∙◌, rules}
-use Rattle.sd_wishes.specs.declared.wish.Wish.{Wish}
-use Rattle.sd_wishes.specs.declared.wish.Stage.TheVariants.{Waiting}
+use Rattle.sd_core.specs.declared.wish.Wish.{Wish}
+use Rattle.sd_core.specs.declared.wish.Stage.TheVariants.{Waiting}
 use Rattle.sd_core.specs.Endings.{ends_by}
-use Rattle.sd_wishes.specs.Wishes.{has_begun}
+use Rattle.sd_core.specs.Wishes.{has_begun}
 use Rattle.sd_core.proofs.ending.end.Goals as goal
 
 pub returns-clause-after : goal.returns-clause-after

@@ -4,7 +4,7 @@ use Rattle.std.proofs.lemmas.Iterator.Consumers.{YieldsList-from_rest}
 use Rattle.std.proofs.lemmas.Result.{IfOk-weaker}
 use Rattle.std.specs.FinMap.{keys}
 use Rattle.someip_tables.specs.Tables.{map_of}
-use Rattle.sd_instances.specs.Eventgroups.{eventgroup_cmp}
+use Rattle.sd_core.specs.Eventgroups.{eventgroup_cmp}
 use Rattle.sd_core.specs.WishTables.{is_of_any}
 use Rattle.someip_tables.proofs.Outcomes.{on_err}
 use Rattle.sd_core.proofs.WishLemmas.{begun_ends, due_is, gathered_ends, none_begun, over_alone, over_ends, some_begun}

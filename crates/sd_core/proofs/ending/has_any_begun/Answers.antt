@@ -2,7 +2,7 @@ use Rattle.std.proofs.Common.{◌∙◌, rules}
 use Rattle.std.proofs.lemmas.Iterator.{YieldsList-from_slice}
 use Rattle.std.proofs.lemmas.Iterator.Search.{any_from_yields_List}
 use Rattle.someip_tables.specs.Tables.{map_of}
-use Rattle.sd_instances.specs.Eventgroups.{eventgroup_cmp}
+use Rattle.sd_core.specs.Eventgroups.{eventgroup_cmp}
 use Rattle.sd_core.specs.WishTables.{any_begun, is_of}
 use Rattle.sd_core.proofs.WishLemmas.{begun_at_any}
 use Rattle.sd_core.proofs.ending.has_any_begun.Goals as goal

@@ -2,8 +2,8 @@ use Rattle.std.proofs.Common.{◌+◌, drop, subst, ◌∙◌}
 use Rattle.std.proofs.lemmas.List.{drop_more}
 use Rattle.std.specs.BTreeSet.{InsertsAll}
 use Rattle.someip_tables.specs.Tables.{map_of}
-use Rattle.sd_instances.specs.Eventgroups.{eventgroup_cmp}
-use Rattle.sd_subscribers.proofs.SubscriptionRunLemmas.{past_all}
+use Rattle.sd_core.specs.Eventgroups.{eventgroup_cmp}
+use Rattle.sd_core.proofs.SubscriptionRunLemmas.{past_all}
 use Rattle.sd_core.proofs.WishLemmas.{IsGathered, gathered_none, gathered_more, gathered_all}
 use Rattle.sd_core.proofs.ending.with_begun.Goals as goal
 

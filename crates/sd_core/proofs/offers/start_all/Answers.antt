@@ -1,6 +1,6 @@
 use Rattle.std.proofs.Common.{Some, ap, ◌∙◌, rules}
 use Rattle.someip_tables.specs.Tables.{map_of}
-use Rattle.sd_instances.specs.Keys.{instance_cmp}
+use Rattle.sd_core.specs.Keys.{instance_cmp}
 use Rattle.sd_core.specs.OfferTables.{offers_of}
 use Rattle.sd_core.proofs.OfferLemmas.{all_started}
 use Rattle.sd_core.proofs.offers.start_all.Goals as goal

@@ -1,6 +1,6 @@
 use Rattle.std.proofs.Common.{ap, ◌∙◌, rules}
 use Rattle.someip_tables.specs.Tables.{map_of}
-use Rattle.sd_instances.specs.Keys.{instance_cmp}
+use Rattle.sd_core.specs.Keys.{instance_cmp}
 use Rattle.sd_core.specs.SeekTables.{seek_of}
 use Rattle.sd_core.proofs.SeekLemmas.{want_is_due, ticked_want, due_ticked}
 use Rattle.sd_core.proofs.seeker.advance.Goals as goal

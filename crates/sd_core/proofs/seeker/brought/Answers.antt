@@ -4,7 +4,7 @@ use Rattle.std.proofs.lemmas.Bool.{eqb-true}
 use Rattle.std.proofs.lemmas.List.{nil_from_length}
 use Rattle.someip_tables.specs.Retained.{retain}
 use Rattle.someip_tables.specs.Tables.{map_of}
-use Rattle.sd_instances.specs.Keys.{instance_cmp}
+use Rattle.sd_core.specs.Keys.{instance_cmp}
 use Rattle.someip_tables.proofs.Outcomes.{on_err}
 use Rattle.sd_core.proofs.SeekLemmas.{want_is_due, has_ended, due_if_ended, ended_keys, find_is_due, due_if_find, find_keys, none_ends, none_finds, not_quiet}
 use Rattle.sd_core.proofs.seeker.brought.Goals as goal

@@ -1,6 +1,6 @@
 use Rattle.std.proofs.Common.{ap, sym, ◌∙◌, rules}
 use Rattle.someip_tables.specs.Tables.{map_of}
-use Rattle.sd_instances.specs.Keys.{instance_cmp}
+use Rattle.sd_core.specs.Keys.{instance_cmp}
 use Rattle.sd_core.specs.SeekTables.{seek_of}
 use Rattle.sd_core.proofs.SeekLemmas.{is_of, forgetful_want, peer_keys, peer_forgotten}
 use Rattle.sd_core.proofs.seeker.forget.Goals as goal

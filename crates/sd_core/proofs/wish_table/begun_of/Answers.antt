@@ -4,9 +4,9 @@ use Rattle.std.specs.Result.{OnErr}
 use Rattle.std.specs.FinMap.{empty, keys}
 use Rattle.std.proofs.lemmas.Result.{IfOk-weaker}
 use Rattle.someip_tables.specs.Tables.{map_of}
-use Rattle.sd_instances.specs.Eventgroups.{eventgroup_cmp}
-use Rattle.sd_wishes.specs.declared.wish.Wish.{Wish}
-use Rattle.sd_wishes.specs.Wishes.{has_begun}
+use Rattle.sd_core.specs.Eventgroups.{eventgroup_cmp}
+use Rattle.sd_core.specs.declared.wish.Wish.{Wish}
+use Rattle.sd_core.specs.Wishes.{has_begun}
 use Rattle.sd_core.proofs.WishLemmas.{begun_is}
 use Rattle.sd_core.proofs.wish_table.begun_of.Goals as goal
 

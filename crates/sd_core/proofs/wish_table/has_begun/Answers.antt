@@ -1,7 +1,7 @@
 use Rattle.std.proofs.Common.{◌≡◌, true, false, sym, ◌∙◌}
 use Rattle.someip_tables.specs.Tables.{map_of}
-use Rattle.sd_instances.specs.Eventgroups.{eventgroup_cmp}
-use Rattle.sd_wishes.specs.Wishes.{has_begun}
+use Rattle.sd_core.specs.Eventgroups.{eventgroup_cmp}
+use Rattle.sd_core.specs.Wishes.{has_begun}
 use Rattle.sd_core.specs.WishTables.{is_of}
 use Rattle.someip_tables.proofs.RunLemmas.{end_run, next_run}
 use Rattle.sd_core.proofs.WishLemmas.{begun_in_run}

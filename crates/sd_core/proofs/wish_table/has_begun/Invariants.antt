@@ -1,8 +1,8 @@
 use Rattle.std.proofs.Common.{◌≡◌, true, take_while}
 use Rattle.std.specs.List.{list_any}
 use Rattle.someip_tables.specs.Tables.{map_of}
-use Rattle.sd_instances.specs.Eventgroups.{eventgroup_cmp}
-use Rattle.sd_wishes.specs.Wishes.{has_begun}
+use Rattle.sd_core.specs.Eventgroups.{eventgroup_cmp}
+use Rattle.sd_core.specs.Wishes.{has_begun}
 use Rattle.sd_core.specs.WishTables.{any_begun, is_of}
 use Rattle.sd_core.proofs.wish_table.has_begun.Given as goal
 

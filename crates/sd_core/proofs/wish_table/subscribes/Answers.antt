@@ -1,8 +1,8 @@
 use Rattle.std.proofs.Common.{◌≡◌, true, false, None, Some, sym, ◌∙◌, append_assoc}
 use Rattle.std.proofs.lemmas.List.{append-nil}
 use Rattle.someip_tables.specs.Tables.{map_of}
-use Rattle.sd_instances.specs.Eventgroups.{eventgroup_cmp}
-use Rattle.sd_wishes.specs.Wishes.{subscribe_of}
+use Rattle.sd_core.specs.Eventgroups.{eventgroup_cmp}
+use Rattle.sd_core.specs.Wishes.{subscribe_of}
 use Rattle.sd_core.specs.WishTables.{is_of}
 use Rattle.someip_tables.proofs.Outcomes.{on_err}
 use Rattle.someip_tables.proofs.RunLemmas.{end_run, next_run, not_empty}

@@ -1,7 +1,7 @@
 use Rattle.std.proofs.Common.{◌≡◌, ◌++◌, filter_map, take_while}
 use Rattle.someip_tables.specs.Tables.{map_of}
-use Rattle.sd_instances.specs.Eventgroups.{eventgroup_cmp}
-use Rattle.sd_wishes.specs.Wishes.{subscribe_of}
+use Rattle.sd_core.specs.Eventgroups.{eventgroup_cmp}
+use Rattle.sd_core.specs.Wishes.{subscribe_of}
 use Rattle.sd_core.specs.WishTables.{subscribes, is_of}
 use Rattle.sd_core.proofs.wish_table.subscribes.Given as goal
 

@@ -1,6 +1,6 @@
 use Rattle.std.proofs.Common.{rules}
-use Rattle.sd_wishes.specs.declared.wish.Wish.{Wish}
-use Rattle.sd_wishes.specs.Wishes.{is_wished}
+use Rattle.sd_core.specs.declared.wish.Wish.{Wish}
+use Rattle.sd_core.specs.Wishes.{is_wished}
 use Rattle.sd_core.proofs.wish_table.wished_of.Goals as goal
 
 pub returns-clause-wished : goal.returns-clause-wished

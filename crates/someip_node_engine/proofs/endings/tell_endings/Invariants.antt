@@ -1,6 +1,6 @@
 use Rattle.std.proofs.Common.{◌≡◌, ◌++◌, drop}
 use Rattle.std.specs.List.Sorted.{IsStrictlySortedBy}
-use Rattle.sd_instances.specs.Eventgroups.{eventgroup_cmp}
+use Rattle.sd_core.specs.Eventgroups.{eventgroup_cmp}
 use Rattle.someip_node_rules.specs.rules.Outcomes.{endings}
 use Rattle.someip_node_rules.specs.forms.Setups.{wanted_instances}
 use Rattle.someip_node_engine.proofs.endings.tell_endings.Given as goal

@@ -1,6 +1,6 @@
 use Rattle.std.proofs.Common.{ap, refl, sym, ◌∙◌}
 use Rattle.std.specs.FinMap.{insert}
-use Rattle.sd_instances.specs.Keys.{instance_cmp}
+use Rattle.sd_core.specs.Keys.{instance_cmp}
 use Rattle.someip_node_engine.proofs.StartLemmas.{offer_entry, one_over, over, over_none}
 use Rattle.someip_node_engine.proofs.starting.add_offers.Goals as goal
 

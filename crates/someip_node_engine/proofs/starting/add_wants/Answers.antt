@@ -1,5 +1,5 @@
 use Rattle.std.proofs.Common.{ap, refl, sym, ◌∙◌}
-use Rattle.sd_instances.specs.Keys.{instance_cmp}
+use Rattle.sd_core.specs.Keys.{instance_cmp}
 use Rattle.someip_node_engine.proofs.StartLemmas.{want_entry, one_over, over, over_none}
 use Rattle.someip_node_engine.proofs.starting.add_wants.Goals as goal
 

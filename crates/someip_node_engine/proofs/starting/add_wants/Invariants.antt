@@ -1,5 +1,5 @@
 use Rattle.std.proofs.Common.{◌≡◌}
-use Rattle.sd_instances.specs.Keys.{instance_cmp}
+use Rattle.sd_core.specs.Keys.{instance_cmp}
 use Rattle.someip_node_engine.proofs.StartLemmas.{want_entry, over}
 use Rattle.someip_node_engine.proofs.starting.add_wants.Given as goal
 

@@ -1,4 +1,4 @@
-use Rattle.someip_segments.proofs.SegmentTexts.{read_as_sent}
+use Rattle.someip_reassembly.proofs.SegmentTexts.{read_as_sent}
 use Rattle.someip_tp.proofs.promises.AcceptedLemmas.{own_read}
 use Rattle.someip_tp.proofs.laws.a_segment_is_read_as_it_was_sent.Goals as goal
 

@@ -1,5 +1,5 @@
 use Rattle.std.proofs.Common.{rules}
-use Rattle.someip_world_exchanges.specs.CleanReuse.{IsVerdictOn}
+use Rattle.someip_world_rules.specs.exchanges.CleanReuse.{IsVerdictOn}
 use Rattle.someip_world.proofs.world_run.run.Goals as goal
 
 pub returns-clause-safe_among_liars : goal.returns-clause-safe_among_liars

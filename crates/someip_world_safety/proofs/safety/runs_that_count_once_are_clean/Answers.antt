@@ -1,10 +1,10 @@
 use Rattle.std.proofs.Common.{ℕ, List}
 use Rattle.someip_node_rules.specs.declared.config.Config.{Config}
-use Rattle.someip_world_steps.specs.declared.step.Step.{Step}
+use Rattle.someip_world_schedule.specs.declared.step.Step.{Step}
 use Rattle.someip_world_setup.specs.GoodSetups.{IsGoodNetwork, Network}
 use Rattle.someip_world_rules.specs.Announced.{AllFits}
 use Rattle.someip_world_rules.specs.Runs.{AreCopies}
-use Rattle.someip_world_exchanges.specs.CleanReuse.{IsCleanBefore}
+use Rattle.someip_world_rules.specs.exchanges.CleanReuse.{IsCleanBefore}
 use Rattle.someip_world_safety.specs.CleanRuns.{AreShort, CountsOnce}
 use Rattle.someip_world_safety.proofs.networks.AddressLemmas.{off_group, own_addresses}
 use Rattle.someip_world_safety.proofs.runs.CleanLemmas.{opens_once_is_clean}

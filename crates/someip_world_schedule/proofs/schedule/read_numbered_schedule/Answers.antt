@@ -3,7 +3,7 @@ use Rattle.std.proofs.lemmas.Iterator.Consumers.{YieldsList-turn, YieldsList-end
 use Rattle.std.proofs.lemmas.List.{map_push, length_push}
 use Rattle.someip_texts.specs.Lines.{lines_of}
 use Rattle.someip_texts.proofs.LineLemmas.{YieldsList-lines, next_line, HasRead-skipped, HasRead-more, HasRead-bad, HasRead-some, HasRead-all}
-use Rattle.someip_world_steps.specs.Steps.{step_in}
+use Rattle.someip_world_schedule.specs.Steps.{step_in}
 use Rattle.someip_world_schedule.specs.Schedule.{is_read, is_skipped}
 use Rattle.someip_world_schedule.proofs.ScheduleLemmas.{HasNumbered-skipped, HasNumbered-read, HasNumbered-all}
 use Rattle.someip_world_schedule.proofs.schedule.read_numbered_schedule.Goals as goal

@@ -1,4 +1,4 @@
-use Rattle.someip_world_steps.proofs.EndpointLemmas.{only_endpoint, each_endpoint}
+use Rattle.someip_world_schedule.proofs.EndpointLemmas.{only_endpoint, each_endpoint}
 use Rattle.someip_world_schedule.proofs.schedule_laws.what_endpoints_say.Goals as goal
 
 pub returns : goal.returns

@@ -1,4 +1,4 @@
-use Rattle.someip_world_steps.proofs.LineLemmas.{line_joined, words_unparted, only_words}
+use Rattle.someip_world_schedule.proofs.LineLemmas.{line_joined, words_unparted, only_words}
 use Rattle.someip_world_schedule.proofs.schedule_laws.what_words_are.Goals as goal
 
 pub returns-clause-spelled : goal.returns-clause-spelled

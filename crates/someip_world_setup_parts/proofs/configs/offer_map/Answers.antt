@@ -1,5 +1,5 @@
 use Rattle.std.proofs.Common.{[], ap, ◌∙◌}
-use Rattle.sd_instances.specs.Keys.{instance_cmp}
+use Rattle.sd_core.specs.Keys.{instance_cmp}
 use Rattle.someip_world_setup_parts.specs.declared.parts.OfferParts.{OfferParts}
 use Rattle.someip_world_setup_parts.specs.Values.{offer_view}
 use Rattle.someip_world_setup_parts.specs.Made.{offered_view, keyed_offer, offer_made, with_entries}

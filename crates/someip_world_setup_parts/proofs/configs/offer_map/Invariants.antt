@@ -1,4 +1,4 @@
-use Rattle.sd_instances.specs.Keys.{instance_cmp}
+use Rattle.sd_core.specs.Keys.{instance_cmp}
 use Rattle.someip_world_setup_parts.specs.Values.{offer_view}
 use Rattle.someip_world_setup_parts.specs.Made.{offered_view, keyed_offer}
 use Rattle.someip_world_setup_parts.proofs.MakingLemmas.{HasEntries}

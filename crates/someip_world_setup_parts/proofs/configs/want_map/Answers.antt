@@ -1,5 +1,5 @@
 use Rattle.std.proofs.Common.{[], ap, ◌∙◌}
-use Rattle.sd_instances.specs.Keys.{instance_cmp}
+use Rattle.sd_core.specs.Keys.{instance_cmp}
 use Rattle.someip_world_setup_parts.specs.declared.parts.WantParts.{WantParts}
 use Rattle.someip_world_setup_parts.specs.Values.{want_view}
 use Rattle.someip_world_setup_parts.specs.Made.{wanted_view, keyed_want, want_made, with_entries}

@@ -1,7 +1,7 @@
 use Rattle.std.proofs.Common.{List, map, ◌++◌, ap, ◌∙◌}
 use Rattle.someip_world_setup_parts.specs.Values.{offer_view}
 use Rattle.someip_world_setup_parts.specs.Clashes.{offered_id}
-use Rattle.sd_instances.specs.declared.keys.InstanceId.{InstanceId}
+use Rattle.sd_core.specs.declared.keys.InstanceId.{InstanceId}
 use Rattle.someip_world_setup_parts.specs.declared.parts.OfferParts.{OfferParts}
 use Rattle.someip_world_setup_parts.proofs.GatheredLemmas.{one_gathered, all_gathered}
 use Rattle.someip_world_setup_parts.proofs.MakingLemmas.{map_after}

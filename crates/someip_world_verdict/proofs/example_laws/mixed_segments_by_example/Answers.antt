@@ -1,5 +1,5 @@
 use Rattle.std.proofs.Common.{[], ◌∷◌}
-use Rattle.someip_world_steps.specs.declared.step.Step.TheVariants.{Deliver, Tick}
+use Rattle.someip_world_schedule.specs.declared.step.Step.TheVariants.{Deliver, Tick}
 use Rattle.someip_world_rules.specs.WorkedTrace.{b}
 use Rattle.someip_world_rules.specs.declared.reuse.Reuse.TheVariants.{Broken, Clean}
 use Rattle.someip_world_verdict.specs.VerdictExamples.{answered_twice, answered_twice_lines}

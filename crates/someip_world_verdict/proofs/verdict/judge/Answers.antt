@@ -3,7 +3,7 @@ use Rattle.std.proofs.lemmas.List.{length-map}
 use Rattle.std.proofs.lemmas.Option.{slice_get-map, slice_get_read}
 use Rattle.std.specs.Option.{option_map}
 use Rattle.someip_world_rules.specs.Runs.{place_of}
-use Rattle.someip_world_steps.specs.StepNodes.{node_of}
+use Rattle.someip_world_schedule.specs.StepNodes.{node_of}
 use Rattle.someip_world_verdict.specs.Books.{LifeKept, breaks_at}
 use Rattle.someip_world_verdict.specs.Booking.{booked}
 use Rattle.someip_world_verdict.specs.Judging.{judged_from, other_lines, own_lines}

@@ -1,6 +1,6 @@
 use Rattle.std.proofs.Common.{◌≡◌, ap, ◌∙◌}
 use Rattle.std.proofs.lemmas.Result.{IfOk-weaker}
-use Rattle.someip_world_exchanges.specs.CleanReuse.{IsVerdictOn}
+use Rattle.someip_world_rules.specs.exchanges.CleanReuse.{IsVerdictOn}
 use Rattle.someip_world_verdict.specs.Judging.{judged}
 use Rattle.someip_world_verdict.proofs.VerdictLemmas.{verdict_so}
 use Rattle.someip_world_verdict.proofs.verdict.verdict_on.Goals as goal

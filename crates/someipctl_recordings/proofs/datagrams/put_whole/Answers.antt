@@ -2,7 +2,7 @@ use Rattle.someip_wire.specs.View.{view}
 use Rattle.someipctl_io.specs.Lines.{whole_line}
 use Rattle.someipctl_io.proofs.SendingLemmas.{OnErr-any, Sends-trans, Stops-after, Stops-before}
 use Rattle.someipctl_show.proofs.ShowResultLemmas.{Stops-none}
-use Rattle.someipctl_types.specs.ValueLine.{value_line}
+use Rattle.someipctl_show.specs.types.ValueLine.{value_line}
 use Rattle.someipctl_recordings.proofs.datagrams.put_whole.Goals as goal
 
 pub returns-in_err-faulty-clause-err : goal.returns-in_err-faulty-clause-err

@@ -1,7 +1,7 @@
 use Rattle.std.proofs.Common.{None, ap, ◌∙◌}
 use Rattle.std.proofs.lemmas.Result.{on_ok_weaker, on_err_weaker}
 use Rattle.someip_tables.specs.Tables.{map_of}
-use Rattle.sd_instances.specs.Keys.{instance_cmp}
+use Rattle.sd_core.specs.Keys.{instance_cmp}
 use Rattle.sd_core.specs.OfferTables.{offers_of}
 use Rattle.sd_core.proofs.OfferLemmas.{put_down, version_is}
 use Rattle.sd_core.proofs.offers.Offers.add.Goals as goal

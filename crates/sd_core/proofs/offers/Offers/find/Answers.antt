@@ -3,7 +3,7 @@ use Rattle.std.specs.FinMap as finite
 use Rattle.std.proofs.lemmas.Result.{IfOk-weaker, on_err_weaker}
 use Rattle.someip_tables.specs.Retained.{retain}
 use Rattle.someip_tables.specs.Tables.{map_of}
-use Rattle.sd_instances.specs.Keys.{instance_cmp}
+use Rattle.sd_core.specs.Keys.{instance_cmp}
 use Rattle.sd_core.proofs.OfferLemmas.{offering_answers, answering_keys, none_answers}
 use Rattle.sd_core.proofs.offers.Offers.find.Goals as goal
 

@@ -1,5 +1,5 @@
 use Rattle.someip_tables.specs.Tables.{map_of}
-use Rattle.sd_instances.specs.Keys.{instance_cmp}
+use Rattle.sd_core.specs.Keys.{instance_cmp}
 use Rattle.sd_core.proofs.OfferLemmas.{due_of_none, none_due}
 use Rattle.sd_core.proofs.offers.Offers.next_due.Goals as goal
 

@@ -1,6 +1,6 @@
 use Rattle.std.proofs.Common.{ap, ◌∙◌, rules}
 use Rattle.someip_tables.specs.Tables.{map_of}
-use Rattle.sd_instances.specs.Keys.{instance_cmp}
+use Rattle.sd_core.specs.Keys.{instance_cmp}
 use Rattle.sd_core.specs.OfferTables.{offers_of}
 use Rattle.someip_tables.proofs.Outcomes.{on_err}
 use Rattle.sd_core.proofs.OfferLemmas.{offering_is_due, sent_offering, due_keys, none_due, all_advanced}

@@ -1,7 +1,7 @@
 use Rattle.std.proofs.Common.{◌≡◌, Some, None, sym, ap, ◌∙◌, rules}
 use Rattle.std.specs.FinMap as finite
 use Rattle.someip_tables.specs.Tables.{map_of}
-use Rattle.sd_instances.specs.Keys.{instance_cmp}
+use Rattle.sd_core.specs.Keys.{instance_cmp}
 use Rattle.sd_core.specs.SeekTables.{known_at}
 use Rattle.sd_core.proofs.SeekLemmas.{known_is}
 use Rattle.sd_core.proofs.seeker.Seeker.known.Goals as goal

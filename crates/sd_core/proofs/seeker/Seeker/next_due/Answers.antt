@@ -1,5 +1,5 @@
 use Rattle.someip_tables.specs.Tables.{map_of}
-use Rattle.sd_instances.specs.Keys.{instance_cmp}
+use Rattle.sd_core.specs.Keys.{instance_cmp}
 use Rattle.sd_core.proofs.SeekLemmas.{knows_wanted, none_is_quiet, quiet}
 use Rattle.sd_core.proofs.seeker.Seeker.next_due.Goals as goal
 

@@ -3,7 +3,7 @@ use Rattle.std.specs.Option.{is_some}
 use Rattle.std.specs.FinMap as finite
 use Rattle.someip_tables.specs.Deadlines.{deadline_after}
 use Rattle.someip_tables.specs.Tables.{map_of}
-use Rattle.sd_instances.specs.Keys.{instance_cmp}
+use Rattle.sd_core.specs.Keys.{instance_cmp}
 use Rattle.sd_core.specs.SeekTables.{seek_of, known_at, counted_as}
 use Rattle.sd_core.proofs.SeekLemmas.{same_value, known_is, unwanted, uncounted_is, found}
 use Rattle.sd_core.proofs.seeker.Seeker.offer.Goals as goal

@@ -1,6 +1,6 @@
 use Rattle.std.proofs.Common.{None, Some, ap, ◌∙◌, rules}
 use Rattle.someip_tables.specs.Tables.{map_of}
-use Rattle.sd_instances.specs.Keys.{instance_cmp}
+use Rattle.sd_core.specs.Keys.{instance_cmp}
 use Rattle.sd_core.specs.SeekTables.{seek_of, searching_from}
 use Rattle.sd_core.proofs.SeekLemmas.{all_searched}
 use Rattle.sd_core.proofs.seeker.Seeker.start.Goals as goal

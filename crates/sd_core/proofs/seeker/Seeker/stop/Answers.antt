@@ -2,7 +2,7 @@ use Rattle.std.proofs.Common.{◌≡◌, true, false, Some, None, sym, ap, ◌�
 use Rattle.std.specs.Option.{is_some}
 use Rattle.std.specs.FinMap as finite
 use Rattle.someip_tables.specs.Tables.{map_of}
-use Rattle.sd_instances.specs.Keys.{instance_cmp}
+use Rattle.sd_core.specs.Keys.{instance_cmp}
 use Rattle.sd_core.specs.SeekTables.{seek_of}
 use Rattle.sd_core.proofs.SeekLemmas.{stopped_is, lost}
 use Rattle.sd_core.proofs.seeker.Seeker.stop.Goals as goal

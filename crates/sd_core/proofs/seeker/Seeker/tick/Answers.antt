@@ -1,6 +1,6 @@
 use Rattle.std.proofs.Common.{sym}
 use Rattle.someip_tables.specs.Tables.{map_of}
-use Rattle.sd_instances.specs.Keys.{instance_cmp}
+use Rattle.sd_core.specs.Keys.{instance_cmp}
 use Rattle.someip_tables.proofs.Outcomes.{on_err}
 use Rattle.sd_core.proofs.SeekLemmas.{knows_wanted, quiet}
 use Rattle.sd_core.proofs.seeker.Seeker.tick.Goals as goal

@@ -1,7 +1,7 @@
 use Rattle.std.proofs.Common.{◌∙◌, rules}
 use Rattle.someip_tables.specs.Tables.{map_of}
-use Rattle.sd_instances.specs.Eventgroups.{eventgroup_cmp}
-use Rattle.sd_wishes.specs.Wishes.{is_renewed_by, subscribing}
+use Rattle.sd_core.specs.Eventgroups.{eventgroup_cmp}
+use Rattle.sd_core.specs.Wishes.{is_renewed_by, subscribing}
 use Rattle.someip_tables.proofs.Outcomes.{on_err}
 use Rattle.sd_core.proofs.WishLemmas.{wished_sent}
 use Rattle.sd_core.proofs.subscriptions.Subscriptions.offer.Goals as goal

@@ -1,7 +1,7 @@
 use Rattle.std.proofs.Common.{sym, subst, ◌∙◌}
 use Rattle.std.specs.List.Sorted.{IsStrictlySortedBy}
-use Rattle.sd_instances.specs.Eventgroups.{eventgroup_cmp}
-use Rattle.sd_instances.specs.Keys.{instance_cmp}
+use Rattle.sd_core.specs.Eventgroups.{eventgroup_cmp}
+use Rattle.sd_core.specs.Keys.{instance_cmp}
 use Rattle.someip_node_engine.proofs.HearingLemmas.{reboot_told}
 use Rattle.someip_node_engine.proofs.RisingLemmas.{keys_rise}
 use Rattle.someip_node_engine.proofs.engine.Engine.forget_peer.Goals as goal

@@ -1,13 +1,13 @@
 use Rattle.std.proofs.Common.{◌∙◌, ◌+◌, refl, sym, ap, subst, arith}
 use Rattle.std.specs.List.Sorted.{IsStrictlySortedBy}
-use Rattle.sd_instances.specs.Eventgroups.{eventgroup_cmp}
-use Rattle.sd_instances.specs.Keys.{instance_cmp}
+use Rattle.sd_core.specs.Eventgroups.{eventgroup_cmp}
+use Rattle.sd_core.specs.Keys.{instance_cmp}
 use Rattle.someip_reassembly.specs.Parts.{parts_at}
 use Rattle.someip_reassembly.proofs.MomentLemmas.{later, none_after-parts_at}
 use Rattle.sd_core.specs.Endings.{ends_at}
 use Rattle.std.specs.FinMap as finite
 use Rattle.someip_tables.specs.Lastings.{expired}
-use Rattle.sd_instances.specs.Sendings.{due_at}
+use Rattle.sd_core.specs.Sendings.{due_at}
 use Rattle.someip_node_rules.specs.histories.Tables.{passed_instances}
 use Rattle.sd_core.specs.WishTables.{begun_where, ended_where}
 use Rattle.someip_node_rules.specs.histories.Items.{changed, Ticked}

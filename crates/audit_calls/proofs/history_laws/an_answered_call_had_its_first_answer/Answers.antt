@@ -1,5 +1,0 @@
-use Rattle.audit_calls.proofs.FindingLemmas.{answered_is_by, by_is_answered}
-use Rattle.audit_calls.proofs.history_laws.an_answered_call_had_its_first_answer.Goals as goal
-
-pub returns : goal.returns
-returns c = λ rules call until past. (answered_is_by rules call past until, by_is_answered rules call past until)

@@ -1,5 +1,0 @@
-use Rattle.audit_calls.proofs.FindingLemmas.{open_is_by, by_is_open}
-use Rattle.audit_calls.proofs.history_laws.an_open_call_had_no_answer.Goals as goal
-
-pub returns : goal.returns
-returns c = λ rules call open_call past. (open_is_by rules call past open_call, by_is_open rules call past open_call)

@@ -1,5 +1,0 @@
-use Rattle.audit_calls.proofs.FindingLemmas.{late_is}
-use Rattle.audit_calls.proofs.history_laws.each_finding_has_its_reason.Goals as goal
-
-pub returns-clause-late : goal.returns-clause-late
-returns-clause-late c = late_is

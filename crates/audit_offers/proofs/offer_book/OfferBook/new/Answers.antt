@@ -1,5 +1,0 @@
-use Rattle.audit_offers.proofs.OfferLemmas.{none_within}
-use Rattle.audit_offers.proofs.offer_book.OfferBook.new.Goals as goal
-
-pub invariant_of-result : goal.invariant_of-result
-invariant_of-result c = none_within _ c.args.limit c.new.ensures

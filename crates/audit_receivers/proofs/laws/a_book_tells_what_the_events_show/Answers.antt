@@ -1,9 +1,0 @@
-use Rattle.audit_receivers.proofs.HistoryLemmas.{stands}
-use Rattle.audit_receivers.proofs.ToldLemmas.{told_is_shown}
-use Rattle.audit_receivers.proofs.laws.a_book_tells_what_the_events_show.Goals as goal
-
-pub returns-clause-stands : goal.returns-clause-stands
-returns-clause-stands c = stands
-
-pub returns-clause-told : goal.returns-clause-told
-returns-clause-told c = told_is_shown

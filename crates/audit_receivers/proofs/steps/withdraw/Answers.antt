@@ -1,7 +1,0 @@
-use Rattle.someip_tables.specs.Tables.{map_of}
-use Rattle.audit_receivers.specs.DeliveryKeys.{delivery_cmp}
-use Rattle.audit_receivers.proofs.FineLemmas.{none_found}
-use Rattle.audit_receivers.proofs.steps.withdraw.Goals as goal
-
-pub returns-clause-fine : goal.returns-clause-fine
-returns-clause-fine c = none_found (map_of delivery_cmp c.clear.new.self) _ c.clear.ensures

@@ -1,0 +1,9 @@
+use Rattle.audit_sd.proofs.about_receivers.HistoryLemmas.{stands}
+use Rattle.audit_sd.proofs.about_receivers.ToldLemmas.{told_is_shown}
+use Rattle.audit_sd.proofs.receivers.laws.a_book_tells_what_the_events_show.Goals as goal
+
+pub returns-clause-stands : goal.returns-clause-stands
+returns-clause-stands c = stands
+
+pub returns-clause-told : goal.returns-clause-told
+returns-clause-told c = told_is_shown

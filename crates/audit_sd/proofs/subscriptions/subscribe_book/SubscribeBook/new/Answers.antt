@@ -1,0 +1,5 @@
+use Rattle.audit_sd.proofs.subscriptions.SubscribeLemmas.{none_within}
+use Rattle.audit_sd.proofs.subscriptions.subscribe_book.SubscribeBook.new.Goals as goal
+
+pub invariant_of-result : goal.invariant_of-result
+invariant_of-result c = none_within _ c.args.limit c.new.ensures

@@ -1,0 +1,4 @@
+pub mod sessions
+pub mod offers
+pub mod subscriptions
+pub mod receivers

@@ -1,0 +1,175 @@
+//! The subscriptions of a recording that stand.
+ghost use Rattle.std.specs.Prelude.{◌≡◌, ◌≢◌, IfOk, OnErr, OnOk, nat_lt, true, false};
+ghost use Rattle.std.specs.FinMap as finite;
+ghost use Rattle.someip_tables.specs.Deadlines.{deadline_after};
+ghost use Rattle.someip_tables.specs.Lastings.{NeedsMemory, expired};
+ghost use Rattle.audit_sd.specs.receivers.ReceiverTables.{after_entry, after_event, is_passed_over, is_stored};
+ghost use Rattle.audit_sd.specs.receivers.ReceiverTables.{told_by, told_of_event, without, without_expired};
+ghost use Rattle.audit_sd.specs.receivers.ReceiverTables.{without_offer};
+
+use crate::receivers::delivery::Delivery;
+use crate::receivers::entry::{ReceiverEntry, WithdrawnOffer};
+use crate::receivers::finding::Finding;
+use crate::receivers::steps::{
+    Fine, Standing, Told, acknowledge, drop_expired, end, forget, has_receiver, has_room,
+    is_silent, is_told, may_hold, note, subscribe, tell_full, untell, withdraw,
+};
+use crate::subscriptions::{EntryKind, SubscriptionKey};
+use someip_tables::hashed::KeySet;
+use someip_tables::{DeadlineMap, Moment};
+use std::alloc::{AllocError, Global};
+use std::collections::BTreeSet;
+use std::marker::Model;
+use std::net::Ipv4Addr;
+
+/// The subscriptions that stand, and the events that were told. Beside them it keeps which endpoints it
+/// found subscribed since a subscription last ended, so that it looks for the subscription of an event
+/// once in that time.
+#[derive(Drop)]
+pub struct ReceiverBook {
+    limit: usize,
+    settled: Moment,
+    standing: Standing,
+    told: Told,
+    fine: Fine,
+    told_full: bool,
+}
+
+impl Model for ReceiverBook {
+    ghost use Rattle.someip_tables.specs.Tables.{map_of};
+    ghost use Rattle.audit_sd.specs.subscriptions.SubscriptionKeys.{subscription_cmp};
+    ghost use Rattle.audit_sd.specs.receivers.DeliveryKeys.{delivery_cmp};
+    ghost use Rattle.audit_sd.specs.receivers.ReceiverTables.{Receivers, coded_receivers};
+    ghost use Rattle.audit_sd.specs.receivers.FoundSubscribed.{AreSubscribed};
+
+    ghost Value = { Receivers };
+
+    ghost coded = { coded_receivers };
+
+    ghost view = { λ b. record {
+      limit = b.limit;
+      settled = b.settled;
+      standing = map_of subscription_cmp b.standing;
+      told = map_of delivery_cmp b.told;
+      told_full = b.told_full;
+    } };
+
+    ghost invariant = { λ b. AreSubscribed (map_of delivery_cmp b.fine)
+        (map_of subscription_cmp b.standing) };
+}
+
+impl ReceiverBook {
+    /// A book that holds at most so many subscriptions, and was told of so many events, and none yet. It
+    /// tells no event before a moment. It takes no memory.
+    pub fn new(alloc: Global, limit: usize, settled: Moment) -> ReceiverBook
+        ensures { result ≡ record {
+          limit = limit;
+          settled = settled;
+          standing = finite.empty;
+          told = finite.empty;
+          told_full = false;
+        } }
+    {
+        ReceiverBook {
+            limit,
+            settled,
+            standing: DeadlineMap::new(alloc),
+            told: KeySet::new(alloc),
+            fine: KeySet::new(alloc),
+            told_full: false,
+        }
+    }
+
+    /// Drops the subscriptions that have expired, and tells them, by rising key. Whoever goes over a
+    /// recording calls it with the moment of each datagram: what was not dropped stands. It looks at these
+    /// alone. It is refused for memory alone, which it takes only where there are any; then all is as it
+    /// was.
+    pub fn expire(
+        &mut self,
+        alloc: Global,
+        now: Moment,
+    ) -> Result<BTreeSet<SubscriptionKey>, AllocError>
+        ensures told { IfOk result (λ ended. ended.keys
+            ≡ finite.keys (expired now self.old.standing)) }
+        ensures after { OnOk result (self.new ≡ without_expired now self.old) }
+        ensures grows { OnErr result (expired now self.old.standing ≢ finite.empty) }
+        ensures unchanged { OnErr result (self.new ≡ self.old) }
+    {
+        drop_expired(&mut self.standing, &mut self.fine, alloc, now)
+    }
+
+    /// Takes note of an entry of an eventgroup. It tells nothing but that the book is full.
+    ///
+    /// A Subscribe with an endpoint stands until its TTL has passed, and an Ack counts the TTL anew from
+    /// itself. A StopSubscribe and a Nack end the subscription. Memory is taken for what is stored alone,
+    /// and what is refused for want of it leaves the book as it was.
+    pub fn saw(&mut self, now: Moment, entry: ReceiverEntry) -> Result<Option<Finding>, AllocError>
+        ensures told { IfOk result (λ told. told ≡ told_by entry self.old) }
+        ensures after { IfOk result (λ told. self.new ≡ after_entry now entry self.old) }
+        ensures err { OnErr result (self.new ≡ self.old) }
+        ensures stores { OnErr result (is_stored entry self.old ≡ true) }
+        ensures grows { OnErr result
+            (NeedsMemory (finite.get self.old.standing entry.key) (deadline_after now entry.ttl)) }
+    {
+        if entry.ttl == 0 {
+            end(&mut self.standing, &mut self.fine, &entry);
+            return Ok(None);
+        }
+        if matches!(entry.kind, EntryKind::Answer) {
+            acknowledge(&mut self.standing, &self.fine, now, &entry)?;
+            return Ok(None);
+        }
+        let Some(endpoint) = entry.endpoint else {
+            return Ok(None);
+        };
+        if !may_hold(&self.standing, self.limit, &entry) {
+            return Ok(tell_full(&mut self.told_full));
+        }
+        subscribe(&mut self.standing, &mut self.fine, now, &entry, endpoint)?;
+        untell(&mut self.told, &entry, endpoint);
+        Ok(None)
+    }
+
+    /// Ends the subscriptions to an offer that its server withdrew. It looks at every one, and takes no
+    /// memory.
+    pub fn withdraw(&mut self, offer: WithdrawnOffer)
+        ensures { self.new ≡ without_offer offer self.old }
+    {
+        withdraw(&mut self.standing, &mut self.fine, offer);
+    }
+
+    /// Ends the subscriptions of an address that began again, and those at it. It looks at every one, and
+    /// takes no memory.
+    pub fn forget(&mut self, address: Ipv4Addr)
+        ensures { self.new ≡ without address self.old }
+    {
+        forget(&mut self.standing, &mut self.fine, address);
+    }
+
+    /// Says what an event shows that went to one endpoint: that this has no subscription, once for each
+    /// event until a Subscribe comes for it. Memory is taken for an event that is told alone, and what is
+    /// refused for want of it leaves the book as it was.
+    pub fn event(&mut self, now: Moment, delivery: Delivery) -> Result<Option<Finding>, AllocError>
+        ensures told { IfOk result (λ told. told ≡ told_of_event now delivery self.old) }
+        ensures after { IfOk result (λ told. self.new ≡ after_event now delivery self.old) }
+        ensures err { OnErr result (self.new ≡ self.old) }
+        ensures grows { OnErr result (is_passed_over now delivery self.old ≡ false) }
+        ensures room { OnErr result (nat_lt (finite.len self.old.told) self.old.limit ≡ true) }
+    {
+        if is_silent(self.told_full, now, self.settled) {
+            return Ok(None);
+        }
+        if is_told(&self.told, &delivery) {
+            return Ok(None);
+        }
+        if has_receiver(&self.standing, &mut self.fine, self.limit, delivery) {
+            return Ok(None);
+        }
+        if !has_room(&self.told, self.limit) {
+            self.told_full = true;
+            return Ok(Some(Finding::Full));
+        }
+        note(&mut self.told, delivery)?;
+        Ok(Some(Finding::Unsubscribed))
+    }
+}

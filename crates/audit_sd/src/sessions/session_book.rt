@@ -1,0 +1,197 @@
+//! The last stamp of each sender to each destination.
+ghost use Rattle.std.specs.Prelude.{◌≡◌, ◌≤◌, ◌||◌, None, IfOk, OnErr, true, false};
+ghost use Rattle.std.specs.FinMap as finite;
+ghost use Rattle.someip_tables.specs.Tables.{map_of};
+ghost use Rattle.sd_session.specs.Sessions.{following, is_reboot};
+ghost use Rattle.sd_session.specs.Peers.{shows_reboot};
+ghost use Rattle.audit_sd.specs.sessions.SessionRules.{judged, is_same_stamp};
+ghost use Rattle.audit_sd.specs.sessions.SessionBooks.{is_other, last_of, may_hold, needs_memory, pair_cmp};
+ghost use Rattle.audit_sd.specs.sessions.SessionBooks.{pairs_after, sessions_after, told_by, told_when_full};
+
+use crate::sessions::finding::Finding;
+use crate::sessions::message::SdMessage;
+use sd_session::Stamp;
+use someip_tables::is_same_key;
+use std::alloc::{AllocError, Global};
+use std::collections::BTreeMap;
+use std::marker::Model;
+use std::net::Ipv4Addr;
+
+/// The last stamp of each sender to each destination, as far as a recording was read.
+#[derive(Drop)]
+pub struct SessionBook {
+    limit: usize,
+    last: BTreeMap<(Ipv4Addr, Ipv4Addr), Stamp>,
+    told_full: bool,
+}
+
+impl Model for SessionBook {
+    ghost use Rattle.std.specs.Prelude.{◌≤◌};
+    ghost use Rattle.std.specs.FinMap as finite;
+    ghost use Rattle.someip_tables.specs.Tables.{map_of};
+    ghost use Rattle.audit_sd.specs.sessions.SessionBooks.{Sessions, coded_sessions, pair_cmp};
+
+    ghost Value = { Sessions };
+
+    ghost coded = { coded_sessions };
+
+    ghost view = { λ b. record {
+      limit = b.limit;
+      last = map_of pair_cmp b.last.entries;
+      told_full = b.told_full;
+    } };
+
+    ghost invariant = { λ b. finite.len (map_of pair_cmp b.last.entries) ≤ b.limit };
+}
+
+impl SessionBook {
+    /// A book that holds at most so many pairs of sender and destination, and none yet. It takes no
+    /// memory.
+    pub fn new(alloc: Global, limit: usize) -> SessionBook
+        ensures { result ≡ record { limit = limit; last = finite.empty; told_full = false } }
+    {
+        SessionBook {
+            limit,
+            last: BTreeMap::new(alloc),
+            told_full: false,
+        }
+    }
+
+    /// Takes note of a message, and says what it shows. One with session 0 is passed over: no node sends
+    /// it, and one that gets it drops it.
+    ///
+    /// A sender that began again is told once: all that was kept of it goes, whatever the destination,
+    /// and the message is the first of its destination. The first message of a sender to a destination
+    /// is not judged. Memory is taken for such a one alone, and what is refused for want of it leaves
+    /// the book as it was.
+    pub fn saw(&mut self, message: SdMessage) -> Result<Option<Finding>, AllocError>
+        ensures told { IfOk result (λ told. told ≡ told_by message self.old) }
+        ensures after { IfOk result (λ told. self.new ≡ sessions_after message self.old) }
+        ensures err { OnErr result (self.new ≡ self.old) }
+        ensures grows { OnErr result (needs_memory message self.old ≡ true) }
+    {
+        if message.stamp.session == 0 {
+            return Ok(None);
+        }
+        if !may_hold(&self.last, self.limit, &message) {
+            return Ok(tell_full(&mut self.told_full));
+        }
+        enter(&mut self.last, &message)
+    }
+
+    /// How many pairs of sender and destination there are: no more than the book's limit.
+    pub fn len(&self) -> usize
+        ensures count { result ≡ finite.len self.now.last }
+        ensures few { result ≤ self.now.limit }
+    {
+        self.last.len()
+    }
+}
+
+/// Whether the pair of a message may be held: it is, or the pairs are fewer than the limit.
+fn may_hold(last: &BTreeMap<(Ipv4Addr, Ipv4Addr), Stamp>, limit: usize, message: &SdMessage) -> bool
+    ensures { result ≡ may_hold message.now limit (map_of pair_cmp last.now.entries) }
+{
+    last.contains_key(&(message.from, message.to)) || last.len() < limit
+}
+
+/// Says that the book is full, once.
+fn tell_full(told_full: &mut bool) -> Option<Finding>
+    ensures told { result ≡ told_when_full told_full.old }
+    ensures noted { told_full.new ≡ true }
+{
+    if *told_full {
+        return None;
+    }
+    *told_full = true;
+    Some(Finding::Full)
+}
+
+/// Enters a message whose pair is held, or that there is room for, and says what it shows.
+fn enter(
+    last: &mut BTreeMap<(Ipv4Addr, Ipv4Addr), Stamp>,
+    message: &SdMessage,
+) -> Result<Option<Finding>, AllocError>
+    ensures told { IfOk result (λ told. told
+        ≡ judged (last_of message.now (map_of pair_cmp last.old.entries)) message.now.stamp) }
+    ensures after { IfOk result (λ told. map_of pair_cmp last.new.entries
+        ≡ pairs_after message.now (map_of pair_cmp last.old.entries)) }
+    ensures err { OnErr result (map_of pair_cmp last.new.entries ≡ map_of pair_cmp last.old.entries) }
+    ensures grows { OnErr result (last_of message.now (map_of pair_cmp last.old.entries) ≡ None) }
+{
+    let stamp = message.stamp;
+    let Ok(known) = last.insert((message.from, message.to), stamp) else {
+        return Err(AllocError);
+    };
+    if shows_reboot(known, stamp) {
+        forget_others(last, message.from, message.to);
+    }
+    Ok(judge(known, stamp))
+}
+
+/// Forgets what a sender sent, but for what it sent to one destination.
+fn forget_others(
+    last: &mut BTreeMap<(Ipv4Addr, Ipv4Addr), Stamp>,
+    sender: Ipv4Addr,
+    destination: Ipv4Addr,
+)
+    ensures { map_of pair_cmp last.new.entries
+        ≡ finite.retain_keys (map_of pair_cmp last.old.entries) (is_other sender destination) }
+{
+    last.retain(|pair, _| !is_same_key(&pair.0, &sender) || is_same_key(&pair.1, &destination));
+}
+
+/// What a message with this stamp shows, by the last one of its sender to its destination.
+fn judge(last: Option<Stamp>, stamp: Stamp) -> Option<Finding>
+    ensures { result ≡ judged last stamp }
+{
+    let last = last?;
+    let expected = following(last);
+    if is_reboot(last, stamp) {
+        Some(Finding::Reboot)
+    } else if is_same_stamp(stamp, expected) {
+        None
+    } else {
+        Some(Finding::NotNext { stamp, expected })
+    }
+}
+
+/// Whether a message with this stamp shows that its sender began again.
+fn shows_reboot(last: Option<Stamp>, stamp: Stamp) -> bool
+    ensures { result ≡ shows_reboot last stamp }
+{
+    match last {
+        Some(last) => is_reboot(last, stamp),
+        None => false,
+    }
+}
+
+/// Whether the later of two messages shows that their sender began again: its Reboot flag is set, and
+/// that of the earlier was not, or the session did not rise.
+fn is_reboot(earlier: Stamp, later: Stamp) -> bool
+    ensures { result ≡ is_reboot earlier later }
+{
+    later.reboot && (!earlier.reboot || later.session <= earlier.session)
+}
+
+/// The stamp of the message after one: after session FFFF comes 1, and the Reboot flag ends there.
+fn following(stamp: Stamp) -> Stamp
+    ensures { result ≡ following stamp }
+{
+    match stamp.session.checked_add(1) {
+        Some(session) => Stamp {
+            session,
+            reboot: stamp.reboot,
+        },
+        None => Stamp {
+            session: 1,
+            reboot: false,
+        },
+    }
+}
+
+fn is_same_stamp(a: Stamp, b: Stamp) -> bool
+    ensures { result ≡ is_same_stamp a b }
+{
+    a == b
+}

@@ -1,7 +1,0 @@
--- The segments that are offered.
-use Rattle.someip_reassembly.specs.SegmentOffers.{SegmentOffer, offer}
-use Rattle.audit_segments.specs.declared.pieces.Piece.{Piece}
-
--- the offer of a segment
-abbrev pub piece_offer : Piece → SegmentOffer
-piece_offer p = offer p.key p.offset p.more p.slice.now

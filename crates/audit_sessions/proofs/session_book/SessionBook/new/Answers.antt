@@ -1,5 +1,0 @@
-use Rattle.audit_sessions.proofs.PairLemmas.{none_within}
-use Rattle.audit_sessions.proofs.session_book.SessionBook.new.Goals as goal
-
-pub invariant_of-result : goal.invariant_of-result
-invariant_of-result c = none_within c.new.result c.args.limit c.new.ensures.len c.new.ensures.ordered

@@ -1,5 +1,0 @@
-use Rattle.audit_subscriptions.proofs.HistoryLemmas.{waits}
-use Rattle.audit_subscriptions.proofs.laws.a_book_tells_what_the_events_show.Goals as goal
-
-pub returns : goal.returns
-returns c = waits

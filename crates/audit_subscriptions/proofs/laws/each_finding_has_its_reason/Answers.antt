@@ -1,8 +1,0 @@
-use Rattle.audit_subscriptions.proofs.ReasonLemmas.{waiting_is, is_waiting, unanswered_is, is_unanswered}
-use Rattle.audit_subscriptions.proofs.laws.each_finding_has_its_reason.Goals as goal
-
-pub returns-clause-waits : goal.returns-clause-waits
-returns-clause-waits c = λ answer_ms key asked events. (waiting_is answer_ms key asked events, is_waiting answer_ms key asked events)
-
-pub returns-clause-unanswered : goal.returns-clause-unanswered
-returns-clause-unanswered c = λ answer_ms now key asked events. (unanswered_is answer_ms now key asked events, λ both. is_unanswered answer_ms now key asked events both.0 both.1)

@@ -1,6 +1,0 @@
-use Rattle.std.proofs.Common.{None}
-use Rattle.audit_tables.proofs.Hashed.{updates_by_order}
-use Rattle.audit_tables.proofs.tracked.drop_key.Goals as goal
-
-pub returns-clause-left : goal.returns-clause-left
-returns-clause-left g c = updates_by_order g.K.Ord.cmp g.met.K.Ord.matches_eq c.args.held.now c.remove.new.self c.args.key.now None c.remove.ensures.updates.0

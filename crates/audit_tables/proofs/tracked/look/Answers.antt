@@ -1,9 +1,0 @@
-use Rattle.std.proofs.Common.{◌≡◌, ◌∙◌, rules}
-use Rattle.std.specs.HashMap as hash
-use Rattle.audit_tables.proofs.Hashed.{by_order}
-use Rattle.audit_tables.proofs.tracked.look.Goals as goal
-
-pub returns : goal.returns
-returns g c =
-    let found : c.copied.result ≡ hash.get g.K.PartialEq.eq c.args.held.now c.args.key.now = search rules in
-    found ∙ by_order g.K.Ord.cmp g.met.K.Ord.matches_eq c.args.held.now c.args.key.now

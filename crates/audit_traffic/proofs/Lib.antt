@@ -1,0 +1,3 @@
+pub mod about_calls
+pub mod about_events
+pub mod about_segments

@@ -1,4 +1,0 @@
-pub mod SubscriberLemmas
-pub mod SubscriptionRunLemmas
-pub mod OctetLemmas
-pub mod PeerLemmas

@@ -1,3 +1,0 @@
-pub mod SegmentsLemmas
-pub mod SegmentTexts
-pub mod SentLemmas

@@ -1,4 +1,0 @@
-pub mod Names
-pub mod TpHeader
-pub mod Segments
-pub mod Sent

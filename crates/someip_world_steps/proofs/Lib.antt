@@ -1,5 +1,0 @@
-pub mod ReadLemmas
-pub mod StepLemmas
-pub mod LineLemmas
-pub mod EndpointLemmas
-pub mod PayloadLemmas

@@ -1,4 +1,0 @@
-use Rattle.someip_world_steps.proofs.step_kind.step_kind_of.Goals as goal
-
-pub returns : goal.returns
-returns c = c.named.ensures

@@ -1,3 +1,0 @@
-pub mod StepWords
-pub mod Steps
-pub mod StepNodes

@@ -1,8 +1,0 @@
-use Rattle.std.proofs.Common.{refl}
-use Rattle.std.specs.Fmt.{digits}
-use Rattle.hex.specs.Hex.{encode_with}
-use Rattle.someipctl_audit.proofs.laws.findings_have_texts.Goals as goal
-
-pub returns : goal.returns
-unfolding digits encode_with
-returns c = record { malformed = refl; malformed_sd = refl; no_header = refl; reboot = refl; session = refl; late = refl; unasked = refl; repeated = refl; key_reused = refl; twice = refl; gap = refl; unsubscribed = refl; segment = refl; moved = refl; nack = refl; full = refl; endpoints = refl }

@@ -1,8 +1,0 @@
-use Rattle.someipctl_chart.proofs.charting.picture_of.Goals as goal
-
-pub returns-clause-ok : goal.returns-clause-ok
-returns-clause-ok c = (
-  c.in_ok-trace.trace.lines.items,
-  c.in_ok-trace.trace.verdict,
-  (c.deref.result.now, (rw c.deref.ensures.value c.in_ok-steps.ensures.found, c.in_ok-steps.ensures.only), c.in_ok-trace.ensures.lines, c.in_ok-trace.ensures.verdict),
-)

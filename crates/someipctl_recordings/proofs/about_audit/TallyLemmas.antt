@@ -1,0 +1,63 @@
+-- What was counted.
+use Rattle.std.proofs.Common.{◌≡◌, ◌==◌, ℕ, ◌+◌, ◌<◌, Bool, true, false, List, [], ◌∷◌, ◌++◌, length, refl, sym, ap, ◌∙◌, cond, lit<, add-zero, eqb-true, length-append}
+use Rattle.std.proofs.lemmas.Bool.{eqb-false}
+use Rattle.std.proofs.lemmas.List.{get_or-set_other, get_or-set_same, length-set}
+use Rattle.std.proofs.lemmas.List.Sums.{sum_by_push}
+use Rattle.std.specs.List.{flat_map, slice_index, slice_set}
+use Rattle.someip_audit.specs.Audits.{Report}
+use Rattle.someipctl_recordings.specs.declared.audit.kind.Kind.{Kind}
+use Rattle.someipctl_recordings.specs.declared.audit.kind.Kind.TheVariants.{Malformed}
+use Rattle.someipctl_recordings.specs.declared.audit.tally.Tally.{Tally}
+use Rattle.someipctl_recordings.specs.audit.Kinds.{all_kinds, kind_number}
+use Rattle.someipctl_recordings.specs.audit.AuditText.{Looked, audited_line, count_of, kind_line, kind_of, summary_text}
+use Rattle.someipctl_recordings.specs.audit.Tallies.{Counts, tally_after, tally_kinds, looked_in, tally_line}
+
+-- ---- the summary
+
+same_kinds : (t : Tally) (reports : List Report) (looked : Looked) (kinds : List Kind) → Counts t reports looked
+    → tally_kinds t.kinds kinds ≡ flat_map (λ kind. kind_line kind (count_of kind reports)) kinds
+same_kinds t reports looked [] counts = refl
+same_kinds t reports looked (kind ∷ kinds) counts =
+    ap (λ n. kind_line kind n ++ tally_kinds t.kinds kinds) (counts.kinds kind)
+    ∙ ap (λ (text : List ℕ). kind_line kind (count_of kind reports) ++ text) (same_kinds t reports looked kinds counts)
+
+same_looked : (t : Tally) (reports : List Report) (looked : Looked) → Counts t reports looked → looked_in t ≡ looked
+same_looked t reports looked counts = rw (counts.datagrams, counts.messages) refl
+
+pub same_summary : (t : Tally) (reports : List Report) (looked : Looked) → Counts t reports looked → tally_line t ++ tally_kinds t.kinds all_kinds ≡ summary_text looked reports
+same_summary t reports looked counts =
+    ap (λ l. audited_line l t.findings ++ tally_kinds t.kinds all_kinds) (same_looked t reports looked counts)
+    ∙ ap (λ n. audited_line looked n ++ tally_kinds t.kinds all_kinds) counts.findings
+    ∙ ap (λ (text : List ℕ). audited_line looked (length reports) ++ text) (same_kinds t reports looked all_kinds counts)
+
+-- ---- one more
+
+below : (kind : Kind) → kind_number kind < 18
+below Malformed = lit< tt
+below _ = lit< tt
+
+one_more : (numbers : List ℕ) (n m : ℕ) → n < length numbers → slice_index (slice_set numbers n (slice_index numbers n + 1)) m ≡ slice_index numbers m + cond (n == m) 1 0
+one_more numbers n m within = go (n == m) refl
+  where
+    go : (same : Bool) → (n == m) ≡ same → slice_index (slice_set numbers n (slice_index numbers n + 1)) m ≡ slice_index numbers m + cond same 1 0
+    go true is =
+        let same = eqb-true n m is in
+        rw (← same) (get_or-set_same numbers n (slice_index numbers n + 1) 0 within)
+    go false is =
+        get_or-set_other numbers n m (slice_index numbers n + 1) 0 (λ same. eqb-false n m is (sym same))
+        ∙ sym (add-zero (slice_index numbers m))
+
+pub counts_more : (t : Tally) (reports : List Report) (looked : Looked) (report : Report) → Counts t reports looked → Counts (tally_after (kind_of report) t) (reports ++ report ∷ []) looked
+counts_more t reports looked report counts =
+    let n = kind_number (kind_of report) in
+    let within : n < length t.kinds = rw counts.size (below (kind_of report)) in
+    record {
+      datagrams = counts.datagrams;
+      messages = counts.messages;
+      findings = ap (λ n. n + 1) counts.findings ∙ sym (length-append reports (report ∷ []));
+      size = length-set t.kinds n (slice_index t.kinds n + 1) ∙ counts.size;
+      kinds = λ kind.
+          one_more t.kinds n (kind_number kind) within
+          ∙ ap (λ k. k + cond (n == kind_number kind) 1 0) (counts.kinds kind)
+          ∙ sym (sum_by_push (λ r. cond (kind_number (kind_of r) == kind_number kind) 1 0) reports report);
+    }

@@ -1,0 +1,9 @@
+use Rattle.std.proofs.Common.{refl}
+use Rattle.std.specs.Fmt.{digits}
+use Rattle.hex.specs.Hex.{encode_with}
+use Rattle.someipctl_recordings.specs.audit.Kinds.{all_kinds}
+use Rattle.someipctl_recordings.proofs.audit.laws.a_summary_counts_by_kind.Goals as goal
+
+pub returns : goal.returns
+unfolding digits encode_with all_kinds
+returns c = record { some = refl; none = refl }

@@ -1,0 +1,15 @@
+use Rattle.std.proofs.Common.{refl}
+use Rattle.std.specs.Fmt.{digits}
+use Rattle.hex.specs.Hex.{encode_with}
+use Rattle.someipctl_recordings.proofs.audit.laws.lines_have_a_time_and_a_datagram.Goals as goal
+
+pub returns : goal.returns
+unfolding digits encode_with
+returns c = record {
+  found = refl;
+  without_time = refl;
+  unanswered = refl;
+  missing = refl;
+  expired = refl;
+  subscribe = refl;
+}

@@ -1,0 +1,52 @@
+-- The kinds of findings, as the summary of an audit names them.
+use Rattle.std.specs.Prelude.{ℕ, List, [], ◌∷◌, codes}
+use Rattle.someipctl_recordings.specs.declared.audit.kind.Kind.{Kind}
+use Rattle.someipctl_recordings.specs.declared.audit.kind.Kind.TheVariants.{Malformed, Reboot, SdSession, Unanswered, Late, Unasked, Repeated, KeyReused, EventRepeated, EventGap, EventUnsubscribed, Segments, SegmentsMissing, OfferExpired, OfferMoved, Nack, SubscribeUnanswered, Full}
+
+-- the words of a kind
+abbrev pub kind_words : Kind → List ℕ
+kind_words Malformed = codes "malformed"
+kind_words Reboot = codes "reboot"
+kind_words SdSession = codes "sd session"
+kind_words Unanswered = codes "unanswered"
+kind_words Late = codes "late"
+kind_words Unasked = codes "unasked"
+kind_words Repeated = codes "repeated"
+kind_words KeyReused = codes "key reused"
+kind_words EventRepeated = codes "event repeated"
+kind_words EventGap = codes "event gap"
+kind_words EventUnsubscribed = codes "event unsubscribed"
+kind_words Segments = codes "segments"
+kind_words SegmentsMissing = codes "segments missing"
+kind_words OfferExpired = codes "offer expired"
+kind_words OfferMoved = codes "offer moved"
+kind_words Nack = codes "nack"
+kind_words SubscribeUnanswered = codes "subscribe unanswered"
+kind_words Full = codes "full"
+
+-- all of them, in the order of the summary
+unfoldable pub all_kinds : List Kind
+all_kinds =
+    Malformed ∷ Reboot ∷ SdSession ∷ Unanswered ∷ Late ∷ Unasked ∷ Repeated ∷ KeyReused ∷ EventRepeated ∷ EventGap ∷ EventUnsubscribed
+    ∷ Segments ∷ SegmentsMissing ∷ OfferExpired ∷ OfferMoved ∷ Nack ∷ SubscribeUnanswered ∷ Full ∷ []
+
+-- the number of a kind in that order, by which kinds are told apart
+abbrev pub kind_number : Kind → ℕ
+kind_number Malformed = 0
+kind_number Reboot = 1
+kind_number SdSession = 2
+kind_number Unanswered = 3
+kind_number Late = 4
+kind_number Unasked = 5
+kind_number Repeated = 6
+kind_number KeyReused = 7
+kind_number EventRepeated = 8
+kind_number EventGap = 9
+kind_number EventUnsubscribed = 10
+kind_number Segments = 11
+kind_number SegmentsMissing = 12
+kind_number OfferExpired = 13
+kind_number OfferMoved = 14
+kind_number Nack = 15
+kind_number SubscribeUnanswered = 16
+kind_number Full = 17

@@ -1,0 +1,104 @@
+-- What is printed of a recording, record by record.
+use Rattle.std.specs.Prelude.{◌≡◌, ◌⊎◌, ◌+◌, ℕ, List, [], ◌++◌, map, Option, None, Some}
+use Rattle.std.specs.List.{flat_map}
+use Rattle.recording.specs.HeldItems.{held_of}
+use Rattle.recording.specs.Packets.{DatagramValue, RecordValue, datagram, other}
+use Rattle.someip_audit.specs.declared.FellDue.{FellDue}
+use Rattle.someip_audit.specs.Audits.{AuditState, Drains, Report, fell}
+use Rattle.someipctl_io.specs.Inputs.{WasLeft}
+use Rattle.someipctl_io.specs.Outcomes.{fault_outcome}
+use Rattle.someipctl_io.specs.Sending.{Sends, Stops}
+use Rattle.someipctl_recordings.specs.declared.ShownRecording.{ShownRecording}
+use Rattle.someipctl_recordings.specs.LeftOut.{counted, left_out_of}
+use Rattle.someipctl_recordings.specs.Moments.{moment_of}
+use Rattle.someipctl_recordings.specs.RecordingResult.{fault_among}
+use Rattle.someipctl_recordings.specs.declared.audit.audits.Gone.{Gone}
+use Rattle.someipctl_recordings.specs.declared.audit.auditing.SeenDatagram.{SeenDatagram}
+use Rattle.someipctl_recordings.specs.declared.audit.tally.Tally.{Tally}
+use Rattle.someipctl_recordings.specs.audit.AuditResult.{has_findings}
+use Rattle.someipctl_recordings.specs.audit.AuditText.{Looked, audit_text, fell_line, summary_text}
+use Rattle.someipctl_recordings.specs.audit.Scenes.{view_seen}
+use Rattle.someipctl_recordings.specs.audit.SeenIn.{AskedAudit, Tells, audit_at, datagrams_in, looked_of, seen_in, seen_next}
+use Rattle.someipctl_recordings.specs.audit.Steps.{PutsDue, PutsSeen, StopsDue, StopsSeen}
+
+-- ---- the next datagram
+
+-- all that is told of it was printed and counted, and the audit, which it may begin, is this one then
+pub record PutsNext (asked : AskedAudit) (s : SeenDatagram) (before after : Option AuditState) (tally later : Tally) (a : Option (List ℕ)) (held : List ℕ) (b : Option (List ℕ)) (waits : List ℕ) : Type 0 where
+  pub state : AuditState
+  pub is : after ≡ Some state
+  pub puts : PutsSeen s.time (view_seen s) (audit_at asked before (view_seen s)) state tally later a held b waits
+
+-- some of it was
+abbrev pub StopsNext : AskedAudit → SeenDatagram → Option AuditState → Option (List ℕ) → List ℕ → Option (List ℕ) → Type 0
+StopsNext asked s before a held b = StopsSeen s.time (view_seen s) (audit_at asked before (view_seen s)) a held b
+
+-- the same of a datagram of the recording, of which one more came then
+pub record PutsDatagram (asked : AskedAudit) (d : DatagramValue) (before after : Option AuditState) (gone later : Gone) (a : Option (List ℕ)) (held : List ℕ) (b : Option (List ℕ)) (waits : List ℕ) : Type 0 where
+  pub state : AuditState
+  pub is : after ≡ Some state
+  pub puts : PutsSeen d.time (seen_next gone.datagrams gone.now d) (audit_at asked before (seen_next gone.datagrams gone.now d)) state gone.tally later.tally a held b waits
+  pub number : later.datagrams ≡ gone.datagrams + 1
+  pub moment : later.now ≡ moment_of gone.now d.time
+  pub left_out : later.left_out ≡ gone.left_out
+
+abbrev pub StopsDatagram : AskedAudit → DatagramValue → Option AuditState → Gone → Option (List ℕ) → List ℕ → Option (List ℕ) → Type 0
+StopsDatagram asked d before gone a held b =
+    StopsSeen d.time (seen_next gone.datagrams gone.now d) (audit_at asked before (seen_next gone.datagrams gone.now d)) a held b
+
+-- ---- a record
+
+-- of one that gives no datagram nothing is told, and it is counted
+abbrev pub PutsRecord : AskedAudit → RecordValue → Option AuditState → Option AuditState → Gone → Gone → Option (List ℕ) → List ℕ → Option (List ℕ) → List ℕ → Type 0
+PutsRecord asked (datagram d) before after gone later a held b waits = PutsDatagram asked d before after gone later a held b waits
+PutsRecord asked (other kind) before after gone later a held b waits =
+    (after ≡ before) × (later ≡ record gone { left_out = counted kind gone.left_out }) × Sends a held b waits []
+
+abbrev pub StopsRecord : AskedAudit → RecordValue → Option AuditState → Gone → Option (List ℕ) → List ℕ → Option (List ℕ) → Type 0
+StopsRecord asked (datagram d) before gone a held b = StopsDatagram asked d before gone a held b
+StopsRecord asked (other kind) before gone a held b = ⊥
+
+-- ---- the end
+
+-- everything that fell due by the last moment was printed and counted, if an audit began
+abbrev pub PutsLast : ℕ → Option AuditState → Tally → Tally → Option (List ℕ) → List ℕ → Option (List ℕ) → List ℕ → Type 0
+PutsLast now None tally later a held b waits = (later ≡ tally) × Sends a held b waits []
+PutsLast now (Some state) tally later a held b waits = (after : AuditState) × PutsDue now state after tally later a held b waits
+
+abbrev pub StopsLast : ℕ → Option AuditState → Option (List ℕ) → List ℕ → Option (List ℕ) → Type 0
+StopsLast now None a held b = ⊥
+StopsLast now (Some state) a held b = StopsDue now state a held b
+
+-- this fell due by the last moment, if an audit began
+abbrev pub EndsWith : ℕ → Option AuditState → List FellDue → Type 0
+EndsWith now None told = told ≡ []
+EndsWith now (Some state) told = (after : AuditState) × Drains now state told after
+
+-- what fell due by the last moment was printed, and the summary, where these reports were told before
+pub record PutsEnd (gone : Gone) (audit : Option AuditState) (reports : List Report) (looked : Looked) (a : Option (List ℕ)) (held : List ℕ) (b : Option (List ℕ)) (waits : List ℕ) (shown : ShownRecording) : Type 0 where
+  pub told : List FellDue
+  pub ends : EndsWith gone.now audit told
+  pub sends : Sends a held b waits (flat_map fell_line told ++ summary_text looked (reports ++ map fell told))
+  pub outcome : shown.outcome ≡ fault_outcome (has_findings (reports ++ map fell told))
+
+-- some of it was
+pub record StopsSummary (gone : Gone) (audit : Option AuditState) (reports : List Report) (looked : Looked) (a : Option (List ℕ)) (held : List ℕ) (b : Option (List ℕ)) : Type 0 where
+  pub told : List FellDue
+  pub ends : EndsWith gone.now audit told
+  pub stops : Stops a held b (flat_map fell_line told ++ summary_text looked (reports ++ map fell told))
+
+abbrev pub StopsEnd : Gone → Option AuditState → List Report → Looked → Option (List ℕ) → List ℕ → Option (List ℕ) → Type 0
+StopsEnd gone audit reports looked a held b = StopsLast gone.now audit a held b ⊎ StopsSummary gone audit reports looked a held b
+
+-- ---- the whole
+
+-- the audit of the recording was printed, of which a part may wait in the buffer
+pub record PutsAudit (input : Option (List ℕ)) (asked : AskedAudit) (shown : ShownRecording) (before after : Option (List ℕ)) (waits : List ℕ) : Type 0 where
+  pub file : List ℕ
+  pub left : WasLeft input file
+  pub ends : shown.fault ≡ fault_among (held_of file)
+  pub reports : List Report
+  pub told : Tells asked 0 None (seen_in (datagrams_in (held_of file))) reports
+  pub sends : Sends before [] after waits (audit_text (datagrams_in (held_of file)) reports (looked_of asked 0 None (seen_in (datagrams_in (held_of file))) reports told))
+  pub tells : shown.outcome ≡ fault_outcome (has_findings reports)
+  pub counts : shown.left_out ≡ left_out_of (held_of file)

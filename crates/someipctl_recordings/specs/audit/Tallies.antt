@@ -1,0 +1,36 @@
+-- What an audit counts, step by step.
+use Rattle.std.specs.Prelude.{◌≡◌, ℕ, ◌+◌, List, length, slice_index, slice_set, Option, None, Some}
+use Rattle.std.specs.List.{flat_map}
+use Rattle.someip_audit.specs.Audits.{Report}
+use Rattle.someipctl_recordings.specs.declared.audit.kind.Kind.{Kind}
+use Rattle.someipctl_recordings.specs.declared.audit.tally.Tally.{Tally}
+use Rattle.someipctl_recordings.specs.audit.Kinds.{kind_number}
+use Rattle.someipctl_recordings.specs.audit.AuditText.{Looked, audited_line, count_of, kind_line}
+
+-- one more finding of a kind
+abbrev pub tally_after : Kind → Tally → Tally
+tally_after kind t = record t { findings = t.findings + 1; kinds = slice_set t.kinds (kind_number kind) (slice_index t.kinds (kind_number kind) + 1) }
+
+-- one more datagram, if it is looked at, with so many messages
+abbrev pub tally_looked : Option ℕ → Tally → Tally
+tally_looked None t = t
+tally_looked (Some n) t = record t { datagrams = t.datagrams + 1; messages = t.messages + n }
+
+-- these reports and datagrams were counted
+pub record Counts (t : Tally) (reports : List Report) (looked : Looked) : Type 0 where
+  pub datagrams : t.datagrams ≡ looked.datagrams
+  pub messages : t.messages ≡ looked.messages
+  pub findings : t.findings ≡ length reports
+  pub size : length t.kinds ≡ 18
+  pub kinds : (kind : Kind) → slice_index t.kinds (kind_number kind) ≡ count_of kind reports
+
+-- ---- the text of what was counted
+
+abbrev pub looked_in : Tally → Looked
+looked_in t = record { datagrams = t.datagrams; messages = t.messages }
+
+abbrev pub tally_line : Tally → List ℕ
+tally_line t = audited_line (looked_in t) t.findings
+
+abbrev pub tally_kinds : List ℕ → List Kind → List ℕ
+tally_kinds numbers kinds = flat_map (λ kind. kind_line kind (slice_index numbers (kind_number kind))) kinds

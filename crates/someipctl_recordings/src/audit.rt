@@ -1,0 +1,17 @@
+//! The command `audit` of `someipctl`.
+
+mod asked;
+mod auditing;
+mod audits;
+mod kind;
+pub mod laws;
+mod lines;
+mod says;
+mod summary;
+mod tally;
+mod times;
+
+pub use asked::AuditAsked;
+pub use audits::show_audit;
+pub use kind::Kind;
+pub use times::{TimesError, rules_in};

@@ -1,0 +1,324 @@
+//! The command `audit`: what a recording of network traffic shows against the protocol.
+//!
+//! K counts all datagrams of the recording, looked at or not, as `recording FILE` without a selection
+//! counts them, so that a line can be found in both; the summary counts those that were looked at.
+ghost use Rattle.std.specs.Prelude.{◌≡◌, ◌<◌, ◌+◌, ◌^◌, [], IfOk, List, None, OnErr, OnOk, Some};
+ghost use Rattle.recording.specs.View.{view_datagram, view_record};
+ghost use Rattle.someip_audit.specs.Audits.{Report};
+ghost use Rattle.someipctl_recordings.specs.LeftOut.{nothing_left_out, total};
+ghost use Rattle.someipctl_recordings.specs.Moments.{moment_of};
+ghost use Rattle.someipctl_recordings.specs.audit.AuditResult.{BeginsAudit, ShowsAudit, view_asked};
+ghost use Rattle.someipctl_recordings.specs.audit.AuditText.{Looked};
+ghost use Rattle.someipctl_recordings.specs.audit.Runs.{PutsAudit, PutsDatagram, PutsEnd, PutsLast, PutsNext, PutsRecord};
+ghost use Rattle.someipctl_recordings.specs.audit.Runs.{StopsDatagram, StopsEnd, StopsLast, StopsNext, StopsRecord};
+ghost use Rattle.someipctl_recordings.specs.audit.Scenes.{view_seen};
+ghost use Rattle.someipctl_recordings.specs.audit.SeenIn.{audit_at, none_looked, seen_next};
+ghost use Rattle.someipctl_recordings.specs.audit.Tallies.{Counts};
+
+use crate::audit::asked::AuditAsked;
+use crate::audit::auditing::{SeenDatagram, put_due, put_seen};
+use crate::audit::summary::put_summary;
+use crate::audit::tally::Tally;
+use crate::moments::moment_of;
+use crate::read_loop::{Coming, next_coming};
+use crate::reassembly::socket_of;
+use crate::{LeftOut, RecordingFault, ShownRecording};
+use recording::{Datagram, Record, RecordingError, RecordingReader, Time};
+use someip_audit::{Audit, Finding};
+use someip_reassembly::Reassembly;
+use someip_tables::Moment;
+use someip_tables::hashed::Origin;
+use someipctl_io::{Buffer, Outcome};
+use std::alloc::{AllocError, Global};
+use std::io::{Read, Write};
+
+/// What is kept from datagram to datagram.
+#[derive(Drop)]
+pub(crate) struct Auditing<S: Reassembly> {
+    alloc: Global,
+    /// The audit, which begins with the first datagram.
+    audit: Option<Audit<S>>,
+    /// Room for the findings of a datagram.
+    findings: Vec<Finding>,
+}
+
+/// How far a recording is gone over.
+#[derive(Clone, Copy)]
+pub(crate) struct Gone {
+    /// How many datagrams came.
+    pub(crate) datagrams: usize,
+    /// The latest moment.
+    pub(crate) now: Moment,
+    /// What was counted.
+    pub(crate) tally: Tally,
+    /// The packets that give no datagram.
+    pub(crate) left_out: LeftOut,
+}
+
+/// Writes what a recording shows against the protocol, as it is read: a line for each finding, and then the
+/// summary. The body `S` puts messages together from their segments. What waits to be written is written
+/// before each read.
+///
+/// One packet or block of the recording is held at a time, and what the books of the audit hold.
+pub fn show_audit<S: Reassembly + Drop, R: Read, W: Write>(
+    alloc: Global,
+    source: &mut R,
+    asked: &AuditAsked<'_>,
+    writer: &mut W,
+) -> Result<ShownRecording, RecordingFault>
+    // The text of the audit of what comes before the recording's fault was written, or of all of it, and what
+    // is told of the recording is so: its outcome says whether there are findings.
+    ensures shown { IfOk result (λ shown. ShowsAudit (R.remaining source.old) (view_asked asked.now)
+        shown (W.contents writer.old) (W.contents writer.new)) }
+    // Else a beginning of that text was.
+    ensures begun { OnErr result (BeginsAudit (R.remaining source.old) (view_asked asked.now)
+        (W.contents writer.old) (W.contents writer.new)) }
+{
+    let mut buffer = Buffer::new(alloc)?;
+    let shown = put_from_start::<S, R, W>(alloc, source, asked, &mut buffer, writer)?;
+    buffer.flush(writer)?;
+    Ok(shown)
+}
+
+/// Prints the audit of a recording, from before its first datagram.
+fn put_from_start<S: Reassembly + Drop, R: Read, W: Write>(
+    alloc: Global,
+    source: &mut R,
+    asked: &AuditAsked<'_>,
+    buffer: &mut Buffer,
+    writer: &mut W,
+) -> Result<ShownRecording, RecordingFault>
+    requires empty { buffer.old ≡ [] }
+    ensures puts { IfOk result (λ shown. PutsAudit (R.remaining source.old) (view_asked asked.now)
+        shown (W.contents writer.old) (W.contents writer.new) buffer.new) }
+    ensures begun { OnErr result (BeginsAudit (R.remaining source.old) (view_asked asked.now)
+        (W.contents writer.old) (W.contents writer.new)) }
+{
+    let mut auditing = Auditing::<S> {
+        alloc,
+        audit: None,
+        findings: Vec::new(alloc),
+    };
+    put_audit(source, asked, &mut auditing, buffer, writer)
+}
+
+/// Prints the audit of a recording.
+fn put_audit<S: Reassembly + Drop, R: Read, W: Write>(
+    source: &mut R,
+    asked: &AuditAsked<'_>,
+    auditing: &mut Auditing<S>,
+    buffer: &mut Buffer,
+    writer: &mut W,
+) -> Result<ShownRecording, RecordingFault>
+    requires empty { buffer.old ≡ [] }
+    requires begun { auditing.old.audit ≡ None }
+    ensures puts { IfOk result (λ shown. PutsAudit (R.remaining source.old) (view_asked asked.now)
+        shown (W.contents writer.old) (W.contents writer.new) buffer.new) }
+    ensures begun { OnErr result (BeginsAudit (R.remaining source.old) (view_asked asked.now)
+        (W.contents writer.old) (W.contents writer.new)) }
+{
+    let mut recording = RecordingReader::new(auditing.alloc);
+    let mut gone = Gone::nothing();
+    for _ in 0..u64::MAX {
+        let coming = next_coming(&mut recording, source, buffer, writer)?;
+        match coming {
+            Coming::Record => {}
+            Coming::Fault(fault) => {
+                return put_end(buffer, writer, auditing, &mut gone, Some(fault));
+            }
+            Coming::End => return put_end(buffer, writer, auditing, &mut gone, None),
+        }
+        if let Some(found) = recording.record() {
+            put_record(buffer, writer, asked, &found, auditing, &mut gone)?;
+        }
+    }
+    Err(RecordingFault::CannotRead)
+}
+
+/// Prints what is told of a record, and counts it.
+fn put_record<S: Reassembly + Drop, W: Write>(
+    buffer: &mut Buffer,
+    writer: &mut W,
+    asked: &AuditAsked<'_>,
+    found: &Record<'_>,
+    auditing: &mut Auditing<S>,
+    gone: &mut Gone,
+) -> Result<(), RecordingFault>
+    requires few { gone.old.datagrams + total gone.old.left_out + 1 < 2 ^ 64 }
+    ensures puts { OnOk result (PutsRecord (view_asked asked.now) (view_record found.now)
+        auditing.old.audit auditing.new.audit gone.old gone.new
+        (W.contents writer.old) buffer.old (W.contents writer.new) buffer.new) }
+    ensures stops { OnErr result (StopsRecord (view_asked asked.now) (view_record found.now)
+        auditing.old.audit gone.old (W.contents writer.old) buffer.old (W.contents writer.new)) }
+{
+    match found {
+        Record::Datagram(datagram) => {
+            put_datagram(buffer, writer, asked, datagram, auditing, gone)
+        }
+        Record::Other(kind) => {
+            gone.left_out.add(*kind);
+            Ok(())
+        }
+    }
+}
+
+/// Prints what is told of the next datagram, and counts it.
+fn put_datagram<S: Reassembly + Drop, W: Write>(
+    buffer: &mut Buffer,
+    writer: &mut W,
+    asked: &AuditAsked<'_>,
+    datagram: &Datagram<'_>,
+    auditing: &mut Auditing<S>,
+    gone: &mut Gone,
+) -> Result<(), RecordingFault>
+    requires few { gone.old.datagrams + 1 < 2 ^ 64 }
+    ensures puts { OnOk result (PutsDatagram (view_asked asked.now) (view_datagram datagram.now)
+        auditing.old.audit auditing.new.audit gone.old gone.new
+        (W.contents writer.old) buffer.old (W.contents writer.new) buffer.new) }
+    ensures stops { OnErr result (StopsDatagram (view_asked asked.now) (view_datagram datagram.now)
+        auditing.old.audit gone.old (W.contents writer.old) buffer.old (W.contents writer.new)) }
+{
+    let seen = seen_next(gone.datagrams, gone.now, datagram);
+    put_next(buffer, writer, asked, &seen, auditing, &mut gone.tally)?;
+    gone.datagrams += 1;
+    gone.now = seen.now;
+    Ok(())
+}
+
+/// The next datagram, where so many came before it, the latest at this moment.
+fn seen_next<'d>(count: usize, latest: Moment, datagram: &Datagram<'d>) -> SeenDatagram<'d>
+    requires { count + 1 < 2 ^ 64 }
+    ensures seen { view_seen result ≡ seen_next count latest (view_datagram datagram.now) }
+    ensures time { result.time ≡ datagram.now.time }
+{
+    SeenDatagram {
+        time: datagram.time,
+        now: moment_after(latest, datagram.time),
+        origin: Origin {
+            datagram: count as u64 + 1,
+            from: socket_of(datagram.from),
+            to: socket_of(datagram.to),
+        },
+        bytes: datagram.payload,
+    }
+}
+
+/// The moment of a datagram with this time, where the latest so far is this.
+fn moment_after(latest: Moment, time: Option<Time>) -> Moment
+    ensures { result ≡ moment_of latest time }
+{
+    match Moment::new(moment_of(latest.as_millis(), time)) {
+        Some(moment) => moment,
+        None => unreachable!(),
+    }
+}
+
+/// Prints what is told of a datagram. The first one begins the audit.
+fn put_next<S: Reassembly + Drop, W: Write>(
+    buffer: &mut Buffer,
+    writer: &mut W,
+    asked: &AuditAsked<'_>,
+    seen: &SeenDatagram<'_>,
+    auditing: &mut Auditing<S>,
+    tally: &mut Tally,
+) -> Result<(), RecordingFault>
+    ensures puts { OnOk result (PutsNext (view_asked asked.now) seen.entry.now auditing.old.audit auditing.new.audit
+        tally.old tally.new (W.contents writer.old) buffer.old (W.contents writer.new) buffer.new) }
+    ensures stops { OnErr result (StopsNext (view_asked asked.now) seen.entry.now auditing.old.audit
+        (W.contents writer.old) buffer.old (W.contents writer.new)) }
+{
+    let alloc = auditing.alloc;
+    if auditing.audit.is_none() {
+        begin_with(&mut auditing.audit, alloc, asked, seen)?;
+    }
+    let findings = &mut auditing.findings;
+    match &mut auditing.audit {
+        Some(audit) => put_seen(buffer, writer, alloc, audit, seen, findings, tally),
+        None => unreachable!(),
+    }
+}
+
+/// Begins an audit at the moment of a datagram. This happens once, so it stands apart from the way of all
+/// other datagrams.
+#[cold]
+#[inline(never)]
+fn begin_with<S: Reassembly + Drop>(
+    audit: &mut Option<Audit<S>>,
+    alloc: Global,
+    asked: &AuditAsked<'_>,
+    seen: &SeenDatagram<'_>,
+) -> Result<(), AllocError>
+    ensures begun { OnOk result (audit.new ≡ Some (audit_at (view_asked asked.now) None (view_seen seen.entry.now))) }
+    ensures same { OnErr result (audit.new ≡ audit.old) }
+{
+    *audit = Some(Audit::begin(alloc, &asked.rules, asked.ports, seen.now)?);
+    Ok(())
+}
+
+/// Prints what fell due by the last moment, and the summary.
+fn put_end<S: Reassembly + Drop, W: Write>(
+    buffer: &mut Buffer,
+    writer: &mut W,
+    auditing: &mut Auditing<S>,
+    gone: &mut Gone,
+    fault: Option<RecordingError>,
+) -> Result<ShownRecording, RecordingFault>
+    ensures puts { (reports : List Report) (looked : Looked) → Counts gone.old.tally reports looked
+        → IfOk result (PutsEnd gone.old auditing.old.audit reports looked
+        (W.contents writer.old) buffer.old (W.contents writer.new) buffer.new) }
+    ensures stops { (reports : List Report) (looked : Looked) → Counts gone.old.tally reports looked
+        → OnErr result (StopsEnd gone.old auditing.old.audit reports looked
+        (W.contents writer.old) buffer.old (W.contents writer.new)) }
+    ensures fault { IfOk result (λ shown. shown.fault ≡ fault) }
+    ensures left_out { IfOk result (λ shown. shown.left_out ≡ gone.old.left_out) }
+{
+    put_last(
+        buffer,
+        writer,
+        &mut auditing.audit,
+        gone.now,
+        &mut gone.tally,
+    )?;
+    put_summary(buffer, writer, &gone.tally)?;
+    Ok(ShownRecording {
+        outcome: Outcome::of(gone.tally.findings > 0),
+        left_out: gone.left_out,
+        fault,
+    })
+}
+
+/// Prints what fell due by the last moment, if an audit began.
+fn put_last<S: Reassembly + Drop, W: Write>(
+    buffer: &mut Buffer,
+    writer: &mut W,
+    audit: &mut Option<Audit<S>>,
+    now: Moment,
+    tally: &mut Tally,
+) -> Result<(), RecordingFault>
+    ensures puts { OnOk result (PutsLast now audit.old tally.old tally.new
+        (W.contents writer.old) buffer.old (W.contents writer.new) buffer.new) }
+    ensures stops { OnErr result (StopsLast now audit.old
+        (W.contents writer.old) buffer.old (W.contents writer.new)) }
+{
+    match audit {
+        Some(audit) => put_due(buffer, writer, audit, now, tally),
+        None => Ok(()),
+    }
+}
+
+impl Gone {
+    /// Before the first record.
+    fn nothing() -> Gone
+        ensures counts { Counts result.tally [] none_looked }
+        ensures datagrams { result.datagrams ≡ 0 }
+        ensures now { result.now ≡ 0 }
+        ensures left_out { result.left_out ≡ nothing_left_out }
+    {
+        Gone {
+            datagrams: 0,
+            now: Moment::start(),
+            tally: Tally::new(),
+            left_out: LeftOut::new(),
+        }
+    }
+}

@@ -1,0 +1,129 @@
+//! The kinds of findings.
+ghost use Rattle.std.specs.Prelude.{◌≡◌, ◌<◌};
+ghost use Rattle.someipctl_recordings.specs.audit.Kinds.{all_kinds, kind_number, kind_words};
+
+/// A kind of findings, as the summary of an audit names it.
+#[derive(Clone, Copy)]
+pub enum Kind {
+    /// A message, a payload of Service Discovery or a segment that cannot be read.
+    Malformed,
+    /// A sender of Service Discovery began again.
+    Reboot,
+    /// A message of Service Discovery is not the one after the last.
+    SdSession,
+    /// A call had no answer in time.
+    Unanswered,
+    /// An answer came late.
+    Late,
+    /// An answer came to no call.
+    Unasked,
+    /// An answer came twice.
+    Repeated,
+    /// A call has the key of one that is open.
+    KeyReused,
+    /// An event came twice.
+    EventRepeated,
+    /// Events before an event were lost.
+    EventGap,
+    /// An event went to an endpoint without a subscription.
+    EventUnsubscribed,
+    /// A segment is refused.
+    Segments,
+    /// A message stayed in part.
+    SegmentsMissing,
+    /// The TTL of an offer passed.
+    OfferExpired,
+    /// An offer moved while it stood.
+    OfferMoved,
+    /// A subscription was refused.
+    Nack,
+    /// A Subscribe had no answer in time.
+    SubscribeUnanswered,
+    /// A table is full.
+    Full,
+}
+
+/// How many kinds there are.
+pub(crate) const KIND_COUNT: usize = 18;
+
+/// All kinds, in the order of the summary.
+#[tactic(auto, unfolding(crate::specs::audit::Kinds::all_kinds))]
+pub(crate) fn kinds() -> [Kind; KIND_COUNT]
+    ensures { result ≡ all_kinds }
+{
+    [
+        Kind::Malformed,
+        Kind::Reboot,
+        Kind::SdSession,
+        Kind::Unanswered,
+        Kind::Late,
+        Kind::Unasked,
+        Kind::Repeated,
+        Kind::KeyReused,
+        Kind::EventRepeated,
+        Kind::EventGap,
+        Kind::EventUnsubscribed,
+        Kind::Segments,
+        Kind::SegmentsMissing,
+        Kind::OfferExpired,
+        Kind::OfferMoved,
+        Kind::Nack,
+        Kind::SubscribeUnanswered,
+        Kind::Full,
+    ]
+}
+
+impl Kind {
+    /// Its words, which are the first of the line of a finding: `sd session`.
+    pub fn words(self) -> &'static str
+        ensures { result.now ≡ kind_words self }
+    {
+        match self {
+            Kind::Malformed => "malformed",
+            Kind::Reboot => "reboot",
+            Kind::SdSession => "sd session",
+            Kind::Unanswered => "unanswered",
+            Kind::Late => "late",
+            Kind::Unasked => "unasked",
+            Kind::Repeated => "repeated",
+            Kind::KeyReused => "key reused",
+            Kind::EventRepeated => "event repeated",
+            Kind::EventGap => "event gap",
+            Kind::EventUnsubscribed => "event unsubscribed",
+            Kind::Segments => "segments",
+            Kind::SegmentsMissing => "segments missing",
+            Kind::OfferExpired => "offer expired",
+            Kind::OfferMoved => "offer moved",
+            Kind::Nack => "nack",
+            Kind::SubscribeUnanswered => "subscribe unanswered",
+            Kind::Full => "full",
+        }
+    }
+
+    /// Its number in the order of the summary, from 0.
+    pub(crate) fn number(self) -> usize
+        ensures number { result ≡ kind_number self }
+        ensures below { result < KIND_COUNT }
+    {
+        match self {
+            Kind::Malformed => 0,
+            Kind::Reboot => 1,
+            Kind::SdSession => 2,
+            Kind::Unanswered => 3,
+            Kind::Late => 4,
+            Kind::Unasked => 5,
+            Kind::Repeated => 6,
+            Kind::KeyReused => 7,
+            Kind::EventRepeated => 8,
+            Kind::EventGap => 9,
+            Kind::EventUnsubscribed => 10,
+            Kind::Segments => 11,
+            Kind::SegmentsMissing => 12,
+            Kind::OfferExpired => 13,
+            Kind::OfferMoved => 14,
+            Kind::Nack => 15,
+            Kind::SubscribeUnanswered => 16,
+            Kind::Full => 17,
+        }
+    }
+}

@@ -1,0 +1,91 @@
+//! Laws of the definitions behind the contracts: the texts of an audit, by example, and that a recording has one. Each
+//! is the contract of a function that does nothing.
+ghost use Rattle.std.specs.Prelude.{◌≡◌, ◌∷◌, [], List, Some, None, codes, true};
+ghost use Rattle.sd_wire.specs.declared.SdError.TheVariants as sd;
+ghost use Rattle.someip_wire.specs.declared.WireError.TheVariants as wire;
+ghost use Rattle.someip_reassembly.specs.declared.TpError.TheVariants as segments;
+ghost use Rattle.audit_traffic.specs.declared.calls.CallFinding.TheVariants as calls;
+ghost use Rattle.audit_traffic.specs.declared.events.Finding.TheVariants as events;
+ghost use Rattle.audit_sd.specs.declared.offers.Finding.TheVariants as offers;
+ghost use Rattle.audit_sd.specs.declared.receivers.Finding.TheVariants as receivers;
+ghost use Rattle.audit_sd.specs.declared.sessions.Finding.TheVariants as sessions;
+ghost use Rattle.audit_sd.specs.declared.subscriptions.Finding.TheVariants as subscriptions;
+ghost use Rattle.someip_audit.specs.declared.FellDue.TheVariants as due;
+ghost use Rattle.someip_audit.specs.declared.Finding.TheVariants as findings;
+ghost use Rattle.someip_audit.specs.Audits.{Report, Seen, found};
+ghost use Rattle.someipctl_recordings.specs.audit.AuditText.{fell_line, found_line, summary_text};
+ghost use Rattle.someipctl_recordings.specs.audit.Said.{said, said_text};
+ghost use Rattle.someipctl_recordings.specs.audit.SeenIn.{AskedAudit, Tells, looked_of};
+ghost use Rattle.someipctl_recordings.specs.audit.TextScenes.{event_1, flow_1, header_1, key_1, offer_1, origin_1};
+ghost use Rattle.someipctl_recordings.specs.audit.TextScenes.{expired_1, missing_1, subscribe_1, unanswered_1};
+
+/// What the lines of findings say, by example.
+pub fn findings_have_texts()
+    ensures malformed { said_text (said (findings.Malformed (wire.Truncated 47)))
+        ≡ codes " malformed Truncated at 47\n" }
+    ensures malformed_sd { said_text (said (findings.MalformedSd (sd.EntriesLength 20)))
+        ≡ codes " malformed EntriesLength at 20\n" }
+    ensures no_header { said_text (said (findings.NoTpHeader 16)) ≡ codes " malformed NoHeader at 16\n" }
+    ensures reboot { said_text (said (findings.Session sessions.Reboot)) ≡ codes " reboot\n" }
+    ensures session { said_text (said (findings.Session (sessions.NotNext (record { session = 7; reboot = true })
+        (record { session = 6; reboot = true })))) ≡ codes " sd session 0007 expected 0006\n" }
+    ensures late { said_text (said (findings.Call header_1 (calls.Late 300)))
+        ≡ codes " late 300 ms 1234.0421 client 0101 session 0002\n" }
+    ensures unasked { said_text (said (findings.Call header_1 calls.Unasked))
+        ≡ codes " unasked 1234.0421 client 0101 session 0002\n" }
+    ensures repeated { said_text (said (findings.Call header_1 calls.Repeated))
+        ≡ codes " repeated 1234.0421 client 0101 session 0002\n" }
+    ensures key_reused { said_text (said (findings.Call header_1 calls.KeyReused))
+        ≡ codes " key reused 1234.0421 client 0101 session 0002\n" }
+    ensures twice { said_text (said (findings.EventSession flow_1 9 events.Repeated))
+        ≡ codes " event repeated 1234.8001 session 0009\n" }
+    ensures gap { said_text (said (findings.EventSession flow_1 9 (events.Gap 9 7)))
+        ≡ codes " event gap 1234.8001 session 0009 expected 0007\n" }
+    ensures unsubscribed { said_text (said (findings.Event event_1 receivers.Unsubscribed))
+        ≡ codes " event unsubscribed 1234.8001\n" }
+    ensures segment { said_text (said (findings.Segment header_1 segments.Conflict))
+        ≡ codes " segments Conflict 1234.0421 client 0101 session 0002\n" }
+    ensures moved { said_text (said (findings.Offer offer_1 offers.Moved))
+        ≡ codes " offer moved 1234.0001 major 02\n" }
+    ensures nack { said_text (said (findings.Subscription key_1 subscriptions.Nack))
+        ≡ codes " nack 1234.0001 major 02 group 0005 counter 3\n" }
+    ensures full { said_text (said (findings.Event event_1 receivers.Full)) ≡ codes " full receivers\n" }
+    ensures endpoints { said_text (said findings.EndpointsFull) ≡ codes " full endpoints\n" }
+{}
+
+/// Whole lines, by example: that of a finding has the time of its datagram, and that of what fell due its
+/// deadline, with the datagram of the request, the first segment, the newest Offer or the Subscribe.
+pub fn lines_have_a_time_and_a_datagram()
+    ensures found { found_line (Some (record { seconds = 5; nanoseconds = 7 })) origin_1
+        (findings.Session sessions.Reboot) ≡ codes "5.000000007 12 192.168.0.1:40000 192.168.0.2:30490 reboot\n" }
+    ensures without_time { found_line None origin_1 (findings.Session sessions.Reboot)
+        ≡ codes "- 12 192.168.0.1:40000 192.168.0.2:30490 reboot\n" }
+    ensures unanswered { fell_line (due.Unanswered unanswered_1)
+        ≡ codes "4.500000000 8 192.168.0.2:40001 192.168.0.1:30509 unanswered 1234.0421 client 0101 session 0002\n" }
+    ensures missing { fell_line (due.Missing missing_1)
+        ≡ codes "7.000000000 9 192.168.0.1:30509 192.168.0.2:40001 segments missing 1234.0421 client 0101 session 0002\n" }
+    ensures expired { fell_line (due.Expired expired_1)
+        ≡ codes "8.003000000 12 192.168.0.1:40000 192.168.0.2:30490 offer expired 1234.0001 major 02\n" }
+    ensures subscribe { fell_line (due.SubscribeUnanswered subscribe_1)
+        ≡ codes "9.000000000 12 192.168.0.1:40000 192.168.0.2:30490 subscribe unanswered 1234.0001 major 02 group 0005 counter 3\n" }
+{}
+
+/// The summary, by example: kinds that did not come are not named.
+pub fn a_summary_counts_by_kind()
+    ensures some { summary_text (record { datagrams = 3; messages = 4 })
+        (found origin_1 (findings.Session sessions.Full) ∷ found origin_1 (findings.Session sessions.Reboot)
+        ∷ found origin_1 findings.EndpointsFull ∷ [])
+        ≡ codes "audited 3 datagrams, 4 messages, 3 findings\nreboot 1\nfull 2\n" }
+    ensures none { summary_text (record { datagrams = 3; messages = 4 }) []
+        ≡ codes "audited 3 datagrams, 4 messages, 0 findings\n" }
+{}
+
+/// A recording has one audit: what is told of its datagrams, and how many of them and of their messages are
+/// looked at, are determined by them.
+pub fn a_recording_has_one_audit()
+    ensures told { (asked : AskedAudit) (datagrams : List Seen) (reports others : List Report)
+        → Tells asked 0 None datagrams reports → Tells asked 0 None datagrams others → reports ≡ others }
+    ensures looked { (asked : AskedAudit) (datagrams : List Seen) (reports others : List Report)
+        (one : Tells asked 0 None datagrams reports) (other : Tells asked 0 None datagrams others)
+        → looked_of asked 0 None datagrams reports one ≡ looked_of asked 0 None datagrams others other }
+{}

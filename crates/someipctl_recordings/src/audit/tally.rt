@@ -1,0 +1,69 @@
+//! What an audit counts.
+//!
+//! Where 2^64 things were counted, the audit ends as where memory runs out: no recording has so many
+//! datagrams.
+ghost use Rattle.std.specs.Prelude.{◌≡◌, ◌+◌, [], IfOk, OnOk};
+ghost use Rattle.someipctl_recordings.specs.audit.Tallies.{Counts, tally_after, tally_looked};
+
+use crate::audit::kind::{KIND_COUNT, Kind};
+use std::alloc::AllocError;
+
+/// What an audit counted so far.
+#[derive(Clone, Copy)]
+pub(crate) struct Tally {
+    /// How many datagrams were looked at.
+    pub(crate) datagrams: usize,
+    /// How many messages in them can be read.
+    pub(crate) messages: usize,
+    /// How many findings were told.
+    pub(crate) findings: usize,
+    /// How many of each kind, at its number.
+    pub(crate) kinds: [usize; KIND_COUNT],
+}
+
+impl Tally {
+    /// Nothing yet.
+    pub(crate) fn new() -> Tally
+        ensures { Counts result [] (record { datagrams = 0; messages = 0 }) }
+    {
+        Tally {
+            datagrams: 0,
+            messages: 0,
+            findings: 0,
+            kinds: [0; KIND_COUNT],
+        }
+    }
+
+    /// Counts one more finding of a kind. The error is that there is no room for its number.
+    pub(crate) fn tell(&mut self, kind: Kind) -> Result<(), AllocError>
+        ensures { OnOk result (self.new ≡ tally_after kind self.old) }
+    {
+        let number = kind.number();
+        let findings = one_more(self.findings)?;
+        let of_kind = one_more(self.kinds[number])?;
+        self.findings = findings;
+        self.kinds[number] = of_kind;
+        Ok(())
+    }
+
+    /// Counts one more datagram, if it is looked at, with so many messages. The error is that there is no
+    /// room for their number.
+    pub(crate) fn look(&mut self, messages: Option<usize>) -> Result<(), AllocError>
+        ensures { OnOk result (self.new ≡ tally_looked messages self.old) }
+    {
+        let Some(messages) = messages else {
+            return Ok(());
+        };
+        let datagrams = one_more(self.datagrams)?;
+        self.messages = self.messages.checked_add(messages).ok_or(AllocError)?;
+        self.datagrams = datagrams;
+        Ok(())
+    }
+}
+
+/// The next number, if there is room for it.
+fn one_more(number: usize) -> Result<usize, AllocError>
+    ensures { IfOk result (λ next. next ≡ number + 1) }
+{
+    number.checked_add(1).ok_or(AllocError)
+}

@@ -1,0 +1,28 @@
+use Rattle.std.proofs.Common.{None, codes, [], ◌∷◌, refl, true≢false}
+use Rattle.toml.proofs.OnLiterals.{toml_on_literals}
+use Rattle.someip_payload_values.specs.Check.{checked}
+use Rattle.someip_payload.specs.ShapeText.{struct_text, next_member, last_member, u16_text, u8_text}
+use Rattle.someipctl_show.specs.types.Examples.{speed_data}
+use Rattle.someipctl_show.proofs.types.laws.what_texts_say.Goals as goal
+
+pub returns-clause-tables : goal.returns-clause-tables
+unfolding toml_on_literals checked
+returns-clause-tables c =
+    let named = struct_text None _ (codes "u16,u8") (next_member _ _ (codes "u16") (codes "u8") u16_text (last_member _ (codes "u8") u8_text)) in
+    record {
+      tables = (speed_data ∷ [], refl, (record { service = refl; method = refl; kind = refl; form = (codes "struct(u16,u8)", refl, (named, refl)); name = refl }, tt));
+      known = refl;
+      apart = refl;
+    }
+
+pub returns-clause-empty : goal.returns-clause-empty
+unfolding toml_on_literals
+returns-clause-empty c = record { tables = (_, refl, tt); known = refl; apart = refl }
+
+pub returns-clause-key : goal.returns-clause-key
+unfolding toml_on_literals
+returns-clause-key c = λ types said. absurd (true≢false said.known)
+
+pub returns-clause-toml : goal.returns-clause-toml
+unfolding toml_on_literals
+returns-clause-toml c = refl

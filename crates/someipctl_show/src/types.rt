@@ -1,0 +1,24 @@
+//! What payloads of messages are read by: a types file names, for messages of a service, a method or
+//! event and a type, the shape that their payload has. With it the line of the value of a message is
+//! made, which `someipctl show` and `recording` print after the line of the message.
+//!
+//! - [`MessageTypes`]: a types file; its line of the value of a message;
+//! - [`TypesError`]: why a text is no types file;
+//! - [`read_types`]: a types file from a reader; [`TypesFault`]: why it was not read;
+//! - [`laws`]: what the definitions behind the contracts promise.
+
+mod error;
+mod index;
+mod keys;
+pub mod laws;
+mod message_key;
+mod message_types;
+mod reading;
+mod tables;
+mod typed_message;
+mod unknown;
+mod value_line;
+
+pub use error::{TypesError, TypesFault};
+pub use message_types::MessageTypes;
+pub use reading::read_types;

@@ -1,0 +1,78 @@
+//! Why a text is no types file, or none was read.
+ghost use Rattle.std.specs.Prelude.{◌≡◌};
+ghost use Rattle.someipctl_show.specs.declared.types.error.TypesError.TheVariants.{OutOfMemory};
+ghost use Rattle.someipctl_show.specs.types.TypesInput.{fault_of_input};
+
+use someipctl_io::ReadFault;
+use std::alloc::{AllocError, AllocFailed};
+use thiserror::Error;
+
+/// Why a text is no types file. A key is named by its last part.
+#[derive(Debug, Drop, Error)]
+pub enum TypesError {
+    /// The text is no TOML.
+    #[error("NotToml -")]
+    NotToml,
+    /// A key is needed and is not there.
+    #[error("Missing {0}")]
+    Missing(&'static str),
+    /// The value at a key is of another kind.
+    #[error("WrongKind {0}")]
+    WrongKind(&'static str),
+    /// The value at a key is outside its range.
+    #[error("OutOfRange {0}")]
+    OutOfRange(&'static str),
+    /// A key that the format does not have.
+    #[error("UnknownKey {0}")]
+    UnknownKey(String),
+    /// The text at a key is that of no shape, or payloads cannot have the shape.
+    #[error("BadShape {0}")]
+    BadShape(&'static str),
+    /// Two of the tables at a key name the same messages.
+    #[error("Clash {0}")]
+    Clash(&'static str),
+    /// Memory ran out.
+    #[error("out of memory")]
+    OutOfMemory,
+}
+
+impl From<AllocError> for TypesError {
+    ghost from_gives = { λ _ e. e ≡ OutOfMemory };
+
+    fn from(_error: AllocError) -> TypesError {
+        TypesError::OutOfMemory
+    }
+}
+
+impl<T: Drop> From<AllocFailed<T>> for TypesError {
+    ghost from_gives = { λ _ e. e ≡ OutOfMemory };
+
+    fn from(_error: AllocFailed<T>) -> TypesError {
+        TypesError::OutOfMemory
+    }
+}
+
+/// Why no types file was read.
+#[derive(Debug, Drop, Error)]
+pub enum TypesFault {
+    /// Its text is no types file.
+    #[error("types: {0}")]
+    Refused(TypesError),
+    /// It could not be read.
+    #[error("{}", ReadFault::CannotRead)]
+    CannotRead,
+    /// Memory ran out.
+    #[error("out of memory")]
+    OutOfMemory,
+}
+
+impl From<ReadFault> for TypesFault {
+    ghost from_gives = { λ fault e. e ≡ fault_of_input fault };
+
+    fn from(fault: ReadFault) -> TypesFault {
+        match fault {
+            ReadFault::CannotRead => TypesFault::CannotRead,
+            ReadFault::OutOfMemory => TypesFault::OutOfMemory,
+        }
+    }
+}
