@@ -3,6 +3,7 @@ ghost use Rattle.std.specs.Prelude.{◌≡◌, IfOk, IfErr};
 ghost use Rattle.someip_world_rules.specs.exchanges.CleanReuse.{IsVerdictOn};
 ghost use Rattle.someip_world_rules.specs.Runs.{IsRun};
 ghost use Rattle.someip_world_rules.specs.Liars.{HasNoLiars};
+ghost use Rattle.someip_world_safety.specs.CleanRuns.{IsCleanWhereCountedOnce};
 ghost use Rattle.someip_world_safety.specs.Safety.{IsSafeAmongLiarsOn, IsSafeOn};
 ghost use Rattle.someip_world.specs.Running.{AreStarted, Happens, IsTold, RunsOn};
 ghost use Rattle.someip_world_rules.specs.declared.error.RunError.TheVariants as fault;
@@ -12,7 +13,7 @@ use crate::log::Log;
 use crate::telling::tell;
 use someip_tp::Reassembly;
 use someip_world_rules::{Line, RunError, StepFault, Trace, place_of};
-use someip_world_safety::safety::runs_are_safe_by_their_verdict;
+use someip_world_safety::safety::{runs_are_safe_by_their_verdict, runs_that_count_once_are_clean};
 use someip_world_schedule::Step;
 use someip_world_setup::{Setup, SetupNode};
 use someip_world_verdict::verdict_on;
@@ -105,9 +106,14 @@ pub fn run<R: Reassembly>(alloc: Global, setup: &Setup, steps: &[Step]) -> Resul
     // configured.
     ensures safe { IfOk result (λ trace. HasNoLiars setup.now.nodes
         → IsSafeOn setup.now.nodes steps.now trace.lines.items trace.verdict) }
+    // The verdict is `Clean` where no counter of a node gave a number in two steps, and no message went in
+    // segments, whatever liars send.
+    ensures counted_once { IfOk result
+        (λ trace. IsCleanWhereCountedOnce setup.now.nodes steps.now trace.lines.items trace.verdict) }
 {
     let lines = run_nodes::<R>(alloc, setup.nodes(), steps)?;
     let verdict = verdict_on(alloc, setup, steps, &lines)?;
     runs_are_safe_by_their_verdict(setup, steps);
+    runs_that_count_once_are_clean(setup, steps);
     Ok(Trace { lines, verdict })
 }

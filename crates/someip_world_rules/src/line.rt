@@ -30,8 +30,9 @@ pub struct Line {
 pub struct Datagram<'a> {
     /// The endpoint from which it was sent.
     pub from: SocketAddrV4,
-    /// The endpoint to which it was sent: that of a node or the multicast endpoint of Service Discovery, and
-    /// any where a liar sent it.
+    /// The endpoint to which it was sent. A node sends to the endpoint of another, to the multicast endpoint of
+    /// Service Discovery, and, among liars, to whatever endpoint a liar's Offer or Subscribe named, or a datagram
+    /// of a liar came from. A liar sends to any.
     pub to: SocketAddrV4,
     /// Its bytes.
     pub bytes: &'a [u8],

@@ -1,6 +1,6 @@
 -- When a run surely reuses its keys cleanly: where no counter gives a number twice, or no key is opened twice, and nothing goes in
 -- segments.
-use Rattle.std.specs.Prelude.{false, ◌≡◌, ℕ, suc, List, [], ◌∷◌}
+use Rattle.std.specs.Prelude.{false, ◌≡◌, ℕ, suc, List, [], ◌∷◌, Ok}
 use Rattle.std.specs.List.{Contains}
 use Rattle.std.specs.declared.net.ipv4_addr.Ipv4Addr.{Ipv4Addr}
 use Rattle.std.specs.declared.net.socket_addr.SocketAddrV4.{SocketAddrV4}
@@ -21,6 +21,10 @@ use Rattle.someip_world_schedule.specs.declared.step.Step.{Step}
 use Rattle.someip_world_setup.specs.declared.setup_node.SetupNode.{SetupNode}
 use Rattle.someip_world_rules.specs.Datagrams.{SentDatagram}
 use Rattle.someip_world_rules.specs.Deliveries.{Does, Sends}
+use Rattle.someip_world_rules.specs.Runs.{AreCopies, run_of}
+use Rattle.someip_world_rules.specs.declared.line.Line.{Line}
+use Rattle.someip_world_rules.specs.declared.reuse.Reuse.{Reuse}
+use Rattle.someip_world_rules.specs.declared.reuse.Reuse.TheVariants.{Clean}
 use Rattle.someip_world_rules.specs.declared.exchanges.exchange_key.ExchangeKey.{ExchangeKey}
 use Rattle.someip_world_rules.specs.exchanges.Openings.{Begins, Opened}
 
@@ -76,3 +80,10 @@ module _ (nodes : List SetupNode) (configs : List Config) (steps : List Step) wh
         → NumbersEvent i place event session → NumbersEvent j place event session → i ≡ j
     pub subscriptions : (i j place : ℕ) (eventgroup : Eventgroup) (counter : ℕ)
         → NumbersSubscription i place eventgroup counter → NumbersSubscription j place eventgroup counter → i ≡ j
+
+-- the run that a trace tells has the verdict Clean where no counter of a node gave a number in two steps, and no message went in
+-- segments
+abbrev pub IsCleanWhereCountedOnce : List SetupNode → List Step → List Line → Reuse → Type 0
+IsCleanWhereCountedOnce nodes steps lines verdict =
+    (configs : List Config) → AreCopies nodes configs → run_of nodes configs steps ≡ Ok lines
+    → CountsOnce nodes configs steps → AreShort nodes configs steps → verdict ≡ Clean

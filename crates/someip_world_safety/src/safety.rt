@@ -8,7 +8,7 @@ ghost use Rattle.someip_world_rules.specs.declared.line.Line.{Line};
 ghost use Rattle.someip_world_rules.specs.declared.reuse.Reuse.{Reuse};
 ghost use Rattle.someip_world_rules.specs.declared.reuse.Reuse.TheVariants.{Clean};
 ghost use Rattle.someip_world_rules.specs.exchanges.CleanReuse.{IsCleanBefore, IsVerdictOn};
-ghost use Rattle.someip_world_safety.specs.CleanRuns.{AreShort, CountsOnce};
+ghost use Rattle.someip_world_safety.specs.CleanRuns.{AreShort, CountsOnce, IsCleanWhereCountedOnce};
 ghost use Rattle.someip_world_safety.specs.Safety.{AcknowledgedAreSafe, AnswersAreSafe, EventsAreSafe, HonestAcknowledgedAreSafe, HonestAnswersAreSafe, HonestEventsAreSafe, HonestOffersAreConfigured, IsSafeAmongLiarsOn, IsSafeOn, OffersAreConfigured, PublishesToAll, PublishesToOne};
 ghost use Rattle.someip_world_safety.specs.Subscriptions.{HonestSubscriptionsAreSafe, SubscriptionsAreSafe};
 
@@ -113,11 +113,9 @@ pub fn runs_that_count_once_are_clean(setup: &Setup, steps: &[Step])
     ensures clean { (configs : List Config) → AreCopies setup.now.nodes configs
         → CountsOnce setup.now.nodes configs steps.now → AreShort setup.now.nodes configs steps.now
         → (n : ℕ) → IsCleanBefore setup.now.nodes configs steps.now n }
-    ensures verdict { (configs : List Config) (lines : List Line) (verdict : Reuse)
-        → AreCopies setup.now.nodes configs → run_of setup.now.nodes configs steps.now ≡ Ok lines
+    ensures verdict { (lines : List Line) (verdict : Reuse)
         → IsVerdictOn setup.now.nodes steps.now lines verdict
-        → CountsOnce setup.now.nodes configs steps.now → AreShort setup.now.nodes configs steps.now
-        → verdict ≡ Clean }
+        → IsCleanWhereCountedOnce setup.now.nodes steps.now lines verdict }
 {
     all_that_a_setup_gives_fits(setup, steps);
     setup.nodes();

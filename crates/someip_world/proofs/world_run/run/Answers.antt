@@ -11,3 +11,8 @@ pub returns-clause-safe : goal.returns-clause-safe
 returns-clause-safe g c none =
     let judged : IsVerdictOn c.args.setup.now.nodes c.args.steps.now c.in_ok-lines.lines.items c.in_ok-verdict.verdict = search rules in
     c.runs_are_safe_by_their_verdict.ensures.without_liars none c.in_ok-lines.lines.items c.in_ok-verdict.verdict judged
+
+pub returns-clause-counted_once : goal.returns-clause-counted_once
+returns-clause-counted_once g c =
+    let judged : IsVerdictOn c.args.setup.now.nodes c.args.steps.now c.in_ok-lines.lines.items c.in_ok-verdict.verdict = search rules in
+    c.runs_that_count_once_are_clean.ensures.verdict c.in_ok-lines.lines.items c.in_ok-verdict.verdict judged

@@ -28,6 +28,6 @@ returns-clause-clean c configs are once short =
     never_broken c.args.setup.now c.nodes.ensures.good configs c.args.steps.now are (c.all_that_a_setup_gives_fits.ensures configs are) once short
 
 pub returns-clause-verdict : goal.returns-clause-verdict
-returns-clause-verdict c configs lines verdict are comes judged once short =
+returns-clause-verdict c lines verdict judged configs are comes once short =
     always_clean c.args.setup.now.nodes configs c.args.steps.now verdict (judged configs are comes)
     (never_broken c.args.setup.now c.nodes.ensures.good configs c.args.steps.now are (c.all_that_a_setup_gives_fits.ensures configs are) once short)
