@@ -37,7 +37,7 @@ def wrong_bodies():
     """The wrong bodies, by path: the IDs of the rules that each one's first line names."""
     found = {}
     for folder in FOLDERS:
-        for path in files(f"crates/*/{folder}/*.edit"):
+        for path in files(f"crates/*/{folder}/**/*.edit"):
             head = re.match(r"# rule: (.*)\n", text(path))
             found[path] = head[1].split(", ") if head else []
     return found
