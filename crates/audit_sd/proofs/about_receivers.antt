@@ -1,6 +1,6 @@
-mod FineLemmas
+pub mod FineLemmas
 pub mod SubscribedLemmas
 pub mod HistoryLemmas
 pub mod ToldLemmas
-mod LimitLemmas
-mod FullLemmas
+pub mod LimitLemmas
+pub mod FullLemmas

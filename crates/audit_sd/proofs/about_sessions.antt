@@ -1,3 +1,3 @@
 pub mod PairLemmas
-mod HistoryLemmas
-mod ReasonLemmas
+pub mod HistoryLemmas
+pub mod ReasonLemmas

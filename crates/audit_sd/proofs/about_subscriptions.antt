@@ -1,4 +1,4 @@
-mod SubscribeLemmas
-mod DueLemmas
-mod HistoryLemmas
-mod ReasonLemmas
+pub mod SubscribeLemmas
+pub mod DueLemmas
+pub mod HistoryLemmas
+pub mod ReasonLemmas
