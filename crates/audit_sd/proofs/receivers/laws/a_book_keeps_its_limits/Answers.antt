@@ -1,4 +1,4 @@
-use Rattle.audit_sd.proofs.receivers.LimitLemmas.{few_stand, few_told}
+use Rattle.audit_sd.proofs.about_receivers.LimitLemmas.{few_stand, few_told}
 use Rattle.audit_sd.proofs.receivers.laws.a_book_keeps_its_limits.Goals as goal
 
 pub returns-clause-standing : goal.returns-clause-standing

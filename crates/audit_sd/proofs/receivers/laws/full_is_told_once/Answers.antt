@@ -1,5 +1,5 @@
 use Rattle.audit_sd.proofs.about_receivers.HistoryLemmas.{full_by}
-use Rattle.audit_sd.proofs.receivers.FullLemmas.{entry_noted, event_noted, entry_told, event_told}
+use Rattle.audit_sd.proofs.about_receivers.FullLemmas.{entry_noted, event_noted, entry_told, event_told}
 use Rattle.audit_sd.proofs.receivers.laws.full_is_told_once.Goals as goal
 
 pub returns-clause-notes : goal.returns-clause-notes

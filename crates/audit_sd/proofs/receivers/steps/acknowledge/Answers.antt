@@ -6,7 +6,7 @@ use Rattle.someip_tables.proofs.Entries.{own_test}
 use Rattle.audit_sd.specs.subscriptions.SubscriptionKeys.{subscription_cmp}
 use Rattle.audit_sd.specs.receivers.DeliveryKeys.{delivery_cmp}
 use Rattle.audit_sd.specs.receivers.FoundSubscribed.{endpoint_in, is_new_or_same}
-use Rattle.audit_sd.proofs.receivers.FineLemmas.{still_fine}
+use Rattle.audit_sd.proofs.about_receivers.FineLemmas.{still_fine}
 use Rattle.audit_sd.proofs.receivers.steps.acknowledge.Goals as goal
 
 pub returns-in-Some-clause-fine : goal.returns-in-Some-clause-fine

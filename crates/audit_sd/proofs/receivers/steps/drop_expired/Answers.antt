@@ -3,7 +3,7 @@ use Rattle.someip_tables.specs.Tables.{map_of}
 use Rattle.someip_tables.proofs.DueLemmas.{test_is_true}
 use Rattle.audit_sd.specs.subscriptions.SubscriptionKeys.{subscription_cmp}
 use Rattle.audit_sd.specs.receivers.DeliveryKeys.{delivery_cmp}
-use Rattle.audit_sd.proofs.receivers.FineLemmas.{no_expired_keys, none_found, nothing_expired}
+use Rattle.audit_sd.proofs.about_receivers.FineLemmas.{no_expired_keys, none_found, nothing_expired}
 use Rattle.audit_sd.proofs.receivers.steps.drop_expired.Goals as goal
 
 pub returns-then-not-has_expired-clause-told : goal.returns-then-not-has_expired-clause-told

@@ -1,6 +1,6 @@
 use Rattle.someip_tables.specs.Tables.{map_of}
 use Rattle.audit_sd.specs.receivers.DeliveryKeys.{delivery_cmp}
-use Rattle.audit_sd.proofs.receivers.FineLemmas.{none_found}
+use Rattle.audit_sd.proofs.about_receivers.FineLemmas.{none_found}
 use Rattle.audit_sd.proofs.receivers.steps.end.Goals as goal
 
 pub returns-clause-fine : goal.returns-clause-fine

@@ -3,7 +3,7 @@ use Rattle.someip_tables.specs.Tables.{map_of}
 use Rattle.audit_sd.specs.subscriptions.SubscriptionKeys.{subscription_cmp}
 use Rattle.audit_sd.specs.receivers.DeliveryKeys.{delivery_cmp}
 use Rattle.audit_sd.specs.receivers.ReceiverTables.{is_subscribed}
-use Rattle.audit_sd.proofs.receivers.FineLemmas.{found_more}
+use Rattle.audit_sd.proofs.about_receivers.FineLemmas.{found_more}
 use Rattle.audit_sd.proofs.receivers.steps.has_receiver.Goals as goal
 
 pub returns-then-len-limit-clause-fine : goal.returns-then-len-limit-clause-fine

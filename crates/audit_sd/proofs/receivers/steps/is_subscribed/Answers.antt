@@ -2,7 +2,7 @@ use Rattle.std.proofs.Common.{◌≡◌, true, sym, ◌∙◌}
 use Rattle.someip_tables.specs.Tables.{map_of}
 use Rattle.audit_sd.specs.subscriptions.SubscriptionKeys.{subscription_cmp}
 use Rattle.audit_sd.specs.receivers.ReceiverRules.{goes_by}
-use Rattle.audit_sd.proofs.receivers.FineLemmas.{any_is}
+use Rattle.audit_sd.proofs.about_receivers.FineLemmas.{any_is}
 use Rattle.audit_sd.proofs.receivers.steps.is_subscribed.Goals as goal
 
 pub returns-then-goes_by : goal.returns-then-goes_by

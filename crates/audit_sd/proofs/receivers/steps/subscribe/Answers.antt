@@ -4,7 +4,7 @@ use Rattle.someip_tables.specs.Tables.{map_of}
 use Rattle.audit_sd.specs.subscriptions.SubscriptionKeys.{subscription_cmp}
 use Rattle.audit_sd.specs.receivers.DeliveryKeys.{delivery_cmp}
 use Rattle.audit_sd.specs.receivers.FoundSubscribed.{endpoint_in, is_new_or_same}
-use Rattle.audit_sd.proofs.receivers.FineLemmas.{none_found, still_fine}
+use Rattle.audit_sd.proofs.about_receivers.FineLemmas.{none_found, still_fine}
 use Rattle.audit_sd.proofs.receivers.steps.subscribe.Goals as goal
 use Rattle.audit_sd.proofs.receivers.steps.subscribe.Goals.{then-not-is_new_or_same, else-not-is_new_or_same}
 

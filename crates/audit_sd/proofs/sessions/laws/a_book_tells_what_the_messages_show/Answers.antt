@@ -1,4 +1,4 @@
-use Rattle.audit_sd.proofs.sessions.HistoryLemmas.{kept, told, never_full}
+use Rattle.audit_sd.proofs.about_sessions.HistoryLemmas.{kept, told, never_full}
 use Rattle.audit_sd.proofs.sessions.laws.a_book_tells_what_the_messages_show.Goals as goal
 
 pub returns-clause-kept : goal.returns-clause-kept

@@ -1,4 +1,4 @@
-use Rattle.audit_sd.proofs.sessions.ReasonLemmas.{reboot_is, is_reboot_told, not_next_is, is_not_next_told, last_is, is_last}
+use Rattle.audit_sd.proofs.about_sessions.ReasonLemmas.{reboot_is, is_reboot_told, not_next_is, is_not_next_told, last_is, is_last}
 use Rattle.audit_sd.proofs.sessions.laws.each_finding_has_its_reason.Goals as goal
 
 pub returns-clause-reboot : goal.returns-clause-reboot

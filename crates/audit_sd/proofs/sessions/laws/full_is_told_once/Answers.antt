@@ -1,4 +1,4 @@
-use Rattle.audit_sd.proofs.sessions.HistoryLemmas.{full_noted, full_stays, full_told}
+use Rattle.audit_sd.proofs.about_sessions.HistoryLemmas.{full_noted, full_stays, full_told}
 use Rattle.audit_sd.proofs.sessions.laws.full_is_told_once.Goals as goal
 
 pub returns-clause-notes : goal.returns-clause-notes

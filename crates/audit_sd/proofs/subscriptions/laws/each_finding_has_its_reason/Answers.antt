@@ -1,4 +1,4 @@
-use Rattle.audit_sd.proofs.subscriptions.ReasonLemmas.{waiting_is, is_waiting, unanswered_is, is_unanswered}
+use Rattle.audit_sd.proofs.about_subscriptions.ReasonLemmas.{waiting_is, is_waiting, unanswered_is, is_unanswered}
 use Rattle.audit_sd.proofs.subscriptions.laws.each_finding_has_its_reason.Goals as goal
 
 pub returns-clause-waits : goal.returns-clause-waits

@@ -1,4 +1,4 @@
-use Rattle.audit_sd.proofs.subscriptions.HistoryLemmas.{full_noted, full_stays, full_told}
+use Rattle.audit_sd.proofs.about_subscriptions.HistoryLemmas.{full_noted, full_stays, full_told}
 use Rattle.audit_sd.proofs.subscriptions.laws.full_is_told_once.Goals as goal
 
 pub returns-clause-notes : goal.returns-clause-notes

@@ -1,4 +1,4 @@
-use Rattle.audit_sd.proofs.subscriptions.DueLemmas.{own, first, kept, all}
+use Rattle.audit_sd.proofs.about_subscriptions.DueLemmas.{own, first, kept, all}
 use Rattle.audit_sd.proofs.subscriptions.laws.what_falls_due_is_told.Goals as goal
 
 pub returns-clause-own : goal.returns-clause-own

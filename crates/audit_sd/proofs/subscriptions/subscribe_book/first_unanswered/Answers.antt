@@ -1,7 +1,7 @@
 use Rattle.std.proofs.Common.{arith}
 use Rattle.someip_tables.specs.Tables.{map_of}
 use Rattle.audit_sd.specs.subscriptions.SubscriptionKeys.{subscription_cmp}
-use Rattle.audit_sd.proofs.subscriptions.DueLemmas.{none_by, none_ever}
+use Rattle.audit_sd.proofs.about_subscriptions.DueLemmas.{none_by, none_ever}
 use Rattle.audit_sd.proofs.subscriptions.subscribe_book.first_unanswered.Goals as goal
 
 pub returns-in_default : goal.returns-in_default

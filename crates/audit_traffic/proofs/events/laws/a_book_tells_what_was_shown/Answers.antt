@@ -1,4 +1,4 @@
-use Rattle.audit_traffic.proofs.events.HistoryLemmas.{kept, told}
+use Rattle.audit_traffic.proofs.about_events.HistoryLemmas.{kept, told}
 use Rattle.audit_traffic.proofs.events.laws.a_book_tells_what_was_shown.Goals as goal
 
 pub returns-clause-kept : goal.returns-clause-kept

@@ -1,4 +1,4 @@
-use Rattle.audit_traffic.proofs.events.HistoryLemmas.{full_kept, full_noted, no_gap}
+use Rattle.audit_traffic.proofs.about_events.HistoryLemmas.{full_kept, full_noted, no_gap}
 use Rattle.audit_traffic.proofs.events.laws.a_full_book_tells_no_gap.Goals as goal
 
 pub returns-clause-notes : goal.returns-clause-notes

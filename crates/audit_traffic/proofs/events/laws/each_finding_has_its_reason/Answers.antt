@@ -1,4 +1,4 @@
-use Rattle.audit_traffic.proofs.events.ReasonLemmas.{gap_why, repeated_why, why_gap, why_repeated}
+use Rattle.audit_traffic.proofs.about_events.ReasonLemmas.{gap_why, repeated_why, why_gap, why_repeated}
 use Rattle.audit_traffic.proofs.events.laws.each_finding_has_its_reason.Goals as goal
 
 pub returns-clause-repeated : goal.returns-clause-repeated

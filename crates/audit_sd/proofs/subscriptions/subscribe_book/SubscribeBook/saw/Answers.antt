@@ -3,7 +3,7 @@ use Rattle.someip_tables.specs.Tables.{map_of}
 use Rattle.someip_tables.proofs.MapLaws.{len-remove-≤}
 use Rattle.audit_sd.specs.subscriptions.SubscriptionKeys.{subscription_cmp}
 use Rattle.audit_sd.specs.subscriptions.SubscriptionOrder.{subscriptions_total, exact_subscriptions}
-use Rattle.audit_sd.proofs.subscriptions.SubscribeLemmas.{waits_within}
+use Rattle.audit_sd.proofs.about_subscriptions.SubscribeLemmas.{waits_within}
 use Rattle.audit_sd.proofs.subscriptions.subscribe_book.SubscribeBook.saw.Goals as goal
 
 pub invariant_of-self : goal.invariant_of-self

@@ -3,7 +3,7 @@ calls fill theirs. What has to be told of them is known without any book: `full 
 room, and nothing else."""
 import struct
 
-import audit_bytes as wire
+import wire
 
 LIMIT, SECOND = 65536, 10**9
 SERVER, CLIENT = (wire.address("192.168.0.1"), 30509), (wire.address("192.168.0.2"), 40001)

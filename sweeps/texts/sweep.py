@@ -1,13 +1,13 @@
 """The sweep `texts`: what the built program says of texts that are not quite right, by rows: of setups, types files,
 schedules, shapes and payloads, and of words that come to no command.
 
-    texts.py PROGRAM
+    sweep.py PROGRAM
 
 Rows of texts that are not quite right, and what the program says of each: setups, types files, schedules, texts of
 shapes, payloads, and words that come to no command. A setup is run over a schedule without steps; most rows change
 one place of the worked setup, and those of `in_order` put fault after fault into a setup with every key (but `liar`,
 which a row adds), so that each is told before all that stand there already. A types file shows a request, whose value
-is told where the file has a table. Each row stands in `sweeps/text_*.py` or in a file of `sweeps/texts`.
+is told where the file has a table. Each row stands in a file of `sweeps/texts`.
 """
 import concurrent.futures
 import os
@@ -16,13 +16,13 @@ import sys
 import tempfile
 from pathlib import Path
 
-from text_payloads import FAULTS, TAGGED_FAULTS, bad_shapes, deep_shapes
-from text_schedules import schedules
-from text_setups import setups
-from text_types import types
-from text_words import HELP, USAGE
+from payloads import FAULTS, TAGGED_FAULTS, bad_shapes, deep_shapes
+from schedule_rows import schedules
+from setups import setups
+from types_files import types
+from words import HELP, USAGE
 
-SETUP = Path(__file__).resolve().parent.parent / "examples" / "runs" / "two.toml"
+SETUP = Path(__file__).resolve().parents[2] / "examples" / "runs" / "two.toml"
 
 # A request of the service 0, and the line that shows it.
 CAPTURE = "00000000 00000009 00000001 01010000 07\n"

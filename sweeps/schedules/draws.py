@@ -3,7 +3,7 @@ what is known of the rounds before.
 
 A thousand schedules of fifty steps over the setup `examples/runs/two.toml`, in which the node `a` offers and `b`
 wants. Steps are drawn as lines of text, which `someipctl run --lines` runs: so the reader of schedules is tried too.
-`sweeps/schedules.py PROGRAM NUMBER` prints the lines of the schedule of that number, and with `liars-` before the
+`sweeps/schedules/sweep.py PROGRAM NUMBER` prints the lines of the schedule of that number, and with `liars-` before the
 number those of the schedule among liars.
 
 Draws. The schedule of the number s, from 1 to 1000, begins with the state s. A draw *below n* makes of the state
@@ -72,7 +72,7 @@ Deliveries. What is sent to neither the address of a nor that of b nor the group
 and where the draw comes to it the step is a `tick`, whose parts are drawn then. What c sent to the group goes to one
 of `a`, `b`. In each schedule whose number is a multiple of 4 all that c sends is lost too.
 """
-from schedule_told import host_of, port_of
+from told import host_of, port_of
 
 FRONT, OWN = b"\xc0\xa8\x00", 9
 DISCOVERY_PORT, ENTRY_TYPE, ACK = "30490", 24, 0x07

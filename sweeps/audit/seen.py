@@ -2,7 +2,7 @@
 from docs/AUDIT.md and not from the sources."""
 from typing import NamedTuple, Optional
 
-import audit_bytes as wire
+import wire
 
 FIND, OFFER, SUBSCRIBE, ACK = 0, 1, 6, 7
 

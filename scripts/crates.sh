@@ -45,3 +45,13 @@ copy_crates() {
 
 # The folder of the toolchain.
 kit() { dirname "$(dirname "$(readlink -f "$(command -v rt)")")"; }
+
+# Whether a control group limits neither processors nor memory.
+has_no_group_limit() {
+    ! (cd /sys/fs/cgroup && grep -qsE '^[0-9]{1,11}( |$)' cpu.max cpu/cpu.cfs_quota_us memory.max memory/memory.limit_in_bytes)
+}
+
+# How many crates may be proved side by side: one for each processor that has 3 GB of free memory.
+jobs_by_memory() {
+    has_no_group_limit && awk -v most="$(nproc)" '/^MemAvailable:/ { n = int($2 / 3000000); print n < most ? n : most }' /proc/meminfo
+}

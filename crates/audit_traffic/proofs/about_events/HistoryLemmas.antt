@@ -17,7 +17,7 @@ use Rattle.audit_traffic.specs.events.EventRules.{disturbed, is_at, is_between, 
 use Rattle.audit_traffic.specs.events.EventTables.{Events, Flows, after_event, flows_after, may_hold, told_by, told_when_full}
 use Rattle.audit_traffic.specs.events.EventHistories.{BeganAgain, Came, Changed, Shown, Since, Withdrawn, book_after, book_of, kept_of, shown_after, shown_since, since_after, since_disturbed, since_event, since_got, since_in}
 use Rattle.audit_traffic.proofs.about_events.FlowLemmas.{not_its_own}
-use Rattle.audit_traffic.proofs.events.NearestLemmas.{nearest_tells}
+use Rattle.audit_traffic.proofs.about_events.NearestLemmas.{nearest_tells}
 
 -- ---- an event
 

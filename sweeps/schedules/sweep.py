@@ -1,7 +1,7 @@
 """The sweeps `schedules` and `liars`: schedules that are drawn and run by the built program, and judged by its traces.
 
-    schedules.py PROGRAM schedules|liars [--count COUNT]
-    schedules.py PROGRAM NUMBER|liars-NUMBER
+    sweep.py PROGRAM schedules|liars [--count COUNT]
+    sweep.py PROGRAM NUMBER|liars-NUMBER
 
 The second prints the lines of one schedule, and what is wrong with it after them.
 """
@@ -12,11 +12,11 @@ import subprocess
 import sys
 from pathlib import Path
 
-import schedule_judge as judge
-from schedule_draws import Lines, World
-from schedule_told import Setup, Step, Trace
+import judge
+from draws import Lines, World
+from told import Setup, Step, Trace
 
-RUNS = Path(__file__).resolve().parent.parent / "examples" / "runs"
+RUNS = Path(__file__).resolve().parents[2] / "examples" / "runs"
 ROUNDS, STEPS_OF_ROUND = 10, 5
 # The setup of a sweep, what one of its schedules is called, and how many are drawn.
 SWEEPS = {"schedules": ("two.toml", "schedule", 1000), "liars": ("liars.toml", "liars", 400)}

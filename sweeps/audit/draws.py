@@ -2,7 +2,7 @@
 and IDs, so that their keys meet. Nothing in them need make sense."""
 import struct
 
-import audit_bytes as wire
+import wire
 
 SERVERS = [wire.address("192.168.0.1"), wire.address("192.168.0.2")]
 CLIENTS = [wire.address("192.168.0.3"), wire.address("192.168.0.1")]

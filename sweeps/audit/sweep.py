@@ -1,12 +1,12 @@
 """The sweep `audit`: what the built program prints of recordings, beside what the model tells of them, byte for byte.
 
-    audit.py PROGRAM [--seed SEED] [--count COUNT] [SORT..]
+    sweep.py PROGRAM [--seed SEED] [--count COUNT] [SORT..]
 
 SORT is `calm`, `rough`, `drawn` or `crowds`. A recording of which the two differ is kept, with both texts.
 
 `sweeps/run audit` calls `someipctl audit` on recordings, and compares what it prints, byte for byte, and its exit
 status with what is expected. It needs Python 3, and nothing beside its standard library. What is expected is told by
-a model, `sweeps/audit_model.py`, that was written from AUDIT and PROTOCOL and not from the sources. It has no books:
+a model, `sweeps/audit/model.py`, that was written from AUDIT and PROTOCOL and not from the sources. It has no books:
 it makes the list of all that was seen, and looks back over that for each finding.
 
 Recordings: what they are; what is expected
@@ -21,7 +21,7 @@ Recordings: what they are; what is expected
   9 `crowds`: a table of an audit comes to its limit of 65,536 keys, one for each table; and calls that were answered
     fill theirs, in one that goes on while they are known, and in one that goes on when they no longer are; `full
     NAME` at the first thing that finds no room, and nothing else
-  the example: `examples/audit.pcap`, as `sweeps/audit_story.py` writes it; `examples/audit.txt`
+  the example: `examples/audit.pcap`, as `sweeps/audit/story.py` writes it; `examples/audit.txt`
 
 The nodes of a run are parted into twenty *worlds*, each of which hears nothing of the others and gives a recording.
 What nodes do is taken from the trace of `someipctl run`, which is called again for each round of deliveries.
@@ -35,15 +35,15 @@ import sys
 import tempfile
 from pathlib import Path
 
-import audit_bytes as wire
-import audit_crowds
-import audit_draws
-import audit_model
-import audit_runs
-import audit_story
+import wire
+import crowds
+import draws
+import model
+import runs
+import story
 
 KEPT = Path(os.environ.get("TMPDIR", "/tmp")) / "someipctl-audit"
-EXAMPLES = Path(__file__).resolve().parent.parent / "examples"
+EXAMPLES = Path(__file__).resolve().parents[2] / "examples"
 WORLDS = 20
 SORTS = ["calm", "rough", "drawn", "crowds"]
 
@@ -93,15 +93,15 @@ class Sweep:
 
     def drawn(self, count):
         for number in range(count):
-            data, words = audit_draws.drawn(self.generator("drawn", number))
-            expected = audit_model.audited(data, audit_model.rules_of(words)[0])
+            data, words = draws.drawn(self.generator("drawn", number))
+            expected = model.audited(data, model.rules_of(words)[0])
             self.judge("drawn", number, data, words, expected)
 
     def worlds(self, sort, count):
         """The recordings of so many worlds, each with a generator for what is done to it."""
         for number in range(0, count, WORLDS):
             some = self.generator(sort, number)
-            run = audit_runs.Run(some, self.program, self.folder, min(WORLDS, count - number), sort == "rough")
+            run = runs.Run(some, self.program, self.folder, min(WORLDS, count - number), sort == "rough")
             for at, records in enumerate(run.recordings(), number):
                 yield at, some, records
 
@@ -117,19 +117,19 @@ class Sweep:
     def rough(self, count):
         for number, some, records in self.worlds("rough", count):
             words = some.choice(([], ["--settle-ms", "1"], ["--settle-ms", "1", "--answer-ms", "500"]))
-            data = wire.pcap(audit_runs.disturbed(some, records), nanoseconds=True)
-            self.judge("rough", number, data, words, audit_model.audited(data, audit_model.rules_of(words)[0]))
+            data = wire.pcap(runs.disturbed(some, records), nanoseconds=True)
+            self.judge("rough", number, data, words, model.audited(data, model.rules_of(words)[0]))
 
     def crowds(self, _):
-        for name, (table, make, number) in audit_crowds.CROWDS.items():
+        for name, (table, make, number) in crowds.CROWDS.items():
             records = make()
-            self.judge("crowds", name, wire.pcap(records), [], audit_crowds.told(table, records, number))
+            self.judge("crowds", name, wire.pcap(records), [], crowds.told(table, records, number))
 
     def example(self):
         """The example, which stands as its script writes it, with what is told of it."""
         data, expected = (EXAMPLES / "audit.pcap").read_bytes(), (EXAMPLES / "audit.txt").read_text()
-        if data != wire.pcap(audit_story.STORY) or audit_model.audited(data, audit_model.Rules()) != expected:
-            print("audit: examples/audit.pcap, or audit.txt there, is not what audit_story.py and the model make")
+        if data != wire.pcap(story.STORY) or model.audited(data, model.Rules()) != expected:
+            print("audit: examples/audit.pcap, or audit.txt there, is not what story.py and the model make")
             self.differences += 1
         self.judge("examples", "story", data, [], expected)
 
@@ -144,7 +144,7 @@ def missed(sweep, sorts):
     if len(sorts) < len(SORTS):
         return []
     types = [wire.REQUEST, wire.ONEWAY, wire.NOTIFICATION, wire.RESPONSE, wire.ERROR, wire.NOTIFICATION | wire.TP]
-    kinds = [kind for kind in audit_model.KINDS if kind not in sweep.kinds]
+    kinds = [kind for kind in model.KINDS if kind not in sweep.kinds]
     return kinds + [f"type {kind:02x} in a calm world" for kind in types if kind not in sweep.calm_types]
 
 

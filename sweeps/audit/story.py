@@ -1,12 +1,12 @@
 """The recording examples/audit.pcap, whose story docs/FORMATS.md tells: a conversation in which each kind of finding
 comes, but for `full`. Written to standard output.
 
-    audit_story.py > examples/audit.pcap
+    story.py > examples/audit.pcap
 """
 import struct
 import sys
 
-import audit_bytes as wire
+import wire
 
 A, B, C, GROUP = "192.168.0.1", "192.168.0.2", "192.168.0.3", "239.0.0.1"
 OFFER, SUBSCRIBE, ACK = 1, 6, 7

@@ -1,15 +1,15 @@
 """What `someipctl audit` has to print of a recording, told from docs/AUDIT.md and not from the sources. It keeps whole
 lists of what was seen, and looks back over them for each finding; nothing is forgotten, and nothing is ever full.
 
-    audit_model.py [--ports PORTS] [--answer-ms N] [--settle-ms N] RECORDING
+    model.py [--ports PORTS] [--answer-ms N] [--settle-ms N] RECORDING
 """
 import sys
 from collections import defaultdict
 from typing import NamedTuple, Optional
 
-import audit_bytes as wire
-from audit_parts import TIMEOUT, refusal, whole_payload
-from audit_seen import ACK, OFFER, SUBSCRIBE, Datagram, Seen, datagrams_of, looked_at, seen_in
+import wire
+from parts import TIMEOUT, refusal, whole_payload
+from seen import ACK, OFFER, SUBSCRIBE, Datagram, Seen, datagrams_of, looked_at, seen_in
 
 KINDS = ("malformed", "reboot", "sd session", "unanswered", "late", "unasked", "repeated", "key reused",
          "event repeated", "event gap", "event unsubscribed", "segments", "segments missing", "offer expired",
@@ -469,7 +469,7 @@ def rules_of(words):
         elif option == "--settle-ms":
             rules = rules._replace(settle=int(value))
         else:
-            sys.exit(f"audit_model: no option {option}")
+            sys.exit(f"model: no option {option}")
     return rules, words
 
 

@@ -1,12 +1,12 @@
 """Setups that are not quite right, by rows.
 
 A row says what is replaced, by what, and `ok` or the error that the setup then has, after `- `, `+ ` and `= `; an empty
-line ends it. In `texts/one_change` each row changes the worked setup; in `texts/in_order` each goes on from what those
+line ends it. In `one_change` each row changes the worked setup; in `in_order` each goes on from what those
 before it left, so that each fault stands there with all that are told after it.
 """
 from pathlib import Path
 
-ROOM = Path(__file__).resolve().parent / "texts"
+ROOM = Path(__file__).resolve().parent
 SHARED = 'group = "239.0.0.1"\n'
 
 # What stands after what nodes share: the list of nodes, between the last key of those and the first of a node.

@@ -42,7 +42,7 @@ Among liars. All that is judged above, with these words of liars:
 And of all together, beside what is reached above: c sends; and of datagrams of c a request and an answer are handed
 up, an offer is known, a node is subscribed, a Subscribe is accepted, and a reboot is seen.
 """
-from schedule_told import host_of, payload_of
+from told import host_of, payload_of
 
 # How long a Subscribe of a node holds.
 TTL_MS = 3000

@@ -9,7 +9,7 @@ use Rattle.audit_traffic.specs.declared.events.finding.Finding.TheVariants.{Gap,
 use Rattle.audit_traffic.specs.events.EventRules.{is_skipped}
 use Rattle.audit_traffic.specs.events.EventHistories.{Shown, Since, is_lost, shown_after, shown_since, since_in}
 use Rattle.audit_traffic.specs.events.EventReasons.{IsGap, IsLast, IsRepeated}
-use Rattle.audit_traffic.proofs.events.SinceLemmas.{known_last, last_known}
+use Rattle.audit_traffic.proofs.about_events.SinceLemmas.{known_last, last_known}
 
 pub repeated_why : (event : Notification) (shown : List Shown) → shown_after shown event ≡ Some Repeated → IsRepeated event shown
 repeated_why event shown told = cases (event.session == 0) (since_in shown event.flow) refl told

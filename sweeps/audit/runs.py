@@ -7,7 +7,7 @@ nodes begin anew, offers pass and Subscribes are refused."""
 import subprocess
 from pathlib import Path
 
-import audit_bytes as wire
+import wire
 
 GROUP = wire.address("239.0.0.1")
 ANSWER_MS = 2000
