@@ -1,0 +1,3 @@
+//! Sessions and peers.
+
+mod sessions;

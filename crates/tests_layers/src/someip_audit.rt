@@ -1,0 +1,3 @@
+//! The audit of recordings: all books together.
+
+mod audits;

@@ -1,0 +1,4 @@
+//! Maps with deadlines, and maps with moments.
+
+mod deadlines;
+mod timed;

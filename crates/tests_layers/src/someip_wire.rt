@@ -1,0 +1,3 @@
+//! Messages and datagrams.
+
+mod messages;

@@ -1,0 +1,4 @@
+//! Short runs, and runs over both bodies of reassembly.
+
+mod bodies;
+mod runs;

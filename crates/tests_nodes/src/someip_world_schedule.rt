@@ -1,0 +1,3 @@
+//! What is read of schedules.
+
+mod schedule;

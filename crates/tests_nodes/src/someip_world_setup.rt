@@ -1,0 +1,3 @@
+//! What is read of setups.
+
+pub(crate) mod setup;
