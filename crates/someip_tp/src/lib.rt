@@ -1,7 +1,7 @@
 //! SOME/IP-TP: messages with more than 1400 bytes of payload are sent in segments (SOME/IP Protocol,
-//! "Transporting large SOME/IP messages by UDP"), and put together again by their receiver. What is sent
-//! stands in `someip_segments`, and what a store of parts promises in `someip_reassembly`, with a plain
-//! body; here stand the body in memory that is reserved once, and the laws.
+//! "Transporting large SOME/IP messages by UDP"), and put together again by their receiver. What is sent, and
+//! what a store of parts promises, stand in `someip_reassembly`, with a plain body; here stand the body in
+//! memory that is reserved once, and the laws.
 //!
 //! - [`Segments`]: the segments of a message;
 //! - [`Sent`]: the pieces of a message as it is sent, alone or in segments;

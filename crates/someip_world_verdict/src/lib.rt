@@ -16,7 +16,7 @@
 //! `proofs/Kept.antt` says what each part of the book means in the run, and the lemmas beside it that this
 //! stays so; `CheckLemmas` that what the book says of a breach is so. What a node writes is read back
 //! (`ContentLemmas`). That the counter of a Subscribe tells whether it begins a subscription is a law of
-//! `someip_world_exchanges`.
+//! `someip_world_rules::exchanges`.
 #![tactic(auto)]
 
 mod booking;

@@ -1,8 +1,7 @@
 //! The command line of `someipctl`: what its words ask for, and how the program ends.
 //!
-//! What a command reads, does and prints stands in `someipctl_show`, of `recording` in
-//! `someipctl_recordings`, of `audit` in `someipctl_audit`, of `run` in `someipctl_run`, and of `chart` in
-//! `someipctl_chart`.
+//! What a command reads, does and prints stands in `someipctl_show`, of `recording` and `audit` in
+//! `someipctl_recordings`, and of `run` and `chart` in `someipctl_run`.
 //!
 //! - `command`, `help`: what the words ask for, and the answer to others;
 //! - `grammar`: the commands with their arguments, as `clap` is told of them;

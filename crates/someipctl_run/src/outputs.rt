@@ -1,4 +1,7 @@
 //! What the lines of a trace tell, word by word.
+//!
+//! Each kind of output has an array of words of its own length: the prover does not follow an enum whose
+//! variants hold borrowed arrays of several lengths.
 ghost use Rattle.std.specs.Prelude.{◌≡◌, ◌∷◌, [], IfOk, OnOk, OnErr, decimal, map};
 ghost use Rattle.someip_node_rules.specs.declared.output.Output.TheVariants as output;
 ghost use Rattle.someipctl_io.specs.Sending.{Sends, Stops};

@@ -17,7 +17,7 @@
 //! says of each whether it is asked for. `readings` reads all payloads of Service Discovery, which takes
 //! memory, before the first byte is written; `next_reading` takes them one by one as messages are printed.
 //! `show` goes over the datagrams and their messages, and `value_lines` has the line of a value made by
-//! `someipctl_types`, into one text that is used again.
+//! `types`, into one text that is used again.
 #![tactic(auto)]
 
 mod capture;

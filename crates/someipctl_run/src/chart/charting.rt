@@ -1,4 +1,5 @@
-//! Running a schedule, and drawing its trace.
+//! Running a schedule, and drawing its trace. The picture is made whole before the first byte is written:
+//! where memory runs out, nothing is.
 ghost use Rattle.std.specs.Prelude.{IfErr, OnOk};
 ghost use Rattle.someipctl_run.specs.Commands.{RefusesTrace};
 ghost use Rattle.someipctl_run.specs.chart.Charts.{Charts, ChartsInput, HasTrace, RefusesChart};
