@@ -2,8 +2,8 @@
 //! messages, recordings), of the cores: tables with deadlines or moments, sessions, Service Discovery
 //! at both ends, and calls and answers, and of the audit of recordings.
 //!
-//! Tests stand over the crates that they try, since a crate is proved again with its tests. The module of a crate's
-//! name has its tests, and those that try it together with crates below it; `rows` is for all. What is tried
+//! Tests stand over the crates that they try, since a crate is proved again with its tests. The module
+//! `of_CRATE` has the tests of that crate, and those that try it together with crates below it; `rows` is for all. What is tried
 //! stands in tables of plain data, since the prover reads each line of a test, and little of a table. The
 //! small tables of one kind are tried by one test, which names the table of the first wrong row; a large
 //! one, or a part of it, has a test of its own. What a table costs is the texts and slices that the tables of
@@ -11,26 +11,26 @@
 #![tactic(auto)]
 
 #[cfg(test)]
-mod audit_sd;
+mod of_audit_sd;
 #[cfg(test)]
-mod recording;
+mod of_recording;
+#[cfg(test)]
+mod of_sd_core;
+#[cfg(test)]
+mod of_sd_session;
+#[cfg(test)]
+mod of_sd_wire;
+#[cfg(test)]
+mod of_someip_audit;
+#[cfg(test)]
+mod of_someip_payload;
+#[cfg(test)]
+mod of_someip_rpc;
+#[cfg(test)]
+mod of_someip_tables;
+#[cfg(test)]
+mod of_someip_tp;
+#[cfg(test)]
+mod of_someip_wire;
 #[cfg(test)]
 mod rows;
-#[cfg(test)]
-mod sd_core;
-#[cfg(test)]
-mod sd_session;
-#[cfg(test)]
-mod sd_wire;
-#[cfg(test)]
-mod someip_audit;
-#[cfg(test)]
-mod someip_payload;
-#[cfg(test)]
-mod someip_rpc;
-#[cfg(test)]
-mod someip_tables;
-#[cfg(test)]
-mod someip_tp;
-#[cfg(test)]
-mod someip_wire;

@@ -5,40 +5,40 @@
 //! stands in tables of plain data, and the rows of one kind are tried by one test. Commands with what they print are
 //! the cases of `someipctl_trials`; of the program stands here what no command line shows.
 //!
-//! The module of a crate's name has its tests, and those that try it together with crates below it:
+//! The module `of_CRATE` has the tests of that crate, and those that try it together with crates below it:
 //!
-//! - `someip_node`: nodes, and two in one process;
-//! - `someip_c_node`: the node for other languages;
-//! - `someip_world_setup`, `someip_world_schedule`: what is read of setups and of schedules; those that are not quite
+//! - `of_someip_node`: nodes, and two in one process;
+//! - `of_someip_c_node`: the node for other languages;
+//! - `of_someip_world_setup`, `of_someip_world_schedule`: what is read of setups and of schedules; those that are not quite
 //!   right are rows of the sweep `texts`, as are types files;
-//! - `someip_world`: short runs, and runs over both bodies of reassembly;
-//! - `someipctl_show`: captures and payloads;
-//! - `someipctl_recordings`: what is left out of a recording, and recordings whose messages are put together;
-//! - `someipctl_cli`: what words come to, the texts and statuses of failures, and the laws of the program.
+//! - `of_someip_world`: short runs, and runs over both bodies of reassembly;
+//! - `of_someipctl_show`: captures and payloads;
+//! - `of_someipctl_recordings`: what is left out of a recording, and recordings whose messages are put together;
+//! - `of_someipctl_cli`: what words come to, the texts and statuses of failures, and the laws of the program.
 //!
 //! For several of them there are `printed` and `slow`: how values are printed, and readers and writers that move few
 //! bytes a call; and `showing`: commands without what they add.
 #![tactic(auto)]
 
 #[cfg(test)]
+mod of_someip_c_node;
+#[cfg(test)]
+mod of_someip_node;
+#[cfg(test)]
+mod of_someip_world;
+#[cfg(test)]
+mod of_someip_world_schedule;
+#[cfg(test)]
+mod of_someip_world_setup;
+#[cfg(test)]
+mod of_someipctl_cli;
+#[cfg(test)]
+mod of_someipctl_recordings;
+#[cfg(test)]
+mod of_someipctl_show;
+#[cfg(test)]
 mod printed;
 #[cfg(test)]
 mod showing;
 #[cfg(test)]
 mod slow;
-#[cfg(test)]
-mod someip_c_node;
-#[cfg(test)]
-mod someip_node;
-#[cfg(test)]
-mod someip_world;
-#[cfg(test)]
-mod someip_world_schedule;
-#[cfg(test)]
-mod someip_world_setup;
-#[cfg(test)]
-mod someipctl_cli;
-#[cfg(test)]
-mod someipctl_recordings;
-#[cfg(test)]
-mod someipctl_show;

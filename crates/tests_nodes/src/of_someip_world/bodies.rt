@@ -1,6 +1,6 @@
 //! Runs over both bodies of reassembly: they tell the same.
+use crate::of_someip_world_setup::setup::WORKED;
 use crate::printed::is_printed;
-use crate::someip_world_setup::setup::WORKED;
 use someip_node::Output;
 use someip_tp::{IntervalPool, Reassembly, SegmentList};
 use someip_world::{Line, Reuse, Setup, Told, Trace, read_schedule, run};

@@ -1,5 +1,5 @@
 //! Datagrams of a recording, over all books.
-use crate::audit_sd::places::{at, endpoint};
+use crate::of_audit_sd::places::{at, endpoint};
 use audit_traffic::calls::CallFinding;
 use audit_traffic::segments::SegmentRules;
 use sd_wire::SdError;

@@ -2,7 +2,7 @@ use Rattle.std.proofs.Common.{◌∙◌, refl}
 use Rattle.std.proofs.lemmas.Iterator.Consumers.{map_from_collect, YieldsList-from_first}
 use Rattle.std.proofs.lemmas.Result.{IfOk-weaker}
 use Rattle.someip_wire.specs.View.{view_item}
-use Rattle.tests_layers.proofs.someip_wire.messages.all_items.Goals as goal
+use Rattle.tests_layers.proofs.of_someip_wire.messages.all_items.Goals as goal
 
 pub returns : goal.returns
 returns c =

@@ -1,8 +1,8 @@
 //! A call with a long payload, and its long answer: both go in segments.
 use super::acts::service;
 use super::{call, rules, server};
-use crate::someip_tp::call::offer;
-use crate::someip_tp::payload_of;
+use crate::of_someip_tp::call::offer;
+use crate::of_someip_tp::payload_of;
 use someip_rpc::{
     Arrived, Call, CallKind, ClientCore, ClientRules, MessageId, Outgoing, Reply, ServerCore,
     ServiceRules,

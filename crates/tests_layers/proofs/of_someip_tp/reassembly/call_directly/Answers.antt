@@ -1,7 +1,7 @@
 use Rattle.std.proofs.Common.{sym, subst, arith}
 use Rattle.someip_reassembly.specs.Parts.{NoneAfter}
 use Rattle.someip_reassembly.proofs.MomentLemmas.{none_in_empty, later, none_after-offered}
-use Rattle.tests_layers.proofs.someip_tp.reassembly.call_directly.Goals as goal
+use Rattle.tests_layers.proofs.of_someip_tp.reassembly.call_directly.Goals as goal
 
 pub offer-first-requires-clause-moments : goal.offer-first-requires-clause-moments
 offer-first-requires-clause-moments g c = subst (NoneAfter 0) (sym c.in_ok-store.ensures.parts) (none_in_empty 0)
