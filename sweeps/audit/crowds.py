@@ -1,8 +1,6 @@
 """Recordings in which each table of an audit comes to its limit of 65,536 keys, one for each, and two in which answered
 calls fill theirs. What has to be told of them is known without any book: `full NAME` of the first message that finds no
 room, and nothing else."""
-import struct
-
 import wire
 
 LIMIT, SECOND = 65536, 10**9
@@ -16,14 +14,7 @@ def entry(kind, number, endpoint=None, ttl=3):
 
 
 def discovery(source, destination, session, entries):
-    """A message of entries that share the options of the first ones."""
-    options = list(dict.fromkeys(entry.endpoint for entry in entries if entry.endpoint))
-    index = lambda entry: (options.index(entry.endpoint), 1) if entry.endpoint else (0, 0)
-    texts = b"".join(wire.entry_bytes(entry, *index(entry)) for entry in entries)
-    ends = b"".join(map(wire.endpoint_option, options))
-    payload = struct.pack(">II", 0xC0 << 24, len(texts)) + texts + struct.pack(">I", len(ends)) + ends
-    header = wire.Header(0xFFFF, 0x8100, 0, session, 1, wire.NOTIFICATION, 0)
-    return wire.Record(0, source, destination, wire.message(header, payload))
+    return wire.Record(0, source, destination, wire.discovery_message(session, 0xC0, entries))
 
 
 def batches(things, size):

@@ -121,11 +121,11 @@ def entry_bytes(entry, index, count):
 
 
 def discovery_payload(flags, entries):
-    """A payload with these entries, each with its endpoint as an option of its own."""
-    texts, options = b"", b""
-    for entry in entries:
-        texts += entry_bytes(entry, len(options) // 12, int(entry.endpoint is not None))
-        options += endpoint_option(entry.endpoint) if entry.endpoint is not None else b""
+    """A payload with these entries, each with its endpoint as an option, which those of one endpoint share."""
+    ends = list(dict.fromkeys(entry.endpoint for entry in entries if entry.endpoint is not None))
+    run = lambda entry: (ends.index(entry.endpoint), 1) if entry.endpoint is not None else (0, 0)
+    texts = b"".join(entry_bytes(entry, *run(entry)) for entry in entries)
+    options = b"".join(map(endpoint_option, ends))
     return struct.pack(">II", flags << 24, len(texts)) + texts + struct.pack(">I", len(options)) + options
 
 
