@@ -18,7 +18,7 @@ use Rattle.someipctl_io.specs.Inputs.{WasLeft}
 use Rattle.someipctl_io.specs.Outcomes.{fault_outcome}
 use Rattle.someipctl_io.specs.Sending.{Sends, Stops}
 use Rattle.someipctl_io.proofs.SendingLemmas.{Sends-all, Sends-flush, Sends-nil, Sends-trans, Stops-after, Stops-flush}
-use Rattle.someipctl_recordings.specs.declared.ShownRecording.{ShownRecording}
+use Rattle.someipctl_recordings.specs.declared.recordings.ShownRecording.{ShownRecording}
 use Rattle.someipctl_recordings.specs.Coming.{Comes}
 use Rattle.someipctl_recordings.specs.LeftOut.{counted, left_out_of, nothing_left_out, plus, total}
 use Rattle.someipctl_recordings.specs.Moments.{moment_of}

@@ -6,7 +6,7 @@ use Rattle.recording.specs.Packets.{DatagramValue}
 use Rattle.someip_audit.specs.Audits.{Report}
 use Rattle.someipctl_io.specs.Inputs.{WasLeft}
 use Rattle.someipctl_io.specs.Outcomes.{fault_outcome}
-use Rattle.someipctl_recordings.specs.declared.ShownRecording.{ShownRecording}
+use Rattle.someipctl_recordings.specs.declared.recordings.ShownRecording.{ShownRecording}
 use Rattle.someipctl_recordings.specs.LeftOut.{left_out_of}
 use Rattle.someipctl_recordings.specs.RecordingResult.{fault_among}
 use Rattle.someipctl_recordings.specs.declared.audit.asked.AuditAsked.{AuditAsked}

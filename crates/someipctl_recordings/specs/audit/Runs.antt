@@ -8,7 +8,7 @@ use Rattle.someip_audit.specs.Audits.{AuditState, Drains, Report, fell}
 use Rattle.someipctl_io.specs.Inputs.{WasLeft}
 use Rattle.someipctl_io.specs.Outcomes.{fault_outcome}
 use Rattle.someipctl_io.specs.Sending.{Sends, Stops}
-use Rattle.someipctl_recordings.specs.declared.ShownRecording.{ShownRecording}
+use Rattle.someipctl_recordings.specs.declared.recordings.ShownRecording.{ShownRecording}
 use Rattle.someipctl_recordings.specs.LeftOut.{counted, left_out_of}
 use Rattle.someipctl_recordings.specs.Moments.{moment_of}
 use Rattle.someipctl_recordings.specs.RecordingResult.{fault_among}
